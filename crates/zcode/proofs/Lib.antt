@@ -1,0 +1,7 @@
+pub mod Loops
+pub mod Steps
+pub mod FoundHead
+pub mod FoundParts
+pub mod Found
+pub mod Only
+pub mod ReadingLaws

@@ -1,0 +1,13 @@
+use Rattle.std.proofs.Common.{refl}
+use Rattle.zcode.specs.Reading.{branch_if, checked_head, head_at, instruction_by, operand_at, operands_at, played_opcode, short_head, store_if, text_if, variable_head}
+use Rattle.zcode.proofs.tests.the_first_fault_is_read.Goals as goal
+
+pub returns : goal.returns
+unfolding instruction_by head_at short_head variable_head played_opcode checked_head operands_at operand_at store_if branch_if text_if
+returns c = record {
+  type_byte_missing = refl;
+  no_operands = refl;
+  operands_before_bytes = refl;
+  bytes_missing = refl;
+  no_text = refl;
+}

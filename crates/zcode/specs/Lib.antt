@@ -1,0 +1,9 @@
+pub mod Opcodes
+pub mod Playable
+pub mod Names
+pub mod Places
+pub mod Instruction
+pub mod Spelling
+pub mod Reading
+pub use Rattle.zstory.specs.Bytes
+pub use Rattle.ztext.specs.Words

@@ -1,0 +1,24 @@
+//! Instructions of version 3 code: what they are, and the decoder.
+//!
+//! `decode` reads the instruction at a place, and accepts exactly what the grammar spells.
+#![tactic(auto)]
+
+mod error;
+mod instr;
+mod laws;
+mod names;
+mod opcode;
+mod operands;
+mod playable;
+mod reading;
+mod table;
+mod types;
+
+pub use error::{DecodeError, Unsupported};
+pub use instr::{Branch, Destination, Instr, Operand};
+pub use laws::{one_spelling, reading_is_local, reading_is_spelling};
+pub use opcode::{Excluded, Opcode};
+pub use reading::decode;
+
+#[cfg(test)]
+mod tests;

@@ -1,0 +1,238 @@
+//! Reading an instruction, in one pass. Each function hands on the bytes after what it read.
+
+ghost use Rattle.std.specs.Prelude.{◌≡◌, ℕ, ◌/◌, ◌%◌, ◌<◌, ◌≤◌, ◌+◌, ◌++◌, ◌↔◌, length, drop, take, IfOk, IsTrue, List, Ok};
+ghost use Rattle.zcode.specs.Instruction.{Instruction};
+ghost use Rattle.zcode.specs.Playable.{playable};
+ghost use Rattle.zcode.specs.Spelling.{Spells, IsAtFront, type_of};
+ghost use Rattle.zcode.specs.Reading.{Gives, first_byte, long_head, short_head, variable_head, checked_head, head_at, operand_at, operands_at, store_if, branch_at, branch_if, text_if, instruction_at};
+
+use crate::error::DecodeError;
+use crate::instr::{Branch, Instr, Operand};
+use crate::opcode::Opcode;
+use crate::operands::Operands;
+use crate::table::{OperandCount, played_opcode};
+use crate::types::{OperandType, OperandTypes, long_type, type_of, types_of};
+use arrayvec::ArrayVec;
+use std::marker::Model;
+
+/// What the bytes before the operands say.
+#[derive(Drop)]
+struct Head {
+    opcode: Opcode,
+    operand_types: OperandTypes,
+}
+
+impl Model for Head {
+    ghost use Rattle.zcode.specs.Reading.{Head as HeadValue};
+
+    ghost Value = { HeadValue };
+
+    ghost view = { λ h. record { opcode = h.opcode; operand_types = h.operand_types.items } };
+}
+
+fn first_byte(bytes: &[u8]) -> Result<(u8, &[u8]), DecodeError>
+    ensures { Gives (λ x. (x.0, x.1.now)) result (first_byte bytes.now) }
+{
+    match bytes {
+        [] => Err(DecodeError::Truncated),
+        [first, rest @ ..] => Ok((*first, rest)),
+    }
+}
+
+/// The head of an opcode that takes so many operands.
+#[tactic(auto, unfolding(crate::specs::Reading::checked_head))]
+fn checked_head(opcode: Opcode, operand_types: OperandTypes) -> Result<Head, DecodeError>
+    ensures { result ≡ checked_head opcode operand_types.items }
+{
+    let (fewest, most) = opcode.operand_bounds();
+    if operand_types.len() < fewest || most < operand_types.len() {
+        return Err(DecodeError::Operands);
+    }
+    Ok(Head {
+        opcode,
+        operand_types,
+    })
+}
+
+#[tactic(auto, unfolding(crate::specs::Reading::long_head))]
+fn long_head(first: u8) -> Result<Head, DecodeError>
+    ensures { result ≡ long_head playable first }
+{
+    let opcode = played_opcode(OperandCount::Two, first & 0x1f)?;
+    let mut operand_types = ArrayVec::new();
+    operand_types.push(long_type((first >> 6) & 1));
+    operand_types.push(long_type((first >> 5) & 1));
+    checked_head(opcode, operand_types)
+}
+
+#[tactic(auto, unfolding(crate::specs::Reading::short_head))]
+fn short_head(first: u8) -> Result<Head, DecodeError>
+    ensures { result ≡ short_head playable first (type_of (first / 16 % 4)) }
+{
+    let mut operand_types = ArrayVec::new();
+    let opcode = match type_of((first >> 4) & 3) {
+        Some(operand_type) => {
+            operand_types.push(operand_type);
+            played_opcode(OperandCount::One, first & 0x0f)?
+        }
+        None => played_opcode(OperandCount::Zero, first & 0x0f)?,
+    };
+    checked_head(opcode, operand_types)
+}
+
+#[tactic(auto, unfolding(crate::specs::Reading::variable_head))]
+fn variable_head(count: OperandCount, first: u8, bytes: &[u8]) -> Result<(Head, &[u8]), DecodeError>
+    ensures { Gives (λ x. (x.0, x.1.now)) result (variable_head playable count first bytes.now) }
+{
+    let opcode = played_opcode(count, first & 0x1f)?;
+    let (types, rest) = first_byte(bytes)?;
+    Ok((checked_head(opcode, types_of(types))?, rest))
+}
+
+#[tactic(auto, unfolding(crate::specs::Reading::head_at))]
+fn head_at(bytes: &[u8]) -> Result<(Head, &[u8]), DecodeError>
+    ensures { Gives (λ x. (x.0, x.1.now)) result (head_at playable bytes.now) }
+{
+    let (first, rest) = first_byte(bytes)?;
+    match first {
+        0..0x80 => Ok((long_head(first)?, rest)),
+        0x80..0xc0 => Ok((short_head(first)?, rest)),
+        0xc0..0xe0 => variable_head(OperandCount::Two, first, rest),
+        _ => variable_head(OperandCount::Many, first, rest),
+    }
+}
+
+#[tactic(auto, unfolding(crate::specs::Reading::operand_at))]
+fn operand_at(operand_type: OperandType, bytes: &[u8]) -> Result<(Operand, &[u8]), DecodeError>
+    ensures { Gives (λ x. (x.0, x.1.now)) result (operand_at operand_type bytes.now) }
+{
+    match operand_type {
+        OperandType::Large => {
+            let (high, rest) = first_byte(bytes)?;
+            let (low, rest) = first_byte(rest)?;
+            Ok((Operand::Constant(u16::from_be_bytes([high, low])), rest))
+        }
+        OperandType::Small => {
+            let (byte, rest) = first_byte(bytes)?;
+            Ok((Operand::Constant(u16::from(byte)), rest))
+        }
+        OperandType::Variable => {
+            let (byte, rest) = first_byte(bytes)?;
+            Ok((Operand::Variable(byte), rest))
+        }
+    }
+}
+
+fn operands_at<'a>(
+    operand_types: &[OperandType],
+    bytes: &'a [u8],
+) -> Result<(ArrayVec<Operand, 4>, &'a [u8]), DecodeError>
+    requires { length operand_types.now ≤ 4 }
+    ensures { Gives (λ x. (x.0.items, x.1.now)) result (operands_at operand_types.now bytes.now) }
+{
+    let mut operands = ArrayVec::new();
+    let mut rest = bytes;
+    for operand_type in operand_types {
+        let (operand, after) = operand_at(*operand_type, rest)?;
+        operands.push(operand);
+        rest = after;
+    }
+    Ok((operands, rest))
+}
+
+#[tactic(auto, unfolding(crate::specs::Reading::store_if))]
+fn store_if(stores: bool, bytes: &[u8]) -> Result<(Option<u8>, &[u8]), DecodeError>
+    ensures { Gives (λ x. (x.0, x.1.now)) result (store_if stores bytes.now) }
+{
+    if !stores {
+        return Ok((None, bytes));
+    }
+    let (byte, rest) = first_byte(bytes)?;
+    Ok((Some(byte), rest))
+}
+
+#[tactic(auto, unfolding(crate::specs::Reading::branch_at))]
+fn branch_at(bytes: &[u8]) -> Result<(Branch, &[u8]), DecodeError>
+    ensures { Gives (λ x. (x.0, x.1.now)) result (branch_at bytes.now) }
+{
+    let (first, rest) = first_byte(bytes)?;
+    let sense = first >> 7 == 1;
+    if (first >> 6) & 1 == 1 {
+        let offset = i16::from(first & 0x3f);
+        return Ok((Branch { sense, offset }, rest));
+    }
+    let (second, rest) = first_byte(rest)?;
+    let bits = u16::from_be_bytes([first & 0x3f, second]);
+    // Bit 13 is the sign.
+    let offset = if bits < 0x2000 {
+        bits as i16
+    } else {
+        bits as i16 - 0x4000
+    };
+    Ok((Branch { sense, offset }, rest))
+}
+
+#[tactic(auto, unfolding(crate::specs::Reading::branch_if))]
+fn branch_if(branches: bool, bytes: &[u8]) -> Result<(Option<Branch>, &[u8]), DecodeError>
+    ensures { Gives (λ x. (x.0, x.1.now)) result (branch_if branches bytes.now) }
+{
+    if !branches {
+        return Ok((None, bytes));
+    }
+    let (branch, rest) = branch_at(bytes)?;
+    Ok((Some(branch), rest))
+}
+
+#[tactic(auto, unfolding(crate::specs::Reading::text_if))]
+fn text_if(prints: bool, bytes: &[u8]) -> Result<&[u8], DecodeError>
+    ensures { Gives (λ x. x.now) result (text_if prints bytes.now) }
+{
+    if !prints {
+        return Ok(bytes);
+    }
+    let mut rest = bytes;
+    while let [high, _, after @ ..] = rest {
+        if *high >= 0x80 {
+            return Ok(after);
+        }
+        rest = after;
+    }
+    Err(DecodeError::Text)
+}
+
+/// The instruction at the front of the bytes.
+#[tactic(auto, unfolding(crate::specs::Reading::instruction_by))]
+fn instruction_at(bytes: &[u8]) -> Result<Instr, DecodeError>
+    ensures { result ≡ instruction_at bytes.now }
+{
+    let (head, rest) = head_at(bytes)?;
+    let opcode = head.opcode;
+    let (operands, rest) = operands_at(head.operand_types.as_slice(), rest)?;
+    let (store, rest) = store_if(opcode.stores(), rest)?;
+    let (branch, rest) = branch_if(opcode.branches(), rest)?;
+    let rest = text_if(opcode.prints_text(), rest)?;
+    let length = bytes.len().saturating_sub(rest.len());
+    let operands = Operands::of(operands.as_slice());
+    Ok(Instr::new(opcode, operands, store, branch, length))
+}
+
+/// The instruction at the place `at` of `memory` (Z 4), or the first thing that is wrong there. It takes no memory.
+///
+/// The opcode is judged first: J2 where no opcode has the number, J3 where the profile leaves it out or this build
+/// doesn't play it. Then come, in reading order, J1 where the bytes end, J4 at the type byte, and J5 at the text.
+pub fn decode(memory: &[u8], at: usize) -> Result<Instr, DecodeError>
+    // What is read is spelled there.
+    ensures found { IfOk result (λ i. IsAtFront (drop at memory.now) i) }
+    // This build plays what is read.
+    ensures played { IfOk result (λ i. IsTrue (playable i.opcode)) }
+    // What is spelled there and played is read.
+    ensures only { (i : Instruction) → IsAtFront (drop at memory.now) i → IsTrue (playable i.opcode) → result ≡ Ok i }
+    // Which fault it is.
+    ensures exact { result ≡ instruction_at (drop at memory.now) }
+    ensures within { IfOk result (λ i. at + i.size ≤ length memory.now) }
+{
+    match memory.get(at..) {
+        Some(bytes) => instruction_at(bytes),
+        None => Err(DecodeError::Truncated),
+    }
+}

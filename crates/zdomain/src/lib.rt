@@ -1,0 +1,12 @@
+//! Sets of words: what a certificate says of the values of a variable.
+#![tactic(auto)]
+
+mod domain;
+mod interval;
+mod interval_domain;
+#[cfg(test)]
+mod tests;
+
+pub use domain::Domain;
+pub use interval::Interval;
+pub use interval_domain::addresses_are_words;

@@ -1,0 +1,2 @@
+pub mod DeviceLemmas
+mod LineLemmas

@@ -1,0 +1,5 @@
+pub mod Adapters
+pub mod Answers
+pub mod Devices
+pub mod Fault
+pub mod Line

@@ -1,0 +1,3 @@
+mod Needless
+pub mod Running
+mod Stepping

@@ -1,0 +1,14 @@
+//! The fully checked machine: each step tests everything before it acts, and names its fault.
+#![tactic(auto)]
+
+mod act;
+mod effect;
+mod machine;
+mod plan;
+mod scope;
+mod step;
+#[cfg(test)]
+mod tests;
+
+pub use machine::CheckedMachine;
+pub use scope::Scope;

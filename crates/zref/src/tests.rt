@@ -1,0 +1,111 @@
+//! Runs of small stories.
+
+use crate::machine::CheckedMachine;
+use crate::scope::Scope;
+use std::alloc::{AllocError, Global};
+use std::test::Fail;
+use zfault::{Fault, Item, Pause};
+use zstate::Stop;
+use zstory::Story;
+
+// Version 3, first instruction at 0x324, dictionary at 0x320, defaults at 0x220, globals at 0x40, static memory and
+// abbreviations from 0x25E on, and no length word.
+const HEADER: [u8; 64] = [
+    3, 0, 0, 1, 0x03, 0x24, 0x03, 0x24, 0x03, 0x20, 0x02, 0x20, 0x00, 0x40, 0x02, 0x5E, 0, 0, b'2',
+    b'6', b'0', b'1', b'0', b'1', 0x02, 0x5E, 0, 0, 0, 0, 0, 0, 0, 0, 0, 0, 0, 0, 0, 0, 0, 0, 0, 0,
+    0, 0, 0, 0, 0, 0, 0, 0, 0, 0, 0, 0, 0, 0, 0, 0, 0, 0, 0, 0,
+];
+
+// prints hello, and quits
+const HELLO: [u8; 6] = [0xB2, 0x35, 0x51, 0xC6, 0x85, 0xBA];
+
+// A story with this code, empty abbreviations, no object and an empty dictionary.
+fn story_of(alloc: Global, code: &[u8]) -> Result<Vec<u8>, AllocError> {
+    let mut file = Vec::new(alloc);
+    file.extend_from_slice(&HEADER)?;
+    file.extend_from_slice(&[0; 0x25E - 0x40])?;
+    for _ in 0..96 {
+        file.extend_from_slice(&[0x01, 0x8F])?;
+    }
+    file.extend_from_slice(&[0x94, 0xA5, 0, 4, 0, 0])?;
+    file.extend_from_slice(code)?;
+    Ok(file)
+}
+
+// What came of runs with these budgets, one after another.
+#[derive(Drop)]
+struct Played {
+    stop: Stop,
+    text: Vec<u8>,
+    place: i32,
+}
+
+fn text_of(alloc: Global, items: &[Item]) -> Result<Vec<u8>, AllocError> {
+    let mut text = Vec::new(alloc);
+    for item in items {
+        if let Item::Text(byte) = item {
+            text.push(*byte)?;
+        }
+    }
+    Ok(text)
+}
+
+fn run_story(alloc: Global, story: &Story, budgets: &[u32]) -> Result<Played, AllocError> {
+    let mut machine = CheckedMachine::new(alloc, story, Scope::All)?;
+    let mut items = Vec::new(alloc);
+    let mut stop = Stop::Paused(Pause::Budget);
+    for budget in budgets {
+        stop = machine.run(*budget, &mut items)?;
+    }
+    let text = text_of(alloc, items.as_slice())?;
+    let place = machine.state().place();
+    Ok(Played { stop, text, place })
+}
+
+fn outcome(alloc: Global, code: &[u8], budgets: &[u32]) -> Result<Played, Fail> {
+    let file = story_of(alloc, code)?;
+    let story = Story::load(alloc, file.as_slice())?;
+    Ok(run_story(alloc, &story, budgets)?)
+}
+
+#[test]
+fn prints_and_quits(rt: HostRuntime) -> Result<(), Fail> {
+    let run = outcome(rt.alloc(), &HELLO, &[10, 10])?;
+    assert_eq!(rt; run.stop, Stop::Paused(Pause::Quit));
+    assert_eq!(rt; run.text.as_slice(), b"hello".as_slice());
+    assert_eq!(rt; run.place, 0x329);
+    Ok(())
+}
+
+#[test]
+fn a_fault_changes_nothing(rt: HostRuntime) -> Result<(), Fail> {
+    let run = outcome(rt.alloc(), &[0xEB, 0x7F, 0x00, 0xBA], &[10, 0])?;
+    assert_eq!(rt; run.stop, Stop::Fault(Fault::IllegalOpcode, 0x324));
+    assert_eq!(rt; run.text.len(), 0);
+    assert_eq!(rt; run.place, 0x324);
+    Ok(())
+}
+
+// The next step is judged before the budget's end is answered.
+#[test]
+fn the_budget_ends_before_a_step(rt: HostRuntime) -> Result<(), Fail> {
+    let none = outcome(rt.alloc(), &HELLO, &[0])?;
+    assert_eq!(rt; none.stop, Stop::Paused(Pause::Budget));
+    assert_eq!(rt; none.text.len(), 0);
+    let one = outcome(rt.alloc(), &HELLO, &[1])?;
+    assert_eq!(rt; one.stop, Stop::Paused(Pause::Quit));
+    Ok(())
+}
+
+// nop, new_line, nop, quit: in pieces and at once.
+#[test]
+fn pieces_are_the_whole(rt: HostRuntime) -> Result<(), Fail> {
+    let code = [0xB4, 0xBB, 0xB4, 0xBA];
+    let pieces = outcome(rt.alloc(), &code, &[2, 0, 5])?;
+    let whole = outcome(rt.alloc(), &code, &[7])?;
+    assert_eq!(rt; pieces.stop, whole.stop);
+    assert_eq!(rt; pieces.text.as_slice(), whole.text.as_slice());
+    assert_eq!(rt; whole.text.as_slice(), b"\n".as_slice());
+    assert_eq!(rt; whole.place, 0x327);
+    Ok(())
+}

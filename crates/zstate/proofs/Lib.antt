@@ -1,0 +1,6 @@
+pub mod Calls
+mod InTurn
+pub mod Joins
+mod Keeps
+mod Reading
+mod Stacks

@@ -1,0 +1,5 @@
+pub mod InTurn
+pub mod State
+pub mod Step
+pub mod Run
+pub mod Gives

@@ -1,0 +1,14 @@
+//! The state of a machine: its memory, frames and place, and the accesses that instructions make.
+#![tactic(auto)]
+
+mod frame;
+mod halt;
+mod laws;
+mod mode;
+mod state;
+
+pub use frame::Frame;
+pub use halt::{Halt, Stop};
+pub use laws::{runs_join, steps_keep_states};
+pub use mode::RandomMode;
+pub use state::{State, Values};

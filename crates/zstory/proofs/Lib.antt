@@ -1,0 +1,4 @@
+pub mod Counting
+pub mod Neighbours
+pub mod Soundness
+pub mod Loads

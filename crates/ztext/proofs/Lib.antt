@@ -1,0 +1,6 @@
+pub mod Texts
+pub mod Parts
+pub mod Printed
+pub mod Outcomes
+pub mod Sameness
+pub mod Printable

@@ -1,0 +1,16 @@
+//! Z-text: its length and its decoding.
+#![tactic(auto)]
+
+mod abbreviations;
+mod characters;
+mod decode;
+mod error;
+mod length;
+mod pieces;
+
+pub use decode::decode_into;
+pub use error::TextError;
+pub use length::text_length;
+
+#[cfg(test)]
+mod tests;
