@@ -1,0 +1,4 @@
+pub mod Rising
+pub mod Tables
+pub mod Orders
+pub mod ListingLaws

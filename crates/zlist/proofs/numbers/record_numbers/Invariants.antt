@@ -1,0 +1,8 @@
+use Rattle.std.proofs.Common.{◌≡◌, ◌<◌, All, vec_len}
+use Rattle.zlist.specs.Listing.{addresses_of}
+use Rattle.zlist.specs.Numbering.{IsNumbering}
+use Rattle.zlist.proofs.numbers.record_numbers.Given as goal
+
+-- the records so far have their numbers, in a table that is long enough for each
+abbrev pub invariant-loop-index : goal.invariant-loop-index
+invariant-loop-index l = (IsNumbering (addresses_of l.records) l.index l.table.items) × (vec_len l.table ≡ l.end) × All (λ a. a < l.end) (addresses_of l.records)

@@ -1,0 +1,184 @@
+-- A step from a described state is safe, by kinds of effect.
+use Rattle.std.proofs.Common.{◌≡◌, ℕ, ◌+◌, ◌≤◌, Bool, true, List, [], ◌∷◌, length, drop, Some, Result, Ok, Err, refl, sym, ap, subst, ◌∙◌, arith}
+use Rattle.std.specs.Prelude.{ℤ, pos, ◌+ℤ◌, IsTrue, IsOk}
+use Rattle.std.specs.Bool.{OnTrue}
+use Rattle.std.specs.List.{AllZip}
+use Rattle.zstory.specs.LoadedStory.{LoadedStory, IsSound, static_base, first_instruction}
+use Rattle.zstory.specs.Objects.{IsObjectCount}
+use Rattle.ztext.specs.declared.error.TextError.{TextError}
+use Rattle.ztext.specs.Words.{text_at, front_text}
+use Rattle.ztext.specs.Output.{output_at}
+use Rattle.ztext.proofs.Printable.{output_at-ok}
+use Rattle.zcode.specs.declared.opcode.Opcode.{Opcode}
+use Rattle.zcode.specs.declared.opcode.Opcode.TheVariants as opcodes
+use Rattle.zcode.specs.declared.instr.Operand.{Operand}
+use Rattle.zcode.specs.Playable.{playable}
+use Rattle.zcode.specs.Opcodes.{TakesOperands}
+use Rattle.zcode.specs.Instruction.{Instruction}
+use Rattle.zcode.specs.Reading.{instruction_at}
+use Rattle.zcode.proofs.Found.{found, well_formed}
+use Rattle.zdomain.specs.Domain.{SetOperations, In, Within}
+use Rattle.zstate.specs.declared.halt.Halt.{Halt}
+use Rattle.zstate.specs.InTurn.{◌>>=◌, in_turn}
+use Rattle.zstate.specs.State.{State, Scope, Setting, opening, at_place, read_operands}
+use Rattle.zstate.specs.Step.{Effect, Done, decoded, fetch, printed, print_at, effect_of, plan, act, items_of, step}
+use Rattle.zrule.specs.Claims.{Shape, Claims}
+use Rattle.zrule.specs.Rules.{pops, below, goes_on, prints_inline, Covers, Leads, Holds, HasFixedText, Supports}
+use Rattle.zrule.specs.Described.{Callers, Described, IsSafe, IsListedIn}
+use Rattle.zrule.proofs.Unchanged.{drop_same, abbreviation_same}
+
+zip_within : {V : Type 0} (o : SetOperations V) (ps bs : List V) (xs : List ℕ) → AllZip (Within o) ps bs → AllZip (In o) ps xs → AllZip (In o) bs xs
+zip_within o [] [] xs w z = z
+zip_within o [] (b ∷ bs) xs w z = absurd w
+zip_within o (a ∷ rest) [] xs w z = absurd w
+zip_within o (a ∷ rest) (b ∷ bs) [] w z = absurd z
+zip_within o (a ∷ rest) (b ∷ bs) (x ∷ xs) w z = (w.0 x z.0, zip_within o rest bs xs w.1 z.1)
+
+-- the opcodes that are on, each with what it does
+pub data IsPlayed : Opcode → Type 0 where
+  print : IsPlayed opcodes.Print
+  new_line : IsPlayed opcodes.NewLine
+  nop : IsPlayed opcodes.Nop
+  quit : IsPlayed opcodes.Quit
+
+is_played : (op : Opcode) → IsTrue (playable op) → IsPlayed op
+unfolding playable
+is_played opcodes.Print h = print
+is_played opcodes.NewLine h = new_line
+is_played opcodes.Nop h = nop
+is_played opcodes.Quit h = quit
+is_played _ h = absurd cc
+
+no_operands : (operands : List Operand) → length operands ≡ 0 → operands ≡ []
+no_operands [] e = refl
+no_operands (x ∷ xs) e = absurd (omega (arith, e))
+
+-- what an opcode that is on takes: no operand
+takes_none : (op : Opcode) → IsPlayed op → (n : ℕ) → TakesOperands op n → n ≡ 0
+takes_none op print n h = omega (arith, h.1)
+takes_none op new_line n h = omega (arith, h.1)
+takes_none op nop n h = omega (arith, h.1)
+takes_none op quit n h = omega (arith, h.1)
+
+fetch_is : (scope : Scope) (place : ℤ) (at : ℕ) (memory : List ℕ) (i : Instruction) → place ≡ pos at → scope.instructions at ≡ true → instruction_at (drop at memory) ≡ Ok i → fetch scope place memory ≡ Ok i
+unfolding fetch
+fetch_is scope place at memory i there listed reads = rw (there, listed) (ap decoded reads)
+
+-- what a step comes to, from its instruction and its effect
+done_by : State → Instruction → Effect → Result Done Halt
+done_by s i effect = Ok (record { state = act i effect s; items = items_of effect })
+
+abbrev planned : State → Instruction → Effect → Result (Instruction × Effect × State) Halt
+planned s i effect = Ok (i, effect, s)
+
+abbrev acted : Instruction × Effect × State → Result Done Halt
+acted p = Ok (record { state = act p.0 p.1 p.2; items = items_of p.1 })
+
+regroup : (s : State) (i : Instruction) (r : Result Effect Halt) → ((r >>= planned s i) >>= acted) ≡ (r >>= done_by s i)
+unfolding done_by
+regroup s i (Ok effect) = refl
+regroup s i (Err h) = refl
+
+step_is : (m : Setting) (s : State) (i : Instruction) → fetch m.scope s.place s.memory ≡ Ok i → read_operands m.story i.operands s ≡ Ok ([], s) → step m s ≡ (effect_of i.opcode [] s >>= done_by s i)
+unfolding step plan
+step_is m s i fetched read = rw (fetched, read) (regroup s i (effect_of i.opcode [] s))
+
+reads_none : (story : LoadedStory) (operands : List Operand) (s : State) → operands ≡ [] → read_operands story operands s ≡ Ok ([], s)
+unfolding in_turn
+reads_none story operands s none = rw none refl
+
+module _ {V : Type 0} (o : SetOperations V) (claims : Claims V) (m : Setting) (sound : IsSound m.story.memory) (counted : IsObjectCount m.story.memory m.story.objects) (supports : Supports o claims m.story) (listed : IsListedIn o claims m.scope) (s : State) (d : Described o claims m.story s) where
+  holds : Holds o claims m.story d.at d.entry
+  holds = supports.each d.at d.entry d.listed
+
+  -- the instruction is the one that was judged
+  reads : instruction_at (drop d.at s.memory) ≡ Ok holds.instruction
+  reads = ap instruction_at (drop_same m.story sound counted claims.is_frozen s.memory d.is_state.memory d.fixed d.at holds.static) ∙ holds.decodes
+
+  played : IsPlayed holds.instruction.opcode
+  played = is_played holds.instruction.opcode (found playable (drop d.at m.story.memory) holds.instruction holds.decodes).played
+
+  bare : holds.instruction.operands ≡ []
+  bare = no_operands holds.instruction.operands (takes_none holds.instruction.opcode played (length holds.instruction.operands) (well_formed playable (drop d.at m.story.memory) holds.instruction holds.decodes).operands)
+
+  steps : step m s ≡ (effect_of holds.instruction.opcode [] s >>= done_by s holds.instruction)
+  steps = step_is m s holds.instruction (fetch_is m.scope s.place d.at s.memory holds.instruction d.place (listed d.at d.entry d.listed) reads) (reads_none m.story holds.instruction.operands s bare)
+
+  -- on to the next instruction, with what was known before
+  goes : Leads o claims d.entry.routine (below (pops holds.instruction.operands) d.entry.shape) (d.at + holds.instruction.size) → Described o claims m.story (at_place (s.place +ℤ pos holds.instruction.size) s)
+  goes leads =
+      let shape : below (pops holds.instruction.operands) d.entry.shape ≡ d.entry.shape = ap (λ (os : List Operand). below (pops os) d.entry.shape) bare in
+      let covered = subst (λ (e : Shape V). Covers o claims e leads.entry.shape) shape leads.covered in
+      record {
+        is_state = record { memory = d.is_state.memory; frames = d.is_state.frames; few = d.is_state.few };
+        at = d.at + holds.instruction.size;
+        place = ap (λ (p : ℤ). p +ℤ pos holds.instruction.size) d.place;
+        entry = leads.entry;
+        listed = leads.listed;
+        fits = record {
+          in_locals = zip_within o d.entry.shape.locals leads.entry.shape.locals s.frame.locals covered.locals d.fits.in_locals;
+          in_slots = zip_within o d.entry.shape.slots leads.entry.shape.slots s.frame.stack covered.slots d.fits.in_slots;
+        };
+        callers = subst (λ (r : ℕ). Callers o claims r s.frame.return_place s.frame.result s.callers) (sym leads.same) d.callers;
+        values = d.values;
+        fixed = d.fixed;
+      }
+
+  Goal : Opcode → Type 0
+  Goal op = IsSafe o claims m.story (effect_of op [] s >>= done_by s holds.instruction)
+
+  -- what prints bytes, or does nothing, and goes on
+  print_safe : (r : Result (List ℕ) TextError) → IsOk r → Described o claims m.story (at_place (s.place +ℤ pos holds.instruction.size) s) → IsSafe o claims m.story (printed r >>= done_by s holds.instruction)
+  unfolding done_by act
+  print_safe (Ok bytes) ok next = next
+  print_safe (Err e) ok next = absurd cc
+
+  -- the text behind the opcode byte prints something
+  prints : prints_inline holds.instruction.opcode ≡ true → IsOk (output_at s.memory (d.at + 1))
+  prints inline =
+      let rule = subst (λ (b : Bool). OnTrue b (HasFixedText m.story claims.is_frozen (d.at + 1))) inline holds.text in
+      let above : static_base m.story ≤ d.at + 1 = omega (arith, holds.static) in
+      let same : drop (d.at + 1) s.memory ≡ drop (d.at + 1) m.story.memory = drop_same m.story sound counted claims.is_frozen s.memory d.is_state.memory d.fixed (d.at + 1) above in
+      let there : text_at s.memory (d.at + 1) ≡ Some rule.text = ap front_text same ∙ rule.found in
+      output_at-ok s.memory (d.at + 1) rule.text (λ n few. abbreviation_same m.story sound counted claims.is_frozen s.memory d.is_state.memory d.fixed supports.abbreviations n few) there
+
+  next_of : goes_on holds.instruction.opcode ≡ true → Described o claims m.story (at_place (s.place +ℤ pos holds.instruction.size) s)
+  next_of on = goes (subst (λ (b : Bool). OnTrue b (Leads o claims d.entry.routine (below (pops holds.instruction.operands) d.entry.shape) (d.at + holds.instruction.size))) on holds.edges)
+
+  by_opcode : (op : Opcode) → IsPlayed op → op ≡ holds.instruction.opcode → Goal op
+  unfolding Goal effect_of done_by act
+  by_opcode op print same =
+      let at : s.place +ℤ pos 1 ≡ pos (d.at + 1) = ap (λ (p : ℤ). p +ℤ pos 1) d.place in
+      let next = next_of (ap goes_on (sym same)) in
+      subst (λ (p : ℤ). IsSafe o claims m.story (print_at p s.memory >>= done_by s holds.instruction)) (sym at)
+      (print_safe (output_at s.memory (d.at + 1)) (prints (ap prints_inline (sym same))) next)
+  by_opcode op new_line same = next_of (ap goes_on (sym same))
+  by_opcode op nop same = next_of (ap goes_on (sym same))
+  by_opcode op quit same = tt
+
+  pub step_safe : IsSafe o claims m.story (step m s)
+  unfolding Goal
+  step_safe = subst (λ (r : Result Done Halt). IsSafe o claims m.story r) (sym steps) (by_opcode holds.instruction.opcode played refl)
+
+-- the opening state
+pub opening_described : {V : Type 0} (o : SetOperations V) (claims : Claims V) (story : LoadedStory) → Supports o claims story → Described o claims story (opening story)
+opening_described o claims story supports =
+    let first = supports.first in
+    record {
+      is_state = record {
+        memory = refl;
+        frames = (record { reached = omega arith; supplied = omega arith; locals = omega arith; stack = omega arith }, record { return_place = refl; result = refl; supplied = refl; locals = refl });
+        few = omega arith;
+      };
+      at = first_instruction story;
+      place = refl;
+      entry = first.entry;
+      listed = first.listed;
+      fits = record {
+        in_locals = subst (λ xs. AllZip (In o) xs []) (sym first.no_locals) tt;
+        in_slots = subst (λ xs. AllZip (In o) xs []) (sym first.no_slots) tt;
+      };
+      callers = first.main;
+      values = supports.values;
+      fixed = λ p h. refl;
+    }

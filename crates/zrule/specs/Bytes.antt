@@ -1,0 +1,89 @@
+-- Which bytes of a story a play may change, and which stay as they were loaded (own). Each is a set of places.
+use Rattle.std.specs.Prelude.{◌≡◌, ◌≢◌, ℕ, ◌+◌, ◌*◌, ◌/◌, ◌<◌, ◌≤◌, ◌⊎◌, Bool, true, List, length, Some}
+use Rattle.zstory.specs.Bytes.{byte_at, word_at}
+use Rattle.zstory.specs.LoadedStory.{LoadedStory, globals, object_table, static_base, abbreviations}
+use Rattle.zstory.specs.Objects.{object_place, property_table}
+use Rattle.ztext.specs.Abbreviations.{abbreviation_at}
+
+-- a place from one on, so many bytes
+abbrev pub IsWithin : ℕ → ℕ → ℕ → Type 0
+IsWithin from size p = (from ≤ p) × (p < from + size)
+
+-- the two bytes of Flags 2
+abbrev pub IsFlags : ℕ → Type 0
+IsFlags p = IsWithin 0x10 2 p
+
+-- ---- what instructions change without asking
+
+-- the attributes and the tree of an object: the first seven bytes of its entry (Z 12.3.1)
+pub record IsObjectState (story : LoadedStory) (p : ℕ) : Type 0 where
+  pub object : ℕ
+  pub first : 1 ≤ object
+  pub last : object ≤ story.objects
+  pub inside : IsWithin (object_place story.memory object) 7 p
+
+-- Flags 2, the globals, and what instructions on objects change
+abbrev pub IsChanging : LoadedStory → ℕ → Type 0
+IsChanging story p = IsFlags p ⊎ (IsWithin (globals story) 480 p ⊎ IsObjectState story p)
+
+-- ---- what stores may not write
+
+-- a byte of an object's entry
+pub record IsObjectEntry (story : LoadedStory) (p : ℕ) : Type 0 where
+  pub object : ℕ
+  pub first : 1 ≤ object
+  pub last : object ≤ story.objects
+  pub inside : IsWithin (object_place story.memory object) 9 p
+
+-- where the list of a property table begins: after the length of the name in words, and the name (Z 12.4)
+abbrev pub list_place : List ℕ → ℕ → ℕ
+list_place memory table = table + 1 + 2 * byte_at memory table
+
+-- how many data bytes a property has, by its size byte (Z 12.4.1)
+abbrev pub data_length : ℕ → ℕ
+data_length size = size / 32 + 1
+
+-- A size byte of a property table, the zero byte at its end among them: the first, or the one behind a property that
+-- lies wholly in memory.
+pub data IsSizePlace (memory : List ℕ) (table : ℕ) : ℕ → Type 0 where
+  first : (p : ℕ) → p ≡ list_place memory table → p < length memory → IsSizePlace memory table p
+  next : (p q : ℕ) → IsSizePlace memory table q → byte_at memory q ≢ 0 → q + data_length (byte_at memory q) < length memory → p ≡ q + 1 + data_length (byte_at memory q) → p < length memory → IsSizePlace memory table p
+
+-- what a property table is beside its data: the length of its name, the name, size bytes and its end
+abbrev pub IsTableFrame : List ℕ → ℕ → ℕ → Type 0
+IsTableFrame memory table p = IsWithin table (1 + 2 * byte_at memory table) p ⊎ IsSizePlace memory table p
+
+pub record IsPropertyFrame (story : LoadedStory) (p : ℕ) : Type 0 where
+  pub object : ℕ
+  pub first : 1 ≤ object
+  pub last : object ≤ story.objects
+  pub inside : IsTableFrame story.memory (property_table story.memory object) p
+
+-- the text of an abbreviation, or the word of the table that leads to it
+pub record IsAbbreviation (story : LoadedStory) (p : ℕ) : Type 0 where
+  pub number : ℕ
+  pub last : number < 96
+  pub inside : IsWithin (abbreviations story + 2 * number) 2 p ⊎ ((text : List ℕ) × (abbreviation_at story.memory number ≡ Some text) × IsWithin (2 * word_at story.memory (abbreviations story + 2 * number)) (length text) p)
+
+-- the header without Flags 2
+abbrev pub IsHeader : ℕ → Type 0
+IsHeader p = (p < 64) × (IsFlags p → ⊥)
+
+-- what the story's own tables take up, what is frozen, and all that lies outside dynamic memory
+pub data IsClosed (story : LoadedStory) (is_frozen : ℕ → Bool) (p : ℕ) : Type 0 where
+  header : IsHeader p → IsClosed story is_frozen p
+  a_global : IsWithin (globals story) 480 p → IsClosed story is_frozen p
+  a_default : IsWithin (object_table story) 62 p → IsClosed story is_frozen p
+  an_entry : IsObjectEntry story p → IsClosed story is_frozen p
+  a_property : IsPropertyFrame story p → IsClosed story is_frozen p
+  an_abbreviation : IsAbbreviation story p → IsClosed story is_frozen p
+  frozen : is_frozen p ≡ true → IsClosed story is_frozen p
+  static : static_base story ≤ p → IsClosed story is_frozen p
+
+abbrev pub IsOpen : LoadedStory → (ℕ → Bool) → ℕ → Type 0
+IsOpen story is_frozen p = IsClosed story is_frozen p → ⊥
+
+-- no play changes it
+pub record IsFixed (story : LoadedStory) (is_frozen : ℕ → Bool) (p : ℕ) : Type 0 where
+  pub closed : IsClosed story is_frozen p
+  pub unchanging : IsChanging story p → ⊥

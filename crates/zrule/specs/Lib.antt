@@ -1,0 +1,4 @@
+pub mod Claims
+pub mod Bytes
+pub mod Rules
+pub mod Described

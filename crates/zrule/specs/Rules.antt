@@ -1,0 +1,109 @@
+-- What a certificate must say of a story: sentences over its claims (own). A rule has the number that a refusal shows.
+use Rattle.std.specs.Prelude.{◌≡◌, ℕ, ◌+◌, ◌*◌, ◌<◌, ◌≤◌, Bool, true, false, List, [], ◌∷◌, length, drop, Some, Ok, slice_get, ◌==◌, if◌then◌else◌}
+use Rattle.std.specs.Bool.{OnTrue}
+use Rattle.std.specs.List.{AllZip}
+use Rattle.zstory.specs.Bytes.{word_at}
+use Rattle.zstory.specs.LoadedStory.{LoadedStory, first_instruction, globals, object_table, static_base}
+use Rattle.ztext.specs.Words.{text_at}
+use Rattle.ztext.specs.Abbreviations.{IsPlainAbbreviation}
+use Rattle.zcode.specs.declared.opcode.Opcode.{Opcode}
+use Rattle.zcode.specs.declared.opcode.Opcode.TheVariants.{Print, Quit}
+use Rattle.zcode.specs.declared.instr.Operand.{Operand}
+use Rattle.zcode.specs.declared.instr.Operand.TheVariants.{Constant, Variable}
+use Rattle.zcode.specs.Instruction.{Instruction}
+use Rattle.zcode.specs.Reading.{instruction_at}
+use Rattle.zdomain.specs.Domain.{SetOperations, In, Within}
+use Rattle.zrule.specs.Claims.{Shape, Entry, Claims}
+use Rattle.zrule.specs.Bytes.{IsWithin, IsChanging, IsFixed, IsAbbreviation}
+
+-- ---- rules on the story
+
+-- S7: each abbreviation is whole in memory and uses none, and no instruction changes a byte of one or of a word that
+-- leads to one
+pub record HasAbbreviations (story : LoadedStory) : Type 0 where
+  pub plain : (n : ℕ) → n < 96 → IsPlainAbbreviation story.memory n
+  pub unchanging : (p : ℕ) → IsAbbreviation story p → IsChanging story p → ⊥
+
+-- S8: the globals, and the object table with its entries, share no byte; what is frozen lies in dynamic memory behind
+-- the header, and no instruction changes it
+pub record HasDisjointTables (story : LoadedStory) (is_frozen : ℕ → Bool) : Type 0 where
+  pub apart : (p : ℕ) → IsWithin (globals story) 480 p → IsWithin (object_table story) (62 + 9 * story.objects) p → ⊥
+  pub frozen_above : (p : ℕ) → is_frozen p ≡ true → 64 ≤ p
+  pub frozen_below : (p : ℕ) → is_frozen p ≡ true → p < static_base story
+  pub unchanging : (p : ℕ) → is_frozen p ≡ true → IsChanging story p → ⊥
+
+-- a global of a memory, counted from variable 16
+abbrev pub global_in : LoadedStory → List ℕ → ℕ → ℕ
+global_in story memory k = word_at memory (globals story + 2 * k)
+
+-- how many words operands take off the stack
+abbrev pub pops : List Operand → ℕ
+pops [] = 0
+pops (Constant n ∷ operands) = pops operands
+pops (Variable v ∷ operands) = (if v == 0 then 1 else 0) + pops operands
+
+-- the shape without its topmost slots
+abbrev pub below : {V : Type 0} → ℕ → Shape V → Shape V
+below n e = record { locals = e.locals; slots = drop n e.slots }
+
+-- an instruction after which the next one comes
+abbrev pub goes_on : Opcode → Bool
+goes_on Quit = false
+goes_on _ = true
+
+-- an instruction that prints the text behind its opcode byte
+abbrev pub prints_inline : Opcode → Bool
+prints_inline Print = true
+prints_inline _ = false
+
+-- a text is whole in memory, and no byte of it is ever changed
+pub record HasFixedText (story : LoadedStory) (is_frozen : ℕ → Bool) (at : ℕ) : Type 0 where
+  pub text : List ℕ
+  pub found : text_at story.memory at ≡ Some text
+  pub fixed : (p : ℕ) → IsWithin at (length text) p → IsFixed story is_frozen p
+
+module _ {V : Type 0} (o : SetOperations V) (claims : Claims V) where
+  -- S2: the first place is listed, in the main code, which has no locals, with an empty stack
+  pub record HasFirstPlace (story : LoadedStory) : Type 0 where
+    pub entry : Entry V
+    pub listed : claims.entry (first_instruction story) ≡ Some entry
+    pub main : entry.routine ≡ 0
+    pub no_locals : entry.shape.locals ≡ []
+    pub no_slots : entry.shape.slots ≡ []
+
+  -- S4, and of every memory of a play: each global is in its set
+  abbrev pub HasGlobals : LoadedStory → List ℕ → Type 0
+  HasGlobals story memory = (k : ℕ) (values : V) → slice_get claims.globals k ≡ Some values → In o values (global_in story memory k)
+
+  -- one shape says all that the other says
+  pub record Covers (from to : Shape V) : Type 0 where
+    pub locals : AllZip (Within o) from.locals to.locals
+    pub slots : AllZip (Within o) from.slots to.slots
+
+  -- an edge leads to a listed place of the same routine that covers what is known
+  pub record Leads (routine : ℕ) (shape : Shape V) (to : ℕ) : Type 0 where
+    pub entry : Entry V
+    pub listed : claims.entry to ≡ Some entry
+    pub same : entry.routine ≡ routine
+    pub covered : Covers shape entry.shape
+
+  -- what holds of a listed place
+  pub record Holds (story : LoadedStory) (p : ℕ) (e : Entry V) : Type 0 where
+    pub instruction : Instruction
+    -- I1: it decodes, at or above the base of static memory
+    pub static : static_base story ≤ p
+    pub decodes : instruction_at (drop p story.memory) ≡ Ok instruction
+    -- I2: every pop finds a slot
+    pub height : pops instruction.operands ≤ length e.shape.slots
+    -- I4: each edge that can be taken leads on
+    pub edges : OnTrue (goes_on instruction.opcode) (Leads e.routine (below (pops instruction.operands) e.shape) (p + instruction.size))
+    -- I11: a text that it prints stays as it is
+    pub text : OnTrue (prints_inline instruction.opcode) (HasFixedText story claims.is_frozen (p + 1))
+
+  -- the claims hold of a story
+  pub record Supports (story : LoadedStory) : Type 0 where
+    pub first : HasFirstPlace story
+    pub values : HasGlobals story story.memory
+    pub abbreviations : HasAbbreviations story
+    pub tables : HasDisjointTables story claims.is_frozen
+    pub each : (p : ℕ) (e : Entry V) → claims.entry p ≡ Some e → Holds story p e

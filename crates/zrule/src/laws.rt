@@ -1,0 +1,16 @@
+//! Why a story never faults of which the claims of a certificate hold.
+
+ghost use Rattle.zrule.specs.Claims.{Claims};
+ghost use Rattle.zrule.specs.Described.{NeverFaults, OpensDescribed, RunsSafely, StepsSafely};
+
+use zdomain::Domain;
+
+/// Where the claims of a certificate hold of a story, its opening state is one that they describe, and a step from a
+/// described state meets no fault and leads to a described state. So no run does, whatever the events and however many
+/// the steps, in any scope that has the listed places.
+pub fn each_step_is_safe<V: Domain>()
+    ensures opening { (claims : Claims V) → OpensDescribed V.operations claims }
+    ensures step { (claims : Claims V) → StepsSafely V.operations claims }
+    ensures runs { (claims : Claims V) → RunsSafely V.operations claims }
+    ensures never_faults { (claims : Claims V) → NeverFaults V.operations claims }
+{}

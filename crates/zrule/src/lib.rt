@@ -1,0 +1,6 @@
+//! What a certificate must say of a story, and why a story of which it is true never faults.
+#![tactic(auto)]
+
+mod laws;
+
+pub use laws::each_step_is_safe;
