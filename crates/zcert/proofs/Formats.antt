@@ -1,0 +1,75 @@
+-- What a format owes, and that intervals meet it.
+use Rattle.std.proofs.Common.{◌≡◌, ℕ, ◌^◌, ◌<◌, List, ◌++◌, length, Option, Some, None, Result, Ok, Err, ℤ, FitsSigned, refl, sym, ap, subst, ◌∙◌, append_assoc, arith}
+use Rattle.std.specs.Int.{w16, cast_signed, cast_unsigned}
+use Rattle.std.proofs.lemmas.Int.{ints, to_z-of_z, of_z-to_z}
+use Rattle.zdomain.specs.declared.interval.Interval.{Interval}
+use Rattle.zdomain.specs.Interval.{interval_of}
+use Rattle.zdomain.proofs.Ends.{from_ends, ends_of}
+use Rattle.zcert.specs.declared.error.CertError.{CertError}
+use Rattle.zcert.specs.Numbers.{Version, End, number, HasRoom}
+use Rattle.zcert.specs.Steps.{◌>>=◌, number_at}
+use Rattle.zcert.specs.Format.{Format, nonempty, interval_format}
+use Rattle.zcert.proofs.Stepping.{IsBytes, IsBytes-append, IsBytes-number, Takes, Takes-then, bind_ok, ok_is, number_takes, number_again}
+
+-- what is read is spelled so, and what has a spelling is read again
+pub record IsFormat {V : Type 0} (format : Format V) : Type 0 where
+  pub version : HasRoom Version format.version
+  pub takes : (bytes : List ℕ) (v : V) (rest : List ℕ) → IsBytes bytes → format.value_at bytes ≡ Ok (v, rest) → Takes bytes (format.spelled v) rest × format.Has v
+  pub bytes : (v : V) → format.Has v → IsBytes (format.spelled v)
+  pub long : (v : V) → 0 < length (format.spelled v)
+  pub again : (v : V) (rest : List ℕ) → format.Has v → format.value_at (format.spelled v ++ rest) ≡ Ok (v, rest)
+
+nonempty_is : (o : Option Interval) (i : Interval) → nonempty o ≡ Ok i → o ≡ Some i
+nonempty_is None i e = absurd cc
+nonempty_is (Some j) i e = cc
+
+-- the word of a word's signed reading, and its room
+word_end : (n : ℕ) → HasRoom End n → cast_unsigned w16 (cast_signed w16 n) ≡ n
+word_end n room = of_z-to_z w16 n room
+
+end_fits : (n : ℕ) → HasRoom End n → FitsSigned w16 (cast_signed w16 n)
+end_fits n room = omega (arith, ints)
+
+end_room : (z : ℤ) → FitsSigned w16 z → HasRoom End (cast_unsigned w16 z)
+end_room z fits = omega (arith, ints, fits.sfits)
+
+-- two ends in order are read as the interval between them
+pub ends_read : (bytes after rest : List ℕ) (lo hi : ℕ) (i : Interval) → number_at End bytes ≡ Ok (lo, after) → number_at End after ≡ Ok (hi, rest) → Some i ≡ interval_of (cast_signed w16 lo) (cast_signed w16 hi) → interval_format.value_at bytes ≡ Ok (i, rest)
+ends_read bytes after rest lo hi i first second made = rw (first, second) (ap (λ o. nonempty o >>= λ x. Ok (x, rest)) (sym made))
+
+-- an end that was passed on as a signed number
+pub passed_end : (z a : ℤ) (n : ℕ) → HasRoom End n → a ≡ cast_signed w16 n → z ≡ cast_signed w16 (cast_unsigned w16 a) → z ≡ cast_signed w16 n
+passed_end z a n room e f = f ∙ to_z-of_z w16 a (rw e (end_fits n room)) ∙ e
+
+interval_takes : (bytes : List ℕ) (i : Interval) (rest : List ℕ) → IsBytes bytes → interval_format.value_at bytes ≡ Ok (i, rest) → Takes bytes (interval_format.spelled i) rest × interval_format.Has i
+interval_takes bytes i rest fits e =
+    let a = bind_ok (number_at End bytes) (λ lo. number_at End lo.1 >>= λ hi. nonempty (interval_of (cast_signed w16 lo.0) (cast_signed w16 hi.0)) >>= λ i. Ok (i, hi.1)) (i, rest) e in
+    let lo = a.0.0 in
+    let b = bind_ok (number_at End a.0.1) (λ hi. nonempty (interval_of (cast_signed w16 lo) (cast_signed w16 hi.0)) >>= λ i. Ok (i, hi.1)) (i, rest) a.2 in
+    let hi = b.0.0 in
+    let c = bind_ok (nonempty (interval_of (cast_signed w16 lo) (cast_signed w16 hi))) (λ i. Ok (i, b.0.1)) (i, rest) b.2 in
+    let first = number_takes End bytes lo a.0.1 fits a.1 in
+    let second = number_takes End a.0.1 hi b.0.1 first.0.rest_fits b.1 in
+    let both = Takes-then bytes (number End lo) a.0.1 (number End hi) b.0.1 first.0 second.0 in
+    let made : Interval × List ℕ = (c.0, b.0.1) in
+    let ends = ends_of (cast_signed w16 lo) (cast_signed w16 hi) c.0 (nonempty_is _ c.0 c.1) in
+    subst (λ (x : Interval × List ℕ). Takes bytes (interval_format.spelled x.0) x.1 × interval_format.Has x.0) {x = made} (ok_is made (i, rest) c.2) (
+      rw (ends.0, ends.1, word_end lo first.1, word_end hi second.1) both,
+      rw (ends.0, ends.1) (end_fits lo first.1, end_fits hi second.1),
+    )
+
+interval_again : (i : Interval) (rest : List ℕ) → interval_format.Has i → interval_format.value_at (interval_format.spelled i ++ rest) ≡ Ok (i, rest)
+interval_again i rest has =
+    let lo = cast_unsigned w16 i.lo in
+    let hi = cast_unsigned w16 i.hi in
+    let regrouped : (number End lo ++ number End hi) ++ rest ≡ number End lo ++ (number End hi ++ rest) = append_assoc (number End lo) (number End hi) rest in
+    ap interval_format.value_at regrouped ∙ rw (
+      number_again End lo (number End hi ++ rest) (end_room i.lo has.0),
+      number_again End hi rest (end_room i.hi has.1),
+      to_z-of_z w16 i.lo has.0,
+      to_z-of_z w16 i.hi has.1,
+      from_ends i,
+    ) refl
+
+pub interval_is_format : IsFormat interval_format
+interval_is_format = record { version = omega arith; takes = interval_takes; bytes = λ i has. IsBytes-append (number End (cast_unsigned w16 i.lo)) (number End (cast_unsigned w16 i.hi)) (IsBytes-number End (cast_unsigned w16 i.lo)) (IsBytes-number End (cast_unsigned w16 i.hi)); long = λ i. omega arith; again = interval_again }

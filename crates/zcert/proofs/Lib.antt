@@ -1,0 +1,12 @@
+pub mod Sample
+pub mod Stepping
+pub mod Formats
+pub mod Found
+pub mod Only
+pub mod Rest
+pub mod Stores
+pub mod Calls
+pub mod FieldBytes
+pub mod Makes
+pub mod Lookup
+pub mod ReadLoop

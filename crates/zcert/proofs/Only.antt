@@ -1,0 +1,208 @@
+-- What is spelled is read.
+use Rattle.std.proofs.Common.{◌≡◌, ℕ, zero, suc, ◌+◌, ◌<◌, ◌≤◌, Bool, true, false, List, [], ◌∷◌, ◌++◌, length, take, drop, Result, Ok, Err, eq-eqb, refl, sym, ap, ◌∙◌, append_assoc, arith, length-append}
+use Rattle.std.specs.Prelude.{nat_le, nat_lt, ◌==◌}
+use Rattle.std.specs.List.{flat_map, AllByRecursion}
+use Rattle.std.proofs.lemmas.Bool.{le-leb, lt-ltb}
+use Rattle.std.proofs.lemmas.List.{take_at, drop_at, append-nil}
+use Rattle.zstory.specs.declared.identity.Identity.{Identity}
+use Rattle.zcert.specs.declared.error.CertError.{CertError}
+use Rattle.zcert.specs.declared.error.CertError.TheVariants as errors
+use Rattle.zcert.specs.declared.parts.Range.{Range}
+use Rattle.zcert.specs.declared.parts.Routine.{Routine}
+use Rattle.zcert.specs.declared.limits.TheConstants.{MAGIC, GLOBALS, ADDRESS_LIMIT, MAX_LOCALS, MAX_INSTRUCTIONS, MAX_RANGES, MAX_ROUTINES, MAX_HEIGHT}
+use Rattle.zcert.specs.Numbers.{number, HasRoom}
+use Rattle.zcert.specs.Numbers as numbers
+use Rattle.zcert.specs.Certificate.{Instruction, Certificate, locals_of}
+use Rattle.zcert.specs.Steps.{◌>>=◌, need, number_at, serial_at}
+use Rattle.zcert.specs.Format.{Format}
+use Rattle.zcert.specs.Spelling.{identity_bytes, range_bytes, values_bytes, routine_bytes, instruction_bytes, counted, heading, spelling, IsIdentity, IsRange, AreApart, Rise, IsRoutine, IsInstruction, HasSpelling}
+use Rattle.zcert.specs.Reading.{magic_at, version_at, heading_at, identity_at, range_at, ranges_at, all_ranges_at, address_fits, values_at, routine_at, routines_at, all_routines_at, instruction_at, instructions_at, all_instructions_at, at_end, reading}
+use Rattle.zcert.proofs.Stepping.{number_again, serial_again}
+use Rattle.zcert.proofs.Formats.{IsFormat}
+
+-- parts one after another, before what follows
+two : (a b rest : List ℕ) → (a ++ b) ++ rest ≡ a ++ (b ++ rest)
+two a b rest = append_assoc a b rest
+
+three : (a b c rest : List ℕ) → (a ++ b ++ c) ++ rest ≡ a ++ (b ++ (c ++ rest))
+three a b c rest = simp append_assoc
+
+four : (a b c d rest : List ℕ) → (a ++ b ++ c ++ d) ++ rest ≡ a ++ (b ++ (c ++ (d ++ rest)))
+four a b c d rest = simp append_assoc
+
+magic_again : (rest : List ℕ) → magic_at (number numbers.Magic MAGIC ++ rest) ≡ Ok rest
+unfolding magic_at
+magic_again rest = rw (number_again numbers.Magic MAGIC rest (omega arith)) refl
+
+eqb_same : (n : ℕ) → (n == n) ≡ true
+eqb_same n = eq-eqb n n refl
+
+version_again : (version : ℕ) (rest : List ℕ) → HasRoom numbers.Version version → version_at version (number numbers.Version version ++ rest) ≡ Ok rest
+unfolding version_at
+version_again version rest room = rw (number_again numbers.Version version rest room, eqb_same version) refl
+
+pub heading_again : {V : Type 0} (format : Format V) (rest : List ℕ) → HasRoom numbers.Version format.version → heading_at format.version (heading format ++ rest) ≡ Ok rest
+unfolding heading_at
+heading_again format rest room =
+    let version = number numbers.Version format.version in
+    ap (heading_at format.version) (two (number numbers.Magic MAGIC) version rest) ∙ rw (magic_again (version ++ rest)) (version_again format.version rest room)
+
+identity_again : (i : Identity) (rest : List ℕ) → IsIdentity i → identity_at (identity_bytes i ++ rest) ≡ Ok (i, rest)
+unfolding identity_at
+identity_again i rest is =
+    let checksum = number numbers.Checksum i.checksum in
+    let loaded = number numbers.LoadedLength i.length in
+    ap identity_at (four (number numbers.Release i.release) i.serial checksum loaded rest) ∙ rw (
+      number_again numbers.Release i.release (i.serial ++ (checksum ++ (loaded ++ rest))) is.release,
+      serial_again i.serial (checksum ++ (loaded ++ rest)) is.serial,
+      number_again numbers.Checksum i.checksum (loaded ++ rest) is.checksum,
+      number_again numbers.LoadedLength i.length rest is.loaded_length,
+    ) refl
+
+range_again : (floor : ℕ) (r : Range) (rest : List ℕ) → floor ≤ r.first → IsRange r → range_at floor (range_bytes r ++ rest) ≡ Ok (r, rest)
+unfolding range_at
+range_again floor r rest above is =
+    let last = number numbers.RangeLast r.last in
+    let room : HasRoom numbers.RangeFirst r.first = omega (arith, is.ordered, is.room) in
+    ap (range_at floor) (two (number numbers.RangeFirst r.first) last rest) ∙ rw (
+      number_again numbers.RangeFirst r.first (last ++ rest) room,
+      le-leb floor r.first above,
+      number_again numbers.RangeLast r.last rest is.room,
+      le-leb r.first r.last is.ordered,
+    ) refl
+
+ranges_again : (floor : ℕ) (rs : List Range) (rest : List ℕ) → AllByRecursion IsRange rs → AreApart floor rs → ranges_at (length rs) floor (flat_map range_bytes rs ++ rest) ≡ Ok (rs, rest)
+unfolding ranges_at
+ranges_again floor [] rest each apart = refl
+ranges_again floor (r ∷ rs) rest each apart =
+    ap (ranges_at (suc (length rs)) floor) (two (range_bytes r) (flat_map range_bytes rs) rest) ∙ rw (
+      range_again floor r (flat_map range_bytes rs ++ rest) apart.0 each.0,
+      ranges_again (r.last + 2) rs rest each.1 apart.1,
+    ) refl
+
+all_ranges_again : (rs : List Range) (rest : List ℕ) → length rs ≤ MAX_RANGES → AllByRecursion IsRange rs → AreApart 0 rs → all_ranges_at (counted numbers.RangeCount range_bytes rs ++ rest) ≡ Ok (rs, rest)
+unfolding all_ranges_at
+all_ranges_again rs rest few each apart =
+    ap all_ranges_at (two (number numbers.RangeCount (length rs)) (flat_map range_bytes rs) rest) ∙ rw (
+      number_again numbers.RangeCount (length rs) (flat_map range_bytes rs ++ rest) (omega (arith, few)),
+      le-leb (length rs) MAX_RANGES few,
+    ) (ranges_again 0 rs rest each apart)
+
+address_again : (floor address : ℕ) → floor ≤ address → address < ADDRESS_LIMIT → address_fits floor address ≡ Ok tt
+address_again floor address above below = rw (le-leb floor address above, lt-ltb address ADDRESS_LIMIT below) refl
+
+module _ {V : Type 0} (format : Format V) (law : IsFormat format) where
+  values_again : (vs : List V) (rest : List ℕ) → AllByRecursion format.Has vs → values_at format (length vs) (values_bytes format vs ++ rest) ≡ Ok (vs, rest)
+  unfolding values_at
+  values_again [] rest each = refl
+  values_again (v ∷ vs) rest each =
+      ap (values_at format (suc (length vs))) (two (format.spelled v) (values_bytes format vs) rest) ∙ rw (
+        law.again v (values_bytes format vs ++ rest) each.0,
+        values_again vs rest each.1,
+      ) refl
+
+  routine_again : (floor : ℕ) (r : Routine V) (rest : List ℕ) → floor ≤ r.address → IsRoutine format r → routine_at format floor (routine_bytes format r ++ rest) ≡ Ok (r, rest)
+  unfolding routine_at
+  routine_again floor r rest above is =
+      let locals = number numbers.LocalCount r.locals in
+      let result = format.spelled r.result in
+      ap (routine_at format floor) (three (number numbers.RoutineAddress r.address) locals result rest) ∙ rw (
+        number_again numbers.RoutineAddress r.address (locals ++ (result ++ rest)) (omega (arith, is.address)),
+        le-leb floor r.address above,
+        lt-ltb r.address ADDRESS_LIMIT is.address,
+        number_again numbers.LocalCount r.locals (result ++ rest) (omega (arith, is.locals)),
+        le-leb r.locals MAX_LOCALS is.locals,
+        law.again r.result rest is.result,
+      ) refl
+
+  routines_again : (floor : ℕ) (rs : List (Routine V)) (rest : List ℕ) → AllByRecursion (IsRoutine format) rs → Rise (λ (r : Routine V). r.address) floor rs → routines_at format (length rs) floor (flat_map (routine_bytes format) rs ++ rest) ≡ Ok (rs, rest)
+  unfolding routines_at
+  routines_again floor [] rest each rise = refl
+  routines_again floor (r ∷ rs) rest each rise =
+      ap (routines_at format (suc (length rs)) floor) (two (routine_bytes format r) (flat_map (routine_bytes format) rs) rest) ∙ rw (
+        routine_again floor r (flat_map (routine_bytes format) rs ++ rest) rise.0 each.0,
+        routines_again (r.address + 1) rs rest each.1 rise.1,
+      ) refl
+
+  all_routines_again : (rs : List (Routine V)) (rest : List ℕ) → length rs ≤ MAX_ROUTINES → AllByRecursion (IsRoutine format) rs → Rise (λ (r : Routine V). r.address) 0 rs → all_routines_at format (counted numbers.RoutineCount (routine_bytes format) rs ++ rest) ≡ Ok (rs, rest)
+  unfolding all_routines_at
+  all_routines_again rs rest few each rise =
+      ap (all_routines_at format) (two (number numbers.RoutineCount (length rs)) (flat_map (routine_bytes format) rs) rest) ∙ rw (
+        number_again numbers.RoutineCount (length rs) (flat_map (routine_bytes format) rs ++ rest) (omega (arith, few)),
+        le-leb (length rs) MAX_ROUTINES few,
+      ) (routines_again 0 rs rest each rise)
+
+  pub both_each : (xs ys : List V) → AllByRecursion format.Has xs → AllByRecursion format.Has ys → AllByRecursion format.Has (xs ++ ys)
+  both_each [] ys p q = q
+  both_each (x ∷ xs) ys p q = (p.0, both_each xs ys p.1 q)
+
+  instruction_again : (routines : List (Routine V)) (floor : ℕ) (i : Instruction V) (rest : List ℕ) → length routines ≤ MAX_ROUTINES → floor ≤ i.address → IsInstruction format routines i → instruction_at format routines floor (instruction_bytes format i ++ rest) ≡ Ok (i, rest)
+  unfolding instruction_at
+  instruction_again routines floor i rest few above is =
+      let routine = number numbers.RoutineNumber i.routine in
+      let height = number numbers.Height (length i.slots) in
+      let vs = i.locals ++ i.slots in
+      let values = values_bytes format vs in
+      let n = locals_of routines i.routine in
+      let count : n + length i.slots ≡ length vs = omega (arith, length-append i.locals i.slots, is.locals) in
+      ap (instruction_at format routines floor) (four (number numbers.InstructionAddress i.address) routine height values rest) ∙ rw (
+        number_again numbers.InstructionAddress i.address (routine ++ (height ++ (values ++ rest))) (omega (arith, is.address)),
+        le-leb floor i.address above,
+        lt-ltb i.address ADDRESS_LIMIT is.address,
+        number_again numbers.RoutineNumber i.routine (height ++ (values ++ rest)) (omega (arith, is.routine, few)),
+        le-leb i.routine (length routines) is.routine,
+        number_again numbers.Height (length i.slots) (values ++ rest) (omega (arith, is.height)),
+        le-leb (length i.slots) MAX_HEIGHT is.height,
+        count,
+        values_again vs rest (both_each i.locals i.slots is.local_values is.slot_values),
+        take_at i.locals i.slots n is.locals,
+        drop_at i.locals i.slots n is.locals,
+      ) refl
+
+  instructions_again : (routines : List (Routine V)) (floor : ℕ) (is : List (Instruction V)) (rest : List ℕ) → length routines ≤ MAX_ROUTINES → AllByRecursion (IsInstruction format routines) is → Rise (λ (i : Instruction V). i.address) floor is → instructions_at format routines (length is) floor (flat_map (instruction_bytes format) is ++ rest) ≡ Ok (is, rest)
+  unfolding instructions_at
+  instructions_again routines floor [] rest few each rise = refl
+  instructions_again routines floor (i ∷ is) rest few each rise =
+      ap (instructions_at format routines (suc (length is)) floor) (two (instruction_bytes format i) (flat_map (instruction_bytes format) is) rest) ∙ rw (
+        instruction_again routines floor i (flat_map (instruction_bytes format) is ++ rest) few rise.0 each.0,
+        instructions_again routines (i.address + 1) is rest few each.1 rise.1,
+      ) refl
+
+  all_instructions_again : (routines : List (Routine V)) (is : List (Instruction V)) (rest : List ℕ) → length routines ≤ MAX_ROUTINES → length is ≤ MAX_INSTRUCTIONS → AllByRecursion (IsInstruction format routines) is → Rise (λ (i : Instruction V). i.address) 0 is → all_instructions_at format routines (counted numbers.InstructionCount (instruction_bytes format) is ++ rest) ≡ Ok (is, rest)
+  unfolding all_instructions_at
+  all_instructions_again routines is rest few_routines few each rise =
+      ap (all_instructions_at format routines) (two (number numbers.InstructionCount (length is)) (flat_map (instruction_bytes format) is) rest) ∙ rw (
+        number_again numbers.InstructionCount (length is) (flat_map (instruction_bytes format) is ++ rest) (omega (arith, few)),
+        le-leb (length is) MAX_INSTRUCTIONS few,
+      ) (instructions_again routines 0 is rest few_routines each rise)
+
+  in_parts : (a b c d e f : List ℕ) → a ++ b ++ c ++ d ++ e ++ f ≡ a ++ (b ++ (c ++ (d ++ (e ++ (f ++ [])))))
+  in_parts a b c d e f = simp (append_assoc, append-nil)
+
+  -- what has a spelling is read from it
+  pub only : (c : Certificate V) → HasSpelling format c → reading format (spelling format c) ≡ Ok c
+  unfolding reading at_end
+  only c has =
+      let identity = identity_bytes c.identity in
+      let ranges = counted numbers.RangeCount range_bytes c.ranges in
+      let globals = values_bytes format c.globals in
+      let routines = counted numbers.RoutineCount (routine_bytes format) c.routines in
+      let instructions = counted numbers.InstructionCount (instruction_bytes format) c.instructions in
+      let globals_read : values_at format GLOBALS (globals ++ (routines ++ (instructions ++ []))) ≡ Ok (c.globals, routines ++ (instructions ++ [])) =
+      ap (λ (n : ℕ). values_at format n (globals ++ (routines ++ (instructions ++ [])))) (sym has.globals) ∙ values_again c.globals (routines ++ (instructions ++ [])) has.global_values
+      in
+      ap (reading format) (in_parts (heading format) identity ranges globals routines instructions) ∙ rw (
+        heading_again format (identity ++ (ranges ++ (globals ++ (routines ++ (instructions ++ []))))) law.version,
+        identity_again c.identity (ranges ++ (globals ++ (routines ++ (instructions ++ [])))) has.identity,
+        all_ranges_again c.ranges (globals ++ (routines ++ (instructions ++ []))) has.few_ranges has.ranges has.ranges_apart,
+        globals_read,
+        all_routines_again c.routines (instructions ++ []) has.few_routines has.routines has.routines_rise,
+        all_instructions_again c.routines c.instructions [] has.few_routines has.few_instructions has.instructions has.instructions_rise,
+      ) refl
+
+  same_answer : (c d : Certificate V) (r : Result (Certificate V) CertError) → r ≡ Ok c → r ≡ Ok d → c ≡ d
+  same_answer c d r p q = cc
+
+  -- two certificates with one spelling are one
+  pub one : (c d : Certificate V) → HasSpelling format c → HasSpelling format d → spelling format c ≡ spelling format d → c ≡ d
+  one c d has also e = same_answer c d (reading format (spelling format c)) (only c has) (ap (reading format) e ∙ only d also)

@@ -1,0 +1,208 @@
+-- Taking the fields of a certificate one after another. A field out of turn is out of order.
+use Rattle.std.specs.Prelude.{◌≡◌, ℕ, zero, suc, ◌+◌, ◌<◌, List, [], ◌∷◌, ◌++◌, length, take, drop, Result, Ok, Err, nat_le, ⊤}
+use Rattle.zstory.specs.declared.identity.Identity.{Identity}
+use Rattle.zcert.specs.declared.error.CertError.{CertError}
+use Rattle.zcert.specs.declared.error.CertError.TheVariants as errors
+use Rattle.zcert.specs.declared.field.Field.{Field}
+use Rattle.zcert.specs.declared.field.Field.TheVariants as fields
+use Rattle.zcert.specs.declared.field.Header.{Header}
+use Rattle.zcert.specs.declared.field.Turn.{Turn}
+use Rattle.zcert.specs.declared.field.Turn.TheVariants as turns
+use Rattle.zcert.specs.declared.parts.Range.{Range}
+use Rattle.zcert.specs.declared.parts.Routine.{Routine}
+use Rattle.zcert.specs.declared.limits.TheConstants.{GLOBALS, ADDRESS_LIMIT, MAX_LOCALS, MAX_INSTRUCTIONS, MAX_RANGES, MAX_ROUTINES, MAX_HEIGHT}
+use Rattle.zcert.specs.Certificate.{Instruction, Certificate, locals_of}
+use Rattle.zcert.specs.Steps.{◌>>=◌, need}
+use Rattle.zcert.specs.Reading.{address_fits}
+
+pub record Progress (V : Type 0) : Type 0 where
+  -- what is whole so far, with an identity of zeros where it has not come
+  pub content : Certificate V
+  -- the values of the newest instruction, so far
+  pub values : List V
+  -- the least that the next address or range may begin at
+  pub floor : ℕ
+  -- which field comes next
+  pub turn : Turn
+
+-- the turn before so many ranges, globals, routines or instructions
+abbrev pub before_globals : ℕ → Turn
+before_globals zero = turns.RoutineCount
+before_globals (suc more) = turns.Global more
+
+abbrev pub before_ranges : ℕ → Turn
+before_ranges zero = before_globals GLOBALS
+before_ranges (suc more) = turns.RangeFirst more
+
+abbrev pub before_routines : ℕ → Turn
+before_routines zero = turns.InstructionCount
+before_routines (suc more) = turns.RoutineAddress more
+
+abbrev pub before_instructions : ℕ → Turn
+before_instructions zero = turns.Complete
+before_instructions (suc more) = turns.InstructionAddress more
+
+-- an instruction by its header and its values
+abbrev pub instruction_of : {V : Type 0} → Header → List V → Instruction V
+instruction_of h values = record { address = h.address; routine = h.routine; locals = take h.locals values; slots = drop h.locals values }
+
+-- before the first field
+abbrev pub no_identity : Identity
+no_identity = record { release = 0; serial = 0 ∷ 0 ∷ 0 ∷ 0 ∷ 0 ∷ 0 ∷ []; checksum = 0; length = 0 }
+
+abbrev pub opening : {V : Type 0} → Progress V
+opening = record {
+  content = record { identity = no_identity; ranges = []; globals = []; routines = []; instructions = [] };
+  values = [];
+  floor = 0;
+  turn = turns.Release;
+}
+
+-- with a new identity, one more range, global, routine or instruction
+module _ {V : Type 0} (c : Certificate V) where
+  abbrev pub with_identity : Identity → Certificate V
+  with_identity i = record c { identity = i }
+
+  abbrev pub with_range : Range → Certificate V
+  with_range r = record c { ranges = c.ranges ++ r ∷ [] }
+
+  abbrev pub with_global : V → Certificate V
+  with_global v = record c { globals = c.globals ++ v ∷ [] }
+
+  abbrev pub with_routine : Routine V → Certificate V
+  with_routine r = record c { routines = c.routines ++ r ∷ [] }
+
+  abbrev pub with_instruction : Instruction V → Certificate V
+  with_instruction i = record c { instructions = c.instructions ++ i ∷ [] }
+
+-- Where a field leads, by whose turn it is.
+module _ {V : Type 0} where
+  abbrev pub after_release : ℕ → Turn → Progress V → Result (Progress V) CertError
+  after_release n turns.Release p = Ok (record p { content = with_identity p.content (record p.content.identity { release = n }); turn = turns.Serial })
+  after_release n _ p = Err errors.Order
+
+  abbrev pub after_serial : List ℕ → Turn → Progress V → Result (Progress V) CertError
+  after_serial s turns.Serial p = Ok (record p { content = with_identity p.content (record p.content.identity { serial = s }); turn = turns.Checksum })
+  after_serial s _ p = Err errors.Order
+
+  abbrev pub after_checksum : ℕ → Turn → Progress V → Result (Progress V) CertError
+  after_checksum n turns.Checksum p = Ok (record p { content = with_identity p.content (record p.content.identity { checksum = n }); turn = turns.LoadedLength })
+  after_checksum n _ p = Err errors.Order
+
+  abbrev pub after_loaded_length : ℕ → Turn → Progress V → Result (Progress V) CertError
+  after_loaded_length n turns.LoadedLength p = Ok (record p { content = with_identity p.content (record p.content.identity { length = n }); turn = turns.RangeCount })
+  after_loaded_length n _ p = Err errors.Order
+
+  abbrev pub after_range_count : ℕ → Turn → Progress V → Result (Progress V) CertError
+  after_range_count n turns.RangeCount p = do
+    _ ← need (nat_le n MAX_RANGES) errors.Limit
+    Ok (record p { floor = 0; turn = before_ranges n })
+  after_range_count n _ p = Err errors.Order
+
+  abbrev pub after_range_first : ℕ → Turn → Progress V → Result (Progress V) CertError
+  after_range_first first (turns.RangeFirst more) p = do
+    _ ← need (nat_le p.floor first) errors.Order
+    Ok (record p { turn = turns.RangeLast more first })
+  after_range_first first _ p = Err errors.Order
+
+  abbrev pub after_range_last : ℕ → Turn → Progress V → Result (Progress V) CertError
+  after_range_last last (turns.RangeLast more first) p = do
+    _ ← need (nat_le first last) errors.Order
+    Ok (record p { content = with_range p.content (record { first = first; last = last }); floor = last + 2; turn = before_ranges more })
+  after_range_last last _ p = Err errors.Order
+
+  abbrev pub after_global : V → Turn → Progress V → Result (Progress V) CertError
+  after_global v (turns.Global more) p = Ok (record p { content = with_global p.content v; turn = before_globals more })
+  after_global v _ p = Err errors.Order
+
+  abbrev pub after_routine_count : ℕ → Turn → Progress V → Result (Progress V) CertError
+  after_routine_count n turns.RoutineCount p = do
+    _ ← need (nat_le n MAX_ROUTINES) errors.Limit
+    Ok (record p { floor = 0; turn = before_routines n })
+  after_routine_count n _ p = Err errors.Order
+
+  abbrev pub after_routine_address : ℕ → Turn → Progress V → Result (Progress V) CertError
+  after_routine_address address (turns.RoutineAddress more) p = do
+    _ ← address_fits p.floor address
+    Ok (record p { turn = turns.LocalCount more address })
+  after_routine_address address _ p = Err errors.Order
+
+  abbrev pub after_local_count : ℕ → Turn → Progress V → Result (Progress V) CertError
+  after_local_count n (turns.LocalCount more address) p = do
+    _ ← need (nat_le n MAX_LOCALS) errors.Limit
+    Ok (record p { turn = turns.RoutineResult more address n })
+  after_local_count n _ p = Err errors.Order
+
+  abbrev pub after_routine_result : V → Turn → Progress V → Result (Progress V) CertError
+  after_routine_result v (turns.RoutineResult more address locals) p =
+      Ok (record p { content = with_routine p.content (record { address = address; locals = locals; result = v }); floor = address + 1; turn = before_routines more })
+  after_routine_result v _ p = Err errors.Order
+
+  abbrev pub after_instruction_count : ℕ → Turn → Progress V → Result (Progress V) CertError
+  after_instruction_count n turns.InstructionCount p = do
+    _ ← need (nat_le n MAX_INSTRUCTIONS) errors.Limit
+    Ok (record p { floor = 0; turn = before_instructions n })
+  after_instruction_count n _ p = Err errors.Order
+
+  abbrev pub after_instruction_address : ℕ → Turn → Progress V → Result (Progress V) CertError
+  after_instruction_address address (turns.InstructionAddress more) p = do
+    _ ← address_fits p.floor address
+    Ok (record p { values = []; turn = turns.RoutineNumber more address })
+  after_instruction_address address _ p = Err errors.Order
+
+  abbrev pub after_routine_number : ℕ → Turn → Progress V → Result (Progress V) CertError
+  after_routine_number routine (turns.RoutineNumber more address) p = do
+    _ ← need (nat_le routine (length p.content.routines)) errors.Limit
+    Ok (record p { turn = turns.Height more address routine })
+  after_routine_number routine _ p = Err errors.Order
+
+  -- with so many values of an instruction to come, and so many instructions after it
+  abbrev pub before_values : ℕ → ℕ → Header → Progress V → Progress V
+  before_values zero more h p = record p { content = with_instruction p.content (instruction_of h p.values); floor = h.address + 1; turn = before_instructions more }
+  before_values (suc left) more h p = record p { turn = turns.Value more h left }
+
+  abbrev pub after_height : ℕ → Turn → Progress V → Result (Progress V) CertError
+  after_height height (turns.Height more address routine) p = do
+    _ ← need (nat_le height MAX_HEIGHT) errors.Limit
+    Ok (before_values (locals_of p.content.routines routine + height) more (record { address = address; routine = routine; locals = locals_of p.content.routines routine; height = height }) p)
+  after_height height _ p = Err errors.Order
+
+  abbrev pub after_value : V → Turn → Progress V → Result (Progress V) CertError
+  after_value v (turns.Value more h left) p = Ok (before_values left more h (record p { values = p.values ++ v ∷ [] }))
+  after_value v _ p = Err errors.Order
+
+  -- where a field leads, or why it is refused
+  abbrev pub taken : Progress V → Field V → Result (Progress V) CertError
+  taken p (fields.Release n) = after_release n p.turn p
+  taken p (fields.Serial s) = after_serial s p.turn p
+  taken p (fields.Checksum n) = after_checksum n p.turn p
+  taken p (fields.LoadedLength n) = after_loaded_length n p.turn p
+  taken p (fields.RangeCount n) = after_range_count n p.turn p
+  taken p (fields.RangeFirst n) = after_range_first n p.turn p
+  taken p (fields.RangeLast n) = after_range_last n p.turn p
+  taken p (fields.Global v) = after_global v p.turn p
+  taken p (fields.RoutineCount n) = after_routine_count n p.turn p
+  taken p (fields.RoutineAddress n) = after_routine_address n p.turn p
+  taken p (fields.LocalCount n) = after_local_count n p.turn p
+  taken p (fields.RoutineResult v) = after_routine_result v p.turn p
+  taken p (fields.InstructionCount n) = after_instruction_count n p.turn p
+  taken p (fields.InstructionAddress n) = after_instruction_address n p.turn p
+  taken p (fields.RoutineNumber n) = after_routine_number n p.turn p
+  taken p (fields.Height n) = after_height n p.turn p
+  taken p (fields.Value v) = after_value v p.turn p
+
+  -- where these fields lead, one after another
+  abbrev pub all_taken : Progress V → List (Field V) → Result (Progress V) CertError
+  all_taken p [] = Ok p
+  all_taken p (f ∷ fs) = do
+    q ← taken p f
+    all_taken q fs
+
+-- what is known of an unfinished part: its address is below the limit, and an instruction lacks as many values as are left
+abbrev pub IsDue : {V : Type 0} → Turn → List V → Type 0
+IsDue (turns.LocalCount more address) values = address < ADDRESS_LIMIT
+IsDue (turns.RoutineResult more address locals) values = address < ADDRESS_LIMIT
+IsDue (turns.RoutineNumber more address) values = (address < ADDRESS_LIMIT) × (length values ≡ 0)
+IsDue (turns.Height more address routine) values = (address < ADDRESS_LIMIT) × (length values ≡ 0)
+IsDue (turns.Value more h left) values = (h.address < ADDRESS_LIMIT) × (length values + suc left ≡ h.locals + h.height)
+IsDue _ values = ⊤

@@ -1,0 +1,32 @@
+-- A certificate: what it says of a story, over a type V of sets of words (own).
+use Rattle.std.specs.Prelude.{ℕ, zero, suc, List, Option, Some, None, slice_get}
+use Rattle.zstory.specs.declared.identity.Identity.{Identity}
+use Rattle.zcert.specs.declared.parts.Range.{Range}
+use Rattle.zcert.specs.declared.parts.Routine.{Routine}
+
+-- what is said of a listed instruction: its routine, numbered from 1, with 0 for the main code, and the values that
+-- the locals and the slots of the stack, the bottom first, may have before it
+pub record Instruction (V : Type 0) : Type 0 where
+  pub address : ℕ
+  pub routine : ℕ
+  pub locals : List V
+  pub slots : List V
+
+pub record Certificate (V : Type 0) : Type 0 where
+  -- the story that it speaks of
+  pub identity : Identity
+  -- the bytes that stay as they are
+  pub ranges : List Range
+  -- the values of each global, from variable 16 on
+  pub globals : List V
+  pub routines : List (Routine V)
+  pub instructions : List (Instruction V)
+
+abbrev pub locals_there : {V : Type 0} → Option (Routine V) → ℕ
+locals_there None = 0
+locals_there (Some r) = r.locals
+
+-- how many locals a routine has; the main code has none
+abbrev pub locals_of : {V : Type 0} → List (Routine V) → ℕ → ℕ
+locals_of routines zero = 0
+locals_of routines (suc r) = locals_there (slice_get routines r)

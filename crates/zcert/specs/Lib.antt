@@ -1,0 +1,12 @@
+pub mod Numbers
+pub mod Certificate
+pub mod Steps
+pub mod Format
+pub mod Spelling
+pub mod Reading
+pub mod Building
+pub mod Fields
+pub mod Contents
+pub mod View
+pub mod Listed
+pub mod Claims

@@ -1,0 +1,18 @@
+-- What a certificate says at an address.
+use Rattle.std.specs.Prelude.{◌≡◌, ℕ, ◌<◌, List, [], ◌∷◌, length, slice_get, Option, Some, None, MatchOption, ◌==◌, if◌then◌else◌}
+use Rattle.zdomain.specs.declared.interval.Interval.{Interval}
+use Rattle.zcert.specs.declared.parts.Instruction.{Instruction as Borrowed}
+use Rattle.zcert.specs.Certificate.{Instruction}
+
+-- the instruction that is listed at an address, if one is
+abbrev pub listed_at : {V : Type 0} → List (Instruction V) → ℕ → Option (Instruction V)
+listed_at [] address = None
+listed_at (i ∷ is) address = if i.address == address then Some i else listed_at is address
+
+-- the answer is the index of the instruction that is listed there
+abbrev pub Finds : {V : Type 0} → List (Instruction V) → ℕ → Option ℕ → Type 0
+Finds is address answer = MatchOption answer (listed_at is address ≡ None) (λ k. (k < length is) × (listed_at is address ≡ slice_get is k))
+
+-- an instruction that is lent, as what it says
+abbrev pub seen : Borrowed Interval → Instruction Interval
+seen i = record { address = i.address; routine = i.routine; locals = i.locals.now; slots = i.slots.now }

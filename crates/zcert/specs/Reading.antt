@@ -1,0 +1,139 @@
+-- Reading a certificate field by field, with the first wrong one. At a field the cut comes first, then the lowest number.
+use Rattle.std.specs.Prelude.{ℕ, zero, suc, ◌+◌, Bool, true, List, [], ◌∷◌, length, take, drop, Result, Ok, Err, nat_lt, nat_le, ◌==◌}
+use Rattle.zstory.specs.declared.identity.Identity.{Identity}
+use Rattle.zcert.specs.declared.error.CertError.{CertError}
+use Rattle.zcert.specs.declared.error.CertError.TheVariants as errors
+use Rattle.zcert.specs.declared.parts.Range.{Range}
+use Rattle.zcert.specs.declared.parts.Routine.{Routine}
+use Rattle.zcert.specs.declared.limits.TheConstants.{MAGIC, GLOBALS, ADDRESS_LIMIT, MAX_LOCALS, MAX_INSTRUCTIONS, MAX_RANGES, MAX_ROUTINES, MAX_HEIGHT}
+use Rattle.zcert.specs.Numbers as numbers
+use Rattle.zcert.specs.Certificate.{Instruction, Certificate, locals_of}
+use Rattle.zcert.specs.Steps.{◌>>=◌, need, number_at, serial_at}
+use Rattle.zcert.specs.Format.{Format}
+
+unfoldable pub magic_at : List ℕ → Result (List ℕ) CertError
+magic_at bytes = do
+  magic ← number_at numbers.Magic bytes
+  _ ← need (magic.0 == MAGIC) errors.Magic
+  Ok magic.1
+
+unfoldable pub version_at : ℕ → List ℕ → Result (List ℕ) CertError
+version_at version bytes = do
+  found ← number_at numbers.Version bytes
+  _ ← need (found.0 == version) errors.Version
+  Ok found.1
+
+unfoldable pub identity_at : List ℕ → Result (Identity × List ℕ) CertError
+identity_at bytes = do
+  release ← number_at numbers.Release bytes
+  serial ← serial_at release.1
+  checksum ← number_at numbers.Checksum serial.1
+  loaded ← number_at numbers.LoadedLength checksum.1
+  Ok (record { release = release.0; serial = serial.0; checksum = checksum.0; length = loaded.0 }, loaded.1)
+
+-- what follows magic and version
+unfoldable pub heading_at : ℕ → List ℕ → Result (List ℕ) CertError
+heading_at version bytes = do
+  rest ← magic_at bytes
+  version_at version rest
+
+-- a range, whose first byte is to stand at `floor` or above
+unfoldable pub range_at : ℕ → List ℕ → Result (Range × List ℕ) CertError
+range_at floor bytes = do
+  first ← number_at numbers.RangeFirst bytes
+  _ ← need (nat_le floor first.0) errors.Order
+  last ← number_at numbers.RangeLast first.1
+  _ ← need (nat_le first.0 last.0) errors.Order
+  Ok (record { first = first.0; last = last.0 }, last.1)
+
+-- so many ranges
+unfoldable pub ranges_at : ℕ → ℕ → List ℕ → Result (List Range × List ℕ) CertError
+ranges_at zero floor bytes = Ok ([], bytes)
+ranges_at (suc n) floor bytes = do
+  r ← range_at floor bytes
+  rs ← ranges_at n (r.0.last + 2) r.1
+  Ok (r.0 ∷ rs.0, rs.1)
+
+-- the count of ranges, and the ranges
+unfoldable pub all_ranges_at : List ℕ → Result (List Range × List ℕ) CertError
+all_ranges_at bytes = do
+  count ← number_at numbers.RangeCount bytes
+  _ ← need (nat_le count.0 MAX_RANGES) errors.Limit
+  ranges_at count.0 0 count.1
+
+-- an address of an instruction or a routine, which is to be at `floor` or above
+abbrev pub address_fits : ℕ → ℕ → Result (Unit {0}) CertError
+address_fits floor address = do
+  _ ← need (nat_le floor address) errors.Order
+  need (nat_lt address ADDRESS_LIMIT) errors.Limit
+
+module _ {V : Type 0} (format : Format V) where
+  unfoldable pub values_at : ℕ → List ℕ → Result (List V × List ℕ) CertError
+  values_at zero bytes = Ok ([], bytes)
+  values_at (suc n) bytes = do
+    v ← format.value_at bytes
+    vs ← values_at n v.1
+    Ok (v.0 ∷ vs.0, vs.1)
+
+  unfoldable pub routine_at : ℕ → List ℕ → Result (Routine V × List ℕ) CertError
+  routine_at floor bytes = do
+    address ← number_at numbers.RoutineAddress bytes
+    _ ← address_fits floor address.0
+    locals ← number_at numbers.LocalCount address.1
+    _ ← need (nat_le locals.0 MAX_LOCALS) errors.Limit
+    value ← format.value_at locals.1
+    Ok (record { address = address.0; locals = locals.0; result = value.0 }, value.1)
+
+  unfoldable pub routines_at : ℕ → ℕ → List ℕ → Result (List (Routine V) × List ℕ) CertError
+  routines_at zero floor bytes = Ok ([], bytes)
+  routines_at (suc n) floor bytes = do
+    r ← routine_at floor bytes
+    rs ← routines_at n (r.0.address + 1) r.1
+    Ok (r.0 ∷ rs.0, rs.1)
+
+  unfoldable pub all_routines_at : List ℕ → Result (List (Routine V) × List ℕ) CertError
+  all_routines_at bytes = do
+    count ← number_at numbers.RoutineCount bytes
+    _ ← need (nat_le count.0 MAX_ROUTINES) errors.Limit
+    routines_at count.0 0 count.1
+
+  -- an instruction, with a set for each local of its routine and then for each slot
+  unfoldable pub instruction_at : List (Routine V) → ℕ → List ℕ → Result (Instruction V × List ℕ) CertError
+  instruction_at routines floor bytes = do
+    address ← number_at numbers.InstructionAddress bytes
+    _ ← address_fits floor address.0
+    routine ← number_at numbers.RoutineNumber address.1
+    _ ← need (nat_le routine.0 (length routines)) errors.Limit
+    height ← number_at numbers.Height routine.1
+    _ ← need (nat_le height.0 MAX_HEIGHT) errors.Limit
+    values ← values_at (locals_of routines routine.0 + height.0) height.1
+    Ok (record { address = address.0; routine = routine.0; locals = take (locals_of routines routine.0) values.0; slots = drop (locals_of routines routine.0) values.0 }, values.1)
+
+  unfoldable pub instructions_at : List (Routine V) → ℕ → ℕ → List ℕ → Result (List (Instruction V) × List ℕ) CertError
+  instructions_at routines zero floor bytes = Ok ([], bytes)
+  instructions_at routines (suc n) floor bytes = do
+    i ← instruction_at routines floor bytes
+    is ← instructions_at routines n (i.0.address + 1) i.1
+    Ok (i.0 ∷ is.0, is.1)
+
+  unfoldable pub all_instructions_at : List (Routine V) → List ℕ → Result (List (Instruction V) × List ℕ) CertError
+  all_instructions_at routines bytes = do
+    count ← number_at numbers.InstructionCount bytes
+    _ ← need (nat_le count.0 MAX_INSTRUCTIONS) errors.Limit
+    instructions_at routines count.0 0 count.1
+
+  -- nothing follows
+  unfoldable pub at_end : Certificate V → List ℕ → Result (Certificate V) CertError
+  at_end c [] = Ok c
+  at_end c (b ∷ bytes) = Err errors.Trailing
+
+  -- the certificate that all of the bytes spell, or the first wrong field
+  unfoldable pub reading : List ℕ → Result (Certificate V) CertError
+  reading bytes = do
+    rest ← heading_at format.version bytes
+    identity ← identity_at rest
+    ranges ← all_ranges_at identity.1
+    globals ← values_at GLOBALS ranges.1
+    routines ← all_routines_at globals.1
+    instructions ← all_instructions_at routines.0 routines.1
+    at_end (record { identity = identity.0; ranges = ranges.0; globals = globals.0; routines = routines.0; instructions = instructions.0 }) instructions.1

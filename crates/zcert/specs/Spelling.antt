@@ -1,0 +1,102 @@
+-- The one spelling of a certificate, and which certificates have one.
+use Rattle.std.specs.Prelude.{◌≡◌, ℕ, ◌+◌, ◌<◌, ◌≤◌, List, [], ◌∷◌, ◌++◌, length, ⊤}
+use Rattle.std.specs.List.{flat_map, AllByRecursion}
+use Rattle.zstory.specs.declared.identity.Identity.{Identity}
+use Rattle.zcert.specs.declared.parts.Range.{Range}
+use Rattle.zcert.specs.declared.parts.Routine.{Routine}
+use Rattle.zcert.specs.declared.limits.TheConstants.{MAGIC, GLOBALS, ADDRESS_LIMIT, MAX_LOCALS, MAX_INSTRUCTIONS, MAX_RANGES, MAX_ROUTINES, MAX_HEIGHT}
+use Rattle.zcert.specs.Numbers.{Number, number, HasRoom}
+use Rattle.zcert.specs.Numbers as numbers
+use Rattle.zcert.specs.Certificate.{Instruction, Certificate, locals_of}
+use Rattle.zcert.specs.Format.{Format}
+
+abbrev pub identity_bytes : Identity → List ℕ
+identity_bytes i =
+    number numbers.Release i.release ++ i.serial ++ number numbers.Checksum i.checksum ++ number numbers.LoadedLength i.length
+
+abbrev pub range_bytes : Range → List ℕ
+range_bytes r = number numbers.RangeFirst r.first ++ number numbers.RangeLast r.last
+
+-- how many there are, and each of them
+abbrev pub counted : {A : Type 0} → Number → (A → List ℕ) → List A → List ℕ
+counted kind bytes_of xs = number kind (length xs) ++ flat_map bytes_of xs
+
+module _ {V : Type 0} (format : Format V) where
+  abbrev pub values_bytes : List V → List ℕ
+  values_bytes vs = flat_map format.spelled vs
+
+  abbrev pub routine_bytes : Routine V → List ℕ
+  routine_bytes r = number numbers.RoutineAddress r.address ++ number numbers.LocalCount r.locals ++ format.spelled r.result
+
+  abbrev pub instruction_bytes : Instruction V → List ℕ
+  instruction_bytes i =
+      number numbers.InstructionAddress i.address ++ number numbers.RoutineNumber i.routine ++ number numbers.Height (length i.slots) ++ values_bytes (i.locals ++ i.slots)
+
+  -- what stands before the fields
+  abbrev pub heading : List ℕ
+  heading = number numbers.Magic MAGIC ++ number numbers.Version format.version
+
+  -- the bytes of a certificate, in the order of its fields
+  abbrev pub spelling : Certificate V → List ℕ
+  spelling c =
+      heading
+      ++ identity_bytes c.identity
+      ++ counted numbers.RangeCount range_bytes c.ranges
+      ++ values_bytes c.globals
+      ++ counted numbers.RoutineCount routine_bytes c.routines
+      ++ counted numbers.InstructionCount instruction_bytes c.instructions
+
+-- the numbers of an identity have room
+pub record IsIdentity (i : Identity) : Type 0 where
+  pub release : HasRoom numbers.Release i.release
+  pub serial : length i.serial ≡ 6
+  pub serial_bytes : AllByRecursion (λ b. b < 256) i.serial
+  pub checksum : HasRoom numbers.Checksum i.checksum
+  pub loaded_length : HasRoom numbers.LoadedLength i.length
+
+pub record IsRange (r : Range) : Type 0 where
+  pub ordered : r.first ≤ r.last
+  pub room : HasRoom numbers.RangeLast r.last
+
+-- each range begins above the byte after the last of the one before it, the first of them at `floor` or above
+abbrev pub AreApart : ℕ → List Range → Type 0
+AreApart floor [] = ⊤
+AreApart floor (r ∷ rs) = (floor ≤ r.first) × AreApart (r.last + 2) rs
+
+-- each address is above the one before it, the first of them at `floor` or above
+abbrev pub Rise : {A : Type 0} → (A → ℕ) → ℕ → List A → Type 0
+Rise address floor [] = ⊤
+Rise address floor (x ∷ xs) = (floor ≤ address x) × Rise address (address x + 1) xs
+
+abbrev pub InstructionsRise : {V : Type 0} → List (Instruction V) → Type 0
+InstructionsRise {V} is = Rise (λ (i : Instruction V). i.address) 0 is
+
+module _ {V : Type 0} (format : Format V) where
+  pub record IsRoutine (r : Routine V) : Type 0 where
+    pub address : r.address < ADDRESS_LIMIT
+    pub locals : r.locals ≤ MAX_LOCALS
+    pub result : format.Has r.result
+
+  -- it has a set for each local of its routine and for each slot
+  pub record IsInstruction (routines : List (Routine V)) (i : Instruction V) : Type 0 where
+    pub address : i.address < ADDRESS_LIMIT
+    pub routine : i.routine ≤ length routines
+    pub locals : length i.locals ≡ locals_of routines i.routine
+    pub height : length i.slots ≤ MAX_HEIGHT
+    pub local_values : AllByRecursion format.Has i.locals
+    pub slot_values : AllByRecursion format.Has i.slots
+
+  -- what has a spelling
+  pub record HasSpelling (c : Certificate V) : Type 0 where
+    pub identity : IsIdentity c.identity
+    pub few_ranges : length c.ranges ≤ MAX_RANGES
+    pub ranges : AllByRecursion IsRange c.ranges
+    pub ranges_apart : AreApart 0 c.ranges
+    pub globals : length c.globals ≡ GLOBALS
+    pub global_values : AllByRecursion format.Has c.globals
+    pub few_routines : length c.routines ≤ MAX_ROUTINES
+    pub routines : AllByRecursion IsRoutine c.routines
+    pub routines_rise : Rise (λ (r : Routine V). r.address) 0 c.routines
+    pub few_instructions : length c.instructions ≤ MAX_INSTRUCTIONS
+    pub instructions : AllByRecursion (IsInstruction c.routines) c.instructions
+    pub instructions_rise : InstructionsRise c.instructions

@@ -1,0 +1,42 @@
+-- What the code's certificates and builders say.
+use Rattle.std.specs.Prelude.{◌≡◌, List, map, drop, Result, Ok, Err}
+use Rattle.zdomain.specs.declared.interval.Interval.{Interval}
+use Rattle.zcert.specs.declared.error.CertError.{CertError}
+use Rattle.zcert.specs.declared.error.CertError.TheVariants.{OutOfMemory}
+use Rattle.zcert.specs.declared.contents.Contents.{Contents}
+use Rattle.zcert.specs.declared.building.Building.{Building}
+use Rattle.zcert.specs.Certificate.{Certificate}
+use Rattle.zcert.specs.Contents.{stored_instruction}
+use Rattle.zcert.specs.Building.{Progress}
+
+abbrev pub content_of : Contents → Certificate Interval
+content_of c = record {
+  identity = c.identity;
+  ranges = c.ranges.items;
+  globals = c.globals.items;
+  routines = c.routines.items;
+  instructions = map (stored_instruction c.values.items) c.stored.items;
+}
+
+abbrev pub progress_of : Building → Progress Interval
+progress_of b = record { content = content_of b.contents; values = drop b.start b.contents.values.items; floor = b.floor; turn = b.turn }
+
+-- What a step answered, seen by view, is what it has to.
+abbrev pub Gives : {X Y : Type 0} → (X → Y) → Result X CertError → Result Y CertError → Type 0
+Gives view (Ok x) due = due ≡ Ok (view x)
+Gives view (Err e) due = due ≡ Err e
+
+-- an error is the one that is due, unless memory ran out
+abbrev pub Refuses : {Y : Type 0} → CertError → Result Y CertError → Type 0
+Refuses OutOfMemory due = Unit {0}
+Refuses e due = due ≡ Err e
+
+-- the answer is the one that is due, unless memory ran out
+abbrev pub Answers : {Y : Type 0} → Result Y CertError → Result Y CertError → Type 0
+Answers (Ok y) due = due ≡ Ok y
+Answers (Err e) due = Refuses e due
+
+-- what a field leads to is what is due; one that is refused changes nothing
+abbrev pub Takes : {P U : Type 0} → P → P → Result U CertError → Result P CertError → Type 0
+Takes old new (Ok u) due = due ≡ Ok new
+Takes old new (Err e) due = (new ≡ old) × Refuses e due

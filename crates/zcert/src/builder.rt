@@ -1,0 +1,81 @@
+//! Making a certificate field by field.
+
+ghost use Rattle.std.specs.Prelude.{◌≡◌, ◌≢◌, ◌↔◌, IsTrue, OnOk, OnErr, IfOk, IfErr, Ok};
+ghost use Rattle.zcert.specs.Building.{opening, taken};
+ghost use Rattle.zcert.specs.View.{Refuses};
+
+use crate::building::Building;
+use crate::certificate::Certificate;
+use crate::error::CertError;
+use crate::field::{Field, Turn};
+use std::alloc::Global;
+use std::marker::Model;
+use zdomain::Interval;
+
+/// Takes the fields of a certificate in the order of the file, and refuses what a reader of the file would. A field out of turn
+/// is out of order. Clauses see how far it has come.
+#[derive(Drop)]
+pub struct CertBuilder {
+    building: Building,
+}
+
+impl Model for CertBuilder {
+    ghost use Rattle.zdomain.specs.declared.interval.Interval.{Interval};
+    ghost use Rattle.zcert.specs.Format.{interval_format};
+    ghost use Rattle.zcert.specs.Building.{Progress};
+    ghost use Rattle.zcert.specs.Fields.{IsReached};
+    ghost use Rattle.zcert.specs.View.{progress_of};
+
+    ghost Value = { Progress Interval };
+
+    ghost view = { λ b. progress_of b.building };
+
+    ghost invariant = { λ b. IsReached interval_format (progress_of b.building) };
+}
+
+impl CertBuilder {
+    /// A builder before the first field.
+    pub fn new(alloc: Global) -> CertBuilder
+        ensures { result ≡ opening }
+    {
+        CertBuilder {
+            building: Building::new(alloc),
+        }
+    }
+
+    /// Which field comes next.
+    pub fn turn(&self) -> Turn
+        ensures { result ≡ self.now.turn }
+    {
+        self.building.turn
+    }
+
+    /// Whether all fields have come.
+    pub fn is_complete(&self) -> bool
+        ensures { IsTrue result ↔ (self.now.turn ≡ Turn.Complete) }
+    {
+        matches!(self.turn(), Turn::Complete)
+    }
+
+    /// Takes the next field.
+    pub fn take(&mut self, field: Field<Interval>) -> Result<(), CertError>
+        ensures ok { OnOk result (taken self.old field ≡ Ok self.new) }
+
+        // What is refused is refused for what is wrong with it, and changes nothing.
+        ensures refused { IfErr result (λ e. Refuses e (taken self.old field)) }
+        ensures err { OnErr result (self.new ≡ self.old) }
+    {
+        self.building.take(field)
+    }
+
+    /// The certificate, where all fields have come; else it is cut off.
+    pub fn finish(self) -> Result<Certificate, CertError>
+        ensures whole { IfOk result (λ certificate. (self.turn ≡ Turn.Complete) × (certificate ≡ self.content)) }
+        ensures cut { IfErr result (λ e. (self.turn ≢ Turn.Complete) × (e ≡ CertError.Truncated)) }
+    {
+        match self.building.turn {
+            Turn::Complete => Ok(Certificate::new(self.building.contents)),
+            _ => Err(CertError::Truncated),
+        }
+    }
+}

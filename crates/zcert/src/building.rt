@@ -1,0 +1,388 @@
+//! A certificate in the making: where each field leads.
+
+ghost use Rattle.std.specs.Prelude.{◌≤◌, length};
+
+use crate::contents::{Contents, Stored};
+use crate::error::CertError;
+use crate::field::{Field, Header, Turn};
+use crate::limits::{
+    ADDRESS_LIMIT, MAX_HEIGHT, MAX_INSTRUCTIONS, MAX_LOCALS, MAX_RANGES, MAX_ROUTINES,
+};
+use crate::parts::{Range, Routine};
+use crate::turns::{before_globals, before_instructions, before_ranges, before_routines};
+use std::alloc::Global;
+use zdomain::Interval;
+use zstory::Identity;
+
+/// What has come so far. The values of the newest instruction begin at `start`.
+#[derive(Drop)]
+pub struct Building {
+    pub contents: Contents,
+    pub start: usize,
+    pub floor: u32,
+    pub turn: Turn,
+    pub ghost begun: { start ≤ length contents.values.items },
+}
+
+// Each takes one kind of field. Out of turn it is out of order; a field that is refused changes nothing.
+impl Building {
+    ghost use Rattle.std.specs.Prelude.{◌≡◌, ◌+◌, ◌<◌, vec_len, vec_capacity};
+    ghost use Rattle.zcert.specs.View.{progress_of, Takes};
+    ghost use Rattle.zcert.specs.Reading.{address_fits};
+    ghost use Rattle.zcert.specs.Certificate.{locals_of};
+    ghost use Rattle.zcert.specs.Format.{interval_format};
+    ghost use Rattle.zcert.specs.Fields.{IsField};
+    ghost use Rattle.zcert.specs.Building.{opening, before_values, taken, IsDue, after_release, after_serial, after_checksum, after_loaded_length, after_range_count, after_range_first, after_range_last, after_global, after_routine_count, after_routine_address, after_local_count, after_routine_result, after_instruction_count, after_instruction_address, after_routine_number, after_height, after_value};
+
+    /// Nothing yet.
+    pub fn new(alloc: Global) -> Building
+        ensures { progress_of result ≡ opening }
+    {
+        Building {
+            contents: Contents {
+                identity: Identity {
+                    release: 0,
+                    serial: [0; 6],
+                    checksum: 0,
+                    length: 0,
+                },
+                ranges: Vec::new(alloc),
+                globals: Vec::new(alloc),
+                routines: Vec::new(alloc),
+                stored: Vec::new(alloc),
+                values: Vec::new(alloc),
+            },
+            start: 0,
+            floor: 0,
+            turn: Turn::Release,
+        }
+    }
+
+    fn release(&mut self, release: u16) -> Result<(), CertError>
+        ensures { Takes (progress_of self.old) (progress_of self.new) result (after_release release self.old.turn (progress_of self.old)) }
+    {
+        let Turn::Release = self.turn else {
+            return Err(CertError::Order);
+        };
+        self.contents.identity.release = release;
+        self.turn = Turn::Serial;
+        Ok(())
+    }
+
+    fn serial(&mut self, serial: [u8; 6]) -> Result<(), CertError>
+        ensures { Takes (progress_of self.old) (progress_of self.new) result (after_serial serial self.old.turn (progress_of self.old)) }
+    {
+        let Turn::Serial = self.turn else {
+            return Err(CertError::Order);
+        };
+        self.contents.identity.serial = serial;
+        self.turn = Turn::Checksum;
+        Ok(())
+    }
+
+    fn checksum(&mut self, checksum: u16) -> Result<(), CertError>
+        ensures { Takes (progress_of self.old) (progress_of self.new) result (after_checksum checksum self.old.turn (progress_of self.old)) }
+    {
+        let Turn::Checksum = self.turn else {
+            return Err(CertError::Order);
+        };
+        self.contents.identity.checksum = checksum;
+        self.turn = Turn::LoadedLength;
+        Ok(())
+    }
+
+    fn loaded_length(&mut self, bytes: u32) -> Result<(), CertError>
+        ensures { Takes (progress_of self.old) (progress_of self.new) result (after_loaded_length bytes self.old.turn (progress_of self.old)) }
+    {
+        let Turn::LoadedLength = self.turn else {
+            return Err(CertError::Order);
+        };
+        self.contents.identity.length = bytes;
+        self.turn = Turn::RangeCount;
+        Ok(())
+    }
+
+    fn range_count(&mut self, count: u16) -> Result<(), CertError>
+        ensures { Takes (progress_of self.old) (progress_of self.new) result (after_range_count count self.old.turn (progress_of self.old)) }
+    {
+        let Turn::RangeCount = self.turn else {
+            return Err(CertError::Order);
+        };
+        if count > MAX_RANGES {
+            return Err(CertError::Limit);
+        }
+        self.floor = 0;
+        self.turn = before_ranges(count);
+        Ok(())
+    }
+
+    fn range_first(&mut self, first: u16) -> Result<(), CertError>
+        ensures { Takes (progress_of self.old) (progress_of self.new) result (after_range_first first self.old.turn (progress_of self.old)) }
+    {
+        let Turn::RangeFirst { more } = self.turn else {
+            return Err(CertError::Order);
+        };
+        if u32::from(first) < self.floor {
+            return Err(CertError::Order);
+        }
+        self.turn = Turn::RangeLast { more, first };
+        Ok(())
+    }
+
+    fn range_last(&mut self, last: u16) -> Result<(), CertError>
+        ensures { Takes (progress_of self.old) (progress_of self.new) result (after_range_last last self.old.turn (progress_of self.old)) }
+    {
+        let Turn::RangeLast { more, first } = self.turn else {
+            return Err(CertError::Order);
+        };
+        if last < first {
+            return Err(CertError::Order);
+        }
+        self.contents.ranges.push(Range { first, last })?;
+        self.floor = u32::from(last) + 2;
+        self.turn = before_ranges(more);
+        Ok(())
+    }
+
+    fn global(&mut self, values: Interval) -> Result<(), CertError>
+        ensures { Takes (progress_of self.old) (progress_of self.new) result (after_global values self.old.turn (progress_of self.old)) }
+    {
+        let Turn::Global { more } = self.turn else {
+            return Err(CertError::Order);
+        };
+        self.contents.globals.push(values)?;
+        self.turn = before_globals(more);
+        Ok(())
+    }
+
+    fn routine_count(&mut self, count: u16) -> Result<(), CertError>
+        ensures { Takes (progress_of self.old) (progress_of self.new) result (after_routine_count count self.old.turn (progress_of self.old)) }
+    {
+        let Turn::RoutineCount = self.turn else {
+            return Err(CertError::Order);
+        };
+        if count > MAX_ROUTINES {
+            return Err(CertError::Limit);
+        }
+        self.floor = 0;
+        self.turn = before_routines(count);
+        Ok(())
+    }
+
+    // Whether an address rises and is below its limit.
+    fn address(&self, address: u32) -> Result<(), CertError>
+        ensures { result ≡ address_fits self.now.floor address }
+    {
+        if address < self.floor {
+            return Err(CertError::Order);
+        }
+        if address >= ADDRESS_LIMIT {
+            return Err(CertError::Limit);
+        }
+        Ok(())
+    }
+
+    fn routine_address(&mut self, address: u32) -> Result<(), CertError>
+        ensures { Takes (progress_of self.old) (progress_of self.new) result (after_routine_address address self.old.turn (progress_of self.old)) }
+    {
+        let Turn::RoutineAddress { more } = self.turn else {
+            return Err(CertError::Order);
+        };
+        self.address(address)?;
+        self.turn = Turn::LocalCount { more, address };
+        Ok(())
+    }
+
+    fn local_count(&mut self, locals: u8) -> Result<(), CertError>
+        ensures { Takes (progress_of self.old) (progress_of self.new) result (after_local_count locals self.old.turn (progress_of self.old)) }
+    {
+        let Turn::LocalCount { more, address } = self.turn else {
+            return Err(CertError::Order);
+        };
+        if locals > MAX_LOCALS {
+            return Err(CertError::Limit);
+        }
+        self.turn = Turn::RoutineResult {
+            more,
+            address,
+            locals,
+        };
+        Ok(())
+    }
+
+    fn routine_result(&mut self, values: Interval) -> Result<(), CertError>
+        requires { IsDue self.old.turn (progress_of self.old).values }
+        ensures { Takes (progress_of self.old) (progress_of self.new) result (after_routine_result values self.old.turn (progress_of self.old)) }
+    {
+        let Turn::RoutineResult {
+            more,
+            address,
+            locals,
+        } = self.turn
+        else {
+            return Err(CertError::Order);
+        };
+        self.contents.routines.push(Routine {
+            address,
+            locals,
+            result: values,
+        })?;
+        self.floor = address + 1;
+        self.turn = before_routines(more);
+        Ok(())
+    }
+
+    fn instruction_count(&mut self, count: u32) -> Result<(), CertError>
+        ensures { Takes (progress_of self.old) (progress_of self.new) result (after_instruction_count count self.old.turn (progress_of self.old)) }
+    {
+        let Turn::InstructionCount = self.turn else {
+            return Err(CertError::Order);
+        };
+        if count > MAX_INSTRUCTIONS {
+            return Err(CertError::Limit);
+        }
+        self.floor = 0;
+        self.turn = before_instructions(count);
+        Ok(())
+    }
+
+    fn instruction_address(&mut self, address: u32) -> Result<(), CertError>
+        ensures { Takes (progress_of self.old) (progress_of self.new) result (after_instruction_address address self.old.turn (progress_of self.old)) }
+    {
+        let Turn::InstructionAddress { more } = self.turn else {
+            return Err(CertError::Order);
+        };
+        self.address(address)?;
+        self.start = self.contents.values.len();
+        self.turn = Turn::RoutineNumber { more, address };
+        Ok(())
+    }
+
+    fn routine_number(&mut self, routine: u16) -> Result<(), CertError>
+        ensures { Takes (progress_of self.old) (progress_of self.new) result (after_routine_number routine self.old.turn (progress_of self.old)) }
+    {
+        let Turn::RoutineNumber { more, address } = self.turn else {
+            return Err(CertError::Order);
+        };
+        if usize::from(routine) > self.contents.routines.len() {
+            return Err(CertError::Limit);
+        }
+        self.turn = Turn::Height {
+            more,
+            address,
+            routine,
+        };
+        Ok(())
+    }
+
+    // How many locals the routine of a number has.
+    fn locals_of(&self, routine: u16) -> u8
+        ensures { result ≡ locals_of self.now.contents.routines.items routine }
+    {
+        if routine == 0 {
+            return 0;
+        }
+        self.contents
+            .routines
+            .get(usize::from(routine) - 1)
+            .map_or(0, |found| found.locals)
+    }
+
+    // Goes on where so many values of an instruction are to come. With the last one it is stored, in room that is reserved.
+    fn await_values(&mut self, left: u16, more: u32, header: Header)
+        requires address { header.address < ADDRESS_LIMIT }
+        requires counted { length (progress_of self.old).values + left ≡ header.locals + header.height }
+        requires room { left ≡ 0 → vec_len self.old.contents.stored < vec_capacity self.old.contents.stored }
+        ensures { progress_of self.new ≡ before_values left more header (progress_of self.old) }
+    {
+        if left > 0 {
+            self.turn = Turn::Value {
+                more,
+                header,
+                left: left - 1,
+            };
+            return;
+        }
+        self.contents.store(Stored {
+            address: header.address,
+            routine: header.routine,
+            locals: header.locals,
+            height: header.height,
+            start: self.start,
+        });
+        self.floor = header.address + 1;
+        self.turn = before_instructions(more);
+    }
+
+    fn height(&mut self, height: u8) -> Result<(), CertError>
+        requires { IsDue self.old.turn (progress_of self.old).values }
+        ensures { Takes (progress_of self.old) (progress_of self.new) result (after_height height self.old.turn (progress_of self.old)) }
+    {
+        let Turn::Height {
+            more,
+            address,
+            routine,
+        } = self.turn
+        else {
+            return Err(CertError::Order);
+        };
+        if height > MAX_HEIGHT {
+            return Err(CertError::Limit);
+        }
+        let locals = self.locals_of(routine);
+        let left = u16::from(locals) + u16::from(height);
+        if left == 0 {
+            self.contents.stored.reserve(1)?;
+        }
+        let header = Header {
+            address,
+            routine,
+            locals,
+            height,
+        };
+        self.await_values(left, more, header);
+        Ok(())
+    }
+
+    fn value(&mut self, values: Interval) -> Result<(), CertError>
+        requires { IsDue self.old.turn (progress_of self.old).values }
+        ensures { Takes (progress_of self.old) (progress_of self.new) result (after_value values self.old.turn (progress_of self.old)) }
+    {
+        let Turn::Value { more, header, left } = self.turn else {
+            return Err(CertError::Order);
+        };
+        if left == 0 {
+            self.contents.stored.reserve(1)?;
+        }
+        self.contents.push_value(values)?;
+        self.await_values(left, more, header);
+        Ok(())
+    }
+
+    /// Takes the field whose turn it is.
+    pub fn take(&mut self, field: Field<Interval>) -> Result<(), CertError>
+        requires { IsDue self.old.turn (progress_of self.old).values }
+        ensures takes { Takes (progress_of self.old) (progress_of self.new) result (taken (progress_of self.old) field) }
+        ensures fits { IsField interval_format field }
+    {
+        match field {
+            Field::Release(release) => self.release(release),
+            Field::Serial(serial) => self.serial(serial),
+            Field::Checksum(checksum) => self.checksum(checksum),
+            Field::LoadedLength(bytes) => self.loaded_length(bytes),
+            Field::RangeCount(count) => self.range_count(count),
+            Field::RangeFirst(first) => self.range_first(first),
+            Field::RangeLast(last) => self.range_last(last),
+            Field::Global(values) => self.global(values),
+            Field::RoutineCount(count) => self.routine_count(count),
+            Field::RoutineAddress(address) => self.routine_address(address),
+            Field::LocalCount(locals) => self.local_count(locals),
+            Field::RoutineResult(values) => self.routine_result(values),
+            Field::InstructionCount(count) => self.instruction_count(count),
+            Field::InstructionAddress(address) => self.instruction_address(address),
+            Field::RoutineNumber(routine) => self.routine_number(routine),
+            Field::Height(height) => self.height(height),
+            Field::Value(values) => self.value(values),
+        }
+    }
+}

@@ -1,0 +1,53 @@
+//! Why bytes or fields are no certificate.
+
+ghost use Rattle.std.specs.Prelude.{◌≡◌};
+ghost use Rattle.zcert.specs.declared.error.CertError.TheVariants.{OutOfMemory};
+
+use std::alloc::{AllocError, AllocFailed};
+use thiserror::Error;
+
+/// The first wrong field in the order of the file. Where several things are wrong with one field it is the cut
+/// (`Truncated`), and else the first that is named here.
+#[derive(Clone, Copy, Debug, PartialEq, Eq, Error)]
+pub enum CertError {
+    /// K1: the file does not begin with `ZPCC`.
+    #[error("not a certificate")]
+    Magic,
+    /// K2: another version of the format.
+    #[error("the version is not known")]
+    Version,
+    /// K3: the file ends within this field, or before it.
+    #[error("the certificate is cut off")]
+    Truncated,
+    /// K4: bytes follow the last field.
+    #[error("bytes follow the certificate")]
+    Trailing,
+    /// K5: ranges or addresses that do not rise, a range that ends before its first byte, or a field out of turn.
+    #[error("a field is out of order")]
+    Order,
+    /// K6: an interval whose lower end is above its upper end.
+    #[error("an interval is empty")]
+    EmptyInterval,
+    /// K7: a number above its limit.
+    #[error("a number is above its limit")]
+    Limit,
+    /// K8: a growth was refused.
+    #[error("out of memory")]
+    OutOfMemory,
+}
+
+impl From<AllocError> for CertError {
+    ghost from_gives = { λ _ e. e ≡ OutOfMemory };
+
+    fn from(_e: AllocError) -> CertError {
+        CertError::OutOfMemory
+    }
+}
+
+impl<T: Drop> From<AllocFailed<T>> for CertError {
+    ghost from_gives = { λ _ e. e ≡ OutOfMemory };
+
+    fn from(_e: AllocFailed<T>) -> CertError {
+        CertError::OutOfMemory
+    }
+}

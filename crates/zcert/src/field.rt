@@ -1,0 +1,103 @@
+//! The fields of a certificate, and which of them comes next.
+
+/// A field, in the order of the file. Magic and version stand before the first.
+#[derive(Clone, Copy, Debug, PartialEq, Eq)]
+pub enum Field<V> {
+    /// The release number of the story.
+    Release(u16),
+    /// Its serial number.
+    Serial([u8; 6]),
+    /// The checksum in its header.
+    Checksum(u16),
+    /// Its loaded length in bytes.
+    LoadedLength(u32),
+    /// How many frozen ranges follow.
+    RangeCount(u16),
+    /// The first byte of a range.
+    RangeFirst(u16),
+    /// Its last byte.
+    RangeLast(u16),
+    /// The values of a global.
+    Global(V),
+    /// How many routines follow.
+    RoutineCount(u16),
+    /// Where a routine stands.
+    RoutineAddress(u32),
+    /// How many locals it has.
+    LocalCount(u8),
+    /// The values that it may give.
+    RoutineResult(V),
+    /// How many instructions follow.
+    InstructionCount(u32),
+    /// Where an instruction stands.
+    InstructionAddress(u32),
+    /// The number of its routine, from 1 on, or 0 for the main code.
+    RoutineNumber(u16),
+    /// How many slots the stack of its frame has before it.
+    Height(u8),
+    /// The values of a local, or, after the locals, of a slot, the bottom first.
+    Value(V),
+}
+
+/// What is said of an instruction before its values.
+#[derive(Clone, Copy, Debug, PartialEq, Eq)]
+pub struct Header {
+    pub address: u32,
+    pub routine: u16,
+    pub locals: u8,
+    pub height: u8,
+}
+
+/// The field that comes next, with what is known of an unfinished part. `more` counts what follows after the part that
+/// this field belongs to.
+#[derive(Clone, Copy, Debug, PartialEq, Eq)]
+pub enum Turn {
+    Release,
+    Serial,
+    Checksum,
+    LoadedLength,
+    RangeCount,
+    RangeFirst {
+        more: u16,
+    },
+    RangeLast {
+        more: u16,
+        first: u16,
+    },
+    Global {
+        more: u8,
+    },
+    RoutineCount,
+    RoutineAddress {
+        more: u16,
+    },
+    LocalCount {
+        more: u16,
+        address: u32,
+    },
+    RoutineResult {
+        more: u16,
+        address: u32,
+        locals: u8,
+    },
+    InstructionCount,
+    InstructionAddress {
+        more: u32,
+    },
+    RoutineNumber {
+        more: u32,
+        address: u32,
+    },
+    Height {
+        more: u32,
+        address: u32,
+        routine: u16,
+    },
+    Value {
+        more: u32,
+        header: Header,
+        left: u16,
+    },
+    /// No field: the certificate is whole.
+    Complete,
+}

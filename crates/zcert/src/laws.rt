@@ -1,0 +1,25 @@
+//! What holds of all certificates: each function here is empty, and its contract is a law.
+
+ghost use Rattle.std.specs.Prelude.{◌≡◌, ◌++◌, List, Ok};
+ghost use Rattle.std.specs.List.{flat_map};
+ghost use Rattle.zdomain.specs.declared.interval.Interval.{Interval};
+ghost use Rattle.zcert.specs.declared.field.Field.{Field};
+ghost use Rattle.zcert.specs.Certificate.{Certificate};
+ghost use Rattle.zcert.specs.Format.{interval_format};
+ghost use Rattle.zcert.specs.Spelling.{heading, spelling, HasSpelling};
+ghost use Rattle.zcert.specs.Reading.{reading};
+ghost use Rattle.zcert.specs.Fields.{field_bytes, Makes};
+
+/// The spelling of a certificate is read as that certificate, and no other certificate has it.
+pub fn spellings_are_read()
+    ensures read { (c : Certificate Interval) → HasSpelling interval_format c → reading interval_format (spelling interval_format c) ≡ Ok c }
+    ensures one { (c d : Certificate Interval) → HasSpelling interval_format c → HasSpelling interval_format d → spelling interval_format c ≡ spelling interval_format d → c ≡ d }
+{}
+
+/// The fields that a builder takes up to its end are, one after another, the spelling of the certificate that it makes; and each
+/// certificate is made by some fields.
+pub fn fields_make_certificates()
+    ensures spelled { (fs : List (Field Interval)) (c : Certificate Interval) → Makes interval_format fs c →
+        HasSpelling interval_format c × (spelling interval_format c ≡ heading interval_format ++ flat_map (field_bytes interval_format) fs) }
+    ensures each { (c : Certificate Interval) → HasSpelling interval_format c → (fs : List (Field Interval)) × Makes interval_format fs c }
+{}

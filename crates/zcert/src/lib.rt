@@ -1,0 +1,26 @@
+//! Certificates: what they say, and the bytes that they are written in.
+#![tactic(auto)]
+
+mod builder;
+mod building;
+mod certificate;
+mod contents;
+mod error;
+mod field;
+mod laws;
+mod limits;
+mod parts;
+mod reading;
+#[cfg(test)]
+mod tests;
+mod turns;
+mod writing;
+
+pub use builder::CertBuilder;
+pub use certificate::Certificate;
+pub use error::CertError;
+pub use field::{Field, Turn};
+pub use laws::{fields_make_certificates, spellings_are_read};
+pub use parts::{Instruction, Range, Routine};
+pub use reading::read;
+pub use writing::write;

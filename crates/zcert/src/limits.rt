@@ -1,0 +1,28 @@
+//! The numbers of the format, and how far a certificate may go (own).
+
+/// The first four bytes of a file: `ZPCC`.
+pub const MAGIC: u32 = 0x5A50_4343;
+
+/// The version of the format in which a set of values is an interval.
+pub const VERSION: u8 = 1;
+
+/// How many globals there are, from variable 16 on (Z 6.2).
+pub const GLOBALS: u8 = 240;
+
+/// Addresses are below this number.
+pub const ADDRESS_LIMIT: u32 = 131_072;
+
+/// The greatest number of locals of a routine (Z 5.2).
+pub const MAX_LOCALS: u8 = 15;
+
+/// The greatest number of instructions that are listed.
+pub const MAX_INSTRUCTIONS: u32 = 131_072;
+
+/// The greatest number of frozen ranges.
+pub const MAX_RANGES: u16 = 0;
+
+/// The greatest number of routines.
+pub const MAX_ROUTINES: u16 = 0;
+
+/// The greatest height of the stack before an instruction.
+pub const MAX_HEIGHT: u8 = 0;

@@ -1,0 +1,26 @@
+//! The parts of a certificate.
+
+/// A range of bytes that the certificate states to stay as they are, both ends included.
+#[derive(Clone, Copy, Debug, PartialEq, Eq)]
+pub struct Range {
+    pub first: u16,
+    pub last: u16,
+}
+
+/// What is said of a routine: its address, how many locals it has, and which values it may give.
+#[derive(Clone, Copy, Debug, PartialEq, Eq)]
+pub struct Routine<V> {
+    pub address: u32,
+    pub locals: u8,
+    pub result: V,
+}
+
+/// What is said of a listed instruction: its address, the number of its routine, from 1 on, or 0 for the main code, and the
+/// values that each local and each slot of the stack may have before it, the bottom slot first.
+#[derive(Clone, Copy, Debug)]
+pub struct Instruction<'a, V> {
+    pub address: u32,
+    pub routine: u16,
+    pub locals: &'a [V],
+    pub slots: &'a [V],
+}

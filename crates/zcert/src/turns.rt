@@ -1,0 +1,47 @@
+//! Which field comes next, where so many parts are still to come.
+
+ghost use Rattle.std.specs.Prelude.{◌≡◌};
+ghost use Rattle.zcert.specs.Building as spec;
+
+use crate::field::Turn;
+use crate::limits::GLOBALS;
+
+pub fn before_ranges(count: u16) -> Turn
+    ensures { result ≡ spec.before_ranges count }
+{
+    if count == 0 {
+        before_globals(GLOBALS)
+    } else {
+        Turn::RangeFirst { more: count - 1 }
+    }
+}
+
+pub fn before_globals(count: u8) -> Turn
+    ensures { result ≡ spec.before_globals count }
+{
+    if count == 0 {
+        Turn::RoutineCount
+    } else {
+        Turn::Global { more: count - 1 }
+    }
+}
+
+pub fn before_routines(count: u16) -> Turn
+    ensures { result ≡ spec.before_routines count }
+{
+    if count == 0 {
+        Turn::InstructionCount
+    } else {
+        Turn::RoutineAddress { more: count - 1 }
+    }
+}
+
+pub fn before_instructions(count: u32) -> Turn
+    ensures { result ≡ spec.before_instructions count }
+{
+    if count == 0 {
+        Turn::Complete
+    } else {
+        Turn::InstructionAddress { more: count - 1 }
+    }
+}

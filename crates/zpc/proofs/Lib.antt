@@ -1,0 +1,3 @@
+mod Matched
+mod Entered
+mod FileLemmas

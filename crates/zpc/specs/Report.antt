@@ -1,0 +1,72 @@
+-- What the program says of what a command came to, and its exit status (own).
+use Rattle.std.specs.Prelude.{ℕ, ◌+◌, ◌*◌, ◌/◌, ◌%◌, ◌++◌, List, [], ◌∷◌, ℤ, pos, negsuc, codes, decimal, if◌then◌else◌, nat_lt, slice_index}
+use Rattle.std.specs.Fmt.{signed_decimal}
+use Rattle.zfault.specs.Fault.{number_of as fault_number}
+use Rattle.zfault.specs.declared.fault.Fault.{Fault}
+use Rattle.zstory.specs.Refusal.{number_of as refusal_number}
+use Rattle.zstory.specs.declared.load_error.LoadError.{LoadError}
+use Rattle.zstory.specs.declared.load_error.LoadError.TheVariants.{OutOfMemory as NoMemoryToLoad}
+use Rattle.zplayer.specs.declared.end.End.{End}
+use Rattle.zplayer.specs.declared.end.End.TheVariants as ends
+use Rattle.zplayer.specs.declared.end.PlayError.{PlayError}
+use Rattle.zplayer.specs.declared.end.PlayError.TheVariants as errors
+use Rattle.zpc.specs.declared.outcome.Failure.{Failure}
+use Rattle.zpc.specs.declared.outcome.Failure.TheVariants.{File, Read, Write, Memory}
+use Rattle.zpc.specs.declared.outcome.Problem.{Problem}
+use Rattle.zpc.specs.declared.outcome.Problem.TheVariants.{Refused, Failed}
+use Rattle.zpc.specs.declared.outcome.Outcome.{Outcome}
+use Rattle.zpc.specs.declared.outcome.Outcome.TheVariants.{Played, Stopped}
+
+-- a story that isn't loaded is refused, but for want of memory
+abbrev pub problem_of_load : LoadError → Problem
+problem_of_load NoMemoryToLoad = Failed Memory
+problem_of_load error = Refused error
+
+-- what breaks playing off is a failure
+abbrev pub problem_of_play : PlayError → Problem
+problem_of_play errors.Read = Failed Read
+problem_of_play errors.Write = Failed Write
+problem_of_play errors.OutOfMemory = Failed Memory
+
+-- the exit status: 1 for a refusal, 3 for a fault, 4 for a failure, and else 0
+abbrev pub status_of : Outcome → ℕ
+status_of (Played (ends.Fault fault place)) = 3
+status_of (Played end) = 0
+status_of (Stopped (Refused error)) = 1
+status_of (Stopped (Failed failure)) = 4
+
+-- the lower-case hexadecimal digit of a number below 16
+abbrev pub hex_digit : ℕ → ℕ
+hex_digit n = slice_index (codes "0123456789abcdef") n
+
+-- the five digits of a number below 0x100000
+abbrev pub address_text : ℕ → List ℕ
+address_text n = hex_digit (n / 65536) ∷ hex_digit (n / 4096 % 16) ∷ hex_digit (n / 256 % 16) ∷ hex_digit (n / 16 % 16) ∷ hex_digit (n % 16) ∷ []
+
+-- a place: an address from 0 to 0xfffff, and any other number in decimal
+abbrev pub place_text : ℤ → List ℕ
+place_text (pos n) = if nat_lt n 1048576 then address_text n else decimal n
+place_text (negsuc n) = signed_decimal (negsuc n)
+
+abbrev pub failure_text : Failure → List ℕ
+failure_text File = codes "failed: file"
+failure_text Read = codes "failed: read"
+failure_text Write = codes "failed: write"
+failure_text Memory = codes "failed: memory"
+
+abbrev pub end_text : End → List ℕ
+end_text ends.Quit = []
+end_text ends.NoInput = codes "end: no input"
+end_text ends.Budget = codes "end: budget"
+end_text ends.FrameLimit = codes "end: frame limit"
+end_text (ends.Fault fault place) = codes "fault: F" ++ decimal (fault_number fault) ++ codes " at " ++ place_text place
+
+abbrev pub text_of : Outcome → List ℕ
+text_of (Played end) = end_text end
+text_of (Stopped (Refused error)) = codes "refused: L" ++ decimal (refusal_number error)
+text_of (Stopped (Failed failure)) = failure_text failure
+
+-- a text as a line, and none where it is empty
+abbrev pub line_of : List ℕ → List ℕ
+line_of [] = []
+line_of (byte ∷ bytes) = (byte ∷ bytes) ++ 10 ∷ []

@@ -1,0 +1,61 @@
+//! The program `zpc`: plays Z-machine version 3 stories.
+#![tactic(auto)]
+
+mod files;
+mod message;
+mod outcome;
+mod perform;
+#[cfg(test)]
+mod tests;
+mod unasked;
+mod words;
+
+use crate::files::Disk;
+use crate::outcome::Failure;
+use std::alloc::{AllocError, Global};
+use std::env;
+use std::io::ErrorKind;
+use std::process::ExitCode;
+use zfault::{FromRead, ToWrite};
+
+fn main(rt: HostRuntime) -> ExitCode {
+    ExitCode::from(run(&rt))
+}
+
+/// Hands over the words, the files and the streams of the process, and answers the exit status.
+fn run(rt: &HostRuntime) -> u8 {
+    let mut errors = ToWrite::new(rt.stderr());
+    let arguments = match env::args(rt) {
+        Ok(arguments) => arguments,
+        Err(error) if error.kind() == ErrorKind::InvalidData => {
+            return perform::refuse_bytes(&mut errors);
+        }
+        Err(_) => return perform::fail(Failure::Memory, &mut errors),
+    };
+    let arguments = match arguments.skip(1).collect::<Vec<String>>(rt.alloc()) {
+        Ok(arguments) => arguments,
+        Err(_) => return perform::fail(Failure::Memory, &mut errors),
+    };
+    let words = match words_of(rt.alloc(), &arguments) {
+        Ok(words) => words,
+        Err(_) => return perform::fail(Failure::Memory, &mut errors),
+    };
+    let mut reader = FromRead::new(rt.stdin());
+    let mut writer = ToWrite::new(rt.stdout());
+    perform::perform(
+        rt.alloc(),
+        &words,
+        &mut Disk::new(rt),
+        &mut reader,
+        &mut writer,
+        &mut errors,
+    )
+}
+
+fn words_of<'a>(alloc: Global, arguments: &'a [String]) -> Result<Vec<&'a str>, AllocError> {
+    let mut words = Vec::with_capacity(alloc, arguments.len())?;
+    for argument in arguments {
+        words.push(argument.as_str())?;
+    }
+    Ok(words)
+}

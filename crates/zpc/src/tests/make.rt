@@ -1,0 +1,121 @@
+//! Sample stories, and devices in memory.
+
+ghost use Rattle.std.specs.Prelude.{Some};
+
+use crate::files::Files;
+use std::alloc::{AllocError, Global};
+use zfault::{Failed, Sink};
+
+// Version 3, first instruction at 0x324, dictionary at 0x320, defaults at 0x220, globals at 0x40, static memory and
+// abbreviations from 0x25E on; the length and checksum words are left to be filled in.
+const HEADER: [u8; 64] = [
+    3, 0, 0, 1, 0x03, 0x24, 0x03, 0x24, 0x03, 0x20, 0x02, 0x20, 0x00, 0x40, 0x02, 0x5E, 0, 0, b'2',
+    b'6', b'0', b'1', b'0', b'1', 0x02, 0x5E, 0, 0, 0, 0, 0, 0, 0, 0, 0, 0, 0, 0, 0, 0, 0, 0, 0, 0,
+    0, 0, 0, 0, 0, 0, 0, 0, 0, 0, 0, 0, 0, 0, 0, 0, 0, 0, 0, 0,
+];
+
+/// Code that prints `hello` and quits.
+pub const HELLO: [u8; 6] = [0xB2, 0x35, 0x51, 0xC6, 0x85, 0xBA];
+
+/// A story with this code at 0x324, empty abbreviations, no object and an empty dictionary, with a zero behind code of an
+/// odd length, and the length and checksum words to match.
+pub fn first_sample(alloc: Global, code: &[u8]) -> Result<Vec<u8>, AllocError> {
+    let mut file = Vec::new(alloc);
+    file.extend_from_slice(&HEADER)?;
+    file.extend_from_slice(&[0; 0x25E - 0x40])?;
+    for _ in 0..96 {
+        file.extend_from_slice(&[0x01, 0x8F])?;
+    }
+    file.extend_from_slice(&[0x94, 0xA5, 0, 4, 0, 0])?;
+    file.extend_from_slice(code)?;
+    if code.len() % 2 == 1 {
+        file.push(0)?;
+    }
+    finish(&mut file);
+    Ok(file)
+}
+
+// Fills in the length word and the checksum word.
+fn finish(file: &mut [u8]) {
+    let half = (file.len() / 2 % 65536) as u16;
+    let mut sum = 0u16;
+    for byte in file.iter().skip(64) {
+        sum = sum.wrapping_add(u16::from(*byte));
+    }
+    let [_, .., _] = file else {
+        return;
+    };
+    put_word(file, 0x1A, half);
+    put_word(file, 0x1C, sum);
+}
+
+fn put_word(file: &mut [u8], at: usize, word: u16) {
+    if at < file.len() && file.len() - at >= 2 {
+        let [high, low] = word.to_be_bytes();
+        file[at] = high;
+        file[at + 1] = low;
+    }
+}
+
+/// One file, by its name.
+#[derive(Drop)]
+pub struct OneFile<'a> {
+    pub name: &'a str,
+    pub bytes: &'a [u8],
+}
+
+impl<'a> Files for OneFile<'a> {
+    fn read_at(&mut self, name: &str, from: u64, buffer: &mut [u8]) -> Option<usize> {
+        if name != self.name {
+            return None;
+        }
+        let rest = self.bytes.get(usize::try_from(from).ok()?..).unwrap_or(b"");
+        let count = rest.len().min(buffer.len());
+        buffer[..count].copy_from_slice(&rest[..count]);
+        Some(count)
+    }
+
+    fn put(&mut self, _name: &str, _bytes: &[u8]) -> bool {
+        false
+    }
+}
+
+/// Keeps what it takes, at most so many bytes a call, and fails after so many calls.
+#[derive(Drop)]
+pub struct Shelf {
+    pub bytes: Vec<u8>,
+    most: usize,
+    good_calls: u64,
+    failures: u64,
+}
+
+impl Shelf {
+    pub fn new(alloc: Global, most: usize, good_calls: u64) -> Shelf {
+        Shelf {
+            bytes: Vec::new(alloc),
+            most,
+            good_calls,
+            failures: 0,
+        }
+    }
+}
+
+impl Sink for Shelf {
+    ghost contents = { λ shelf. Some shelf.bytes.items };
+
+    ghost failures = { λ shelf. shelf.failures };
+
+    fn write(&mut self, piece: &[u8]) -> Result<usize, Failed> {
+        let count = self.most.max(1).min(piece.len());
+        if self.good_calls > 0 && self.bytes.extend_from_slice(&piece[..count]).is_ok() {
+            self.good_calls -= 1;
+            return Ok(count);
+        }
+        self.failures = self.failures.saturating_add(1);
+        Err(Failed)
+    }
+
+    fn flush(&mut self) -> Result<(), Failed> {
+        Ok(())
+    }
+}

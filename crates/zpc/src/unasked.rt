@@ -1,0 +1,40 @@
+//! What the player of a story is handed and no opcode of this build asks for.
+
+use zplayer::{SaveStore, Words};
+
+/// A store in which no save can be kept: each call fails.
+#[derive(Drop)]
+pub struct NoSaves {
+    failures: u64,
+}
+
+impl NoSaves {
+    /// The store, with no failure yet.
+    pub fn new() -> NoSaves {
+        NoSaves { failures: 0 }
+    }
+}
+
+impl SaveStore for NoSaves {
+    ghost failures = { λ store. store.failures };
+
+    fn put(&mut self, _save: &[u8]) -> bool {
+        self.failures = self.failures.saturating_add(1);
+        false
+    }
+
+    fn get(&mut self, _save: &mut Vec<u8>) -> bool {
+        self.failures = self.failures.saturating_add(1);
+        false
+    }
+}
+
+/// Words that are all 0, until a seed is asked for.
+#[derive(Drop)]
+pub struct Zeros;
+
+impl Words for Zeros {
+    fn next(&mut self) -> u16 {
+        0
+    }
+}

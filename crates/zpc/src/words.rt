@@ -1,0 +1,98 @@
+//! The words after the program's name.
+
+ghost use Rattle.std.specs.Prelude.{◌≡◌, IfOk, IsSomeAnd, Some, codes, false};
+ghost use Rattle.clap.specs.Walk.{texts};
+ghost use Rattle.clap.specs.Words.{FailsBy, app_of, fault_of, found_of, rows_of, rule_of, subcommand_name_of, subcommand_of, subcommand_rows_of};
+ghost use Rattle.clap.specs.declared.builder.command.Command.TheViews.{out-Command as fields_of};
+ghost use Rattle.zpc.specs.CommandLine.{IsReadFrom, budget_rule, play_app, story_rule, zpc_app};
+
+use clap::{Arg, ArgMatches, Error, value_parser};
+use std::alloc::{AllocError, Global};
+
+/// The version of the program, which `--version` prints.
+const VERSION: &str = "0.1.0";
+
+/// The steps that `play` makes at most where no budget is named.
+const BUDGET: &str = "1000000000";
+
+/// What the words ask for.
+#[derive(Clone, Copy, Debug, PartialEq, Eq)]
+pub enum Command<'a> {
+    /// Plays a story.
+    Play {
+        /// The name of the story's file.
+        story: &'a str,
+        /// The most steps that are made.
+        budget: u32,
+    },
+}
+
+/// Reads the words after the program's name.
+pub fn read_words<'a>(alloc: Global, words: &'a [&'a str]) -> Result<Command<'a>, Error>
+    ensures read { IfOk result (λ command. IsSomeAnd (subcommand_of zpc_app (texts words.entry.now)) (λ matches. IsReadFrom matches command)) }
+    ensures fails { FailsBy (fault_of zpc_app (texts words.entry.now)) result }
+{
+    let matches = program(alloc)?.try_get_matches_from(words)?;
+    Ok(command_of(&matches))
+}
+
+/// The command that the matches name, with its values.
+fn command_of<'a>(matches: &ArgMatches<'a>) -> Command<'a>
+    requires { subcommand_name_of matches.now ≡ Some (codes "play") }
+    ensures { IsSomeAnd (subcommand_rows_of matches.now) (λ matches. IsReadFrom matches result) }
+{
+    match matches.subcommand_matches("play") {
+        Some(play) => play_of(play),
+        None => unreachable!(),
+    }
+}
+
+/// `play`, with the values that are among its matches.
+fn play_of<'a>(matches: &ArgMatches<'a>) -> Command<'a>
+    ensures { IsReadFrom (codes "play", rows_of (found_of matches.now)) result }
+{
+    let story = matches.get_str("STORY").unwrap_or("");
+    let budget = matches.get_one("budget").unwrap_or(0);
+    Command::Play { story, budget }
+}
+
+fn program<'a>(alloc: Global) -> Result<clap::Command<'a>, AllocError>
+    ensures { IfOk result (λ program. app_of program ≡ zpc_app) }
+{
+    let program = clap::Command::new(alloc, "zpc")
+        .about("Plays Z-machine version 3 stories")
+        .version(VERSION)
+        .no_binary_name(true)
+        .subcommand_required(true)
+        .bin_name("zpc")?;
+    program.subcommand(play(alloc)?)
+}
+
+fn play<'a>(alloc: Global) -> Result<clap::Command<'a>, AllocError>
+    ensures app { IfOk result (λ play. app_of play ≡ play_app) }
+    ensures local { IfOk result (λ play. (fields_of play).has_globals ≡ false) }
+{
+    let play = clap::Command::new(alloc, "play").about("Plays a story");
+    play.arg(story(alloc))?.arg(budget(alloc))
+}
+
+fn story<'a>(alloc: Global) -> Arg<'a>
+    ensures rule { rule_of result ≡ story_rule }
+    ensures local { result.global ≡ false }
+{
+    Arg::new(alloc, "STORY")
+        .help("The story's file")
+        .required(true)
+}
+
+fn budget<'a>(alloc: Global) -> Arg<'a>
+    ensures rule { rule_of result ≡ budget_rule }
+    ensures local { result.global ≡ false }
+{
+    Arg::new(alloc, "budget")
+        .long("budget")
+        .help("The most steps that are made")
+        .value_name("N")
+        .value_parser(value_parser!(u32))
+        .default_value(BUDGET)
+}

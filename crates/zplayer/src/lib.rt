@@ -1,0 +1,11 @@
+//! The player: it writes what a machine gives out.
+#![tactic(auto)]
+
+mod end;
+mod outside;
+mod player;
+mod screen;
+
+pub use end::{End, Options, PlayError};
+pub use outside::{SaveStore, Words};
+pub use player::play_checked;

@@ -1,0 +1,27 @@
+//! What a player asks of the world beside its reader and its writer.
+
+ghost use Rattle.std.specs.Prelude.{ℕ, List, None, Option};
+ghost use Rattle.zplayer.specs.Outside.{CountsRefusal};
+
+/// Where saves are kept.
+pub trait SaveStore {
+    /// The save that is kept, where it is known.
+    ghost kept: { Self → Option (List ℕ) } = { λ _. None };
+
+    /// How often a call failed so far, a `u64` that stays at its last value.
+    ghost failures: { Self → ℕ };
+
+    /// Keeps a save in place of the one before. False where it failed, and only then the count of failures rises.
+    fn put(&mut self, save: &[u8]) -> bool
+        ensures counts { CountsRefusal (failures self.old) (failures self.new) result };
+
+    /// Puts the save that is kept into `save`. False where it failed, and only then the count of failures rises.
+    fn get(&mut self, save: &mut Vec<u8>) -> bool
+        ensures counts { CountsRefusal (failures self.old) (failures self.new) result };
+}
+
+/// Random words, one after another.
+pub trait Words {
+    /// The next word.
+    fn next(&mut self) -> u16;
+}

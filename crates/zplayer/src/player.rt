@@ -1,0 +1,93 @@
+//! The player of a checked machine.
+
+ghost use Rattle.std.specs.Prelude.{◌≡◌, ◌<◌, [], Ok, None, IsErrOf, IfOk, IfNone, IfSome, OnOk};
+ghost use Rattle.std.specs.Io.KnownBytes.{Appends};
+ghost use Rattle.zfault.specs.Devices.{AppendsBeginning, HasRisen};
+ghost use Rattle.zstate.specs.Run.{run, Stands};
+ghost use Rattle.zref.specs.Machine.{setting, SamePlay};
+ghost use Rattle.zplayer.specs.Playing.{end_of, Plays, PlaysSome};
+ghost use Rattle.zplayer.specs.Rendering.{render};
+
+use crate::end::{End, Options, PlayError};
+use crate::outside::{SaveStore, Words};
+use crate::screen::write_items;
+use std::alloc::Global;
+use zfault::{Item, Pause, Sink, Source};
+use zref::CheckedMachine;
+use zstate::Stop;
+
+/// The most steps that are made before what they gave out is written.
+const TURN: u32 = 1024;
+
+/// Plays the machine from the state that it is in: makes at most the budget's steps, and writes what they give out.
+///
+/// No opcode of this build needs a line, a word or a save, so the reader, the store and the words aren't touched yet.
+/// After P2 a beginning of the rendering was written; after P3 all that the finished steps gave out.
+pub fn play_checked<R: Source, W: Sink, S: SaveStore, G: Words>(
+    alloc: Global,
+    machine: &mut CheckedMachine,
+    _reader: &mut R,
+    writer: &mut W,
+    _store: &mut S,
+    _words: &mut G,
+    options: Options,
+) -> Result<End, PlayError>
+    ensures play { SamePlay machine.old machine.new }
+    ensures ends { IfOk result (λ end. end ≡ end_of (run (setting machine.old) [] options.budget machine.old.state).stop) }
+    ensures state { OnOk result (machine.new.state ≡ (run (setting machine.old) [] options.budget machine.old.state).state) }
+    ensures written { OnOk result (Appends (W.contents writer.old) (W.contents writer.new) (render (run (setting machine.old) [] options.budget machine.old.state).items)) }
+    ensures quiet { OnOk result (W.failures writer.new ≡ W.failures writer.old) }
+    ensures no_read { ¬ IsErrOf result PlayError.Read }
+    ensures begun { IsErrOf result PlayError.Write → AppendsBeginning (W.contents writer.old) (W.contents writer.new) (render (run (setting machine.old) [] options.budget machine.old.state).items) }
+    ensures blamed { IsErrOf result PlayError.Write → HasRisen (W.failures writer.old) (W.failures writer.new) }
+    ensures finished { IsErrOf result PlayError.OutOfMemory → PlaysSome (setting machine.old) options.budget machine.old.state machine.new.state (W.contents writer.old) (W.contents writer.new) }
+{
+    let mut items = Vec::new(alloc);
+    let mut left = options.budget;
+    'turns: loop {
+        if let Some(stop) = turn(machine, writer, &mut left, &mut items)? {
+            return Ok(End::from(stop));
+        }
+    }
+}
+
+/// Where playing stands still: not where a turn's steps were made and more are left.
+fn standstill(stop: Stop, left: u32) -> Option<Stop>
+    ensures none { IfNone result ((stop ≡ Stop.Paused Pause.Budget) × (0 < left)) }
+    ensures some { IfSome result (λ s. (s ≡ stop) × (stop ≡ Stop.Paused Pause.Budget → left ≡ 0)) }
+{
+    match stop {
+        Stop::Paused(Pause::Budget) if left > 0 => None,
+        _ => Some(stop),
+    }
+}
+
+/// Makes at most `TURN` of the steps that are left, and writes what they gave out. Answers where playing then stands
+/// still, if it does.
+fn turn<W: Sink>(
+    machine: &mut CheckedMachine,
+    writer: &mut W,
+    left: &mut u32,
+    items: &mut Vec<Item>,
+) -> Result<Option<Stop>, PlayError>
+    ensures play { SamePlay machine.old machine.new }
+    ensures stands { IfOk result (λ still. IfSome still (λ stop. Stands (setting machine.old) stop machine.new.state × (stop ≡ Stop.Paused Pause.Budget → left.new ≡ 0))) }
+    ensures fewer { result ≡ Ok None → left.new < left.old }
+    ensures ok { OnOk result (Plays (setting machine.old) left.old left.new machine.old.state machine.new.state (W.contents writer.old) (W.contents writer.new)) }
+    ensures quiet { OnOk result (W.failures writer.new ≡ W.failures writer.old) }
+    ensures no_read { ¬ IsErrOf result PlayError.Read }
+    ensures begun { IsErrOf result PlayError.Write → AppendsBeginning (W.contents writer.old) (W.contents writer.new) (render (run (setting machine.old) [] left.old machine.old.state).items) }
+    ensures blamed { IsErrOf result PlayError.Write → HasRisen (W.failures writer.old) (W.failures writer.new) }
+    ensures finished { IsErrOf result PlayError.OutOfMemory → Plays (setting machine.old) left.old left.new machine.old.state machine.new.state (W.contents writer.old) (W.contents writer.new) }
+{
+    let mut steps = TURN.min(*left);
+    let rest = *left - steps;
+    items.clear();
+    let ran = machine.run_down(&mut steps, items);
+    *left = rest + steps;
+    write_items(writer, items).map_err(|_| PlayError::Write)?;
+    match ran {
+        Ok(stop) => Ok(standstill(stop, *left)),
+        Err(_) => Err(PlayError::OutOfMemory),
+    }
+}

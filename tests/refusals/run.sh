@@ -1,0 +1,62 @@
+#!/usr/bin/env bash
+# Runs the built program with its Nth allocation refused, for N = 1, 2, .. until a run meets no refusal. Each answer has
+# to be the one of ample memory, or `failed: memory` with status 4 and a beginning of the output.
+# Usage: run.sh PROGRAM STORIES, a folder with the stories that the commands below name.
+set -u
+program=$(realpath "$1")
+stories=$(realpath "$2")
+here=$(cd "$(dirname "$0")" && pwd)
+work=$(mktemp -d)
+trap 'rm -rf "$work"' EXIT
+cc -O1 -shared -fPIC -o "$work/refuse.so" "$here/refuse.c" || exit 1
+cd "$stories" || exit 1
+passed=0
+failed=0
+
+# answer NAME WORD..: the status, output and errors of a run, in files of that name
+answer() {
+    local name=$1
+    shift
+    timeout 20 "$program" "$@" >"$work/$name.out" 2>"$work/$name.err" </dev/null
+    echo $? >"$work/$name.status"
+}
+
+# is_beginning FILE WHOLE
+is_beginning() {
+    cmp -s "$1" <(head -c "$(stat -c %s "$1")" "$2")
+}
+
+# one command, over every N
+refuse_each() {
+    answer ample "$@"
+    local n=0
+    while :; do
+        n=$((n + 1))
+        rm -f "$work/refused"
+        LD_PRELOAD="$work/refuse.so" REFUSE=$n REFUSED="$work/refused" answer refused "$@"
+        if cmp -s "$work/ample.status" "$work/refused.status" && cmp -s "$work/ample.out" "$work/refused.out" && cmp -s "$work/ample.err" "$work/refused.err"; then
+            passed=$((passed + 1))
+        elif [ "$(cat "$work/refused.status")" = 4 ] && [ "$(cat "$work/refused.err")" = "failed: memory" ] && is_beginning "$work/refused.out" "$work/ample.out"; then
+            passed=$((passed + 1))
+        else
+            failed=$((failed + 1))
+            echo "refusals: zpc $* with allocation $n refused: status $(cat "$work/refused.status"), $(head -c 200 "$work/refused.err")"
+        fi
+        [ -e "$work/refused" ] || break
+        if [ "$n" -ge 5000 ]; then
+            failed=$((failed + 1))
+            echo "refusals: zpc $*: no end"
+            break
+        fi
+    done
+    echo "refusals: zpc $*: $n runs"
+}
+
+refuse_each play hello.z3
+refuse_each play --budget 0 hello.z3
+refuse_each play absent.z3
+refuse_each play
+refuse_each --help
+refuse_each --version
+echo "refusals: $passed passed, $failed failed"
+[ "$failed" -eq 0 ]
