@@ -15,6 +15,7 @@ use Rattle.zstate.specs.declared.halt.Halt.TheVariants as halts
 use Rattle.zstate.specs.State.{State, Setting, opening, scope_all, give}
 use Rattle.zstate.specs.Step.{Done, step}
 use Rattle.zstate.specs.Run.{Ending, ends, stop_of, by_step, until, is_answered, run}
+use Rattle.zrule.specs.declared.rule.Rule.TheVariants as rules
 use Rattle.zrule.specs.Claims.{Claims}
 use Rattle.zrule.specs.Rules.{Supports}
 use Rattle.zrule.specs.Described.{Described, IsSafe, IsListedIn, IsNoFault, IsLoadedStory}
@@ -87,8 +88,8 @@ place_within memory p i reads =
 -- so every listed place may be played in the widest scope
 pub all_listed : {V : Type 0} (o : SetOperations V) (claims : Claims V) (story : LoadedStory) → Supports o claims story → IsListedIn o claims (scope_all story)
 all_listed o claims story supports p e listed =
-    let holds = supports.each p e listed in
-    lt-ltb p (length story.memory) (place_within story.memory p holds.instruction holds.decodes)
+    let found = supports.each p e listed rules.Decodes in
+    lt-ltb p (length story.memory) (place_within story.memory p found.0 found.1.decodes)
 
 pub never_faults : {V : Type 0} (o : SetOperations V) (claims : Claims V) (story : LoadedStory) (events : List Event) (n : ℕ) → IsLoadedStory story → Supports o claims story → IsNoFault (run (record { story = story; scope = scope_all story }) events n (opening story)).stop
 never_faults o claims story events n loaded supports =

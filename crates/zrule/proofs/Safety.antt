@@ -22,8 +22,9 @@ use Rattle.zstate.specs.declared.halt.Halt.{Halt}
 use Rattle.zstate.specs.InTurn.{◌>>=◌, in_turn}
 use Rattle.zstate.specs.State.{State, Scope, Setting, opening, at_place, read_operands}
 use Rattle.zstate.specs.Step.{Effect, Done, decoded, fetch, printed, print_at, effect_of, plan, act, items_of, step}
+use Rattle.zrule.specs.declared.rule.Rule.TheVariants as rules
 use Rattle.zrule.specs.Claims.{Shape, Claims}
-use Rattle.zrule.specs.Rules.{pops, below, goes_on, prints_inline, Covers, Leads, Holds, HasFixedText, Supports}
+use Rattle.zrule.specs.Rules.{pops, below, goes_on, prints_inline, Covers, Leads, IsThere, HasFixedText, Supports}
 use Rattle.zrule.specs.Described.{Callers, Described, IsSafe, IsListedIn}
 use Rattle.zrule.proofs.Unchanged.{drop_same, abbreviation_same}
 
@@ -88,31 +89,42 @@ unfolding in_turn
 reads_none story operands s none = rw none refl
 
 module _ {V : Type 0} (o : SetOperations V) (claims : Claims V) (m : Setting) (sound : IsSound m.story.memory) (counted : IsObjectCount m.story.memory m.story.objects) (supports : Supports o claims m.story) (listed : IsListedIn o claims m.scope) (s : State) (d : Described o claims m.story s) where
-  holds : Holds o claims m.story d.at d.entry
-  holds = supports.each d.at d.entry d.listed
+  -- every rule holds there, of the instruction that was judged
+  instruction : Instruction
+  instruction = (supports.each d.at d.entry d.listed rules.Decodes).0
+
+  there : IsThere m.story d.at instruction
+  unfolding instruction
+  there = (supports.each d.at d.entry d.listed rules.Decodes).1
+
+  edges : OnTrue (goes_on instruction.opcode) (Leads o claims d.entry.routine (below (pops instruction.operands) d.entry.shape) (d.at + instruction.size))
+  edges = supports.each d.at d.entry d.listed rules.Successor instruction there
+
+  text : OnTrue (prints_inline instruction.opcode) (HasFixedText m.story claims.is_frozen (d.at + 1))
+  text = supports.each d.at d.entry d.listed rules.Text instruction there
 
   -- the instruction is the one that was judged
-  reads : instruction_at (drop d.at s.memory) ≡ Ok holds.instruction
-  reads = ap instruction_at (drop_same m.story sound counted claims.is_frozen s.memory d.is_state.memory d.fixed d.at holds.static) ∙ holds.decodes
+  reads : instruction_at (drop d.at s.memory) ≡ Ok instruction
+  reads = ap instruction_at (drop_same m.story sound counted claims.is_frozen s.memory d.is_state.memory d.fixed d.at there.static) ∙ there.decodes
 
-  played : IsPlayed holds.instruction.opcode
-  played = is_played holds.instruction.opcode (found playable (drop d.at m.story.memory) holds.instruction holds.decodes).played
+  played : IsPlayed instruction.opcode
+  played = is_played instruction.opcode (found playable (drop d.at m.story.memory) instruction there.decodes).played
 
-  bare : holds.instruction.operands ≡ []
-  bare = no_operands holds.instruction.operands (takes_none holds.instruction.opcode played (length holds.instruction.operands) (well_formed playable (drop d.at m.story.memory) holds.instruction holds.decodes).operands)
+  bare : instruction.operands ≡ []
+  bare = no_operands instruction.operands (takes_none instruction.opcode played (length instruction.operands) (well_formed playable (drop d.at m.story.memory) instruction there.decodes).operands)
 
-  steps : step m s ≡ (effect_of holds.instruction.opcode [] s >>= done_by s holds.instruction)
-  steps = step_is m s holds.instruction (fetch_is m.scope s.place d.at s.memory holds.instruction d.place (listed d.at d.entry d.listed) reads) (reads_none m.story holds.instruction.operands s bare)
+  steps : step m s ≡ (effect_of instruction.opcode [] s >>= done_by s instruction)
+  steps = step_is m s instruction (fetch_is m.scope s.place d.at s.memory instruction d.place (listed d.at d.entry d.listed) reads) (reads_none m.story instruction.operands s bare)
 
   -- on to the next instruction, with what was known before
-  goes : Leads o claims d.entry.routine (below (pops holds.instruction.operands) d.entry.shape) (d.at + holds.instruction.size) → Described o claims m.story (at_place (s.place +ℤ pos holds.instruction.size) s)
+  goes : Leads o claims d.entry.routine (below (pops instruction.operands) d.entry.shape) (d.at + instruction.size) → Described o claims m.story (at_place (s.place +ℤ pos instruction.size) s)
   goes leads =
-      let shape : below (pops holds.instruction.operands) d.entry.shape ≡ d.entry.shape = ap (λ (os : List Operand). below (pops os) d.entry.shape) bare in
+      let shape : below (pops instruction.operands) d.entry.shape ≡ d.entry.shape = ap (λ (os : List Operand). below (pops os) d.entry.shape) bare in
       let covered = subst (λ (e : Shape V). Covers o claims e leads.entry.shape) shape leads.covered in
       record {
         is_state = record { memory = d.is_state.memory; frames = d.is_state.frames; few = d.is_state.few };
-        at = d.at + holds.instruction.size;
-        place = ap (λ (p : ℤ). p +ℤ pos holds.instruction.size) d.place;
+        at = d.at + instruction.size;
+        place = ap (λ (p : ℤ). p +ℤ pos instruction.size) d.place;
         entry = leads.entry;
         listed = leads.listed;
         fits = record {
@@ -125,32 +137,32 @@ module _ {V : Type 0} (o : SetOperations V) (claims : Claims V) (m : Setting) (s
       }
 
   Goal : Opcode → Type 0
-  Goal op = IsSafe o claims m.story (effect_of op [] s >>= done_by s holds.instruction)
+  Goal op = IsSafe o claims m.story (effect_of op [] s >>= done_by s instruction)
 
   -- what prints bytes, or does nothing, and goes on
-  print_safe : (r : Result (List ℕ) TextError) → IsOk r → Described o claims m.story (at_place (s.place +ℤ pos holds.instruction.size) s) → IsSafe o claims m.story (printed r >>= done_by s holds.instruction)
+  print_safe : (r : Result (List ℕ) TextError) → IsOk r → Described o claims m.story (at_place (s.place +ℤ pos instruction.size) s) → IsSafe o claims m.story (printed r >>= done_by s instruction)
   unfolding done_by act
   print_safe (Ok bytes) ok next = next
   print_safe (Err e) ok next = absurd cc
 
   -- the text behind the opcode byte prints something
-  prints : prints_inline holds.instruction.opcode ≡ true → IsOk (output_at s.memory (d.at + 1))
+  prints : prints_inline instruction.opcode ≡ true → IsOk (output_at s.memory (d.at + 1))
   prints inline =
-      let rule = subst (λ (b : Bool). OnTrue b (HasFixedText m.story claims.is_frozen (d.at + 1))) inline holds.text in
-      let above : static_base m.story ≤ d.at + 1 = omega (arith, holds.static) in
+      let rule = subst (λ (b : Bool). OnTrue b (HasFixedText m.story claims.is_frozen (d.at + 1))) inline text in
+      let above : static_base m.story ≤ d.at + 1 = omega (arith, there.static) in
       let same : drop (d.at + 1) s.memory ≡ drop (d.at + 1) m.story.memory = drop_same m.story sound counted claims.is_frozen s.memory d.is_state.memory d.fixed (d.at + 1) above in
-      let there : text_at s.memory (d.at + 1) ≡ Some rule.text = ap front_text same ∙ rule.found in
-      output_at-ok s.memory (d.at + 1) rule.text (λ n few. abbreviation_same m.story sound counted claims.is_frozen s.memory d.is_state.memory d.fixed supports.abbreviations n few) there
+      let found : text_at s.memory (d.at + 1) ≡ Some rule.text = ap front_text same ∙ rule.found in
+      output_at-ok s.memory (d.at + 1) rule.text (λ n few. abbreviation_same m.story sound counted claims.is_frozen s.memory d.is_state.memory d.fixed supports.abbreviations n few) found
 
-  next_of : goes_on holds.instruction.opcode ≡ true → Described o claims m.story (at_place (s.place +ℤ pos holds.instruction.size) s)
-  next_of on = goes (subst (λ (b : Bool). OnTrue b (Leads o claims d.entry.routine (below (pops holds.instruction.operands) d.entry.shape) (d.at + holds.instruction.size))) on holds.edges)
+  next_of : goes_on instruction.opcode ≡ true → Described o claims m.story (at_place (s.place +ℤ pos instruction.size) s)
+  next_of on = goes (subst (λ (b : Bool). OnTrue b (Leads o claims d.entry.routine (below (pops instruction.operands) d.entry.shape) (d.at + instruction.size))) on edges)
 
-  by_opcode : (op : Opcode) → IsPlayed op → op ≡ holds.instruction.opcode → Goal op
+  by_opcode : (op : Opcode) → IsPlayed op → op ≡ instruction.opcode → Goal op
   unfolding Goal effect_of done_by act
   by_opcode op print same =
       let at : s.place +ℤ pos 1 ≡ pos (d.at + 1) = ap (λ (p : ℤ). p +ℤ pos 1) d.place in
       let next = next_of (ap goes_on (sym same)) in
-      subst (λ (p : ℤ). IsSafe o claims m.story (print_at p s.memory >>= done_by s holds.instruction)) (sym at)
+      subst (λ (p : ℤ). IsSafe o claims m.story (print_at p s.memory >>= done_by s instruction)) (sym at)
       (print_safe (output_at s.memory (d.at + 1)) (prints (ap prints_inline (sym same))) next)
   by_opcode op new_line same = next_of (ap goes_on (sym same))
   by_opcode op nop same = next_of (ap goes_on (sym same))
@@ -158,7 +170,7 @@ module _ {V : Type 0} (o : SetOperations V) (claims : Claims V) (m : Setting) (s
 
   pub step_safe : IsSafe o claims m.story (step m s)
   unfolding Goal
-  step_safe = subst (λ (r : Result Done Halt). IsSafe o claims m.story r) (sym steps) (by_opcode holds.instruction.opcode played refl)
+  step_safe = subst (λ (r : Result Done Halt). IsSafe o claims m.story r) (sym steps) (by_opcode instruction.opcode played refl)
 
 -- the opening state
 pub opening_described : {V : Type 0} (o : SetOperations V) (claims : Claims V) (story : LoadedStory) → Supports o claims story → Described o claims story (opening story)

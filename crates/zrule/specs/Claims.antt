@@ -1,5 +1,11 @@
 -- What a certificate says of a story, as the rules see it: over a type V of sets of words (own).
-use Rattle.std.specs.Prelude.{ℕ, Bool, List, Option}
+use Rattle.std.specs.Prelude.{ℕ, zero, suc, ◌&&◌, Bool, List, reverse, Option, Some, None, option_map, nat_le, slice_get}
+use Rattle.std.specs.List.{list_any}
+use Rattle.zdomain.specs.Domain.{SetOperations}
+use Rattle.zcert.specs.declared.parts.Range.{Range}
+use Rattle.zcert.specs.declared.parts.Routine.{Routine}
+use Rattle.zcert.specs.Certificate.{Instruction as Listed, Certificate}
+use Rattle.zcert.specs.Listed.{listed_at}
 
 -- what is said of a frame: the values that each local may have, and each slot of the stack, the top first
 pub record Shape (V : Type 0) : Type 0 where
@@ -20,3 +26,30 @@ pub record Claims (V : Type 0) : Type 0 where
   pub entry : ℕ → Option (Entry V)
   -- the values that a routine may give, by its number
   pub result : ℕ → V
+
+-- ---- the claims of a certificate
+
+-- the place lies in the range, both ends included
+abbrev pub is_inside : ℕ → Range → Bool
+is_inside p range = nat_le range.first p && nat_le p range.last
+
+-- what is said of a listed instruction; a certificate has the bottom slot first
+abbrev pub entry_of : {V : Type 0} → Listed V → Entry V
+entry_of i = record { routine = i.routine; shape = record { locals = i.locals; slots = reverse i.slots } }
+
+abbrev pub result_or : {V : Type 0} → V → Option (Routine V) → V
+result_or unknown None = unknown
+result_or unknown (Some r) = r.result
+
+-- what the routine of a number may give: the main code, and a routine that isn't there, any word
+abbrev pub result_of : {V : Type 0} → V → List (Routine V) → ℕ → V
+result_of unknown routines zero = unknown
+result_of unknown routines (suc r) = result_or unknown (slice_get routines r)
+
+abbrev pub claims_of : {V : Type 0} → SetOperations V → Certificate V → Claims V
+claims_of o c = record {
+  is_frozen = λ p. list_any (is_inside p) c.ranges;
+  globals = c.globals;
+  entry = λ p. option_map entry_of (listed_at c.instructions p);
+  result = result_of o.any c.routines;
+}

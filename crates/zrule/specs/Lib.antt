@@ -1,4 +1,5 @@
 pub mod Claims
 pub mod Bytes
+pub mod Numbers
 pub mod Rules
 pub mod Described

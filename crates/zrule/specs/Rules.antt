@@ -13,6 +13,9 @@ use Rattle.zcode.specs.declared.instr.Operand.TheVariants.{Constant, Variable}
 use Rattle.zcode.specs.Instruction.{Instruction}
 use Rattle.zcode.specs.Reading.{instruction_at}
 use Rattle.zdomain.specs.Domain.{SetOperations, In, Within}
+use Rattle.zrule.specs.declared.rule.Rule.{Rule}
+use Rattle.zrule.specs.declared.rule.Rule.TheVariants as rules
+use Rattle.zrule.specs.Numbers.{number_of}
 use Rattle.zrule.specs.Claims.{Shape, Entry, Claims}
 use Rattle.zrule.specs.Bytes.{IsWithin, IsChanging, IsFixed, IsAbbreviation}
 
@@ -35,6 +38,11 @@ pub record HasDisjointTables (story : LoadedStory) (is_frozen : ℕ → Bool) : 
 -- a global of a memory, counted from variable 16
 abbrev pub global_in : LoadedStory → List ℕ → ℕ → ℕ
 global_in story memory k = word_at memory (globals story + 2 * k)
+
+-- an instruction is there, at or above the base of static memory; where none is, no rule but that one asks anything
+pub record IsThere (story : LoadedStory) (p : ℕ) (i : Instruction) : Type 0 where
+  pub static : static_base story ≤ p
+  pub decodes : instruction_at (drop p story.memory) ≡ Ok i
 
 -- how many words operands take off the stack
 abbrev pub pops : List Operand → ℕ
@@ -87,18 +95,21 @@ module _ {V : Type 0} (o : SetOperations V) (claims : Claims V) where
     pub same : entry.routine ≡ routine
     pub covered : Covers shape entry.shape
 
-  -- what holds of a listed place
-  pub record Holds (story : LoadedStory) (p : ℕ) (e : Entry V) : Type 0 where
-    pub instruction : Instruction
-    -- I1: it decodes, at or above the base of static memory
-    pub static : static_base story ≤ p
-    pub decodes : instruction_at (drop p story.memory) ≡ Ok instruction
-    -- I2: every pop finds a slot
-    pub height : pops instruction.operands ≤ length e.shape.slots
-    -- I4: each edge that can be taken leads on
-    pub edges : OnTrue (goes_on instruction.opcode) (Leads e.routine (below (pops instruction.operands) e.shape) (p + instruction.size))
-    -- I11: a text that it prints stays as it is
-    pub text : OnTrue (prints_inline instruction.opcode) (HasFixedText story claims.is_frozen (p + 1))
+  -- the rules on a listed place
+  abbrev pub Keeps : LoadedStory → ℕ → Entry V → Rule → Type 0
+  -- I1: an instruction is there
+  Keeps story p e rules.Decodes = (i : Instruction) × IsThere story p i
+  -- I2: every pop finds a slot
+  Keeps story p e rules.Height = (i : Instruction) → IsThere story p i → pops i.operands ≤ length e.shape.slots
+  -- I4: each edge that can be taken leads on
+  Keeps story p e rules.Successor = (i : Instruction) → IsThere story p i → OnTrue (goes_on i.opcode) (Leads e.routine (below (pops i.operands) e.shape) (p + i.size))
+  -- I11: a text that it prints stays as it is
+  Keeps story p e rules.Text = (i : Instruction) → IsThere story p i → OnTrue (prints_inline i.opcode) (HasFixedText story claims.is_frozen (p + 1))
+
+  -- the rule is broken at a listed place, and none with a lower number is
+  pub record IsLowestBroken (story : LoadedStory) (p : ℕ) (e : Entry V) (rule : Rule) : Type 0 where
+    pub broken : Keeps story p e rule → ⊥
+    pub before : (other : Rule) → number_of other < number_of rule → Keeps story p e other
 
   -- the claims hold of a story
   pub record Supports (story : LoadedStory) : Type 0 where
@@ -106,4 +117,4 @@ module _ {V : Type 0} (o : SetOperations V) (claims : Claims V) where
     pub values : HasGlobals story story.memory
     pub abbreviations : HasAbbreviations story
     pub tables : HasDisjointTables story claims.is_frozen
-    pub each : (p : ℕ) (e : Entry V) → claims.entry p ≡ Some e → Holds story p e
+    pub each : (p : ℕ) (e : Entry V) → claims.entry p ≡ Some e → (rule : Rule) → Keeps story p e rule

@@ -2,5 +2,7 @@
 #![tactic(auto)]
 
 mod laws;
+mod rule;
 
 pub use laws::each_step_is_safe;
+pub use rule::Rule;
