@@ -1,3 +1,7 @@
 mod Unchanged
 mod Safety
 mod Runs
+mod Changing
+mod Covering
+mod Order
+mod Listed

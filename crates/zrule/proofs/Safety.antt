@@ -120,7 +120,7 @@ module _ {V : Type 0} (o : SetOperations V) (claims : Claims V) (m : Setting) (s
   goes : Leads o claims d.entry.routine (below (pops instruction.operands) d.entry.shape) (d.at + instruction.size) → Described o claims m.story (at_place (s.place +ℤ pos instruction.size) s)
   goes leads =
       let shape : below (pops instruction.operands) d.entry.shape ≡ d.entry.shape = ap (λ (os : List Operand). below (pops os) d.entry.shape) bare in
-      let covered = subst (λ (e : Shape V). Covers o claims e leads.entry.shape) shape leads.covered in
+      let covered = subst (λ (e : Shape V). Covers o e leads.entry.shape) shape leads.covered in
       record {
         is_state = record { memory = d.is_state.memory; frames = d.is_state.frames; few = d.is_state.few };
         at = d.at + instruction.size;

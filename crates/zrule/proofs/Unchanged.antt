@@ -1,17 +1,18 @@
 -- What stays as it was loaded, in a state that claims describe.
-use Rattle.std.proofs.Common.{◌≡◌, ℕ, ◌+◌, ◌*◌, ◌-◌, ◌<◌, ◌≤◌, inl, inr, Bool, true, false, List, length, drop, Option, Some, None, refl, sym, ap, subst, ◌∙◌, arith, nat_lt, min, [], if◌then◌else◌}
+use Rattle.std.proofs.Common.{◌↔◌, ◌≡◌, ℕ, ◌+◌, ◌*◌, ◌-◌, ◌<◌, ◌≤◌, inl, inr, Bool, true, false, List, length, drop, Option, Some, None, refl, sym, ap, subst, ◌∙◌, arith, nat_lt, min, [], if◌then◌else◌}
+use Rattle.std.specs.Prelude.{IsTrue, is_some, option_map}
 use Rattle.std.specs.Option.{option_and_then, IsSomeAnd}
 use Rattle.std.proofs.lemmas.List.{get_or-drop, length-drop}
 use Rattle.std.proofs.lemmas.Grind.{same_number_lists}
 use Rattle.zstory.specs.Bytes.{byte_at, word_at}
 use Rattle.zstory.specs.LoadedStory.{LoadedStory, IsSound, globals, static_base, abbreviations}
 use Rattle.zstory.specs.Objects.{IsObjectCount}
-use Rattle.ztext.specs.Words.{text_at, characters_in}
+use Rattle.ztext.specs.Words.{text_at, length_at, characters_in}
 use Rattle.ztext.specs.Codes.{abbreviations_used}
 use Rattle.ztext.specs.Abbreviations.{readable_word, abbreviation_at, IsPlainAbbreviation}
 use Rattle.ztext.proofs.Sameness.{text_at-same, abbreviation_at-same}
 use Rattle.zrule.specs.Bytes.{IsFlags, IsChanging, IsAbbreviation, header, an_abbreviation, static, IsFixed}
-use Rattle.zrule.specs.Rules.{HasAbbreviations}
+use Rattle.zrule.specs.Rules.{HasAbbreviations, HasFixedText}
 
 -- what is there
 some_of : {A : Type 0} (found : Option A) (P : A → Type 0) → IsSomeAnd found P → (x : A) × (found ≡ Some x) × P x
@@ -51,6 +52,18 @@ module _ (story : LoadedStory) (sound : IsSound story.memory) (counted : IsObjec
   module _ (is_frozen : ℕ → Bool) where
     pub static_fixed : (p : ℕ) → static_base story ≤ p → IsFixed story is_frozen p
     static_fixed p above = record { closed = static above; unchanging = static_unchanging p above }
+
+    -- so each text there that ends stays as it is
+    pub text_fixed : (at : ℕ) → static_base story ≤ at → (size : Option ℕ) → size ≡ length_at story.memory at → IsTrue (is_some size) ↔ HasFixedText story is_frozen at
+    text_fixed at above size is = by_text (text_at story.memory at) refl
+      where
+        by_text : (found : Option (List ℕ)) → text_at story.memory at ≡ found → IsTrue (is_some size) ↔ HasFixedText story is_frozen at
+        by_text None e =
+            let none : size ≡ None = is ∙ ap (option_map length) e in
+            (λ t. absurd (let false_is = subst (λ (s : Option ℕ). IsTrue (is_some s)) none t in cc), λ fixed. absurd (let found = sym e ∙ fixed.found in cc))
+        by_text (Some text) e =
+            let some : size ≡ Some (length text) = is ∙ ap (option_map length) e in
+            (λ t. record { text = text; found = e; fixed = λ p within. static_fixed p (omega (arith, above, within.0)) }, λ fixed. ap is_some some)
 
     -- nor the header, but for Flags 2
     header_unchanging : (p : ℕ) → p < 64 → (IsFlags p → ⊥) → IsChanging story p → ⊥

@@ -26,6 +26,10 @@ pub record IsObjectState (story : LoadedStory) (p : ℕ) : Type 0 where
 abbrev pub IsChanging : LoadedStory → ℕ → Type 0
 IsChanging story p = IsFlags p ⊎ (IsWithin (globals story) 480 p ⊎ IsObjectState story p)
 
+-- none of so many bytes from a place on is one of them
+abbrev pub IsUnchanging : LoadedStory → ℕ → ℕ → Type 0
+IsUnchanging story from size = (p : ℕ) → IsWithin from size p → IsChanging story p → ⊥
+
 -- ---- what stores may not write
 
 -- a byte of an object's entry

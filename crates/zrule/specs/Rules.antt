@@ -1,5 +1,5 @@
 -- What a certificate must say of a story: sentences over its claims (own). A rule has the number that a refusal shows.
-use Rattle.std.specs.Prelude.{◌≡◌, ℕ, ◌+◌, ◌*◌, ◌<◌, ◌≤◌, Bool, true, false, List, [], ◌∷◌, length, drop, Some, Ok, slice_get, ◌==◌, if◌then◌else◌}
+use Rattle.std.specs.Prelude.{◌≡◌, ℕ, ◌+◌, ◌*◌, ◌<◌, ◌≤◌, Bool, true, false, List, [], ◌∷◌, length, drop, filter, Some, Ok, slice_get, ◌==◌}
 use Rattle.std.specs.Bool.{OnTrue}
 use Rattle.std.specs.List.{AllZip}
 use Rattle.zstory.specs.Bytes.{word_at}
@@ -44,11 +44,14 @@ pub record IsThere (story : LoadedStory) (p : ℕ) (i : Instruction) : Type 0 wh
   pub static : static_base story ≤ p
   pub decodes : instruction_at (drop p story.memory) ≡ Ok i
 
+-- reading the operand takes a word off the stack
+abbrev pub takes_slot : Operand → Bool
+takes_slot (Constant n) = false
+takes_slot (Variable v) = v == 0
+
 -- how many words operands take off the stack
 abbrev pub pops : List Operand → ℕ
-pops [] = 0
-pops (Constant n ∷ operands) = pops operands
-pops (Variable v ∷ operands) = (if v == 0 then 1 else 0) + pops operands
+pops operands = length (filter takes_slot operands)
 
 -- the shape without its topmost slots
 abbrev pub below : {V : Type 0} → ℕ → Shape V → Shape V
@@ -70,6 +73,11 @@ pub record HasFixedText (story : LoadedStory) (is_frozen : ℕ → Bool) (at : �
   pub found : text_at story.memory at ≡ Some text
   pub fixed : (p : ℕ) → IsWithin at (length text) p → IsFixed story is_frozen p
 
+-- one shape says all that the other says
+pub record Covers {V : Type 0} (o : SetOperations V) (from to : Shape V) : Type 0 where
+  pub locals : AllZip (Within o) from.locals to.locals
+  pub slots : AllZip (Within o) from.slots to.slots
+
 module _ {V : Type 0} (o : SetOperations V) (claims : Claims V) where
   -- S2: the first place is listed, in the main code, which has no locals, with an empty stack
   pub record HasFirstPlace (story : LoadedStory) : Type 0 where
@@ -83,17 +91,12 @@ module _ {V : Type 0} (o : SetOperations V) (claims : Claims V) where
   abbrev pub HasGlobals : LoadedStory → List ℕ → Type 0
   HasGlobals story memory = (k : ℕ) (values : V) → slice_get claims.globals k ≡ Some values → In o values (global_in story memory k)
 
-  -- one shape says all that the other says
-  pub record Covers (from to : Shape V) : Type 0 where
-    pub locals : AllZip (Within o) from.locals to.locals
-    pub slots : AllZip (Within o) from.slots to.slots
-
   -- an edge leads to a listed place of the same routine that covers what is known
   pub record Leads (routine : ℕ) (shape : Shape V) (to : ℕ) : Type 0 where
     pub entry : Entry V
     pub listed : claims.entry to ≡ Some entry
     pub same : entry.routine ≡ routine
-    pub covered : Covers shape entry.shape
+    pub covered : Covers o shape entry.shape
 
   -- the rules on a listed place
   abbrev pub Keeps : LoadedStory → ℕ → Entry V → Rule → Type 0

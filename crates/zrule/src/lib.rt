@@ -1,8 +1,13 @@
 //! What a certificate must say of a story, and why a story of which it is true never faults.
 #![tactic(auto)]
 
+mod bytes;
+mod judging;
 mod laws;
 mod rule;
+mod shapes;
 
+pub use bytes::{is_changing, is_unchanging};
+pub use judging::{instruction_there, rule_at};
 pub use laws::each_step_is_safe;
 pub use rule::Rule;

@@ -1,0 +1,6 @@
+use Rattle.std.proofs.Common.{rules, IsTrue}
+use Rattle.zrule.proofs.Changing.{state_here, state_inside}
+use Rattle.zrule.proofs.bytes.is_object_state.Goals as goal
+
+pub returns-then-behind-from : goal.returns-then-behind-from
+returns-then-behind-from c = search (rules, state_here, state_inside)

@@ -1,0 +1,133 @@
+//! Which rule an instruction breaks.
+
+ghost use Rattle.std.specs.Prelude.{◌≡◌, ◌↔◌, ◌+◌, ◌≤◌, ◌<◌, ℕ, Bool, IsTrue, IfSome, IfNone, MatchOption, Some};
+ghost use Rattle.std.specs.Bool.{OnTrue};
+ghost use Rattle.zstory.specs.LoadedStory.{static_base};
+ghost use Rattle.zdomain.specs.Interval.{interval_operations};
+ghost use Rattle.zcert.specs.Listed.{listed_at, seen};
+ghost use Rattle.zcode.specs.Instruction.{Instruction as Spelled};
+ghost use Rattle.zrule.specs.declared.rule.Rule.{Rule as ARule};
+ghost use Rattle.zrule.specs.Claims.{claims_of, entry_of, Entry};
+ghost use Rattle.zrule.specs.Rules.{pops, below, goes_on, prints_inline, IsThere, Leads, HasFixedText, Keeps, IsLowestBroken};
+
+use crate::rule::Rule;
+use crate::shapes::leads;
+use zcert::{Certificate, Instruction};
+use zcode::{Instr, Opcode, Operand, decode};
+use zdomain::Interval;
+use zstory::Story;
+use ztext::text_length;
+
+/// The rules that are asked of an instruction that is there, by their numbers.
+const RULES: [Rule; 3] = [Rule::Height, Rule::Successor, Rule::Text];
+
+/// The instruction at a place, where one is there at or above the base of static memory.
+pub fn instruction_there(story: &Story, address: u32) -> Option<Instr>
+    ensures none { IfNone result ((i : Spelled) → IsThere story.now address i → ⊥) }
+    ensures some { IfSome result (λ i. IsThere story.now address i) }
+    ensures within { IfSome result (λ i. address + i.size ≤ 131072) }
+{
+    let place = address as usize;
+    if place < story.static_base() {
+        return None;
+    }
+    decode(story.memory(), place).ok()
+}
+
+/// How many words the operands take off the stack.
+fn pops(operands: &[Operand]) -> usize
+    ensures { result ≡ pops operands.now }
+{
+    operands.iter().filter(|operand| matches!(operand, Operand::Variable(0))).count()
+}
+
+/// Whether each edge of an instruction leads on.
+fn has_edges(certificate: &Certificate, listed: &Instruction<'_, Interval>, instruction: &Instr) -> bool
+    requires { listed.now.address + instruction.now.size ≤ 131072 }
+    ensures { IsTrue result ↔ OnTrue (goes_on instruction.now.opcode) (Leads interval_operations (claims_of interval_operations certificate.now) listed.now.routine (below (pops instruction.now.operands) (entry_of (seen listed.now)).shape) (listed.now.address + instruction.now.size)) }
+{
+    let next = listed.address + instruction.length() as u32;
+    !goes_on(instruction.opcode())
+        || leads(certificate, listed, pops(instruction.operands()), next)
+}
+
+/// Whether the next instruction comes after one of this opcode.
+fn goes_on(opcode: Opcode) -> bool
+    ensures { result ≡ goes_on opcode }
+{
+    !matches!(opcode, Opcode::Quit)
+}
+
+/// Whether the text that an instruction prints stays as it is.
+fn has_text(story: &Story, listed: &Instruction<'_, Interval>, instruction: &Instr) -> bool
+    requires { static_base story.now ≤ listed.now.address }
+    ensures { (is_frozen : ℕ → Bool) → IsTrue result ↔ OnTrue (prints_inline instruction.now.opcode) (HasFixedText story.now is_frozen (listed.now.address + 1)) }
+{
+    !prints_inline(instruction.opcode())
+        || is_fixed_text(story, listed.address as usize + 1)
+}
+
+/// Whether the text at a place, where no instruction changes a byte, is whole.
+#[tactic(auto, using(crate::proofs::Unchanged::text_fixed))]
+fn is_fixed_text(story: &Story, at: usize) -> bool
+    requires { static_base story.now ≤ at }
+    ensures { (is_frozen : ℕ → Bool) → IsTrue result ↔ HasFixedText story.now is_frozen at }
+{
+    text_length(story.memory(), at).is_some()
+}
+
+/// Whether an instruction of this opcode prints the text behind its opcode byte.
+fn prints_inline(opcode: Opcode) -> bool
+    ensures { result ≡ prints_inline opcode }
+{
+    matches!(opcode, Opcode::Print)
+}
+
+/// Whether an instruction that is there keeps a rule.
+fn keeps(
+    story: &Story,
+    certificate: &Certificate,
+    listed: &Instruction<'_, Interval>,
+    instruction: &Instr,
+    rule: Rule,
+) -> bool
+    requires there { IsThere story.now listed.now.address instruction.now }
+    requires near { listed.now.address + instruction.now.size ≤ 131072 }
+    ensures { IsTrue result ↔ Keeps interval_operations (claims_of interval_operations certificate.now) story.now listed.now.address (entry_of (seen listed.now)) rule }
+{
+    match rule {
+        Rule::Decodes => true,
+        Rule::Height => pops(instruction.operands()) <= listed.slots.len(),
+        Rule::Successor => has_edges(certificate, listed, instruction),
+        Rule::Text => has_text(story, listed, instruction),
+    }
+}
+
+/// The lowest rule that is broken at a listed place.
+fn broken_rule(
+    story: &Story,
+    certificate: &Certificate,
+    listed: &Instruction<'_, Interval>,
+) -> Option<Rule>
+    ensures { MatchOption result ((rule : ARule) → Keeps interval_operations (claims_of interval_operations certificate.now) story.now listed.now.address (entry_of (seen listed.now)) rule) (IsLowestBroken interval_operations (claims_of interval_operations certificate.now) story.now listed.now.address (entry_of (seen listed.now))) }
+{
+    let Some(instruction) = instruction_there(story, listed.address) else {
+        return Some(Rule::Decodes);
+    };
+    for rule in RULES {
+        if !keeps(story, certificate, listed, &instruction, rule) {
+            return Some(rule);
+        }
+    }
+    None
+}
+
+/// The lowest rule that is broken at an address, where an instruction is listed there (own). `None` where all are kept,
+/// or nothing is listed.
+pub fn rule_at(story: &Story, certificate: &Certificate, address: u32) -> Option<Rule>
+    ensures kept { IfNone result ((entry : Entry Interval) → (claims_of interval_operations certificate.now).entry address ≡ Some entry → (rule : ARule) → Keeps interval_operations (claims_of interval_operations certificate.now) story.now address entry rule) }
+    ensures broken { IfSome result (λ rule. (entry : Entry Interval) × ((claims_of interval_operations certificate.now).entry address ≡ Some entry) × IsLowestBroken interval_operations (claims_of interval_operations certificate.now) story.now address entry rule) }
+{
+    let listed = certificate.instruction_at(address)?;
+    broken_rule(story, certificate, &listed)
+}
