@@ -8,6 +8,7 @@ mod error;
 mod length;
 mod pieces;
 
+pub use abbreviations::{TextSpan, plain_abbreviation};
 pub use decode::decode_into;
 pub use error::TextError;
 pub use length::text_length;

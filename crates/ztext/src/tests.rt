@@ -1,6 +1,6 @@
 //! Worked texts. What they print is worked out by hand from the tables of Z 3.5.3.
 
-use crate::{TextError, decode_into, text_length};
+use crate::{TextError, TextSpan, decode_into, plain_abbreviation, text_length};
 use std::test::Fail;
 
 #[test]
@@ -88,6 +88,42 @@ fn abbreviations(rt: HostRuntime) -> Result<(), Fail> {
         assert_eq!(rt; text.as_slice(), expected, "at {bytes:?}");
     }
     Ok(())
+}
+
+#[test]
+fn plain_abbreviations(rt: HostRuntime) {
+    let mut memory = [0u8; 128];
+    // the table is at 0x40, with abbreviations 0 to 3 at 0x60, 0x64, 0x6a and 0x6e, 4 past the end and 5 at 0x7e
+    memory[0x19] = 0x40;
+    memory[0x40..0x4c].copy_from_slice(&[0, 0x30, 0, 0x32, 0, 0x35, 0, 0x37, 0x7f, 0xff, 0, 0x3f]);
+    // shifts; hello; abbreviation 0; a bank that is cut off
+    memory[0x60..0x62].copy_from_slice(&[0x94, 0xa5]);
+    memory[0x64..0x68].copy_from_slice(&[0x35, 0x51, 0xc6, 0x85]);
+    memory[0x6a..0x6c].copy_from_slice(&[0x84, 0x05]);
+    memory[0x6e..0x70].copy_from_slice(&[0x94, 0xa1]);
+    let cases = [
+        (0, span(0x60, 2)),
+        (1, span(0x64, 4)),
+        (2, None),
+        (3, span(0x6e, 2)),
+        // the text past the end, and with no end word
+        (4, None),
+        (5, None),
+        // the table's word past the end
+        (32, None),
+        (255, None),
+    ];
+    for (number, expected) in cases {
+        assert_eq!(rt;
+            plain_abbreviation(&memory, number),
+            expected,
+            "of {number}"
+        );
+    }
+}
+
+fn span(place: usize, size: usize) -> Option<TextSpan> {
+    Some(TextSpan { place, size })
 }
 
 #[test]
