@@ -1,25 +1,19 @@
 -- What is known of the fields that were taken: they are spelled one after another by the certificate that they make.
-use Rattle.std.proofs.Common.{◌≡◌, ℕ, zero, suc, ◌+◌, ◌<◌, ◌≤◌, Bool, true, false, List, [], ◌∷◌, ◌++◌, length, get_or, Result, Ok, Err, refl, sym, ap, subst, ◌∙◌, append_assoc, arith, length-append}
-use Rattle.std.specs.Prelude.{nat_le, nat_lt}
-use Rattle.std.specs.List.{flat_map, AllByRecursion}
-use Rattle.std.proofs.lemmas.Bool.{leb-true, ltb-true}
-use Rattle.std.proofs.lemmas.List.{append-nil}
+use Rattle.std.proofs.Common.{◌≡◌, ℕ, zero, suc, ◌+◌, ◌<◌, List, [], ◌∷◌, ◌++◌, length, Result, Ok, Err, refl, sym, subst, arith, length-append}
+use Rattle.std.specs.Prelude.{nat_le}
+use Rattle.std.specs.List.{AllByRecursion}
 use Rattle.zcert.specs.declared.error.CertError.{CertError}
-use Rattle.zcert.specs.declared.error.CertError.TheVariants as errors
 use Rattle.zcert.specs.declared.field.Field.{Field}
 use Rattle.zcert.specs.declared.field.Field.TheVariants as fields
 use Rattle.zcert.specs.declared.field.Header.{Header}
 use Rattle.zcert.specs.declared.field.Turn.{Turn}
 use Rattle.zcert.specs.declared.field.Turn.TheVariants as turns
-use Rattle.zcert.specs.declared.limits.TheConstants.{MAGIC, GLOBALS, ADDRESS_LIMIT, MAX_LOCALS, MAX_INSTRUCTIONS, MAX_RANGES, MAX_ROUTINES, MAX_HEIGHT}
-use Rattle.zcert.specs.Numbers.{number, HasRoom}
-use Rattle.zcert.specs.Numbers as numbers
-use Rattle.zcert.specs.Certificate.{Certificate, locals_of}
-use Rattle.zcert.specs.Steps.{◌>>=◌, need, number_at, serial_at}
+use Rattle.zcert.specs.declared.limits.TheConstants.{GLOBALS, ADDRESS_LIMIT, MAX_LOCALS, MAX_INSTRUCTIONS, MAX_RANGES, MAX_ROUTINES, MAX_HEIGHT}
+use Rattle.zcert.specs.Certificate.{locals_of}
 use Rattle.zcert.specs.Format.{Format}
 use Rattle.zcert.specs.Reading.{address_fits}
 use Rattle.zcert.specs.Building.{Progress, opening, before_ranges, before_globals, before_routines, before_instructions, before_values, taken, all_taken, IsDue, after_release, after_serial, after_checksum, after_loaded_length, after_range_count, after_range_first, after_range_last, after_global, after_routine_count, after_routine_address, after_local_count, after_routine_result, after_instruction_count, after_instruction_address, after_routine_number, after_height, after_value}
-use Rattle.zcert.specs.Fields.{field_bytes, IsField, field_at, IsReached}
+use Rattle.zcert.specs.Fields.{IsField, IsReached}
 use Rattle.zcert.specs.View.{Takes}
 use Rattle.zcert.proofs.Stepping.{bind_ok, need_ok, ok_is}
 use Rattle.zcert.proofs.Found.{address_is}

@@ -1,20 +1,16 @@
 -- The bytes of fields: those that were taken are read as the certificate that they make.
-use Rattle.std.proofs.Common.{◌≡◌, ℕ, zero, suc, ◌+◌, ◌<◌, ◌≤◌, Bool, true, false, List, [], ◌∷◌, ◌++◌, length, get_or, Result, Ok, Err, refl, sym, ap, subst, ◌∙◌, append_assoc, arith, length-append, ◌⊎◌, inl, inr}
+use Rattle.std.proofs.Common.{◌≡◌, ℕ, ◌<◌, List, [], ◌∷◌, ◌++◌, length, get_or, Ok, refl, ap, subst, ◌∙◌, append_assoc, arith, length-append}
 use Rattle.std.specs.List.{flat_map, AllByRecursion}
 use Rattle.byteorder.specs.Numbers.{length-bytes_high_first}
-use Rattle.zcert.specs.declared.error.CertError.{CertError}
-use Rattle.zcert.specs.declared.error.CertError.TheVariants as errors
 use Rattle.zcert.specs.declared.field.Field.{Field}
 use Rattle.zcert.specs.declared.field.Field.TheVariants as fields
 use Rattle.zcert.specs.declared.field.Turn.{Turn}
 use Rattle.zcert.specs.declared.field.Turn.TheVariants as turns
 use Rattle.zcert.specs.Numbers.{Number, number, width, HasRoom}
 use Rattle.zcert.specs.Numbers as numbers
-use Rattle.zcert.specs.Certificate.{Certificate}
-use Rattle.zcert.specs.Steps.{◌>>=◌, number_at, serial_at}
+use Rattle.zcert.specs.Steps.{number_at, serial_at}
 use Rattle.zcert.specs.Format.{Format}
-use Rattle.zcert.specs.Reading.{at_end}
-use Rattle.zcert.specs.Building.{Progress, opening, taken, all_taken, after_release, after_serial, after_checksum, after_loaded_length, after_range_count, after_range_first, after_range_last, after_global, after_routine_count, after_routine_address, after_local_count, after_routine_result, after_instruction_count, after_instruction_address, after_routine_number, after_height, after_value}
+use Rattle.zcert.specs.Building.{Progress, taken, all_taken, after_release, after_serial, after_checksum, after_loaded_length, after_range_count, after_range_first, after_range_last, after_global, after_routine_count, after_routine_address, after_local_count, after_routine_result, after_instruction_count, after_instruction_address, after_routine_number, after_height, after_value}
 use Rattle.zcert.specs.Fields.{field_bytes, IsField, as_field, field_at}
 use Rattle.zcert.proofs.Stepping.{IsBytes, IsBytes-append, IsBytes-number, by_place, width_some, Takes, bind_ok, ok_is, number_takes, number_again, serial_takes, serial_again}
 use Rattle.zcert.proofs.Formats.{IsFormat}

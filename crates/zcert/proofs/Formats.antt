@@ -1,11 +1,10 @@
 -- What a format owes, and that intervals meet it.
-use Rattle.std.proofs.Common.{◌≡◌, ℕ, ◌^◌, ◌<◌, List, ◌++◌, length, Option, Some, None, Result, Ok, Err, ℤ, FitsSigned, refl, sym, ap, subst, ◌∙◌, append_assoc, arith}
+use Rattle.std.proofs.Common.{◌≡◌, ℕ, ◌<◌, List, ◌++◌, length, Option, Some, None, Ok, ℤ, FitsSigned, refl, sym, ap, subst, ◌∙◌, append_assoc, arith}
 use Rattle.std.specs.Int.{w16, cast_signed, cast_unsigned}
 use Rattle.std.proofs.lemmas.Int.{ints, to_z-of_z, of_z-to_z}
 use Rattle.zdomain.specs.declared.interval.Interval.{Interval}
 use Rattle.zdomain.specs.Interval.{interval_of}
 use Rattle.zdomain.proofs.Ends.{from_ends, ends_of}
-use Rattle.zcert.specs.declared.error.CertError.{CertError}
 use Rattle.zcert.specs.Numbers.{Version, End, number, HasRoom}
 use Rattle.zcert.specs.Steps.{◌>>=◌, number_at}
 use Rattle.zcert.specs.Format.{Format, nonempty, interval_format}

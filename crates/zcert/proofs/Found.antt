@@ -1,5 +1,5 @@
 -- What is read is spelled so, and has a spelling.
-use Rattle.std.proofs.Common.{◌≡◌, ℕ, zero, suc, ◌+◌, ◌<◌, ◌≤◌, Bool, true, false, List, [], ◌∷◌, ◌++◌, length, get_or, take, drop, Result, Ok, Err, refl, sym, ap, subst, ◌∙◌, append_assoc, arith, length-append}
+use Rattle.std.proofs.Common.{◌≡◌, ℕ, zero, suc, ◌+◌, ◌<◌, ◌≤◌, Bool, true, false, List, [], ◌∷◌, ◌++◌, length, take, drop, Ok, refl, ap, subst, ◌∙◌, arith}
 use Rattle.std.specs.Prelude.{nat_le, nat_lt, ◌==◌}
 use Rattle.std.specs.List.{flat_map, AllByRecursion}
 use Rattle.std.proofs.lemmas.Bool.{leb-true, ltb-true, eqb-true}
@@ -13,7 +13,7 @@ use Rattle.zcert.specs.declared.limits.TheConstants.{MAGIC, GLOBALS, ADDRESS_LIM
 use Rattle.zcert.specs.Numbers.{number, HasRoom}
 use Rattle.zcert.specs.Numbers as numbers
 use Rattle.zcert.specs.Certificate.{Instruction, Certificate, locals_of}
-use Rattle.zcert.specs.Steps.{◌>>=◌, need, number_at, serial_at}
+use Rattle.zcert.specs.Steps.{need, number_at, serial_at}
 use Rattle.zcert.specs.Format.{Format}
 use Rattle.zcert.specs.Spelling.{identity_bytes, range_bytes, values_bytes, routine_bytes, instruction_bytes, counted, heading, spelling, IsIdentity, IsRange, AreApart, Rise, IsRoutine, IsInstruction, HasSpelling}
 use Rattle.zcert.specs.Reading.{magic_at, version_at, heading_at, identity_at, range_at, ranges_at, all_ranges_at, address_fits, values_at, routine_at, routines_at, all_routines_at, instruction_at, instructions_at, all_instructions_at, at_end, reading}

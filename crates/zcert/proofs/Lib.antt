@@ -8,5 +8,6 @@ pub mod Stores
 pub mod Calls
 pub mod FieldBytes
 pub mod Makes
+pub mod Rising
 pub mod Lookup
 pub mod ReadLoop

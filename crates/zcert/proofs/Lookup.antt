@@ -1,5 +1,5 @@
 -- Instructions stand by their addresses, so that a search of the stored ones finds the one that is listed.
-use Rattle.std.proofs.Common.{◌≡◌, ◌≢◌, ℕ, zero, suc, ◌+◌, ◌<◌, ◌≤◌, Bool, true, false, cond, eqb, List, [], ◌∷◌, length, get_or, map, Option, Some, None, Result, Ok, Err, MatchResult, refl, sym, ap, subst, ◌∙◌, eq-eqb, arith, inl, inr}
+use Rattle.std.proofs.Common.{◌≡◌, ◌≢◌, ℕ, zero, suc, ◌+◌, ◌<◌, ◌≤◌, false, eqb, List, [], ◌∷◌, length, get_or, map, Option, Some, None, Result, Ok, Err, refl, sym, ap, subst, ◌∙◌, eq-eqb, arith, inl, inr}
 use Rattle.std.specs.Prelude.{slice_get, IsSome}
 use Rattle.std.proofs.lemmas.List.{length-map}
 use Rattle.std.specs.Ordering.{nat_cmp, ordering_index}
@@ -8,7 +8,6 @@ use Rattle.std.specs.List.{HoldsAt}
 use Rattle.std.specs.Option.{option_map}
 use Rattle.std.specs.Result.{result_ok}
 use Rattle.std.proofs.lemmas.Bool.{cases_lt, false≢true}
-use Rattle.std.specs.declared.cmp.Ordering.{Ordering}
 use Rattle.std.specs.declared.cmp.Ordering.TheVariants.{Less, Equal, Greater}
 use Rattle.std.proofs.lemmas.Bool.Decides.{nat_tests}
 use Rattle.std.proofs.lemmas.Option.{get_or_from_slice_get, slice_get_within, slice_get-map}
@@ -18,6 +17,7 @@ use Rattle.zcert.specs.Certificate.{Instruction}
 use Rattle.zcert.specs.Contents.{stored_instruction}
 use Rattle.zcert.specs.Spelling.{Rise}
 use Rattle.zcert.specs.Listed.{listed_at, Finds}
+use Rattle.zcert.proofs.Rising.{some_is, none_there, above}
 
 abbrev address : Stored → ℕ
 address s = s.address
@@ -29,24 +29,12 @@ pub rise_stored : (values : List Interval) (floor : ℕ) (ss : List Stored) → 
 rise_stored values floor [] rise = tt
 rise_stored values floor (s ∷ ss) rise = (rise.0, rise_stored values (s.address + 1) ss rise.1)
 
-some_is : {A : Type 0} (x y : A) → Some x ≡ Some y → x ≡ y
-some_is x y e = cc
-
-none_there : {A P : Type 0} (k : ℕ) (x : A) → slice_get {X = A} [] k ≡ Some x → P
-none_there k x e = absurd cc
-
--- each is at the floor or above
-above : {V : Type 0} (floor : ℕ) (is : List (Instruction V)) (k : ℕ) (i : Instruction V) → Rise (λ (i : Instruction V). i.address) floor is → slice_get is k ≡ Some i → floor ≤ i.address
-above floor [] k i rise e = none_there k i e
-above {V} floor (x ∷ is) zero i rise e = let same : x ≡ i = some_is x i e in let h = rise.0 in subst (λ (y : Instruction V). floor ≤ y.address) same h
-above floor (x ∷ is) (suc k) i rise e = let h = above (x.address + 1) is k i rise.1 e in let l = rise.0 in omega arith
-
 -- each is the one that is listed at its address
 pub listed : {V : Type 0} (floor : ℕ) (is : List (Instruction V)) (k : ℕ) (i : Instruction V) → Rise (λ (i : Instruction V). i.address) floor is → slice_get is k ≡ Some i → listed_at is i.address ≡ Some i
 listed floor [] k i rise e = none_there k i e
 listed floor (x ∷ is) zero i rise e = let same : x ≡ i = some_is x i e in rw (same, eq-eqb i.address i.address refl) refl
-listed floor (x ∷ is) (suc k) i rise e =
-    let higher : x.address + 1 ≤ i.address = above (x.address + 1) is k i rise.1 e in
+listed {V} floor (x ∷ is) (suc k) i rise e =
+    let higher : x.address + 1 ≤ i.address = above (λ (i : Instruction V). i.address) (x.address + 1) is k i rise.1 e in
     let other : eqb x.address i.address ≡ false = grind (arith, nat_tests) in
     rw other (listed (x.address + 1) is k i rise.1 e)
 

@@ -1,8 +1,7 @@
 -- Calls of a builder and certificates belong together.
-use Rattle.std.proofs.Common.{◌≡◌, ℕ, zero, suc, ◌+◌, ◌<◌, ◌≤◌, List, [], ◌∷◌, ◌++◌, length, Result, Ok, Err, refl, sym, ap, subst, ◌∙◌, append_assoc, arith, ◌⊎◌, inl, inr}
+use Rattle.std.proofs.Common.{◌≡◌, ℕ, zero, suc, ◌≤◌, List, [], ◌∷◌, ◌++◌, length, Ok, Err, refl, sym, ap, subst, ◌∙◌, append_assoc, arith, ◌⊎◌, inl, inr}
 use Rattle.std.specs.List.{flat_map, AllByRecursion}
 use Rattle.std.proofs.lemmas.List.{append-nil}
-use Rattle.zcert.specs.declared.error.CertError.{CertError}
 use Rattle.zcert.specs.declared.error.CertError.TheVariants as errors
 use Rattle.zcert.specs.declared.field.Field.{Field}
 use Rattle.zcert.specs.declared.field.Turn.{Turn}
@@ -17,15 +16,15 @@ use Rattle.zcert.specs.Certificate.{Certificate, Instruction}
 use Rattle.zcert.specs.Steps.{◌>>=◌}
 use Rattle.zcert.specs.Format.{Format}
 use Rattle.zcert.specs.Spelling.{identity_bytes, range_bytes, counted, values_bytes, routine_bytes, instruction_bytes, heading, spelling, IsIdentity, IsRange, IsRoutine, IsInstruction, HasSpelling}
-use Rattle.zcert.specs.Reading.{at_end, reading}
+use Rattle.zcert.specs.Reading.{reading}
 use Rattle.zcert.specs.Building.{Progress, opening, taken, all_taken}
 use Rattle.zcert.specs.Fields.{field_bytes, IsField, field_at, IsReached, Makes}
 use Rattle.zcert.proofs.Stepping.{IsBytes, IsBytes-append, IsBytes-number, bind_ok, ok_is}
 use Rattle.zcert.proofs.Formats.{IsFormat}
 use Rattle.zcert.proofs.Found.{found}
 use Rattle.zcert.proofs.Only.{heading_again, both_each, only}
-use Rattle.zcert.proofs.Rest.{rest_of, HasMore, reads_on, read_on, completes, opens}
-use Rattle.zcert.proofs.FieldBytes.{has_more, fields_again, TakesField, field_takes, below_each, IsBytes-fields}
+use Rattle.zcert.proofs.Rest.{rest_of, HasMore, reads_on, completes, opens}
+use Rattle.zcert.proofs.FieldBytes.{fields_again, field_takes, below_each, IsBytes-fields}
 
 module _ {V : Type 0} (format : Format V) (law : IsFormat format) where
   -- what follows the heading is read as the fields are

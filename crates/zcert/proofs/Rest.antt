@@ -1,18 +1,16 @@
 -- What the rest of the bytes would be read as, once some fields are taken; and that to take a field is to read on.
-use Rattle.std.proofs.Common.{◌≡◌, ℕ, zero, suc, ◌+◌, ◌<◌, ◌≤◌, Bool, true, false, List, [], ◌∷◌, ◌++◌, length, take, drop, Result, Ok, Err, refl, sym, ap, ◌∙◌, append_assoc, arith}
+use Rattle.std.proofs.Common.{◌≡◌, ℕ, zero, suc, ◌+◌, List, [], ◌∷◌, ◌++◌, length, Result, Ok, Err, refl, sym, ap, ◌∙◌, append_assoc}
 use Rattle.std.proofs.lemmas.List.{append-nil}
-use Rattle.std.specs.Prelude.{nat_le, nat_lt}
+use Rattle.std.specs.Prelude.{nat_le}
 use Rattle.zstory.specs.declared.identity.Identity.{Identity}
 use Rattle.zcert.specs.declared.error.CertError.{CertError}
 use Rattle.zcert.specs.declared.error.CertError.TheVariants as errors
-use Rattle.zcert.specs.declared.field.Field.{Field}
-use Rattle.zcert.specs.declared.field.Field.TheVariants as fields
 use Rattle.zcert.specs.declared.field.Header.{Header}
 use Rattle.zcert.specs.declared.field.Turn.{Turn}
 use Rattle.zcert.specs.declared.field.Turn.TheVariants as turns
 use Rattle.zcert.specs.declared.parts.Range.{Range}
 use Rattle.zcert.specs.declared.parts.Routine.{Routine}
-use Rattle.zcert.specs.declared.limits.TheConstants.{GLOBALS, ADDRESS_LIMIT, MAX_LOCALS, MAX_INSTRUCTIONS, MAX_RANGES, MAX_ROUTINES, MAX_HEIGHT}
+use Rattle.zcert.specs.declared.limits.TheConstants.{GLOBALS, MAX_LOCALS, MAX_INSTRUCTIONS, MAX_RANGES, MAX_ROUTINES, MAX_HEIGHT}
 use Rattle.zcert.specs.Numbers as numbers
 use Rattle.zcert.specs.Certificate.{Instruction, Certificate, locals_of}
 use Rattle.zcert.specs.Steps.{◌>>=◌, need, number_at, serial_at}

@@ -1,5 +1,5 @@
 -- How the code keeps a certificate: the values of all instructions stand in one list, each instruction's by where they begin.
-use Rattle.std.specs.Prelude.{ℕ, ◌+◌, ◌≤◌, List, length, map, take, drop}
+use Rattle.std.specs.Prelude.{◌+◌, ◌≤◌, List, length, take, drop}
 use Rattle.std.specs.List.{All}
 use Rattle.zdomain.specs.declared.interval.Interval.{Interval}
 use Rattle.zcert.specs.declared.contents.Stored.{Stored}

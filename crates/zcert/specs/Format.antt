@@ -1,12 +1,12 @@
 -- How a version of the format writes sets of words.
-use Rattle.std.specs.Prelude.{ℕ, ℤ, List, ◌++◌, Option, Some, None, Result, Ok, Err, FitsSigned}
+use Rattle.std.specs.Prelude.{ℕ, List, ◌++◌, Option, Some, None, Result, Ok, Err, FitsSigned}
 use Rattle.std.specs.Int.{w16, cast_signed, cast_unsigned}
 use Rattle.zdomain.specs.declared.interval.Interval.{Interval}
 use Rattle.zdomain.specs.Interval.{interval_of}
 use Rattle.zcert.specs.declared.error.CertError.{CertError}
 use Rattle.zcert.specs.declared.error.CertError.TheVariants.{EmptyInterval}
 use Rattle.zcert.specs.declared.limits.TheConstants.{VERSION}
-use Rattle.zcert.specs.Numbers.{Number, End, number}
+use Rattle.zcert.specs.Numbers.{End, number}
 use Rattle.zcert.specs.Steps.{◌>>=◌, number_at}
 
 pub record Format (V : Type 0) : Type 1 where

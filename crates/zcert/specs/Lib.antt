@@ -9,4 +9,3 @@ pub mod Fields
 pub mod Contents
 pub mod View
 pub mod Listed
-pub mod Claims

@@ -1,5 +1,5 @@
 -- Steps of reading. A step answers what it read with the bytes after it, or what is wrong.
-use Rattle.std.specs.Prelude.{◌≡◌, ℕ, Bool, List, length, take, drop, Result, Ok, Err, nat_lt, if◌then◌else◌}
+use Rattle.std.specs.Prelude.{ℕ, Bool, List, length, take, drop, Result, Ok, Err, nat_lt, if◌then◌else◌}
 use Rattle.byteorder.specs.Endian.{big_number}
 use Rattle.zcert.specs.declared.error.CertError.{CertError}
 use Rattle.zcert.specs.declared.error.CertError.TheVariants.{Truncated}

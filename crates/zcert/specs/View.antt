@@ -1,5 +1,5 @@
 -- What the code's certificates and builders say.
-use Rattle.std.specs.Prelude.{◌≡◌, List, map, drop, Result, Ok, Err}
+use Rattle.std.specs.Prelude.{◌≡◌, map, drop, Result, Ok, Err}
 use Rattle.zdomain.specs.declared.interval.Interval.{Interval}
 use Rattle.zcert.specs.declared.error.CertError.{CertError}
 use Rattle.zcert.specs.declared.error.CertError.TheVariants.{OutOfMemory}

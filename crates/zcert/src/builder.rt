@@ -57,7 +57,9 @@ impl CertBuilder {
         matches!(self.turn(), Turn::Complete)
     }
 
-    /// Takes the next field.
+    /// Takes the next field. An error changes nothing, and is the first of these that holds: `Order`, where the field is out of turn,
+    /// an address or a range doesn't rise, or a range ends before its first byte; `Limit`, where a number is above its limit;
+    /// `OutOfMemory`, where a growth was refused.
     pub fn take(&mut self, field: Field<Interval>) -> Result<(), CertError>
         ensures ok { OnOk result (taken self.old field ≡ Ok self.new) }
 

@@ -70,6 +70,7 @@ impl Certificate {
     /// The values of each global, from variable 16 on.
     pub fn globals(&self) -> &[Interval]
         ensures value { result.now ≡ self.now.globals }
+        ensures count { length result.now ≡ 240 }
         ensures keeps { HasSpelling interval_format self.now }
     {
         self.contents.globals.as_slice()

@@ -19,7 +19,7 @@ mod writing;
 pub use builder::CertBuilder;
 pub use certificate::Certificate;
 pub use error::CertError;
-pub use field::{Field, Turn};
+pub use field::{Field, Header, Turn};
 pub use laws::{fields_make_certificates, spellings_are_read};
 pub use parts::{Instruction, Range, Routine};
 pub use reading::read;

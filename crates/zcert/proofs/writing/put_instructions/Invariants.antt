@@ -4,7 +4,7 @@ use Rattle.zcert.specs.Numbers.{number}
 use Rattle.zcert.specs.Numbers as numbers
 use Rattle.zcert.specs.Contents.{stored_instruction}
 use Rattle.zcert.specs.Format.{interval_format}
-use Rattle.zcert.specs.Spelling.{range_bytes, values_bytes, routine_bytes, instruction_bytes}
+use Rattle.zcert.specs.Spelling.{instruction_bytes}
 use Rattle.zcert.proofs.writing.put_instructions.Given as goal
 
 abbrev pub invariant-loop-stored : goal.invariant-loop-stored

@@ -1,10 +1,9 @@
-use Rattle.std.proofs.Common.{◌≡◌, ◌++◌, length, take, map}
+use Rattle.std.proofs.Common.{◌≡◌, ◌++◌, length, take}
 use Rattle.std.specs.List.{flat_map}
 use Rattle.zcert.specs.Numbers.{number}
 use Rattle.zcert.specs.Numbers as numbers
-use Rattle.zcert.specs.Contents.{stored_instruction}
 use Rattle.zcert.specs.Format.{interval_format}
-use Rattle.zcert.specs.Spelling.{range_bytes, values_bytes, routine_bytes, instruction_bytes}
+use Rattle.zcert.specs.Spelling.{routine_bytes}
 use Rattle.zcert.proofs.writing.put_routines.Given as goal
 
 abbrev pub invariant-loop-routine : goal.invariant-loop-routine

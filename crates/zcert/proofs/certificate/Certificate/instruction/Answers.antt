@@ -1,7 +1,6 @@
 use Rattle.std.proofs.Common.{◌≡◌, Some, subst}
 use Rattle.zdomain.specs.declared.interval.Interval.{Interval}
 use Rattle.zcert.specs.Certificate.{Certificate as Content}
-use Rattle.zcert.specs.Spelling.{InstructionsRise}
 use Rattle.zcert.specs.Listed.{listed_at, seen}
 use Rattle.zcert.proofs.Lookup.{listed}
 use Rattle.zcert.proofs.certificate.Certificate.instruction.Goals as goal
