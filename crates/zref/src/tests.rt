@@ -4,7 +4,9 @@ use crate::machine::CheckedMachine;
 use crate::scope::Scope;
 use std::alloc::{AllocError, Global};
 use std::test::Fail;
+use zcode::decode;
 use zfault::{Fault, Item, Pause};
+use zlist::{Listing, Record};
 use zstate::Stop;
 use zstory::Story;
 
@@ -50,8 +52,13 @@ fn text_of(alloc: Global, items: &[Item]) -> Result<Vec<u8>, AllocError> {
     Ok(text)
 }
 
-fn run_story(alloc: Global, story: &Story, budgets: &[u32]) -> Result<Played, AllocError> {
-    let mut machine = CheckedMachine::new(alloc, story, Scope::All)?;
+fn run_story(
+    alloc: Global,
+    story: &Story,
+    scope: Scope,
+    budgets: &[u32],
+) -> Result<Played, AllocError> {
+    let mut machine = CheckedMachine::new(alloc, story, scope)?;
     let mut items = Vec::new(alloc);
     let mut stop = Stop::Paused(Pause::Budget);
     for budget in budgets {
@@ -65,7 +72,7 @@ fn run_story(alloc: Global, story: &Story, budgets: &[u32]) -> Result<Played, Al
 fn outcome(alloc: Global, code: &[u8], budgets: &[u32]) -> Result<Played, Fail> {
     let file = story_of(alloc, code)?;
     let story = Story::load(alloc, file.as_slice())?;
-    Ok(run_story(alloc, &story, budgets)?)
+    Ok(run_story(alloc, &story, Scope::All, budgets)?)
 }
 
 #[test]
@@ -107,5 +114,32 @@ fn pieces_are_the_whole(rt: HostRuntime) -> Result<(), Fail> {
     assert_eq!(rt; pieces.text.as_slice(), whole.text.as_slice());
     assert_eq!(rt; whole.text.as_slice(), b"\n".as_slice());
     assert_eq!(rt; whole.place, 0x327);
+    Ok(())
+}
+
+// The instruction at a place is listed alone.
+fn only(alloc: Global, story: &Story, address: u32) -> Result<Listing, Fail> {
+    let first = Record {
+        address,
+        routine: 0,
+        instruction: decode(story.memory(), address as usize)?,
+    };
+    if !Listing::is_in_order(&[first], &[]) {
+        return Err(Fail::new("the record is out of order"));
+    }
+    let records = [first].to_vec(alloc)?;
+    Ok(Listing::new(alloc, records, Vec::new(alloc))?)
+}
+
+// nop, new_line, quit, of which the nop is listed.
+#[test]
+fn plays_only_what_is_listed(rt: HostRuntime) -> Result<(), Fail> {
+    let file = story_of(rt.alloc(), &[0xB4, 0xBB, 0xBA])?;
+    let story = Story::load(rt.alloc(), file.as_slice())?;
+    let listing = only(rt.alloc(), &story, 0x324)?;
+    let run = run_story(rt.alloc(), &story, Scope::Only(&listing), &[10])?;
+    assert_eq!(rt; run.stop, Stop::Fault(Fault::UnlistedInstruction, 0x325));
+    assert_eq!(rt; run.text.len(), 0);
+    assert_eq!(rt; run.place, 0x325);
     Ok(())
 }
