@@ -1,7 +1,7 @@
-mod Unchanged
-mod Safety
-mod Runs
+pub mod Unchanged
+pub mod Safety
+pub mod Runs
 mod Changing
 mod Covering
 mod Order
-mod Listed
+pub mod Listed

@@ -27,8 +27,8 @@ abbrev pub IsChanging : LoadedStory → ℕ → Type 0
 IsChanging story p = IsFlags p ⊎ (IsWithin (globals story) 480 p ⊎ IsObjectState story p)
 
 -- none of so many bytes from a place on is one of them
-abbrev pub IsUnchanging : LoadedStory → ℕ → ℕ → Type 0
-IsUnchanging story from size = (p : ℕ) → IsWithin from size p → IsChanging story p → ⊥
+pub record IsUnchanging (story : LoadedStory) (from size : ℕ) : Type 0 where
+  pub still : (p : ℕ) → IsWithin from size p → IsChanging story p → ⊥
 
 -- ---- what stores may not write
 

@@ -103,8 +103,8 @@ fn keeps(
     }
 }
 
-/// The lowest rule that is broken at a listed place.
-fn broken_rule(
+/// The lowest rule that a listed instruction breaks (own).
+pub fn broken_rule(
     story: &Story,
     certificate: &Certificate,
     listed: &Instruction<'_, Interval>,

@@ -8,4 +8,4 @@ loop-place-preserved c = none_more c.args.story.now c.args.from c.loop-place.pla
 pub returns : goal.returns
 returns c =
     let end : c.args.from + c.args.size ≤ c.loop-place.place = search (rules, arith) in
-    (λ t p within. c.loop-place.invariant p within.0 (omega (arith, within.1, end)), λ none. search rules)
+    (λ t. record { still = λ p within. c.loop-place.invariant p within.0 (omega (arith, within.1, end)) }, λ none. search rules)

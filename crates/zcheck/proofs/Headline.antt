@@ -1,0 +1,63 @@
+-- A story that is accepted never faults.
+use Rattle.std.proofs.Common.{◌≡◌, ℕ, Bool, true, false, List, [], ◌∷◌, Some, refl, sym, ◌∙◌, ap, subst}
+use Rattle.std.specs.Prelude.{◌==◌, ◌||◌, if◌then◌else◌}
+use Rattle.std.specs.List.{AllZip, list_any}
+use Rattle.zstory.specs.LoadedStory.{LoadedStory}
+use Rattle.zdomain.specs.declared.interval.Interval.{Interval}
+use Rattle.zdomain.specs.Domain.{SetOperations}
+use Rattle.zdomain.specs.Interval.{interval_operations}
+use Rattle.zlist.specs.declared.record.Record.{Record}
+use Rattle.zlist.specs.Listing.{ListedCode, is_listed}
+use Rattle.zcert.specs.Certificate.{Instruction, Certificate}
+use Rattle.zcert.specs.Listed.{listed_at}
+use Rattle.zstate.specs.State.{Scope, opening, scope_all, scope_only}
+use Rattle.zrule.specs.Claims.{Entry, claims_of}
+use Rattle.zrule.specs.Rules.{Supports}
+use Rattle.zrule.specs.Described.{IsListedIn, IsLoadedStory}
+use Rattle.zrule.proofs.Listed.{entry_listed}
+use Rattle.zrule.proofs.Runs.{all_listed, run_safe}
+use Rattle.zrule.proofs.Safety.{opening_described}
+use Rattle.zcheck.specs.declared.refusal.StoryRule.TheVariants as rules
+use Rattle.zcheck.specs.Acceptance.{IsRecordOf, IsListingOf, RunsWithoutFault, NeverFaults}
+use Rattle.zcheck.specs.Passes.{Passes}
+
+module _ {V : Type 0} (o : SetOperations V) (story : LoadedStory) (c : Certificate V) where
+  -- a certificate that passes supports its story
+  pub supports_where : Passes o story c → Supports o (claims_of o c) story
+  supports_where passes = record {
+    first = passes.story_rules rules.FirstPlace;
+    values = passes.story_rules rules.FirstGlobals;
+    abbreviations = passes.story_rules rules.Abbreviations;
+    tables = passes.story_rules rules.Tables;
+    each = passes.each;
+  }
+
+  or_here : (b : Bool) → (true || b) ≡ true
+  or_here b = refl
+
+  -- its listing has what it lists
+  record_there : (is : List (Instruction V)) (rs : List Record) → AllZip (IsRecordOf story) is rs → (p : ℕ) (i : Instruction V) → listed_at is p ≡ Some i → list_any (λ r. r.address == p) rs ≡ true
+  record_there [] rs z p i e = absurd cc
+  record_there (j ∷ is) [] z p i e = absurd z
+  record_there (j ∷ is) (r ∷ rs) z p i e = by_test (record_there is rs z.1 p i) (j.address == p) refl e
+    where
+      same : (r.address == p) ≡ (j.address == p)
+      same = ap (λ a. a == p) z.0.address
+
+      by_test : (listed_at is p ≡ Some i → list_any (λ s. s.address == p) rs ≡ true) → (b : Bool) → (j.address == p) ≡ b → (if b then Some j else listed_at is p) ≡ Some i → ((r.address == p) || list_any (λ s. s.address == p) rs) ≡ true
+      by_test rest true h f = ap (λ b. b || list_any (λ s. s.address == p) rs) (same ∙ h)
+      by_test rest false h f = ap (λ b. b || list_any (λ s. s.address == p) rs) (same ∙ h) ∙ rest f
+
+  pub lists_where : (listing : ListedCode) → IsListingOf story c listing → IsListedIn o (claims_of o c) (scope_only listing)
+  lists_where listing lists p e claimed =
+      let listed = entry_listed (listed_at c.instructions p) e claimed in
+      record_there c.instructions listing.records lists.records p listed.0 listed.1
+
+  safe_in : IsLoadedStory story → Passes o story c → (scope : Scope) → IsListedIn o (claims_of o c) scope → RunsWithoutFault story scope
+  safe_in loaded passes scope listed events n =
+      let supports = supports_where passes in
+      (run_safe o (claims_of o c) (record { story = story; scope = scope }) loaded supports listed events n (opening story) (opening_described o (claims_of o c) story supports)).0
+
+  pub never_faults : (listing : ListedCode) → IsLoadedStory story → Passes o story c → IsListingOf story c listing → RunsWithoutFault story (scope_only listing) × RunsWithoutFault story (scope_all story)
+  never_faults listing loaded passes lists =
+      (safe_in loaded passes (scope_only listing) (lists_where listing lists), safe_in loaded passes (scope_all story) (all_listed o (claims_of o c) story (supports_where passes)))

@@ -1,0 +1,6 @@
+mod Apart
+mod Order
+mod First
+mod Places
+mod Lists
+pub mod Headline

@@ -1,0 +1,5 @@
+use Rattle.std.proofs.Common.{◌≡◌, map, take}
+use Rattle.zcheck.proofs.listing.routines_of.Given as goal
+
+abbrev pub invariant-loop-routine : goal.invariant-loop-routine
+invariant-loop-routine l = l.routines.items ≡ map (λ r. r.address) (take l.routine-index l.certificate.routines)

@@ -1,0 +1,46 @@
+-- What is known of a story with a certificate that passes (own).
+use Rattle.std.specs.Prelude.{◌≡◌, ℕ, List, map, drop, Ok}
+use Rattle.std.specs.List.{AllZip}
+use Rattle.zstory.specs.LoadedStory.{LoadedStory}
+use Rattle.zcode.specs.Reading.{instruction_at}
+use Rattle.zfault.specs.declared.event.Event.{Event}
+use Rattle.zlist.specs.declared.record.Record.{Record}
+use Rattle.zlist.specs.Listing.{ListedCode}
+use Rattle.zcert.specs.Certificate.{Instruction, Certificate}
+use Rattle.zdomain.specs.declared.interval.Interval.{Interval}
+use Rattle.zstate.specs.State.{Scope, opening, scope_all, scope_only}
+use Rattle.zstate.specs.Run.{run}
+use Rattle.zrule.specs.Described.{IsNoFault}
+
+-- a story, its certificate, and the certificate's listing
+pub record Acceptance : Type 0 where
+  pub story : LoadedStory
+  pub certificate : Certificate Interval
+  pub listing : ListedCode
+
+-- a record is of the listed instruction, as the story spells it
+pub record IsRecordOf {V : Type 0} (story : LoadedStory) (i : Instruction V) (r : Record) : Type 0 where
+  pub address : r.address ≡ i.address
+  pub routine : r.routine ≡ i.routine
+  pub instruction : instruction_at (drop i.address story.memory) ≡ Ok r.instruction
+
+module _ {V : Type 0} where
+  abbrev pub AreRecords : LoadedStory → Certificate V → List Record → Type 0
+  AreRecords story c records = AllZip (IsRecordOf story) c.instructions records
+
+  abbrev pub AreRoutines : Certificate V → List ℕ → Type 0
+  AreRoutines c routines = routines ≡ map (λ r. r.address) c.routines
+
+  -- the listing has just the instructions and routines of the certificate
+  pub record IsListingOf (story : LoadedStory) (c : Certificate V) (listing : ListedCode) : Type 0 where
+    pub records : AreRecords story c listing.records
+    pub routines : AreRoutines c listing.routines
+
+-- no run of the story meets a fault in the scope, whatever the events and however many the steps
+abbrev pub RunsWithoutFault : LoadedStory → Scope → Type 0
+RunsWithoutFault story scope = (events : List Event) (n : ℕ) → IsNoFault (run (record { story = story; scope = scope }) events n (opening story)).stop
+
+-- with the certificate's listing as with every place of the story
+pub record NeverFaults (a : Acceptance) : Type 0 where
+  pub listed : RunsWithoutFault a.story (scope_only a.listing)
+  pub everywhere : RunsWithoutFault a.story (scope_all a.story)

@@ -1,0 +1,71 @@
+//! Stories that are accepted with a certificate.
+
+ghost use Rattle.std.specs.Prelude.{◌≡◌};
+ghost use Rattle.zdomain.specs.Interval.{interval_operations};
+ghost use Rattle.zcheck.specs.Acceptance.{IsListingOf};
+ghost use Rattle.zcheck.specs.Passes.{Passes};
+
+use std::marker::Model;
+use zcert::Certificate;
+use zlist::Listing;
+use zstory::Story;
+
+/// A story with a certificate that passes, and the certificate's listing. Contracts see it as an `Acceptance`.
+#[derive(Drop)]
+pub struct Accepted {
+    story: Story,
+    certificate: Certificate,
+    listing: Listing,
+}
+
+impl Model for Accepted {
+    ghost use Rattle.zdomain.specs.Interval.{interval_operations};
+    ghost use Rattle.zcheck.specs.Acceptance.{Acceptance, IsListingOf};
+    ghost use Rattle.zcheck.specs.Passes.{Passes};
+
+    ghost Value = { Acceptance };
+
+    ghost view = { λ a. record { story = a.story; certificate = a.certificate; listing = a.listing } };
+
+    ghost invariant = { λ a. Passes interval_operations a.story a.certificate × IsListingOf a.story a.certificate a.listing };
+}
+
+impl Accepted {
+    /// These parts, which belong together.
+    pub(crate) fn new(story: Story, certificate: Certificate, listing: Listing) -> Accepted
+        requires passes { Passes interval_operations story certificate }
+        requires lists { IsListingOf story certificate listing }
+        ensures { result ≡ record { story = story; certificate = certificate; listing = listing } }
+    {
+        Accepted {
+            story,
+            certificate,
+            listing,
+        }
+    }
+
+    /// The story.
+    pub fn story(&self) -> &Story
+        ensures value { result.now ≡ self.now.story }
+        ensures passes { Passes interval_operations self.now.story self.now.certificate }
+    {
+        &self.story
+    }
+
+    /// Its certificate.
+    pub fn certificate(&self) -> &Certificate
+        ensures value { result.now ≡ self.now.certificate }
+        ensures passes { Passes interval_operations self.now.story self.now.certificate }
+    {
+        &self.certificate
+    }
+
+    /// The instructions and routines that the certificate lists, the instructions as the story spells them.
+    pub fn listing(&self) -> &Listing
+        ensures value { result.now ≡ self.now.listing }
+        ensures lists { IsListingOf self.now.story self.now.certificate self.now.listing }
+        ensures passes { Passes interval_operations self.now.story self.now.certificate }
+    {
+        &self.listing
+    }
+}

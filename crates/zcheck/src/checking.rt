@@ -1,0 +1,46 @@
+//! The checker.
+
+ghost use Rattle.std.specs.Prelude.{◌≡◌, IfOk, IfErr};
+ghost use Rattle.zdomain.specs.Interval.{interval_operations};
+ghost use Rattle.zrule.specs.Described.{IsLoadedStory};
+ghost use Rattle.zcheck.specs.Acceptance.{IsListingOf, NeverFaults};
+ghost use Rattle.zcheck.specs.Passes.{IsRefused, Passes};
+
+use crate::accepted::Accepted;
+use crate::examining::examine;
+use crate::listing::listing_of;
+use crate::refusal::Refusal;
+use std::alloc::Global;
+use zcert::Certificate;
+use zstory::Story;
+
+/// Accepts a story with a certificate that passes, and else says what is wrong first (own).
+///
+/// Whatever is typed, drawn or answered, and however long it is played, a story that is accepted meets no fault. Both
+/// are taken over; a refusal hands nothing back.
+pub fn check(
+    alloc: Global,
+    story: Story,
+    certificate: Certificate,
+) -> Result<Accepted, Refusal>
+    ensures story { IfOk result (λ a. a.story ≡ story) }
+    ensures certificate { IfOk result (λ a. a.certificate ≡ certificate) }
+    ensures lists { IfOk result (λ a. IsListingOf story certificate a.listing) }
+    ensures passes { IfOk result (λ a. Passes interval_operations story certificate) }
+    ensures refused { IfErr result (IsRefused interval_operations story certificate) }
+    ensures never_faults { IfOk result NeverFaults }
+{
+    if let Some(refusal) = examine(&story, &certificate) {
+        return Err(refusal);
+    }
+    let listing = listing_of(alloc, &story, &certificate)?;
+    loaded_soundly(&story);
+    Ok(Accepted::new(story, certificate, listing))
+}
+
+/// Every loaded story is sound.
+fn loaded_soundly(story: &Story)
+    ensures { IsLoadedStory story.now }
+{
+    let _memory = story.memory();
+}

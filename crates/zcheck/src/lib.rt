@@ -1,0 +1,15 @@
+//! The checker of certificates.
+#![tactic(auto)]
+
+mod accepted;
+mod checking;
+mod examining;
+mod listing;
+mod refusal;
+mod story_rules;
+mod tables;
+
+pub use accepted::Accepted;
+pub use checking::check;
+pub use examining::examine;
+pub use refusal::{Refusal, StoryRule};

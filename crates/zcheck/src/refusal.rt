@@ -1,0 +1,64 @@
+//! Why a certificate isn't accepted.
+
+ghost use Rattle.std.specs.Prelude.{◌≡◌};
+ghost use Rattle.zcheck.specs.declared.refusal.Refusal.TheVariants.{OutOfMemory};
+
+use std::alloc::AllocError;
+use thiserror::Error;
+use zrule::Rule;
+
+/// A rule on the story and its tables (own). The first that is named here has the lowest number.
+#[derive(Clone, Copy, Debug, PartialEq, Eq)]
+pub enum StoryRule {
+    /// S1: release, serial, checksum and length are the story's.
+    Identity,
+    /// S2: the first place is listed, in the main code, with an empty stack.
+    FirstPlace,
+    /// S4: the loaded value of each global lies in its set.
+    FirstGlobals,
+    /// S7: the 96 abbreviations are whole in memory, none uses another, and no instruction changes a byte of them.
+    Abbreviations,
+    /// S8: the globals and the object table share no byte, and what is frozen lies in dynamic memory behind the header,
+    /// where no instruction changes it.
+    Tables,
+}
+
+impl StoryRule {
+    ghost use Rattle.zcheck.specs.Numbers.{number_of};
+
+    /// The number after the `S` of its code.
+    pub fn number(self) -> u8
+        ensures { result ≡ number_of self }
+    {
+        match self {
+            StoryRule::Identity => 1,
+            StoryRule::FirstPlace => 2,
+            StoryRule::FirstGlobals => 4,
+            StoryRule::Abbreviations => 7,
+            StoryRule::Tables => 8,
+        }
+    }
+}
+
+/// What is wrong first with a certificate: the lowest rule on the story that is broken, or else the lowest address at
+/// which a rule is, with the lowest of them there.
+#[derive(Clone, Copy, Debug, PartialEq, Eq, Error)]
+pub enum Refusal {
+    /// The story breaks a rule.
+    #[error("the certificate doesn't hold of the story")]
+    Story(StoryRule),
+    /// The instruction at an address breaks a rule.
+    #[error("the certificate doesn't hold of an instruction")]
+    Instruction(u32, Rule),
+    /// A growth was refused.
+    #[error("out of memory")]
+    OutOfMemory,
+}
+
+impl From<AllocError> for Refusal {
+    ghost from_gives = { λ _ refusal. refusal ≡ OutOfMemory };
+
+    fn from(_: AllocError) -> Refusal {
+        Refusal::OutOfMemory
+    }
+}

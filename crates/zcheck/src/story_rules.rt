@@ -1,0 +1,74 @@
+//! The rules on a story and its tables.
+
+ghost use Rattle.std.specs.Prelude.{◌≡◌, ◌↔◌, [], IsTrue, MatchOption};
+ghost use Rattle.zstory.specs.LoadedStory.{first_instruction};
+ghost use Rattle.zdomain.specs.Interval.{interval_operations};
+ghost use Rattle.zrule.specs.Claims.{claims_of};
+ghost use Rattle.zrule.specs.Rules.{HasFirstPlace};
+ghost use Rattle.zcheck.specs.declared.refusal.StoryRule.{StoryRule as ARule};
+ghost use Rattle.zcheck.specs.Passes.{KeepsStory, IsLowestStoryRule};
+
+use crate::refusal::StoryRule;
+use crate::tables::{has_abbreviations, has_disjoint_tables, has_globals};
+use zcert::{Certificate, Instruction};
+use zdomain::Interval;
+use zstory::Story;
+
+/// The rules by their numbers.
+const RULES: [StoryRule; 5] = [
+    StoryRule::Identity,
+    StoryRule::FirstPlace,
+    StoryRule::FirstGlobals,
+    StoryRule::Abbreviations,
+    StoryRule::Tables,
+];
+
+/// The lowest rule that the story breaks.
+pub(crate) fn broken_story_rule(story: &Story, certificate: &Certificate) -> Option<StoryRule>
+    ensures { MatchOption result ((rule : ARule) → KeepsStory interval_operations story.now certificate.now rule) (IsLowestStoryRule interval_operations story.now certificate.now) }
+{
+    for rule in RULES {
+        if !keeps(story, certificate, rule) {
+            return Some(rule);
+        }
+    }
+    None
+}
+
+/// Whether the story keeps a rule.
+fn keeps(story: &Story, certificate: &Certificate, rule: StoryRule) -> bool
+    ensures { IsTrue result ↔ KeepsStory interval_operations story.now certificate.now rule }
+{
+    match rule {
+        StoryRule::Identity => certificate.identity() == story.identity(),
+        StoryRule::FirstPlace => has_first_place(story, certificate),
+        StoryRule::FirstGlobals => has_globals(story, certificate),
+        StoryRule::Abbreviations => has_abbreviations(story),
+        StoryRule::Tables => has_disjoint_tables(story, certificate),
+    }
+}
+
+/// Whether the first place is listed as the main code begins.
+fn has_first_place(story: &Story, certificate: &Certificate) -> bool
+    ensures { IsTrue result ↔ HasFirstPlace interval_operations (claims_of interval_operations certificate.now) story.now }
+{
+    match certificate.instruction_at(first_place(story)) {
+        Some(first) => is_bare(&first),
+        None => false,
+    }
+}
+
+/// The address of the first instruction.
+fn first_place(story: &Story) -> u32
+    ensures { result ≡ first_instruction story.now }
+{
+    let _end = story.length(); // below which it lies, at most 131,072
+    story.first_instruction() as u32
+}
+
+/// Whether an instruction is in the main code, with no local and an empty stack.
+fn is_bare(listed: &Instruction<'_, Interval>) -> bool
+    ensures { IsTrue result ↔ ((listed.now.routine ≡ 0) × (listed.now.locals.now ≡ []) × (listed.now.slots.now ≡ [])) }
+{
+    listed.routine == 0 && listed.locals.is_empty() && listed.slots.is_empty()
+}
