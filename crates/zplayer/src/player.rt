@@ -36,7 +36,7 @@ pub fn play_checked<R: Source, W: Sink, S: SaveStore, G: Words>(
     ensures ends { IfOk result (λ end. end ≡ end_of (run (setting machine.old) [] options.budget machine.old.state).stop) }
     ensures state { OnOk result (machine.new.state ≡ (run (setting machine.old) [] options.budget machine.old.state).state) }
     ensures written { OnOk result (Appends (W.contents writer.old) (W.contents writer.new) (render (run (setting machine.old) [] options.budget machine.old.state).items)) }
-    ensures quiet { OnOk result (W.failures writer.new ≡ W.failures writer.old) }
+    ensures quiet { ¬ IsErrOf result PlayError.Write → W.failures writer.new ≡ W.failures writer.old }
     ensures no_read { ¬ IsErrOf result PlayError.Read }
     ensures begun { IsErrOf result PlayError.Write → AppendsBeginning (W.contents writer.old) (W.contents writer.new) (render (run (setting machine.old) [] options.budget machine.old.state).items) }
     ensures blamed { IsErrOf result PlayError.Write → HasRisen (W.failures writer.old) (W.failures writer.new) }
@@ -74,7 +74,7 @@ fn turn<W: Sink>(
     ensures stands { IfOk result (λ still. IfSome still (λ stop. Stands (setting machine.old) stop machine.new.state × (stop ≡ Stop.Paused Pause.Budget → left.new ≡ 0))) }
     ensures fewer { result ≡ Ok None → left.new < left.old }
     ensures ok { OnOk result (Plays (setting machine.old) left.old left.new machine.old.state machine.new.state (W.contents writer.old) (W.contents writer.new)) }
-    ensures quiet { OnOk result (W.failures writer.new ≡ W.failures writer.old) }
+    ensures quiet { ¬ IsErrOf result PlayError.Write → W.failures writer.new ≡ W.failures writer.old }
     ensures no_read { ¬ IsErrOf result PlayError.Read }
     ensures begun { IsErrOf result PlayError.Write → AppendsBeginning (W.contents writer.old) (W.contents writer.new) (render (run (setting machine.old) [] left.old machine.old.state).items) }
     ensures blamed { IsErrOf result PlayError.Write → HasRisen (W.failures writer.old) (W.failures writer.new) }

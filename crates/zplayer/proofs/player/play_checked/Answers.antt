@@ -22,7 +22,7 @@ turns-preserved g c =
     record {
       play = record { story = c.in_ok-stop.ensures.play.story ∙ so_far.play.story; scope = c.in_ok-stop.ensures.play.scope ∙ so_far.play.scope };
       so_far = goes_on _ _ _ _ _ _ _ so_far.so_far _ _ _ turn;
-      quiet = c.in_ok-stop.ensures.quiet ∙ so_far.quiet;
+      quiet = c.in_ok-stop.ensures.quiet (λ e. cc) ∙ so_far.quiet;
     }
 
 pub returns-in_err-stop-clause-begun : goal.returns-in_err-stop-clause-begun
