@@ -1,3 +1,6 @@
 mod Matched
 mod Entered
 mod FileLemmas
+mod StoryFiles
+mod PlayLemmas
+mod PerformLemmas

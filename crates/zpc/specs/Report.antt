@@ -1,5 +1,5 @@
 -- What the program says of what a command came to, and its exit status (own).
-use Rattle.std.specs.Prelude.{ℕ, ◌+◌, ◌*◌, ◌/◌, ◌%◌, ◌++◌, List, [], ◌∷◌, ℤ, pos, negsuc, codes, decimal, if◌then◌else◌, nat_lt, slice_index}
+use Rattle.std.specs.Prelude.{Result, Ok, Err, ℕ, ◌+◌, ◌*◌, ◌/◌, ◌%◌, ◌++◌, List, [], ◌∷◌, ℤ, pos, negsuc, codes, decimal, if◌then◌else◌, nat_lt, slice_index}
 use Rattle.std.specs.Fmt.{signed_decimal}
 use Rattle.zfault.specs.Fault.{number_of as fault_number}
 use Rattle.zfault.specs.declared.fault.Fault.{Fault}
@@ -65,6 +65,17 @@ abbrev pub text_of : Outcome → List ℕ
 text_of (Played end) = end_text end
 text_of (Stopped (Refused error)) = codes "refused: L" ++ decimal (refusal_number error)
 text_of (Stopped (Failed failure)) = failure_text failure
+
+-- what comes of playing, or of what kept it from being done
+abbrev pub outcome_of : Result End Problem → Outcome
+outcome_of (Ok end) = Played end
+outcome_of (Err problem) = Stopped problem
+
+-- what is said of arguments that are no text, as clap says it of words: three lines with empty ones between
+abbrev pub no_text : List ℕ
+no_text =
+    codes "error: invalid UTF-8 was detected in one or more arguments" ++ 10 ∷ 10 ∷ codes "Usage: zpc <COMMAND>"
+    ++ 10 ∷ 10 ∷ codes "For more information, try '--help'." ++ 10 ∷ []
 
 -- a text as a line, and none where it is empty
 abbrev pub line_of : List ℕ → List ℕ

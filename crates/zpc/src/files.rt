@@ -1,6 +1,6 @@
 //! The files that commands name.
 
-ghost use Rattle.std.specs.Prelude.{◌≡◌, ◌<◌, ◌≤◌, ◌+◌, ℕ, List, None, Option, IfOk, IfSome, Some, length, take};
+ghost use Rattle.std.specs.Prelude.{◌≡◌, ◌<◌, ◌≤◌, ◌+◌, ℕ, List, None, Option, ◌⊎◌, IfErr, IfOk, IfSome, Some, length, take};
 ghost use Rattle.zpc.specs.Contents.{IsBeginning, ReadsPart};
 
 use crate::outcome::{Failure, Problem};
@@ -57,7 +57,9 @@ pub fn read_file<F: Files>(
     name: &str,
     most: usize,
 ) -> Result<Vec<u8>, Problem>
-    ensures { (bytes : List ℕ) → F.known files.old name.now ≡ Some bytes → IfOk result (λ file. file.items ≡ take most bytes) }
+    ensures read { (bytes : List ℕ) → F.known files.old name.now ≡ Some bytes → IfOk result (λ file. file.items ≡ take most bytes) }
+    ensures failed { IfErr result (λ problem. (problem ≡ Problem.Failed Failure.File) ⊎ (problem ≡ Problem.Failed Failure.Memory)) }
+    ensures kept { F.known files.new ≡ F.known files.old }
 {
     let mut file = vec![in alloc; 0; most]?;
     let length = fill(files, name, &mut file)?;
@@ -69,6 +71,8 @@ pub fn read_file<F: Files>(
 fn fill<F: Files>(files: &mut F, name: &str, buffer: &mut [u8]) -> Result<usize, Problem>
     ensures bound { IfOk result (λ filled. filled ≤ length buffer.new) }
     ensures read { (bytes : List ℕ) → F.known files.old name.now ≡ Some bytes → IfOk result (λ filled. take filled buffer.new ≡ take (length buffer.new) bytes) }
+    ensures failed { IfErr result (λ problem. problem ≡ Problem.Failed Failure.File) }
+    ensures kept { F.known files.new ≡ F.known files.old }
 {
     let mut filled = 0;
     while filled < buffer.len() {
@@ -90,6 +94,7 @@ fn read_more<F: Files>(
 ) -> Result<usize, Problem>
     requires { filled ≤ length buffer.old }
     ensures bound { IfOk result (λ count. filled + count ≤ length buffer.new) }
+    ensures failed { IfErr result (λ problem. problem ≡ Problem.Failed Failure.File) }
     ensures kept { F.known files.new ≡ F.known files.old }
     ensures more { (bytes : List ℕ) → F.known files.old name.now ≡ Some bytes → IsBeginning filled buffer.old bytes → IfOk result (λ count. IsBeginning (filled + count) buffer.new bytes) }
     ensures ends { (bytes : List ℕ) → F.known files.old name.now ≡ Some bytes → filled < length buffer.old → IfOk result (λ count. count ≡ 0 → length bytes ≤ filled) }

@@ -1,9 +1,14 @@
 //! Doing what the words ask for.
 
-ghost use Rattle.std.specs.Prelude.{◌≡◌, ◌⊎◌};
-ghost use Rattle.std.specs.Io.KnownBytes.{Appends};
+ghost use Rattle.std.specs.Prelude.{◌≡◌, ◌≢◌, [], ℕ, List, Err, IfErr, IfOk, Some};
+ghost use Rattle.clap.specs.Kinds.{HasKind, Kinds};
+ghost use Rattle.clap.specs.Walk.{texts};
+ghost use Rattle.clap.specs.Words.{fault_of};
 ghost use Rattle.zfault.specs.Devices.{HasRisen};
-ghost use Rattle.zpc.specs.Report.{line_of, status_of, text_of};
+ghost use Rattle.zpc.specs.CommandLine.{zpc_app};
+ghost use Rattle.zpc.specs.Performing.{Does, Explains, Performs, Says, seen, sinks};
+ghost use Rattle.zpc.specs.Playing.{ComesTo, Holds, IsUnloaded};
+ghost use Rattle.zpc.specs.Report.{failure_text, line_of, no_text, outcome_of, status_of, text_of};
 
 use crate::files::{Files, read_file};
 use crate::message::Message;
@@ -43,14 +48,35 @@ pub fn perform<F: Files, R: Source, W: Sink, E: Sink>(
     reader: &mut R,
     writer: &mut W,
     errors: &mut E,
-) -> u8 {
-    let outcome = match read_words(alloc, words) {
-        Ok(Command::Play { story, budget }) => {
+) -> u8
+    ensures performs { fault_of zpc_app (texts words.entry.now) ≡ [] → Performs (texts words.entry.now) (F.known files.old) result (sinks (seen (W.contents writer.old) (W.failures writer.old)) (seen (E.contents errors.old) (E.failures errors.old))) (sinks (seen (W.contents writer.new) (W.failures writer.new)) (seen (E.contents errors.new) (E.failures errors.new))) }
+    ensures explains { fault_of zpc_app (texts words.entry.now) ≢ [] → Explains (fault_of zpc_app (texts words.entry.now)) result (sinks (seen (W.contents writer.old) (W.failures writer.old)) (seen (E.contents errors.old) (E.failures errors.old))) (sinks (seen (W.contents writer.new) (W.failures writer.new)) (seen (E.contents errors.new) (E.failures errors.new))) }
+    ensures kept { F.known files.new ≡ F.known files.old }
+{
+    match read_words(alloc, words) {
+        Ok(command) => report(&carry_out(alloc, command, files, reader, writer), errors),
+        Err(error) => explain(alloc, &error, writer, errors),
+    }
+}
+
+/// Does what a command asks for.
+fn carry_out<F: Files, R: Source, W: Sink>(
+    alloc: Global,
+    command: Command<'_>,
+    files: &mut F,
+    reader: &mut R,
+    writer: &mut W,
+) -> Outcome
+    ensures comes { Does command.entry (F.known files.old) (W.contents writer.old) (W.contents writer.new) result }
+    ensures blamed { result ≡ Outcome.Stopped (Problem.Failed Failure.Write) → HasRisen (W.failures writer.old) (W.failures writer.new) }
+    ensures quiet { result ≢ Outcome.Stopped (Problem.Failed Failure.Write) → W.failures writer.new ≡ W.failures writer.old }
+    ensures kept { F.known files.new ≡ F.known files.old }
+{
+    match command {
+        Command::Play { story, budget } => {
             outcome_of(play(alloc, story, budget, files, reader, writer))
         }
-        Err(error) => return explain(alloc, &error, writer, errors),
-    };
-    report(&outcome, errors)
+    }
 }
 
 /// Plays a story from its file.
@@ -61,11 +87,38 @@ fn play<F: Files, R: Source, W: Sink>(
     files: &mut F,
     reader: &mut R,
     writer: &mut W,
-) -> Result<End, Problem> {
+) -> Result<End, Problem>
+    ensures comes { ComesTo (F.known files.old name.now) budget (W.contents writer.old) (W.contents writer.new) (outcome_of result) }
+    ensures blamed { result ≡ Err (Problem.Failed Failure.Write) → HasRisen (W.failures writer.old) (W.failures writer.new) }
+    ensures quiet { result ≢ Err (Problem.Failed Failure.Write) → W.failures writer.new ≡ W.failures writer.old }
+    ensures kept { F.known files.new ≡ F.known files.old }
+{
     let file = read_file(alloc, files, name, STORY_LIMIT)?;
-    let story = Story::load(alloc, &file)?;
-    drop(file);
-    let mut machine = CheckedMachine::new(alloc, &story, Scope::All)?;
+    let story = load(alloc, file)?;
+    play_story(alloc, &story, budget, reader, writer)
+}
+
+/// Loads a story, and frees the bytes of its file.
+fn load(alloc: Global, file: Vec<u8>) -> Result<Story, Problem>
+    ensures loaded { IfOk result (Holds file.items) }
+    ensures unloaded { IfErr result (IsUnloaded file.items) }
+{
+    Ok(Story::load(alloc, &file)?)
+}
+
+/// Plays a story from its opening.
+fn play_story<R: Source, W: Sink>(
+    alloc: Global,
+    story: &Story,
+    budget: u32,
+    reader: &mut R,
+    writer: &mut W,
+) -> Result<End, Problem>
+    ensures comes { (file : List ℕ) → Holds file story.now → ComesTo (Some file) budget (W.contents writer.old) (W.contents writer.new) (outcome_of result) }
+    ensures blamed { result ≡ Err (Problem.Failed Failure.Write) → HasRisen (W.failures writer.old) (W.failures writer.new) }
+    ensures quiet { result ≢ Err (Problem.Failed Failure.Write) → W.failures writer.new ≡ W.failures writer.old }
+{
+    let mut machine = CheckedMachine::new(alloc, story, Scope::All)?;
     let options = Options {
         budget,
         status: false,
@@ -79,11 +132,15 @@ fn play<F: Files, R: Source, W: Sink>(
         &mut Zeros,
         options,
     )?;
-    writer.flush().map_err(|_| Problem::Failed(Failure::Write))?;
-    Ok(end)
+    match writer.flush() {
+        Ok(()) => Ok(end),
+        Err(_) => Err(Problem::Failed(Failure::Write)),
+    }
 }
 
-fn outcome_of(played: Result<End, Problem>) -> Outcome {
+fn outcome_of(played: Result<End, Problem>) -> Outcome
+    ensures { result ≡ outcome_of played }
+{
     match played {
         Ok(end) => Outcome::Played(end),
         Err(problem) => Outcome::Stopped(problem),
@@ -93,14 +150,23 @@ fn outcome_of(played: Result<End, Problem>) -> Outcome {
 /// Says what a command came to, and answers the exit status.
 pub fn report<E: Sink>(outcome: &Outcome, errors: &mut E) -> u8
     ensures status { result ≡ status_of outcome.now }
-    ensures said { Appends (E.contents errors.old) (E.contents errors.new) (line_of (text_of outcome.now)) ⊎ HasRisen (E.failures errors.old) (E.failures errors.new) }
+    ensures said { Says (seen (E.contents errors.old) (E.failures errors.old)) (seen (E.contents errors.new) (E.failures errors.new)) (line_of (text_of outcome.now)) }
 {
-    let _ = write_whole(errors, Message::of(outcome).as_slice());
+    say(Message::of(outcome).as_slice(), errors);
     outcome.status()
 }
 
+/// Writes a text, where a failure is ignored.
+fn say<E: Sink>(text: &[u8], errors: &mut E)
+    ensures { Says (seen (E.contents errors.old) (E.failures errors.old)) (seen (E.contents errors.new) (E.failures errors.new)) text.now }
+{
+    let _ = write_whole(errors, text);
+}
+
 /// Writes clap's answer to words that name no command: to the writer where they ask for help or for the version.
-fn explain<W: Sink, E: Sink>(alloc: Global, error: &Error, writer: &mut W, errors: &mut E) -> u8 {
+fn explain<W: Sink, E: Sink>(alloc: Global, error: &Error, writer: &mut W, errors: &mut E) -> u8
+    ensures { (kinds : Kinds) → HasKind kinds error.now → Explains kinds result (sinks (seen (W.contents writer.old) (W.failures writer.old)) (seen (E.contents errors.old) (E.failures errors.old))) (sinks (seen (W.contents writer.new) (W.failures writer.new)) (seen (E.contents errors.new) (E.failures errors.new))) }
+{
     if error.kind() == ErrorKind::OutOfMemory {
         return fail(Failure::Memory, errors);
     }
@@ -108,7 +174,7 @@ fn explain<W: Sink, E: Sink>(alloc: Global, error: &Error, writer: &mut W, error
         return fail(Failure::Memory, errors);
     };
     if error.use_stderr() {
-        let _ = write_whole(errors, text.as_bytes());
+        say(text.as_bytes(), errors);
         return USAGE;
     }
     match write_whole(writer, text.as_bytes()) {
@@ -118,12 +184,18 @@ fn explain<W: Sink, E: Sink>(alloc: Global, error: &Error, writer: &mut W, error
 }
 
 /// Says that an argument is no text, and so no word, and answers the exit status.
-pub fn refuse_bytes<E: Sink>(errors: &mut E) -> u8 {
-    let _ = write_whole(errors, NO_TEXT);
+pub fn refuse_bytes<E: Sink>(errors: &mut E) -> u8
+    ensures status { result ≡ 2 }
+    ensures said { Says (seen (E.contents errors.old) (E.failures errors.old)) (seen (E.contents errors.new) (E.failures errors.new)) no_text }
+{
+    say(NO_TEXT, errors);
     USAGE
 }
 
 /// Says what failed, and answers the exit status.
-pub fn fail<E: Sink>(failure: Failure, errors: &mut E) -> u8 {
+pub fn fail<E: Sink>(failure: Failure, errors: &mut E) -> u8
+    ensures status { result ≡ 4 }
+    ensures said { Says (seen (E.contents errors.old) (E.failures errors.old)) (seen (E.contents errors.new) (E.failures errors.new)) (line_of (failure_text failure)) }
+{
     report(&Outcome::Stopped(Problem::Failed(failure)), errors)
 }

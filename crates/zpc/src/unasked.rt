@@ -1,5 +1,7 @@
 //! What the player of a story is handed and no opcode of this build asks for.
 
+ghost use Rattle.std.specs.Prelude.{◌≡◌};
+
 use zplayer::{SaveStore, Words};
 
 /// A store in which no save can be kept: each call fails.
@@ -10,7 +12,9 @@ pub struct NoSaves {
 
 impl NoSaves {
     /// The store, with no failure yet.
-    pub fn new() -> NoSaves {
+    pub fn new() -> NoSaves
+        ensures { result.failures ≡ 0 }
+    {
         NoSaves { failures: 0 }
     }
 }
