@@ -1,5 +1,5 @@
 -- Reading a file in pieces.
-use Rattle.std.proofs.Common.{◌≡◌, ◌∙◌, ◌+◌, ◌-◌, ◌≤◌, ℕ, List, ◌++◌, length, take, drop, sym, ap, ap₂, arith}
+use Rattle.std.proofs.Common.{◌≡◌, ◌∙◌, ◌+◌, ◌≤◌, ℕ, List, ◌++◌, length, take, sym, ap, ap₂, arith}
 use Rattle.std.proofs.lemmas.List.{drop_at, length-take-le, take-take, take_at}
 use Rattle.std.proofs.lemmas.Slice.{take-put_mid}
 use Rattle.std.proofs.Math.Seq.{take-add}

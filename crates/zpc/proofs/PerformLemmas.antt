@@ -1,19 +1,15 @@
 -- What the words come to.
-use Rattle.std.proofs.Common.{◌≡◌, ◌≢◌, ◌⊎◌, inl, inr, ◌∙◌, ℕ, List, [], Option, Some, None, Result, Ok, Err, refl, sym, ap, ap₂, subst, codes, IsSomeAnd}
-use Rattle.std.specs.Borrow.{Bor}
-use Rattle.clap.specs.Kinds.{HasKind, IsAmong, Kinds}
+use Rattle.std.proofs.Common.{◌≡◌, ◌≢◌, inl, inr, ◌∙◌, ℕ, List, [], Option, Some, None, refl, ap, subst, IsSomeAnd}
+use Rattle.clap.specs.Kinds.{IsAmong, Kinds}
 use Rattle.clap.specs.Words.{Row, Text, fault_of, subcommand_of}
 use Rattle.zfault.specs.Devices.{HasRisen}
-use Rattle.zplayer.specs.declared.end.End.{End}
-use Rattle.zpc.specs.CommandLine.{IsReadFrom, budget_of, story_of, zpc_app}
+use Rattle.zpc.specs.CommandLine.{IsReadFrom, story_of, zpc_app}
 use Rattle.zpc.specs.Performing.{Does, Explains, Lacks, Performs, Reports, Seen, Sinks}
 use Rattle.zpc.specs.Playing.{ComesTo}
-use Rattle.zpc.specs.Report.{outcome_of}
 use Rattle.zpc.specs.declared.outcome.Failure.TheVariants.{Write, Memory}
-use Rattle.zpc.specs.declared.outcome.Problem.{Problem}
 use Rattle.zpc.specs.declared.outcome.Problem.TheVariants.{Failed}
 use Rattle.zpc.specs.declared.outcome.Outcome.{Outcome}
-use Rattle.zpc.specs.declared.outcome.Outcome.TheVariants.{Played, Stopped}
+use Rattle.zpc.specs.declared.outcome.Outcome.TheVariants.{Stopped}
 use Rattle.zpc.specs.declared.words.Command.{Command}
 use Rattle.zpc.specs.declared.words.Command.TheVariants as commands
 use Rattle.zpc.proofs.Entered.{play_entered}
@@ -53,7 +49,7 @@ module _ (words : List Text) (known : List ℕ → Option (List ℕ)) (status : 
         asked = e ∙ ap (λ (n : Text). Some (n, rows)) named;
         outcome = outcome;
         comes = subst (λ (n : ℕ). ComesTo (known (story_of rows)) n old.writer.contents new.writer.contents outcome) most
-        (subst (λ (t : Text). ComesTo (known t) budget old.writer.contents new.writer.contents outcome) told comes);
+            (subst (λ (t : Text). ComesTo (known t) budget old.writer.contents new.writer.contents outcome) told comes);
         blamed = blamed;
         quiet = quiet;
         reported = reported;

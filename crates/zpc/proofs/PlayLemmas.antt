@@ -17,7 +17,6 @@ use Rattle.zplayer.specs.declared.end.PlayError.{PlayError}
 use Rattle.zplayer.specs.declared.end.PlayError.TheVariants as errors
 use Rattle.zplayer.specs.Playing.{PlaysSome, end_of}
 use Rattle.zplayer.specs.Rendering.{render}
-use Rattle.zpc.specs.declared.outcome.Failure.{Failure}
 use Rattle.zpc.specs.declared.outcome.Failure.TheVariants.{File, Read, Write, Memory}
 use Rattle.zpc.specs.declared.outcome.Problem.{Problem}
 use Rattle.zpc.specs.declared.outcome.Problem.TheVariants.{Refused, Failed}

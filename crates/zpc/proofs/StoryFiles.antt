@@ -1,8 +1,8 @@
 -- What holds of the part of a file that is read holds of the file: what is left out is only what is too long.
-use Rattle.std.proofs.Common.{◌≡◌, ℕ, ◌<◌, ◌≤◌, Bool, true, false, nat_lt, List, length, take, refl, sym, subst, ◌∙◌, ap, ltb-true, ltb-false, arith, Option, Some, None, ◌⊎◌, inl, inr}
+use Rattle.std.proofs.Common.{◌≡◌, ℕ, ◌<◌, ◌≤◌, Bool, true, false, nat_lt, List, length, take, refl, subst, ◌∙◌, ap, ltb-true, ltb-false, arith, Option, Some, None, ◌⊎◌, inl, inr}
 use Rattle.std.proofs.lemmas.List.{take_all, length-take-le}
 use Rattle.zstory.specs.LoadedStory.{LoadedStory}
-use Rattle.zstory.specs.Refusal.{HasNone, IsCause, IsLowest, NoneBelow, number_of}
+use Rattle.zstory.specs.Refusal.{IsCause, IsLowest, NoneBelow}
 use Rattle.zstory.specs.declared.load_error.LoadError.{LoadError}
 use Rattle.zstory.specs.declared.load_error.LoadError.TheVariants.{TooShort, TooLong, NotVersion3, LengthWord, StaticBase, Globals, Objects, Dictionary, EntryLength, DictionaryOrder, FirstInstruction, OutOfMemory}
 use Rattle.zpc.specs.Playing.{Holds, IsRefused, Reads}

@@ -1,6 +1,6 @@
 -- The command line: which words the program takes, in the terms of clap's definitions, and what the matches that clap
 -- makes of them ask for (own).
-use Rattle.std.specs.Prelude.{◌≡◌, ℕ, ◌<◌, ◌^◌, ◌&&◌, Bool, true, List, [], ◌∷◌, Option, Some, length, codes, if◌then◌else◌, nat_lt, pos, unwrap_or}
+use Rattle.std.specs.Prelude.{◌≡◌, ℕ, ◌^◌, ◌&&◌, true, List, [], ◌∷◌, Some, length, codes, if◌then◌else◌, nat_lt, pos, unwrap_or}
 use Rattle.std.specs.List.{list_all}
 use Rattle.std.specs.Option.{option_map_or}
 use Rattle.std.specs.Char.{digit_value}

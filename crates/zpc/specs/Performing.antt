@@ -21,8 +21,8 @@ pub record Seen : Type 0 where
   pub contents : Option (List ℕ)
   pub failures : ℕ
 
-abbrev pub seen : Option (List ℕ) → ℕ → Seen
-seen contents failures = record { contents = contents; failures = failures }
+abbrev pub seen : {Sink : Type 0} → (Sink → Option (List ℕ)) → (Sink → ℕ) → Sink → Seen
+seen contents failures sink = record { contents = contents sink; failures = failures sink }
 
 -- the writer, and the errors
 pub record Sinks : Type 0 where

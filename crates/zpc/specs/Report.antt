@@ -1,8 +1,7 @@
 -- What the program says of what a command came to, and its exit status (own).
-use Rattle.std.specs.Prelude.{Result, Ok, Err, ℕ, ◌+◌, ◌*◌, ◌/◌, ◌%◌, ◌++◌, List, [], ◌∷◌, ℤ, pos, negsuc, codes, decimal, if◌then◌else◌, nat_lt, slice_index}
+use Rattle.std.specs.Prelude.{Result, Ok, Err, ℕ, ◌/◌, ◌%◌, ◌++◌, List, [], ◌∷◌, ℤ, pos, negsuc, codes, decimal, if◌then◌else◌, nat_lt, slice_index}
 use Rattle.std.specs.Fmt.{signed_decimal}
 use Rattle.zfault.specs.Fault.{number_of as fault_number}
-use Rattle.zfault.specs.declared.fault.Fault.{Fault}
 use Rattle.zstory.specs.Refusal.{number_of as refusal_number}
 use Rattle.zstory.specs.declared.load_error.LoadError.{LoadError}
 use Rattle.zstory.specs.declared.load_error.LoadError.TheVariants.{OutOfMemory as NoMemoryToLoad}

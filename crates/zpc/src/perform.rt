@@ -49,8 +49,8 @@ pub fn perform<F: Files, R: Source, W: Sink, E: Sink>(
     writer: &mut W,
     errors: &mut E,
 ) -> u8
-    ensures performs { fault_of zpc_app (texts words.entry.now) ≡ [] → Performs (texts words.entry.now) (F.known files.old) result (sinks (seen (W.contents writer.old) (W.failures writer.old)) (seen (E.contents errors.old) (E.failures errors.old))) (sinks (seen (W.contents writer.new) (W.failures writer.new)) (seen (E.contents errors.new) (E.failures errors.new))) }
-    ensures explains { fault_of zpc_app (texts words.entry.now) ≢ [] → Explains (fault_of zpc_app (texts words.entry.now)) result (sinks (seen (W.contents writer.old) (W.failures writer.old)) (seen (E.contents errors.old) (E.failures errors.old))) (sinks (seen (W.contents writer.new) (W.failures writer.new)) (seen (E.contents errors.new) (E.failures errors.new))) }
+    ensures performs { fault_of zpc_app (texts words.entry.now) ≡ [] → Performs (texts words.entry.now) (F.known files.old) result (sinks (seen W.contents W.failures writer.old) (seen E.contents E.failures errors.old)) (sinks (seen W.contents W.failures writer.new) (seen E.contents E.failures errors.new)) }
+    ensures explains { fault_of zpc_app (texts words.entry.now) ≢ [] → Explains (fault_of zpc_app (texts words.entry.now)) result (sinks (seen W.contents W.failures writer.old) (seen E.contents E.failures errors.old)) (sinks (seen W.contents W.failures writer.new) (seen E.contents E.failures errors.new)) }
     ensures kept { F.known files.new ≡ F.known files.old }
 {
     match read_words(alloc, words) {
@@ -150,7 +150,7 @@ fn outcome_of(played: Result<End, Problem>) -> Outcome
 /// Says what a command came to, and answers the exit status.
 pub fn report<E: Sink>(outcome: &Outcome, errors: &mut E) -> u8
     ensures status { result ≡ status_of outcome.now }
-    ensures said { Says (seen (E.contents errors.old) (E.failures errors.old)) (seen (E.contents errors.new) (E.failures errors.new)) (line_of (text_of outcome.now)) }
+    ensures said { Says (seen E.contents E.failures errors.old) (seen E.contents E.failures errors.new) (line_of (text_of outcome.now)) }
 {
     say(Message::of(outcome).as_slice(), errors);
     outcome.status()
@@ -158,14 +158,14 @@ pub fn report<E: Sink>(outcome: &Outcome, errors: &mut E) -> u8
 
 /// Writes a text, where a failure is ignored.
 fn say<E: Sink>(text: &[u8], errors: &mut E)
-    ensures { Says (seen (E.contents errors.old) (E.failures errors.old)) (seen (E.contents errors.new) (E.failures errors.new)) text.now }
+    ensures { Says (seen E.contents E.failures errors.old) (seen E.contents E.failures errors.new) text.now }
 {
     let _ = write_whole(errors, text);
 }
 
 /// Writes clap's answer to words that name no command: to the writer where they ask for help or for the version.
 fn explain<W: Sink, E: Sink>(alloc: Global, error: &Error, writer: &mut W, errors: &mut E) -> u8
-    ensures { (kinds : Kinds) → HasKind kinds error.now → Explains kinds result (sinks (seen (W.contents writer.old) (W.failures writer.old)) (seen (E.contents errors.old) (E.failures errors.old))) (sinks (seen (W.contents writer.new) (W.failures writer.new)) (seen (E.contents errors.new) (E.failures errors.new))) }
+    ensures { (kinds : Kinds) → HasKind kinds error.now → Explains kinds result (sinks (seen W.contents W.failures writer.old) (seen E.contents E.failures errors.old)) (sinks (seen W.contents W.failures writer.new) (seen E.contents E.failures errors.new)) }
 {
     if error.kind() == ErrorKind::OutOfMemory {
         return fail(Failure::Memory, errors);
@@ -186,7 +186,7 @@ fn explain<W: Sink, E: Sink>(alloc: Global, error: &Error, writer: &mut W, error
 /// Says that an argument is no text, and so no word, and answers the exit status.
 pub fn refuse_bytes<E: Sink>(errors: &mut E) -> u8
     ensures status { result ≡ 2 }
-    ensures said { Says (seen (E.contents errors.old) (E.failures errors.old)) (seen (E.contents errors.new) (E.failures errors.new)) no_text }
+    ensures said { Says (seen E.contents E.failures errors.old) (seen E.contents E.failures errors.new) no_text }
 {
     say(NO_TEXT, errors);
     USAGE
@@ -195,7 +195,7 @@ pub fn refuse_bytes<E: Sink>(errors: &mut E) -> u8
 /// Says what failed, and answers the exit status.
 pub fn fail<E: Sink>(failure: Failure, errors: &mut E) -> u8
     ensures status { result ≡ 4 }
-    ensures said { Says (seen (E.contents errors.old) (E.failures errors.old)) (seen (E.contents errors.new) (E.failures errors.new)) (line_of (failure_text failure)) }
+    ensures said { Says (seen E.contents E.failures errors.old) (seen E.contents E.failures errors.new) (line_of (failure_text failure)) }
 {
     report(&Outcome::Stopped(Problem::Failed(failure)), errors)
 }

@@ -1,4 +1,3 @@
-use Rattle.std.proofs.Common.{arith}
 use Rattle.zpc.proofs.FileLemmas.{beginning_more}
 use Rattle.zpc.proofs.files.read_more.Goals as goal
 

@@ -1,4 +1,3 @@
-use Rattle.std.proofs.Common.{rules, codes}
 use Rattle.zpc.proofs.Matched.{rows_named}
 use Rattle.zpc.proofs.words.command_of.Goals as goal
 
