@@ -1,0 +1,83 @@
+#!/usr/bin/env python3
+"""Writes a story of version 3 that plays one instruction again and again and then quits, and its certificate.
+
+    straight.py KIND COUNT STORY CERTIFICATE
+
+KIND is nop, new_line or print; COUNT says how many of them come before the quit. The story has no objects, 96 abbreviations
+with nothing in them and a dictionary with no entry. Its certificate lists each instruction, and says that each global is 0.
+"""
+import struct
+import sys
+
+# The bytes of one instruction.
+KINDS = {
+    "nop": b"\xb4",
+    "new_line": b"\xbb",
+    "print": b"\xb2\x35\x51\xc6\x85",  # hello
+}
+QUIT = b"\xba"
+
+GLOBALS = 0x40
+DEFAULTS = 0x220
+STATIC = 0x25E
+EMPTY_TEXT = 0x31E
+DICTIONARY = 0x320
+CODE = 0x324
+RELEASE = 1
+SERIAL = b"260101"
+
+
+def body():
+    """What stands between the header and the code."""
+    dynamic = bytes(STATIC - 64)  # 240 globals, and 31 property defaults
+    abbreviations = struct.pack(">H", EMPTY_TEXT // 2) * 96
+    return dynamic + abbreviations + b"\x94\xa5" + bytes([0, 4, 0, 0])
+
+
+def header(length, checksum):
+    """The header of a story of a length and a checksum."""
+    words = struct.pack(
+        ">BBHHHHHHHH6sHHH",
+        3, 0, RELEASE, CODE, CODE, DICTIONARY, DEFAULTS, GLOBALS, STATIC, 0, SERIAL, STATIC, length // 2, checksum,
+    )
+    return words.ljust(64, b"\0")
+
+
+def story(code):
+    """The whole story with this code, and its checksum."""
+    rest = body() + code
+    if len(rest) % 2 == 1:
+        rest += b"\0"
+    length = 64 + len(rest)
+    if length >= 131072:
+        sys.exit(f"a story of {length} bytes is too long")
+    checksum = sum(rest) % 65536
+    return header(length, checksum) + rest, checksum
+
+
+def certificate(loaded_length, checksum, addresses):
+    """A certificate that lists these addresses, each in the main code with an empty stack."""
+    parts = [b"ZPCC\x01", struct.pack(">H6sHI", RELEASE, SERIAL, checksum, loaded_length)]
+    parts.append(struct.pack(">H", 0))  # no ranges
+    parts.append(struct.pack(">hh", 0, 0) * 240)
+    parts.append(struct.pack(">H", 0))  # no routines
+    parts.append(struct.pack(">I", len(addresses)))
+    parts.extend(struct.pack(">IHB", address, 0, 0) for address in addresses)
+    return b"".join(parts)
+
+
+def main():
+    if len(sys.argv) != 5 or sys.argv[1] not in KINDS or not sys.argv[2].isdigit():
+        sys.exit(__doc__)
+    kind, count, story_name, certificate_name = sys.argv[1:]
+    instruction = KINDS[kind]
+    count = int(count)
+    whole, checksum = story(instruction * count + QUIT)
+    addresses = range(CODE, CODE + len(instruction) * count + 1, len(instruction))
+    with open(story_name, "wb") as file:
+        file.write(whole)
+    with open(certificate_name, "wb") as file:
+        file.write(certificate(len(whole), checksum, addresses))
+
+
+main()
