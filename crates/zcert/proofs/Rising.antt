@@ -1,7 +1,8 @@
 -- What the order of a certificate's parts says of any two of them.
 use Rattle.std.proofs.Common.{◌≡◌, ℕ, zero, suc, ◌+◌, ◌<◌, ◌≤◌, List, [], ◌∷◌, length, Some, subst, arith}
-use Rattle.std.specs.Prelude.{slice_get}
+use Rattle.std.specs.Prelude.{slice_get, map}
 use Rattle.std.specs.List.{AllByRecursion}
+use Rattle.std.specs.List.Sorted.{IsStrictlyIncreasing}
 use Rattle.zcert.specs.declared.parts.Range.{Range}
 use Rattle.zcert.specs.declared.parts.Routine.{Routine}
 use Rattle.zcert.specs.Certificate.{Instruction, Certificate}
@@ -30,6 +31,15 @@ higher {A} address floor (first ∷ xs) zero (suc j) x y rise lt e f =
     subst (λ (z : A). address z < address y) same (omega arith)
 higher address floor (first ∷ xs) (suc i) (suc j) x y rise lt e f = higher address (address first + 1) xs i j x y rise.1 (omega arith) e f
 
+-- so their addresses are a rising list
+pub increasing : {A : Type 0} (address : A → ℕ) (floor : ℕ) (xs : List A) → Rise address floor xs → IsStrictlyIncreasing (map address xs)
+increasing address floor [] rise k l = absurd (omega arith)
+increasing address floor (x ∷ []) rise k l = absurd (omega arith)
+increasing address floor (x ∷ y ∷ xs) rise zero l = let h = rise.1.0 in omega arith
+increasing address floor (x ∷ y ∷ xs) rise (suc k) l =
+    let next : suc k + 1 ≡ suc (k + 1) = omega arith in
+    rw next (increasing address (address x + 1) (y ∷ xs) rise.1 k (omega arith))
+
 range_above : (floor : ℕ) (rs : List Range) (k : ℕ) (r : Range) → AllByRecursion IsRange rs → AreApart floor rs → slice_get rs k ≡ Some r → floor ≤ r.first
 range_above floor [] k r all parted e = none_there k r e
 range_above floor (first ∷ rs) zero r all parted e = let same : first ≡ r = some_is first r e in let h = parted.0 in subst (λ (y : Range). floor ≤ y.first) same h
@@ -51,11 +61,19 @@ range_higher floor (first ∷ rs) (suc i) (suc j) r s all parted lt e f = range_
 
 -- Of a certificate:
 module _ {V : Type 0} (format : Format V) (c : Certificate V) (has : HasSpelling format c) where
-  -- the addresses of instructions rise strictly
+  -- the addresses of instructions are a rising list
+  pub instructions_increase : IsStrictlyIncreasing (map (λ (i : Instruction V). i.address) c.instructions)
+  instructions_increase = increasing (λ (i : Instruction V). i.address) 0 c.instructions has.instructions_rise
+
+  -- and those of routines
+  pub routines_increase : IsStrictlyIncreasing (map (λ (r : Routine V). r.address) c.routines)
+  routines_increase = increasing (λ (r : Routine V). r.address) 0 c.routines has.routines_rise
+
+  -- a later instruction has a higher address
   pub instructions_rise : (i j : ℕ) (x y : Instruction V) → i < j → slice_get c.instructions i ≡ Some x → slice_get c.instructions j ≡ Some y → x.address < y.address
   instructions_rise i j x y lt e f = higher (λ (z : Instruction V). z.address) 0 c.instructions i j x y has.instructions_rise lt e f
 
-  -- and those of routines
+  -- and a later routine
   pub routines_rise : (i j : ℕ) (x y : Routine V) → i < j → slice_get c.routines i ≡ Some x → slice_get c.routines j ≡ Some y → x.address < y.address
   routines_rise i j x y lt e f = higher (λ (z : Routine V). z.address) 0 c.routines i j x y has.routines_rise lt e f
 
