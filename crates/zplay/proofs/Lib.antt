@@ -1,0 +1,4 @@
+mod Stepping
+mod InPlay
+mod Starting
+mod Running

@@ -1,0 +1,5 @@
+use Rattle.zplay.proofs.Starting.{in_play_given}
+use Rattle.zplay.proofs.session.Session.give.Goals as goal
+
+pub invariant_of-self : goal.invariant_of-self
+invariant_of-self c = rw c.give.ensures (in_play_given _ _ _ _ _ c.self.invariant)
