@@ -23,6 +23,7 @@ use Rattle.zplay.specs.declared.decoded.Decoded.{Decoded}
 use Rattle.zplay.specs.Accepted.{Acceptance, IsJudged, claims}
 use Rattle.zplay.specs.Decoded.{decoded_of, output_of}
 use Rattle.zplay.specs.Session.{IsInPlay, setting_of, state_at, Steps, GivesOut}
+use Rattle.zplay.proofs.Accepting.{judged_each, listed_each}
 use Rattle.zplay.proofs.Stepping.{Prints, Comes, comes}
 
 -- ---- lists
@@ -91,7 +92,7 @@ module _ (a : Acceptance) (records : List Decoded) (index : ℕ) (s : State) (pl
   turn x d is =
       let there = there_at a.listing.records index playing.within in
       let r = there.0 in
-      let judged = all_at (IsJudged a.story (claims a)) a.listing.records index r playing.accepted.each there.1 in
+      let judged = all_at (IsJudged a.story (claims a)) a.listing.records index r (judged_each a playing.accepted) there.1 in
       let decoded : x ≡ decoded_of a.listing r = at_map (decoded_of a.listing) a.listing.records index r x d there.1 (subst (λ (ds : List Decoded). x ≡ get_or ds index d) playing.decoded is) in
       let place : slice_index (addresses_of a.listing.records) index ≡ r.address = address_is a.listing.records index r playing.within (sym (get_or_from_slice_get a.listing.records index r r there.1)) in
       let next = at_place (pos (r.address + r.instruction.size)) s in
@@ -101,7 +102,7 @@ module _ (a : Acceptance) (records : List Decoded) (index : ℕ) (s : State) (pl
         is = decoded;
         place = place;
         comes = subst (λ (y : Decoded). Comes y.action y.address (state_at a.listing index s) next (step (setting_of a) (state_at a.listing index s))) (sym decoded)
-            (comes interval_operations (claims a) (setting_of a) playing.accepted.loaded playing.accepted.supports playing.accepted.listed safely r judged (state_at a.listing index s) (ap pos place) playing.described);
+            (comes interval_operations (claims a) (setting_of a) playing.accepted.loaded playing.accepted.supports (listed_each a playing.accepted) safely r judged (state_at a.listing index s) (ap pos place) playing.described);
       }
 
   -- where the session stands still
@@ -122,10 +123,10 @@ module _ (a : Acceptance) (records : List Decoded) (index : ℕ) (s : State) (pl
       let t = turn x d is in
       let q = t.listed.address + t.listed.instruction.size in
       let prints = unless_quit x.action x.address (state_at a.listing index s) (at_place (pos q) s) (step (setting_of a) (state_at a.listing index s)) other t.comes in
-      let safe : IsSafe interval_operations (claims a) a.story (step (setting_of a) (state_at a.listing index s)) = safely (setting_of a) (state_at a.listing index s) playing.accepted.loaded playing.accepted.supports playing.accepted.listed playing.described in
+      let safe : IsSafe interval_operations (claims a) a.story (step (setting_of a) (state_at a.listing index s)) = safely (setting_of a) (state_at a.listing index s) playing.accepted.loaded playing.accepted.supports (listed_each a playing.accepted) playing.described in
       let described : Described interval_operations (claims a) a.story (at_place (pos q) s) = subst (λ (made : Result Done Halt). IsSafe interval_operations (claims a) a.story made) prints.done safe in
       let at : q ≡ described.at = same_place q described.at described.place in
-      let there : is_listed a.listing q ≡ true = subst (λ (p : ℕ). is_listed a.listing p ≡ true) (sym at) (playing.accepted.listed described.at described.entry described.listed) in
+      let there : is_listed a.listing q ≡ true = subst (λ (p : ℕ). is_listed a.listing p ≡ true) (sym at) ((listed_each a playing.accepted) described.at described.entry described.listed) in
       let k = index_there a.listing q there in
       let next : x.next ≡ k.0 = ap (λ (y : Decoded). y.next) t.is ∙ ap (λ (o : Option ℕ). unwrap_or o 0) k.1 in
       let found = address_found q x.next a.listing.records (k.1 ∙ ap (λ (n : ℕ). Some n) (sym next)) in

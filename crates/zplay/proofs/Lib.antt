@@ -1,3 +1,4 @@
+mod Accepting
 mod Stepping
 mod InPlay
 mod Starting

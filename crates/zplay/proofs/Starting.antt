@@ -18,6 +18,7 @@ use Rattle.zplay.specs.declared.decoded.Decoded.{Decoded}
 use Rattle.zplay.specs.Accepted.{Acceptance, IsAccepted, claims}
 use Rattle.zplay.specs.Decoded.{decoded_of}
 use Rattle.zplay.specs.Session.{IsInPlay, state_at}
+use Rattle.zplay.proofs.Accepting.{judged_each, listed_each}
 use Rattle.zplay.proofs.InPlay.{index_there, address_found}
 use Rattle.std.proofs.Common.{map}
 
@@ -35,17 +36,17 @@ ends_inside memory p i reads =
 pub each_played : (a : Acceptance) → IsAccepted a → All (λ r. IsTrue (playable r.instruction.opcode)) a.listing.records
 each_played a accepted = λ k d within.
     let r = get_or a.listing.records k d in
-    (found playable (drop r.address a.story.memory) r.instruction (accepted.each k d within).decodes).played
+    (found playable (drop r.address a.story.memory) r.instruction (judged_each a accepted k d within).decodes).played
 
 -- and ends in memory
 pub each_inside : (a : Acceptance) → IsAccepted a → All (λ r. r.address + r.instruction.size ≤ 131072) a.listing.records
 each_inside a accepted = λ k d within.
     let r = get_or a.listing.records k d in
-    omega (arith, ends_inside a.story.memory r.address r.instruction (accepted.each k d within).decodes, accepted.loaded.sound.greatest_length)
+    omega (arith, ends_inside a.story.memory r.address r.instruction (judged_each a accepted k d within).decodes, accepted.loaded.sound.greatest_length)
 
 -- the first one is listed
 pub first_listed : (a : Acceptance) → IsAccepted a → is_listed a.listing (first_instruction a.story) ≡ true
-first_listed a accepted = let first = accepted.supports.first in accepted.listed (first_instruction a.story) first.entry first.listed
+first_listed a accepted = let first = accepted.supports.first in listed_each a accepted (first_instruction a.story) first.entry first.listed
 
 pub first_found : (a : Acceptance) → IsAccepted a → index_of a.listing (first_instruction a.story) ≡ None → ⊥
 first_found a accepted none = let k = index_there a.listing (first_instruction a.story) (first_listed a accepted) in cc
