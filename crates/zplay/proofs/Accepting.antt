@@ -1,31 +1,23 @@
 -- What an accepted story's listing and its certificate say of each other.
-use Rattle.std.proofs.Common.{◌≡◌, ℕ, zero, suc, ◌<◌, Bool, true, false, List, [], ◌∷◌, length, drop, get_or, Option, Some, None, Ok, refl, sym, ap, subst, ◌∙◌, arith, eq-eqb, if◌then◌else◌}
-use Rattle.std.specs.Prelude.{◌==◌, ◌||◌, slice_get, option_map, All}
+use Rattle.std.proofs.Common.{◌≡◌, ℕ, zero, suc, Bool, true, false, List, [], ◌∷◌, drop, Option, Some, Ok, refl, sym, ap, subst, arith, eq-eqb, if◌then◌else◌}
+use Rattle.std.specs.Prelude.{◌==◌, ◌||◌, option_map, All}
 use Rattle.std.specs.List.{AllZip, list_any}
 use Rattle.zstory.specs.LoadedStory.{LoadedStory}
 use Rattle.zcode.specs.Reading.{instruction_at}
 use Rattle.zlist.specs.declared.record.Record.{Record}
-use Rattle.zlist.specs.Listing.{ListedCode, is_listed}
 use Rattle.zcert.specs.Certificate.{Instruction, Certificate}
 use Rattle.zcert.specs.Listed.{listed_at}
 use Rattle.zdomain.specs.Domain.{SetOperations}
 use Rattle.zdomain.specs.Interval.{interval_operations}
 use Rattle.zstate.specs.State.{scope_only}
 use Rattle.zrule.specs.Described.{IsListedIn}
-use Rattle.zrule.specs.Claims.{Entry, claims_of, entry_of}
-use Rattle.zplay.specs.Accepted.{Acceptance, IsRecordOf, IsJudged, IsAccepted, claims}
+use Rattle.zrule.specs.Claims.{claims_of, entry_of}
+use Rattle.zrule.specs.Rules.{Supports}
+use Rattle.zcheck.specs.Acceptance.{Acceptance, IsRecordOf}
+use Rattle.zcheck.proofs.Headline.{lists_where, supports_where}
+use Rattle.zplay.specs.Accepted.{IsJudged, IsAccepted, claims}
 
 -- ---- a certificate's instructions and a listing's records, side by side
-
--- what is listed at a place is among the records
-listed_any : {V : Type 0} (story : LoadedStory) (is : List (Instruction V)) (rs : List Record) → AllZip (IsRecordOf story) is rs → (p : ℕ) (e : Entry V) → option_map entry_of (listed_at is p) ≡ Some e → list_any (λ r. r.address == p) rs ≡ true
-listed_any story [] rs zip p e found = absurd cc
-listed_any story (i ∷ is) [] zip p e found = absurd zip
-listed_any story (i ∷ is) (r ∷ rs) zip p e found = by_test (i.address == p) (ap (λ (a : ℕ). a == p) zip.0.address) (listed_any story is rs zip.1 p e) found
-  where
-    by_test : (b : Bool) → (r.address == p) ≡ b → (option_map entry_of (listed_at is p) ≡ Some e → list_any (λ s. s.address == p) rs ≡ true) → option_map entry_of (if b then Some i else listed_at is p) ≡ Some e → ((r.address == p) || list_any (λ s. s.address == p) rs) ≡ true
-    by_test true same rest found = rw same refl
-    by_test false same rest found = rw same (rest found)
 
 -- an instruction of the certificate is found at its address, or another that stands there
 found_there : {V : Type 0} (is : List (Instruction V)) (p : ℕ) → list_any (λ i. i.address == p) is ≡ true → (j : Instruction V) × (listed_at is p ≡ Some j)
@@ -60,10 +52,6 @@ module _ {V : Type 0} (o : SetOperations V) (story : LoadedStory) (c : Certifica
   each_judged : (rs : List Record) → AllZip (IsRecordOf story) c.instructions rs → All (λ r. IsJudged story (claims_of o c) r) rs
   each_judged rs zip = judged_among c.instructions rs zip (λ p there. there)
 
-  -- each place of which something is said is listed
-  all_listed : (listing : ListedCode) → AllZip (IsRecordOf story) c.instructions listing.records → IsListedIn o (claims_of o c) (scope_only listing)
-  all_listed listing zip p e found = listed_any story c.instructions listing.records zip p e found
-
 module _ (a : Acceptance) (accepted : IsAccepted a) where
   -- each record is of an instruction of which something is said,
   pub judged_each : All (λ r. IsJudged a.story (claims a) r) a.listing.records
@@ -71,4 +59,7 @@ module _ (a : Acceptance) (accepted : IsAccepted a) where
 
   -- and each place of which something is said is listed
   pub listed_each : IsListedIn interval_operations (claims a) (scope_only a.listing)
-  listed_each = all_listed interval_operations a.story a.certificate a.listing accepted.lists.records
+  listed_each = lists_where interval_operations a.story a.certificate a.listing accepted.lists
+
+  pub supported : Supports interval_operations (claims a) a.story
+  supported = supports_where interval_operations a.story a.certificate accepted.passes

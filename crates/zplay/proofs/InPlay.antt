@@ -20,10 +20,11 @@ use Rattle.zstate.specs.declared.halt.Halt.TheVariants as halts
 use Rattle.zplay.specs.declared.decoded.Action.{Action}
 use Rattle.zplay.specs.declared.decoded.Action.TheVariants as actions
 use Rattle.zplay.specs.declared.decoded.Decoded.{Decoded}
-use Rattle.zplay.specs.Accepted.{Acceptance, IsJudged, claims}
+use Rattle.zcheck.specs.Acceptance.{Acceptance}
+use Rattle.zplay.specs.Accepted.{IsJudged, claims}
 use Rattle.zplay.specs.Decoded.{decoded_of, output_of}
 use Rattle.zplay.specs.Session.{IsInPlay, setting_of, state_at, Steps, GivesOut}
-use Rattle.zplay.proofs.Accepting.{judged_each, listed_each}
+use Rattle.zplay.proofs.Accepting.{judged_each, listed_each, supported}
 use Rattle.zplay.proofs.Stepping.{Prints, Comes, comes}
 
 -- ---- lists
@@ -102,7 +103,7 @@ module _ (a : Acceptance) (records : List Decoded) (index : ℕ) (s : State) (pl
         is = decoded;
         place = place;
         comes = subst (λ (y : Decoded). Comes y.action y.address (state_at a.listing index s) next (step (setting_of a) (state_at a.listing index s))) (sym decoded)
-            (comes interval_operations (claims a) (setting_of a) playing.accepted.loaded playing.accepted.supports (listed_each a playing.accepted) safely r judged (state_at a.listing index s) (ap pos place) playing.described);
+            (comes interval_operations (claims a) (setting_of a) playing.accepted.loaded (supported a playing.accepted) (listed_each a playing.accepted) safely r judged (state_at a.listing index s) (ap pos place) playing.described);
       }
 
   -- where the session stands still
@@ -123,7 +124,7 @@ module _ (a : Acceptance) (records : List Decoded) (index : ℕ) (s : State) (pl
       let t = turn x d is in
       let q = t.listed.address + t.listed.instruction.size in
       let prints = unless_quit x.action x.address (state_at a.listing index s) (at_place (pos q) s) (step (setting_of a) (state_at a.listing index s)) other t.comes in
-      let safe : IsSafe interval_operations (claims a) a.story (step (setting_of a) (state_at a.listing index s)) = safely (setting_of a) (state_at a.listing index s) playing.accepted.loaded playing.accepted.supports (listed_each a playing.accepted) playing.described in
+      let safe : IsSafe interval_operations (claims a) a.story (step (setting_of a) (state_at a.listing index s)) = safely (setting_of a) (state_at a.listing index s) playing.accepted.loaded (supported a playing.accepted) (listed_each a playing.accepted) playing.described in
       let described : Described interval_operations (claims a) a.story (at_place (pos q) s) = subst (λ (made : Result Done Halt). IsSafe interval_operations (claims a) a.story made) prints.done safe in
       let at : q ≡ described.at = same_place q described.at described.place in
       let there : is_listed a.listing q ≡ true = subst (λ (p : ℕ). is_listed a.listing p ≡ true) (sym at) ((listed_each a playing.accepted) described.at described.entry described.listed) in

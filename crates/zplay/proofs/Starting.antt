@@ -1,6 +1,9 @@
 -- What an accepted story is played with.
-use Rattle.std.proofs.Common.{◌≡◌, ℕ, ◌+◌, ◌≤◌, true, List, length, drop, get_or, Some, None, Ok, refl, sym, ap, subst, ◌∙◌, arith, length-append}
-use Rattle.std.specs.Prelude.{IsTrue, All}
+use Rattle.std.proofs.Common.{◌≡◌, ℕ, ◌+◌, ◌≤◌, ◌<◌, true, List, length, drop, get_or, Some, None, Ok, refl, sym, ap, subst, ◌∙◌, arith, length-append}
+use Rattle.std.specs.Prelude.{IsTrue, All, pos, slice_index}
+use Rattle.std.proofs.Common.{to_z, w32}
+use Rattle.std.proofs.lemmas.Int.{to_z_pos}
+use Rattle.std.proofs.lemmas.Option.{get_or_from_slice_get, slice_get-get_or}
 use Rattle.std.proofs.lemmas.List.{length-drop}
 use Rattle.zfault.specs.declared.event.Event.{Event}
 use Rattle.zstory.specs.LoadedStory.{LoadedStory, first_instruction}
@@ -8,17 +11,20 @@ use Rattle.zcode.specs.Playable.{playable}
 use Rattle.zcode.specs.Instruction.{Instruction}
 use Rattle.zcode.specs.Reading.{instruction_at}
 use Rattle.zcode.proofs.Found.{found, well_formed}
-use Rattle.zlist.specs.Listing.{index_of, is_listed}
+use Rattle.zlist.specs.declared.record.Record.{Record}
+use Rattle.zlist.specs.Listing.{ListedCode, IsInOrder, addresses_of, index_of, is_listed}
+use Rattle.zlist.proofs.Rising.{address_is}
 use Rattle.zdomain.specs.Domain.{SetOperations}
 use Rattle.zdomain.specs.Interval.{interval_operations}
 use Rattle.zstate.specs.State.{State, opening, give}
 use Rattle.zrule.specs.Claims.{Claims}
 use Rattle.zrule.specs.Described.{Described, OpensDescribed}
 use Rattle.zplay.specs.declared.decoded.Decoded.{Decoded}
-use Rattle.zplay.specs.Accepted.{Acceptance, IsAccepted, claims}
+use Rattle.zcheck.specs.Acceptance.{Acceptance}
+use Rattle.zplay.specs.Accepted.{IsAccepted, claims}
 use Rattle.zplay.specs.Decoded.{decoded_of}
 use Rattle.zplay.specs.Session.{IsInPlay, state_at}
-use Rattle.zplay.proofs.Accepting.{judged_each, listed_each}
+use Rattle.zplay.proofs.Accepting.{judged_each, listed_each, supported}
 use Rattle.zplay.proofs.InPlay.{index_there, address_found}
 use Rattle.std.proofs.Common.{map}
 
@@ -46,7 +52,7 @@ each_inside a accepted = λ k d within.
 
 -- the first one is listed
 pub first_listed : (a : Acceptance) → IsAccepted a → is_listed a.listing (first_instruction a.story) ≡ true
-first_listed a accepted = let first = accepted.supports.first in listed_each a accepted (first_instruction a.story) first.entry first.listed
+first_listed a accepted = let first = (supported a accepted).first in listed_each a accepted (first_instruction a.story) first.entry first.listed
 
 pub first_found : (a : Acceptance) → IsAccepted a → index_of a.listing (first_instruction a.story) ≡ None → ⊥
 first_found a accepted none = let k = index_there a.listing (first_instruction a.story) (first_listed a accepted) in cc
@@ -60,8 +66,15 @@ in_play_first a records k accepted opens decoded at = record {
   accepted = accepted;
   decoded = decoded;
   within = (address_found (first_instruction a.story) k a.listing.records at).0;
-  described = subst (λ (s : State). Described interval_operations (claims a) a.story s) (sym (opens_at a k at)) (opens a.story accepted.supports);
+  described = subst (λ (s : State). Described interval_operations (claims a) a.story s) (sym (opens_at a k at)) (opens a.story (supported a accepted));
 }
+
+-- the address of a record, as a place
+pub place_read : (listing : ListedCode) (index : ℕ) (d : Record) → IsInOrder listing → index < length listing.records → to_z w32 (get_or listing.records index d).address ≡ pos (slice_index (addresses_of listing.records) index)
+place_read listing index d order within =
+    let r = get_or listing.records index d in
+    let is : r ≡ get_or listing.records index r = sym (get_or_from_slice_get listing.records index r r (slice_get-get_or listing.records index d within)) in
+    to_z_pos w32 r.address (omega (arith, order.inside index d within)) ∙ ap (λ (n : ℕ). pos n) (sym (address_is listing.records index r within is))
 
 -- an event changes nothing that is described
 described_given : {V : Type 0} (o : SetOperations V) (claims : Claims V) (story : LoadedStory) (e : Event) (s : State) → Described o claims story s → Described o claims story (give e s)

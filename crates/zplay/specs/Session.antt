@@ -11,7 +11,8 @@ use Rattle.zstate.specs.Step.{Done, step}
 use Rattle.zstate.specs.Run.{stop_of}
 use Rattle.zrule.specs.Described.{Described}
 use Rattle.zplay.specs.declared.decoded.Decoded.{Decoded}
-use Rattle.zplay.specs.Accepted.{Acceptance, IsAccepted, claims}
+use Rattle.zcheck.specs.Acceptance.{Acceptance}
+use Rattle.zplay.specs.Accepted.{IsAccepted, claims}
 use Rattle.zplay.specs.Decoded.{decoded_of}
 
 -- a session: what was accepted, and the state that it is in

@@ -5,13 +5,14 @@ ghost use Rattle.zfault.specs.Answers.{answers};
 ghost use Rattle.zstate.specs.declared.halt.Stop.TheVariants.{Paused};
 ghost use Rattle.zstate.specs.State.{opening, give};
 ghost use Rattle.zstate.specs.Run.{awaited, run, Ends, Makes, Stands};
+ghost use Rattle.zplay.specs.Accepted.{IsAccepted};
 ghost use Rattle.zplay.specs.Session.{setting, Steps, PausesBy, GivesOut};
 
-use crate::accepted::Accepted;
 use crate::decoded::{Action, Decoded, decode_listing};
 use crate::giving::give_out;
 use std::alloc::{AllocError, Global};
 use std::marker::Model;
+use zcheck::Accepted;
 use zdomain::Interval;
 use zfault::{Event, Item, Need, Pause};
 use zrule::each_step_is_safe;
@@ -51,6 +52,7 @@ impl<'a> Session<'a> {
         ensures { IfOk result (λ p. p ≡ record { accepted = accepted.now; state = opening accepted.now.story }) }
     {
         each_step_is_safe::<Interval>();
+        known_of(accepted);
         let story = accepted.story();
         let listing = accepted.listing();
         let Some(index) = listing.index_of(story.first_instruction()) else {
@@ -169,4 +171,12 @@ impl<'a> Session<'a> {
             _ => None,
         }
     }
+}
+
+/// What is known of an accepted story.
+fn known_of(accepted: &Accepted)
+    ensures { IsAccepted accepted.now }
+{
+    let _memory = accepted.story().memory();
+    let _listing = accepted.listing();
 }

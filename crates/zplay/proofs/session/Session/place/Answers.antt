@@ -1,0 +1,7 @@
+use Rattle.zplay.proofs.Starting.{place_read}
+use Rattle.zplay.proofs.session.Session.place.Goals as goal
+
+pub returns : goal.returns
+returns c =
+    rw (← c.self.view_is, c.records.ensures.value, c.listing.ensures.value)
+    (place_read c.self.inside.accepted.now.listing c.self.inside.index c.index-records-self.result (rw c.listing.ensures.value at c.records.ensures.order) c.self.invariant.within)
