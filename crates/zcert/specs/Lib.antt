@@ -9,3 +9,4 @@ pub mod Fields
 pub mod Contents
 pub mod View
 pub mod Listed
+pub mod Refusal

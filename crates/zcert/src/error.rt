@@ -36,6 +36,26 @@ pub enum CertError {
     OutOfMemory,
 }
 
+impl CertError {
+    ghost use Rattle.zcert.specs.Refusal.{number_of};
+
+    /// The number after the `K` of its code.
+    pub fn number(self) -> u8
+        ensures { result ≡ number_of self }
+    {
+        match self {
+            CertError::Magic => 1,
+            CertError::Version => 2,
+            CertError::Truncated => 3,
+            CertError::Trailing => 4,
+            CertError::Order => 5,
+            CertError::EmptyInterval => 6,
+            CertError::Limit => 7,
+            CertError::OutOfMemory => 8,
+        }
+    }
+}
+
 impl From<AllocError> for CertError {
     ghost from_gives = { λ _ e. e ≡ OutOfMemory };
 

@@ -1,5 +1,5 @@
 -- Which subcommand clap enters where it makes matches.
-use Rattle.std.proofs.Common.{◌≡◌, ◌∙◌, ◌&&◌, ◌||◌, Bool, true, false, not, refl, sym, ap, ap₂, subst, ℕ, List, [], ◌∷◌, ◌++◌, Option, Some, None, if◌then◌else◌}
+use Rattle.std.proofs.Common.{◌≡◌, ◌∙◌, ◌&&◌, ◌||◌, Bool, true, false, not, refl, sym, ap, ap₂, subst, ℕ, ◌⊎◌, inl, inr, List, [], ◌∷◌, ◌++◌, Option, Some, None, if◌then◌else◌}
 use Rattle.std.specs.Prelude.{codes, fold, is_some, option_map, unwrap_or}
 use Rattle.std.specs.List.{list_any}
 use Rattle.std.specs.Str.{bytes_eq}
@@ -12,7 +12,7 @@ use Rattle.clap.specs.Walk.{Held, Names, Outcome, Rule, Step, Text, Waiting, Wal
 use Rattle.clap.specs.Simple.{App, Shape, built, entered, label_of, names_of, rows_at}
 use Rattle.clap.specs.Faults.{built_fault, check_fault, defaults_fault, entered_fault, fault_of, is_simple_and_free, other_fault, settle_fault, turn_fault, walk_fault}
 use Rattle.clap.specs.declared.error.kind.ErrorKind.TheVariants as kinds
-use Rattle.clap.specs.Words.{HasMatchesOf, Row, app_of, is_simple, subcommand_name_of, subcommand_of}
+use Rattle.clap.specs.Words.{HasMatchesOf, Row, app_of, is_simple, subcommand_name_of, subcommand_of, subcommand_rows_of}
 use Rattle.clap.specs.declared.builder.command.Command.{Command}
 use Rattle.clap.specs.declared.parser.matches.ArgMatches.{ArgMatches}
 use Rattle.zpc.proofs.Matched.{name_first}
@@ -116,11 +116,11 @@ module _ (s : Shape) (names : Names) (helps : s.disable_help_subcommand ≡ fals
           let same = stays rest (walked s.rules names w word) q.0 q.1 p e stopped in
           subst (λ (x : Text). bytes_eq x (codes "help") ≡ false) (sym same) (turn_named w word q going turn e)
 
--- of two subcommands, of which the second is `help`, the first is entered
-first_entered : (a : App) (first second : Shape) → a.subs ≡ first ∷ second ∷ [] → second.name ≡ codes "help" → second.aliases ≡ []
-    → (p : Text × List Text) → bytes_eq p.0 (codes "help") ≡ false → (found : Text × List Row) → entered a (Some p) ≡ Some found → found.0 ≡ first.name
-first_entered a first second subs help alone p other found e =
-    go (answers_to p.0 (label_of first)) (answers_to p.0 (label_of second)) refl (rw subs at e)
+-- of three subcommands, of which the third is `help`, one of the first two is entered
+one_entered : (a : App) (first second third : Shape) → a.subs ≡ first ∷ second ∷ third ∷ [] → third.name ≡ codes "help" → third.aliases ≡ []
+    → (p : Text × List Text) → bytes_eq p.0 (codes "help") ≡ false → (found : Text × List Row) → entered a (Some p) ≡ Some found → (found.0 ≡ first.name) ⊎ (found.0 ≡ second.name)
+one_entered a first second third subs help alone p other found e =
+    go (answers_to p.0 (label_of first)) (answers_to p.0 (label_of second)) (answers_to p.0 (label_of third)) refl (rw subs at e)
   where
     contradicts : (b : Bool) → b || false ≡ true → bytes_eq (codes "help") p.0 ≡ b → ⊥
     contradicts false e is = cc
@@ -129,16 +129,17 @@ first_entered a first second subs help alone p other found e =
         let here : bytes_eq p.0 (codes "help") ≡ true = (bytes_eq-Decides p.0 (codes "help")).1 (sym same) in
         cc
 
-    not_second : answers_to p.0 (label_of second) ≡ true → ⊥
-    not_second h =
+    not_third : answers_to p.0 (label_of third) ≡ true → ⊥
+    not_third h =
         let is : bytes_eq (codes "help") p.0 || false ≡ true = subst (λ (x : Text × List Text). answers_to p.0 x ≡ true) (ap₂ (λ (n : Text) (xs : List Text). (n, xs)) help alone) h in
         contradicts (bytes_eq (codes "help") p.0) is refl
 
-    go : (b c : Bool) → answers_to p.0 (label_of second) ≡ c
-        → option_map (λ s. rows_at s p.1) (if b then Some first else (if c then Some second else None)) ≡ Some found → found.0 ≡ first.name
-    go true c is e = sym (ap (λ (o : Option (Text × List Row)). unwrap_or (option_map (λ q. q.0) o) []) e)
-    go false true is e = absurd (not_second is)
-    go false false is e = cc
+    go : (b c d : Bool) → answers_to p.0 (label_of third) ≡ d
+        → option_map (λ s. rows_at s p.1) (if b then Some first else (if c then Some second else (if d then Some third else None))) ≡ Some found → (found.0 ≡ first.name) ⊎ (found.0 ≡ second.name)
+    go true c d is e = inl (sym (ap (λ (o : Option (Text × List Row)). unwrap_or (option_map (λ q. q.0) o) []) e))
+    go false true d is e = inr (sym (ap (λ (o : Option (Text × List Row)). unwrap_or (option_map (λ q. q.0) o) []) e))
+    go false false true is e = absurd (not_third is)
+    go false false false is e = cc
 
 -- of five lists of faults in turn, the first and the last
 ends_of : (first second third fourth last : Kinds) → or_else first (or_else second (or_else third (or_else fourth last))) ≡ [] → (first ≡ []) × (last ≡ [])
@@ -158,43 +159,54 @@ required_there s rows false required none =
     go true wants_argument e = cc
     go false wants_argument e = cc
 
--- where nothing fails, the first of two subcommands is entered, if the second is `help` and one has to be there
-module _ (a : App) (first second : Shape) (subs : a.subs ≡ first ∷ second ∷ []) (help : second.name ≡ codes "help") (alone : second.aliases ≡ [])
+-- a subcommand of one of two names is entered
+abbrev pub EntersOne : Option (Text × List Row) → Text → Text → Type 0
+EntersOne entered first second = ((rows : List Row) × (entered ≡ Some (first, rows))) ⊎ ((rows : List Row) × (entered ≡ Some (second, rows)))
+
+-- where nothing fails, it is one of the first two of three subcommands, if the third is `help` and one has to be there
+module _ (a : App) (first second third : Shape) (subs : a.subs ≡ first ∷ second ∷ third ∷ []) (help : third.name ≡ codes "help") (alone : third.aliases ≡ [])
     (helps : a.top.disable_help_subcommand ≡ false) (required : a.top.subcommand_required ≡ true) (words : List Text) where
-  first_found : (stop : Option (Text × List Text)) → (walk a.top.rules (names_of a) nothing_held words).stopped ≡ stop → walk_fault a.top (names_of a) (walk_from nothing_held) words ≡ []
-      → is_some (entered a stop) ≡ true → (rows : List Row) × (entered a stop ≡ Some (first.name, rows))
-  first_found None at none there = cc
-  first_found (Some p) at none there = go (entered a (Some p)) refl there
+  one_found : (stop : Option (Text × List Text)) → (walk a.top.rules (names_of a) nothing_held words).stopped ≡ stop → walk_fault a.top (names_of a) (walk_from nothing_held) words ≡ []
+      → is_some (entered a stop) ≡ true → EntersOne (entered a stop) first.name second.name
+  one_found None at none there = cc
+  one_found (Some p) at none there = go (entered a (Some p)) refl there
     where
       other : bytes_eq p.0 (codes "help") ≡ false
       other = walk_named a.top (names_of a) helps words (walk_from nothing_held) p refl none at
 
-      go : (o : Option (Text × List Row)) → entered a (Some p) ≡ o → is_some o ≡ true → (rows : List Row) × (entered a (Some p) ≡ Some (first.name, rows))
-      go None e there = cc
-      go (Some found) e there =
-          let name = first_entered a first second subs help alone p other found e in
-          (found.1, e ∙ ap (λ (n : Text). Some (n, found.1)) name)
+      named_so : (found : Text × List Row) → entered a (Some p) ≡ Some found → (found.0 ≡ first.name) ⊎ (found.0 ≡ second.name) → EntersOne (entered a (Some p)) first.name second.name
+      named_so found e (inl name) = inl (found.1, e ∙ ap (λ (n : Text). Some (n, found.1)) name)
+      named_so found e (inr name) = inr (found.1, e ∙ ap (λ (n : Text). Some (n, found.1)) name)
 
-  first_of_two : built_fault a nothing_held words ≡ [] → (rows : List Row) × (entered a (walk a.top.rules (names_of a) nothing_held words).stopped ≡ Some (first.name, rows))
-  first_of_two none =
+      go : (o : Option (Text × List Row)) → entered a (Some p) ≡ o → is_some o ≡ true → EntersOne (entered a (Some p)) first.name second.name
+      go None e there = cc
+      go (Some found) e there = named_so found e (one_entered a first second third subs help alone p other found e)
+
+  one_of_three : built_fault a nothing_held words ≡ [] → EntersOne (entered a (walk a.top.rules (names_of a) nothing_held words).stopped) first.name second.name
+  one_of_three none =
       let end = walk a.top.rules (names_of a) nothing_held words in
       let there = is_some (entered a end.stopped) in
       let settled_rows = (settled a.top.rules end.held).rows in
       let ends = ends_of (walk_fault a.top (names_of a) (walk_from nothing_held) words) (entered_fault a end.stopped)
       (settle_fault a.top.rules a.top.args_override_self end.held) (defaults_fault settled_rows a.top.rules)
       (check_fault a.top (finished a.top.rules end.held) there) none in
-      first_found end.stopped refl ends.0 (required_there a.top (finished a.top.rules end.held) there required ends.1)
+      one_found end.stopped refl ends.0 (required_there a.top (finished a.top.rules end.held) there required ends.1)
 
--- where clap makes matches, they are those of `play`
-pub play_entered : (words : List Text) → fault_of zpc_app words ≡ [] → (rows : List Row) × (subcommand_of zpc_app words ≡ Some (codes "play", rows))
-play_entered words none = first_of_two (built zpc_app) _ _ refl refl refl refl refl words none
+-- where clap makes matches, they are those of `check` or of `play`
+pub command_entered : (words : List Text) → fault_of zpc_app words ≡ [] → EntersOne (subcommand_of zpc_app words) (codes "check") (codes "play")
+command_entered words none = one_of_three (built zpc_app) _ _ _ refl refl refl refl refl words none
 
 -- what the program's clap command answers
 module _ (program : Command) (m : ArgMatches) (words : List Text) (is : app_of program ≡ zpc_app) (free : is_simple_and_free (app_of program) ≡ true → fault_of (app_of program) words ≡ []) where
   pub no_fault : fault_of zpc_app words ≡ []
   no_fault = subst (λ (a : App). fault_of a words ≡ []) is (free (ap is_simple_and_free is))
 
-  pub play_named : HasMatchesOf (app_of program) words m → subcommand_name_of m ≡ Some (codes "play")
-  play_named matches =
-      let rows = (matches (ap is_simple is)).1 ∙ ap (λ (a : App). subcommand_of a words) is ∙ (play_entered words no_fault).1 in
-      sym (name_first m) ∙ ap (option_map (λ (p : Text × List Row). p.0)) rows
+  pub command_named : HasMatchesOf (app_of program) words m → (subcommand_name_of m ≡ Some (codes "check")) ⊎ (subcommand_name_of m ≡ Some (codes "play"))
+  command_named matches = go (command_entered words no_fault)
+    where
+      rows : (subcommand_rows_of m) ≡ subcommand_of zpc_app words
+      rows = (matches (ap is_simple is)).1 ∙ ap (λ (a : App). subcommand_of a words) is
+
+      go : EntersOne (subcommand_of zpc_app words) (codes "check") (codes "play") → (subcommand_name_of m ≡ Some (codes "check")) ⊎ (subcommand_name_of m ≡ Some (codes "play"))
+      go (inl (found, e)) = inl (sym (name_first m) ∙ ap (option_map (λ (p : Text × List Row). p.0)) (rows ∙ e))
+      go (inr (found, e)) = inr (sym (name_first m) ∙ ap (option_map (λ (p : Text × List Row). p.0)) (rows ∙ e))

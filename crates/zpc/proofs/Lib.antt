@@ -4,3 +4,5 @@ mod FileLemmas
 mod StoryFiles
 mod PlayLemmas
 mod PerformLemmas
+mod AcceptLemmas
+mod SessionLemmas

@@ -15,7 +15,7 @@ use Rattle.clap.specs.Words.{ReadsOne, Row, Text, first_value, one_text, rows_of
 use Rattle.clap.specs.declared.parser.matches.ArgMatches.{ArgMatches}
 use Rattle.clap.specs.declared.parser.matches.ArgMatches.TheViews.{out-ArgMatches, out-SubCommand}
 use Rattle.clap.specs.Simple.{subcommand_rows}
-use Rattle.zpc.specs.CommandLine.{budget_of, number_in, story_of}
+use Rattle.zpc.specs.CommandLine.{budget_of, certificate_of, number_in, story_of}
 
 digits_pass : (ds : List ℕ) → AllDigits 10 ds → list_all (λ d. nat_lt (digit_value d) 10) ds ≡ true
 digits_pass [] h = refl
@@ -52,6 +52,18 @@ no_number text e h = go (is_number (without_leading_plus text)) refl
 pub story_read : (found : Found) (o : Option (Bor Text)) (d r : Bor Text) → option_map (λ s. s.now) o ≡ first_value found (codes "STORY") → d.now ≡ [] → r ≡ unwrap_or o d → r.now ≡ story_of (rows_of found)
 story_read found o d r given empty is =
     ap (λ (s : Bor Text). s.now) is ∙ default o d empty ∙ ap (λ (x : Option Text). unwrap_or x []) (given ∙ first_value-rows found (codes "STORY"))
+  where
+    default : (o : Option (Bor Text)) (d : Bor Text) → d.now ≡ [] → (unwrap_or o d).now ≡ unwrap_or (option_map (λ s. s.now) o) []
+    default None d e = e
+    default (Some s) d e = refl
+
+-- what the getter of texts gives of a certificate, and else the empty text
+pub certificate_given : (found : Found) (o : Option (Bor Text)) → option_map (λ s. s.now) o ≡ first_value found (codes "CERT") → option_map (λ s. s.now) o ≡ certificate_of (rows_of found)
+certificate_given found o given = given ∙ first_value-rows found (codes "CERT")
+
+pub certificate_read : (found : Found) (o : Option (Bor Text)) (d r : Bor Text) → option_map (λ s. s.now) o ≡ first_value found (codes "CERT") → d.now ≡ [] → r ≡ unwrap_or o d → r.now ≡ unwrap_or (certificate_of (rows_of found)) []
+certificate_read found o d r given empty is =
+    ap (λ (s : Bor Text). s.now) is ∙ default o d empty ∙ ap (λ (x : Option Text). unwrap_or x []) (certificate_given found o given)
   where
     default : (o : Option (Bor Text)) (d : Bor Text) → d.now ≡ [] → (unwrap_or o d).now ≡ unwrap_or (option_map (λ s. s.now) o) []
     default None d e = e

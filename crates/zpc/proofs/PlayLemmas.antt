@@ -19,9 +19,9 @@ use Rattle.zplayer.specs.Playing.{PlaysSome, end_of}
 use Rattle.zplayer.specs.Rendering.{render}
 use Rattle.zpc.specs.declared.outcome.Failure.TheVariants.{File, Read, Write, Memory}
 use Rattle.zpc.specs.declared.outcome.Problem.{Problem}
-use Rattle.zpc.specs.declared.outcome.Problem.TheVariants.{Refused, Failed}
+use Rattle.zpc.specs.declared.outcome.Problem.TheVariants.{Refused, Unreadable, BreaksStory, BreaksInstruction, Failed}
 use Rattle.zpc.specs.declared.outcome.Outcome.{Outcome}
-use Rattle.zpc.specs.declared.outcome.Outcome.TheVariants.{Played, Stopped}
+use Rattle.zpc.specs.declared.outcome.Outcome.TheVariants.{Accepted, Played, Stopped}
 use Rattle.zpc.specs.Playing.{ComesTo, Holds, IsBegun, IsCutShort, IsPlayed, IsRefused, IsUnloaded, Reads, ending_of}
 use Rattle.zpc.specs.Report.{outcome_of, problem_of_load, problem_of_play}
 use Rattle.zpc.proofs.StoryFiles.{holds_whole, reads, refused_whole}
@@ -35,6 +35,10 @@ module _ (known : Option (List ℕ)) (taken : List ℕ) (budget : ℕ) (before n
   of_part (Played end) h =
       along (λ file. IsPlayed file budget end before now) (λ file e p. record { story = p.story; holds = holds_whole 131073 taken file (omega arith) e p.story p.holds; ended = p.ended; written = p.written }) h
   of_part (Stopped (Refused error)) (h, same) = (along (λ file. IsRefused file error) (λ file e p. refused_whole 131073 taken file (omega arith) e error p) h, same)
+  of_part Accepted h = h
+  of_part (Stopped (Unreadable error)) h = h
+  of_part (Stopped (BreaksStory rule)) h = h
+  of_part (Stopped (BreaksInstruction address rule)) h = h
   of_part (Stopped (Failed File)) h = h
   of_part (Stopped (Failed Read)) h = h
   of_part (Stopped (Failed Write)) h =
@@ -65,6 +69,9 @@ unloaded file OutOfMemory h = tt
 
 pub unloaded_comes : (file : List ℕ) (budget : ℕ) (before : Option (List ℕ)) (problem : Problem) → IsUnloaded file problem → ComesTo (Some file) budget before before (Stopped problem)
 unloaded_comes file budget before (Refused error) h = ((file, refl, h), refl)
+unloaded_comes file budget before (Unreadable error) h = absurd h
+unloaded_comes file budget before (BreaksStory rule) h = absurd h
+unloaded_comes file budget before (BreaksInstruction address rule) h = absurd h
 unloaded_comes file budget before (Failed File) h = absurd h
 unloaded_comes file budget before (Failed Read) h = absurd h
 unloaded_comes file budget before (Failed Write) h = absurd h
@@ -72,6 +79,9 @@ unloaded_comes file budget before (Failed Memory) h = inl refl
 
 pub unloaded_blames : (file : List ℕ) (problem : Problem) → IsUnloaded file problem → problem ≢ Failed Write
 unloaded_blames file (Refused error) h = λ e. cc
+unloaded_blames file (Unreadable error) h = absurd h
+unloaded_blames file (BreaksStory rule) h = absurd h
+unloaded_blames file (BreaksInstruction address rule) h = absurd h
 unloaded_blames file (Failed File) h = absurd h
 unloaded_blames file (Failed Read) h = absurd h
 unloaded_blames file (Failed Write) h = absurd h
@@ -82,6 +92,12 @@ pub passed_on : (known : Option (List ℕ)) (budget : ℕ) (before now : Option 
     → ComesTo known budget before now (Stopped problem) → ComesTo known budget before now (outcome_of r)
 passed_on known budget before now (Ok end) problem (is, same) h = absurd (true≢false (sym is))
 passed_on known budget before now (Err q) problem (is, same) h = subst (λ (x : Problem). ComesTo known budget before now (Stopped x)) (sym same) h
+
+-- what was written whole and then kept was begun
+pub whole_begun : (before now later : Option (List ℕ)) (bytes : List ℕ) → Appends before now bytes → Keeps now later → AppendsBeginning before later bytes
+whole_begun before now later bytes written kept =
+    let all = Appends-kept before now later bytes written kept in
+    record { taken = length bytes; grown = subst (Appends before later) (sym (take-length bytes)) all }
 
 -- a story that was played from its opening
 module _ (file : List ℕ) (story : LoadedStory) (holds : Holds file story) (budget : ℕ) (m : Machine) (opened : m ≡ record { story = story; scope = All; state = opening story }) (before now : Option (List ℕ)) where

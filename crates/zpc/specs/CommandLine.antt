@@ -1,6 +1,6 @@
 -- The command line: which words the program takes, in the terms of clap's definitions, and what the matches that clap
 -- makes of them ask for (own).
-use Rattle.std.specs.Prelude.{◌≡◌, ℕ, ◌^◌, ◌&&◌, true, List, [], ◌∷◌, Some, length, codes, if◌then◌else◌, nat_lt, pos, unwrap_or}
+use Rattle.std.specs.Prelude.{◌≡◌, ℕ, ◌^◌, ◌&&◌, Bool, true, false, List, [], ◌∷◌, Option, Some, option_map, length, codes, if◌then◌else◌, nat_lt, pos, unwrap_or}
 use Rattle.std.specs.List.{list_all}
 use Rattle.std.specs.Option.{option_map_or}
 use Rattle.std.specs.Char.{digit_value}
@@ -23,9 +23,17 @@ budget_rule = record (new_rule (codes "budget")) {
   parser = Some (parsers.Signed (pos 0) (pos 4294967295));
 }
 
--- `play STORY --budget N`
+-- `CERT`, which has to be there or may be
+abbrev pub certificate_rule : Bool → Rule
+certificate_rule required = record (new_rule (codes "CERT")) { required = required }
+
+-- `check STORY CERT`
+abbrev pub check_app : App
+check_app = with_rule (with_rule (new_app (codes "check")) story_rule) (certificate_rule true)
+
+-- `play STORY [CERT] --budget N`
 abbrev pub play_app : App
-play_app = with_rule (with_rule (new_app (codes "play")) story_rule) budget_rule
+play_app = with_rule (with_rule (with_rule (new_app (codes "play")) story_rule) (certificate_rule false)) budget_rule
 
 -- the program, before its commands: its words don't begin with its name, and one of them is a command
 abbrev pub bare_app : App
@@ -34,7 +42,7 @@ bare_app =
 
 -- the program
 abbrev pub zpc_app : App
-zpc_app = with_subcommand bare_app play_app.top
+zpc_app = with_subcommand (with_subcommand bare_app check_app.top) play_app.top
 
 -- the number that a text says in decimal digits, with or without a plus before them, where it is a u32; else 0
 abbrev pub number_in : Text → ℕ
@@ -51,7 +59,27 @@ story_of rows = unwrap_or (first_of (codes "STORY") rows) []
 abbrev pub budget_of : List Row → ℕ
 budget_of rows = option_map_or number_in (one_of (codes "budget") rows) 0
 
--- the command is the one that clap's matches name, with the values among them
+-- the name of the certificate among the matches of a command, if there is one
+abbrev pub certificate_of : List Row → Option Text
+certificate_of rows = first_of (codes "CERT") rows
+
+-- what is asked for, by the names of files
+pub data Request : Type 0 where
+  Check : (story certificate : Text) → Request
+  Play : (story : Text) (certificate : Option Text) (budget : ℕ) → Request
+
+-- the request is the one that clap's matches name, with the values among them
+abbrev pub Asks : Text × List Row → Request → Type 0
+Asks matches (Check story certificate) =
+    (matches.0 ≡ codes "check") × (story ≡ story_of matches.1) × (certificate ≡ unwrap_or (certificate_of matches.1) [])
+Asks matches (Play story certificate budget) =
+    (matches.0 ≡ codes "play") × (story ≡ story_of matches.1) × (certificate ≡ certificate_of matches.1) × (budget ≡ budget_of matches.1)
+
+-- what a command asks for
+abbrev pub request_of : Command → Request
+request_of (commands.Check story certificate) = Check story.now certificate.now
+request_of (commands.Play story certificate budget) = Play story.now (option_map (λ c. c.now) certificate) budget
+
+-- the command is the one that clap's matches name
 abbrev pub IsReadFrom : Text × List Row → Command → Type 0
-IsReadFrom matches (commands.Play story budget) =
-    (matches.0 ≡ codes "play") × (story.now ≡ story_of matches.1) × (budget ≡ budget_of matches.1)
+IsReadFrom matches command = Asks matches (request_of command)

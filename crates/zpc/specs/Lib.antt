@@ -1,5 +1,6 @@
 pub mod CommandLine
 pub mod Contents
-pub mod Performing
-pub mod Playing
 pub mod Report
+pub mod Playing
+pub mod Accepting
+pub mod Performing

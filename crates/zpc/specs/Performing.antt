@@ -1,16 +1,15 @@
 -- What the words of a command line come to: what is done, what is said of it, and the exit status (own).
-use Rattle.std.specs.Prelude.{◌≡◌, ◌≢◌, ◌⊎◌, ℕ, Bool, true, false, List, Option, Some, codes, MatchBool}
+use Rattle.std.specs.Prelude.{◌≡◌, ◌≢◌, ◌⊎◌, ℕ, Bool, true, false, List, Option, None, Some, MatchBool}
 use Rattle.std.specs.Io.KnownBytes.{Appends}
 use Rattle.clap.specs.Kinds.{IsAmong, Kinds}
 use Rattle.clap.specs.Words.{Row, Text, subcommand_of}
 use Rattle.clap.specs.declared.error.kind.ErrorKind.{ErrorKind}
 use Rattle.clap.specs.declared.error.kind.ErrorKind.TheVariants.{DisplayHelp, DisplayVersion}
 use Rattle.zfault.specs.Devices.{AppendsBeginning, HasRisen}
-use Rattle.zpc.specs.CommandLine.{budget_of, story_of, zpc_app}
+use Rattle.zpc.specs.CommandLine.{Asks, Request, Check, Play, zpc_app}
 use Rattle.zpc.specs.Playing.{ComesTo}
+use Rattle.zpc.specs.Accepting.{CheckComesTo, PlayComesTo}
 use Rattle.zpc.specs.Report.{line_of, status_of, text_of}
-use Rattle.zpc.specs.declared.words.Command.{Command}
-use Rattle.zpc.specs.declared.words.Command.TheVariants as commands
 use Rattle.zpc.specs.declared.outcome.Failure.TheVariants.{Write, Memory}
 use Rattle.zpc.specs.declared.outcome.Problem.TheVariants.{Failed}
 use Rattle.zpc.specs.declared.outcome.Outcome.{Outcome}
@@ -81,17 +80,21 @@ Explains kinds status old new =
 
 -- ---- words that name one
 
--- what a command comes to
-abbrev pub Does : Command → (List ℕ → Option (List ℕ)) → Option (List ℕ) → Option (List ℕ) → Outcome → Type 0
-Does (commands.Play story budget) known before now outcome = ComesTo (known story.now) budget before now outcome
+-- what comes of a request, with what the writer took before and has taken now
+abbrev pub Comes : Request → (List ℕ → Option (List ℕ)) → Option (List ℕ) → Option (List ℕ) → Outcome → Type 0
+Comes (Check story certificate) known before now outcome = CheckComesTo (known story) (known certificate) before now outcome
+Comes (Play story None budget) known before now outcome = ComesTo (known story) budget before now outcome
+Comes (Play story (Some certificate) budget) known before now outcome = PlayComesTo (known story) (known certificate) budget before now outcome
 
--- `play`, with the story and the budget among clap's matches: what its file comes to is reported, and the writer is
--- blamed just where it failed
+-- a request, with the values among clap's matches: what it comes to is reported, and the writer is blamed just where it
+-- failed
 pub record Performs (words : List Text) (known : List ℕ → Option (List ℕ)) (status : ℕ) (old new : Sinks) : Type 0 where
-  pub rows : List Row
-  pub asked : subcommand_of zpc_app words ≡ Some (codes "play", rows)
+  pub matches : Text × List Row
+  pub named : subcommand_of zpc_app words ≡ Some matches
+  pub request : Request
+  pub asks : Asks matches request
   pub outcome : Outcome
-  pub comes : ComesTo (known (story_of rows)) (budget_of rows) old.writer.contents new.writer.contents outcome
+  pub comes : Comes request known old.writer.contents new.writer.contents outcome
   pub blamed : outcome ≡ Stopped (Failed Write) → HasRisen old.writer.failures new.writer.failures
   pub quiet : outcome ≢ Stopped (Failed Write) → new.writer.failures ≡ old.writer.failures
   pub reported : Reports outcome status old.errors new.errors

@@ -58,7 +58,7 @@ pub record IsRefused (file : List ℕ) (error : LoadError) : Type 0 where
 abbrev pub IsUnloaded : List ℕ → Problem → Type 0
 IsUnloaded file (Refused error) = IsRefused file error
 IsUnloaded file (Failed Memory) = ⊤
-IsUnloaded file (Failed failure) = ⊥
+IsUnloaded file problem = ⊥
 
 -- a file with this property was read: the one of the name, where its bytes are known
 abbrev pub Reads : Option (List ℕ) → (List ℕ → Type 0) → Type 0
@@ -73,3 +73,4 @@ ComesTo known budget before now (Stopped (Failed File)) = now ≡ before
 ComesTo known budget before now (Stopped (Failed Read)) = ⊥
 ComesTo known budget before now (Stopped (Failed Write)) = Reads known (λ file. IsBegun file budget before now)
 ComesTo known budget before now (Stopped (Failed Memory)) = (now ≡ before) ⊎ Reads known (λ file. IsCutShort file budget before now)
+ComesTo known budget before now outcome = ⊥

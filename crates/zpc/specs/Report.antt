@@ -5,6 +5,13 @@ use Rattle.zfault.specs.Fault.{number_of as fault_number}
 use Rattle.zstory.specs.Refusal.{number_of as refusal_number}
 use Rattle.zstory.specs.declared.load_error.LoadError.{LoadError}
 use Rattle.zstory.specs.declared.load_error.LoadError.TheVariants.{OutOfMemory as NoMemoryToLoad}
+use Rattle.zcert.specs.Refusal.{number_of as reading_number}
+use Rattle.zcert.specs.declared.error.CertError.{CertError}
+use Rattle.zcert.specs.declared.error.CertError.TheVariants.{OutOfMemory as NoMemoryToRead}
+use Rattle.zrule.specs.Numbers.{number_of as rule_number}
+use Rattle.zcheck.specs.Numbers.{number_of as story_rule_number}
+use Rattle.zcheck.specs.declared.refusal.Refusal.{Refusal}
+use Rattle.zcheck.specs.declared.refusal.Refusal.TheVariants as refusals
 use Rattle.zplayer.specs.declared.end.End.{End}
 use Rattle.zplayer.specs.declared.end.End.TheVariants as ends
 use Rattle.zplayer.specs.declared.end.PlayError.{PlayError}
@@ -12,14 +19,25 @@ use Rattle.zplayer.specs.declared.end.PlayError.TheVariants as errors
 use Rattle.zpc.specs.declared.outcome.Failure.{Failure}
 use Rattle.zpc.specs.declared.outcome.Failure.TheVariants.{File, Read, Write, Memory}
 use Rattle.zpc.specs.declared.outcome.Problem.{Problem}
-use Rattle.zpc.specs.declared.outcome.Problem.TheVariants.{Refused, Failed}
+use Rattle.zpc.specs.declared.outcome.Problem.TheVariants.{Refused, Unreadable, BreaksStory, BreaksInstruction, Failed}
 use Rattle.zpc.specs.declared.outcome.Outcome.{Outcome}
-use Rattle.zpc.specs.declared.outcome.Outcome.TheVariants.{Played, Stopped}
+use Rattle.zpc.specs.declared.outcome.Outcome.TheVariants.{Accepted, Played, Stopped}
 
 -- a story that isn't loaded is refused, but for want of memory
 abbrev pub problem_of_load : LoadError → Problem
 problem_of_load NoMemoryToLoad = Failed Memory
 problem_of_load error = Refused error
+
+-- a file that isn't read as a certificate is refused, but for want of memory
+abbrev pub problem_of_reading : CertError → Problem
+problem_of_reading NoMemoryToRead = Failed Memory
+problem_of_reading error = Unreadable error
+
+-- a certificate that doesn't hold is refused, but for want of memory
+abbrev pub problem_of_checking : Refusal → Problem
+problem_of_checking (refusals.Story rule) = BreaksStory rule
+problem_of_checking (refusals.Instruction address rule) = BreaksInstruction address rule
+problem_of_checking refusals.OutOfMemory = Failed Memory
 
 -- what breaks playing off is a failure
 abbrev pub problem_of_play : PlayError → Problem
@@ -31,8 +49,9 @@ problem_of_play errors.OutOfMemory = Failed Memory
 abbrev pub status_of : Outcome → ℕ
 status_of (Played (ends.Fault fault place)) = 3
 status_of (Played end) = 0
-status_of (Stopped (Refused error)) = 1
+status_of Accepted = 0
 status_of (Stopped (Failed failure)) = 4
+status_of (Stopped problem) = 1
 
 -- the lower-case hexadecimal digit of a number below 16
 abbrev pub hex_digit : ℕ → ℕ
@@ -61,8 +80,12 @@ end_text ends.FrameLimit = codes "end: frame limit"
 end_text (ends.Fault fault place) = codes "fault: F" ++ decimal (fault_number fault) ++ codes " at " ++ place_text place
 
 abbrev pub text_of : Outcome → List ℕ
+text_of Accepted = []
 text_of (Played end) = end_text end
 text_of (Stopped (Refused error)) = codes "refused: L" ++ decimal (refusal_number error)
+text_of (Stopped (Unreadable error)) = codes "refused: K" ++ decimal (reading_number error)
+text_of (Stopped (BreaksStory rule)) = codes "refused: S" ++ decimal (story_rule_number rule)
+text_of (Stopped (BreaksInstruction address rule)) = codes "refused: I" ++ decimal (rule_number rule) ++ codes " at " ++ place_text (pos address)
 text_of (Stopped (Failed failure)) = failure_text failure
 
 -- what comes of playing, or of what kept it from being done

@@ -1,6 +1,7 @@
 //! The program `zpc`: plays Z-machine version 3 stories.
 #![tactic(auto)]
 
+mod accepting;
 mod files;
 mod message;
 mod outcome;

@@ -9,7 +9,6 @@ use itoa::Buffer;
 use std::marker::Model;
 use zfault::Fault;
 use zplayer::End;
-use zstory::LoadError;
 
 /// The most bytes that a line has room for.
 const ROOM: usize = 32;
@@ -38,9 +37,9 @@ impl Message {
     {
         let mut message = Message::new();
         match outcome {
+            Outcome::Accepted => {}
             Outcome::Played(end) => message.push_end(end),
-            Outcome::Stopped(Problem::Refused(error)) => message.push_refusal(*error),
-            Outcome::Stopped(Problem::Failed(failure)) => message.push(failure_text(*failure)),
+            Outcome::Stopped(problem) => message.push_problem(problem),
         }
         message.finish();
         message
@@ -68,13 +67,32 @@ impl Message {
         let _ = self.bytes.try_extend_from_slice(text);
     }
 
-    fn push_refusal(&mut self, error: LoadError)
+    fn push_problem(&mut self, problem: &Problem)
         requires { self.old ≡ [] }
-        ensures text { self.new ≡ text_of (Outcome.Stopped (Problem.Refused error)) }
+        ensures text { self.new ≡ text_of (Outcome.Stopped problem.now) }
         ensures room { length self.new < ROOM }
     {
-        self.push(b"refused: L");
-        self.push_number(error.number());
+        match problem {
+            Problem::Refused(error) => self.push_code(b"refused: L", error.number()),
+            Problem::Unreadable(error) => self.push_code(b"refused: K", error.number()),
+            Problem::BreaksStory(rule) => self.push_code(b"refused: S", rule.number()),
+            Problem::BreaksInstruction(address, rule) => {
+                self.push_code(b"refused: I", rule.number());
+                self.push(b" at ");
+                self.push_address(*address);
+            }
+            Problem::Failed(failure) => self.push(failure_text(*failure)),
+        }
+    }
+
+    fn push_code(&mut self, text: &[u8], number: u8)
+        requires empty { self.old ≡ [] }
+        requires short { length text.now ≤ 10 }
+        ensures text { self.new ≡ text.now ++ decimal number }
+        ensures most { length self.new ≤ 13 }
+    {
+        self.push(text);
+        self.push_number(number);
     }
 
     fn push_end(&mut self, end: &End)
@@ -119,6 +137,18 @@ impl Message {
             self.push(&address_text(place as u32));
         } else {
             self.push(Buffer::new().format(place).as_bytes());
+        }
+    }
+
+    fn push_address(&mut self, address: u32)
+        requires { length self.old + 11 ≤ ROOM }
+        ensures text { self.new ≡ self.old ++ place_text (pos address) }
+        ensures most { length self.new ≤ length self.old + 11 }
+    {
+        if address < 0x100000 {
+            self.push(&address_text(address));
+        } else {
+            self.push(Buffer::new().format(address).as_bytes());
         }
     }
 

@@ -1,10 +1,13 @@
 //! What a command comes to.
 
 ghost use Rattle.std.specs.Prelude.{◌≡◌};
-ghost use Rattle.zpc.specs.Report.{problem_of_load, problem_of_play, status_of};
+ghost use Rattle.zpc.specs.Report.{problem_of_checking, problem_of_load, problem_of_play, problem_of_reading, status_of};
 
 use std::alloc::AllocError;
+use zcert::CertError;
+use zcheck::{Refusal, StoryRule};
 use zplayer::{End, PlayError};
+use zrule::Rule;
 use zstory::LoadError;
 
 /// What a file, a device or the system kept from being done.
@@ -25,6 +28,12 @@ pub enum Failure {
 pub enum Problem {
     /// The file is no story of this profile. Never for want of memory.
     Refused(LoadError),
+    /// The file is no certificate. Never for want of memory.
+    Unreadable(CertError),
+    /// The certificate doesn't hold of the story.
+    BreaksStory(StoryRule),
+    /// The certificate doesn't hold of the instruction at an address.
+    BreaksInstruction(u32, Rule),
     /// Something failed that isn't the story's fault.
     Failed(Failure),
 }
@@ -32,6 +41,8 @@ pub enum Problem {
 /// What a command came to.
 #[derive(Clone, Copy, Debug, PartialEq, Eq)]
 pub enum Outcome {
+    /// The certificate was accepted.
+    Accepted,
     /// The story was played, and ended so.
     Played(End),
     /// The command wasn't done, or not to its end.
@@ -45,9 +56,9 @@ impl Outcome {
     {
         match self {
             Outcome::Played(End::Fault(_, _)) => 3,
-            Outcome::Played(_) => 0,
-            Outcome::Stopped(Problem::Refused(_)) => 1,
+            Outcome::Accepted | Outcome::Played(_) => 0,
             Outcome::Stopped(Problem::Failed(_)) => 4,
+            Outcome::Stopped(_) => 1,
         }
     }
 }
@@ -59,6 +70,29 @@ impl From<LoadError> for Problem {
         match error {
             LoadError::OutOfMemory => Problem::Failed(Failure::Memory),
             _ => Problem::Refused(error),
+        }
+    }
+}
+
+impl From<CertError> for Problem {
+    ghost from_gives = { λ error problem. problem ≡ problem_of_reading error };
+
+    fn from(error: CertError) -> Problem {
+        match error {
+            CertError::OutOfMemory => Problem::Failed(Failure::Memory),
+            _ => Problem::Unreadable(error),
+        }
+    }
+}
+
+impl From<Refusal> for Problem {
+    ghost from_gives = { λ refusal problem. problem ≡ problem_of_checking refusal };
+
+    fn from(refusal: Refusal) -> Problem {
+        match refusal {
+            Refusal::Story(rule) => Problem::BreaksStory(rule),
+            Refusal::Instruction(address, rule) => Problem::BreaksInstruction(address, rule),
+            Refusal::OutOfMemory => Problem::Failed(Failure::Memory),
         }
     }
 }

@@ -1,15 +1,18 @@
 //! Doing what the words ask for.
 
-ghost use Rattle.std.specs.Prelude.{◌≡◌, ◌≢◌, [], ℕ, List, Err, IfErr, IfOk, Some};
+ghost use Rattle.std.specs.Prelude.{◌≡◌, ◌≢◌, ◌⊎◌, [], ℕ, List, Err, OnErr, OnOk, Option, Some};
 ghost use Rattle.clap.specs.Kinds.{HasKind, Kinds};
 ghost use Rattle.clap.specs.Walk.{texts};
 ghost use Rattle.clap.specs.Words.{fault_of};
-ghost use Rattle.zfault.specs.Devices.{HasRisen};
-ghost use Rattle.zpc.specs.CommandLine.{zpc_app};
-ghost use Rattle.zpc.specs.Performing.{Does, Explains, Performs, Says, seen, sinks};
-ghost use Rattle.zpc.specs.Playing.{ComesTo, Holds, IsUnloaded};
+ghost use Rattle.std.specs.Io.KnownBytes.{Appends};
+ghost use Rattle.zfault.specs.Devices.{AppendsBeginning, HasRisen};
+ghost use Rattle.zpc.specs.Accepting.{CheckComesTo, IsAccepted, PlayComesTo, accepted_line};
+ghost use Rattle.zpc.specs.CommandLine.{request_of, zpc_app};
+ghost use Rattle.zpc.specs.Performing.{Comes, Explains, Performs, Says, seen, sinks};
+ghost use Rattle.zpc.specs.Playing.{ComesTo, Holds};
 ghost use Rattle.zpc.specs.Report.{failure_text, line_of, no_text, outcome_of, status_of, text_of};
 
+use crate::accepting::{STORY_LIMIT, accept, load};
 use crate::files::{Files, read_file};
 use crate::message::Message;
 use crate::outcome::{Failure, Outcome, Problem};
@@ -18,7 +21,9 @@ use crate::words::{Command, read_words};
 use clap::Error;
 use clap::error::ErrorKind;
 use std::alloc::Global;
-use zfault::{Sink, Source, write_whole};
+use zcheck::Accepted;
+use zfault::{Failed, Sink, Source, write_whole};
+use zplay::Session;
 use zplayer::{End, Options, play_checked};
 use zref::{CheckedMachine, Scope};
 use zstory::Story;
@@ -26,8 +31,8 @@ use zstory::Story;
 /// The exit status where the words are wrong.
 const USAGE: u8 = 2;
 
-/// The most bytes that are read of a story: one more than the longest has, so that a longer file is told from it.
-const STORY_LIMIT: usize = 131_073;
+/// What is said of a certificate that is accepted.
+const ACCEPTED: &[u8] = b"accepted\n";
 
 /// What is said of arguments that are no text.
 const NO_TEXT: &[u8] = b"error: invalid UTF-8 was detected in one or more arguments
@@ -67,16 +72,78 @@ fn carry_out<F: Files, R: Source, W: Sink>(
     reader: &mut R,
     writer: &mut W,
 ) -> Outcome
-    ensures comes { Does command.entry (F.known files.old) (W.contents writer.old) (W.contents writer.new) result }
+    ensures comes { Comes (request_of command.entry) (F.known files.old) (W.contents writer.old) (W.contents writer.new) result }
     ensures blamed { result ≡ Outcome.Stopped (Problem.Failed Failure.Write) → HasRisen (W.failures writer.old) (W.failures writer.new) }
     ensures quiet { result ≢ Outcome.Stopped (Problem.Failed Failure.Write) → W.failures writer.new ≡ W.failures writer.old }
     ensures kept { F.known files.new ≡ F.known files.old }
 {
     match command {
-        Command::Play { story, budget } => {
-            outcome_of(play(alloc, story, budget, files, reader, writer))
+        Command::Check { story, certificate } => {
+            check_files(alloc, story, certificate, files, writer)
         }
+        Command::Play {
+            story,
+            certificate: None,
+            budget,
+        } => outcome_of(play(alloc, story, budget, files, reader, writer)),
+        Command::Play {
+            story,
+            certificate: Some(certificate),
+            budget,
+        } => outcome_of(play_by_certificate(
+            alloc,
+            story,
+            certificate,
+            budget,
+            files,
+            reader,
+            writer,
+        )),
     }
+}
+
+/// Says whether a story is accepted with a certificate, each in its file.
+fn check_files<F: Files, W: Sink>(
+    alloc: Global,
+    story: &str,
+    certificate: &str,
+    files: &mut F,
+    writer: &mut W,
+) -> Outcome
+    ensures comes { CheckComesTo (F.known files.old story.now) (F.known files.old certificate.now) (W.contents writer.old) (W.contents writer.new) result }
+    ensures blamed { result ≡ Outcome.Stopped (Problem.Failed Failure.Write) → HasRisen (W.failures writer.old) (W.failures writer.new) }
+    ensures quiet { result ≢ Outcome.Stopped (Problem.Failed Failure.Write) → W.failures writer.new ≡ W.failures writer.old }
+    ensures kept { F.known files.new ≡ F.known files.old }
+{
+    match accept(alloc, story, certificate, files) {
+        Ok(_) => say_accepted(writer),
+        Err(problem) => Outcome::Stopped(problem),
+    }
+}
+
+/// Writes that a certificate is accepted.
+fn say_accepted<W: Sink>(writer: &mut W) -> Outcome
+    ensures written { result ≡ Outcome.Accepted → Appends (W.contents writer.old) (W.contents writer.new) accepted_line }
+    ensures begun { result ≡ Outcome.Stopped (Problem.Failed Failure.Write) → AppendsBeginning (W.contents writer.old) (W.contents writer.new) accepted_line }
+    ensures only { (result ≡ Outcome.Accepted) ⊎ (result ≡ Outcome.Stopped (Problem.Failed Failure.Write)) }
+    ensures blamed { result ≡ Outcome.Stopped (Problem.Failed Failure.Write) → HasRisen (W.failures writer.old) (W.failures writer.new) }
+    ensures quiet { result ≢ Outcome.Stopped (Problem.Failed Failure.Write) → W.failures writer.new ≡ W.failures writer.old }
+{
+    match write_and_flush(writer, ACCEPTED) {
+        Ok(()) => Outcome::Accepted,
+        Err(Failed) => Outcome::Stopped(Problem::Failed(Failure::Write)),
+    }
+}
+
+/// Writes a text, and sees that it is through.
+fn write_and_flush<W: Sink>(writer: &mut W, text: &[u8]) -> Result<(), Failed>
+    ensures written { OnOk result (Appends (W.contents writer.old) (W.contents writer.new) text.now) }
+    ensures begun { OnErr result (AppendsBeginning (W.contents writer.old) (W.contents writer.new) text.now) }
+    ensures blamed { OnErr result (HasRisen (W.failures writer.old) (W.failures writer.new)) }
+    ensures quiet { OnOk result (W.failures writer.new ≡ W.failures writer.old) }
+{
+    write_whole(writer, text)?;
+    writer.flush()
 }
 
 /// Plays a story from its file.
@@ -96,14 +163,6 @@ fn play<F: Files, R: Source, W: Sink>(
     let file = read_file(alloc, files, name, STORY_LIMIT)?;
     let story = load(alloc, file)?;
     play_story(alloc, &story, budget, reader, writer)
-}
-
-/// Loads a story, and frees the bytes of its file.
-fn load(alloc: Global, file: Vec<u8>) -> Result<Story, Problem>
-    ensures loaded { IfOk result (Holds file.items) }
-    ensures unloaded { IfErr result (IsUnloaded file.items) }
-{
-    Ok(Story::load(alloc, &file)?)
 }
 
 /// Plays a story from its opening.
@@ -126,6 +185,57 @@ fn play_story<R: Source, W: Sink>(
     let end = play_checked(
         alloc,
         &mut machine,
+        reader,
+        writer,
+        &mut NoSaves::new(),
+        &mut Zeros,
+        options,
+    )?;
+    match writer.flush() {
+        Ok(()) => Ok(end),
+        Err(_) => Err(Problem::Failed(Failure::Write)),
+    }
+}
+
+/// Plays a story that is accepted with a certificate, each in its file.
+fn play_by_certificate<F: Files, R: Source, W: Sink>(
+    alloc: Global,
+    story: &str,
+    certificate: &str,
+    budget: u32,
+    files: &mut F,
+    reader: &mut R,
+    writer: &mut W,
+) -> Result<End, Problem>
+    ensures comes { PlayComesTo (F.known files.old story.now) (F.known files.old certificate.now) budget (W.contents writer.old) (W.contents writer.new) (outcome_of result) }
+    ensures blamed { result ≡ Err (Problem.Failed Failure.Write) → HasRisen (W.failures writer.old) (W.failures writer.new) }
+    ensures quiet { result ≢ Err (Problem.Failed Failure.Write) → W.failures writer.new ≡ W.failures writer.old }
+    ensures kept { F.known files.new ≡ F.known files.old }
+{
+    let accepted = accept(alloc, story, certificate, files)?;
+    play_accepted(alloc, &accepted, budget, reader, writer)
+}
+
+/// Plays an accepted story from its opening.
+fn play_accepted<R: Source, W: Sink>(
+    alloc: Global,
+    accepted: &Accepted,
+    budget: u32,
+    reader: &mut R,
+    writer: &mut W,
+) -> Result<End, Problem>
+    ensures comes { (story certificate : Option (List ℕ)) → IsAccepted story certificate accepted.now → PlayComesTo story certificate budget (W.contents writer.old) (W.contents writer.new) (outcome_of result) }
+    ensures blamed { result ≡ Err (Problem.Failed Failure.Write) → HasRisen (W.failures writer.old) (W.failures writer.new) }
+    ensures quiet { result ≢ Err (Problem.Failed Failure.Write) → W.failures writer.new ≡ W.failures writer.old }
+{
+    let mut session = Session::start(alloc, accepted)?;
+    let options = Options {
+        budget,
+        status: false,
+    };
+    let end = zplayer::play_story(
+        alloc,
+        &mut session,
         reader,
         writer,
         &mut NoSaves::new(),

@@ -1,9 +1,10 @@
 //! The program's commands, with files and devices in memory.
 
+mod checking;
 mod make;
 
 use crate::perform::perform;
-use make::{HELLO, OneFile, Shelf, first_sample};
+use make::{HELLO, Shelf, TwoFiles, first_sample};
 use std::alloc::{AllocError, Global};
 use std::test::Fail;
 use zfault::FromRead;
@@ -16,12 +17,22 @@ struct Done {
     errors: Vec<u8>,
 }
 
-// Performs words where `story` is the one file, with a writer that takes so many bytes a call, for so many calls.
+// Performs words where `story` is a file and `certificate` an empty one, with a writer that takes so many bytes a call,
+// for so many calls.
 fn performed(alloc: Global, words: &[&str], file: &[u8], most: usize, good_calls: u64) -> Done {
-    let mut files = OneFile {
-        name: "story",
-        bytes: file,
-    };
+    performed_with(alloc, words, file, b"", most, good_calls)
+}
+
+// The same, with a certificate.
+fn performed_with(
+    alloc: Global,
+    words: &[&str],
+    story: &[u8],
+    certificate: &[u8],
+    most: usize,
+    good_calls: u64,
+) -> Done {
+    let mut files = TwoFiles { story, certificate };
     let mut reader = FromRead::new(b"".as_slice());
     let mut writer = Shelf::new(alloc, most, good_calls);
     let mut errors = Shelf::new(alloc, 100, 100);

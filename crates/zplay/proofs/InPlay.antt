@@ -12,7 +12,9 @@ use Rattle.zlist.proofs.Tables.{list_any-position}
 use Rattle.zdomain.specs.Interval.{interval_operations}
 use Rattle.zstate.specs.State.{State, at_place}
 use Rattle.zstate.specs.Step.{Done, step}
-use Rattle.zrule.specs.Described.{Described, IsSafe, StepsSafely}
+use Rattle.zstate.specs.Run.{run}
+use Rattle.zfault.specs.declared.event.Event.{Event}
+use Rattle.zrule.specs.Described.{Described, IsNoFault, IsSafe, RunsSafely, StepsSafely}
 use Rattle.zfault.specs.declared.item.Item.{Item}
 use Rattle.zfault.specs.declared.item.Item.TheVariants.{Text}
 use Rattle.zstate.specs.declared.halt.Halt.{Halt}
@@ -160,3 +162,8 @@ module _ (a : Acceptance) (records : List Decoded) (index : ℕ) (s : State) (pl
   starves x d is other some =
       let m = moves x d is other in
       (record { state = state_at a.listing x.next s; items = map Text m.bytes }, m.made, some_items m.bytes (rw m.printed at some))
+
+-- no run from here meets a fault
+pub runs_fine : (a : Acceptance) (records : List Decoded) (index : ℕ) (s : State) → IsInPlay a records index s → RunsSafely interval_operations (claims a) → (events : List Event) (n : ℕ) → IsNoFault (run (setting_of a) events n (state_at a.listing index s)).stop
+runs_fine a records index s play safely events n =
+    (safely (setting_of a) events n (state_at a.listing index s) play.accepted.loaded (supported a play.accepted) (listed_each a play.accepted) play.described).0

@@ -1,10 +1,12 @@
 //! The session.
 
-ghost use Rattle.std.specs.Prelude.{◌≡◌, ◌≤◌, ◌+◌, ℕ, [], Ok, Some, IfOk, OnErr, IsTrue};
+ghost use Rattle.std.specs.Prelude.{◌≡◌, ◌≤◌, ◌+◌, ℕ, List, [], Ok, Some, IfOk, OnErr, IsTrue};
 ghost use Rattle.zfault.specs.Answers.{answers};
 ghost use Rattle.zstate.specs.declared.halt.Stop.TheVariants.{Paused};
 ghost use Rattle.zstate.specs.State.{opening, give};
 ghost use Rattle.zstate.specs.Run.{awaited, run, Ends, Makes, Stands};
+ghost use Rattle.zfault.specs.declared.event.Event.{Event as AnEvent};
+ghost use Rattle.zrule.specs.Described.{IsNoFault};
 ghost use Rattle.zplay.specs.Accepted.{IsAccepted};
 ghost use Rattle.zplay.specs.Session.{setting, Steps, PausesBy, GivesOut};
 
@@ -141,6 +143,14 @@ impl<'a> Session<'a> {
             Some(pause) => Ok(pause),
             None => Ok(Pause::Budget),
         }
+    }
+
+    /// The law of sessions: no run from here meets a fault, whatever the events and however many the steps.
+    pub fn never_faults(&self)
+        ensures { (events : List AnEvent) (n : ℕ) → IsNoFault (run (setting self.now) events n self.now.state).stop }
+    {
+        each_step_is_safe::<Interval>();
+        let _index = self.index;
     }
 
     /// Makes one step, or says why the session stands still.

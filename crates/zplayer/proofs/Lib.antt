@@ -1,2 +1,3 @@
 mod Turns
 mod Writes
+mod Ends

@@ -1,6 +1,6 @@
 -- Turns of playing, one after another.
 use Rattle.std.proofs.Common.{◌≡◌, ℕ, ◌+◌, ◌-◌, ◌≤◌, List, [], ◌++◌, refl, sym, ap, subst, ◌∙◌, arith}
-use Rattle.std.specs.Prelude.{Option, IfOk}
+use Rattle.std.specs.Prelude.{Option}
 use Rattle.std.specs.Io.KnownBytes.{Appends}
 use Rattle.std.proofs.KnownBytes.{Appends-trans, Appends-nil}
 use Rattle.std.proofs.lemmas.List.{append-nil}
@@ -11,11 +11,11 @@ use Rattle.zfault.specs.declared.pause.Pause.TheVariants as pauses
 use Rattle.zstate.specs.declared.halt.Stop.{Stop}
 use Rattle.zstate.specs.declared.halt.Stop.TheVariants as stops
 use Rattle.zstate.specs.State.{State, Setting}
-use Rattle.zstate.specs.Run.{Ending, after, ends, run, Goes, Makes, Stands}
+use Rattle.zstate.specs.Run.{Ending, after, ends, run, Goes, Stands}
 use Rattle.zstate.proofs.Joins.{steps_join}
 use Rattle.zstate.proofs.Calls.{stands_ends, goes_join}
 use Rattle.zplayer.specs.Rendering.{render}
-use Rattle.zplayer.specs.Playing.{Plays, PlaysSome}
+use Rattle.zplayer.specs.Playing.{Plays}
 use Rattle.zplayer.proofs.Writes.{renders}
 
 -- what some steps give out is a beginning of what all give out

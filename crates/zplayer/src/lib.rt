@@ -2,10 +2,12 @@
 #![tactic(auto)]
 
 mod end;
+mod machine;
 mod outside;
 mod player;
 mod screen;
 
 pub use end::{End, Options, PlayError};
 pub use outside::{SaveStore, Words};
-pub use player::play_checked;
+pub use machine::Machine;
+pub use player::{play_checked, play_story};

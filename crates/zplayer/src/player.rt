@@ -1,18 +1,22 @@
-//! The player of a checked machine.
+//! The player of a machine.
 
-ghost use Rattle.std.specs.Prelude.{◌≡◌, ◌<◌, [], Ok, None, IsErrOf, IfOk, IfNone, IfSome, OnOk};
+ghost use Rattle.std.specs.Prelude.{◌≡◌, ◌≢◌, ◌<◌, ℤ, [], Ok, None, IsErrOf, IfOk, IfNone, IfSome, OnOk};
 ghost use Rattle.std.specs.Io.KnownBytes.{Appends};
 ghost use Rattle.zfault.specs.Devices.{AppendsBeginning, HasRisen};
 ghost use Rattle.zstate.specs.Run.{run, Stands};
 ghost use Rattle.zref.specs.Machine.{setting, SamePlay};
+ghost use Rattle.zfault.specs.declared.fault.Fault.{Fault as AFault};
+ghost use Rattle.zplay.specs.Session.{setting_of};
 ghost use Rattle.zplayer.specs.Playing.{end_of, Plays, PlaysSome};
 ghost use Rattle.zplayer.specs.Rendering.{render};
 
 use crate::end::{End, Options, PlayError};
+use crate::machine::Machine;
 use crate::outside::{SaveStore, Words};
 use crate::screen::write_items;
 use std::alloc::Global;
 use zfault::{Item, Pause, Sink, Source};
+use zplay::Session;
 use zref::CheckedMachine;
 use zstate::Stop;
 
@@ -42,8 +46,53 @@ pub fn play_checked<R: Source, W: Sink, S: SaveStore, G: Words>(
     ensures blamed { IsErrOf result PlayError.Write → HasRisen (W.failures writer.old) (W.failures writer.new) }
     ensures finished { IsErrOf result PlayError.OutOfMemory → PlaysSome (setting machine.old) options.budget machine.old.state machine.new.state (W.contents writer.old) (W.contents writer.new) }
 {
+    play_machine(alloc, machine, writer, options.budget)
+}
+
+/// Plays the session from the state that it is in, as `play_checked` does a machine. It meets no fault.
+pub fn play_story<R: Source, W: Sink, S: SaveStore, G: Words>(
+    alloc: Global,
+    session: &mut Session,
+    _reader: &mut R,
+    writer: &mut W,
+    _store: &mut S,
+    _words: &mut G,
+    options: Options,
+) -> Result<End, PlayError>
+    ensures play { session.new.accepted ≡ session.old.accepted }
+    ensures ends { IfOk result (λ end. end ≡ end_of (run (setting_of session.old.accepted) [] options.budget session.old.state).stop) }
+    ensures no_fault { IfOk result (λ end. (fault : AFault) (place : ℤ) → end ≢ End.Fault fault place) }
+    ensures state { OnOk result (session.new.state ≡ (run (setting_of session.old.accepted) [] options.budget session.old.state).state) }
+    ensures written { OnOk result (Appends (W.contents writer.old) (W.contents writer.new) (render (run (setting_of session.old.accepted) [] options.budget session.old.state).items)) }
+    ensures quiet { ¬ IsErrOf result PlayError.Write → W.failures writer.new ≡ W.failures writer.old }
+    ensures no_read { ¬ IsErrOf result PlayError.Read }
+    ensures begun { IsErrOf result PlayError.Write → AppendsBeginning (W.contents writer.old) (W.contents writer.new) (render (run (setting_of session.old.accepted) [] options.budget session.old.state).items) }
+    ensures blamed { IsErrOf result PlayError.Write → HasRisen (W.failures writer.old) (W.failures writer.new) }
+    ensures finished { IsErrOf result PlayError.OutOfMemory → PlaysSome (setting_of session.old.accepted) options.budget session.old.state session.new.state (W.contents writer.old) (W.contents writer.new) }
+{
+    session.never_faults();
+    play_machine(alloc, session, writer, options.budget)
+}
+
+/// Makes at most so many steps in turns, and writes what each turn gives out.
+fn play_machine<M: Machine, W: Sink>(
+    alloc: Global,
+    machine: &mut M,
+    writer: &mut W,
+    budget: u32,
+) -> Result<End, PlayError>
+    ensures play { M.IsSamePlay machine.old machine.new }
+    ensures ends { IfOk result (λ end. end ≡ end_of (run (M.setting machine.old) [] budget (M.state machine.old)).stop) }
+    ensures state { OnOk result (M.state machine.new ≡ (run (M.setting machine.old) [] budget (M.state machine.old)).state) }
+    ensures written { OnOk result (Appends (W.contents writer.old) (W.contents writer.new) (render (run (M.setting machine.old) [] budget (M.state machine.old)).items)) }
+    ensures quiet { ¬ IsErrOf result PlayError.Write → W.failures writer.new ≡ W.failures writer.old }
+    ensures no_read { ¬ IsErrOf result PlayError.Read }
+    ensures begun { IsErrOf result PlayError.Write → AppendsBeginning (W.contents writer.old) (W.contents writer.new) (render (run (M.setting machine.old) [] budget (M.state machine.old)).items) }
+    ensures blamed { IsErrOf result PlayError.Write → HasRisen (W.failures writer.old) (W.failures writer.new) }
+    ensures finished { IsErrOf result PlayError.OutOfMemory → PlaysSome (M.setting machine.old) budget (M.state machine.old) (M.state machine.new) (W.contents writer.old) (W.contents writer.new) }
+{
     let mut items = Vec::new(alloc);
-    let mut left = options.budget;
+    let mut left = budget;
     'turns: loop {
         if let Some(stop) = turn(machine, writer, &mut left, &mut items)? {
             return Ok(End::from(stop));
@@ -64,21 +113,21 @@ fn standstill(stop: Stop, left: u32) -> Option<Stop>
 
 /// Makes at most `TURN` of the steps that are left, and writes what they gave out. Answers where playing then stands
 /// still, if it does.
-fn turn<W: Sink>(
-    machine: &mut CheckedMachine,
+fn turn<M: Machine, W: Sink>(
+    machine: &mut M,
     writer: &mut W,
     left: &mut u32,
     items: &mut Vec<Item>,
 ) -> Result<Option<Stop>, PlayError>
-    ensures play { SamePlay machine.old machine.new }
-    ensures stands { IfOk result (λ still. IfSome still (λ stop. Stands (setting machine.old) stop machine.new.state × (stop ≡ Stop.Paused Pause.Budget → left.new ≡ 0))) }
+    ensures play { M.IsSamePlay machine.old machine.new }
+    ensures stands { IfOk result (λ still. IfSome still (λ stop. Stands (M.setting machine.old) stop (M.state machine.new) × (stop ≡ Stop.Paused Pause.Budget → left.new ≡ 0))) }
     ensures fewer { result ≡ Ok None → left.new < left.old }
-    ensures ok { OnOk result (Plays (setting machine.old) left.old left.new machine.old.state machine.new.state (W.contents writer.old) (W.contents writer.new)) }
+    ensures ok { OnOk result (Plays (M.setting machine.old) left.old left.new (M.state machine.old) (M.state machine.new) (W.contents writer.old) (W.contents writer.new)) }
     ensures quiet { ¬ IsErrOf result PlayError.Write → W.failures writer.new ≡ W.failures writer.old }
     ensures no_read { ¬ IsErrOf result PlayError.Read }
-    ensures begun { IsErrOf result PlayError.Write → AppendsBeginning (W.contents writer.old) (W.contents writer.new) (render (run (setting machine.old) [] left.old machine.old.state).items) }
+    ensures begun { IsErrOf result PlayError.Write → AppendsBeginning (W.contents writer.old) (W.contents writer.new) (render (run (M.setting machine.old) [] left.old (M.state machine.old)).items) }
     ensures blamed { IsErrOf result PlayError.Write → HasRisen (W.failures writer.old) (W.failures writer.new) }
-    ensures finished { IsErrOf result PlayError.OutOfMemory → Plays (setting machine.old) left.old left.new machine.old.state machine.new.state (W.contents writer.old) (W.contents writer.new) }
+    ensures finished { IsErrOf result PlayError.OutOfMemory → Plays (M.setting machine.old) left.old left.new (M.state machine.old) (M.state machine.new) (W.contents writer.old) (W.contents writer.new) }
 {
     let mut steps = TURN.min(*left);
     let rest = *left - steps;

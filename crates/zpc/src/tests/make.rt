@@ -57,19 +57,54 @@ fn put_word(file: &mut [u8], at: usize, word: u16) {
     }
 }
 
-/// One file, by its name.
-#[derive(Drop)]
-pub struct OneFile<'a> {
-    pub name: &'a str,
-    pub bytes: &'a [u8],
+/// A certificate for a story, in the main code alone, that lists these addresses, with 0 in each global.
+pub fn certificate_for(
+    alloc: Global,
+    story: &[u8],
+    addresses: &[u16],
+) -> Result<Vec<u8>, AllocError> {
+    let mut bytes = Vec::new(alloc);
+    bytes.extend_from_slice(b"ZPCC\x01")?;
+    bytes.extend_from_slice(story.get(0x02..0x04).unwrap_or(b""))?;
+    bytes.extend_from_slice(story.get(0x12..0x18).unwrap_or(b""))?;
+    bytes.extend_from_slice(story.get(0x1C..0x1E).unwrap_or(b""))?;
+    bytes.extend_from_slice(&((story.len() % 0x20000) as u32).to_be_bytes())?;
+    bytes.extend_from_slice(&[0, 0])?;
+    for _ in 0..240 {
+        bytes.extend_from_slice(&[0, 0, 0, 0])?;
+    }
+    bytes.extend_from_slice(&[0, 0])?;
+    bytes.extend_from_slice(&((addresses.len() % 0x20000) as u32).to_be_bytes())?;
+    for address in addresses {
+        let [high, low] = address.to_be_bytes();
+        bytes.extend_from_slice(&[0, 0, high, low, 0, 0, 0])?;
+    }
+    Ok(bytes)
 }
 
-impl<'a> Files for OneFile<'a> {
+/// The bytes with another one at a place.
+pub fn with_byte(mut bytes: Vec<u8>, at: usize, byte: u8) -> Vec<u8> {
+    if at < bytes.len() {
+        bytes[at] = byte;
+    }
+    bytes
+}
+
+/// A story and a certificate, in files of the names `story` and `certificate`.
+#[derive(Drop)]
+pub struct TwoFiles<'a> {
+    pub story: &'a [u8],
+    pub certificate: &'a [u8],
+}
+
+impl<'a> Files for TwoFiles<'a> {
     fn read_at(&mut self, name: &str, from: u64, buffer: &mut [u8]) -> Option<usize> {
-        if name != self.name {
-            return None;
-        }
-        let rest = self.bytes.get(usize::try_from(from).ok()?..).unwrap_or(b"");
+        let file = match name {
+            "story" => self.story,
+            "certificate" => self.certificate,
+            _ => return None,
+        };
+        let rest = file.get(usize::try_from(from).ok()?..).unwrap_or(b"");
         let count = rest.len().min(buffer.len());
         buffer[..count].copy_from_slice(&rest[..count]);
         Some(count)

@@ -1,4 +1,5 @@
-use Rattle.zpc.proofs.PerformLemmas.{performs_command, performs_lacking}
+use Rattle.zpc.specs.CommandLine.{request_of}
+use Rattle.zpc.proofs.PerformLemmas.{performs_request, performs_lacking}
 use Rattle.zpc.proofs.perform.perform.Goals as goal
 
 pub returns-in-Err-clause-performs : goal.returns-in-Err-clause-performs
@@ -6,6 +7,6 @@ returns-in-Err-clause-performs g c = λ none. performs_lacking _ _ _ _ _ none (c
 
 pub returns-in-Ok-clause-performs : goal.returns-in-Ok-clause-performs
 returns-in-Ok-clause-performs g c = λ none.
-    performs_command _ _ _ _ _ c.carry_out.result c.carry_out.ensures.blamed c.carry_out.ensures.quiet
+    performs_request _ _ _ _ _ c.carry_out.result c.carry_out.ensures.blamed c.carry_out.ensures.quiet
     (record { status_is = c.report.ensures.status; said = c.report.ensures.said })
-    c.in-Ok.command c.carry_out.ensures.comes c.in-Ok.ensures.read
+    (request_of c.in-Ok.command) c.carry_out.ensures.comes c.in-Ok.ensures.read

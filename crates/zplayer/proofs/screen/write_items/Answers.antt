@@ -1,4 +1,4 @@
-use Rattle.std.proofs.Common.{arith, rules}
+use Rattle.std.proofs.Common.{rules}
 use Rattle.zplayer.proofs.Writes.{at_error, begun_more, written_more}
 use Rattle.zplayer.proofs.screen.write_items.Goals as goal
 

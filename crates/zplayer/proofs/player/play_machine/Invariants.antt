@@ -1,13 +1,12 @@
 use Rattle.std.proofs.Common.{◌≡◌}
-use Rattle.zref.specs.Machine.{setting, SamePlay}
 use Rattle.zplayer.specs.Playing.{Plays}
-use Rattle.zplayer.proofs.player.play_checked.Given as goal
+use Rattle.zplayer.proofs.player.play_machine.Given as goal
 
 -- what was done and written so far, and what is left of the budget
 abbrev pub invariant-turns : goal.invariant-turns
 invariant-turns g l = record {
-  play : SamePlay l.fn.machine l.machine;
-  so_far : Plays (setting l.fn.machine) l.fn.options.budget l.left l.fn.machine.state l.machine.state (g.W.Sink.contents l.fn.writer) (g.W.Sink.contents l.writer);
+  play : g.M.Machine.IsSamePlay l.fn.machine l.machine;
+  so_far : Plays (g.M.Machine.setting l.fn.machine) l.fn.budget l.left (g.M.Machine.state l.fn.machine) (g.M.Machine.state l.machine) (g.W.Sink.contents l.fn.writer) (g.W.Sink.contents l.writer);
   quiet : g.W.Sink.failures l.writer ≡ g.W.Sink.failures l.fn.writer;
 }
 

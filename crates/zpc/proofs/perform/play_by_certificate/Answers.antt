@@ -1,0 +1,5 @@
+use Rattle.zpc.proofs.SessionLemmas.{handed_on, unaccepted}
+use Rattle.zpc.proofs.perform.play_by_certificate.Goals as goal
+
+pub returns-clause-comes : goal.returns-clause-comes
+returns-clause-comes g c = c.play_accepted.ensures.comes _ _ c.in_ok-accepted.ensures.accepted

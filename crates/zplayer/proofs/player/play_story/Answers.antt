@@ -1,0 +1,5 @@
+use Rattle.zplayer.proofs.Ends.{ends_well}
+use Rattle.zplayer.proofs.player.play_story.Goals as goal
+
+pub returns-clause-no_fault : goal.returns-clause-no_fault
+returns-clause-no_fault g c = ends_well _ (c.never_faults.ensures _ _) c.play_machine.result c.play_machine.ensures.ends

@@ -1,0 +1,89 @@
+//! What a player asks of a machine.
+
+ghost use Rattle.std.specs.Prelude.{◌≡◌, ◌+◌, ℕ, [], Ok, IfOk};
+ghost use Rattle.zstate.specs.State.{Setting, State};
+ghost use Rattle.zstate.specs.Run.{run, Ends, Makes, Stands};
+
+use std::alloc::AllocError;
+use zfault::{Item, Pause};
+use zplay::Session;
+use zref::CheckedMachine;
+use zstate::Stop;
+
+/// A machine whose run is the defined one.
+pub trait Machine {
+    /// What it is played in.
+    ghost setting: { Self → Setting };
+
+    /// The state that it is in.
+    ghost state: { Self → State };
+
+    /// The second is the first, moved on: all that a play never changes is the same.
+    ghost IsSamePlay: { Self → Self → Type 0 };
+
+    /// Makes at most as many steps as are left, with no event but one that was given, and takes each off. What they give
+    /// out is appended to `items`.
+    ///
+    /// A pause or a fault leaves the state before its instruction; so does want of memory, with the items of the steps
+    /// that were made.
+    fn run_down(&mut self, left: &mut u32, items: &mut Vec<Item>) -> Result<Stop, AllocError>
+        ensures play { IsSamePlay self.old self.new }
+        ensures ok { IfOk result (λ stop. Ends stop (state self.new) items.old.items items.new.items (run (setting self.old) [] left.old (state self.old))) }
+        ensures made { (n : ℕ) × (n + left.new ≡ left.old) × Makes (setting self.old) n (state self.old) (state self.new) items.old.items items.new.items }
+        ensures stands { IfOk result (λ stop. Stands (setting self.old) stop (state self.new)) }
+        ensures spent { result ≡ Ok (Stop.Paused Pause.Budget) → left.new ≡ 0 };
+
+    /// A machine that didn't move.
+    ghost itself: { (m : Self) → IsSamePlay m m };
+
+    /// Moves one after another.
+    ghost through: { (old now new : Self) → IsSamePlay old now → IsSamePlay now new → IsSamePlay old new };
+
+    /// What it is played in stays the same.
+    ghost same_setting: { (old new : Self) → IsSamePlay old new → setting new ≡ setting old };
+}
+
+impl<'a> Machine for CheckedMachine<'a> {
+    ghost use Rattle.std.specs.Prelude.{refl};
+    ghost use Rattle.std.proofs.Common.{◌∙◌};
+    ghost use Rattle.zref.specs.Machine.{SamePlay, setting as setting_of_checked};
+    ghost use Rattle.zref.proofs.Running.{same_setting as same_setting_of_checked};
+
+    ghost setting = { setting_of_checked };
+
+    ghost state = { λ m. m.state };
+
+    ghost IsSamePlay = { SamePlay };
+
+    fn run_down(&mut self, left: &mut u32, items: &mut Vec<Item>) -> Result<Stop, AllocError> {
+        CheckedMachine::run_down(self, left, items)
+    }
+
+    ghost itself = { λ m. record { story = refl; scope = refl } };
+
+    ghost through = { λ old now new first then. record { story = then.story ∙ first.story; scope = then.scope ∙ first.scope } };
+
+    ghost same_setting = { same_setting_of_checked };
+}
+
+impl<'a> Machine for Session<'a> {
+    ghost use Rattle.std.specs.Prelude.{refl};
+    ghost use Rattle.std.proofs.Common.{◌∙◌, ap};
+    ghost use Rattle.zplay.specs.Session.{setting as setting_of_session, setting_of};
+
+    ghost setting = { setting_of_session };
+
+    ghost state = { λ p. p.state };
+
+    ghost IsSamePlay = { λ old new. new.accepted ≡ old.accepted };
+
+    fn run_down(&mut self, left: &mut u32, items: &mut Vec<Item>) -> Result<Stop, AllocError> {
+        Ok(Stop::Paused(Session::run_down(self, left, items)?))
+    }
+
+    ghost itself = { λ p. refl };
+
+    ghost through = { λ old now new first then. then ∙ first };
+
+    ghost same_setting = { λ old new same. ap setting_of same };
+}
