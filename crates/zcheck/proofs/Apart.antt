@@ -1,16 +1,16 @@
 -- Tables that share no byte, abbreviations and frozen ranges, each asked for by itself.
-use Rattle.std.proofs.Common.{◌≡◌, ◌↔◌, ◌⊎◌, inl, inr, ℕ, zero, suc, ◌+◌, ◌*◌, ◌-◌, ◌<◌, ◌≤◌, Bool, true, false, List, [], ◌∷◌, length, take, drop, Option, Some, None, refl, sym, ◌∙◌, ap, subst, arith, rules}
-use Rattle.std.specs.Prelude.{slice_get, All, IsSome, nat_le, ◌&&◌, ◌||◌, slice_index_or}
+use Rattle.std.proofs.Common.{◌≡◌, ◌↔◌, ◌⊎◌, inl, inr, ℕ, zero, suc, ◌+◌, ◌*◌, ◌-◌, ◌<◌, ◌≤◌, Bool, true, false, List, [], ◌∷◌, length, take, drop, Some, refl, sym, ◌∙◌, ap, subst, arith}
+use Rattle.std.specs.Prelude.{All, nat_le, ◌&&◌, ◌||◌, slice_index_or}
 use Rattle.std.specs.List.{list_any, AllByRecursion}
 use Rattle.std.proofs.lemmas.Bool.{cases_lt, leb-true, le-leb}
 use Rattle.std.proofs.lemmas.List.{length-take-le, length-drop}
 use Rattle.std.proofs.lemmas.Option.{same_Some}
 use Rattle.zstory.specs.Bytes.{word_at}
-use Rattle.zstory.specs.LoadedStory.{LoadedStory, globals, object_table, static_base, abbreviations}
+use Rattle.zstory.specs.LoadedStory.{LoadedStory, static_base, abbreviations}
 use Rattle.ztext.specs.Abbreviations.{abbreviation_at, IsPlainAbbreviation}
 use Rattle.zcert.specs.declared.parts.Range.{Range}
 use Rattle.zcert.specs.Spelling.{IsRange}
-use Rattle.zrule.specs.Bytes.{IsWithin, IsChanging, IsUnchanging, IsAbbreviation}
+use Rattle.zrule.specs.Bytes.{IsWithin, IsChanging, IsUnchanging}
 use Rattle.zrule.specs.Claims.{is_inside}
 use Rattle.zrule.specs.Rules.{HasAbbreviations, HasDisjointTables}
 use Rattle.zcheck.specs.Tables.{HasAbbreviation, IsFrozenApart, AreApart}
@@ -45,9 +45,10 @@ module _ (story : LoadedStory) (n place size : ℕ) (few : n < 96) (plain : IsPl
   long = length-take-le size (drop place story.memory) (omega (arith, within, length-drop place story.memory))
 
   parts_still : HasAbbreviation story n → IsUnchanging story (abbreviations story + 2 * n) 2 × IsUnchanging story place size
-  parts_still has =
-      (record { still = λ p inside. has.unchanging p (record { number = n; last = few; inside = inl inside }) refl },
-      record { still = λ p inside. has.unchanging p (record { number = n; last = few; inside = inr (take size (drop place story.memory), text, (omega (arith, at, inside.0), omega (arith, at, long, inside.1))) }) refl })
+  parts_still has = (
+    record { still = λ p inside. has.unchanging p (record { number = n; last = few; inside = inl inside }) refl },
+    record { still = λ p inside. has.unchanging p (record { number = n; last = few; inside = inr (take size (drop place story.memory), text, (omega (arith, at, inside.0), omega (arith, at, long, inside.1))) }) refl },
+  )
 
   by_part : IsUnchanging story (abbreviations story + 2 * n) 2 × IsUnchanging story place size → (p k : ℕ) → k ≡ n → (IsWithin (abbreviations story + 2 * k) 2 p ⊎ ((t : List ℕ) × (abbreviation_at story.memory k ≡ Some t) × IsWithin (2 * word_at story.memory (abbreviations story + 2 * k)) (length t) p)) → IsChanging story p → ⊥
   by_part still p k same (inl word) = still.0.still p (subst (λ (j : ℕ). IsWithin (abbreviations story + 2 * j) 2 p) same word)
@@ -62,9 +63,10 @@ module _ (story : LoadedStory) (n place size : ℕ) (few : n < 96) (plain : IsPl
 
 -- all abbreviations, one by one
 pub abbreviations_each : (story : LoadedStory) → HasAbbreviations story ↔ ((n : ℕ) → n < 96 → HasAbbreviation story n)
-abbreviations_each story =
-    (λ has n few. record { plain = has.plain n few; unchanging = λ p inside same. has.unchanging p inside },
-    λ each. record { plain = λ n few. (each n few).plain; unchanging = λ p inside. (each inside.number inside.last).unchanging p inside refl })
+abbreviations_each story = (
+  λ has n few. record { plain = has.plain n few; unchanging = λ p inside same. has.unchanging p inside },
+  λ each. record { plain = λ n few. (each n few).plain; unchanging = λ p inside. (each inside.number inside.last).unchanging p inside refl },
+)
 
 -- one more than those below a number
 pub one_more : (P : ℕ → Type 0) (n : ℕ) → ((k : ℕ) → k < n → P k) → P n → (k : ℕ) → k < n + 1 → P k
@@ -112,21 +114,24 @@ module _ (story : LoadedStory) where
   frozen_each (r ∷ ranges) ordered known =
       let here : (p : ℕ) → r.first ≤ p → p ≤ r.last → (64 ≤ p) × (p < static_base story) × (IsChanging story p → ⊥) = λ p low high. known p (or_left (is_inside p r) (list_any (is_inside p) ranges) (range_inside p r low high)) in
       let first = here r.first (omega arith) ordered.0.ordered in
-      let last = here r.last ordered.0.ordered (omega arith) in
-      (record { above = first.0; below = last.1; unchanging = record { still = λ p inside. (here p inside.0 (omega (arith, inside.0, inside.1))).2 } },
-      frozen_each ranges ordered.1 (λ p e. known p (or_right (is_inside p r) (list_any (is_inside p) ranges) e)))
+      let last = here r.last ordered.0.ordered (omega arith) in (
+        record { above = first.0; below = last.1; unchanging = record { still = λ p inside. (here p inside.0 (omega (arith, inside.0, inside.1))).2 } },
+        frozen_each ranges ordered.1 (λ p e. known p (or_right (is_inside p r) (list_any (is_inside p) ranges) e)),
+      )
 
   -- tables, and ranges one by one
   pub tables_where : (ranges : List Range) → AllByRecursion IsRange ranges → HasDisjointTables story (λ p. list_any (is_inside p) ranges) ↔ (AreApart story × AllByRecursion (IsFrozenApart story) ranges)
-  tables_where ranges ordered =
-      (λ has. (has.apart, frozen_each ranges ordered (λ p e. (has.frozen_above p e, has.frozen_below p e, has.unchanging p e))),
-      λ both. record { apart = both.0; frozen_above = λ p e. (frozen_in ranges both.1 p e).0; frozen_below = λ p e. (frozen_in ranges both.1 p e).1; unchanging = λ p e. (frozen_in ranges both.1 p e).2 })
+  tables_where ranges ordered = (
+    λ has. (has.apart, frozen_each ranges ordered (λ p e. (has.frozen_above p e, has.frozen_below p e, has.unchanging p e))),
+    λ both. record { apart = both.0; frozen_above = λ p e. (frozen_in ranges both.1 p e).0; frozen_below = λ p e. (frozen_in ranges both.1 p e).1; unchanging = λ p e. (frozen_in ranges both.1 p e).2 },
+  )
 
 -- a range by its first byte and its size
 pub frozen_where : (story : LoadedStory) (range : Range) (first size : ℕ) → first ≡ range.first → size ≡ range.last + 1 - range.first → 64 ≤ first → range.last + 1 ≤ static_base story → IsUnchanging story first size ↔ IsFrozenApart story range
-frozen_where story range first size is_first is_size above below =
-    (λ still. record { above = omega (arith, is_first, above); below = omega (arith, below); unchanging = subst (λ (k : ℕ). IsUnchanging story range.first k) is_size (subst (λ (k : ℕ). IsUnchanging story k size) is_first still) },
-    λ apart. subst (λ (k : ℕ). IsUnchanging story k size) (sym is_first) (subst (λ (k : ℕ). IsUnchanging story range.first k) (sym is_size) apart.unchanging))
+frozen_where story range first size is_first is_size above below = (
+  λ still. record { above = omega (arith, is_first, above); below = omega (arith, below); unchanging = subst (λ (k : ℕ). IsUnchanging story range.first k) is_size (subst (λ (k : ℕ). IsUnchanging story k size) is_first still) },
+  λ apart. subst (λ (k : ℕ). IsUnchanging story k size) (sym is_first) (subst (λ (k : ℕ). IsUnchanging story range.first k) (sym is_size) apart.unchanging),
+)
 
 -- of each element, by their places and by recursion
 pub each_of : {A : Type 0} (P : A → Type 0) (xs : List A) → All P xs ↔ AllByRecursion P xs

@@ -1,24 +1,22 @@
 -- A story that is accepted never faults.
-use Rattle.std.proofs.Common.{◌≡◌, ℕ, Bool, true, false, List, [], ◌∷◌, Some, refl, sym, ◌∙◌, ap, subst}
+use Rattle.std.proofs.Common.{◌≡◌, ℕ, Bool, true, false, List, [], ◌∷◌, Some, refl, ◌∙◌, ap}
 use Rattle.std.specs.Prelude.{◌==◌, ◌||◌, if◌then◌else◌}
 use Rattle.std.specs.List.{AllZip, list_any}
 use Rattle.zstory.specs.LoadedStory.{LoadedStory}
-use Rattle.zdomain.specs.declared.interval.Interval.{Interval}
 use Rattle.zdomain.specs.Domain.{SetOperations}
-use Rattle.zdomain.specs.Interval.{interval_operations}
 use Rattle.zlist.specs.declared.record.Record.{Record}
-use Rattle.zlist.specs.Listing.{ListedCode, is_listed}
+use Rattle.zlist.specs.Listing.{ListedCode}
 use Rattle.zcert.specs.Certificate.{Instruction, Certificate}
 use Rattle.zcert.specs.Listed.{listed_at}
 use Rattle.zstate.specs.State.{Scope, opening, scope_all, scope_only}
-use Rattle.zrule.specs.Claims.{Entry, claims_of}
+use Rattle.zrule.specs.Claims.{claims_of}
 use Rattle.zrule.specs.Rules.{Supports}
 use Rattle.zrule.specs.Described.{IsListedIn, IsLoadedStory}
 use Rattle.zrule.proofs.Listed.{entry_listed}
 use Rattle.zrule.proofs.Runs.{all_listed, run_safe}
 use Rattle.zrule.proofs.Safety.{opening_described}
 use Rattle.zcheck.specs.declared.refusal.StoryRule.TheVariants as rules
-use Rattle.zcheck.specs.Acceptance.{IsRecordOf, IsListingOf, RunsWithoutFault, NeverFaults}
+use Rattle.zcheck.specs.Acceptance.{IsRecordOf, IsListingOf, RunsWithoutFault}
 use Rattle.zcheck.specs.Passes.{Passes}
 
 module _ {V : Type 0} (o : SetOperations V) (story : LoadedStory) (c : Certificate V) where

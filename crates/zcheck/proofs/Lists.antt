@@ -7,7 +7,7 @@ use Rattle.std.proofs.lemmas.Option.{same_Some}
 use Rattle.std.proofs.lemmas.Slice.Zip.{all_zipped_more}
 use Rattle.zstory.specs.LoadedStory.{LoadedStory}
 use Rattle.zlist.specs.declared.record.Record.{Record}
-use Rattle.zlist.specs.Listing.{ListedCode, IsInOrder, addresses_of}
+use Rattle.zlist.specs.Listing.{IsInOrder, addresses_of}
 use Rattle.zcert.specs.declared.parts.Routine.{Routine}
 use Rattle.zcert.specs.Certificate.{Instruction, Certificate}
 use Rattle.zcert.specs.Format.{Format}

@@ -18,11 +18,7 @@ use zstory::Story;
 ///
 /// Whatever is typed, drawn or answered, and however long it is played, a story that is accepted meets no fault. Both
 /// are taken over; a refusal hands nothing back.
-pub fn check(
-    alloc: Global,
-    story: Story,
-    certificate: Certificate,
-) -> Result<Accepted, Refusal>
+pub fn check(alloc: Global, story: Story, certificate: Certificate) -> Result<Accepted, Refusal>
     ensures story { IfOk result (λ a. a.story ≡ story) }
     ensures certificate { IfOk result (λ a. a.certificate ≡ certificate) }
     ensures lists { IfOk result (λ a. IsListingOf story certificate a.listing) }

@@ -92,7 +92,10 @@ pub(crate) fn has_disjoint_tables(story: &Story, certificate: &Certificate) -> b
     ensures { IsTrue result ↔ HasDisjointTables story.now (claims_of interval_operations certificate.now).is_frozen }
 {
     are_tables_apart(story)
-        && certificate.ranges().iter().all(|range| is_frozen_apart(story, *range))
+        && certificate
+            .ranges()
+            .iter()
+            .all(|range| is_frozen_apart(story, *range))
 }
 
 /// Whether the globals, and the object table with its entries, share no byte.

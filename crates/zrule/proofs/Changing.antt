@@ -1,9 +1,9 @@
 -- The bytes of objects that instructions change, by how far they lie behind the first entry.
-use Rattle.std.proofs.Common.{◌≡◌, ◌↔◌, ◌⊎◌, inl, inr, ℕ, ◌+◌, ◌*◌, ◌/◌, ◌%◌, ◌-◌, ◌<◌, ◌≤◌, arith, subst}
+use Rattle.std.proofs.Common.{◌≡◌, ◌⊎◌, inl, inr, ℕ, ◌+◌, ◌/◌, ◌%◌, ◌<◌, ◌≤◌, arith, subst}
 use Rattle.std.proofs.lemmas.Bool.{cases_lt}
 use Rattle.zstory.specs.LoadedStory.{LoadedStory}
 use Rattle.zstory.specs.Objects.{object_place}
-use Rattle.zrule.specs.Bytes.{IsWithin, IsObjectState, IsChanging, IsUnchanging}
+use Rattle.zrule.specs.Bytes.{IsObjectState, IsChanging}
 
 pub state_here : (story : LoadedStory) (place behind : ℕ) → place ≡ object_place story.memory 1 + behind → behind / 9 < story.objects → behind % 9 < 7 → IsObjectState story place
 state_here story place behind is few inside = record {

@@ -18,6 +18,7 @@ const DEFAULTS_LENGTH: usize = 62;
 /// The length of an object's entry, and how many bytes of it, from its first on, instructions on objects change: the
 /// attributes, and the numbers of parent, sibling and child (Z 12.3.1).
 const ENTRY_LENGTH: usize = 9;
+
 const STATE_LENGTH: usize = 7;
 
 /// Whether no instruction changes one of so many bytes from a place on, save one that has to ask (own).
@@ -59,7 +60,9 @@ fn is_object_state(story: &Story, place: usize) -> bool
 fn behind_defaults(story: &Story, place: usize) -> Option<usize>
     ensures { MatchOption result (place < object_place story.now.memory 1) (λ behind. place ≡ object_place story.now.memory 1 + behind) }
 {
-    place.checked_sub(story.object_table())?.checked_sub(DEFAULTS_LENGTH)
+    place
+        .checked_sub(story.object_table())?
+        .checked_sub(DEFAULTS_LENGTH)
 }
 
 /// Whether a place is one of so many from another on.

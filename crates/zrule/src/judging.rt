@@ -38,17 +38,23 @@ pub fn instruction_there(story: &Story, address: u32) -> Option<Instr>
 fn pops(operands: &[Operand]) -> usize
     ensures { result ≡ pops operands.now }
 {
-    operands.iter().filter(|operand| matches!(operand, Operand::Variable(0))).count()
+    operands
+        .iter()
+        .filter(|operand| matches!(operand, Operand::Variable(0)))
+        .count()
 }
 
 /// Whether each edge of an instruction leads on.
-fn has_edges(certificate: &Certificate, listed: &Instruction<'_, Interval>, instruction: &Instr) -> bool
+fn has_edges(
+    certificate: &Certificate,
+    listed: &Instruction<'_, Interval>,
+    instruction: &Instr,
+) -> bool
     requires { listed.now.address + instruction.now.size ≤ 131072 }
     ensures { IsTrue result ↔ OnTrue (goes_on instruction.now.opcode) (Leads interval_operations (claims_of interval_operations certificate.now) listed.now.routine (below (pops instruction.now.operands) (entry_of (seen listed.now)).shape) (listed.now.address + instruction.now.size)) }
 {
     let next = listed.address + instruction.length() as u32;
-    !goes_on(instruction.opcode())
-        || leads(certificate, listed, pops(instruction.operands()), next)
+    !goes_on(instruction.opcode()) || leads(certificate, listed, pops(instruction.operands()), next)
 }
 
 /// Whether the next instruction comes after one of this opcode.
@@ -63,8 +69,7 @@ fn has_text(story: &Story, listed: &Instruction<'_, Interval>, instruction: &Ins
     requires { static_base story.now ≤ listed.now.address }
     ensures { (is_frozen : ℕ → Bool) → IsTrue result ↔ OnTrue (prints_inline instruction.now.opcode) (HasFixedText story.now is_frozen (listed.now.address + 1)) }
 {
-    !prints_inline(instruction.opcode())
-        || is_fixed_text(story, listed.address as usize + 1)
+    !prints_inline(instruction.opcode()) || is_fixed_text(story, listed.address as usize + 1)
 }
 
 /// Whether the text at a place, where no instruction changes a byte, is whole.

@@ -28,11 +28,7 @@ pub(crate) fn leads(
 }
 
 /// Whether the sets of one place contain those of another, less its topmost slots.
-fn covers(
-    from: &Instruction<'_, Interval>,
-    popped: usize,
-    to: &Instruction<'_, Interval>,
-) -> bool
+fn covers(from: &Instruction<'_, Interval>, popped: usize, to: &Instruction<'_, Interval>) -> bool
     ensures { IsTrue result ↔ Covers interval_operations (below popped (entry_of (seen from.now)).shape) (entry_of (seen to.now)).shape }
 {
     let left = &from.slots[..from.slots.len().saturating_sub(popped)];

@@ -1,4 +1,3 @@
-use Rattle.std.proofs.Common.{rules}
 use Rattle.zcert.specs.Format.{interval_format}
 use Rattle.zcheck.proofs.Lists.{in_order}
 use Rattle.zcheck.proofs.listing.listing_of.Goals as goal

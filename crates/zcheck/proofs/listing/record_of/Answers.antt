@@ -1,4 +1,4 @@
-use Rattle.std.proofs.Common.{rules, ap, ◌≡◌, Some}
+use Rattle.std.proofs.Common.{ap, ◌≡◌, Some}
 use Rattle.std.specs.Prelude.{option_map}
 use Rattle.zcert.specs.Listed.{seen}
 use Rattle.zdomain.specs.Interval.{interval_operations}

@@ -1,7 +1,7 @@
 use Rattle.std.proofs.Common.{rules}
 use Rattle.zcert.specs.Listed.{seen}
 use Rattle.zdomain.specs.Interval.{interval_operations}
-use Rattle.zcheck.proofs.First.{first_where, first_nowhere}
+use Rattle.zcheck.proofs.First.{first_where}
 use Rattle.zcheck.proofs.story_rules.has_first_place.Goals as goal
 
 pub returns-in-Some : goal.returns-in-Some

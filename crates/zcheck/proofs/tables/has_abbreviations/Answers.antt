@@ -1,4 +1,4 @@
-use Rattle.std.proofs.Common.{rules, arith, ℕ}
+use Rattle.std.proofs.Common.{rules, arith}
 use Rattle.zcheck.specs.Tables.{HasAbbreviation}
 use Rattle.zcheck.proofs.Apart.{abbreviations_each, one_more}
 use Rattle.zcheck.proofs.tables.has_abbreviations.Goals as goal

@@ -1,4 +1,4 @@
-use Rattle.std.proofs.Common.{rules, IsTrue}
+use Rattle.std.proofs.Common.{rules}
 use Rattle.zrule.proofs.Changing.{state_here, state_inside}
 use Rattle.zrule.proofs.bytes.is_object_state.Goals as goal
 
