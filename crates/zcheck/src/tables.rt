@@ -1,8 +1,7 @@
 //! What rules on a story ask of its globals, its abbreviations and its tables.
 
-ghost use Rattle.std.specs.Prelude.{◌≡◌, ◌↔◌, ◌+◌, ◌*◌, ◌≤◌, ◌<◌, ℕ, IsTrue};
+ghost use Rattle.std.specs.Prelude.{◌≡◌, ◌↔◌, ◌+◌, ◌*◌, ◌≤◌, ◌<◌, IsTrue};
 ghost use Rattle.zdomain.specs.Interval.{interval_operations};
-ghost use Rattle.zcert.specs.declared.parts.Range.{Range as ARange};
 ghost use Rattle.zrule.specs.Claims.{claims_of};
 ghost use Rattle.zstory.specs.LoadedStory.{abbreviations};
 ghost use Rattle.zrule.specs.Bytes.{IsUnchanging};
@@ -10,7 +9,7 @@ ghost use Rattle.zrule.specs.Rules.{global_in, HasAbbreviations, HasDisjointTabl
 ghost use Rattle.zcheck.specs.Tables.{HasAbbreviation, IsFrozenApart, AreApart};
 
 use zcert::{Certificate, Range};
-use zdomain::{Domain, Interval};
+use zdomain::Domain;
 use zrule::is_unchanging;
 use zstory::Story;
 use ztext::plain_abbreviation;

@@ -15,13 +15,14 @@ const GLOBALS_LENGTH: usize = 480;
 /// How many bytes the property defaults take up (Z 12.2).
 const DEFAULTS_LENGTH: usize = 62;
 
-/// The length of an object's entry, and how many bytes of it, from its first on, instructions on objects change: the
-/// attributes, and the numbers of parent, sibling and child (Z 12.3.1).
+/// The length of an object's entry (Z 12.3.1).
 const ENTRY_LENGTH: usize = 9;
 
+/// How many bytes of an entry, from its first on, instructions on objects change: the attributes, and the numbers of
+/// parent, sibling and child (Z 12.3.1).
 const STATE_LENGTH: usize = 7;
 
-/// Whether no instruction changes one of so many bytes from a place on, save one that has to ask (own).
+/// Whether none of so many bytes from a place on is one that instructions may change without asking (own).
 pub fn is_unchanging(story: &Story, from: usize, size: usize) -> bool
     requires { from + size ≤ 131072 }
     ensures { IsTrue result ↔ IsUnchanging story.now from size }
@@ -34,7 +35,8 @@ pub fn is_unchanging(story: &Story, from: usize, size: usize) -> bool
     true
 }
 
-/// Whether an instruction may change the byte without asking.
+/// Whether an instruction may change the byte at a place without asking: it is one of Flags 2, of the globals, or of an
+/// object's attributes and its place in the tree (own).
 pub fn is_changing(story: &Story, place: usize) -> bool
     ensures { IsTrue result ↔ IsChanging story.now place }
 {

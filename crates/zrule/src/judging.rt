@@ -1,10 +1,10 @@
 //! Which rule an instruction breaks.
 
-ghost use Rattle.std.specs.Prelude.{◌≡◌, ◌↔◌, ◌+◌, ◌≤◌, ◌<◌, ℕ, Bool, IsTrue, IfSome, IfNone, MatchOption, Some};
+ghost use Rattle.std.specs.Prelude.{◌≡◌, ◌↔◌, ◌+◌, ◌≤◌, ℕ, Bool, IsTrue, IfSome, IfNone, MatchOption, Some};
 ghost use Rattle.std.specs.Bool.{OnTrue};
 ghost use Rattle.zstory.specs.LoadedStory.{static_base};
 ghost use Rattle.zdomain.specs.Interval.{interval_operations};
-ghost use Rattle.zcert.specs.Listed.{listed_at, seen};
+ghost use Rattle.zcert.specs.Listed.{seen};
 ghost use Rattle.zcode.specs.Instruction.{Instruction as Spelled};
 ghost use Rattle.zrule.specs.declared.rule.Rule.{Rule as ARule};
 ghost use Rattle.zrule.specs.Claims.{claims_of, entry_of, Entry};
@@ -21,7 +21,8 @@ use ztext::text_length;
 /// The rules that are asked of an instruction that is there, by their numbers.
 const RULES: [Rule; 3] = [Rule::Height, Rule::Successor, Rule::Text];
 
-/// The instruction at a place, where one is there at or above the base of static memory.
+/// The instruction at an address, and `None` where none decodes there or the address lies below the base of static memory,
+/// since an instruction in dynamic memory might change (own).
 pub fn instruction_there(story: &Story, address: u32) -> Option<Instr>
     ensures none { IfNone result ((i : Spelled) → IsThere story.now address i → ⊥) }
     ensures some { IfSome result (λ i. IsThere story.now address i) }
@@ -108,7 +109,8 @@ fn keeps(
     }
 }
 
-/// The lowest rule that a listed instruction breaks (own).
+/// The lowest rule that a listed instruction breaks, and `None` where it keeps all (own). No other rule is asked of a
+/// place where no instruction is.
 pub fn broken_rule(
     story: &Story,
     certificate: &Certificate,

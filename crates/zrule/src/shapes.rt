@@ -1,6 +1,6 @@
 //! What edges ask of the sets that are stated on both sides.
 
-ghost use Rattle.std.specs.Prelude.{◌↔◌, ◌+◌, ◌≤◌, ◌<◌, ℕ, IsTrue, length};
+ghost use Rattle.std.specs.Prelude.{◌↔◌, IsTrue};
 ghost use Rattle.std.specs.List.{AllZip};
 ghost use Rattle.zdomain.specs.Domain.{Within};
 ghost use Rattle.zdomain.specs.Interval.{interval_operations};
