@@ -5,3 +5,4 @@ mod Changing
 mod Covering
 mod Order
 pub mod Listed
+mod Worked
