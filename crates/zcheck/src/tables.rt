@@ -86,7 +86,7 @@ fn is_entry_unchanging(story: &Story, number: u8) -> bool
     is_unchanging(story, entry, 2)
 }
 
-/// Whether globals and object table share no byte, and what is frozen could be.
+/// Whether the globals and the object table share no byte, and each range lies where it may be frozen.
 pub(crate) fn has_disjoint_tables(story: &Story, certificate: &Certificate) -> bool
     ensures { IsTrue result ↔ HasDisjointTables story.now (claims_of interval_operations certificate.now).is_frozen }
 {
