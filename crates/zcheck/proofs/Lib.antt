@@ -4,3 +4,4 @@ mod First
 mod Places
 mod Lists
 pub mod Headline
+mod Worked
