@@ -4,5 +4,7 @@
 mod decoded;
 mod giving;
 mod session;
+#[cfg(test)]
+mod tests;
 
 pub use session::Session;
