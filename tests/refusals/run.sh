@@ -13,11 +13,13 @@ cd "$stories" || exit 1
 passed=0
 failed=0
 
-# answer NAME WORD..: the status, output and errors of a run, in files of that name
+# answer NAME SETTINGS WORD..: the status, output and errors of a run, in files of that name. The settings are of the
+# program's environment alone.
 answer() {
     local name=$1
-    shift
-    timeout 20 "$program" "$@" >"$work/$name.out" 2>"$work/$name.err" </dev/null
+    local -n settings=$2
+    shift 2
+    timeout 20 env "${settings[@]}" "$program" "$@" >"$work/$name.out" 2>"$work/$name.err" </dev/null
     echo $? >"$work/$name.status"
 }
 
@@ -28,12 +30,14 @@ is_beginning() {
 
 # one command, over every N
 refuse_each() {
-    answer ample "$@"
+    local ample=() refusing=()
+    answer ample ample "$@"
     local n=0
     while :; do
         n=$((n + 1))
         rm -f "$work/refused"
-        LD_PRELOAD="$work/refuse.so" REFUSE=$n REFUSED="$work/refused" answer refused "$@"
+        refusing=("LD_PRELOAD=$work/refuse.so" "REFUSE=$n" "REFUSED=$work/refused")
+        answer refused refusing "$@"
         if cmp -s "$work/ample.status" "$work/refused.status" && cmp -s "$work/ample.out" "$work/refused.out" && cmp -s "$work/ample.err" "$work/refused.err"; then
             passed=$((passed + 1))
         elif [ "$(cat "$work/refused.status")" = 4 ] && [ "$(cat "$work/refused.err")" = "failed: memory" ] && is_beginning "$work/refused.out" "$work/ample.out"; then
@@ -55,7 +59,13 @@ refuse_each() {
 refuse_each play hello.z3
 refuse_each play --budget 0 hello.z3
 refuse_each play absent.z3
+refuse_each check hello.z3 hello.cert
+refuse_each check hello.z3 hello.z3
+refuse_each check hello.z3 absent.cert
+refuse_each play hello.z3 hello.cert
+refuse_each play --budget 0 hello.z3 hello.cert
 refuse_each play
+refuse_each check hello.z3
 refuse_each --help
 refuse_each --version
 echo "refusals: $passed passed, $failed failed"

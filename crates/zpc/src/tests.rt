@@ -1,6 +1,7 @@
 //! The program's commands, with files and devices in memory.
 
 mod checking;
+mod machines;
 mod make;
 
 use crate::perform::perform;
