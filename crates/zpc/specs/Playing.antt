@@ -1,4 +1,4 @@
--- What playing a story file comes to.
+-- What playing a story file comes to (own).
 use Rattle.std.specs.Prelude.{◌≡◌, ◌≢◌, ℕ, List, Option, [], IfSome, ◌⊎◌, ⊤}
 use Rattle.std.specs.Io.KnownBytes.{Appends}
 use Rattle.zfault.specs.Devices.{AppendsBeginning}

@@ -1,5 +1,8 @@
-//! The program `zpc`: plays Z-machine version 3 stories.
+//! The program `zpc`: checks and plays Z-machine version 3 stories.
 #![tactic(auto)]
+
+ghost use Rattle.std.specs.Prelude.{◌≡◌, IfOk, map, string_bytes};
+ghost use Rattle.clap.specs.Walk.{texts};
 
 mod accepting;
 mod files;
@@ -53,7 +56,10 @@ fn run(rt: &HostRuntime) -> u8 {
     )
 }
 
-fn words_of<'a>(alloc: Global, arguments: &'a [String]) -> Result<Vec<&'a str>, AllocError> {
+/// The arguments as words, one for each.
+fn words_of<'a>(alloc: Global, arguments: &'a [String]) -> Result<Vec<&'a str>, AllocError>
+    ensures { IfOk result (λ words. texts words.items ≡ map string_bytes arguments.entry.now) }
+{
     let mut words = Vec::with_capacity(alloc, arguments.len())?;
     for argument in arguments {
         words.push(argument.as_str())?;

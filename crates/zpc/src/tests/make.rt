@@ -1,6 +1,6 @@
 //! Sample stories, and devices in memory.
 
-ghost use Rattle.std.specs.Prelude.{Some};
+ghost use Rattle.std.specs.Prelude.{None, Some, bytes_eq, codes, if◌then◌else◌};
 
 use crate::files::Files;
 use std::alloc::{AllocError, Global};
@@ -90,7 +90,7 @@ pub fn with_byte(mut bytes: Vec<u8>, at: usize, byte: u8) -> Vec<u8> {
     bytes
 }
 
-/// A story and a certificate, in files of the names `story` and `certificate`.
+/// A story and a certificate, in files of the names `story` and `certificate`, with bytes that contracts know.
 #[derive(Drop)]
 pub struct TwoFiles<'a> {
     pub story: &'a [u8],
@@ -98,11 +98,15 @@ pub struct TwoFiles<'a> {
 }
 
 impl<'a> Files for TwoFiles<'a> {
+    ghost known = { λ files name. if bytes_eq name (codes "story") then Some files.story.now else (if bytes_eq name (codes "certificate") then Some files.certificate.now else None) };
+
     fn read_at(&mut self, name: &str, from: u64, buffer: &mut [u8]) -> Option<usize> {
-        let file = match name {
-            "story" => self.story,
-            "certificate" => self.certificate,
-            _ => return None,
+        let file = if name == "story" {
+            self.story
+        } else if name == "certificate" {
+            self.certificate
+        } else {
+            return None;
         };
         let rest = file.get(usize::try_from(from).ok()?..).unwrap_or(b"");
         let count = rest.len().min(buffer.len());
