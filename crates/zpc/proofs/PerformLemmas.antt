@@ -1,5 +1,5 @@
 -- What the words come to.
-use Rattle.std.proofs.Common.{◌≡◌, ◌≢◌, inl, inr, ◌∙◌, ℕ, List, [], Option, Some, None, refl, ap, subst, IsSomeAnd}
+use Rattle.std.proofs.Common.{◌≡◌, ◌≢◌, inl, inr, ℕ, List, [], Option, Some, None, refl, ap, subst, IsSomeAnd}
 use Rattle.std.specs.Prelude.{codes, unwrap_or}
 use Rattle.clap.specs.Kinds.{IsAmong, Kinds}
 use Rattle.clap.specs.Words.{Row, Text, fault_of, subcommand_of}

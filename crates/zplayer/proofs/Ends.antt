@@ -1,5 +1,5 @@
 -- A run that stops with no fault ends with none.
-use Rattle.std.proofs.Common.{◌≡◌, ◌≢◌, ℕ, sym, ◌∙◌, Result, Ok, Err}
+use Rattle.std.proofs.Common.{◌≡◌, ◌≢◌, sym, ◌∙◌, Result, Ok, Err}
 use Rattle.std.specs.Prelude.{ℤ, IfOk}
 use Rattle.zfault.specs.declared.fault.Fault.{Fault}
 use Rattle.zfault.specs.declared.pause.Pause.TheVariants as pauses

@@ -1,4 +1,3 @@
-use Rattle.zpc.proofs.SessionLemmas.{handed_on, unaccepted}
 use Rattle.zpc.proofs.perform.play_by_certificate.Goals as goal
 
 pub returns-clause-comes : goal.returns-clause-comes
