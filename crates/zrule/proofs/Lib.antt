@@ -1,4 +1,5 @@
 pub mod Unchanged
+pub mod Stepping
 pub mod Safety
 pub mod Runs
 mod Changing

@@ -1,6 +1,6 @@
 -- A step from a described state is safe, by kinds of effect.
 use Rattle.std.proofs.Common.{◌≡◌, ℕ, ◌+◌, ◌≤◌, Bool, true, List, [], ◌∷◌, length, drop, Some, Result, Ok, Err, refl, sym, ap, subst, ◌∙◌, arith}
-use Rattle.std.specs.Prelude.{ℤ, pos, ◌+ℤ◌, IsTrue, IsOk}
+use Rattle.std.specs.Prelude.{ℤ, pos, ◌+ℤ◌, IsOk}
 use Rattle.std.specs.Bool.{OnTrue}
 use Rattle.std.specs.List.{AllZip}
 use Rattle.zstory.specs.LoadedStory.{LoadedStory, IsSound, static_base, first_instruction}
@@ -10,22 +10,21 @@ use Rattle.ztext.specs.Words.{text_at, front_text}
 use Rattle.ztext.specs.Output.{output_at}
 use Rattle.ztext.proofs.Printable.{output_at-ok}
 use Rattle.zcode.specs.declared.opcode.Opcode.{Opcode}
-use Rattle.zcode.specs.declared.opcode.Opcode.TheVariants as opcodes
 use Rattle.zcode.specs.declared.instr.Operand.{Operand}
 use Rattle.zcode.specs.Playable.{playable}
-use Rattle.zcode.specs.Opcodes.{TakesOperands}
 use Rattle.zcode.specs.Instruction.{Instruction}
 use Rattle.zcode.specs.Reading.{instruction_at}
 use Rattle.zcode.proofs.Found.{found, well_formed}
 use Rattle.zdomain.specs.Domain.{SetOperations, In, Within}
 use Rattle.zstate.specs.declared.halt.Halt.{Halt}
-use Rattle.zstate.specs.InTurn.{◌>>=◌, in_turn}
-use Rattle.zstate.specs.State.{State, Scope, Setting, opening, at_place, read_operands}
-use Rattle.zstate.specs.Step.{Effect, Done, decoded, fetch, printed, print_at, effect_of, plan, act, items_of, step}
+use Rattle.zstate.specs.InTurn.{◌>>=◌}
+use Rattle.zstate.specs.State.{State, Setting, opening, at_place}
+use Rattle.zstate.specs.Step.{Done, printed, print_at, effect_of, act, step}
 use Rattle.zrule.specs.declared.rule.Rule.TheVariants as rules
 use Rattle.zrule.specs.Claims.{Shape, Claims}
 use Rattle.zrule.specs.Rules.{pops, below, goes_on, prints_inline, Covers, Leads, IsThere, HasFixedText, Supports}
 use Rattle.zrule.specs.Described.{Callers, Described, IsSafe, IsListedIn}
+use Rattle.zrule.proofs.Stepping.{IsPlayed, is_played, print, new_line, nop, quit, no_operands, takes_none, fetch_is, done_by, step_is, reads_none}
 use Rattle.zrule.proofs.Unchanged.{drop_same, abbreviation_same}
 
 zip_within : {V : Type 0} (o : SetOperations V) (ps bs : List V) (xs : List ℕ) → AllZip (Within o) ps bs → AllZip (In o) ps xs → AllZip (In o) bs xs
@@ -34,59 +33,6 @@ zip_within o [] (b ∷ bs) xs w z = absurd w
 zip_within o (a ∷ rest) [] xs w z = absurd w
 zip_within o (a ∷ rest) (b ∷ bs) [] w z = absurd z
 zip_within o (a ∷ rest) (b ∷ bs) (x ∷ xs) w z = (w.0 x z.0, zip_within o rest bs xs w.1 z.1)
-
--- the opcodes that are on, each with what it does
-pub data IsPlayed : Opcode → Type 0 where
-  print : IsPlayed opcodes.Print
-  new_line : IsPlayed opcodes.NewLine
-  nop : IsPlayed opcodes.Nop
-  quit : IsPlayed opcodes.Quit
-
-is_played : (op : Opcode) → IsTrue (playable op) → IsPlayed op
-unfolding playable
-is_played opcodes.Print h = print
-is_played opcodes.NewLine h = new_line
-is_played opcodes.Nop h = nop
-is_played opcodes.Quit h = quit
-is_played _ h = absurd cc
-
-no_operands : (operands : List Operand) → length operands ≡ 0 → operands ≡ []
-no_operands [] e = refl
-no_operands (x ∷ xs) e = absurd (omega (arith, e))
-
--- what an opcode that is on takes: no operand
-takes_none : (op : Opcode) → IsPlayed op → (n : ℕ) → TakesOperands op n → n ≡ 0
-takes_none op print n h = omega (arith, h.1)
-takes_none op new_line n h = omega (arith, h.1)
-takes_none op nop n h = omega (arith, h.1)
-takes_none op quit n h = omega (arith, h.1)
-
-fetch_is : (scope : Scope) (place : ℤ) (at : ℕ) (memory : List ℕ) (i : Instruction) → place ≡ pos at → scope.instructions at ≡ true → instruction_at (drop at memory) ≡ Ok i → fetch scope place memory ≡ Ok i
-unfolding fetch
-fetch_is scope place at memory i there listed reads = rw (there, listed) (ap decoded reads)
-
--- what a step comes to, from its instruction and its effect
-done_by : State → Instruction → Effect → Result Done Halt
-done_by s i effect = Ok (record { state = act i effect s; items = items_of effect })
-
-abbrev planned : State → Instruction → Effect → Result (Instruction × Effect × State) Halt
-planned s i effect = Ok (i, effect, s)
-
-abbrev acted : Instruction × Effect × State → Result Done Halt
-acted p = Ok (record { state = act p.0 p.1 p.2; items = items_of p.1 })
-
-regroup : (s : State) (i : Instruction) (r : Result Effect Halt) → ((r >>= planned s i) >>= acted) ≡ (r >>= done_by s i)
-unfolding done_by
-regroup s i (Ok effect) = refl
-regroup s i (Err h) = refl
-
-step_is : (m : Setting) (s : State) (i : Instruction) → fetch m.scope s.place s.memory ≡ Ok i → read_operands m.story i.operands s ≡ Ok ([], s) → step m s ≡ (effect_of i.opcode [] s >>= done_by s i)
-unfolding step plan
-step_is m s i fetched read = rw (fetched, read) (regroup s i (effect_of i.opcode [] s))
-
-reads_none : (story : LoadedStory) (operands : List Operand) (s : State) → operands ≡ [] → read_operands story operands s ≡ Ok ([], s)
-unfolding in_turn
-reads_none story operands s none = rw none refl
 
 module _ {V : Type 0} (o : SetOperations V) (claims : Claims V) (m : Setting) (sound : IsSound m.story.memory) (counted : IsObjectCount m.story.memory m.story.objects) (supports : Supports o claims m.story) (listed : IsListedIn o claims m.scope) (s : State) (d : Described o claims m.story s) where
   -- every rule holds there, of the instruction that was judged
@@ -141,7 +87,7 @@ module _ {V : Type 0} (o : SetOperations V) (claims : Claims V) (m : Setting) (s
 
   -- what prints bytes, or does nothing, and goes on
   print_safe : (r : Result (List ℕ) TextError) → IsOk r → Described o claims m.story (at_place (s.place +ℤ pos instruction.size) s) → IsSafe o claims m.story (printed r >>= done_by s instruction)
-  unfolding done_by act
+  unfolding act
   print_safe (Ok bytes) ok next = next
   print_safe (Err e) ok next = absurd cc
 
@@ -158,7 +104,7 @@ module _ {V : Type 0} (o : SetOperations V) (claims : Claims V) (m : Setting) (s
   next_of on = goes (subst (λ (b : Bool). OnTrue b (Leads o claims d.entry.routine (below (pops instruction.operands) d.entry.shape) (d.at + instruction.size))) on edges)
 
   by_opcode : (op : Opcode) → IsPlayed op → op ≡ instruction.opcode → Goal op
-  unfolding Goal effect_of done_by act
+  unfolding Goal effect_of act
   by_opcode op print same =
       let at : s.place +ℤ pos 1 ≡ pos (d.at + 1) = ap (λ (p : ℤ). p +ℤ pos 1) d.place in
       let next = next_of (ap goes_on (sym same)) in
