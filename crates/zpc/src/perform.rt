@@ -45,7 +45,7 @@ For more information, try '--help'.
 /// Does what the words after the program's name ask for, and answers the exit status. What a story shows, and help
 /// that was asked for, go to the writer; a line on anything else goes to `errors`, where a failure is ignored.
 ///
-/// What is wrong is found in this order: the words, the story, the work.
+/// What is wrong is found in this order: the words, the story, its certificate, the work.
 pub fn perform<F: Files, R: Source, W: Sink, E: Sink>(
     alloc: Global,
     words: &[&str],

@@ -1,5 +1,6 @@
 //! The program's commands, with files and devices in memory.
 
+mod altered;
 mod checking;
 mod machines;
 mod make;

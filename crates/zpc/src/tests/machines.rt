@@ -48,7 +48,7 @@ fn run_machine(alloc: Global, story: &Story, scope: Scope, budget: u32) -> Resul
 }
 
 // The session and the checked machine do the same within a budget.
-fn do_the_same(alloc: Global, accepted: &Accepted, budget: u32) -> Result<bool, Fail> {
+pub fn do_the_same(alloc: Global, accepted: &Accepted, budget: u32) -> Result<bool, Fail> {
     let session = run_session(alloc, accepted, budget)?;
     let story = accepted.story();
     let listed = run_machine(alloc, story, Scope::Only(accepted.listing()), budget)?;
