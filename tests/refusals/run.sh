@@ -6,6 +6,7 @@ set -u
 program=$(realpath "$1")
 stories=$(realpath "$2")
 here=$(cd "$(dirname "$0")" && pwd)
+[ -x "$program" ] || exit 1
 work=$(mktemp -d)
 trap 'rm -rf "$work"' EXIT
 cc -O1 -shared -fPIC -o "$work/refuse.so" "$here/refuse.c" || exit 1
@@ -53,6 +54,10 @@ refuse_each() {
             break
         fi
     done
+    # a program that takes no memory was not run
+    if [ "$n" -lt 2 ]; then
+        failed=$((failed + 1))
+    fi
     echo "refusals: zpc $*: $n runs"
 }
 

@@ -6,3 +6,4 @@ mod PlayLemmas
 mod PerformLemmas
 mod AcceptLemmas
 mod SessionLemmas
+mod Worked

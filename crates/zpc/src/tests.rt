@@ -2,14 +2,14 @@
 
 mod altered;
 mod checking;
+mod failing;
 mod machines;
 mod make;
 
 use crate::perform::perform;
-use make::{HELLO, Shelf, TwoFiles, first_sample};
+use make::{HELLO, NoLines, Shelf, TwoFiles, first_sample};
 use std::alloc::{AllocError, Global};
 use std::test::Fail;
-use zfault::FromRead;
 
 // What a command came to.
 #[derive(Drop)]
@@ -34,18 +34,20 @@ fn performed_with(
     most: usize,
     good_calls: u64,
 ) -> Done {
-    let mut files = TwoFiles { story, certificate };
-    let mut reader = FromRead::new(b"".as_slice());
-    let mut writer = Shelf::new(alloc, most, good_calls);
+    let mut files = TwoFiles {
+        story,
+        certificate,
+        good_calls: 100,
+    };
+    let writer = Shelf::new(alloc, most, good_calls);
+    performed_on(alloc, words, &mut files, writer)
+}
+
+// The same, with these files and this writer.
+fn performed_on(alloc: Global, words: &[&str], files: &mut TwoFiles, mut writer: Shelf) -> Done {
+    let mut reader = NoLines::new();
     let mut errors = Shelf::new(alloc, 100, 100);
-    let status = perform(
-        alloc,
-        words,
-        &mut files,
-        &mut reader,
-        &mut writer,
-        &mut errors,
-    );
+    let status = perform(alloc, words, files, &mut reader, &mut writer, &mut errors);
     Done {
         status,
         output: writer.bytes,

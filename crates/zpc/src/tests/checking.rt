@@ -164,26 +164,3 @@ fn plays_what_is_accepted(rt: HostRuntime) -> Result<(), Fail> {
     );
     Ok(())
 }
-
-// Plays the sample to a writer that takes a byte a call and fails after so many.
-fn is_cut_after(alloc: Global, story: &[u8], certificate: &[u8], calls: u64) -> bool {
-    let words = ["play", "story", "certificate"];
-    let with = performed_with(alloc, &words, story, certificate, 1, calls);
-    let without = performed_with(alloc, &words[..2], story, certificate, 1, calls);
-    let beginning = b"hello".get(..calls as usize).unwrap_or(b"hello");
-    is_done(&with, 4, beginning, b"failed: write\n")
-        && is_done(&without, 4, beginning, b"failed: write\n")
-}
-
-#[test]
-fn a_writer_may_fail_at_each_call(rt: HostRuntime) -> Result<(), Fail> {
-    let story = first_sample(rt.alloc(), &HELLO)?;
-    let certificate = certificate_for(rt.alloc(), &story, &LISTED)?;
-    for calls in 0..5 {
-        assert!(rt;
-            is_cut_after(rt.alloc(), &story, &certificate, calls),
-            "after {calls} calls"
-        );
-    }
-    Ok(())
-}

@@ -4,7 +4,7 @@ ghost use Rattle.std.specs.Prelude.{None, Some, bytes_eq, codes, if◌then◌els
 
 use crate::files::Files;
 use std::alloc::{AllocError, Global};
-use zfault::{Failed, Sink};
+use zfault::{Failed, Sink, Source};
 
 // Version 3, first instruction at 0x324, dictionary at 0x320, defaults at 0x220, globals at 0x40, static memory and
 // abbreviations from 0x25E on; the length and checksum words are left to be filled in.
@@ -90,17 +90,20 @@ pub fn with_byte(mut bytes: Vec<u8>, at: usize, byte: u8) -> Vec<u8> {
     bytes
 }
 
-/// A story and a certificate, in files of the names `story` and `certificate`, with bytes that contracts know.
+/// A story and a certificate, in files of the names `story` and `certificate`, with bytes that contracts know. Reading
+/// fails after so many calls.
 #[derive(Drop)]
 pub struct TwoFiles<'a> {
     pub story: &'a [u8],
     pub certificate: &'a [u8],
+    pub good_calls: u64,
 }
 
 impl<'a> Files for TwoFiles<'a> {
     ghost known = { λ files name. if bytes_eq name (codes "story") then Some files.story.now else (if bytes_eq name (codes "certificate") then Some files.certificate.now else None) };
 
     fn read_at(&mut self, name: &str, from: u64, buffer: &mut [u8]) -> Option<usize> {
+        self.good_calls = self.good_calls.checked_sub(1)?;
         let file = if name == "story" {
             self.story
         } else if name == "certificate" {
@@ -119,7 +122,7 @@ impl<'a> Files for TwoFiles<'a> {
     }
 }
 
-/// Keeps what it takes, at most so many bytes a call, and fails after so many calls.
+/// Keeps what it takes, at most so many bytes a call, and fails after so many calls, be they writes or flushes.
 #[derive(Drop)]
 pub struct Shelf {
     pub bytes: Vec<u8>,
@@ -155,6 +158,32 @@ impl Sink for Shelf {
     }
 
     fn flush(&mut self) -> Result<(), Failed> {
-        Ok(())
+        if self.good_calls > 0 {
+            self.good_calls -= 1;
+            return Ok(());
+        }
+        self.failures = self.failures.saturating_add(1);
+        Err(Failed)
+    }
+}
+
+/// A reader that fails at each call: no opcode of this build reads.
+#[derive(Drop)]
+pub struct NoLines {
+    failures: u64,
+}
+
+impl NoLines {
+    pub fn new() -> NoLines {
+        NoLines { failures: 0 }
+    }
+}
+
+impl Source for NoLines {
+    ghost failures = { λ lines. lines.failures };
+
+    fn read(&mut self, _buffer: &mut [u8]) -> Result<usize, Failed> {
+        self.failures = self.failures.saturating_add(1);
+        Err(Failed)
     }
 }

@@ -1,0 +1,83 @@
+//! What a player is handed, with no memory taken.
+
+ghost use Rattle.std.specs.Prelude.{Some, zero};
+
+use arrayvec::ArrayVec;
+use zfault::{Failed, Item, Sink};
+use zplayer::{SaveStore, Words};
+
+/// How many bytes a page has room for.
+const ROOM: usize = 256;
+
+/// What was written, or given out, so far.
+#[derive(Drop)]
+pub struct Page {
+    bytes: ArrayVec<u8, ROOM>,
+    failures: u64,
+}
+
+impl Page {
+    /// A page with nothing on it.
+    pub fn new() -> Page {
+        Page {
+            bytes: ArrayVec::new(),
+            failures: 0,
+        }
+    }
+
+    /// A page with the text of these items, as far as it has room.
+    pub fn of(items: &[Item]) -> Page {
+        let mut page = Page::new();
+        for item in items {
+            if let Item::Text(byte) = item {
+                let _ = page.bytes.try_push(*byte);
+            }
+        }
+        page
+    }
+
+    /// What is on the page.
+    pub fn bytes(&self) -> &[u8] {
+        self.bytes.as_slice()
+    }
+}
+
+impl Sink for Page {
+    ghost contents = { λ page. Some page.bytes.items };
+
+    ghost failures = { λ page. page.failures };
+
+    fn write(&mut self, piece: &[u8]) -> Result<usize, Failed> {
+        if self.bytes.try_extend_from_slice(piece).is_ok() {
+            return Ok(piece.len());
+        }
+        self.failures = self.failures.saturating_add(1);
+        Err(Failed)
+    }
+
+    fn flush(&mut self) -> Result<(), Failed> {
+        Ok(())
+    }
+}
+
+/// No save, and words that are all 0: no opcode of this build asks for either.
+#[derive(Drop)]
+pub struct Nothing;
+
+impl SaveStore for Nothing {
+    ghost failures = { λ _. zero };
+
+    fn put(&mut self, _save: &[u8]) -> bool {
+        true
+    }
+
+    fn get(&mut self, _save: &mut Vec<u8>) -> bool {
+        true
+    }
+}
+
+impl Words for Nothing {
+    fn next(&mut self) -> u16 {
+        0
+    }
+}

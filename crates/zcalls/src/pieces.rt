@@ -1,0 +1,87 @@
+//! Playing in pieces, from the opening to where the story stops. Each piece that is refused memory says where it left the
+//! machine, and the next goes on from there.
+
+use crate::machine::Machine;
+use crate::outside::Page;
+use std::{io, str};
+use zfault::Pause;
+use zplayer::{End, PlayError};
+use zstate::Stop;
+
+/// More pieces than any of these plays needs, with one that is refused.
+const MOST: u32 = 50;
+
+/// Steps one by one, and says where each leads.
+pub fn step<M: Machine>(rt: &HostRuntime, machine: &mut M) -> io::Result<()> {
+    let mut items = Vec::new(rt.alloc());
+    say(rt, "opening", machine, &Page::new())?;
+    for _ in 0..MOST {
+        let ran = machine.run(1, &mut items);
+        let page = Page::of(&items);
+        match ran {
+            Ok(Stop::Paused(Pause::Budget)) => say(rt, "step", machine, &page)?,
+            Ok(stop) => return end(rt, "step", machine, &page, End::from(stop)),
+            Err(_) => say(rt, "refused: step", machine, &page)?,
+        }
+    }
+    Ok(())
+}
+
+/// Makes all steps at once.
+pub fn run<M: Machine>(rt: &HostRuntime, machine: &mut M) -> io::Result<()> {
+    let mut items = Vec::new(rt.alloc());
+    let mut left = MOST;
+    for _ in 0..MOST {
+        let ran = machine.run_down(&mut left, &mut items);
+        let page = Page::of(&items);
+        match ran {
+            Ok(stop) => {
+                println!(rt; "run, with {left} left")?;
+                return end(rt, "run", machine, &page, End::from(stop));
+            }
+            Err(_) => say(rt, "refused: run", machine, &page)?,
+        }
+    }
+    Ok(())
+}
+
+/// Plays two steps at a time to the same page.
+pub fn play<M: Machine>(rt: &HostRuntime, machine: &mut M) -> io::Result<()> {
+    let mut page = Page::new();
+    for _ in 0..MOST {
+        match machine.play(rt.alloc(), &mut page, 2) {
+            Ok(End::Budget) => {}
+            Ok(stop) => return end(rt, "play", machine, &page, stop),
+            Err(PlayError::OutOfMemory) => say(rt, "refused: play", machine, &page)?,
+            Err(error) => println!(rt; "{error}")?,
+        }
+    }
+    Ok(())
+}
+
+/// Says where the machine stands, and what it has given out.
+fn say<M: Machine>(rt: &HostRuntime, what: &str, machine: &M, page: &Page) -> io::Result<()> {
+    let place = machine.place();
+    let sum = sum(machine.memory());
+    let text = str::from_utf8(page.bytes()).unwrap_or("no text");
+    println!(rt; "{what} at {place}, memory {sum}, gave {text}")
+}
+
+/// Says how playing ended, and where.
+fn end<M: Machine>(
+    rt: &HostRuntime,
+    what: &str,
+    machine: &M,
+    page: &Page,
+    end: End,
+) -> io::Result<()> {
+    say(rt, what, machine, page)?;
+    println!(rt; "{what} ends: {end:?}")
+}
+
+/// The sum of the bytes, modulo 65,536.
+fn sum(bytes: &[u8]) -> u16 {
+    bytes
+        .iter()
+        .fold(0, |sum: u16, byte| sum.wrapping_add(u16::from(*byte)))
+}
