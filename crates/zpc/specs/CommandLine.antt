@@ -27,13 +27,17 @@ budget_rule = record (new_rule (codes "budget")) {
 abbrev pub certificate_rule : Bool → Rule
 certificate_rule required = record (new_rule (codes "CERT")) { required = required }
 
+-- a command on a story, and on a certificate, which has to be there or may be
+abbrev pub files_app : Text → Bool → App
+files_app name required = with_rule (with_rule (new_app name) story_rule) (certificate_rule required)
+
 -- `check STORY CERT`
 abbrev pub check_app : App
-check_app = with_rule (with_rule (new_app (codes "check")) story_rule) (certificate_rule true)
+check_app = files_app (codes "check") true
 
 -- `play STORY [CERT] --budget N`
 abbrev pub play_app : App
-play_app = with_rule (with_rule (with_rule (new_app (codes "play")) story_rule) (certificate_rule false)) budget_rule
+play_app = with_rule (files_app (codes "play") false) budget_rule
 
 -- the program, before its commands: its words don't begin with its name, and one of them is a command
 abbrev pub bare_app : App

@@ -4,7 +4,7 @@ ghost use Rattle.std.specs.Prelude.{◌≡◌, ◌⊎◌, IfOk, IsSomeAnd, Some,
 ghost use Rattle.clap.specs.Walk.{texts};
 ghost use Rattle.clap.specs.Words.{FailsBy, app_of, fault_of, found_of, rows_of, rule_of, subcommand_name_of, subcommand_of, subcommand_rows_of};
 ghost use Rattle.clap.specs.declared.builder.command.Command.TheViews.{out-Command as fields_of};
-ghost use Rattle.zpc.specs.CommandLine.{IsReadFrom, bare_app, budget_rule, certificate_rule, check_app, play_app, story_rule, zpc_app};
+ghost use Rattle.zpc.specs.CommandLine.{IsReadFrom, bare_app, budget_rule, certificate_rule, check_app, files_app, play_app, story_rule, zpc_app};
 
 use clap::{Arg, ArgMatches, Error, value_parser};
 use std::alloc::{AllocError, Global};
@@ -106,20 +106,34 @@ fn check<'a>(alloc: Global) -> Result<clap::Command<'a>, AllocError>
     ensures app { IfOk result (λ check. app_of check ≡ check_app) }
     ensures local { IfOk result (λ check. (fields_of check).has_globals ≡ false) }
 {
-    let check = clap::Command::new(alloc, "check").about("Checks a certificate of a story");
-    check.arg(story(alloc))?.arg(certificate(alloc, true))
+    on_files(alloc, "check", "Checks a certificate of a story", true)
 }
 
 fn play<'a>(alloc: Global) -> Result<clap::Command<'a>, AllocError>
     ensures app { IfOk result (λ play. app_of play ≡ play_app) }
     ensures local { IfOk result (λ play. (fields_of play).has_globals ≡ false) }
 {
-    let play = clap::Command::new(alloc, "play").about(
+    let play = on_files(
+        alloc,
+        "play",
         "Plays a story, with a certificate or without",
-    );
-    play.arg(story(alloc))?
-        .arg(certificate(alloc, false))?
-        .arg(budget(alloc))
+        false,
+    )?;
+    play.arg(budget(alloc))
+}
+
+/// A command on a story and a certificate, which has to be there or may be.
+fn on_files<'a>(
+    alloc: Global,
+    name: &'a str,
+    about: &'a str,
+    required: bool,
+) -> Result<clap::Command<'a>, AllocError>
+    ensures app { IfOk result (λ command. app_of command ≡ files_app name.now required) }
+    ensures local { IfOk result (λ command. (fields_of command).has_globals ≡ false) }
+{
+    let command = clap::Command::new(alloc, name).about(about);
+    command.arg(story(alloc))?.arg(certificate(alloc, required))
 }
 
 fn story<'a>(alloc: Global) -> Arg<'a>
