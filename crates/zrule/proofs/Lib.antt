@@ -4,6 +4,7 @@ pub mod Safety
 pub mod Runs
 mod Changing
 mod Covering
+pub mod Ordered
 mod Order
 pub mod Listed
 mod Worked
