@@ -27,12 +27,9 @@ use Rattle.zplay.specs.Accepted.{IsJudged, claims}
 use Rattle.zplay.specs.Decoded.{decoded_of, output_of}
 use Rattle.zplay.specs.Session.{IsInPlay, setting_of, state_at, Steps, GivesOut}
 use Rattle.zplay.proofs.Accepting.{judged_each, listed_each, supported}
-use Rattle.zplay.proofs.Stepping.{Prints, Comes, comes}
+use Rattle.zplay.proofs.Stepping.{same_place, Prints, Comes, comes}
 
 -- ---- lists
-
-same_place : (p q : ℕ) → pos p ≡ pos q → p ≡ q
-same_place p q e = cc
 
 -- what is at an index of a list that was made of another
 at_map : {A B : Type 0} (f : A → B) (xs : List A) (k : ℕ) (a : A) (y d : B) → slice_get xs k ≡ Some a → y ≡ get_or (map f xs) k d → y ≡ f a
@@ -86,9 +83,7 @@ some_items (b ∷ bytes) some none = cc
 -- what is not `quit` prints and goes on
 unless_quit : (action : Action) (address : ℕ) (s next : State) (made : Result Done Halt) → (action ≡ actions.Quit → ⊥) → Comes action address s next made → Prints (output_of action address s.memory) next made
 unless_quit actions.Quit address s next made other h = absurd (other refl)
-unless_quit actions.Print address s next made other h = h
-unless_quit actions.NewLine address s next made other h = h
-unless_quit actions.Nop address s next made other h = h
+unless_quit _ address s next made other h = h
 
 module _ (a : Acceptance) (records : List Decoded) (index : ℕ) (s : State) (playing : IsInPlay a records index s) (safely : StepsSafely interval_operations (claims a)) where
   turn : (x d : Decoded) → x ≡ get_or records index d → Turn a index s x

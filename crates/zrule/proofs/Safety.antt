@@ -1,5 +1,5 @@
 -- A step from a described state is safe, by kinds of effect.
-use Rattle.std.proofs.Common.{◌≡◌, ℕ, ◌+◌, ◌≤◌, Bool, true, List, [], ◌∷◌, length, drop, Some, Result, Ok, Err, refl, sym, ap, subst, ◌∙◌, arith}
+use Rattle.std.proofs.Common.{◌≡◌, ℕ, ◌+◌, ◌≤◌, Bool, true, List, [], ◌∷◌, drop, Some, Result, Ok, Err, refl, sym, ap, subst, ◌∙◌, arith}
 use Rattle.std.specs.Prelude.{ℤ, pos, ◌+ℤ◌, IsOk}
 use Rattle.std.specs.Bool.{OnTrue}
 use Rattle.std.specs.List.{AllZip}
@@ -10,11 +10,7 @@ use Rattle.ztext.specs.Words.{text_at, front_text}
 use Rattle.ztext.specs.Output.{output_at}
 use Rattle.ztext.proofs.Printable.{output_at-ok}
 use Rattle.zcode.specs.declared.opcode.Opcode.{Opcode}
-use Rattle.zcode.specs.declared.instr.Operand.{Operand}
-use Rattle.zcode.specs.Playable.{playable}
 use Rattle.zcode.specs.Instruction.{Instruction}
-use Rattle.zcode.specs.Reading.{instruction_at}
-use Rattle.zcode.proofs.Found.{found, well_formed}
 use Rattle.zdomain.specs.Domain.{SetOperations, In, Within}
 use Rattle.zstate.specs.declared.halt.Halt.{Halt}
 use Rattle.zstate.specs.InTurn.{◌>>=◌}
@@ -24,7 +20,7 @@ use Rattle.zrule.specs.declared.rule.Rule.TheVariants as rules
 use Rattle.zrule.specs.Claims.{Shape, Claims}
 use Rattle.zrule.specs.Rules.{pops, below, goes_on, prints_inline, Covers, Leads, IsThere, HasFixedText, Supports}
 use Rattle.zrule.specs.Described.{Callers, Described, IsSafe, IsListedIn}
-use Rattle.zrule.proofs.Stepping.{IsPlayed, is_played, print, new_line, nop, quit, no_operands, takes_none, fetch_is, done_by, step_is, reads_none}
+use Rattle.zrule.proofs.Stepping.{IsPlayed, print, new_line, nop, quit, done_by, Reads, reads_there}
 use Rattle.zrule.proofs.Unchanged.{drop_same, abbreviation_same}
 
 zip_within : {V : Type 0} (o : SetOperations V) (ps bs : List V) (xs : List ℕ) → AllZip (Within o) ps bs → AllZip (In o) ps xs → AllZip (In o) bs xs
@@ -50,22 +46,13 @@ module _ {V : Type 0} (o : SetOperations V) (claims : Claims V) (m : Setting) (s
   text = supports.each d.at d.entry d.listed rules.Text instruction there
 
   -- the instruction is the one that was judged
-  reads : instruction_at (drop d.at s.memory) ≡ Ok instruction
-  reads = ap instruction_at (drop_same m.story sound counted claims.is_frozen s.memory d.is_state.memory d.fixed d.at there.static) ∙ there.decodes
-
-  played : IsPlayed instruction.opcode
-  played = is_played instruction.opcode (found playable (drop d.at m.story.memory) instruction there.decodes).played
-
-  bare : instruction.operands ≡ []
-  bare = no_operands instruction.operands (takes_none instruction.opcode played (length instruction.operands) (well_formed playable (drop d.at m.story.memory) instruction there.decodes).operands)
-
-  steps : step m s ≡ (effect_of instruction.opcode [] s >>= done_by s instruction)
-  steps = step_is m s instruction (fetch_is m.scope s.place d.at s.memory instruction d.place (listed d.at d.entry d.listed) reads) (reads_none m.story instruction.operands s bare)
+  reads : Reads m s instruction
+  reads = reads_there o claims m s instruction sound counted listed d there
 
   -- on to the next instruction, with what was known before
   goes : Leads o claims d.entry.routine (below (pops instruction.operands) d.entry.shape) (d.at + instruction.size) → Described o claims m.story (at_place (s.place +ℤ pos instruction.size) s)
   goes leads =
-      let shape : below (pops instruction.operands) d.entry.shape ≡ d.entry.shape = ap (λ (os : List Operand). below (pops os) d.entry.shape) bare in
+      let shape : below (pops instruction.operands) d.entry.shape ≡ d.entry.shape = ap (λ (n : ℕ). below n d.entry.shape) reads.pops_none in
       let covered = subst (λ (e : Shape V). Covers o e leads.entry.shape) shape leads.covered in
       record {
         is_state = record { memory = d.is_state.memory; frames = d.is_state.frames; few = d.is_state.few };
@@ -83,7 +70,7 @@ module _ {V : Type 0} (o : SetOperations V) (claims : Claims V) (m : Setting) (s
       }
 
   Goal : Opcode → Type 0
-  Goal op = IsSafe o claims m.story (effect_of op [] s >>= done_by s instruction)
+  Goal op = IsSafe o claims m.story (effect_of op reads.values s >>= done_by s instruction)
 
   -- what prints bytes, or does nothing, and goes on
   print_safe : (r : Result (List ℕ) TextError) → IsOk r → Described o claims m.story (at_place (s.place +ℤ pos instruction.size) s) → IsSafe o claims m.story (printed r >>= done_by s instruction)
@@ -116,7 +103,7 @@ module _ {V : Type 0} (o : SetOperations V) (claims : Claims V) (m : Setting) (s
 
   pub step_safe : IsSafe o claims m.story (step m s)
   unfolding Goal
-  step_safe = subst (λ (r : Result Done Halt). IsSafe o claims m.story r) (sym steps) (by_opcode instruction.opcode played refl)
+  step_safe = subst (λ (r : Result Done Halt). IsSafe o claims m.story r) (sym reads.steps) (by_opcode instruction.opcode reads.played refl)
 
 -- the opening state
 pub opening_described : {V : Type 0} (o : SetOperations V) (claims : Claims V) (story : LoadedStory) → Supports o claims story → Described o claims story (opening story)
