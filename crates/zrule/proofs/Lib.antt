@@ -1,3 +1,4 @@
+pub mod Below
 pub mod Unchanged
 pub mod Stepping
 pub mod Safety
@@ -8,3 +9,4 @@ pub mod Ordered
 mod Order
 pub mod Listed
 mod Worked
+pub mod Instances

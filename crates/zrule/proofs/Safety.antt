@@ -10,6 +10,9 @@ use Rattle.ztext.specs.Words.{text_at, front_text}
 use Rattle.ztext.specs.Output.{output_at}
 use Rattle.ztext.proofs.Printable.{output_at-ok}
 use Rattle.zcode.specs.declared.opcode.Opcode.{Opcode}
+use Rattle.zcode.specs.declared.instr.Operand.{Operand}
+use Rattle.zcode.specs.Opcodes.{prints_text}
+use Rattle.zcode.specs.Playable.{playable}
 use Rattle.zcode.specs.Instruction.{Instruction}
 use Rattle.zdomain.specs.Domain.{SetOperations, In, Within}
 use Rattle.zstate.specs.declared.halt.Halt.{Halt}
@@ -18,7 +21,7 @@ use Rattle.zstate.specs.State.{State, Setting, opening, at_place}
 use Rattle.zstate.specs.Step.{Done, printed, print_at, effect_of, act, step}
 use Rattle.zrule.specs.declared.rule.Rule.TheVariants as rules
 use Rattle.zrule.specs.Claims.{Shape, Claims}
-use Rattle.zrule.specs.Rules.{pops, below, goes_on, prints_inline, Covers, Leads, IsThere, HasFixedText, Supports}
+use Rattle.zrule.specs.Rules.{pops, below, goes_on, Covers, Leads, IsThere, HasFixedText, Supports}
 use Rattle.zrule.specs.Described.{Callers, Described, IsSafe, IsListedIn}
 use Rattle.zrule.proofs.Stepping.{IsPlayed, print, new_line, nop, quit, done_by, Reads, reads_there}
 use Rattle.zrule.proofs.Unchanged.{drop_same, abbreviation_same}
@@ -42,7 +45,7 @@ module _ {V : Type 0} (o : SetOperations V) (claims : Claims V) (m : Setting) (s
   edges : OnTrue (goes_on instruction.opcode) (Leads o claims d.entry.routine (below (pops instruction.operands) d.entry.shape) (d.at + instruction.size))
   edges = supports.each d.at d.entry d.listed rules.Successor instruction there
 
-  text : OnTrue (prints_inline instruction.opcode) (HasFixedText m.story claims.is_frozen (d.at + 1))
+  text : OnTrue (prints_text instruction.opcode) (HasFixedText m.story claims.is_frozen (d.at + 1))
   text = supports.each d.at d.entry d.listed rules.Text instruction there
 
   -- the instruction is the one that was judged
@@ -79,7 +82,7 @@ module _ {V : Type 0} (o : SetOperations V) (claims : Claims V) (m : Setting) (s
   print_safe (Err e) ok next = absurd cc
 
   -- the text behind the opcode byte prints something
-  prints : prints_inline instruction.opcode ≡ true → IsOk (output_at s.memory (d.at + 1))
+  prints : prints_text instruction.opcode ≡ true → IsOk (output_at s.memory (d.at + 1))
   prints inline =
       let rule = subst (λ (b : Bool). OnTrue b (HasFixedText m.story claims.is_frozen (d.at + 1))) inline text in
       let above : static_base m.story ≤ d.at + 1 = omega (arith, there.static) in
@@ -96,7 +99,7 @@ module _ {V : Type 0} (o : SetOperations V) (claims : Claims V) (m : Setting) (s
       let at : s.place +ℤ pos 1 ≡ pos (d.at + 1) = ap (λ (p : ℤ). p +ℤ pos 1) d.place in
       let next = next_of (ap goes_on (sym same)) in
       subst (λ (p : ℤ). IsSafe o claims m.story (print_at p s.memory >>= done_by s instruction)) (sym at)
-      (print_safe (output_at s.memory (d.at + 1)) (prints (ap prints_inline (sym same))) next)
+      (print_safe (output_at s.memory (d.at + 1)) (prints (ap prints_text (sym same))) next)
   by_opcode op new_line same = next_of (ap goes_on (sym same))
   by_opcode op nop same = next_of (ap goes_on (sym same))
   by_opcode op quit same = tt

@@ -1,6 +1,6 @@
 -- What stays as it was loaded, in a state that claims describe.
 use Rattle.std.proofs.Common.{◌↔◌, ◌≡◌, ℕ, ◌+◌, ◌*◌, ◌-◌, ◌<◌, ◌≤◌, inl, inr, Bool, true, false, List, length, drop, Option, Some, None, refl, sym, ap, subst, ◌∙◌, arith, nat_lt, min, [], if◌then◌else◌}
-use Rattle.std.specs.Prelude.{IsTrue, is_some, option_map}
+use Rattle.std.specs.Prelude.{IsTrue, is_some, option_map, unwrap_or}
 use Rattle.std.specs.Option.{option_and_then, IsSomeAnd}
 use Rattle.std.proofs.lemmas.List.{get_or-drop, length-drop}
 use Rattle.std.proofs.lemmas.Grind.{same_number_lists}
@@ -11,7 +11,7 @@ use Rattle.ztext.specs.Words.{text_at, length_at, characters_in}
 use Rattle.ztext.specs.Codes.{abbreviations_used}
 use Rattle.ztext.specs.Abbreviations.{readable_word, abbreviation_at, IsPlainAbbreviation}
 use Rattle.ztext.proofs.Sameness.{text_at-same, abbreviation_at-same}
-use Rattle.zrule.specs.Bytes.{IsFlags, IsChanging, IsAbbreviation, header, an_abbreviation, static, IsFixed}
+use Rattle.zrule.specs.Bytes.{IsFlags, IsChanging, IsAbbreviation, read_length, header, an_abbreviation, static, IsFixed}
 use Rattle.zrule.specs.Rules.{HasAbbreviations, HasFixedText}
 
 -- what is there
@@ -30,15 +30,25 @@ readable_is memory at word e = by_test (nat_lt (at + 1) (min (length memory) 655
     by_test true e = cc
     by_test false e = absurd cc
 
--- an abbreviation that is found is the text that the words lead to
-word_of : (memory : List ℕ) (n : ℕ) (text : List ℕ) → abbreviation_at memory n ≡ Some text → text_at memory (2 * word_at memory (word_at memory 0x18 + 2 * n)) ≡ Some text
-word_of memory n text e =
+-- how the text of an abbreviation is read: by a word of the table
+pub record IsRead (memory : List ℕ) (n : ℕ) (text : List ℕ) (table : ℕ) : Type 0 where
+  pub word : readable_word memory (table + 2 * n) ≡ Some (word_at memory (table + 2 * n))
+  pub text_is : text_at memory (2 * word_at memory (table + 2 * n)) ≡ Some text
+  pub length_is : read_length memory (2 * word_at memory (table + 2 * n)) ≡ length text
+
+-- an abbreviation that is found is read so
+pub read_where : (memory : List ℕ) (n : ℕ) (text : List ℕ) → abbreviation_at memory n ≡ Some text → IsRead memory n text (word_at memory 0x18)
+read_where memory n text e =
     let table = and_then_some (readable_word memory 0x18) _ text e in
     let word = and_then_some (readable_word memory (table.0 + 2 * n)) _ text table.2 in
     let table_is = readable_is memory 0x18 table.0 table.1 in
     let word_is = readable_is memory (table.0 + 2 * n) word.0 word.1 in
-    subst (λ (t : ℕ). text_at memory (2 * word_at memory (t + 2 * n)) ≡ Some text) table_is
-    (subst (λ (w : ℕ). text_at memory (2 * w) ≡ Some text) word_is word.2)
+    let found : text_at memory (2 * word_at memory (table.0 + 2 * n)) ≡ Some text = subst (λ (w : ℕ). text_at memory (2 * w) ≡ Some text) word_is word.2 in
+    subst (IsRead memory n text) table_is (record {
+      word = word.1 ∙ ap (λ (w : ℕ). Some w) word_is;
+      text_is = found;
+      length_is = ap (λ (t : Option (List ℕ)). unwrap_or (option_map length t) (length memory - 2 * word_at memory (table.0 + 2 * n))) found;
+    })
 
 module _ (story : LoadedStory) (sound : IsSound story.memory) (counted : IsObjectCount story.memory story.objects) where
   -- no instruction changes static memory
@@ -92,7 +102,7 @@ module _ (story : LoadedStory) (sound : IsSound story.memory) (counted : IsObjec
       pub abbreviation_same : HasAbbreviations story → (n : ℕ) → n < 96 → IsPlainAbbreviation memory n
       abbreviation_same rule n few =
           let was = some_of (abbreviation_at story.memory n) (λ text. abbreviations_used (characters_in text) ≡ []) (rule.plain n few) in
-          let lead = word_of story.memory n was.0 was.1 in
+          let read = read_where story.memory n was.0 was.1 in
           let table = abbreviations story in
           let word = word_at story.memory (table + 2 * n) in
           let table_same : word_at memory 0x18 ≡ word_at story.memory 0x18 = word_same 0x18 (header_fixed 0x18 (omega arith) (λ f. omega (arith, f.1))) (header_fixed (0x18 + 1) (omega arith) (λ f. omega (arith, f.1))) in
@@ -100,7 +110,7 @@ module _ (story : LoadedStory) (sound : IsSound story.memory) (counted : IsObjec
           let high : IsFixed story is_frozen (table + 2 * n) = abbreviation_fixed rule (table + 2 * n) (record { number = n; last = few; inside = inl (omega arith, omega arith) }) in
           let low : IsFixed story is_frozen (table + 2 * n + 1) = abbreviation_fixed rule (table + 2 * n + 1) (at_word 1 (omega arith)) in
           let word_is : word_at memory (table + 2 * n) ≡ word = word_same (table + 2 * n) high low in
-          let text_is : text_at memory (2 * word) ≡ Some was.0 = text_at-same story.memory memory (2 * word) was.0 long lead (λ place from to.
-          same place (abbreviation_fixed rule place (record { number = n; last = few; inside = inr (was.0, was.1, (from, to)) }))) in
-          let all : abbreviation_at memory n ≡ abbreviation_at story.memory n = abbreviation_at-same story.memory memory n long table_same word_is (text_is ∙ sym lead) in
+          let text_is : text_at memory (2 * word) ≡ Some was.0 = text_at-same story.memory memory (2 * word) was.0 long read.text_is (λ place from to.
+          same place (abbreviation_fixed rule place (record { number = n; last = few; inside = inr (word, read.word, (from, omega (arith, to, read.length_is))) }))) in
+          let all : abbreviation_at memory n ≡ abbreviation_at story.memory n = abbreviation_at-same story.memory memory n long table_same word_is (text_is ∙ sym read.text_is) in
           subst (λ (text : Option (List ℕ)). IsSomeAnd text (λ text. abbreviations_used (characters_in text) ≡ [])) (sym all) (rule.plain n few)

@@ -1,15 +1,14 @@
 -- Values of the definitions, computed.
-use Rattle.std.proofs.Common.{◌≡◌, ◌↔◌, ◌⊎◌, inl, inr, ℕ, zero, suc, ◌+◌, ◌*◌, ◌<◌, ◌≤◌, Bool, true, false, List, [], ◌∷◌, ◌++◌, replicate, length, Some, None, refl, sym, ap, subst, arith, nat_lt, if◌then◌else◌}
+use Rattle.std.proofs.Common.{◌≡◌, ◌↔◌, ◌⊎◌, inl, inr, ℕ, zero, suc, ◌+◌, ◌*◌, ◌<◌, ◌≤◌, Bool, true, false, List, [], ◌∷◌, ◌++◌, replicate, Some, None, refl, sym, ap, subst, arith, nat_lt, if◌then◌else◌}
 use Rattle.std.specs.Prelude.{◌≢◌}
 use Rattle.std.proofs.lemmas.Bool.{cases_lt, le-ltb}
-use Rattle.std.specs.Option.{option_and_then}
 use Rattle.zstory.specs.Bytes.{byte_at, word_at}
 use Rattle.zstory.specs.Objects.{object_place, property_table}
 use Rattle.zstory.specs.Header as headers
 use Rattle.zstory.specs.LoadedStory.{LoadedStory, abbreviations}
-use Rattle.ztext.specs.Words.{text_at}
-use Rattle.ztext.specs.Abbreviations.{abbreviation_at}
-use Rattle.zcode.specs.declared.opcode.Opcode.TheVariants.{Print, NewLine, Nop, Quit}
+use Rattle.ztext.specs.Abbreviations.{readable_word}
+use Rattle.zcode.specs.declared.opcode.Opcode.{Opcode}
+use Rattle.zcode.specs.Opcodes.{prints_text}
 use Rattle.zcode.specs.declared.instr.Operand.TheVariants.{Constant, Variable}
 use Rattle.zdomain.specs.declared.interval.Interval.{Interval}
 use Rattle.zdomain.specs.Domain.{In}
@@ -20,9 +19,10 @@ use Rattle.zcert.specs.Certificate.{Certificate}
 use Rattle.zrule.specs.declared.rule.Rule.TheVariants.{Decodes, Height, Successor, Text}
 use Rattle.zrule.specs.Numbers.{number_of}
 use Rattle.zrule.specs.Claims.{Shape, is_inside, claims_of}
-use Rattle.zrule.specs.Bytes.{IsWithin, IsChanging, IsSizePlace, IsTableFrame, IsOpen, IsClosed, header, a_global, a_default, an_entry, a_property, an_abbreviation, frozen, static, first, next, data_length}
+use Rattle.zrule.specs.Bytes.{IsWithin, IsChanging, IsSizePlace, IsTableFrame, read_length, IsOpen, IsClosed, header, a_global, a_default, an_entry, a_property, an_abbreviation, frozen, static, first, next, data_length}
 use Rattle.zrule.specs.Described.{Fits, FitsWith}
-use Rattle.zrule.specs.Rules.{global_in, pops, below, goes_on, prints_inline}
+use Rattle.zrule.specs.Rules.{global_in, pops, below, goes_on}
+use Rattle.zrule.proofs.Stepping.{IsPlayed, print, new_line, nop, quit}
 
 -- ---- numbers of rules
 
@@ -76,11 +76,20 @@ lower : (below 1 shape ≡ record { locals = point 4 ∷ []; slots = point 6 ∷
 unfolding shape
 lower = (refl, refl)
 
-ends : (goes_on Quit ≡ false) × (goes_on Print ≡ true) × (goes_on NewLine ≡ true) × (goes_on Nop ≡ true)
-ends = (refl, refl, refl, refl)
+-- Whether the next instruction comes after one of an opcode that is on, and whether a text stands behind its opcode byte.
+-- An opcode that is turned on needs a line here: look then at what each rule asks of it.
+asked : (op : Opcode) → IsPlayed op → Bool × Bool
+asked op print = (true, true)
+asked op new_line = (true, false)
+asked op nop = (true, false)
+asked op quit = (false, false)
 
-inline : (prints_inline Print ≡ true) × (prints_inline NewLine ≡ false)
-inline = (refl, refl)
+as_asked : (op : Opcode) (on : IsPlayed op) → (goes_on op, prints_text op) ≡ asked op on
+unfolding asked
+as_asked op print = refl
+as_asked op new_line = refl
+as_asked op nop = refl
+as_asked op quit = refl
 
 -- ---- values that are stored
 
@@ -158,14 +167,14 @@ size_places : IsSizePlace memory 144 147 × IsSizePlace memory 144 149 × IsSize
 unfolding memory table
 size_places =
     let one : IsSizePlace memory 144 147 = first 147 refl (omega arith) in
-    let two : IsSizePlace memory 144 149 = next 149 147 one (λ e. absurd cc) (omega arith) refl (omega arith) in
-    (one, two, next 152 149 two (λ e. absurd cc) (omega arith) refl (omega arith))
+    let two : IsSizePlace memory 144 149 = next 149 147 one (λ e. absurd cc) refl (omega arith) in
+    (one, two, next 152 149 two (λ e. absurd cc) refl (omega arith))
 
 -- there is no other
 no_others : (p : ℕ) → IsSizePlace memory 144 p → (p ≡ 147) ⊎ ((p ≡ 149) ⊎ (p ≡ 152))
 unfolding memory table
 no_others p (first _ is inside) = inl is
-no_others p (next _ q before some whole is inside) = by_place (no_others q before)
+no_others p (next _ q before some is inside) = by_place (no_others q before)
   where
     by_place : (q ≡ 147) ⊎ ((q ≡ 149) ⊎ (q ≡ 152)) → (p ≡ 147) ⊎ ((p ≡ 149) ⊎ (p ≡ 152))
     by_place (inl e) = inr (inl (subst (λ (k : ℕ). p ≡ k + 1 + data_length (byte_at memory k)) e is))
@@ -201,15 +210,15 @@ cut = 0x00 ∷ 0x45 ∷ 0x07 ∷ []
 cut_places : (p : ℕ) → IsSizePlace cut 0 p → p ≡ 1
 unfolding cut
 cut_places p (first _ is inside) = is
-cut_places p (next _ q before some whole is inside) = absurd (let whole_there = subst (λ (k : ℕ). k + data_length (byte_at cut k) < 3) (cut_places q before) whole in omega (arith, whole_there))
+cut_places p (next _ q before some is inside) = absurd (let behind : p ≡ 5 = subst (λ (k : ℕ). p ≡ k + 1 + data_length (byte_at cut k)) (cut_places q before) is in omega (arith, behind, inside))
 
 -- ---- what stores may write
 
-no_text : (n : ℕ) → abbreviation_at memory n ≡ None
+no_word : (n : ℕ) → readable_word memory (65535 + 2 * n) ≡ None
 unfolding memory table
-no_text n =
+no_word n =
     let outside : nat_lt (65535 + 2 * n + 1) 760 ≡ false = le-ltb (65535 + 2 * n + 1) 760 (omega arith) in
-    ap (λ (b : Bool). option_and_then (λ word. text_at memory (2 * word)) (if b then Some (word_at memory (65535 + 2 * n)) else None)) outside
+    ap (λ (b : Bool). if b then Some (word_at memory (65535 + 2 * n)) else None) outside
 
 same_table : (object : ℕ) → 1 ≤ object → object ≤ 2 → property_table memory object ≡ 144
 unfolding memory table
@@ -258,8 +267,8 @@ writable p within = (there, back)
         by_cause (a_property frame) = unframed its_data ((framed p).0 (subst (λ (t : ℕ). IsTableFrame memory t p) (same_table frame.object frame.first frame.last) frame.inside))
         by_cause (an_abbreviation part) = by_half part.number part.inside
           where
-            by_half : (n : ℕ) → IsWithin (abbreviations story + 2 * n) 2 p ⊎ ((text : List ℕ) × (abbreviation_at memory n ≡ Some text) × IsWithin (2 * word_at memory (abbreviations story + 2 * n)) (length text) p) → ⊥
+            by_half : (n : ℕ) → IsWithin (abbreviations story + 2 * n) 2 p ⊎ ((word : ℕ) × (readable_word memory (abbreviations story + 2 * n) ≡ Some word) × IsWithin (2 * word) (read_length memory (2 * word)) p) → ⊥
             by_half n (inl word) = let at = places.3 in omega (arith, at, word.0, within.1)
-            by_half n (inr (text, found, inside)) = let none = no_text n in absurd cc
+            by_half n (inr (word, found, inside)) = let none = subst (λ (table : ℕ). readable_word memory (table + 2 * n) ≡ None) (sym places.3) (no_word n) in absurd cc
         by_cause (frozen e) = absurd cc
         by_cause (static above) = let at = places.2 in omega (arith, at, above, within.1)

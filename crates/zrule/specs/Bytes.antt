@@ -1,9 +1,10 @@
 -- Which bytes of a story a play may change, and which stay as they were loaded (own). Each is a set of places.
-use Rattle.std.specs.Prelude.{◌≡◌, ◌≢◌, ℕ, ◌+◌, ◌*◌, ◌/◌, ◌<◌, ◌≤◌, ◌⊎◌, Bool, true, List, length, Some}
-use Rattle.zstory.specs.Bytes.{byte_at, word_at}
+use Rattle.std.specs.Prelude.{◌≡◌, ◌≢◌, ℕ, ◌+◌, ◌-◌, ◌*◌, ◌/◌, ◌<◌, ◌≤◌, ◌⊎◌, Bool, true, List, length, Some, unwrap_or}
+use Rattle.zstory.specs.Bytes.{byte_at}
 use Rattle.zstory.specs.LoadedStory.{LoadedStory, globals, object_table, static_base, abbreviations}
 use Rattle.zstory.specs.Objects.{object_place, property_table}
-use Rattle.ztext.specs.Abbreviations.{abbreviation_at}
+use Rattle.ztext.specs.Words.{length_at}
+use Rattle.ztext.specs.Abbreviations.{readable_word}
 
 -- a place from one on, so many bytes
 abbrev pub IsWithin : ℕ → ℕ → ℕ → Type 0
@@ -47,11 +48,11 @@ list_place memory table = table + 1 + 2 * byte_at memory table
 abbrev pub data_length : ℕ → ℕ
 data_length size = size / 32 + 1
 
--- A size byte of a property table, the zero byte at its end among them: the first, or the one behind a property that
--- lies wholly in memory.
+-- A size byte of a property table, the zero byte at its end among them: the first, or the one behind a property.
+-- Outside memory there is none.
 pub data IsSizePlace (memory : List ℕ) (table : ℕ) : ℕ → Type 0 where
   first : (p : ℕ) → p ≡ list_place memory table → p < length memory → IsSizePlace memory table p
-  next : (p q : ℕ) → IsSizePlace memory table q → byte_at memory q ≢ 0 → q + data_length (byte_at memory q) < length memory → p ≡ q + 1 + data_length (byte_at memory q) → p < length memory → IsSizePlace memory table p
+  next : (p q : ℕ) → IsSizePlace memory table q → byte_at memory q ≢ 0 → p ≡ q + 1 + data_length (byte_at memory q) → p < length memory → IsSizePlace memory table p
 
 -- what a property table is beside its data: the length of its name, the name, size bytes and its end
 abbrev pub IsTableFrame : List ℕ → ℕ → ℕ → Type 0
@@ -63,11 +64,15 @@ pub record IsPropertyFrame (story : LoadedStory) (p : ℕ) : Type 0 where
   pub last : object ≤ story.objects
   pub inside : IsTableFrame story.memory (property_table story.memory object) p
 
--- the text of an abbreviation, or the word of the table that leads to it
+-- how many bytes a reading of the text at a place goes over: all that is left of memory, where the text has no end
+abbrev pub read_length : List ℕ → ℕ → ℕ
+read_length memory at = unwrap_or (length_at memory at) (length memory - at)
+
+-- the word of the table that leads to an abbreviation, or what a reading of the text there goes over
 pub record IsAbbreviation (story : LoadedStory) (p : ℕ) : Type 0 where
   pub number : ℕ
   pub last : number < 96
-  pub inside : IsWithin (abbreviations story + 2 * number) 2 p ⊎ ((text : List ℕ) × (abbreviation_at story.memory number ≡ Some text) × IsWithin (2 * word_at story.memory (abbreviations story + 2 * number)) (length text) p)
+  pub inside : IsWithin (abbreviations story + 2 * number) 2 p ⊎ ((word : ℕ) × (readable_word story.memory (abbreviations story + 2 * number) ≡ Some word) × IsWithin (2 * word) (read_length story.memory (2 * word)) p)
 
 -- the header without Flags 2
 abbrev pub IsHeader : ℕ → Type 0

@@ -7,7 +7,8 @@ use Rattle.zstory.specs.LoadedStory.{LoadedStory, first_instruction, globals, ob
 use Rattle.ztext.specs.Words.{text_at}
 use Rattle.ztext.specs.Abbreviations.{IsPlainAbbreviation}
 use Rattle.zcode.specs.declared.opcode.Opcode.{Opcode}
-use Rattle.zcode.specs.declared.opcode.Opcode.TheVariants.{Print, Quit}
+use Rattle.zcode.specs.declared.opcode.Opcode.TheVariants.{Quit}
+use Rattle.zcode.specs.Opcodes.{prints_text}
 use Rattle.zcode.specs.declared.instr.Operand.{Operand}
 use Rattle.zcode.specs.declared.instr.Operand.TheVariants.{Constant, Variable}
 use Rattle.zcode.specs.Instruction.{Instruction}
@@ -62,11 +63,6 @@ abbrev pub goes_on : Opcode → Bool
 goes_on Quit = false
 goes_on _ = true
 
--- an instruction that prints the text behind its opcode byte
-abbrev pub prints_inline : Opcode → Bool
-prints_inline Print = true
-prints_inline _ = false
-
 -- a text is whole in memory, and no byte of it is ever changed
 pub record HasFixedText (story : LoadedStory) (is_frozen : ℕ → Bool) (at : ℕ) : Type 0 where
   pub text : List ℕ
@@ -106,8 +102,8 @@ module _ {V : Type 0} (o : SetOperations V) (claims : Claims V) where
   Keeps story p e rules.Height = (i : Instruction) → IsThere story p i → pops i.operands ≤ length e.shape.slots
   -- I4: each edge that can be taken leads on
   Keeps story p e rules.Successor = (i : Instruction) → IsThere story p i → OnTrue (goes_on i.opcode) (Leads e.routine (below (pops i.operands) e.shape) (p + i.size))
-  -- I11: a text that it prints stays as it is
-  Keeps story p e rules.Text = (i : Instruction) → IsThere story p i → OnTrue (prints_inline i.opcode) (HasFixedText story claims.is_frozen (p + 1))
+  -- I11: the text behind the opcode byte stays as it is
+  Keeps story p e rules.Text = (i : Instruction) → IsThere story p i → OnTrue (prints_text i.opcode) (HasFixedText story claims.is_frozen (p + 1))
 
   -- the rule is broken at a listed place, and none with a lower number is
   pub record IsLowestBroken (story : LoadedStory) (p : ℕ) (e : Entry V) (rule : Rule) : Type 0 where

@@ -10,13 +10,13 @@ use zstory::Story;
 const FLAGS_2: usize = 0x10;
 
 /// How many bytes the globals take up (Z 6.2).
-const GLOBALS_LENGTH: usize = 480;
+pub const GLOBALS_LENGTH: usize = 480;
 
 /// How many bytes the property defaults take up (Z 12.2).
-const DEFAULTS_LENGTH: usize = 62;
+pub const DEFAULTS_LENGTH: usize = 62;
 
 /// The length of an object's entry (Z 12.3.1).
-const ENTRY_LENGTH: usize = 9;
+pub const ENTRY_LENGTH: usize = 9;
 
 /// How many bytes of an entry, from its first on, instructions on objects change: the attributes, and the numbers of
 /// parent, sibling and child (Z 12.3.1).

@@ -6,9 +6,10 @@ ghost use Rattle.zstory.specs.LoadedStory.{static_base};
 ghost use Rattle.zdomain.specs.Interval.{interval_operations};
 ghost use Rattle.zcert.specs.Listed.{seen};
 ghost use Rattle.zcode.specs.Instruction.{Instruction as Spelled};
+ghost use Rattle.zcode.specs.Opcodes.{prints_text};
 ghost use Rattle.zrule.specs.declared.rule.Rule.{Rule as ARule};
 ghost use Rattle.zrule.specs.Claims.{claims_of, entry_of, Entry};
-ghost use Rattle.zrule.specs.Rules.{pops, below, goes_on, prints_inline, IsThere, Leads, HasFixedText, Keeps, IsLowestBroken};
+ghost use Rattle.zrule.specs.Rules.{pops, below, goes_on, IsThere, Leads, HasFixedText, Keeps, IsLowestBroken};
 
 use crate::rule::Rule;
 use crate::shapes::leads;
@@ -65,12 +66,12 @@ fn goes_on(opcode: Opcode) -> bool
     !matches!(opcode, Opcode::Quit)
 }
 
-/// Whether the text that an instruction prints stays as it is.
+/// Whether the text behind the opcode byte stays as it is, where there is one.
 fn has_text(story: &Story, listed: &Instruction<'_, Interval>, instruction: &Instr) -> bool
     requires { static_base story.now ≤ listed.now.address }
-    ensures { (is_frozen : ℕ → Bool) → IsTrue result ↔ OnTrue (prints_inline instruction.now.opcode) (HasFixedText story.now is_frozen (listed.now.address + 1)) }
+    ensures { (is_frozen : ℕ → Bool) → IsTrue result ↔ OnTrue (prints_text instruction.now.opcode) (HasFixedText story.now is_frozen (listed.now.address + 1)) }
 {
-    !prints_inline(instruction.opcode()) || is_fixed_text(story, listed.address as usize + 1)
+    !instruction.opcode().prints_text() || is_fixed_text(story, listed.address as usize + 1)
 }
 
 /// Whether the text at a place, where no instruction changes a byte, is whole.
@@ -80,13 +81,6 @@ fn is_fixed_text(story: &Story, at: usize) -> bool
     ensures { (is_frozen : ℕ → Bool) → IsTrue result ↔ HasFixedText story.now is_frozen at }
 {
     text_length(story.memory(), at).is_some()
-}
-
-/// Whether an instruction of this opcode prints the text behind its opcode byte.
-fn prints_inline(opcode: Opcode) -> bool
-    ensures { result ≡ prints_inline opcode }
-{
-    matches!(opcode, Opcode::Print)
 }
 
 /// Whether an instruction that is there keeps a rule.
