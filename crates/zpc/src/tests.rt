@@ -158,9 +158,9 @@ fn help_goes_to_the_output(rt: HostRuntime) {
     assert!(rt; is_help(alloc, "--version"));
 }
 
-// The stored story that the program is run on.
+// Its length in bytes, and the header's words for the abbreviations, the length in words and the checksum.
 #[test]
-fn the_stored_story_is_the_sample(rt: HostRuntime) -> Result<(), Fail> {
+fn the_sample_has_its_length_and_checksum(rt: HostRuntime) -> Result<(), Fail> {
     let made = first_sample(rt.alloc(), &HELLO)?;
     assert_eq!(rt; made.len(), 810);
     assert_eq!(rt;
