@@ -1,4 +1,5 @@
-pub mod Sample
+mod Sample
+mod Worked
 pub mod Stepping
 pub mod Formats
 pub mod Found

@@ -1,5 +1,6 @@
 -- The sample certificate, computed.
-use Rattle.std.proofs.Common.{◌≡◌, ℕ, List, [], ◌∷◌, ◌++◌, replicate, Result, Ok, Err, refl, Bool, true, false, length}
+use Rattle.std.proofs.Common.{◌≡◌, ℕ, zero, suc, List, [], ◌∷◌, ◌++◌, replicate, drop, Result, Ok, Err, refl, arith, length}
+use Rattle.std.specs.List.{AllByRecursion}
 use Rattle.zdomain.specs.declared.interval.Interval.{Interval}
 use Rattle.zdomain.specs.Interval.{point}
 use Rattle.zcert.specs.declared.error.CertError.{CertError}
@@ -7,7 +8,7 @@ use Rattle.zcert.specs.declared.error.CertError.TheVariants as errors
 use Rattle.zcert.specs.Certificate.{Certificate}
 use Rattle.zcert.specs.Format.{interval_format}
 use Rattle.zcert.specs.Reading.{reading, heading_at, magic_at, version_at, identity_at, range_at, ranges_at, all_ranges_at, values_at, routine_at, routines_at, all_routines_at, instruction_at, instructions_at, all_instructions_at, at_end}
-use Rattle.zcert.specs.Spelling.{spelling}
+use Rattle.zcert.specs.Spelling.{spelling, HasSpelling}
 
 front : List ℕ
 front = 0x5A ∷ 0x50 ∷ 0x43 ∷ 0x43 ∷ 1 ∷ 0x00 ∷ 0x01 ∷ 0x32 ∷ 0x36 ∷ 0x30 ∷ 0x31 ∷ 0x30 ∷ 0x31 ∷ 0x3A ∷ 0x7A ∷ 0x00 ∷ 0x00 ∷ 0x03 ∷ 0x2A ∷ 0 ∷ 0 ∷ []
@@ -35,14 +36,59 @@ long : length sample ≡ 1001
 unfolding sample front back
 long = refl
 
-ok_of : Result (Certificate Interval) CertError → Bool
-ok_of (Ok c) = true
-ok_of (Err e) = false
-
-read : ok_of (reading interval_format sample) ≡ true
-unfolding ok_of sample front back reading heading_at magic_at version_at identity_at range_at ranges_at all_ranges_at values_at routine_at routines_at all_routines_at instruction_at instructions_at all_instructions_at at_end
+read : reading interval_format sample ≡ Ok certificate
+unfolding certificate sample front back reading heading_at magic_at version_at identity_at range_at ranges_at all_ranges_at values_at routine_at routines_at all_routines_at instruction_at instructions_at all_instructions_at at_end
 read = refl
+
+-- what it says has a spelling
+has : HasSpelling interval_format certificate
+unfolding certificate
+has = record {
+  identity = record {
+    release = omega arith;
+    serial = refl;
+    serial_bytes = (omega arith, (omega arith, (omega arith, (omega arith, (omega arith, (omega arith, tt))))));
+    checksum = omega arith;
+    loaded_length = omega arith;
+  };
+  few_ranges = omega arith;
+  ranges = tt;
+  ranges_apart = tt;
+  globals = refl;
+  global_values = each_alike 240 (point 0) (omega arith, omega arith);
+  few_routines = omega arith;
+  routines = tt;
+  routines_rise = tt;
+  few_instructions = omega arith;
+  instructions = (
+    record { address = omega arith; routine = omega arith; locals = refl; height = omega arith; local_values = tt; slot_values = tt },
+    (record { address = omega arith; routine = omega arith; locals = refl; height = omega arith; local_values = tt; slot_values = tt }, tt),
+  );
+  instructions_rise = (omega arith, (omega arith, tt));
+}
+  where
+    each_alike : (n : ℕ) (v : Interval) → interval_format.Has v → AllByRecursion interval_format.Has (replicate n v)
+    each_alike zero v has = tt
+    each_alike (suc n) v has = (has, each_alike n v has)
 
 one_more : reading interval_format (sample ++ 0 ∷ []) ≡ Err errors.Trailing
 unfolding sample front back reading heading_at magic_at version_at identity_at range_at ranges_at all_ranges_at values_at routine_at routines_at all_routines_at instruction_at instructions_at all_instructions_at at_end
 one_more = refl
+
+-- what alterations make of it
+altered : List ℕ → List ℕ → Result (Certificate Interval) CertError
+altered before after = reading interval_format (before ++ replicate 956 0 ++ after)
+
+version_two : altered (0x5A ∷ 0x50 ∷ 0x43 ∷ 0x43 ∷ 9 ∷ []) [] ≡ Err errors.Version
+unfolding altered reading heading_at magic_at version_at
+version_two = refl
+
+-- the first global from 1 to 0
+empty_global : altered (front ++ 0 ∷ 1 ∷ 0 ∷ 0 ∷ []) [] ≡ Err errors.EmptyInterval
+unfolding altered front reading heading_at magic_at version_at identity_at range_at ranges_at all_ranges_at values_at
+empty_global = refl
+
+-- one instruction, three, 131,073, and one address twice
+counts : (altered (front ++ 0 ∷ 0 ∷ 0 ∷ 0 ∷ []) (0 ∷ 0 ∷ 0 ∷ 0 ∷ 0 ∷ 1 ∷ drop 6 back) ≡ Err errors.Trailing) × (altered (front ++ 0 ∷ 0 ∷ 0 ∷ 0 ∷ []) (0 ∷ 0 ∷ 0 ∷ 0 ∷ 0 ∷ 3 ∷ drop 6 back) ≡ Err errors.Truncated) × (altered (front ++ 0 ∷ 0 ∷ 0 ∷ 0 ∷ []) (0 ∷ 0 ∷ 0 ∷ 2 ∷ 0 ∷ 1 ∷ drop 6 back) ≡ Err errors.Limit) × (altered (front ++ 0 ∷ 0 ∷ 0 ∷ 0 ∷ []) (0 ∷ 0 ∷ 0 ∷ 0 ∷ 0 ∷ 2 ∷ 0 ∷ 0 ∷ 3 ∷ 0x29 ∷ drop 10 back) ≡ Err errors.Order)
+unfolding altered front back reading heading_at magic_at version_at identity_at range_at ranges_at all_ranges_at values_at routine_at routines_at all_routines_at instruction_at instructions_at all_instructions_at at_end
+counts = (refl, refl, refl, refl)

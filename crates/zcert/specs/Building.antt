@@ -198,6 +198,15 @@ module _ {V : Type 0} where
     q ← taken p f
     all_taken q fs
 
+-- the field may be the last of a part, for which there has to be room
+abbrev pub Adds : {V : Type 0} → Field V → Type 0
+Adds (fields.RangeLast n) = Unit {0}
+Adds (fields.Global v) = Unit {0}
+Adds (fields.RoutineResult v) = Unit {0}
+Adds (fields.Height n) = Unit {0}
+Adds (fields.Value v) = Unit {0}
+Adds _ = ⊥
+
 -- what is known of an unfinished part: its address is below the limit, and an instruction lacks as many values as are left
 abbrev pub IsDue : {V : Type 0} → Turn → List V → Type 0
 IsDue (turns.LocalCount more address) values = address < ADDRESS_LIMIT

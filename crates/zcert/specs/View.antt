@@ -1,5 +1,5 @@
 -- What the code's certificates and builders say.
-use Rattle.std.specs.Prelude.{◌≡◌, map, drop, Result, Ok, Err}
+use Rattle.std.specs.Prelude.{◌≡◌, map, drop, Result, Ok, Err, IsOk}
 use Rattle.zdomain.specs.declared.interval.Interval.{Interval}
 use Rattle.zcert.specs.declared.error.CertError.{CertError}
 use Rattle.zcert.specs.declared.error.CertError.TheVariants.{OutOfMemory}
@@ -31,6 +31,11 @@ abbrev pub Refuses : {Y : Type 0} → CertError → Result Y CertError → Type 
 Refuses OutOfMemory due = Unit {0}
 Refuses e due = due ≡ Err e
 
+-- the error of a field is the one that is due; memory runs out only for a field that would be taken
+abbrev pub RefusesField : {Y : Type 0} → CertError → Result Y CertError → Type 0
+RefusesField OutOfMemory due = IsOk due
+RefusesField e due = due ≡ Err e
+
 -- the answer is the one that is due, unless memory ran out
 abbrev pub Answers : {Y : Type 0} → Result Y CertError → Result Y CertError → Type 0
 Answers (Ok y) due = due ≡ Ok y
@@ -39,4 +44,4 @@ Answers (Err e) due = Refuses e due
 -- what a field leads to is what is due; one that is refused changes nothing
 abbrev pub Takes : {P U : Type 0} → P → P → Result U CertError → Result P CertError → Type 0
 Takes old new (Ok u) due = due ≡ Ok new
-Takes old new (Err e) due = (new ≡ old) × Refuses e due
+Takes old new (Err e) due = (new ≡ old) × RefusesField e due

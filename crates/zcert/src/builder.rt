@@ -1,8 +1,8 @@
 //! Making a certificate field by field.
 
-ghost use Rattle.std.specs.Prelude.{◌≡◌, ◌≢◌, ◌↔◌, IsTrue, OnOk, OnErr, IfOk, IfErr, Ok};
-ghost use Rattle.zcert.specs.Building.{opening, taken};
-ghost use Rattle.zcert.specs.View.{Refuses};
+ghost use Rattle.std.specs.Prelude.{◌≡◌, ◌≢◌, ◌↔◌, IsTrue, OnOk, OnErr, IfOk, IfErr, Ok, Err};
+ghost use Rattle.zcert.specs.Building.{opening, taken, Adds};
+ghost use Rattle.zcert.specs.View.{RefusesField};
 
 use crate::building::Building;
 use crate::certificate::Certificate;
@@ -63,8 +63,10 @@ impl CertBuilder {
     pub fn take(&mut self, field: Field<Interval>) -> Result<(), CertError>
         ensures ok { OnOk result (taken self.old field ≡ Ok self.new) }
 
-        // What is refused is refused for what is wrong with it, and changes nothing.
-        ensures refused { IfErr result (λ e. Refuses e (taken self.old field)) }
+        // What is refused is refused for what is wrong with it, and changes nothing. Memory is wanted only for a field that would be
+        // taken, and that adds a part.
+        ensures refused { IfErr result (λ e. RefusesField e (taken self.old field)) }
+        ensures memory { result ≡ Err CertError.OutOfMemory → Adds field }
         ensures err { OnErr result (self.new ≡ self.old) }
     {
         self.building.take(field)

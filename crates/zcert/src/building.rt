@@ -26,13 +26,13 @@ pub struct Building {
 
 // Each takes one kind of field. Out of turn it is out of order; a field that is refused changes nothing.
 impl Building {
-    ghost use Rattle.std.specs.Prelude.{◌≡◌, ◌+◌, ◌<◌, vec_len, vec_capacity};
+    ghost use Rattle.std.specs.Prelude.{◌≡◌, ◌≢◌, ◌+◌, ◌<◌, Err, vec_len, vec_capacity};
     ghost use Rattle.zcert.specs.View.{progress_of, Takes};
     ghost use Rattle.zcert.specs.Reading.{address_fits};
     ghost use Rattle.zcert.specs.Certificate.{locals_of};
     ghost use Rattle.zcert.specs.Format.{interval_format};
     ghost use Rattle.zcert.specs.Fields.{IsField};
-    ghost use Rattle.zcert.specs.Building.{opening, before_values, taken, IsDue, after_release, after_serial, after_checksum, after_loaded_length, after_range_count, after_range_first, after_range_last, after_global, after_routine_count, after_routine_address, after_local_count, after_routine_result, after_instruction_count, after_instruction_address, after_routine_number, after_height, after_value};
+    ghost use Rattle.zcert.specs.Building.{opening, before_values, taken, Adds, IsDue, after_release, after_serial, after_checksum, after_loaded_length, after_range_count, after_range_first, after_range_last, after_global, after_routine_count, after_routine_address, after_local_count, after_routine_result, after_instruction_count, after_instruction_address, after_routine_number, after_height, after_value};
 
     /// Nothing yet.
     pub fn new(alloc: Global) -> Building
@@ -59,7 +59,8 @@ impl Building {
     }
 
     fn release(&mut self, release: u16) -> Result<(), CertError>
-        ensures { Takes (progress_of self.old) (progress_of self.new) result (after_release release self.old.turn (progress_of self.old)) }
+        ensures takes { Takes (progress_of self.old) (progress_of self.new) result (after_release release self.old.turn (progress_of self.old)) }
+        ensures plain { result ≢ Err CertError.OutOfMemory }
     {
         let Turn::Release = self.turn else {
             return Err(CertError::Order);
@@ -70,7 +71,8 @@ impl Building {
     }
 
     fn serial(&mut self, serial: [u8; 6]) -> Result<(), CertError>
-        ensures { Takes (progress_of self.old) (progress_of self.new) result (after_serial serial self.old.turn (progress_of self.old)) }
+        ensures takes { Takes (progress_of self.old) (progress_of self.new) result (after_serial serial self.old.turn (progress_of self.old)) }
+        ensures plain { result ≢ Err CertError.OutOfMemory }
     {
         let Turn::Serial = self.turn else {
             return Err(CertError::Order);
@@ -81,7 +83,8 @@ impl Building {
     }
 
     fn checksum(&mut self, checksum: u16) -> Result<(), CertError>
-        ensures { Takes (progress_of self.old) (progress_of self.new) result (after_checksum checksum self.old.turn (progress_of self.old)) }
+        ensures takes { Takes (progress_of self.old) (progress_of self.new) result (after_checksum checksum self.old.turn (progress_of self.old)) }
+        ensures plain { result ≢ Err CertError.OutOfMemory }
     {
         let Turn::Checksum = self.turn else {
             return Err(CertError::Order);
@@ -92,7 +95,8 @@ impl Building {
     }
 
     fn loaded_length(&mut self, bytes: u32) -> Result<(), CertError>
-        ensures { Takes (progress_of self.old) (progress_of self.new) result (after_loaded_length bytes self.old.turn (progress_of self.old)) }
+        ensures takes { Takes (progress_of self.old) (progress_of self.new) result (after_loaded_length bytes self.old.turn (progress_of self.old)) }
+        ensures plain { result ≢ Err CertError.OutOfMemory }
     {
         let Turn::LoadedLength = self.turn else {
             return Err(CertError::Order);
@@ -103,7 +107,8 @@ impl Building {
     }
 
     fn range_count(&mut self, count: u16) -> Result<(), CertError>
-        ensures { Takes (progress_of self.old) (progress_of self.new) result (after_range_count count self.old.turn (progress_of self.old)) }
+        ensures takes { Takes (progress_of self.old) (progress_of self.new) result (after_range_count count self.old.turn (progress_of self.old)) }
+        ensures plain { result ≢ Err CertError.OutOfMemory }
     {
         let Turn::RangeCount = self.turn else {
             return Err(CertError::Order);
@@ -117,7 +122,8 @@ impl Building {
     }
 
     fn range_first(&mut self, first: u16) -> Result<(), CertError>
-        ensures { Takes (progress_of self.old) (progress_of self.new) result (after_range_first first self.old.turn (progress_of self.old)) }
+        ensures takes { Takes (progress_of self.old) (progress_of self.new) result (after_range_first first self.old.turn (progress_of self.old)) }
+        ensures plain { result ≢ Err CertError.OutOfMemory }
     {
         let Turn::RangeFirst { more } = self.turn else {
             return Err(CertError::Order);
@@ -156,7 +162,8 @@ impl Building {
     }
 
     fn routine_count(&mut self, count: u16) -> Result<(), CertError>
-        ensures { Takes (progress_of self.old) (progress_of self.new) result (after_routine_count count self.old.turn (progress_of self.old)) }
+        ensures takes { Takes (progress_of self.old) (progress_of self.new) result (after_routine_count count self.old.turn (progress_of self.old)) }
+        ensures plain { result ≢ Err CertError.OutOfMemory }
     {
         let Turn::RoutineCount = self.turn else {
             return Err(CertError::Order);
@@ -171,7 +178,8 @@ impl Building {
 
     // Whether an address rises and is below its limit.
     fn address(&self, address: u32) -> Result<(), CertError>
-        ensures { result ≡ address_fits self.now.floor address }
+        ensures value { result ≡ address_fits self.now.floor address }
+        ensures plain { result ≢ Err CertError.OutOfMemory }
     {
         if address < self.floor {
             return Err(CertError::Order);
@@ -183,7 +191,8 @@ impl Building {
     }
 
     fn routine_address(&mut self, address: u32) -> Result<(), CertError>
-        ensures { Takes (progress_of self.old) (progress_of self.new) result (after_routine_address address self.old.turn (progress_of self.old)) }
+        ensures takes { Takes (progress_of self.old) (progress_of self.new) result (after_routine_address address self.old.turn (progress_of self.old)) }
+        ensures plain { result ≢ Err CertError.OutOfMemory }
     {
         let Turn::RoutineAddress { more } = self.turn else {
             return Err(CertError::Order);
@@ -194,7 +203,8 @@ impl Building {
     }
 
     fn local_count(&mut self, locals: u8) -> Result<(), CertError>
-        ensures { Takes (progress_of self.old) (progress_of self.new) result (after_local_count locals self.old.turn (progress_of self.old)) }
+        ensures takes { Takes (progress_of self.old) (progress_of self.new) result (after_local_count locals self.old.turn (progress_of self.old)) }
+        ensures plain { result ≢ Err CertError.OutOfMemory }
     {
         let Turn::LocalCount { more, address } = self.turn else {
             return Err(CertError::Order);
@@ -233,7 +243,8 @@ impl Building {
     }
 
     fn instruction_count(&mut self, count: u32) -> Result<(), CertError>
-        ensures { Takes (progress_of self.old) (progress_of self.new) result (after_instruction_count count self.old.turn (progress_of self.old)) }
+        ensures takes { Takes (progress_of self.old) (progress_of self.new) result (after_instruction_count count self.old.turn (progress_of self.old)) }
+        ensures plain { result ≢ Err CertError.OutOfMemory }
     {
         let Turn::InstructionCount = self.turn else {
             return Err(CertError::Order);
@@ -247,7 +258,8 @@ impl Building {
     }
 
     fn instruction_address(&mut self, address: u32) -> Result<(), CertError>
-        ensures { Takes (progress_of self.old) (progress_of self.new) result (after_instruction_address address self.old.turn (progress_of self.old)) }
+        ensures takes { Takes (progress_of self.old) (progress_of self.new) result (after_instruction_address address self.old.turn (progress_of self.old)) }
+        ensures plain { result ≢ Err CertError.OutOfMemory }
     {
         let Turn::InstructionAddress { more } = self.turn else {
             return Err(CertError::Order);
@@ -259,7 +271,8 @@ impl Building {
     }
 
     fn routine_number(&mut self, routine: u16) -> Result<(), CertError>
-        ensures { Takes (progress_of self.old) (progress_of self.new) result (after_routine_number routine self.old.turn (progress_of self.old)) }
+        ensures takes { Takes (progress_of self.old) (progress_of self.new) result (after_routine_number routine self.old.turn (progress_of self.old)) }
+        ensures plain { result ≢ Err CertError.OutOfMemory }
     {
         let Turn::RoutineNumber { more, address } = self.turn else {
             return Err(CertError::Order);
@@ -364,6 +377,7 @@ impl Building {
         requires { IsDue self.old.turn (progress_of self.old).values }
         ensures takes { Takes (progress_of self.old) (progress_of self.new) result (taken (progress_of self.old) field) }
         ensures fits { IsField interval_format field }
+        ensures memory { result ≡ Err CertError.OutOfMemory → Adds field }
     {
         match field {
             Field::Release(release) => self.release(release),

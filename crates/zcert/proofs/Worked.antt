@@ -1,0 +1,310 @@
+-- Values of the definitions, computed.
+use Rattle.std.proofs.Common.{◌≡◌, true, false, ℕ, List, [], ◌∷◌, ◌++◌, Some, None, Ok, Err, pos, negsuc, refl, arith}
+use Rattle.zdomain.specs.declared.interval.Interval.{Interval}
+use Rattle.zdomain.specs.Interval.{point, all_words, interval_of, in_order}
+use Rattle.zstory.specs.declared.identity.Identity.{Identity}
+use Rattle.zcert.specs.declared.error.CertError.TheVariants as errors
+use Rattle.zcert.specs.declared.field.Field.TheVariants as fields
+use Rattle.zcert.specs.declared.field.Header.{Header}
+use Rattle.zcert.specs.declared.field.Turn.{Turn}
+use Rattle.zcert.specs.declared.field.Turn.TheVariants as turns
+use Rattle.zcert.specs.declared.parts.Range.{Range}
+use Rattle.zcert.specs.declared.parts.Routine.{Routine}
+use Rattle.zcert.specs.declared.contents.Stored.{Stored}
+use Rattle.zcert.specs.Numbers.{width, number, HasRoom}
+use Rattle.zcert.specs.Numbers as numbers
+use Rattle.zcert.specs.Certificate.{Instruction, locals_of}
+use Rattle.zcert.specs.Steps.{◌>>=◌, need, sized_at, number_at, serial_at}
+use Rattle.zcert.specs.Format.{interval_format, nonempty}
+use Rattle.zcert.specs.Spelling.{identity_bytes, range_bytes, counted, routine_bytes, instruction_bytes, heading, IsIdentity, IsRange, AreApart, InstructionsRise, IsRoutine, IsInstruction}
+use Rattle.zcert.specs.Reading.{magic_at, version_at, heading_at, identity_at, range_at, ranges_at, all_ranges_at, address_fits, values_at, routine_at, routines_at, all_routines_at, instruction_at, instructions_at, all_instructions_at}
+use Rattle.zcert.specs.Building.{Progress, opening, before_globals, before_ranges, before_routines, before_instructions, instruction_of, taken, all_taken}
+use Rattle.zcert.specs.Fields.{field_bytes, IsField, field_at, next_at, IsReached}
+use Rattle.zcert.specs.Contents.{values_of, stored_instruction, LiesIn}
+use Rattle.zcert.specs.Listed.{listed_at, Finds}
+use Rattle.zcert.specs.Refusal.{number_of}
+
+-- ---- numbers
+
+widths : (width numbers.Magic ≡ 4) × (width numbers.LocalCount ≡ 1) × (width numbers.RoutineNumber ≡ 2)
+widths = (refl, refl, refl)
+
+-- the highest byte first
+written : (number numbers.Release 258 ≡ 1 ∷ 2 ∷ []) × (number numbers.LoadedLength 810 ≡ 0 ∷ 0 ∷ 3 ∷ 0x2A ∷ []) × (number numbers.Height 64 ≡ 64 ∷ [])
+written = (refl, refl, refl)
+
+room : HasRoom numbers.Height 255 × HasRoom numbers.RangeLast 65535 × (HasRoom numbers.Height 256 → ⊥)
+room = (omega arith, omega arith, λ more. omega (arith, more))
+
+-- ---- parts
+
+range : Range
+range = record { first = 64; last = 66 }
+
+-- a routine at 0x32E with one local, which gives 1; and one with 15
+routine : Routine Interval
+routine = record { address = 0x32E; locals = 1; result = point 1 }
+
+routines : List (Routine Interval)
+routines = routine ∷ record { address = 0x340; locals = 15; result = point 2 } ∷ []
+
+-- the main code has no locals, nor has what isn't there
+locals : (locals_of routines 0 ≡ 0) × (locals_of routines 1 ≡ 1) × (locals_of routines 2 ≡ 15) × (locals_of routines 3 ≡ 0)
+unfolding routines routine
+locals = (refl, refl, refl, refl)
+
+-- an instruction of that routine, with its local in [0, 0] and a slot with 7
+instruction : Instruction Interval
+instruction = record { address = 0x331; routine = 1; locals = point 0 ∷ []; slots = point 7 ∷ [] }
+
+main_instruction : Instruction Interval
+main_instruction = record { address = 0x324; routine = 0; locals = []; slots = [] }
+
+identity : Identity
+identity = record { release = 1; serial = 0x32 ∷ 0x36 ∷ 0x30 ∷ 0x31 ∷ 0x30 ∷ 0x31 ∷ []; checksum = 0x3A7A; length = 0x32A }
+
+identity_text : List ℕ
+identity_text = 0x00 ∷ 0x01 ∷ 0x32 ∷ 0x36 ∷ 0x30 ∷ 0x31 ∷ 0x30 ∷ 0x31 ∷ 0x3A ∷ 0x7A ∷ 0x00 ∷ 0x00 ∷ 0x03 ∷ 0x2A ∷ []
+
+-- ---- steps of reading
+
+needs : (need true errors.Limit ≡ Ok tt) × (need false errors.Limit ≡ Err errors.Limit) × (need false errors.Order ≡ Err errors.Order)
+needs = (refl, refl, refl)
+
+numbers_read : (number_at numbers.Release (1 ∷ 2 ∷ 3 ∷ []) ≡ Ok (258, 3 ∷ [])) × (number_at numbers.Release (1 ∷ []) ≡ Err errors.Truncated) × (sized_at 1 (9 ∷ []) ≡ Ok (9, [])) × (sized_at 4 (0 ∷ 0 ∷ 3 ∷ []) ≡ Err errors.Truncated)
+numbers_read = (refl, refl, refl, refl)
+
+serials : (serial_at (1 ∷ 2 ∷ 3 ∷ 4 ∷ 5 ∷ 6 ∷ 7 ∷ []) ≡ Ok (1 ∷ 2 ∷ 3 ∷ 4 ∷ 5 ∷ 6 ∷ [], 7 ∷ [])) × (serial_at (1 ∷ 2 ∷ 3 ∷ 4 ∷ 5 ∷ []) ≡ Err errors.Truncated)
+serials = (refl, refl)
+
+-- what is wrong first is what is answered
+chained : (((need true errors.Order) >>= λ _. need false errors.Limit) ≡ Err errors.Limit) × (((need false errors.Order) >>= λ _. need false errors.Limit) ≡ Err errors.Order)
+chained = (refl, refl)
+
+-- ---- sets of words
+
+below_zero : Interval
+below_zero = record { lo = negsuc 1; hi = pos 5; ordered = in_order (negsuc 1) (pos 5) refl }
+
+-- each end is a signed word, the lower one first
+spelled : (interval_format.spelled below_zero ≡ 0xFF ∷ 0xFE ∷ 0 ∷ 5 ∷ []) × (interval_format.spelled (point 0x102) ≡ 1 ∷ 2 ∷ 1 ∷ 2 ∷ []) × (interval_format.spelled all_words ≡ 0x80 ∷ 0 ∷ 0x7F ∷ 0xFF ∷ [])
+unfolding below_zero
+spelled = (refl, refl, refl)
+
+read_again : (interval_format.value_at (0xFF ∷ 0xFE ∷ 0 ∷ 5 ∷ 9 ∷ []) ≡ Ok (below_zero, 9 ∷ [])) × (interval_format.value_at (0 ∷ 1 ∷ 0 ∷ 0 ∷ []) ≡ Err errors.EmptyInterval) × (interval_format.value_at (0 ∷ 5 ∷ 0xFF ∷ 0xFE ∷ []) ≡ Err errors.EmptyInterval) × (interval_format.value_at (0 ∷ 1 ∷ 0 ∷ []) ≡ Err errors.Truncated)
+unfolding below_zero
+read_again = (refl, refl, refl, refl)
+
+none_between : (nonempty (interval_of (pos 1) (pos 0)) ≡ Err errors.EmptyInterval) × (nonempty None ≡ Err errors.EmptyInterval) × (nonempty (Some below_zero) ≡ Ok below_zero)
+none_between = (refl, refl, refl)
+
+-- ---- the spelling
+
+identity_spelled : identity_bytes identity ≡ identity_text
+unfolding identity identity_text
+identity_spelled = refl
+
+ranges_spelled : (range_bytes range ≡ 0 ∷ 64 ∷ 0 ∷ 66 ∷ []) × (counted numbers.RangeCount range_bytes [] ≡ 0 ∷ 0 ∷ []) × (counted numbers.RangeCount range_bytes (range ∷ []) ≡ 0 ∷ 1 ∷ 0 ∷ 64 ∷ 0 ∷ 66 ∷ [])
+unfolding range
+ranges_spelled = (refl, refl, refl)
+
+routine_spelled : routine_bytes interval_format routine ≡ 0 ∷ 0 ∷ 3 ∷ 0x2E ∷ 1 ∷ 0 ∷ 1 ∷ 0 ∷ 1 ∷ []
+unfolding routine
+routine_spelled = refl
+
+-- the height says how many slots there are, and the locals come before them
+instructions_spelled : (instruction_bytes interval_format main_instruction ≡ 0 ∷ 0 ∷ 3 ∷ 0x24 ∷ 0 ∷ 0 ∷ 0 ∷ []) × (instruction_bytes interval_format instruction ≡ 0 ∷ 0 ∷ 3 ∷ 0x31 ∷ 0 ∷ 1 ∷ 1 ∷ 0 ∷ 0 ∷ 0 ∷ 0 ∷ 0 ∷ 7 ∷ 0 ∷ 7 ∷ [])
+unfolding main_instruction instruction
+instructions_spelled = (refl, refl)
+
+heading_spelled : heading interval_format ≡ 0x5A ∷ 0x50 ∷ 0x43 ∷ 0x43 ∷ 1 ∷ []
+heading_spelled = refl
+
+-- a range may end where it begins, and not before; another begins at least two above its end
+ordered : IsRange (record { first = 64; last = 64 }) × (IsRange (record { first = 65; last = 64 }) → ⊥)
+ordered = (record { ordered = omega arith; room = omega arith }, λ r. omega (arith, r.ordered))
+
+apart : AreApart 0 (range ∷ record { first = 68; last = 68 } ∷ []) × (AreApart 0 (range ∷ record { first = 67; last = 68 } ∷ []) → ⊥) × (AreApart 65 (range ∷ []) → ⊥)
+unfolding range
+apart = ((omega arith, (omega arith, tt)), λ a. omega (arith, a.1.0), λ a. omega (arith, a.0))
+
+rising : InstructionsRise (main_instruction ∷ instruction ∷ []) × (InstructionsRise (main_instruction ∷ main_instruction ∷ []) → ⊥) × (InstructionsRise (instruction ∷ main_instruction ∷ []) → ⊥)
+unfolding main_instruction instruction
+rising = ((omega arith, (omega arith, tt)), λ r. omega (arith, r.1.0), λ r. omega (arith, r.1.0))
+
+is_identity : IsIdentity identity
+unfolding identity
+is_identity = record {
+  release = omega arith;
+  serial = refl;
+  serial_bytes = (omega arith, (omega arith, (omega arith, (omega arith, (omega arith, (omega arith, tt))))));
+  checksum = omega arith;
+  loaded_length = omega arith;
+}
+
+is_routine : IsRoutine interval_format routine × (IsRoutine interval_format (record routine { locals = 16 }) → ⊥) × (IsRoutine interval_format (record routine { address = 131072 }) → ⊥)
+unfolding routine
+is_routine = (record { address = omega arith; locals = omega arith; result = (omega arith, omega arith) }, λ r. omega (arith, r.locals), λ r. omega (arith, r.address))
+
+-- it has a local for each of its routine's, and its routine is there
+is_instruction : IsInstruction interval_format [] main_instruction × (IsInstruction interval_format routines main_instruction) × (IsInstruction interval_format [] (record main_instruction { routine = 1 }) → ⊥) × (IsInstruction interval_format routines (record main_instruction { routine = 1 }) → ⊥)
+unfolding main_instruction routines routine
+is_instruction = (
+  record { address = omega arith; routine = omega arith; locals = refl; height = omega arith; local_values = tt; slot_values = tt },
+  record { address = omega arith; routine = omega arith; locals = refl; height = omega arith; local_values = tt; slot_values = tt },
+  λ i. omega (arith, i.routine),
+  λ i. omega (arith, i.locals),
+)
+
+-- ---- reading
+
+magics : (magic_at (0x5A ∷ 0x50 ∷ 0x43 ∷ 0x43 ∷ 9 ∷ []) ≡ Ok (9 ∷ [])) × (magic_at (0x5B ∷ 0x50 ∷ 0x43 ∷ 0x43 ∷ []) ≡ Err errors.Magic) × (magic_at (0x5B ∷ 0x50 ∷ 0x43 ∷ []) ≡ Err errors.Truncated)
+unfolding magic_at
+magics = (refl, refl, refl)
+
+versions : (version_at 1 (1 ∷ 7 ∷ []) ≡ Ok (7 ∷ [])) × (version_at 1 (2 ∷ []) ≡ Err errors.Version) × (version_at 1 [] ≡ Err errors.Truncated)
+unfolding version_at
+versions = (refl, refl, refl)
+
+-- the magic is looked at before the version
+headings : (heading_at 1 (0x5A ∷ 0x50 ∷ 0x43 ∷ 0x43 ∷ 1 ∷ 8 ∷ []) ≡ Ok (8 ∷ [])) × (heading_at 1 (0x5A ∷ 0x50 ∷ 0x43 ∷ 0x44 ∷ 2 ∷ []) ≡ Err errors.Magic) × (heading_at 1 (0x5A ∷ 0x50 ∷ 0x43 ∷ 0x43 ∷ []) ≡ Err errors.Truncated)
+unfolding heading_at magic_at version_at
+headings = (refl, refl, refl)
+
+identities : (identity_at (identity_text ++ 5 ∷ []) ≡ Ok (identity, 5 ∷ [])) × (identity_at (0 ∷ 1 ∷ 2 ∷ []) ≡ Err errors.Truncated)
+unfolding identity_at identity identity_text
+identities = (refl, refl)
+
+-- a first byte below what is due is refused before the last one is read
+ranges_read : (range_at 64 (0 ∷ 64 ∷ 0 ∷ 66 ∷ 9 ∷ []) ≡ Ok (range, 9 ∷ [])) × (range_at 65 (0 ∷ 64 ∷ []) ≡ Err errors.Order) × (range_at 0 (0 ∷ 64 ∷ 0 ∷ []) ≡ Err errors.Truncated) × (range_at 0 (0 ∷ 64 ∷ 0 ∷ 63 ∷ []) ≡ Err errors.Order)
+unfolding range_at range
+ranges_read = (refl, refl, refl, refl)
+
+several_ranges : (ranges_at 2 0 (0 ∷ 64 ∷ 0 ∷ 66 ∷ 0 ∷ 68 ∷ 0 ∷ 68 ∷ []) ≡ Ok (range ∷ record { first = 68; last = 68 } ∷ [], [])) × (ranges_at 2 0 (0 ∷ 64 ∷ 0 ∷ 66 ∷ 0 ∷ 67 ∷ 0 ∷ 68 ∷ []) ≡ Err errors.Order) × (ranges_at 0 0 (3 ∷ []) ≡ Ok ([], 3 ∷ []))
+unfolding ranges_at range_at range
+several_ranges = (refl, refl, refl)
+
+counted_ranges : (all_ranges_at (0 ∷ 0 ∷ 4 ∷ []) ≡ Ok ([], 4 ∷ [])) × (all_ranges_at (0 ∷ []) ≡ Err errors.Truncated)
+unfolding all_ranges_at ranges_at
+counted_ranges = (refl, refl)
+
+-- the order is judged before the limit
+addresses : (address_fits 0 131071 ≡ Ok tt) × (address_fits 0 131072 ≡ Err errors.Limit) × (address_fits 131073 131072 ≡ Err errors.Order) × (address_fits 5 4 ≡ Err errors.Order) × (address_fits 5 5 ≡ Ok tt)
+addresses = (refl, refl, refl, refl, refl)
+
+sets : (values_at interval_format 2 (0 ∷ 0 ∷ 0 ∷ 0 ∷ 0 ∷ 7 ∷ 0 ∷ 7 ∷ 1 ∷ []) ≡ Ok (point 0 ∷ point 7 ∷ [], 1 ∷ [])) × (values_at interval_format 2 (0 ∷ 0 ∷ 0 ∷ 0 ∷ 0 ∷ 7 ∷ 0 ∷ 6 ∷ []) ≡ Err errors.EmptyInterval) × (values_at interval_format 1 [] ≡ Err errors.Truncated)
+unfolding values_at
+sets = (refl, refl, refl)
+
+routines_read : (routine_at interval_format 0 (0 ∷ 0 ∷ 3 ∷ 0x2E ∷ 1 ∷ 0 ∷ 1 ∷ 0 ∷ 1 ∷ 6 ∷ []) ≡ Ok (routine, 6 ∷ [])) × (routine_at interval_format 0 (0 ∷ 0 ∷ 3 ∷ 0x2E ∷ 16 ∷ []) ≡ Err errors.Limit) × (routine_at interval_format 0 (0 ∷ 2 ∷ 0 ∷ 0 ∷ []) ≡ Err errors.Limit) × (routine_at interval_format 0x32F (0 ∷ 0 ∷ 3 ∷ 0x2E ∷ []) ≡ Err errors.Order)
+unfolding routine_at routine
+routines_read = (refl, refl, refl, refl)
+
+two_routines : (routines_at interval_format 2 0 (0 ∷ 0 ∷ 3 ∷ 0x2E ∷ 1 ∷ 0 ∷ 1 ∷ 0 ∷ 1 ∷ 0 ∷ 0 ∷ 3 ∷ 0x40 ∷ 15 ∷ 0 ∷ 2 ∷ 0 ∷ 2 ∷ []) ≡ Ok (routines, [])) × (routines_at interval_format 2 0 (0 ∷ 0 ∷ 3 ∷ 0x2E ∷ 1 ∷ 0 ∷ 1 ∷ 0 ∷ 1 ∷ 0 ∷ 0 ∷ 3 ∷ 0x2E ∷ []) ≡ Err errors.Order)
+unfolding routines_at routine_at routines routine
+two_routines = (refl, refl)
+
+counted_routines : (all_routines_at interval_format (0 ∷ 0 ∷ 4 ∷ []) ≡ Ok ([], 4 ∷ [])) × (all_routines_at interval_format (0 ∷ []) ≡ Err errors.Truncated)
+unfolding all_routines_at routines_at
+counted_routines = (refl, refl)
+
+-- a set for each local of its routine; a routine that isn't there is refused before the height is read
+instructions_read : (instruction_at interval_format [] 0 (0 ∷ 0 ∷ 3 ∷ 0x24 ∷ 0 ∷ 0 ∷ 0 ∷ 2 ∷ []) ≡ Ok (main_instruction, 2 ∷ [])) × (instruction_at interval_format routines 0 (0 ∷ 0 ∷ 3 ∷ 0x31 ∷ 0 ∷ 1 ∷ 0 ∷ 0 ∷ 0 ∷ 0 ∷ 0 ∷ []) ≡ Ok (record instruction { slots = [] }, [])) × (instruction_at interval_format routines 0 (0 ∷ 0 ∷ 3 ∷ 0x31 ∷ 0 ∷ 3 ∷ []) ≡ Err errors.Limit)
+unfolding instruction_at values_at main_instruction instruction routines routine
+instructions_read = (refl, refl, refl)
+
+two_instructions : (instructions_at interval_format [] 2 0 (0 ∷ 0 ∷ 3 ∷ 0x24 ∷ 0 ∷ 0 ∷ 0 ∷ 0 ∷ 0 ∷ 3 ∷ 0x25 ∷ 0 ∷ 0 ∷ 0 ∷ []) ≡ Ok (main_instruction ∷ record main_instruction { address = 0x325 } ∷ [], [])) × (instructions_at interval_format [] 2 0 (0 ∷ 0 ∷ 3 ∷ 0x24 ∷ 0 ∷ 0 ∷ 0 ∷ 0 ∷ 0 ∷ 3 ∷ 0x24 ∷ []) ≡ Err errors.Order)
+unfolding instructions_at instruction_at values_at main_instruction
+two_instructions = (refl, refl)
+
+-- 131,072 are let pass, and then the first is missing; one more isn't
+counted_instructions : (all_instructions_at interval_format [] (0 ∷ 0 ∷ 0 ∷ 0 ∷ 3 ∷ []) ≡ Ok ([], 3 ∷ [])) × (all_instructions_at interval_format [] (0 ∷ 2 ∷ 0 ∷ 0 ∷ []) ≡ Err errors.Truncated) × (all_instructions_at interval_format [] (0 ∷ 2 ∷ 0 ∷ 1 ∷ []) ≡ Err errors.Limit)
+unfolding all_instructions_at instructions_at instruction_at
+counted_instructions = (refl, refl, refl)
+
+-- ---- field by field
+
+-- what is to come, where so many parts are
+turns_before : (before_ranges 0 ≡ turns.Global 239) × (before_ranges 1 ≡ turns.RangeFirst 0) × (before_globals 0 ≡ turns.RoutineCount) × (before_globals 1 ≡ turns.Global 0) × (before_routines 0 ≡ turns.InstructionCount) × (before_routines 2 ≡ turns.RoutineAddress 1) × (before_instructions 0 ≡ turns.Complete) × (before_instructions 2 ≡ turns.InstructionAddress 1)
+turns_before = (refl, refl, refl, refl, refl, refl, refl, refl)
+
+header : Header
+header = record { address = 0x331; routine = 1; locals = 1; height = 1 }
+
+-- the locals come first
+made_of_values : instruction_of header (point 0 ∷ point 7 ∷ []) ≡ instruction
+unfolding header instruction
+made_of_values = refl
+
+start : Progress Interval
+start = opening
+
+at_turn : Turn → ℕ → Progress Interval
+at_turn turn floor = record opening { turn = turn; floor = floor }
+
+-- fields in their turn, and one out of it
+first_fields : (all_taken start (fields.Release 1 ∷ fields.Serial identity.serial ∷ fields.Checksum 0x3A7A ∷ fields.LoadedLength 0x32A ∷ fields.RangeCount 0 ∷ []) ≡ Ok (record { content = record { identity = identity; ranges = []; globals = []; routines = []; instructions = [] }; values = []; floor = 0; turn = turns.Global 239 })) × (taken start (fields.Checksum 1) ≡ Err errors.Order) × (all_taken start (fields.Release 1 ∷ fields.Release 1 ∷ []) ≡ Err errors.Order)
+unfolding start identity
+first_fields = (refl, refl, refl)
+
+range_fields : (taken (at_turn (turns.RangeFirst 0) 68) (fields.RangeFirst 68) ≡ Ok (at_turn (turns.RangeLast 0 68) 68)) × (taken (at_turn (turns.RangeFirst 0) 68) (fields.RangeFirst 67) ≡ Err errors.Order) × (taken (at_turn (turns.RangeLast 0 68) 68) (fields.RangeLast 67) ≡ Err errors.Order)
+unfolding at_turn
+range_fields = (refl, refl, refl)
+
+-- the next address is to be above this one
+routine_fields : (taken (at_turn (turns.RoutineAddress 1) 0) (fields.RoutineAddress 0x32E) ≡ Ok (at_turn (turns.LocalCount 1 0x32E) 0)) × (taken (at_turn (turns.LocalCount 1 0x32E) 0) (fields.LocalCount 16) ≡ Err errors.Limit) × (taken (at_turn (turns.RoutineResult 1 0x32E 1) 0) (fields.RoutineResult (point 1)) ≡ Ok (record { content = record start.content { routines = routine ∷ [] }; values = []; floor = 0x32F; turn = turns.RoutineAddress 0 }))
+unfolding at_turn start routine
+routine_fields = (refl, refl, refl)
+
+instruction_fields : (taken (at_turn turns.InstructionCount 7) (fields.InstructionCount 131073) ≡ Err errors.Limit) × (taken (at_turn turns.InstructionCount 7) (fields.InstructionCount 2) ≡ Ok (at_turn (turns.InstructionAddress 1) 0)) × (taken (at_turn (turns.RoutineNumber 1 0x324) 0) (fields.RoutineNumber 1) ≡ Err errors.Limit) × (taken (at_turn (turns.Height 1 0x324 0) 0) (fields.Height 0) ≡ Ok (record { content = record start.content { instructions = main_instruction ∷ [] }; values = []; floor = 0x325; turn = turns.InstructionAddress 0 }))
+unfolding at_turn start main_instruction
+instruction_fields = (refl, refl, refl, refl)
+
+value_fields : (taken (at_turn (turns.Value 0 header 1) 0) (fields.Value (point 0)) ≡ Ok (record { content = start.content; values = point 0 ∷ []; floor = 0; turn = turns.Value 0 header 0 })) × (taken (record { content = start.content; values = point 0 ∷ []; floor = 0; turn = turns.Value 0 header 0 }) (fields.Value (point 7)) ≡ Ok (record { content = record start.content { instructions = instruction ∷ [] }; values = point 0 ∷ point 7 ∷ []; floor = 0x332; turn = turns.Complete }))
+unfolding at_turn start header instruction
+value_fields = (refl, refl)
+
+field_texts : (field_bytes interval_format (fields.LocalCount 3) ≡ 3 ∷ []) × (field_bytes interval_format (fields.RoutineNumber 3) ≡ 0 ∷ 3 ∷ []) × (field_bytes interval_format (fields.Value (point 7)) ≡ 0 ∷ 7 ∷ 0 ∷ 7 ∷ [])
+field_texts = (refl, refl, refl)
+
+is_field : IsField interval_format (fields.Height 255) × (IsField interval_format (fields.Height 256) → ⊥) × (IsField interval_format (fields.Serial (1 ∷ [])) → ⊥)
+is_field = (omega arith, λ f. omega (arith, f), λ f. absurd cc)
+
+fields_read : (field_at interval_format (turns.LocalCount 1 0x32E) (3 ∷ 4 ∷ []) ≡ Ok (fields.LocalCount 3, 4 ∷ [])) × (field_at interval_format turns.RoutineCount (3 ∷ []) ≡ Err errors.Truncated) × (field_at interval_format turns.Complete (3 ∷ []) ≡ Err errors.Trailing) × (field_at interval_format turns.Complete [] ≡ Err errors.Trailing)
+fields_read = (refl, refl, refl, refl)
+
+-- read and taken
+next_fields : (next_at interval_format (at_turn (turns.RangeFirst 0) 68) (0 ∷ 68 ∷ 5 ∷ []) ≡ Ok (at_turn (turns.RangeLast 0 68) 68, 5 ∷ [])) × (next_at interval_format (at_turn (turns.RangeFirst 0) 68) (0 ∷ 67 ∷ []) ≡ Err errors.Order) × (next_at interval_format (at_turn (turns.RangeFirst 0) 68) (0 ∷ []) ≡ Err errors.Truncated)
+unfolding at_turn
+next_fields = (refl, refl, refl)
+
+reached : IsReached interval_format start
+unfolding start
+reached = ([], tt, refl)
+
+-- ---- how it is kept
+
+stored : Stored
+stored = record { address = 0x331; routine = 1; locals = 1; height = 1; start = 2 }
+
+all_values : List Interval
+all_values = point 5 ∷ point 6 ∷ point 0 ∷ point 7 ∷ point 8 ∷ []
+
+kept : (values_of all_values stored ≡ point 0 ∷ point 7 ∷ []) × (stored_instruction all_values stored ≡ instruction) × LiesIn all_values stored × (LiesIn (point 5 ∷ point 6 ∷ point 0 ∷ []) stored → ⊥)
+unfolding all_values stored instruction
+kept = (refl, refl, omega arith, λ l. omega (arith, l))
+
+-- ---- what is listed
+
+found : (listed_at (main_instruction ∷ instruction ∷ []) 0x331 ≡ Some instruction) × (listed_at (main_instruction ∷ instruction ∷ []) 0x332 ≡ None) × Finds (main_instruction ∷ instruction ∷ []) 0x331 (Some 1) × Finds (main_instruction ∷ instruction ∷ []) 0x323 None
+unfolding main_instruction instruction
+found = (refl, refl, (omega arith, refl), refl)
+
+not_found : Finds (main_instruction ∷ instruction ∷ []) 0x331 (Some 0) → ⊥
+unfolding main_instruction instruction
+not_found f = absurd cc
+
+-- ---- refusals
+
+refusals : (number_of errors.Magic ≡ 1) × (number_of errors.Version ≡ 2) × (number_of errors.Truncated ≡ 3) × (number_of errors.Trailing ≡ 4) × (number_of errors.Order ≡ 5) × (number_of errors.EmptyInterval ≡ 6) × (number_of errors.Limit ≡ 7) × (number_of errors.OutOfMemory ≡ 8)
+refusals = (refl, refl, refl, refl, refl, refl, refl, refl)
