@@ -1,3 +1,4 @@
+mod Worked
 pub mod Rising
 pub mod Tables
 pub mod Orders
