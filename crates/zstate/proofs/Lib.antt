@@ -1,3 +1,4 @@
+mod Worked
 pub mod Calls
 mod InTurn
 pub mod Joins

@@ -1,0 +1,254 @@
+-- Values of the definitions, computed.
+use Rattle.std.proofs.Common.{◌≡◌, ℕ, ◌+◌, ◌-◌, Bool, true, false, List, [], ◌∷◌, ◌++◌, replicate, map, Some, None, Result, Ok, Err, pos, negsuc, refl, arith}
+use Rattle.std.specs.Prelude.{nat_le, if◌then◌else◌}
+use Rattle.zstory.specs.LoadedStory.{LoadedStory}
+use Rattle.zcode.specs.declared.error.DecodeError.TheVariants.{Truncated}
+use Rattle.zcode.specs.declared.instr.Operand.TheVariants.{Constant, Variable}
+use Rattle.zcode.specs.declared.opcode.Opcode.TheVariants.{Print as APrint, NewLine, Nop, Quit as AQuit}
+use Rattle.zcode.specs.Instruction.{Instruction}
+use Rattle.zcode.specs.Playable.{playable}
+use Rattle.zcode.specs.Reading.{instruction_by, head_at, short_head, played_opcode, checked_head, operands_at, store_if, branch_if, text_if}
+use Rattle.ztext.specs.declared.error.TextError.TheVariants.{Outside, NestedAbbreviation}
+use Rattle.ztext.specs.Alphabets.{small_letters}
+use Rattle.ztext.specs.Output.{output_at, output_of_characters}
+use Rattle.zfault.specs.declared.fault.Fault.TheVariants.{UnlistedInstruction, IllegalOpcode, StackUnderflow, AbsentLocal, TextOutside}
+use Rattle.zfault.specs.declared.pause.Need.TheVariants as needs
+use Rattle.zfault.specs.declared.pause.Pause.TheVariants as pauses
+use Rattle.zfault.specs.declared.event.Event.TheVariants as events
+use Rattle.zfault.specs.declared.item.Item.TheVariants.{Text}
+use Rattle.zstate.specs.declared.halt.Halt.TheVariants as halts
+use Rattle.zstate.specs.declared.halt.Stop.TheVariants as stops
+use Rattle.zstate.specs.declared.mode.RandomMode.TheVariants.{Words}
+use Rattle.zstate.specs.InTurn.{in_turn}
+use Rattle.zstate.specs.State.{Frame, State, Setting, has_head, scope_all, scope_only, first_frame, opening, IsFrame, IsFirst, AreFrames, IsState, with_stack, popped, at_place, give, global, pop, found, read_named, read_variable, read_operand, read_operands}
+use Rattle.zstate.specs.Step.{Proceed, Print, decoded, fetch, printed, print_at, effect_of, plan, advance, act, items_of, step}
+use Rattle.zstate.specs.Run.{stop_of, until, is_answered, need_in, awaited, run, Goes, Stands}
+use Rattle.zstate.specs.Gives.{Gives, IsNear}
+
+-- ---- a story: its first instruction is at 70, its globals begin at 64
+
+-- `new_line`, `nop`, `print` of "hello", `quit`, and a byte that is no opcode
+code : List ℕ
+code = 0xBB ∷ 0xB4 ∷ 0xB2 ∷ 0x35 ∷ 0x51 ∷ 0xC6 ∷ 0x85 ∷ 0xBA ∷ 0xBE ∷ []
+
+memory : List ℕ
+memory = replicate 7 0 ++ 70 ∷ replicate 5 0 ++ 64 ∷ replicate 50 0 ++ 0x01 ∷ 0x02 ∷ 0x03 ∷ 0x04 ∷ 0xFF ∷ 0xFE ∷ code
+
+story : LoadedStory
+story = record { memory = memory; objects = 0 }
+
+setting : Setting
+setting = record { story = story; scope = scope_all story }
+
+-- two locals, and two words on the stack, of which 5 is the topmost
+frame : Frame
+frame = record { return_place = 0; result = 0; supplied = 0; locals = 7 ∷ 8 ∷ []; stack = 5 ∷ 6 ∷ [] }
+
+state : State
+state = record (opening story) { frame = frame }
+
+at : ℕ → State
+at p = at_place (pos p) (opening story)
+
+-- ---- what a state is
+
+opens : (opening story ≡ record { memory = memory; frame = first_frame; callers = []; place = pos 70; random = Words; prompted = false; waiting = None })
+unfolding story memory code
+opens = refl
+
+-- at most 15 locals, and their words within memory
+heads : (has_head (1 ∷ 0 ∷ 0 ∷ []) 0 ≡ true) × (has_head (2 ∷ 0 ∷ 0 ∷ []) 0 ≡ false) × (has_head (0 ∷ []) 0 ≡ true) × (has_head (0 ∷ []) 1 ≡ false) × (has_head (15 ∷ replicate 30 0) 0 ≡ true) × (has_head (16 ∷ replicate 40 0) 0 ≡ false)
+heads = (refl, refl, refl, refl, refl, refl)
+
+-- routines stand at even places
+all : ((scope_all story).instructions 78 ≡ true) × ((scope_all story).instructions 79 ≡ false) × ((scope_all story).routines 64 ≡ true) × ((scope_all story).routines 65 ≡ false) × ((scope_all story).routines 68 ≡ false)
+unfolding story memory code
+all = (refl, refl, refl, refl, refl)
+
+only : ((scope_only (record { records = []; routines = 66 ∷ [] })).instructions 70 ≡ false) × ((scope_only (record { records = []; routines = 66 ∷ [] })).routines 66 ≡ true) × ((scope_only (record { records = []; routines = 66 ∷ [] })).routines 64 ≡ false)
+only = (refl, refl, refl)
+
+first : IsFrame first_frame × IsFirst first_frame
+first = (record { reached = omega arith; supplied = omega arith; locals = omega arith; stack = omega arith }, record { return_place = refl; result = refl; supplied = refl; locals = refl })
+
+above : IsFrame frame
+unfolding frame
+above = record { reached = omega arith; supplied = omega arith; locals = omega arith; stack = omega arith }
+
+no_frames : (IsFrame (record first_frame { locals = replicate 16 0 }) → ⊥) × (IsFrame (record first_frame { supplied = 4 }) → ⊥) × (IsFrame (record first_frame { return_place = 16777216 }) → ⊥) × (IsFirst frame → ⊥)
+unfolding frame
+no_frames = (λ f. omega (arith, f.locals), λ f. omega (arith, f.supplied), λ f. omega (arith, f.reached), λ f. absurd cc)
+
+-- the oldest frame is the first, and those above it need not be
+frames : AreFrames first_frame [] × AreFrames frame (first_frame ∷ []) × (AreFrames first_frame (frame ∷ []) → ⊥) × (AreFrames frame [] → ⊥)
+frames = (first, (above, first), λ f. no_frames.3 f.1.1, λ f. no_frames.3 f.1)
+
+is_state : IsState story (opening story)
+is_state = record { memory = refl; frames = first; few = omega arith }
+
+no_state : (IsState story (record (opening story) { callers = replicate 1025 first_frame }) → ⊥)
+no_state s = omega (arith, s.few)
+
+-- ---- accesses
+
+taken : (popped 1 state ≡ with_stack (6 ∷ []) state) × ((popped 3 state).frame.stack ≡ []) × ((give (events.Random 3) state).waiting ≡ Some (events.Random 3)) × ((at_place (negsuc 1) state).place ≡ negsuc 1)
+unfolding state frame
+taken = (refl, refl, refl, refl)
+
+pops : (pop (5 ∷ 6 ∷ []) state ≡ Ok (5, with_stack (6 ∷ []) state)) × (pop [] state ≡ Err (halts.Fault StackUnderflow)) × (found (Some 3) AbsentLocal ≡ Ok 3) × (found None AbsentLocal ≡ Err (halts.Fault AbsentLocal))
+pops = (refl, refl, refl, refl)
+
+globals : (global story 16 ≡ 64) × (global story 18 ≡ 68) × (global story 255 ≡ 542)
+unfolding story memory code
+globals = (refl, refl, refl)
+
+-- locals 1 and 2 are there; variables 16 and 18 are the first and the third global
+named : (read_named story 1 state ≡ Ok 7) × (read_named story 2 state ≡ Ok 8) × (read_named story 3 state ≡ Err (halts.Fault AbsentLocal)) × (read_named story 15 state ≡ Err (halts.Fault AbsentLocal)) × (read_named story 16 state ≡ Ok 0x102) × (read_named story 18 state ≡ Ok 0xFFFE)
+unfolding read_named story memory code state frame
+named = (refl, refl, refl, refl, refl, refl)
+
+variables : (read_variable story 0 state ≡ Ok (5, popped 1 state)) × (read_variable story 0 (popped 2 state) ≡ Err (halts.Fault StackUnderflow)) × (read_variable story 1 state ≡ Ok (7, state)) × (read_variable story 17 state ≡ Ok (0x304, state))
+unfolding read_variable read_named story memory code state frame
+variables = (refl, refl, refl, refl)
+
+one_operand : (read_operand story (Constant 0) state ≡ Ok (0, state)) × (read_operand story (Variable 0) state ≡ Ok (5, popped 1 state)) × (read_operand story (Variable 3) state ≡ Err (halts.Fault AbsentLocal))
+unfolding read_operand read_variable read_named story memory code state frame
+one_operand = (refl, refl, refl)
+
+-- from left to right, and the first fault is the one
+operands : (read_operands story (Variable 0 ∷ Constant 9 ∷ Variable 0 ∷ []) state ≡ Ok (5 ∷ 9 ∷ 6 ∷ [], popped 2 state)) × (read_operands story (Variable 0 ∷ Variable 0 ∷ Variable 0 ∷ Variable 3 ∷ []) state ≡ Err (halts.Fault StackUnderflow)) × (read_operands story (Variable 0 ∷ Variable 3 ∷ Variable 0 ∷ Variable 0 ∷ []) state ≡ Err (halts.Fault AbsentLocal)) × (read_operands story [] state ≡ Ok ([], state))
+unfolding in_turn read_operand read_variable read_named story memory code state frame
+operands = (refl, refl, refl, refl)
+
+-- each takes what it asks for off what is left
+spend : ℕ → ℕ → Result (ℕ × ℕ) Bool
+spend asked left = if nat_le asked left then Ok (asked + 10, left - asked) else Err true
+
+turns : (in_turn spend (2 ∷ 3 ∷ []) 6 ≡ Ok (12 ∷ 13 ∷ [], 1)) × (in_turn spend (2 ∷ 5 ∷ []) 6 ≡ Err true) × (in_turn spend [] 6 ≡ Ok ([], 6))
+unfolding in_turn spend
+turns = (refl, refl, refl)
+
+-- ---- the tests of a step
+
+-- an instruction that takes nothing
+plain : ℕ → Instruction
+plain size = record { opcode = NewLine; operands = []; store = None; branch = None; size = size }
+
+decodings : (decoded (Ok (plain 1)) ≡ Ok (plain 1)) × (decoded (Err Truncated) ≡ Err (halts.Fault IllegalOpcode))
+decodings = (refl, refl)
+
+-- the place is judged before its bytes
+fetches : (fetch (scope_all story) (negsuc 0) memory ≡ Err (halts.Fault UnlistedInstruction)) × (fetch (scope_all story) (pos 79) memory ≡ Err (halts.Fault UnlistedInstruction)) × (fetch (scope_all story) (pos 78) memory ≡ Err (halts.Fault IllegalOpcode)) × (fetch (scope_only (record { records = []; routines = [] })) (pos 78) memory ≡ Err (halts.Fault UnlistedInstruction))
+unfolding fetch instruction_by head_at short_head played_opcode story memory code
+fetches = (refl, refl, refl, refl)
+
+hello : List ℕ
+hello = 0x68 ∷ 0x65 ∷ 0x6C ∷ 0x6C ∷ 0x6F ∷ []
+
+prints : (printed (Ok (65 ∷ [])) ≡ Ok (Print (65 ∷ []))) × (printed (Err Outside) ≡ Err (halts.Fault TextOutside)) × (printed (Err NestedAbbreviation) ≡ Err (halts.Fault TextOutside))
+prints = (refl, refl, refl)
+
+texts : (print_at (pos 73) memory ≡ Ok (Print hello)) × (print_at (pos 78) memory ≡ Err (halts.Fault TextOutside)) × (print_at (negsuc 0) memory ≡ Err (halts.Fault TextOutside))
+unfolding output_at output_of_characters small_letters memory code hello
+texts = (refl, refl, refl)
+
+effects : (effect_of APrint [] (at 72) ≡ Ok (Print hello)) × (effect_of NewLine [] (at 72) ≡ Ok (Print (10 ∷ []))) × (effect_of Nop [] (at 72) ≡ Ok Proceed) × (effect_of AQuit [] (at 72) ≡ Err halts.Quit)
+unfolding effect_of output_at output_of_characters small_letters at story memory code hello
+effects = (refl, refl, refl, refl)
+
+-- ---- the effect
+
+acts : (act (plain 5) Proceed (at 72) ≡ at 77) × (act (plain 5) (Print hello) (at 72) ≡ at 77) × (advance (plain 1) (at_place (negsuc 0) (at 0)) ≡ at 0)
+unfolding act plain at
+acts = (refl, refl, refl)
+
+given : (items_of Proceed ≡ []) × (items_of (Print (72 ∷ 105 ∷ [])) ≡ Text 72 ∷ Text 105 ∷ [])
+given = (refl, refl)
+
+-- ---- steps, where these opcodes are played
+
+planned : playable NewLine ≡ true → plan setting (at 70) ≡ Ok (plain 1, Print (10 ∷ []), at 70)
+unfolding plan fetch effect_of in_turn instruction_by head_at short_head played_opcode checked_head operands_at store_if branch_if text_if setting plain at story memory code
+planned p = rw p refl
+
+unplanned : (plan setting (at 79) ≡ Err (halts.Fault UnlistedInstruction)) × (plan setting (at 78) ≡ Err (halts.Fault IllegalOpcode))
+unfolding plan fetch instruction_by head_at short_head played_opcode setting at story memory code
+unplanned = (refl, refl)
+
+new_line_step : playable NewLine ≡ true → step setting (at 70) ≡ Ok (record { state = at 71; items = Text 10 ∷ [] })
+unfolding step plan act fetch effect_of in_turn instruction_by head_at short_head played_opcode checked_head operands_at store_if branch_if text_if setting at story memory code
+new_line_step p = rw p refl
+
+nop_step : playable Nop ≡ true → step setting (at 71) ≡ Ok (record { state = at 72; items = [] })
+unfolding step plan act fetch effect_of in_turn instruction_by head_at short_head played_opcode checked_head operands_at store_if branch_if text_if setting at story memory code
+nop_step p = rw p refl
+
+print_step : playable APrint ≡ true → step setting (at 72) ≡ Ok (record { state = at 77; items = map Text hello })
+unfolding step plan act fetch effect_of in_turn instruction_by head_at short_head played_opcode checked_head operands_at store_if branch_if text_if output_at output_of_characters small_letters setting at story memory code hello
+print_step p = rw p refl
+
+quit_step : playable AQuit ≡ true → step setting (at 77) ≡ Err halts.Quit
+unfolding step plan fetch effect_of in_turn instruction_by head_at short_head played_opcode checked_head operands_at store_if branch_if text_if setting at story memory code
+quit_step p = rw p refl
+
+no_step : (step setting (at 78) ≡ Err (halts.Fault IllegalOpcode)) × (step setting (at 79) ≡ Err (halts.Fault UnlistedInstruction))
+unfolding step plan fetch instruction_by head_at short_head played_opcode setting at story memory code
+no_step = (refl, refl)
+
+-- ---- runs
+
+stops_so : (stop_of (halts.Fault StackUnderflow) (at 72) ≡ stops.Fault StackUnderflow (pos 72)) × (stop_of (halts.Need needs.Saved) state ≡ stops.Paused pauses.NeedSave) × (stop_of halts.Quit state ≡ stops.Paused pauses.Quit) × (stop_of halts.FrameLimit state ≡ stops.Paused pauses.FrameLimit)
+unfolding at
+stops_so = (refl, refl, refl, refl)
+
+answered : (is_answered (halts.Need needs.Random) (events.Random 7) ≡ true) × (is_answered (halts.Need needs.Random) events.NotRestored ≡ false) × (is_answered halts.Quit (events.Random 7) ≡ false) × (is_answered (halts.Fault StackUnderflow) (events.Random 7) ≡ false)
+answered = (refl, refl, refl, refl)
+
+needed : (need_in (Err (halts.Need needs.Line)) ≡ Some needs.Line) × (need_in (Err halts.Quit) ≡ None) × (need_in (Ok (record { state = state; items = [] })) ≡ None)
+needed = (refl, refl, refl)
+
+-- nothing is awaited where an event waits, or where the step is none that waits
+awaits_nothing : (awaited setting (give (events.Random 1) (at 78)) ≡ None) × (awaited setting (at 78) ≡ None)
+unfolding step plan fetch instruction_by head_at short_head played_opcode setting at story memory code
+awaits_nothing = (refl, refl)
+
+-- what is played here
+record Plays : Type 0 where
+  new_line : playable NewLine ≡ true
+  nop : playable Nop ≡ true
+  print : playable APrint ≡ true
+  quit : playable AQuit ≡ true
+
+-- the budget ends before a step that can be made; `quit` and a fault are seen there too
+runs : Plays → (run setting [] 0 (at 70) ≡ record { stop = stops.Paused pauses.Budget; state = at 70; items = [] })
+    × (run setting [] 2 (at 70) ≡ record { stop = stops.Paused pauses.Budget; state = at 72; items = Text 10 ∷ [] })
+    × (run setting [] 3 (at 70) ≡ record { stop = stops.Paused pauses.Quit; state = at 77; items = Text 10 ∷ map Text hello })
+    × (run setting [] 9 (at 70) ≡ record { stop = stops.Paused pauses.Quit; state = at 77; items = Text 10 ∷ map Text hello })
+    × (run setting [] 0 (at 78) ≡ record { stop = stops.Fault IllegalOpcode (pos 78); state = at 78; items = [] })
+unfolding run until at hello
+runs p =
+    let a = new_line_step p.new_line in
+    let b = nop_step p.nop in
+    let c = print_step p.print in
+    let d = quit_step p.quit in
+    (rw a refl, rw (a, b, c) refl, rw (a, b, c, d) refl, rw (a, b, c, d) refl, rw no_step.0 refl)
+
+-- an event that nothing needs isn't used
+event_unused : run setting (events.Random 7 ∷ []) 5 (at 78) ≡ record { stop = stops.Fault IllegalOpcode (pos 78); state = at 78; items = [] }
+unfolding run until at
+event_unused = rw no_step.0 refl
+
+goes : Plays → Goes setting 0 (at 70) (at 70) [] × Goes setting 2 (at 70) (at 72) (Text 10 ∷ [])
+goes p = ((refl, refl), (_, _, new_line_step p.new_line, (_, _, nop_step p.nop, (refl, refl), refl), refl))
+
+stands : Plays → Stands setting (stops.Paused pauses.Budget) (at 70) × Stands setting (stops.Paused pauses.Quit) (at 77) × Stands setting (stops.Fault IllegalOpcode (pos 78)) (at 78)
+unfolding at
+stands p = ((_, new_line_step p.new_line), (_, quit_step p.quit, refl), (_, no_step.0, refl))
+
+-- ---- what functions answer
+
+gives : Gives (λ (n : ℕ). n + 1) (Ok 3) (Ok 4) × Gives (λ (n : ℕ). n + 1) (Err halts.Quit) (Err halts.Quit) × (Gives (λ (n : ℕ). n + 1) (Ok 3) (Ok 3) → ⊥) × (Gives (λ (n : ℕ). n + 1) (Ok 3) (Err halts.Quit) → ⊥)
+gives = (refl, refl, λ g. absurd cc, λ g. absurd cc)
+
+near : IsNear (pos 0) × IsNear (pos 1000000) × (IsNear (pos 1000001) → ⊥) × (IsNear (negsuc 0) → ⊥)
+near = ((omega arith, omega arith), (omega arith, omega arith), λ n. omega (arith, n.1), λ n. omega (arith, n.0))
