@@ -1,3 +1,4 @@
+mod Worked
 mod Needless
 pub mod Running
 mod Stepping

@@ -1,10 +1,10 @@
 //! The effect of a step, which only want of memory can keep from being done.
 
-ghost use Rattle.std.specs.Prelude.{◌≡◌, ◌≤◌, ◌++◌, length, map, vec_len, OnOk, OnErr};
+ghost use Rattle.std.specs.Prelude.{◌≡◌, ◌<◌, ◌≤◌, ◌++◌, length, map, vec_len, OnOk, OnErr};
 ghost use Rattle.zfault.specs.declared.item.Item.TheVariants.{Text};
 ghost use Rattle.zstate.specs.State.{popped};
 ghost use Rattle.zstate.specs.Step.{act, items_of};
-ghost use Rattle.zref.specs.Plan.{EndsBy, effect_of};
+ghost use Rattle.zref.specs.Plan.{EndsBy, Prints, effect_of};
 
 use crate::effect::Effect;
 use crate::plan::Plan;
@@ -26,6 +26,7 @@ pub(crate) fn act_on(
     ensures given { OnOk result (items.new.items ≡ items.old.items ++ items_of (effect_of plan.now.effect text.now)) }
     ensures err { OnErr result (state.new ≡ state.old) }
     ensures kept { OnErr result (items.new.items ≡ items.old.items) }
+    ensures wants { OnErr result (Prints (effect_of plan.now.effect text.now)) }
 {
     match plan.effect {
         Effect::Proceed => {}
@@ -41,6 +42,7 @@ pub(crate) fn act_on(
 fn give_text(items: &mut Vec<Item>, bytes: &[u8]) -> Result<(), AllocError>
     ensures ok { OnOk result (items.new.items ≡ items.old.items ++ map Text bytes.now) }
     ensures err { OnErr result (items.new.items ≡ items.old.items) }
+    ensures wants { OnErr result (0 < length bytes.now) }
 {
     items.reserve(bytes.len())?;
     for byte in bytes {
