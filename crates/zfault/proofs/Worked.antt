@@ -1,0 +1,87 @@
+-- Values of the definitions, computed.
+use Rattle.std.proofs.Common.{◌≡◌, ℕ, zero, suc, ◌^◌, ◌-◌, inl, inr, Bool, true, false, [], ◌∷◌, replicate, Some, None, Result, Ok, Err, refl, arith}
+use Rattle.std.specs.Prelude.{take}
+use Rattle.std.specs.Io.KnownBytes.{Appends}
+use Rattle.zfault.specs.declared.adapters.FromRead.{FromRead}
+use Rattle.zfault.specs.declared.adapters.ToWrite.{ToWrite}
+use Rattle.zfault.specs.declared.event.Event.TheVariants.{Line, Random, Saved, NotRestored}
+use Rattle.zfault.specs.declared.fault.Fault.TheVariants.{UnlistedInstruction, IllegalOpcode, UnlistedCall, StackUnderflow, AbsentLocal, AbsentObject, AbsentAttribute, AbsentProperty, PropertyTooLong, ZeroDivisor, WriteOutside, ReadOutside, TextOutside, SmallBuffer, ReturnFromMain, BadVariable}
+use Rattle.zfault.specs.declared.pause.Need.TheVariants as needs
+use Rattle.zfault.specs.declared.pause.Pause.TheVariants as pauses
+use Rattle.zfault.specs.Adapters.{reader_of, read_failures, writer_of, write_failures}
+use Rattle.zfault.specs.Answers.{pause_for, answers}
+use Rattle.zfault.specs.Devices.{HasRisen, CountsFailure, AppendsBeginning}
+use Rattle.zfault.specs.Fault.{number_of}
+use Rattle.zfault.specs.Line.{padded, IsPadded}
+
+-- ---- faults, pauses and events
+
+numbers : (number_of UnlistedInstruction ≡ 1) × (number_of IllegalOpcode ≡ 2) × (number_of UnlistedCall ≡ 3) × (number_of StackUnderflow ≡ 4) × (number_of AbsentLocal ≡ 5) × (number_of AbsentObject ≡ 6) × (number_of AbsentAttribute ≡ 7) × (number_of AbsentProperty ≡ 8)
+numbers = (refl, refl, refl, refl, refl, refl, refl, refl)
+
+more_numbers : (number_of PropertyTooLong ≡ 9) × (number_of ZeroDivisor ≡ 10) × (number_of WriteOutside ≡ 11) × (number_of ReadOutside ≡ 12) × (number_of TextOutside ≡ 13) × (number_of SmallBuffer ≡ 14) × (number_of ReturnFromMain ≡ 15) × (number_of BadVariable ≡ 16)
+more_numbers = (refl, refl, refl, refl, refl, refl, refl, refl)
+
+waits : (pause_for needs.Line ≡ pauses.NeedLine) × (pause_for needs.Random ≡ pauses.NeedRandom) × (pause_for needs.Saved ≡ pauses.NeedSave) × (pause_for needs.Restore ≡ pauses.NeedRestore)
+waits = (refl, refl, refl, refl)
+
+-- each kind of event answers its need
+answered : (answers needs.Line (Line (108 ∷ [])) ≡ true) × (answers needs.Random (Random 0) ≡ true) × (answers needs.Saved (Saved false) ≡ true) × (answers needs.Saved (Saved true) ≡ true) × (answers needs.Restore NotRestored ≡ true)
+answered = (refl, refl, refl, refl, refl)
+
+-- and no other
+unanswered : (answers needs.Line (Random 0) ≡ false) × (answers needs.Random (Line []) ≡ false) × (answers needs.Saved NotRestored ≡ false) × (answers needs.Restore (Saved true) ≡ false) × (answers needs.Restore (Random 1) ≡ false)
+unanswered = (refl, refl, refl, refl, refl)
+
+-- ---- devices
+
+-- a count rises by any number, and at its last value it has risen
+risen : HasRisen 0 1 × HasRisen 3 7 × HasRisen (2 ^ 64 - 1) (2 ^ 64 - 1) × (HasRisen 1 1 → ⊥) × (HasRisen 2 1 → ⊥)
+risen = (inl (omega arith), inl (omega arith), inr refl, same, less)
+  where
+    same : HasRisen 1 1 → ⊥
+    same (inl rises) = omega (arith, rises)
+    same (inr last) = omega (arith, last)
+
+    less : HasRisen 2 1 → ⊥
+    less (inl rises) = omega (arith, rises)
+    less (inr last) = omega (arith, last)
+
+outcome : Bool → Result ℕ ℕ
+outcome true = Ok 3
+outcome false = Err 0
+
+counted : CountsFailure 2 2 (outcome true) × CountsFailure 2 3 (outcome false) × (CountsFailure 2 3 (outcome true) → ⊥) × (CountsFailure 2 2 (outcome false) → ⊥)
+unfolding outcome
+counted = (refl, inl (omega arith), λ counts. omega (arith, counts), still)
+  where
+    still : HasRisen 2 2 → ⊥
+    still (inl rises) = omega (arith, rises)
+    still (inr last) = omega (arith, last)
+
+-- two of three bytes, none of them, and what isn't known; known bytes stay known, and no others come
+begun : AppendsBeginning (Some (1 ∷ [])) (Some (1 ∷ 2 ∷ 3 ∷ [])) (2 ∷ 3 ∷ 4 ∷ []) × AppendsBeginning (Some (1 ∷ [])) (Some (1 ∷ [])) (2 ∷ []) × AppendsBeginning None None (2 ∷ []) × (AppendsBeginning (Some []) None (2 ∷ []) → ⊥) × (AppendsBeginning (Some []) (Some (9 ∷ [])) (2 ∷ []) → ⊥)
+begun = (record { taken = 2; grown = refl }, record { taken = 0; grown = refl }, record { taken = 0; grown = tt }, λ a. a.grown, λ a. other a.taken a.grown)
+  where
+    other : (n : ℕ) → Appends (Some []) (Some (9 ∷ [])) (take n (2 ∷ [])) → ⊥
+    other zero e = absurd cc
+    other (suc n) e = absurd cc
+
+source : FromRead ℕ
+source = record { reader = 7; failed_reads = 2 }
+
+sink : ToWrite ℕ
+sink = record { writer = 8; failed_calls = 3 }
+
+seen : (reader_of source ≡ 7) × (read_failures source ≡ 2) × (writer_of sink ≡ 8) × (write_failures sink ≡ 3)
+unfolding source sink
+seen = (refl, refl, refl, refl)
+
+-- ---- lines
+
+lines : (padded [] ≡ replicate 254 0) × (padded (108 ∷ 111 ∷ []) ≡ 108 ∷ 111 ∷ replicate 252 0) × (padded (replicate 254 120) ≡ replicate 254 120)
+lines = (refl, refl, refl)
+
+-- what a line doesn't count is zeros
+kept : IsPadded (padded (108 ∷ 111 ∷ [])) 2 × IsPadded (padded (108 ∷ 0 ∷ [])) 2 × (IsPadded (padded (108 ∷ 111 ∷ [])) 1 → ⊥) × (IsPadded (108 ∷ []) 1 → ⊥)
+kept = (record { whole = refl; limit = omega arith; zeros = refl }, record { whole = refl; limit = omega arith; zeros = refl }, λ p. absurd cc, λ p. omega (arith, p.whole))
