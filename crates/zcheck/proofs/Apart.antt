@@ -1,5 +1,5 @@
 -- Tables that share no byte, abbreviations and frozen ranges, each asked for by itself.
-use Rattle.std.proofs.Common.{◌≡◌, ◌↔◌, ◌⊎◌, inl, inr, ℕ, zero, suc, ◌+◌, ◌*◌, ◌-◌, ◌<◌, ◌≤◌, Bool, true, false, List, [], ◌∷◌, length, take, drop, Some, refl, sym, ◌∙◌, ap, subst, arith}
+use Rattle.std.proofs.Common.{◌≡◌, ◌↔◌, ◌⊎◌, inl, inr, ℕ, zero, suc, ◌+◌, ◌*◌, ◌-◌, ◌<◌, ◌≤◌, Bool, true, false, List, [], ◌∷◌, length, take, drop, Some, refl, sym, ◌∙◌, subst, arith}
 use Rattle.std.specs.Prelude.{All, nat_le, ◌&&◌, ◌||◌, slice_index_or}
 use Rattle.std.specs.List.{list_any, AllByRecursion}
 use Rattle.std.proofs.lemmas.Bool.{cases_lt, leb-true, le-leb}
@@ -7,11 +7,12 @@ use Rattle.std.proofs.lemmas.List.{length-take-le, length-drop}
 use Rattle.std.proofs.lemmas.Option.{same_Some}
 use Rattle.zstory.specs.Bytes.{word_at}
 use Rattle.zstory.specs.LoadedStory.{LoadedStory, static_base, abbreviations}
-use Rattle.ztext.specs.Abbreviations.{abbreviation_at, IsPlainAbbreviation}
+use Rattle.ztext.specs.Abbreviations.{readable_word, abbreviation_at, IsPlainAbbreviation}
 use Rattle.zcert.specs.declared.parts.Range.{Range}
 use Rattle.zcert.specs.Spelling.{IsRange}
-use Rattle.zrule.specs.Bytes.{IsWithin, IsChanging, IsUnchanging}
+use Rattle.zrule.specs.Bytes.{IsWithin, IsChanging, IsUnchanging, read_length}
 use Rattle.zrule.specs.Claims.{is_inside}
+use Rattle.zrule.proofs.Unchanged.{IsRead, read_where}
 use Rattle.zrule.specs.Rules.{HasAbbreviations, HasDisjointTables}
 use Rattle.zcheck.specs.Tables.{HasAbbreviation, IsFrozenApart, AreApart}
 
@@ -44,19 +45,23 @@ module _ (story : LoadedStory) (n place size : ℕ) (few : n < 96) (plain : IsPl
   long : length (take size (drop place story.memory)) ≡ size
   long = length-take-le size (drop place story.memory) (omega (arith, within, length-drop place story.memory))
 
+  read : IsRead story.memory n (take size (drop place story.memory)) (abbreviations story)
+  read = read_where story.memory n (take size (drop place story.memory)) text
+
   parts_still : HasAbbreviation story n → IsUnchanging story (abbreviations story + 2 * n) 2 × IsUnchanging story place size
   parts_still has = (
     record { still = λ p inside. has.unchanging p (record { number = n; last = few; inside = inl inside }) refl },
-    record { still = λ p inside. has.unchanging p (record { number = n; last = few; inside = inr (take size (drop place story.memory), text, (omega (arith, at, inside.0), omega (arith, at, long, inside.1))) }) refl },
+    record { still = λ p inside. has.unchanging p (record { number = n; last = few; inside = inr (word_at story.memory (abbreviations story + 2 * n), read.word, (omega (arith, at, inside.0), omega (arith, at, long, read.length_is, inside.1))) }) refl },
   )
 
-  by_part : IsUnchanging story (abbreviations story + 2 * n) 2 × IsUnchanging story place size → (p k : ℕ) → k ≡ n → (IsWithin (abbreviations story + 2 * k) 2 p ⊎ ((t : List ℕ) × (abbreviation_at story.memory k ≡ Some t) × IsWithin (2 * word_at story.memory (abbreviations story + 2 * k)) (length t) p)) → IsChanging story p → ⊥
+  by_part : IsUnchanging story (abbreviations story + 2 * n) 2 × IsUnchanging story place size → (p k : ℕ) → k ≡ n → (IsWithin (abbreviations story + 2 * k) 2 p ⊎ ((word : ℕ) × (readable_word story.memory (abbreviations story + 2 * k) ≡ Some word) × IsWithin (2 * word) (read_length story.memory (2 * word)) p)) → IsChanging story p → ⊥
   by_part still p k same (inl word) = still.0.still p (subst (λ (j : ℕ). IsWithin (abbreviations story + 2 * j) 2 p) same word)
-  by_part still p k same (inr (t, found, there)) =
-      let here : IsWithin (2 * word_at story.memory (abbreviations story + 2 * n)) (length t) p = subst (λ (j : ℕ). IsWithin (2 * word_at story.memory (abbreviations story + 2 * j)) (length t) p) same there in
-      let found_here : abbreviation_at story.memory n ≡ Some t = subst (λ (j : ℕ). abbreviation_at story.memory j ≡ Some t) same found in
-      let is : t ≡ take size (drop place story.memory) = same_Some t (take size (drop place story.memory)) (sym found_here ∙ text) in
-      still.1.still p (omega (arith, at, here.0), omega (arith, at, here.1, ap length is, long))
+  by_part still p k same (inr (word, found, there)) =
+      let found_here : readable_word story.memory (abbreviations story + 2 * n) ≡ Some word = subst (λ (j : ℕ). readable_word story.memory (abbreviations story + 2 * j) ≡ Some word) same found in
+      let w = word_at story.memory (abbreviations story + 2 * n) in
+      let is : word ≡ w = same_Some word w (sym found_here ∙ read.word) in
+      let here : IsWithin (2 * w) (read_length story.memory (2 * w)) p = subst (λ (v : ℕ). IsWithin (2 * v) (read_length story.memory (2 * v)) p) is there in
+      still.1.still p (omega (arith, at, here.0), omega (arith, at, here.1, read.length_is, long))
 
   pub abbreviation_where : HasAbbreviation story n ↔ (IsUnchanging story (abbreviations story + 2 * n) 2 × IsUnchanging story place size)
   abbreviation_where = (parts_still, λ still. record { plain = plain; unchanging = λ p inside same. by_part still p inside.number same inside.inside })
@@ -67,14 +72,6 @@ abbreviations_each story = (
   λ has n few. record { plain = has.plain n few; unchanging = λ p inside same. has.unchanging p inside },
   λ each. record { plain = λ n few. (each n few).plain; unchanging = λ p inside. (each inside.number inside.last).unchanging p inside refl },
 )
-
--- one more than those below a number
-pub one_more : (P : ℕ → Type 0) (n : ℕ) → ((k : ℕ) → k < n → P k) → P n → (k : ℕ) → k < n + 1 → P k
-one_more P n below here k less = by_cases (cases_lt k n)
-  where
-    by_cases : (k < n) ⊎ (n ≤ k) → P k
-    by_cases (inl l) = below k l
-    by_cases (inr l) = let same : n ≡ k = omega arith in subst P same here
 
 -- what is frozen, range by range
 module _ (story : LoadedStory) where

@@ -1,5 +1,5 @@
 -- A story that is accepted never faults.
-use Rattle.std.proofs.Common.{◌≡◌, ℕ, Bool, true, false, List, [], ◌∷◌, Some, refl, ◌∙◌, ap}
+use Rattle.std.proofs.Common.{◌≡◌, ◌⊎◌, inl, inr, ℕ, Bool, true, false, List, [], ◌∷◌, Some, refl, ◌∙◌, ap}
 use Rattle.std.specs.Prelude.{◌==◌, ◌||◌, if◌then◌else◌}
 use Rattle.std.specs.List.{AllZip, list_any}
 use Rattle.zstory.specs.LoadedStory.{LoadedStory}
@@ -8,15 +8,18 @@ use Rattle.zlist.specs.declared.record.Record.{Record}
 use Rattle.zlist.specs.Listing.{ListedCode}
 use Rattle.zcert.specs.Certificate.{Instruction, Certificate}
 use Rattle.zcert.specs.Listed.{listed_at}
-use Rattle.zstate.specs.State.{Scope, opening, scope_all, scope_only}
+use Rattle.zfault.specs.declared.event.Event.{Event}
+use Rattle.zstate.specs.State.{Scope, Setting, opening, scope_all, scope_only}
+use Rattle.zstate.specs.Run.{run}
 use Rattle.zrule.specs.Claims.{claims_of}
 use Rattle.zrule.specs.Rules.{Supports}
-use Rattle.zrule.specs.Described.{IsListedIn, IsLoadedStory}
+use Rattle.zrule.specs.Bytes.{IsFixed, frozen}
+use Rattle.zrule.specs.Described.{Described, IsListedIn, IsLoadedStory, IsNoFault}
 use Rattle.zrule.proofs.Listed.{entry_listed}
 use Rattle.zrule.proofs.Runs.{all_listed, run_safe}
 use Rattle.zrule.proofs.Safety.{opening_described}
 use Rattle.zcheck.specs.declared.refusal.StoryRule.TheVariants as rules
-use Rattle.zcheck.specs.Acceptance.{IsRecordOf, IsListingOf, RunsWithoutFault}
+use Rattle.zcheck.specs.Acceptance.{IsRecordOf, IsListingOf, RunsWithoutFault, RunsWithoutChange}
 use Rattle.zcheck.specs.Passes.{Passes}
 
 module _ {V : Type 0} (o : SetOperations V) (story : LoadedStory) (c : Certificate V) where
@@ -51,11 +54,33 @@ module _ {V : Type 0} (o : SetOperations V) (story : LoadedStory) (c : Certifica
       let listed = entry_listed (listed_at c.instructions p) e claimed in
       record_there c.instructions listing.records lists.records p listed.0 listed.1
 
-  safe_in : IsLoadedStory story → Passes o story c → (scope : Scope) → IsListedIn o (claims_of o c) scope → RunsWithoutFault story scope
-  safe_in loaded passes scope listed events n =
-      let supports = supports_where passes in
-      (run_safe o (claims_of o c) (record { story = story; scope = scope }) loaded supports listed events n (opening story) (opening_described o (claims_of o c) story supports)).0
+  module _ (loaded : IsLoadedStory story) (passes : Passes o story c) (scope : Scope) (listed : IsListedIn o (claims_of o c) scope) where
+    setting : Setting
+    setting = record { story = story; scope = scope }
+
+    runs : (events : List Event) (n : ℕ) → IsNoFault (run setting events n (opening story)).stop × Described o (claims_of o c) story (run setting events n (opening story)).state
+    unfolding setting
+    runs events n =
+        let supports = supports_where passes in
+        run_safe o (claims_of o c) setting loaded supports listed events n (opening story) (opening_described o (claims_of o c) story supports)
+
+    safe_in : RunsWithoutFault story scope
+    unfolding setting
+    safe_in events n = (runs events n).0
+
+    -- what is frozen is fixed
+    fixed_where : (p : ℕ) → IsFixed story (claims_of o c).is_frozen p ⊎ ((claims_of o c).is_frozen p ≡ true) → IsFixed story (claims_of o c).is_frozen p
+    fixed_where p (inl fixed) = fixed
+    fixed_where p (inr is) = record { closed = frozen is; unchanging = (passes.story_rules rules.Tables).unchanging p is }
+
+    same_in : RunsWithoutChange story (claims_of o c).is_frozen scope
+    unfolding setting
+    same_in events n p stays = (runs events n).1.fixed p (fixed_where p stays)
 
   pub never_faults : (listing : ListedCode) → IsLoadedStory story → Passes o story c → IsListingOf story c listing → RunsWithoutFault story (scope_only listing) × RunsWithoutFault story (scope_all story)
   never_faults listing loaded passes lists =
       (safe_in loaded passes (scope_only listing) (lists_where listing lists), safe_in loaded passes (scope_all story) (all_listed o (claims_of o c) story (supports_where passes)))
+
+  pub never_changes : (listing : ListedCode) → IsLoadedStory story → Passes o story c → IsListingOf story c listing → RunsWithoutChange story (claims_of o c).is_frozen (scope_only listing) × RunsWithoutChange story (claims_of o c).is_frozen (scope_all story)
+  never_changes listing loaded passes lists =
+      (same_in loaded passes (scope_only listing) (lists_where listing lists), same_in loaded passes (scope_all story) (all_listed o (claims_of o c) story (supports_where passes)))

@@ -5,3 +5,4 @@ mod Places
 mod Lists
 pub mod Headline
 mod Worked
+pub mod Instances

@@ -13,6 +13,7 @@ use Rattle.zcert.proofs.Rising.{instructions_rise}
 use Rattle.zrule.specs.declared.rule.Rule.{Rule}
 use Rattle.zrule.specs.Claims.{Entry, claims_of, entry_of}
 use Rattle.zrule.specs.Rules.{Keeps, IsLowestBroken}
+use Rattle.zrule.proofs.Below.{one_more}
 use Rattle.zrule.proofs.Listed.{entry_listed, listed_address}
 use Rattle.zcheck.specs.declared.refusal.StoryRule.{StoryRule}
 use Rattle.zcheck.specs.Passes.{KeepsStory, KeepsBelow, Passes, IsFirstBroken}
@@ -33,7 +34,7 @@ module _ {V : Type 0} (o : SetOperations V) (story : LoadedStory) (c : Certifica
 
   -- so it is by the first instructions
   abbrev pub KeepsFirst : ℕ → Type 0
-  KeepsFirst end = (k : ℕ) (i : Instruction V) → k < end → slice_get c.instructions k ≡ Some i → KeepsAll i
+  KeepsFirst end = (k : ℕ) → k < end → (i : Instruction V) → slice_get c.instructions k ≡ Some i → KeepsAll i
 
   -- an entry is claimed by an instruction in the list
   stands : (p : ℕ) (e : Entry V) → (claims_of o c).entry p ≡ Some e → (k : ℕ) × (i : Instruction V) × (slice_get c.instructions k ≡ Some i) × (i.address ≡ p) × (entry_of i ≡ e)
@@ -52,14 +53,8 @@ module _ {V : Type 0} (o : SetOperations V) (story : LoadedStory) (c : Certifica
   }
 
   pub first_more : (n : ℕ) (i : Instruction V) → slice_get c.instructions n ≡ Some i → KeepsFirst n → KeepsAll i → KeepsFirst (n + 1)
-  first_more n i at before here k j less found = by_cases (cases_lt k n)
-    where
-      by_cases : (k < n) ⊎ (n ≤ k) → KeepsAll j
-      by_cases (inl l) = before k j l found
-      by_cases (inr l) =
-          let same : k ≡ n = omega arith in
-          let is : i ≡ j = same_Some i j (sym at ∙ subst (λ (m : ℕ). slice_get c.instructions m ≡ Some j) same found) in
-          subst KeepsAll is here
+  first_more n i at before here =
+      one_more (λ k. (j : Instruction V) → slice_get c.instructions k ≡ Some j → KeepsAll j) n before (λ j found. subst KeepsAll (same_Some i j (sym at ∙ found)) here)
 
   module _ (format : Format V) (has : HasSpelling format c) where
     -- what is listed below an instruction comes before it
@@ -69,7 +64,7 @@ module _ {V : Type 0} (o : SetOperations V) (story : LoadedStory) (c : Certifica
         at_entry p e j there is (by_order k j found there (cases_lt k n))
       where
         by_order : (k : ℕ) (j : Instruction V) → slice_get c.instructions k ≡ Some j → j.address ≡ p → (k < n) ⊎ (n ≤ k) → KeepsAll j
-        by_order k j found there (inl l) = before k j l found
+        by_order k j found there (inl l) = before k l j found
         by_order k j found there (inr l) = absurd (by_same (cases_lt n k))
           where
             by_same : (n < k) ⊎ (k ≤ n) → ⊥

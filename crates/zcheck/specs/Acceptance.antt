@@ -1,6 +1,7 @@
 -- What is known of a story with a certificate that passes (own).
-use Rattle.std.specs.Prelude.{◌≡◌, ℕ, List, map, drop, Ok}
+use Rattle.std.specs.Prelude.{◌≡◌, ◌⊎◌, ℕ, Bool, true, List, map, drop, Ok}
 use Rattle.std.specs.List.{AllZip}
+use Rattle.zstory.specs.Bytes.{byte_at}
 use Rattle.zstory.specs.LoadedStory.{LoadedStory}
 use Rattle.zcode.specs.Reading.{instruction_at}
 use Rattle.zfault.specs.declared.event.Event.{Event}
@@ -8,8 +9,11 @@ use Rattle.zlist.specs.declared.record.Record.{Record}
 use Rattle.zlist.specs.Listing.{ListedCode}
 use Rattle.zcert.specs.Certificate.{Instruction, Certificate}
 use Rattle.zdomain.specs.declared.interval.Interval.{Interval}
+use Rattle.zdomain.specs.Interval.{interval_operations}
 use Rattle.zstate.specs.State.{Scope, opening, scope_all, scope_only}
 use Rattle.zstate.specs.Run.{run}
+use Rattle.zrule.specs.Bytes.{IsFixed}
+use Rattle.zrule.specs.Claims.{claims_of}
 use Rattle.zrule.specs.Described.{IsNoFault}
 
 -- a story, its certificate, and the certificate's listing
@@ -44,3 +48,13 @@ RunsWithoutFault story scope = (events : List Event) (n : ℕ) → IsNoFault (ru
 pub record NeverFaults (a : Acceptance) : Type 0 where
   pub listed : RunsWithoutFault a.story (scope_only a.listing)
   pub everywhere : RunsWithoutFault a.story (scope_all a.story)
+
+-- no run of the story changes a byte that is fixed or frozen, whatever the events and however many the steps
+abbrev pub RunsWithoutChange : LoadedStory → (ℕ → Bool) → Scope → Type 0
+RunsWithoutChange story is_frozen scope =
+    (events : List Event) (n p : ℕ) → IsFixed story is_frozen p ⊎ (is_frozen p ≡ true) → byte_at (run (record { story = story; scope = scope }) events n (opening story)).state.memory p ≡ byte_at story.memory p
+
+-- with the one listing as with the other
+pub record NeverChanges (a : Acceptance) : Type 0 where
+  pub listed : RunsWithoutChange a.story (claims_of interval_operations a.certificate).is_frozen (scope_only a.listing)
+  pub everywhere : RunsWithoutChange a.story (claims_of interval_operations a.certificate).is_frozen (scope_all a.story)

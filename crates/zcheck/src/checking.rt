@@ -3,7 +3,7 @@
 ghost use Rattle.std.specs.Prelude.{◌≡◌, IfOk, IfErr};
 ghost use Rattle.zdomain.specs.Interval.{interval_operations};
 ghost use Rattle.zrule.specs.Described.{IsLoadedStory};
-ghost use Rattle.zcheck.specs.Acceptance.{IsListingOf, NeverFaults};
+ghost use Rattle.zcheck.specs.Acceptance.{IsListingOf, NeverChanges, NeverFaults};
 ghost use Rattle.zcheck.specs.Passes.{IsRefused, Passes};
 
 use crate::accepted::Accepted;
@@ -16,8 +16,8 @@ use zstory::Story;
 
 /// Accepts a story with a certificate that passes, and else says what is wrong first (own).
 ///
-/// Whatever is typed, drawn or answered, and however long it is played, a story that is accepted meets no fault. Both
-/// are taken over; a refusal hands nothing back. `OutOfMemory` is answered only for a certificate that passes.
+/// Whatever is typed, drawn or answered, and however long it is played, a story that is accepted meets no fault, and no
+/// byte changes that is fixed or that the certificate says is frozen. Both are taken over; a refusal hands nothing back. `OutOfMemory` is answered only for a certificate that passes.
 pub fn check(alloc: Global, story: Story, certificate: Certificate) -> Result<Accepted, Refusal>
     ensures story { IfOk result (λ a. a.story ≡ story) }
     ensures certificate { IfOk result (λ a. a.certificate ≡ certificate) }
@@ -25,6 +25,7 @@ pub fn check(alloc: Global, story: Story, certificate: Certificate) -> Result<Ac
     ensures passes { IfOk result (λ a. Passes interval_operations story certificate) }
     ensures refused { IfErr result (IsRefused interval_operations story certificate) }
     ensures never_faults { IfOk result NeverFaults }
+    ensures never_changes { IfOk result NeverChanges }
 {
     if let Some(refusal) = examine(&story, &certificate) {
         return Err(refusal);

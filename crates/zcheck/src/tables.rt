@@ -10,21 +10,12 @@ ghost use Rattle.zcheck.specs.Tables.{HasAbbreviation, IsFrozenApart, AreApart};
 
 use zcert::{Certificate, Range};
 use zdomain::Domain;
-use zrule::is_unchanging;
+use zrule::{DEFAULTS_LENGTH, ENTRY_LENGTH, GLOBALS_LENGTH, is_unchanging};
 use zstory::Story;
 use ztext::plain_abbreviation;
 
 /// How many abbreviations there are (Z 3.3).
 const ABBREVIATIONS: u8 = 96;
-
-/// How many bytes the globals take up (Z 6.2).
-const GLOBALS_LENGTH: usize = 480;
-
-/// How many bytes the property defaults take up (Z 12.2).
-const DEFAULTS_LENGTH: usize = 62;
-
-/// The length of an object's entry (Z 12.3.1).
-const ENTRY_LENGTH: usize = 9;
 
 /// The length of the header, behind which ranges may be frozen (Z 1.1.1.1).
 const HEADER_LENGTH: usize = 64;

@@ -262,7 +262,7 @@ supports = record {
   each = each_listed (λ p e. (rule : Rule) → Keeps interval_operations claims story p e rule) (798 ∷ 803 ∷ 804 ∷ []) (first_keeps, (rest_keep.0, (rest_keep.1, tt)));
 }
 
-opens : Described interval_operations claims story (opening story)
+pub opens : Described interval_operations claims story (opening story)
 opens = opening_described interval_operations claims story supports
 
 -- the story could be loaded: its dictionary has no entry, and there is no room for an object

@@ -18,4 +18,4 @@ loop-index-preserved c =
 pub returns : goal.returns
 returns c =
     let end : length c.args.certificate.now.instructions ≤ c.loop-index.index = search (rules, arith) in
-    passes_where interval_operations c.args.story.now c.args.certificate.now c.in_default.ensures (λ k i found. let l = slice_get_within c.args.certificate.now.instructions k i found in c.loop-index.invariant k i (omega (arith, l, end)) found)
+    passes_where interval_operations c.args.story.now c.args.certificate.now c.in_default.ensures (λ k i found. let l = slice_get_within c.args.certificate.now.instructions k i found in c.loop-index.invariant k (omega (arith, l, end)) i found)

@@ -1,6 +1,7 @@
 use Rattle.std.proofs.Common.{rules, arith}
 use Rattle.zcheck.specs.Tables.{HasAbbreviation}
-use Rattle.zcheck.proofs.Apart.{abbreviations_each, one_more}
+use Rattle.zrule.proofs.Below.{one_more}
+use Rattle.zcheck.proofs.Apart.{abbreviations_each}
 use Rattle.zcheck.proofs.tables.has_abbreviations.Goals as goal
 
 pub returns-then-not-has_abbreviation : goal.returns-then-not-has_abbreviation

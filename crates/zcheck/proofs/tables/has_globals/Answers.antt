@@ -5,14 +5,14 @@ use Rattle.zdomain.specs.declared.interval.Interval.{Interval}
 use Rattle.zdomain.specs.Domain.{In}
 use Rattle.zdomain.specs.Interval.{interval_operations}
 use Rattle.zrule.specs.Rules.{global_in}
-use Rattle.zcheck.proofs.Apart.{one_more}
+use Rattle.zrule.proofs.Below.{one_more}
 use Rattle.zcheck.proofs.tables.has_globals.Goals as goal
 
 pub loop-index-preserved : goal.loop-index-preserved
 loop-index-preserved c =
     let at : slice_get c.args.certificate.now.globals c.loop-index.index ≡ Some c.index-sets-index.result = search (rules, slice_get_read, arith) in
     let here : In interval_operations c.index-sets-index.result (global_in c.args.story.now c.args.story.now.memory c.loop-index.index) = search rules in
-    λ k values less found. one_more (λ j. (v : Interval) → slice_get c.args.certificate.now.globals j ≡ Some v → In interval_operations v (global_in c.args.story.now c.args.story.now.memory j)) c.loop-index.index (λ j l v e. c.loop-index.invariant j v l e) (λ v e. subst (λ (w : Interval). In interval_operations w (global_in c.args.story.now c.args.story.now.memory c.loop-index.index)) (same_Some c.index-sets-index.result v (sym at ∙ e)) here) k less values found
+    one_more (λ j. (v : Interval) → slice_get c.args.certificate.now.globals j ≡ Some v → In interval_operations v (global_in c.args.story.now c.args.story.now.memory j)) c.loop-index.index c.loop-index.invariant (λ v e. subst (λ (w : Interval). In interval_operations w (global_in c.args.story.now c.args.story.now.memory c.loop-index.index)) (same_Some c.index-sets-index.result v (sym at ∙ e)) here)
 
 pub returns : goal.returns
-returns c = (λ t k values found. c.loop-index.invariant k values (let l = slice_get_within c.args.certificate.now.globals k values found in search (rules, arith, l)) found, λ has. search rules)
+returns c = (λ t k values found. c.loop-index.invariant k (let l = slice_get_within c.args.certificate.now.globals k values found in search (rules, arith, l)) values found, λ has. search rules)

@@ -7,4 +7,4 @@ use Rattle.zrule.specs.Rules.{global_in}
 use Rattle.zcheck.proofs.tables.has_globals.Given as goal
 
 abbrev pub invariant-loop-index : goal.invariant-loop-index
-invariant-loop-index l = (k : ℕ) (values : Interval) → k < l.index → slice_get l.certificate.globals k ≡ Some values → In interval_operations values (global_in l.story l.story.memory k)
+invariant-loop-index l = (k : ℕ) → k < l.index → (values : Interval) → slice_get l.certificate.globals k ≡ Some values → In interval_operations values (global_in l.story l.story.memory k)
