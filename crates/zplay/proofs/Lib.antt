@@ -3,3 +3,4 @@ mod Stepping
 mod InPlay
 mod Starting
 mod Running
+mod Worked
