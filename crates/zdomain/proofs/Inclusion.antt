@@ -1,5 +1,5 @@
 -- An interval lies within another where its ends do, since its ends are members.
-use Rattle.std.proofs.Common.{ℤ, ◌↔◌, ◌≤ℤ◌, FitsSigned, arith}
+use Rattle.std.proofs.Common.{ℤ, ◌↔◌, ◌≤ℤ◌, FitsSigned, arith, to_z, of_z}
 use Rattle.std.proofs.lemmas.Int.{ints, to_z-of_z}
 use Rattle.std.specs.Int.{w16, cast_unsigned}
 use Rattle.std.specs.Int.Signed.{≤ℤ_refl}
@@ -33,9 +33,7 @@ test_holds x y t = grind (arith, ints)
 test_passes : (x y : ℤ) → x ≤ℤ y → IsTrue (int_le x y)
 test_passes x y h = grind (arith, ints)
 
--- once the lower ends are in order, the upper ends decide
-pub upper_decides : (a b : Interval) → FitsSigned w16 a.lo → FitsSigned w16 a.hi → IsTrue (int_le b.lo a.lo) → IsTrue (int_le a.hi b.hi) ↔ Within interval_operations a b
-upper_decides a b lo hi below = (
-  (λ t. ends_within a b (test_holds b.lo a.lo below) (test_holds a.hi b.hi t)),
-  (λ w. test_passes a.hi b.hi (within_ends a b lo hi w).1),
-)
+-- once the lower ends are in order, the upper ends decide: both as the code reads them
+pub ends_decide : (a b : Interval) → FitsSigned w16 a.lo → FitsSigned w16 a.hi → FitsSigned w16 b.lo → FitsSigned w16 b.hi → IsTrue (int_le (to_z w16 (of_z w16 b.lo)) (to_z w16 (of_z w16 a.lo))) → IsTrue (int_le (to_z w16 (of_z w16 a.hi)) (to_z w16 (of_z w16 b.hi))) ↔ Within interval_operations a b
+ends_decide a b low high other_low other_high = rw (to_z-of_z w16 a.lo low, to_z-of_z w16 a.hi high, to_z-of_z w16 b.lo other_low, to_z-of_z w16 b.hi other_high) (λ below.
+    (λ t. ends_within a b (test_holds b.lo a.lo below) (test_holds a.hi b.hi t), λ w. test_passes a.hi b.hi (within_ends a b low high w).1))

@@ -35,6 +35,7 @@ impl Domain for Interval {
         self.lo <= value && value <= self.hi
     }
 
+    #[tactic(auto, using(crate::proofs::Inclusion::ends_decide))]
     fn is_within(self, other: Interval) -> bool {
         other.lo <= self.lo && self.hi <= other.hi
     }
