@@ -2,3 +2,4 @@ pub mod Counting
 pub mod Neighbours
 pub mod Soundness
 pub mod Loads
+mod Worked

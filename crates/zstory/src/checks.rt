@@ -7,11 +7,8 @@ ghost use Rattle.zstory.specs.Refusal.{IsFlaw, IsLowest, HasNone, NoneBelow};
 use crate::bytes::word_at;
 use crate::dictionary::Entries;
 use crate::header;
+use crate::header::{DEFAULTS_LENGTH, GLOBALS_LENGTH};
 use crate::load_error::LoadError;
-use crate::objects::DEFAULTS_LENGTH;
-
-/// The length of the globals, 240 words (Z 6.2).
-const GLOBALS_LENGTH: usize = 480;
 
 /// The least length of a dictionary entry, which is that of its text (Z 13.3).
 const TEXT_LENGTH: usize = 4;

@@ -38,3 +38,12 @@ pub(crate) const LENGTH_WORD: usize = 0x1a;
 
 /// The checksum, a word.
 pub(crate) const CHECKSUM: usize = 0x1c;
+
+/// The length of the globals in bytes, 240 words (Z 6.2).
+pub const GLOBALS_LENGTH: usize = 480;
+
+/// The length of the property defaults in bytes, 31 words, with which the object table begins (Z 12.2).
+pub const DEFAULTS_LENGTH: usize = 62;
+
+/// The length of an object's entry in bytes (Z 12.3.1).
+pub const OBJECT_ENTRY_LENGTH: usize = 9;

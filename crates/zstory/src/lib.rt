@@ -11,6 +11,7 @@ mod loading;
 mod objects;
 mod story;
 
+pub use header::{DEFAULTS_LENGTH, GLOBALS_LENGTH, OBJECT_ENTRY_LENGTH};
 pub use identity::Identity;
 pub use load_error::LoadError;
 pub use story::Story;

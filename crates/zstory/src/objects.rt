@@ -6,12 +6,7 @@ ghost use Rattle.zstory.specs.Objects.{IsObjectCount};
 
 use crate::bytes::word_at;
 use crate::header;
-
-/// The length of the property defaults, 31 words (Z 12.2).
-pub(crate) const DEFAULTS_LENGTH: usize = 62;
-
-/// The length of an object's entry (Z 12.3.1).
-const ENTRY_LENGTH: usize = 9;
+use crate::header::{DEFAULTS_LENGTH, OBJECT_ENTRY_LENGTH};
 
 /// Where in its entry the address of an object's property table stands (Z 12.3.1).
 const PROPERTY_TABLE: usize = 7;
@@ -26,7 +21,7 @@ pub(crate) fn object_count(memory: &[u8]) -> u8
     let mut limit = usize::from(word_at(memory, header::STATIC_BASE));
     let mut place = usize::from(word_at(memory, header::OBJECT_TABLE)) + DEFAULTS_LENGTH;
     for object in 0..u8::MAX {
-        let end = place + ENTRY_LENGTH;
+        let end = place + OBJECT_ENTRY_LENGTH;
         if end > limit {
             return object;
         }

@@ -1,0 +1,225 @@
+-- Values of the definitions, computed.
+use Rattle.std.proofs.Common.{◌≡◌, inl, inr, ℕ, zero, suc, ◌<◌, ◌≤◌, true, false, List, [], ◌∷◌, ◌++◌, replicate, length, take, refl, arith, lit<, lit≤}
+use Rattle.std.specs.Prelude.{slice_set}
+use Rattle.std.proofs.lemmas.Bool.{cases_lt}
+use Rattle.zstory.specs.declared.load_error.LoadError.{LoadError}
+use Rattle.zstory.specs.declared.load_error.LoadError.TheVariants.{TooShort, TooLong, NotVersion3, LengthWord, StaticBase, Globals, Objects, Dictionary, EntryLength, DictionaryOrder, FirstInstruction, OutOfMemory}
+use Rattle.zstory.specs.Bytes.{byte_at, word_at, readable_end}
+use Rattle.zstory.specs.Header as header
+use Rattle.zstory.specs.Objects.{object_place, object_end, property_table, IsEntry, IsObjectCount}
+use Rattle.zstory.specs.Dictionary.{separator_count, entry_length, entry_count, entry_place, dictionary_end, encoded_text, IsOrdered, HasFallingEntries}
+use Rattle.zstory.specs.LoadedStory.{LoadedStory, identity_of, file_sum, save_checksum}
+use Rattle.zstory.specs.Loading.{stated_length, stated_part, with_flags_cleared, loaded_memory, IsLoaded}
+use Rattle.zstory.specs.Refusal.{number_of, IsTooShort, IsTooLong, HasOtherVersion, HasWrongLength, HasWrongBase, HasWrongGlobals, HasWrongDefaults, HasWrongDictionary, HasShortEntries, HasWrongStart, IsCause, IsLowest, HasNone}
+
+-- ---- two stories
+
+abbrev repeated : ℕ → List ℕ → List ℕ
+repeated zero xs = []
+repeated (suc n) xs = xs ++ repeated n xs
+
+-- 810 bytes without objects and words
+plain : List ℕ
+plain = 0x03 ∷ 0x00 ∷ 0x00 ∷ 0x01 ∷ 0x03 ∷ 0x24 ∷ 0x03 ∷ 0x24 ∷ 0x03 ∷ 0x20 ∷ 0x02 ∷ 0x20 ∷ 0x00 ∷ 0x40 ∷ 0x02 ∷ 0x5E
+    ∷ 0x00 ∷ 0x00 ∷ 0x32 ∷ 0x36 ∷ 0x30 ∷ 0x31 ∷ 0x30 ∷ 0x31 ∷ 0x02 ∷ 0x5E ∷ 0x01 ∷ 0x95 ∷ 0x3A ∷ 0x7A ∷ replicate 576 0
+    ++ repeated 96 (0x01 ∷ 0x8F ∷ []) ++ 0x94 ∷ 0xA5 ∷ 0x00 ∷ 0x04 ∷ 0x00 ∷ 0x00 ∷ 0xB2 ∷ 0x35 ∷ 0x51 ∷ 0xC6 ∷ 0x85 ∷ 0xBA ∷ []
+
+-- 882 bytes with two objects and two words
+peopled : List ℕ
+peopled = 0x03 ∷ 0x00 ∷ 0x00 ∷ 0x01 ∷ 0x03 ∷ 0x70 ∷ 0x03 ∷ 0x70 ∷ 0x03 ∷ 0x5C ∷ 0x02 ∷ 0x20 ∷ 0x00 ∷ 0x40 ∷ 0x02 ∷ 0x9A
+    ∷ 0x00 ∷ 0x00 ∷ 0x32 ∷ 0x36 ∷ 0x30 ∷ 0x31 ∷ 0x30 ∷ 0x31 ∷ 0x02 ∷ 0x9A ∷ 0x01 ∷ 0xB9 ∷ 0x4B ∷ 0x12 ∷ replicate 576 0
+    ++ 0x00 ∷ 0x00 ∷ 0x00 ∷ 0x00 ∷ 0x00 ∷ 0x00 ∷ 0x02 ∷ 0x02 ∷ 0x70 ∷ 0x00 ∷ 0x00 ∷ 0x00 ∷ 0x00 ∷ 0x01 ∷ 0x00 ∷ 0x00 ∷ 0x02 ∷ 0x79
+    ∷ 0x01 ∷ 0x98 ∷ 0xA5 ∷ 0x05 ∷ 0x07 ∷ 0x23 ∷ 0x12 ∷ 0x34 ∷ 0x00 ∷ 0x01 ∷ 0x9C ∷ 0xA5 ∷ 0x00 ∷ replicate 3 0 ++ 0x0A ∷ replicate 15 0 ++ 0x02 ∷ replicate 9 0
+    ++ repeated 96 (0x01 ∷ 0xAD ∷ []) ++ 0x94 ∷ 0xA5 ∷ 0x01 ∷ 0x2C ∷ 0x07 ∷ 0x00 ∷ 0x02 ∷ 0x1B ∷ 0x25 ∷ 0x94 ∷ 0xA5 ∷ 0x00 ∷ 0x00 ∷ 0x00
+    ∷ 0x46 ∷ 0x94 ∷ 0xC0 ∷ 0xA5 ∷ 0x00 ∷ 0x00 ∷ 0x00 ∷ 0x00 ∷ 0xBA ∷ 0x00 ∷ []
+
+sizes : (length plain ≡ 810) × (length peopled ≡ 882)
+unfolding plain peopled
+sizes = (refl, refl)
+
+-- ---- bytes
+
+bytes : (byte_at (7 ∷ 8 ∷ []) 1 ≡ 8) × (byte_at (7 ∷ 8 ∷ []) 2 ≡ 0) × (word_at (1 ∷ 2 ∷ 3 ∷ []) 1 ≡ 0x0203) × (word_at (1 ∷ 2 ∷ 3 ∷ []) 2 ≡ 0x0300)
+bytes = (refl, refl, refl, refl)
+
+-- memory is readable to its end, and no further than byte addresses reach
+readable : (readable_end plain ≡ 810) × ((memory : List ℕ) → length memory ≡ 65536 → readable_end memory ≡ 65536) × ((memory : List ℕ) → length memory ≡ 131072 → readable_end memory ≡ 65536)
+unfolding plain
+readable = (refl, λ memory e. omega (arith, e), λ memory e. omega (arith, e))
+
+-- ---- the header
+
+numbers : (header.version plain ≡ 3) × (header.release plain ≡ 1) × (header.first_instruction plain ≡ 0x324) × (header.dictionary plain ≡ 0x320) × (header.object_table plain ≡ 0x220) × (header.globals plain ≡ 0x40) × (header.static_base plain ≡ 0x25E) × (header.abbreviations plain ≡ 0x25E) × (header.length_word plain ≡ 0x195) × (header.checksum plain ≡ 0x3A7A)
+unfolding plain
+numbers = (refl, refl, refl, refl, refl, refl, refl, refl, refl, refl)
+
+serials : header.serial plain ≡ 0x32 ∷ 0x36 ∷ 0x30 ∷ 0x31 ∷ 0x30 ∷ 0x31 ∷ []
+unfolding plain
+serials = refl
+
+abbrev with_flags : ℕ → List ℕ
+with_flags flags = slice_set plain 0x01 flags
+
+-- bit 1 alone decides
+time_games : (header.is_time_game plain ≡ false) × (header.is_time_game (with_flags 0x02) ≡ true) × (header.is_time_game (with_flags 0xFD) ≡ false) × (header.flags (with_flags 0xFD) ≡ 0xFD)
+unfolding plain
+time_games = (refl, refl, refl, refl)
+
+-- ---- the dictionary
+
+dictionaries : (separator_count peopled ≡ 1) × (entry_length peopled ≡ 7) × (entry_count peopled ≡ 2) × (entry_place peopled 0 ≡ 0x361) × (entry_place peopled 1 ≡ 0x368) × (dictionary_end peopled ≡ 0x36F) × (dictionary_end plain ≡ 0x324)
+unfolding plain peopled
+dictionaries = (refl, refl, refl, refl, refl, refl, refl)
+
+texts : (encoded_text peopled 0 ≡ 0x1B2594A5) × (encoded_text peopled 1 ≡ 0x4694C0A5)
+unfolding peopled
+texts = (refl, refl)
+
+ordered : IsOrdered peopled
+ordered zero some = omega (arith, texts.0, texts.1)
+ordered (suc k) some = absurd (omega (arith, some, dictionaries.2))
+
+-- the first word begins with 47 in place of 1B
+falling : HasFallingEntries (slice_set peopled 0x361 0x47)
+unfolding peopled
+falling = (0, lit< tt, lit< tt)
+
+-- ---- objects
+
+entries : (object_place peopled 1 ≡ 0x25E) × (object_place peopled 2 ≡ 0x267) × (object_end peopled 2 ≡ 0x270) × (property_table peopled 1 ≡ 0x270) × (property_table peopled 2 ≡ 0x279) × (header.static_base peopled ≡ 0x29A)
+unfolding peopled
+entries = (refl, refl, refl, refl, refl, refl)
+
+-- what holds of the first two
+of_two : (P : ℕ → Type 0) → P 1 → P 2 → (object : ℕ) → 1 ≤ object → object ≤ 2 → P object
+of_two P one two zero some few = absurd (omega (arith, some))
+of_two P one two (suc zero) some few = one
+of_two P one two (suc (suc zero)) some few = two
+of_two P one two (suc (suc (suc k))) some few = absurd (omega (arith, few))
+
+-- the entry of a first object ends at or before its table, and that of a second where the first one's table begins
+first_entry : IsEntry peopled 1
+first_entry = record { dynamic = omega (arith, entries.0, entries.5); before_tables = λ other some few. of_two (λ k. object_end peopled 1 ≤ property_table peopled k) (omega (arith, entries.0, entries.3)) (omega (arith, entries.0, entries.4)) other some (omega (arith, few)) }
+
+second_entry : IsEntry peopled 2
+second_entry = record { dynamic = omega (arith, entries.2, entries.5); before_tables = λ other some few. of_two (λ k. object_end peopled 2 ≤ property_table peopled k) (omega (arith, entries.2, entries.3)) (omega (arith, entries.2, entries.4)) other some few }
+
+-- a third one's would end behind it
+no_third : IsEntry peopled 3 → ⊥
+no_third entry = let table = entry.before_tables 1 (omega arith) (omega arith) in omega (arith, table, entries.0, entries.3)
+
+two_objects : IsObjectCount peopled 2
+two_objects = record {
+  within = omega arith;
+  entries = of_two (IsEntry peopled) first_entry second_entry;
+  greatest = λ other few has. elim (cases_lt 2 other) [ inl more ↦ absurd (no_third (has 3 (omega arith) (omega (arith, more)))) | inr within ↦ within ];
+}
+
+-- static memory begins where a first entry would
+no_object : IsObjectCount plain 0
+no_object = record {
+  within = omega arith;
+  entries = λ object some few. absurd (omega (arith, some, few));
+  greatest = λ other few has. elim (cases_lt 0 other) [ inl more ↦ absurd (let entry = has 1 (omega arith) (omega (arith, more)) in omega (arith, entry.dynamic, numbers.4, numbers.6)) | inr within ↦ within ];
+}
+
+one_count_alone : (IsObjectCount peopled 1 → ⊥) × (IsObjectCount peopled 3 → ⊥)
+one_count_alone = (λ count. omega (arith, count.greatest 2 (omega arith) two_objects.entries), λ count. no_third (count.entries 3 (omega arith) (omega arith)))
+
+-- ---- loading
+
+-- the header states the length, or leaves it open
+lengths : (stated_length plain ≡ 810) × (stated_length (plain ++ 0x55 ∷ []) ≡ 810) × (stated_length (slice_set (slice_set plain 0x1A 0) 0x1B 0) ≡ 810)
+unfolding plain
+lengths = (refl, refl, refl)
+
+parts : (stated_part (plain ++ 0x55 ∷ 0x66 ∷ []) ≡ plain) × (stated_part plain ≡ plain)
+unfolding plain
+parts = (refl, refl)
+
+-- of all flags the three are cleared
+flags : (with_flags_cleared (1 ∷ 0xFF ∷ 0xFF ∷ []) ≡ 1 ∷ 0x8F ∷ 0xFF ∷ []) × (with_flags_cleared (1 ∷ 0x70 ∷ []) ≡ 1 ∷ 0 ∷ []) × (loaded_memory (with_flags 0x32) ≡ with_flags 0x02)
+unfolding plain
+flags = (refl, refl, refl)
+
+loaded : IsLoaded (plain ++ 0x55 ∷ []) (record { memory = plain; objects = 0 }) × IsLoaded peopled (record { memory = peopled; objects = 2 })
+unfolding plain peopled
+loaded = (record { memory = refl; objects = no_object }, record { memory = refl; objects = two_objects })
+
+-- ---- what a loaded story says of itself
+
+abbrev story : List ℕ → LoadedStory
+story memory = record { memory = memory; objects = 0 }
+
+without_checksum : List ℕ
+without_checksum = slice_set (slice_set plain 0x1C 0) 0x1D 0
+
+identities : identity_of (story plain) ≡ record { release = 1; serial = 0x32 ∷ 0x36 ∷ 0x30 ∷ 0x31 ∷ 0x30 ∷ 0x31 ∷ []; checksum = 0x3A7A; length = 810 }
+unfolding plain
+identities = refl
+
+-- the bytes behind the header sum up to 14,970 and to 19,218
+sums : (file_sum (story plain) ≡ 14970) × (file_sum (story peopled) ≡ 19218) × (save_checksum (story plain) ≡ 14970) × (save_checksum (story without_checksum) ≡ 14970) × (save_checksum (story (slice_set plain 0x1D 0)) ≡ 0x3A00)
+unfolding plain peopled without_checksum
+sums = (refl, refl, refl, refl, refl)
+
+-- ---- refusals
+
+refusals : (number_of TooShort ≡ 1) × (number_of TooLong ≡ 2) × (number_of NotVersion3 ≡ 3) × (number_of LengthWord ≡ 4) × (number_of StaticBase ≡ 5) × (number_of Globals ≡ 6) × (number_of Objects ≡ 7) × (number_of Dictionary ≡ 8) × (number_of EntryLength ≡ 9) × (number_of DictionaryOrder ≡ 10) × (number_of FirstInstruction ≡ 11) × (number_of OutOfMemory ≡ 12)
+refusals = (refl, refl, refl, refl, refl, refl, refl, refl, refl, refl, refl, refl)
+
+too_short : IsTooShort (take 63 plain) × (IsTooShort (take 64 plain) → ⊥)
+unfolding plain
+too_short = (lit< tt, λ short. omega (arith, short))
+
+too_long : ((file : List ℕ) → length file ≡ 131073 → IsTooLong file) × ((file : List ℕ) → length file ≡ 131072 → IsTooLong file → ⊥)
+too_long = (λ file e. omega (arith, e), λ file e long. omega (arith, e, long))
+
+other_version : HasOtherVersion (slice_set plain 0 5) × (HasOtherVersion plain → ⊥)
+unfolding plain
+other_version = (λ e. omega (arith, e), λ other. other refl)
+
+-- longer than the file, and shorter than a header
+wrong_lengths : HasWrongLength (take 809 plain) × HasWrongLength (slice_set (slice_set plain 0x1A 0) 0x1B 31)
+unfolding plain
+wrong_lengths = ((λ e. omega (arith, e), inr (lit< tt)), (λ e. omega (arith, e), inl (lit< tt)))
+
+misplaced : HasWrongBase (slice_set plain 0x0E 0x03) × HasWrongGlobals (slice_set plain 0x0D 0x3F) × HasWrongDefaults (slice_set plain 0x0A 0x00) × HasWrongDictionary (slice_set plain 0x322 0xFF) × HasWrongDictionary (slice_set plain 0x08 0x02)
+unfolding plain
+misplaced = (inr (lit< tt), inl (lit< tt), inl (lit< tt), inr (lit< tt), inl (lit< tt))
+
+short_entries : HasShortEntries (slice_set plain 0x321 3) × (HasShortEntries plain → ⊥)
+unfolding plain
+short_entries = (lit< tt, λ short. omega (arith, short))
+
+-- the last byte can be the first instruction, and the place behind it can't
+wrong_start : HasWrongStart (slice_set plain 0x07 0x2A) × (HasWrongStart (slice_set plain 0x07 0x29) → ⊥)
+unfolding plain
+wrong_start = (inr (lit≤ tt), λ wrong. elim wrong [ inl low ↦ omega (arith, low) | inr high ↦ omega (arith, high) ])
+
+-- nothing speaks against the story
+none : HasNone (IsCause plain)
+unfolding plain
+none TooShort below cause = omega (arith, cause)
+none TooLong below cause = omega (arith, cause)
+none NotVersion3 below cause = cause refl
+none LengthWord below cause = elim cause.1 [ inl low ↦ omega (arith, low) | inr high ↦ omega (arith, high) ]
+none StaticBase below cause = elim cause [ inl low ↦ omega (arith, low) | inr high ↦ omega (arith, high) ]
+none Globals below cause = elim cause [ inl low ↦ omega (arith, low) | inr high ↦ omega (arith, high) ]
+none Objects below cause = elim cause [ inl low ↦ omega (arith, low) | inr high ↦ omega (arith, high) ]
+none Dictionary below cause = elim cause [ inl low ↦ omega (arith, low) | inr high ↦ omega (arith, high) ]
+none EntryLength below cause = omega (arith, cause)
+none DictionaryOrder below cause = omega (arith, cause.1)
+none FirstInstruction below cause = elim cause [ inl low ↦ omega (arith, low) | inr high ↦ omega (arith, high) ]
+none OutOfMemory below cause = omega (arith, below)
+
+-- a file that is cut off is refused for its length, before what is missing is looked at
+cut_off : IsLowest (IsCause (take 809 plain)) LengthWord
+unfolding plain
+cut_off = (wrong_lengths.0, lower)
+  where
+    lower : (error : LoadError) → number_of error < 4 → IsCause (take 809 plain) error → ⊥
+    lower TooShort below cause = omega (arith, cause)
+    lower TooLong below cause = omega (arith, cause)
+    lower NotVersion3 below cause = cause refl
+    lower _ below cause = omega (arith, below)
