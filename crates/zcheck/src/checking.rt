@@ -17,7 +17,8 @@ use zstory::Story;
 /// Accepts a story with a certificate that passes, and else says what is wrong first (own).
 ///
 /// Whatever is typed, drawn or answered, and however long it is played, a story that is accepted meets no fault, and no
-/// byte changes that is fixed or that the certificate says is frozen. Both are taken over; a refusal hands nothing back. `OutOfMemory` is answered only for a certificate that passes.
+/// byte changes that is fixed or that the certificate says is frozen. Both are taken over; a refusal hands nothing
+/// back. `OutOfMemory` is answered only for a certificate that passes.
 pub fn check(alloc: Global, story: Story, certificate: Certificate) -> Result<Accepted, Refusal>
     ensures story { IfOk result (λ a. a.story ≡ story) }
     ensures certificate { IfOk result (λ a. a.certificate ≡ certificate) }

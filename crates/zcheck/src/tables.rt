@@ -10,8 +10,8 @@ ghost use Rattle.zcheck.specs.Tables.{HasAbbreviation, IsFrozenApart, AreApart};
 
 use zcert::{Certificate, Range};
 use zdomain::Domain;
-use zrule::{DEFAULTS_LENGTH, ENTRY_LENGTH, GLOBALS_LENGTH, is_unchanging};
-use zstory::Story;
+use zrule::is_unchanging;
+use zstory::{DEFAULTS_LENGTH, GLOBALS_LENGTH, OBJECT_ENTRY_LENGTH, Story};
 use ztext::plain_abbreviation;
 
 /// How many abbreviations there are (Z 3.3).
@@ -94,7 +94,7 @@ fn are_tables_apart(story: &Story) -> bool
 {
     let globals = story.globals();
     let objects = story.object_table();
-    let entries = ENTRY_LENGTH * usize::from(story.objects());
+    let entries = OBJECT_ENTRY_LENGTH * usize::from(story.objects());
     is_before(globals, GLOBALS_LENGTH, objects)
         || is_before(objects, DEFAULTS_LENGTH + entries, globals)
 }

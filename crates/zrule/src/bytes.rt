@@ -4,19 +4,10 @@ ghost use Rattle.std.specs.Prelude.{◌≡◌, ◌↔◌, ◌+◌, ◌≤◌, �
 ghost use Rattle.zstory.specs.Objects.{object_place};
 ghost use Rattle.zrule.specs.Bytes.{IsWithin, IsObjectState, IsChanging, IsUnchanging};
 
-use zstory::Story;
+use zstory::{DEFAULTS_LENGTH, GLOBALS_LENGTH, OBJECT_ENTRY_LENGTH, Story};
 
 /// Where Flags 2 stands in the header, a word (Z 11.1).
 const FLAGS_2: usize = 0x10;
-
-/// How many bytes the globals take up (Z 6.2).
-pub const GLOBALS_LENGTH: usize = 480;
-
-/// How many bytes the property defaults take up (Z 12.2).
-pub const DEFAULTS_LENGTH: usize = 62;
-
-/// The length of an object's entry (Z 12.3.1).
-pub const ENTRY_LENGTH: usize = 9;
 
 /// How many bytes of an entry, from its first on, instructions on objects change: the attributes, and the numbers of
 /// parent, sibling and child (Z 12.3.1).
@@ -51,8 +42,8 @@ fn is_object_state(story: &Story, place: usize) -> bool
 {
     match behind_defaults(story, place) {
         Some(behind) => {
-            behind / ENTRY_LENGTH < usize::from(story.objects())
-                && behind % ENTRY_LENGTH < STATE_LENGTH
+            behind / OBJECT_ENTRY_LENGTH < usize::from(story.objects())
+                && behind % OBJECT_ENTRY_LENGTH < STATE_LENGTH
         }
         None => false,
     }

@@ -7,7 +7,7 @@ mod laws;
 mod rule;
 mod shapes;
 
-pub use bytes::{DEFAULTS_LENGTH, ENTRY_LENGTH, GLOBALS_LENGTH, is_changing, is_unchanging};
+pub use bytes::{is_changing, is_unchanging};
 pub use judging::{broken_rule, instruction_there, rule_at};
 pub use laws::each_step_is_safe;
 pub use rule::Rule;
