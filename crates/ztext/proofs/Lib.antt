@@ -4,3 +4,4 @@ pub mod Printed
 pub mod Outcomes
 pub mod Sameness
 pub mod Printable
+mod Worked

@@ -1,0 +1,229 @@
+-- Values of the definitions, computed.
+use Rattle.std.proofs.Common.{◌≡◌, ℕ, ◌+◌, Bool, false, List, [], ◌∷◌, ◌++◌, replicate, length, Some, None, Ok, Err, zero, suc, refl, sym, ap, arith, lit<, lit≤, nat_lt, if◌then◌else◌}
+use Rattle.std.specs.Prelude.{min}
+use Rattle.std.proofs.lemmas.Bool.{le-ltb}
+use Rattle.zstory.specs.Bytes.{word_at}
+use Rattle.ztext.specs.declared.error.TextError.TheVariants.{Outside, NestedAbbreviation, OutOfMemory}
+use Rattle.ztext.specs.declared.pieces.Piece.TheVariants.{Code, Abbreviation}
+use Rattle.ztext.specs.declared.pieces.Alphabet.TheVariants.{Small, Capital, Mark}
+use Rattle.ztext.specs.declared.pieces.Begun.TheVariants.{Letter, Bank, Escape, EscapeHigh}
+use Rattle.ztext.specs.declared.pieces.Step.TheVariants.{Completes, Begins}
+use Rattle.ztext.specs.Words.{IsText, after_text, front_text, text_at, length_at, words_of, characters_of, characters_in}
+use Rattle.ztext.specs.Alphabets.{small_letters, capital_letters, marks, letter}
+use Rattle.ztext.specs.Pieces.{alone, dropped, abbreviated, shifted_to_capitals, escaped, shifted_to_marks, front_of, pieces_past, pieces_of}
+use Rattle.ztext.specs.Codes.{plain_codes, codes_of, text_of, abbreviations_among, abbreviations_used}
+use Rattle.ztext.specs.Abbreviations.{readable_word, abbreviation_at, abbreviation_characters, IsPlainAbbreviation}
+use Rattle.ztext.specs.Output.{output_of_code, output_of, output_of_characters, output_at}
+use Rattle.ztext.specs.Begun.{letters_of, characters_begun, IsBegun, pieces_from, IsStep}
+use Rattle.ztext.specs.Progress.{first_error, joined, all_joined, plain_output, abbreviation_output, piece_output, nested_after, HasFront, IsSoFar, LeadsTo, Decodes}
+
+-- ---- words
+
+-- the bytes of `hello`, whose second word is its last
+hello : List ℕ
+hello = 0x35 ∷ 0x51 ∷ 0xC6 ∷ 0x85 ∷ []
+
+whole : IsText hello × IsText (0x94 ∷ 0xA5 ∷ []) × IsText (0x7F ∷ 0xFF ∷ 0x80 ∷ 0x00 ∷ [])
+unfolding hello
+whole = ((lit< tt, lit≤ tt), lit≤ tt, (lit< tt, lit≤ tt))
+
+-- no end word, half a word, and a word behind the last
+no_text : (IsText (0x35 ∷ 0x51 ∷ []) → ⊥) × (IsText (0x94 ∷ []) → ⊥) × (IsText (0x94 ∷ 0xA5 ∷ 0x94 ∷ 0xA5 ∷ []) → ⊥)
+no_text = (λ text. omega (arith, text), λ text. text, λ text. omega (arith, text.0))
+
+followers : (after_text (hello ++ 7 ∷ []) ≡ Some (7 ∷ [])) × (after_text hello ≡ Some []) × (after_text (0x35 ∷ 0x51 ∷ 0xC6 ∷ []) ≡ None)
+unfolding hello
+followers = (refl, refl, refl)
+
+fronts : (front_text (hello ++ 7 ∷ []) ≡ Some hello) × (front_text (0x94 ∷ 0xA5 ∷ hello) ≡ Some (0x94 ∷ 0xA5 ∷ [])) × (front_text (0x35 ∷ 0x51 ∷ []) ≡ None) × (front_text (0x94 ∷ []) ≡ None)
+unfolding hello
+fronts = (refl, refl, refl, refl)
+
+places : (text_at (hello ++ 0x94 ∷ 0xA5 ∷ []) 0 ≡ Some hello) × (text_at (hello ++ 0x94 ∷ 0xA5 ∷ []) 4 ≡ Some (0x94 ∷ 0xA5 ∷ [])) × (text_at hello 3 ≡ None) × (text_at hello 9 ≡ None)
+unfolding hello
+places = (refl, refl, refl, refl)
+
+lengths : (length_at hello 0 ≡ Some 4) × (length_at hello 2 ≡ Some 2) × (length_at hello 3 ≡ None) × (length_at hello 4 ≡ None)
+unfolding hello
+lengths = (refl, refl, refl, refl)
+
+words : (words_of hello ≡ 0x3551 ∷ 0xC685 ∷ []) × (words_of (0x35 ∷ 0x51 ∷ 0xC6 ∷ []) ≡ 0x3551 ∷ []) × (words_of [] ≡ [])
+unfolding hello
+words = (refl, refl, refl)
+
+-- the top bit belongs to none
+characters : (characters_of (0x3551 ∷ 0xC685 ∷ []) ≡ 13 ∷ 10 ∷ 17 ∷ 17 ∷ 20 ∷ 5 ∷ []) × (characters_of (0xFFFF ∷ []) ≡ 31 ∷ 31 ∷ 31 ∷ []) × (characters_of (0x8000 ∷ []) ≡ 0 ∷ 0 ∷ 0 ∷ []) × (characters_in (0x94 ∷ 0xA5 ∷ []) ≡ 5 ∷ 5 ∷ 5 ∷ [])
+characters = (refl, refl, refl, refl)
+
+-- ---- alphabets
+
+letters : (letter small_letters 6 ≡ 97) × (letter small_letters 31 ≡ 122) × (letter capital_letters 6 ≡ 65) × (letter capital_letters 31 ≡ 90)
+unfolding small_letters capital_letters
+letters = (refl, refl, refl, refl)
+
+-- newline, 0, full stop, the two quotes, backslash and the closing bracket
+marked : (letter marks 7 ≡ 13) × (letter marks 8 ≡ 48) × (letter marks 18 ≡ 46) × (letter marks 24 ≡ 39) × (letter marks 25 ≡ 34) × (letter marks 27 ≡ 92) × (letter marks 31 ≡ 41)
+unfolding marks
+marked = (refl, refl, refl, refl, refl, refl, refl)
+
+alphabet_lengths : (length small_letters ≡ 26) × (length capital_letters ≡ 26) × (length marks ≡ 26)
+unfolding small_letters capital_letters marks
+alphabet_lengths = (refl, refl, refl)
+
+-- ---- pieces
+
+banks : (abbreviated 1 (0 ∷ []) ≡ record { piece = Some (Abbreviation 0); more = 1 }) × (abbreviated 2 (5 ∷ 9 ∷ []) ≡ record { piece = Some (Abbreviation 37); more = 1 }) × (abbreviated 3 (31 ∷ []) ≡ record { piece = Some (Abbreviation 95); more = 1 }) × (abbreviated 3 [] ≡ dropped)
+banks = (refl, refl, refl, refl)
+
+capitals : (shifted_to_capitals (6 ∷ []) ≡ record { piece = Some (Code 65); more = 1 }) × (shifted_to_capitals (5 ∷ 6 ∷ []) ≡ dropped) × (shifted_to_capitals (0 ∷ []) ≡ dropped) × (shifted_to_capitals [] ≡ dropped)
+unfolding capital_letters
+capitals = (refl, refl, refl, refl)
+
+escapes : (escaped (2 ∷ 0 ∷ 9 ∷ []) ≡ record { piece = Some (Code 64); more = 3 }) × (escaped (31 ∷ 31 ∷ []) ≡ record { piece = Some (Code 1023); more = 3 }) × (escaped (2 ∷ []) ≡ record { piece = None; more = 2 }) × (escaped [] ≡ record { piece = None; more = 1 })
+escapes = (refl, refl, refl, refl)
+
+shifted_marks : (shifted_to_marks (7 ∷ []) ≡ record { piece = Some (Code 13); more = 1 }) × (shifted_to_marks (6 ∷ 2 ∷ 0 ∷ []) ≡ record { piece = Some (Code 64); more = 3 }) × (shifted_to_marks (1 ∷ 6 ∷ []) ≡ dropped) × (shifted_to_marks [] ≡ dropped)
+unfolding marks
+shifted_marks = (refl, refl, refl, refl)
+
+front_characters : (front_of 0 (6 ∷ []) ≡ alone (Code 32)) × (front_of 6 (7 ∷ []) ≡ alone (Code 97)) × (front_of 3 (31 ∷ []) ≡ record { piece = Some (Abbreviation 95); more = 1 }) × (front_of 4 (31 ∷ []) ≡ record { piece = Some (Code 90); more = 1 }) × (front_of 5 (31 ∷ []) ≡ record { piece = Some (Code 41); more = 1 })
+unfolding small_letters capital_letters marks
+front_characters = (refl, refl, refl, refl, refl)
+
+-- `hello`; of several shifts the last counts; a space and an abbreviation use a shift up
+meant : (pieces_of (13 ∷ 10 ∷ 17 ∷ 17 ∷ 20 ∷ 5 ∷ []) ≡ Code 104 ∷ Code 101 ∷ Code 108 ∷ Code 108 ∷ Code 111 ∷ []) × (pieces_of (4 ∷ 5 ∷ 13 ∷ []) ≡ Code 53 ∷ []) × (pieces_of (5 ∷ 4 ∷ 13 ∷ []) ≡ Code 72 ∷ []) × (pieces_of (4 ∷ 0 ∷ 6 ∷ []) ≡ Code 32 ∷ Code 97 ∷ []) × (pieces_of (4 ∷ 1 ∷ 0 ∷ 6 ∷ []) ≡ Abbreviation 0 ∷ Code 97 ∷ [])
+unfolding small_letters capital_letters marks
+meant = (refl, refl, refl, refl, refl)
+
+-- what is unfinished at the end is ignored, and 6 begins an escape in A2 alone
+unfinished : (pieces_of (5 ∷ 6 ∷ 2 ∷ []) ≡ []) × (pieces_of (5 ∷ 5 ∷ 6 ∷ []) ≡ []) × (pieces_of (7 ∷ 2 ∷ []) ≡ Code 98 ∷ []) × (pieces_of (4 ∷ 6 ∷ 2 ∷ []) ≡ Code 65 ∷ []) × (pieces_of (5 ∷ 6 ∷ 31 ∷ 31 ∷ 4 ∷ []) ≡ Code 1023 ∷ [])
+unfolding small_letters capital_letters marks
+unfinished = (refl, refl, refl, refl, refl)
+
+behind : (pieces_past 2 (6 ∷ 7 ∷ 8 ∷ []) ≡ Code 99 ∷ []) × (pieces_past 5 (6 ∷ []) ≡ []) × (pieces_past 1 (5 ∷ 0 ∷ []) ≡ Code 32 ∷ [])
+unfolding small_letters
+behind = (refl, refl, refl)
+
+-- ---- codes
+
+plain : (plain_codes (Code 104 ∷ Code 105 ∷ []) ≡ Some (104 ∷ 105 ∷ [])) × (plain_codes (Code 104 ∷ Abbreviation 0 ∷ []) ≡ None) × (plain_codes [] ≡ Some [])
+plain = (refl, refl, refl)
+
+-- abbreviation 0 is `he`, and each other one uses it
+short_texts : ℕ → List ℕ
+short_texts zero = 13 ∷ 10 ∷ []
+short_texts (suc n) = 1 ∷ 0 ∷ []
+
+coded : (codes_of short_texts (Code 62 ∷ Abbreviation 0 ∷ Code 33 ∷ []) ≡ Some (62 ∷ 104 ∷ 101 ∷ 33 ∷ [])) × (codes_of short_texts (Code 62 ∷ Abbreviation 1 ∷ []) ≡ None) × (codes_of short_texts [] ≡ Some [])
+unfolding short_texts small_letters
+coded = (refl, refl, refl)
+
+meanings : (text_of short_texts (1 ∷ 0 ∷ 6 ∷ []) ≡ Some (104 ∷ 101 ∷ 97 ∷ [])) × (text_of short_texts (6 ∷ 1 ∷ 1 ∷ []) ≡ None) × (text_of short_texts (6 ∷ 1 ∷ []) ≡ Some (97 ∷ []))
+unfolding short_texts small_letters
+meanings = (refl, refl, refl)
+
+used : (abbreviations_among (Code 1 ∷ Abbreviation 2 ∷ Abbreviation 0 ∷ []) ≡ 2 ∷ 0 ∷ []) × (abbreviations_used (1 ∷ 2 ∷ 6 ∷ 3 ∷ 31 ∷ []) ≡ 2 ∷ 95 ∷ []) × (abbreviations_used (6 ∷ 5 ∷ 6 ∷ 1 ∷ 1 ∷ 1 ∷ []) ≡ [])
+unfolding small_letters
+used = (refl, refl, refl)
+
+-- ---- abbreviations
+
+-- The table is at 64. Abbreviation 0 is `hello` at 96, 1 uses 0 at 104, and 2 is behind memory's end at 128.
+memory : List ℕ
+memory = replicate 25 0 ++ 0x40 ∷ replicate 38 0 ++ 0x00 ∷ 0x30 ∷ 0x00 ∷ 0x34 ∷ 0x7F ∷ 0xFF ∷ replicate 26 0 ++ 0x35 ∷ 0x51 ∷ 0xC6 ∷ 0x85 ∷ replicate 4 0 ++ 0x84 ∷ 0x05 ∷ replicate 22 0
+
+readable : (readable_word memory 0x18 ≡ Some 0x40) × (readable_word memory 0x42 ≡ Some 0x34) × (readable_word memory 126 ≡ Some 0) × (readable_word memory 127 ≡ None)
+unfolding memory
+readable = (refl, refl, refl, refl)
+
+-- no word stands at the last byte address, however long memory is
+last_byte : (bytes : List ℕ) → readable_word bytes 65535 ≡ None
+last_byte bytes =
+    let outside : nat_lt (65535 + 1) (min (length bytes) 65536) ≡ false = le-ltb (65535 + 1) (min (length bytes) 65536) (omega arith) in
+    ap (λ (b : Bool). if b then Some (word_at bytes 65535) else None) outside
+
+abbreviations : (abbreviation_at memory 0 ≡ Some hello) × (abbreviation_at memory 1 ≡ Some (0x84 ∷ 0x05 ∷ [])) × (abbreviation_at memory 2 ≡ None) × (abbreviation_at memory 32 ≡ None)
+unfolding memory hello
+abbreviations = (refl, refl, refl, refl)
+
+their_characters : (abbreviation_characters memory 0 ≡ 13 ∷ 10 ∷ 17 ∷ 17 ∷ 20 ∷ 5 ∷ []) × (abbreviation_characters memory 1 ≡ 1 ∷ 0 ∷ 5 ∷ []) × (abbreviation_characters memory 2 ≡ [])
+unfolding memory
+their_characters = (refl, refl, refl)
+
+plain_ones : IsPlainAbbreviation memory 0 × (IsPlainAbbreviation memory 1 → ⊥) × (IsPlainAbbreviation memory 2 → ⊥)
+unfolding memory small_letters
+plain_ones = (refl, λ none. absurd cc, λ none. none)
+
+-- ---- output
+
+outputs : (output_of_code 0 ≡ []) × (output_of_code 13 ≡ 10 ∷ []) × (output_of_code 32 ≡ 32 ∷ []) × (output_of_code 126 ≡ 126 ∷ []) × (output_of_code 31 ≡ 63 ∷ []) × (output_of_code 127 ≡ 63 ∷ []) × (output_of_code 1023 ≡ 63 ∷ []) × (output_of_code 1121 ≡ 63 ∷ [])
+outputs = (refl, refl, refl, refl, refl, refl, refl, refl)
+
+printed : (output_of (104 ∷ 0 ∷ 13 ∷ 155 ∷ []) ≡ 104 ∷ 10 ∷ 63 ∷ []) × (output_of [] ≡ [])
+printed = (refl, refl)
+
+-- the errors in their order: what isn't whole in memory comes first, wherever it's used
+of_characters : (output_of_characters memory (4 ∷ 1 ∷ 0 ∷ 6 ∷ []) ≡ Ok (104 ∷ 101 ∷ 108 ∷ 108 ∷ 111 ∷ 97 ∷ [])) × (output_of_characters memory (1 ∷ 1 ∷ []) ≡ Err NestedAbbreviation) × (output_of_characters memory (1 ∷ 2 ∷ []) ≡ Err Outside) × (output_of_characters memory (1 ∷ 1 ∷ 1 ∷ 2 ∷ []) ≡ Err Outside)
+unfolding output_of_characters memory small_letters
+of_characters = (refl, refl, refl, refl)
+
+at_places : (output_at memory 96 ≡ Ok (104 ∷ 101 ∷ 108 ∷ 108 ∷ 111 ∷ [])) × (output_at memory 98 ≡ Ok (108 ∷ 111 ∷ [])) × (output_at memory 104 ≡ Ok (104 ∷ 101 ∷ 108 ∷ 108 ∷ 111 ∷ [])) × (output_at memory 106 ≡ Err Outside)
+unfolding output_at output_of_characters memory small_letters
+at_places = (refl, refl, refl, refl)
+
+-- ---- what has begun
+
+begun_characters : (characters_begun (Letter Small) ≡ []) × (characters_begun (Letter Capital) ≡ 4 ∷ []) × (characters_begun (Letter Mark) ≡ 5 ∷ []) × (characters_begun (Bank 2) ≡ 2 ∷ []) × (characters_begun Escape ≡ 5 ∷ 6 ∷ []) × (characters_begun (EscapeHigh 3) ≡ 5 ∷ 6 ∷ 3 ∷ [])
+begun_characters = (refl, refl, refl, refl, refl, refl)
+
+alphabets : (letter (letters_of Small) 8 ≡ 99) × (letter (letters_of Capital) 8 ≡ 67) × (letter (letters_of Mark) 8 ≡ 48)
+unfolding small_letters capital_letters marks
+alphabets = (refl, refl, refl)
+
+can_begin : IsBegun (Bank 1) × IsBegun (Bank 3) × IsBegun (EscapeHigh 31) × (IsBegun (Bank 0) → ⊥) × (IsBegun (Bank 4) → ⊥) × (IsStep (Begins (EscapeHigh 32)) → ⊥)
+can_begin = ((omega arith, omega arith), (omega arith, omega arith), omega arith, (λ begun. omega (arith, begun.0)), (λ begun. omega (arith, begun.1)), (λ begun. omega (arith, begun)))
+
+steps : (pieces_from (Completes (Code 97)) (7 ∷ []) ≡ Code 97 ∷ Code 98 ∷ []) × (pieces_from (Begins Escape) (2 ∷ 0 ∷ []) ≡ Code 64 ∷ []) × (pieces_from (Begins (Letter Capital)) (6 ∷ []) ≡ Code 65 ∷ []) × (pieces_from (Begins (Bank 3)) (31 ∷ []) ≡ Abbreviation 95 ∷ [])
+unfolding small_letters capital_letters
+steps = (refl, refl, refl, refl)
+
+-- ---- progress
+
+first_errors : (first_error NestedAbbreviation Outside ≡ Outside) × (first_error Outside NestedAbbreviation ≡ Outside) × (first_error OutOfMemory NestedAbbreviation ≡ NestedAbbreviation) × (first_error NestedAbbreviation OutOfMemory ≡ NestedAbbreviation)
+first_errors = (refl, refl, refl, refl)
+
+joins : (joined (Ok (1 ∷ [])) (Ok (2 ∷ [])) ≡ Ok (1 ∷ 2 ∷ [])) × (joined (Ok (1 ∷ [])) (Err Outside) ≡ Err Outside) × (joined (Err NestedAbbreviation) (Ok []) ≡ Err NestedAbbreviation) × (joined (Err NestedAbbreviation) (Err Outside) ≡ Err Outside)
+joins = (refl, refl, refl, refl)
+
+pieces_print : (piece_output memory (Code 13) ≡ Ok (10 ∷ [])) × (piece_output memory (Abbreviation 0) ≡ Ok (104 ∷ 101 ∷ 108 ∷ 108 ∷ 111 ∷ [])) × (piece_output memory (Abbreviation 1) ≡ Err NestedAbbreviation) × (piece_output memory (Abbreviation 2) ≡ Err Outside)
+unfolding memory small_letters
+pieces_print = (refl, refl, refl, refl)
+
+all_print : (all_joined (piece_output memory) (Abbreviation 1 ∷ Code 97 ∷ Abbreviation 2 ∷ []) ≡ Err Outside) × (all_joined plain_output (Code 97 ∷ Code 0 ∷ []) ≡ Ok (97 ∷ [])) × (abbreviation_output (Some (Abbreviation 0 ∷ [])) ≡ Err NestedAbbreviation) × (abbreviation_output None ≡ Err Outside)
+unfolding memory small_letters
+all_print = (refl, refl, refl, refl)
+
+nested : (nested_after (Ok tt) ≡ Err NestedAbbreviation) × (nested_after (Err Outside) ≡ Err Outside) × (nested_after (Err OutOfMemory) ≡ Err NestedAbbreviation)
+nested = (refl, refl, refl)
+
+-- a buffer that held 1 and has room for two bytes
+so_far : IsSoFar (1 ∷ []) 2 (1 ∷ 7 ∷ []) (Ok tt) (Ok (7 ∷ [])) × IsSoFar (1 ∷ []) 2 (1 ∷ 7 ∷ []) (Err OutOfMemory) (Ok (7 ∷ 8 ∷ [])) × IsSoFar (1 ∷ []) 2 (1 ∷ 7 ∷ []) (Err Outside) (Err Outside)
+unfolding IsSoFar
+so_far = ((7 ∷ [], refl, refl), (7 ∷ 8 ∷ [], refl, lit< tt, (7 ∷ [], refl)), (refl, (7 ∷ [], refl)))
+
+-- no error after a value, no want of memory where there is room, and nothing else before what is added
+not_so_far : (IsSoFar [] 2 [] (Err Outside) (Ok []) → ⊥) × (IsSoFar [] 2 (7 ∷ []) (Err NestedAbbreviation) (Err Outside) → ⊥) × (HasFront (1 ∷ []) (2 ∷ []) → ⊥)
+unfolding IsSoFar
+not_so_far = (λ so. absurd (let e = so.0 in cc), λ so. absurd (let e = so.0 in cc), λ front. absurd (let e = front.1 in cc))
+
+leads : LeadsTo [] 2 (7 ∷ []) (Ok tt) (Ok (8 ∷ [])) (Ok (7 ∷ 8 ∷ []))
+unfolding LeadsTo IsSoFar
+leads = (Ok (7 ∷ []), (7 ∷ [], refl, refl), refl)
+
+-- one byte more has been decoded only where it was written or refused
+not_decoded : Decodes 9 [] (Ok tt) [] (Ok tt) (Ok (7 ∷ [])) → ⊥
+unfolding Decodes LeadsTo IsSoFar
+not_decoded decodes =
+    let way = decodes [] 9 (Ok []) (Ok (7 ∷ [])) (omega arith) (Ok [], ([], refl, refl), refl) in
+    let out : way.1.0 ≡ [] = sym way.1.2 in
+    absurd cc
