@@ -5,3 +5,4 @@ pub mod FoundParts
 pub mod Found
 pub mod Only
 pub mod ReadingLaws
+mod Worked
