@@ -12,7 +12,7 @@ use Rattle.zlist.proofs.Tables.{list_any-position}
 use Rattle.zdomain.specs.Interval.{interval_operations}
 use Rattle.zstate.specs.State.{State, at_place}
 use Rattle.zstate.specs.Step.{Done, step}
-use Rattle.zstate.specs.Run.{run}
+use Rattle.zstate.specs.Run.{run, GivesOut}
 use Rattle.zfault.specs.declared.event.Event.{Event}
 use Rattle.zrule.specs.Described.{Described, IsNoFault, IsSafe, RunsSafely, StepsSafely}
 use Rattle.zfault.specs.declared.item.Item.{Item}
@@ -25,7 +25,7 @@ use Rattle.zplay.specs.declared.decoded.Decoded.{Decoded}
 use Rattle.zcheck.specs.Acceptance.{Acceptance}
 use Rattle.zplay.specs.Accepted.{IsJudged, claims}
 use Rattle.zplay.specs.Decoded.{decoded_of, output_of}
-use Rattle.zplay.specs.Session.{IsInPlay, setting_of, state_at, Steps, GivesOut}
+use Rattle.zplay.specs.Session.{IsInPlay, setting_of, state_at, Steps}
 use Rattle.zplay.proofs.Accepting.{judged_each, listed_each, supported}
 use Rattle.zplay.proofs.Stepping.{same_place, Prints, Comes, comes}
 

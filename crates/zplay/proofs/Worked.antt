@@ -18,7 +18,8 @@ use Rattle.zcheck.specs.Acceptance.{Acceptance}
 use Rattle.zplay.specs.declared.decoded.Action.TheVariants.{Print, NewLine, Nop, Quit}
 use Rattle.zplay.specs.Accepted.{IsAccepted}
 use Rattle.zplay.specs.Decoded.{action_of, decoded_of, output_of}
-use Rattle.zplay.specs.Session.{IsInPlay, setting_of, state_at, Pauses, Steps, PausesBy, GivesOut}
+use Rattle.zstate.specs.Run.{GivesOut}
+use Rattle.zplay.specs.Session.{IsInPlay, setting_of, state_at, Pauses, Steps, PausesBy}
 
 -- ---- instructions as a session keeps them
 

@@ -53,7 +53,3 @@ Steps m (Some pause) old new before items = Pauses m pause old × (new ≡ old) 
 abbrev pub PausesBy : Option Pause → Setting → State → Type 0
 PausesBy None m s = (d : Done) × (step m s ≡ Ok d)
 PausesBy (Some pause) m s = Pauses m pause s
-
--- the next step gives something out
-abbrev pub GivesOut : Setting → State → Type 0
-GivesOut m s = (d : Done) × (step m s ≡ Ok d) × (d.items ≡ [] → ⊥)

@@ -4,11 +4,11 @@ ghost use Rattle.std.specs.Prelude.{◌≡◌, ◌≤◌, ◌+◌, ℕ, List, []
 ghost use Rattle.zfault.specs.Answers.{answers};
 ghost use Rattle.zstate.specs.declared.halt.Stop.TheVariants.{Paused};
 ghost use Rattle.zstate.specs.State.{opening, give};
-ghost use Rattle.zstate.specs.Run.{awaited, run, Ends, Makes, Stands};
+ghost use Rattle.zstate.specs.Run.{awaited, run, Ends, GivesOut, Makes, Stands};
 ghost use Rattle.zfault.specs.declared.event.Event.{Event as AnEvent};
 ghost use Rattle.zrule.specs.Described.{IsNoFault};
 ghost use Rattle.zplay.specs.Accepted.{IsAccepted};
-ghost use Rattle.zplay.specs.Session.{setting, Steps, PausesBy, GivesOut};
+ghost use Rattle.zplay.specs.Session.{setting, Steps, PausesBy};
 
 use crate::decoded::{Action, Decoded, decode_listing};
 use crate::giving::give_out;
