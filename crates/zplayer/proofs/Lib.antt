@@ -1,3 +1,4 @@
 mod Turns
 mod Writes
 mod Ends
+mod Worked

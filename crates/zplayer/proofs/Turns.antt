@@ -15,7 +15,7 @@ use Rattle.zstate.specs.Run.{Ending, after, ends, run, Goes, Stands}
 use Rattle.zstate.proofs.Joins.{steps_join}
 use Rattle.zstate.proofs.Calls.{stands_ends, goes_join}
 use Rattle.zplayer.specs.Rendering.{render}
-use Rattle.zplayer.specs.Playing.{Plays}
+use Rattle.zplayer.specs.Playing.{Plays, PlaysInPart}
 use Rattle.zplayer.proofs.Writes.{renders}
 
 -- what some steps give out is a beginning of what all give out
@@ -42,7 +42,17 @@ module _ (m : Setting) (budget left : ℕ) (s t : State) (a b : Option (List ℕ
     written = subst (Appends a c) (sym (renders so_far.given turn.given)) (Appends-trans a b c _ _ so_far.written turn.written);
   }
 
-  -- a turn that broke off
+  -- a turn whose writing broke off
+  pub goes_in_part : (u : State) (c : Option (List ℕ)) → PlaysInPart m left t u b c → PlaysInPart m budget s u a c
+  goes_in_part u c turn = record {
+    steps = turn.steps + so_far.steps;
+    given = so_far.given ++ turn.given;
+    few = omega (arith, so_far.all, turn.few);
+    goes = goes_join m so_far.steps turn.steps s t u so_far.given turn.given so_far.goes turn.goes;
+    written = subst (AppendsBeginning a c) (sym (renders so_far.given turn.given)) (AppendsBeginning-after a b c (render so_far.given) (render turn.given) so_far.written turn.written);
+  }
+
+  -- so it is of the whole run
   pub begun : (c : Option (List ℕ)) → AppendsBeginning b c (render (run m [] left t).items) → AppendsBeginning a c (render (run m [] budget s).items)
   begun c turn =
       let all : left + so_far.steps ≡ budget = omega (arith, so_far.all) in

@@ -1,6 +1,7 @@
 -- What playing comes to.
-use Rattle.std.specs.Prelude.{◌≡◌, ℕ, ◌+◌, List, Option}
+use Rattle.std.specs.Prelude.{◌≡◌, ℕ, ◌+◌, ◌≤◌, List, Option}
 use Rattle.std.specs.Io.KnownBytes.{Appends}
+use Rattle.zfault.specs.Devices.{AppendsBeginning}
 use Rattle.zfault.specs.declared.item.Item.{Item}
 use Rattle.zfault.specs.declared.pause.Pause.TheVariants as pauses
 use Rattle.zstate.specs.declared.halt.Stop.{Stop}
@@ -33,3 +34,11 @@ pub record Plays (m : Setting) (budget left : ℕ) (old new : State) (before now
 -- of a budget some steps were made, and what they gave out was written
 abbrev pub PlaysSome : Setting → ℕ → State → State → Option (List ℕ) → Option (List ℕ) → Type 0
 PlaysSome m budget old new before now = (left : ℕ) × Plays m budget left old new before now
+
+-- of a budget some steps were made, and a beginning of what they gave out was written
+pub record PlaysInPart (m : Setting) (budget : ℕ) (old new : State) (before now : Option (List ℕ)) : Type 0 where
+  pub steps : ℕ
+  pub given : List Item
+  pub few : steps ≤ budget
+  pub goes : Goes m steps old new given
+  pub written : AppendsBeginning before now (render given)

@@ -8,6 +8,5 @@ mod player;
 mod screen;
 
 pub use end::{End, Options, PlayError};
-pub use machine::Machine;
 pub use outside::{SaveStore, Words};
 pub use player::{play_checked, play_story};

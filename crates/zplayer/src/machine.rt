@@ -11,7 +11,7 @@ use zref::CheckedMachine;
 use zstate::Stop;
 
 /// A machine whose run is the defined one.
-pub trait Machine {
+pub(crate) trait Machine {
     /// What it is played in.
     ghost setting: { Self → Setting };
 

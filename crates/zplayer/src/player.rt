@@ -7,7 +7,7 @@ ghost use Rattle.zstate.specs.Run.{run, Stands};
 ghost use Rattle.zref.specs.Machine.{setting, SamePlay};
 ghost use Rattle.zfault.specs.declared.fault.Fault.{Fault as AFault};
 ghost use Rattle.zplay.specs.Session.{setting_of};
-ghost use Rattle.zplayer.specs.Playing.{end_of, Plays, PlaysSome};
+ghost use Rattle.zplayer.specs.Playing.{end_of, Plays, PlaysInPart, PlaysSome};
 ghost use Rattle.zplayer.specs.Rendering.{render};
 
 use crate::end::{End, Options, PlayError};
@@ -26,7 +26,7 @@ const TURN: u32 = 1024;
 /// Plays the machine from the state that it is in: makes at most the budget's steps, and writes what they give out.
 ///
 /// No opcode of this build needs a line, a word or a save, so the reader, the store and the words aren't touched yet.
-/// After P2 a beginning of the rendering was written; after P3 all that the finished steps gave out.
+/// After P2 a beginning of what the finished steps give out was written; after P3 all of it.
 pub fn play_checked<R: Source, W: Sink, S: SaveStore, G: Words>(
     alloc: Global,
     machine: &mut CheckedMachine,
@@ -45,6 +45,10 @@ pub fn play_checked<R: Source, W: Sink, S: SaveStore, G: Words>(
     ensures begun { IsErrOf result PlayError.Write → AppendsBeginning (W.contents writer.old) (W.contents writer.new) (render (run (setting machine.old) [] options.budget machine.old.state).items) }
     ensures blamed { IsErrOf result PlayError.Write → HasRisen (W.failures writer.old) (W.failures writer.new) }
     ensures finished { IsErrOf result PlayError.OutOfMemory → PlaysSome (setting machine.old) options.budget machine.old.state machine.new.state (W.contents writer.old) (W.contents writer.new) }
+    ensures in_part { IsErrOf result PlayError.Write → PlaysInPart (setting machine.old) options.budget machine.old.state machine.new.state (W.contents writer.old) (W.contents writer.new) }
+    ensures reader { _reader.new ≡ _reader.old }
+    ensures store { _store.new ≡ _store.old }
+    ensures words { _words.new ≡ _words.old }
 {
     play_machine(alloc, machine, writer, options.budget)
 }
@@ -69,6 +73,10 @@ pub fn play_story<R: Source, W: Sink, S: SaveStore, G: Words>(
     ensures begun { IsErrOf result PlayError.Write → AppendsBeginning (W.contents writer.old) (W.contents writer.new) (render (run (setting_of session.old.accepted) [] options.budget session.old.state).items) }
     ensures blamed { IsErrOf result PlayError.Write → HasRisen (W.failures writer.old) (W.failures writer.new) }
     ensures finished { IsErrOf result PlayError.OutOfMemory → PlaysSome (setting_of session.old.accepted) options.budget session.old.state session.new.state (W.contents writer.old) (W.contents writer.new) }
+    ensures in_part { IsErrOf result PlayError.Write → PlaysInPart (setting_of session.old.accepted) options.budget session.old.state session.new.state (W.contents writer.old) (W.contents writer.new) }
+    ensures reader { _reader.new ≡ _reader.old }
+    ensures store { _store.new ≡ _store.old }
+    ensures words { _words.new ≡ _words.old }
 {
     session.never_faults();
     play_machine(alloc, session, writer, options.budget)
@@ -90,6 +98,7 @@ fn play_machine<M: Machine, W: Sink>(
     ensures begun { IsErrOf result PlayError.Write → AppendsBeginning (W.contents writer.old) (W.contents writer.new) (render (run (M.setting machine.old) [] budget (M.state machine.old)).items) }
     ensures blamed { IsErrOf result PlayError.Write → HasRisen (W.failures writer.old) (W.failures writer.new) }
     ensures finished { IsErrOf result PlayError.OutOfMemory → PlaysSome (M.setting machine.old) budget (M.state machine.old) (M.state machine.new) (W.contents writer.old) (W.contents writer.new) }
+    ensures in_part { IsErrOf result PlayError.Write → PlaysInPart (M.setting machine.old) budget (M.state machine.old) (M.state machine.new) (W.contents writer.old) (W.contents writer.new) }
 {
     let mut items = Vec::new(alloc);
     let mut left = budget;
@@ -128,6 +137,7 @@ fn turn<M: Machine, W: Sink>(
     ensures begun { IsErrOf result PlayError.Write → AppendsBeginning (W.contents writer.old) (W.contents writer.new) (render (run (M.setting machine.old) [] left.old (M.state machine.old)).items) }
     ensures blamed { IsErrOf result PlayError.Write → HasRisen (W.failures writer.old) (W.failures writer.new) }
     ensures finished { IsErrOf result PlayError.OutOfMemory → Plays (M.setting machine.old) left.old left.new (M.state machine.old) (M.state machine.new) (W.contents writer.old) (W.contents writer.new) }
+    ensures in_part { IsErrOf result PlayError.Write → PlaysInPart (M.setting machine.old) left.old (M.state machine.old) (M.state machine.new) (W.contents writer.old) (W.contents writer.new) }
 {
     let mut steps = TURN.min(*left);
     let rest = *left - steps;

@@ -2,9 +2,9 @@ use Rattle.std.proofs.Common.{◌∙◌, ap, subst, rules, []}
 use Rattle.zfault.specs.Devices.{AppendsBeginning}
 use Rattle.zstate.specs.State.{Setting}
 use Rattle.zstate.specs.Run.{run}
-use Rattle.zplayer.specs.Playing.{Plays, end_of}
+use Rattle.zplayer.specs.Playing.{Plays, PlaysInPart, end_of}
 use Rattle.zplayer.specs.Rendering.{render}
-use Rattle.zplayer.proofs.Turns.{starts, goes_on, begun, stop_at_last, state_at_last, written_at_last}
+use Rattle.zplayer.proofs.Turns.{starts, goes_on, goes_in_part, begun, stop_at_last, state_at_last, written_at_last}
 use Rattle.zplayer.proofs.player.play_machine.Goals as goal
 
 pub turns-init : goal.turns-init
@@ -31,6 +31,14 @@ returns-in_err-stop-clause-begun g c =
     let ff = c.from_residual.ensures in
     λ e. begun _ _ _ _ _ _ _ so_far.so_far _
     (subst (λ (m : Setting). AppendsBeginning (g.W.Sink.contents c.turns.writer) (g.W.Sink.contents c.turn.new.writer) (render (run m [] c.turns.left (g.M.Machine.state c.turns.machine)).items)) same (c.in_err-stop.ensures.begun (search rules)))
+
+pub returns-in_err-stop-clause-in_part : goal.returns-in_err-stop-clause-in_part
+returns-in_err-stop-clause-in_part g c =
+    let so_far = c.turns.invariant in
+    let same = g.met.M.Machine.same_setting _ _ so_far.play in
+    let ff = c.from_residual.ensures in
+    λ e. goes_in_part _ _ _ _ _ _ _ so_far.so_far _ _
+    (subst (λ (m : Setting). PlaysInPart m c.turns.left (g.M.Machine.state c.turns.machine) (g.M.Machine.state c.turn.new.machine) (g.W.Sink.contents c.turns.writer) (g.W.Sink.contents c.turn.new.writer)) same (c.in_err-stop.ensures.in_part (search rules)))
 
 pub returns-in_err-stop-clause-finished : goal.returns-in_err-stop-clause-finished
 returns-in_err-stop-clause-finished g c =

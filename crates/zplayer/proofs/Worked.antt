@@ -1,0 +1,39 @@
+-- Values of the definitions, computed.
+use Rattle.std.proofs.Common.{◌≡◌, ℕ, true, List, [], ◌∷◌, Option, refl, arith}
+use Rattle.std.specs.Prelude.{pos}
+use Rattle.zfault.specs.declared.fault.Fault.TheVariants.{IllegalOpcode}
+use Rattle.zfault.specs.declared.item.Item.TheVariants.{Text}
+use Rattle.zfault.specs.declared.pause.Pause.TheVariants as pauses
+use Rattle.zstate.specs.declared.halt.Stop.TheVariants as stops
+use Rattle.zstate.specs.State.{State, Setting}
+use Rattle.zplayer.specs.declared.end.End.TheVariants as ends
+use Rattle.zplayer.specs.Outside.{CountsRefusal}
+use Rattle.zplayer.specs.Playing.{end_of, Plays, PlaysInPart, PlaysSome}
+use Rattle.zplayer.specs.Rendering.{render, shown}
+use Rattle.zplayer.proofs.Turns.{starts}
+
+-- a need that nothing answers is a want of input
+needs : (end_of (stops.Paused pauses.NeedLine) ≡ ends.NoInput) × (end_of (stops.Paused pauses.NeedRandom) ≡ ends.NoInput) × (end_of (stops.Paused pauses.NeedSave) ≡ ends.NoInput) × (end_of (stops.Paused pauses.NeedRestore) ≡ ends.NoInput)
+needs = (refl, refl, refl, refl)
+
+others : (end_of (stops.Paused pauses.Budget) ≡ ends.Budget) × (end_of (stops.Paused pauses.Quit) ≡ ends.Quit) × (end_of (stops.Paused pauses.FrameLimit) ≡ ends.FrameLimit) × (end_of (stops.Fault IllegalOpcode (pos 804)) ≡ ends.Fault IllegalOpcode (pos 804))
+others = (refl, refl, refl, refl)
+
+-- bytes of text, in their order
+bytes : (render [] ≡ []) × (shown (Text 104) ≡ 104 ∷ []) × (render (Text 104 ∷ Text 10 ∷ Text 0 ∷ []) ≡ 104 ∷ 10 ∷ 0 ∷ [])
+bytes = (refl, refl, refl)
+
+-- a call that was done leaves the count as it was
+done : CountsRefusal 3 3 true
+done = refl
+
+not_done : CountsRefusal 3 4 true → ⊥
+not_done same = omega (arith, same)
+
+-- no step is made at first, and never more than the budget has
+module _ (m : Setting) (s t : State) (a b : Option (List ℕ)) where
+  none_made : Plays m 5 5 s s a a × PlaysSome m 5 s s a a
+  none_made = (starts m 5 s a, (5, starts m 5 s a))
+
+  not_more : (Plays m 5 6 s t a b → ⊥) × ((part : PlaysInPart m 0 s t a b) → part.steps ≡ 0)
+  not_more = (λ plays. omega (arith, plays.all), λ part. omega (arith, part.few))
