@@ -1,5 +1,5 @@
--- Which opcodes this build plays (own). Nothing else may depend on which these are, so that turning one on
--- is an edit of this table and of its twin in src/playable.rt alone.
+-- Which opcodes this build plays (own). Nothing else of this crate may depend on which these are, so that turning one on
+-- is here an edit of this table and of its twin in src/playable.rt alone.
 use Rattle.std.specs.Prelude.{Bool, true, false}
 use Rattle.zcode.specs.declared.opcode.Opcode.{Opcode}
 use Rattle.zcode.specs.declared.opcode.Opcode.TheVariants.{Print, Nop, Quit, NewLine}

@@ -58,7 +58,18 @@ fn check_dictionary(memory: &[u8]) -> Result<(), LoadError>
     if place < usize::from(word_at(memory, header::STATIC_BASE)) {
         return Err(LoadError::Dictionary);
     }
-    let entries = Entries::read(memory).ok_or(LoadError::Dictionary)?;
+    match Entries::read(memory) {
+        Some(entries) => check_entries(&entries),
+        None => Err(LoadError::Dictionary),
+    }
+}
+
+/// Looks at the length of the entries, and then at their order.
+fn check_entries(entries: &Entries) -> Result<(), LoadError>
+    requires before { NoneBelow (IsFlaw entries.now.memory.now) LoadError.EntryLength }
+    ensures ok { OnOk result (NoneBelow (IsFlaw entries.now.memory.now) LoadError.FirstInstruction) }
+    ensures lowest { IfErr result (IsLowest (IsFlaw entries.now.memory.now)) }
+{
     if entries.length() < TEXT_LENGTH {
         return Err(LoadError::EntryLength);
     }

@@ -63,10 +63,11 @@ pub(crate) fn copied(alloc: Global, part: &[u8]) -> Result<(Vec<u8>, u16), Alloc
 }
 
 /// Clears what an interpreter would say of itself in Flags 1 (Z 11.1, own).
-pub(crate) fn clear_flags(memory: &mut [u8])
-    requires { IsSound memory.old }
-    ensures cleared { memory.new ≡ with_flags_cleared memory.old }
-    ensures sound { IsSound memory.new }
+pub(crate) fn with_flags_cleared(mut memory: Vec<u8>) -> Vec<u8>
+    requires { IsSound memory.items }
+    ensures cleared { result.items ≡ with_flags_cleared memory.items }
+    ensures sound { IsSound result.items }
 {
     memory[header::FLAGS] &= KEPT_FLAGS;
+    memory
 }

@@ -9,7 +9,7 @@ use crate::checks::check_part;
 use crate::header;
 use crate::identity::Identity;
 use crate::load_error::LoadError;
-use crate::loading::{clear_flags, copied, stated_part};
+use crate::loading::{copied, stated_part, with_flags_cleared};
 use crate::objects::object_count;
 use std::alloc::{AllocError, Global};
 use std::marker::Model;
@@ -186,8 +186,8 @@ impl Story {
         ensures memory { IfOk result (λ story. story.memory ≡ with_flags_cleared part.now) }
         ensures objects { IfOk result (λ story. IsObjectCount story.memory story.objects) }
     {
-        let (mut memory, verify_sum) = copied(alloc, part)?;
-        clear_flags(&mut memory);
+        let (memory, verify_sum) = copied(alloc, part)?;
+        let memory = with_flags_cleared(memory);
         let objects = object_count(&memory);
         Ok(Story {
             memory,
