@@ -8,7 +8,7 @@ use Rattle.zstory.specs.Bytes.{byte_at, word_at, readable_end}
 use Rattle.zstory.specs.Header as header
 use Rattle.zstory.specs.Objects.{object_place, object_end, property_table, IsEntry, IsObjectCount}
 use Rattle.zstory.specs.Dictionary.{separator_count, entry_length, entry_count, entry_place, dictionary_end, encoded_text, IsOrdered, HasFallingEntries}
-use Rattle.zstory.specs.LoadedStory.{LoadedStory, identity_of, file_sum, save_checksum}
+use Rattle.zstory.specs.LoadedStory.{LoadedStory, IsSound, identity_of, file_sum, save_checksum}
 use Rattle.zstory.specs.Loading.{stated_length, stated_part, with_flags_cleared, loaded_memory, IsLoaded}
 use Rattle.zstory.specs.Refusal.{number_of, IsTooShort, IsTooLong, HasOtherVersion, HasWrongLength, HasWrongBase, HasWrongGlobals, HasWrongDefaults, HasWrongDictionary, HasShortEntries, HasWrongStart, IsCause, IsLowest, HasNone}
 
@@ -33,6 +33,11 @@ peopled = 0x03 ∷ 0x00 ∷ 0x00 ∷ 0x01 ∷ 0x03 ∷ 0x70 ∷ 0x03 ∷ 0x70 �
     ++ repeated 96 (0x01 ∷ 0xAD ∷ []) ++ 0x94 ∷ 0xA5 ∷ 0x01 ∷ 0x2C ∷ 0x07 ∷ 0x00 ∷ 0x02 ∷ 0x1B ∷ 0x25 ∷ 0x94 ∷ 0xA5 ∷ 0x00 ∷ 0x00 ∷ 0x00
     ∷ 0x46 ∷ 0x94 ∷ 0xC0 ∷ 0xA5 ∷ 0x00 ∷ 0x00 ∷ 0x00 ∷ 0x00 ∷ 0xBA ∷ 0x00 ∷ []
 
+-- a header whose bytes are their places
+counted : List ℕ
+counted = 0 ∷ 1 ∷ 2 ∷ 3 ∷ 4 ∷ 5 ∷ 6 ∷ 7 ∷ 8 ∷ 9 ∷ 10 ∷ 11 ∷ 12 ∷ 13 ∷ 14 ∷ 15 ∷ 16 ∷ 17 ∷ 18 ∷ 19 ∷ 20 ∷ 21 ∷ 22 ∷ 23 ∷ 24 ∷ 25 ∷ 26 ∷ 27 ∷ 28 ∷ 29 ∷ 30 ∷ 31
+    ∷ 32 ∷ 33 ∷ 34 ∷ 35 ∷ 36 ∷ 37 ∷ 38 ∷ 39 ∷ 40 ∷ 41 ∷ 42 ∷ 43 ∷ 44 ∷ 45 ∷ 46 ∷ 47 ∷ 48 ∷ 49 ∷ 50 ∷ 51 ∷ 52 ∷ 53 ∷ 54 ∷ 55 ∷ 56 ∷ 57 ∷ 58 ∷ 59 ∷ 60 ∷ 61 ∷ 62 ∷ 63 ∷ []
+
 sizes : (length plain ≡ 810) × (length peopled ≡ 882)
 unfolding plain peopled
 sizes = (refl, refl)
@@ -53,9 +58,20 @@ numbers : (header.version plain ≡ 3) × (header.release plain ≡ 1) × (heade
 unfolding plain
 numbers = (refl, refl, refl, refl, refl, refl, refl, refl, refl, refl)
 
-serials : header.serial plain ≡ 0x32 ∷ 0x36 ∷ 0x30 ∷ 0x31 ∷ 0x30 ∷ 0x31 ∷ []
-unfolding plain
-serials = refl
+of_peopled : (header.release peopled ≡ 1) × (header.first_instruction peopled ≡ 0x370) × (header.dictionary peopled ≡ 0x35C) × (header.object_table peopled ≡ 0x220) × (header.globals peopled ≡ 0x40) × (header.static_base peopled ≡ 0x29A) × (header.abbreviations peopled ≡ 0x29A) × (header.length_word peopled ≡ 0x1B9) × (header.checksum peopled ≡ 0x4B12)
+unfolding peopled
+of_peopled = (refl, refl, refl, refl, refl, refl, refl, refl, refl)
+
+of_counted : (header.version counted ≡ 0) × (header.flags counted ≡ 1) × (header.release counted ≡ 0x0203) × (header.first_instruction counted ≡ 0x0607) × (header.dictionary counted ≡ 0x0809) × (header.object_table counted ≡ 0x0A0B) × (header.globals counted ≡ 0x0C0D) × (header.static_base counted ≡ 0x0E0F) × (header.abbreviations counted ≡ 0x1819) × (header.length_word counted ≡ 0x1A1B) × (header.checksum counted ≡ 0x1C1D)
+unfolding counted
+of_counted = (refl, refl, refl, refl, refl, refl, refl, refl, refl, refl, refl)
+
+abbrev january : List ℕ
+january = 0x32 ∷ 0x36 ∷ 0x30 ∷ 0x31 ∷ 0x30 ∷ 0x31 ∷ []
+
+serials : (header.serial plain ≡ january) × (header.serial peopled ≡ january) × (header.serial counted ≡ 0x12 ∷ 0x13 ∷ 0x14 ∷ 0x15 ∷ 0x16 ∷ 0x17 ∷ [])
+unfolding plain peopled counted
+serials = (refl, refl, refl)
 
 abbrev with_flags : ℕ → List ℕ
 with_flags flags = slice_set plain 0x01 flags
@@ -80,9 +96,9 @@ ordered zero some = omega (arith, texts.0, texts.1)
 ordered (suc k) some = absurd (omega (arith, some, dictionaries.2))
 
 -- the first word begins with 47 in place of 1B
-falling : HasFallingEntries (slice_set peopled 0x361 0x47)
+falling : (encoded_text (slice_set peopled 0x361 0x47) 0 ≡ 0x472594A5) × HasFallingEntries (slice_set peopled 0x361 0x47)
 unfolding peopled
-falling = (0, lit< tt, lit< tt)
+falling = (refl, (0, lit< tt, lit< tt))
 
 -- ---- objects
 
@@ -146,6 +162,32 @@ loaded : IsLoaded (plain ++ 0x55 ∷ []) (record { memory = plain; objects = 0 }
 unfolding plain peopled
 loaded = (record { memory = refl; objects = no_object }, record { memory = refl; objects = two_objects })
 
+-- what loading has established of one
+sound : IsSound peopled
+unfolding peopled
+sound = record {
+  least_length = omega (arith, sizes.1);
+  greatest_length = omega (arith, sizes.1);
+  version = refl;
+  static_base_above = omega (arith, of_peopled.5);
+  static_base_within = omega (arith, sizes.1, of_peopled.5);
+  globals_above = omega (arith, of_peopled.4);
+  globals_within = omega (arith, of_peopled.4, of_peopled.5);
+  defaults_above = omega (arith, of_peopled.3);
+  defaults_within = omega (arith, of_peopled.3, of_peopled.5);
+  dictionary_above = omega (arith, of_peopled.2, of_peopled.5);
+  dictionary_within = omega (arith, sizes.1, dictionaries.5);
+  entries_long = omega (arith, dictionaries.1);
+  entries_ordered = ordered;
+  first_instruction_above = omega (arith, of_peopled.1);
+  first_instruction_within = omega (arith, sizes.1, of_peopled.1);
+}
+
+-- but not of one that ends where its code begins
+unsound : IsSound (take 804 plain) → ⊥
+unfolding plain
+unsound sound = omega (arith, sound.first_instruction_within)
+
 -- ---- what a loaded story says of itself
 
 abbrev story : List ℕ → LoadedStory
@@ -154,9 +196,12 @@ story memory = record { memory = memory; objects = 0 }
 without_checksum : List ℕ
 without_checksum = slice_set (slice_set plain 0x1C 0) 0x1D 0
 
-identities : identity_of (story plain) ≡ record { release = 1; serial = 0x32 ∷ 0x36 ∷ 0x30 ∷ 0x31 ∷ 0x30 ∷ 0x31 ∷ []; checksum = 0x3A7A; length = 810 }
-unfolding plain
-identities = refl
+identities :
+    (identity_of (story plain) ≡ record { release = 1; serial = january; checksum = 0x3A7A; length = 810 })
+    × (identity_of (story peopled) ≡ record { release = 1; serial = january; checksum = 0x4B12; length = 882 })
+    × (identity_of (story counted) ≡ record { release = 0x0203; serial = 0x12 ∷ 0x13 ∷ 0x14 ∷ 0x15 ∷ 0x16 ∷ 0x17 ∷ []; checksum = 0x1C1D; length = 64 })
+unfolding plain peopled counted
+identities = (refl, refl, refl)
 
 -- the bytes behind the header sum up to 14,970 and to 19,218
 sums : (file_sum (story plain) ≡ 14970) × (file_sum (story peopled) ≡ 19218) × (save_checksum (story plain) ≡ 14970) × (save_checksum (story without_checksum) ≡ 14970) × (save_checksum (story (slice_set plain 0x1D 0)) ≡ 0x3A00)
