@@ -1,5 +1,5 @@
 -- Values of the definitions, computed.
-use Rattle.std.proofs.Common.{◌≡◌, [], ◌∷◌, ◌++◌, true, false, pos, codes, decimal, refl, arith}
+use Rattle.std.proofs.Common.{◌≡◌, inl, ℕ, List, length, ap, [], ◌∷◌, ◌++◌, Bool, true, false, pos, codes, decimal, refl, arith}
 use Rattle.clap.specs.declared.error.kind.ErrorKind.TheVariants.{DisplayHelp, DisplayVersion, UnknownArgument}
 use Rattle.zfault.specs.declared.fault.Fault.TheVariants as faults
 use Rattle.zstory.specs.declared.load_error.LoadError.TheVariants as loads
@@ -12,9 +12,16 @@ use Rattle.zplayer.specs.declared.end.PlayError.TheVariants as errors
 use Rattle.zpc.specs.declared.outcome.Failure.TheVariants.{Read, Write, Memory}
 use Rattle.zpc.specs.declared.outcome.Problem.TheVariants.{Refused, Unreadable, BreaksStory, BreaksInstruction, Failed}
 use Rattle.zpc.specs.declared.outcome.Outcome.TheVariants.{Accepted, Played, Stopped}
-use Rattle.zpc.specs.CommandLine.{number_in}
+use Rattle.std.specs.Prelude.{IsSomeAnd, Option, None, Some}
+use Rattle.clap.specs.Kinds.{Kinds}
+use Rattle.clap.specs.Words.{Text, subcommand_of, fault_of}
+use Rattle.clap.specs.Walk.{walked}
+use Rattle.clap.specs.Faults.{defaults_fault, walk_fault}
+use Rattle.zpc.specs.CommandLine.{Asks, Request, Check, Play, number_in, zpc_app}
 use Rattle.zpc.specs.Contents.{GivesPart, IsBeginning}
-use Rattle.zpc.specs.Performing.{is_request}
+use Rattle.zpc.specs.Accepting.{CheckComesTo, PlayComesTo}
+use Rattle.zpc.specs.Performing.{Breaks, Seen, Says, Takes, is_request}
+use Rattle.zpc.specs.Playing.{ComesTo}
 use Rattle.zpc.specs.Report.{line_of, place_text, problem_of_checking, problem_of_load, problem_of_play, problem_of_reading, status_of, text_of}
 
 statuses : (status_of Accepted ≡ 0) × (status_of (Played ends.Quit) ≡ 0) × (status_of (Played ends.Budget) ≡ 0) × (status_of (Played (ends.Fault faults.IllegalOpcode (pos 804))) ≡ 3) × (status_of (Stopped (Refused loads.TooShort)) ≡ 1) × (status_of (Stopped (Failed Write)) ≡ 4)
@@ -59,3 +66,44 @@ no_gap it = omega (arith, it.ends refl (omega arith))
 
 begun : IsBeginning 2 (10 ∷ 20 ∷ 99 ∷ []) (10 ∷ 20 ∷ 30 ∷ []) × (IsBeginning 3 (10 ∷ 20 ∷ 30 ∷ []) (10 ∷ 20 ∷ []) → ⊥)
 begun = ((omega arith, refl), λ it. omega (arith, it.0))
+
+-- ---- the command line
+
+-- words that ask for something
+abbrev Ask : List Text → Request → Type 0
+Ask words request = (fault_of zpc_app words ≡ []) × IsSomeAnd (subcommand_of zpc_app words) (λ matches. Asks matches request)
+
+asked :
+    Ask (codes "play" ∷ codes "hello.z3" ∷ []) (Play (codes "hello.z3") None 1000000000)
+    × Ask (codes "play" ∷ codes "--budget" ∷ codes "12" ∷ codes "hello.z3" ∷ codes "hello.cert" ∷ []) (Play (codes "hello.z3") (Some (codes "hello.cert")) 12)
+    × Ask (codes "check" ∷ codes "hello.z3" ∷ codes "hello.cert" ∷ []) (Check (codes "hello.z3") (codes "hello.cert"))
+unfolding defaults_fault walk_fault walked
+asked = ((refl, (refl, refl, refl, refl)), (refl, (refl, refl, refl, refl)), (refl, (refl, refl, refl)))
+
+-- a command lacks a file, or there is none of the name, or none at all, or the budget is 2 to the 32nd
+is_wrong : Kinds → Bool
+is_wrong [] = false
+is_wrong (kind ∷ kinds) = true
+
+wrong :
+    (is_wrong (fault_of zpc_app (codes "check" ∷ codes "hello.z3" ∷ [])) ≡ true) × (is_wrong (fault_of zpc_app (codes "sing" ∷ [])) ≡ true)
+    × (is_wrong (fault_of zpc_app []) ≡ true) × (is_wrong (fault_of zpc_app (codes "play" ∷ codes "hello.z3" ∷ codes "--budget" ∷ codes "4294967296" ∷ [])) ≡ true)
+unfolding is_wrong defaults_fault walk_fault walked
+wrong = (refl, refl, refl, refl)
+
+-- ---- what is said, and what commands come to
+
+shelf : List ℕ → ℕ → Seen
+shelf bytes failures = record { contents = Some bytes; failures = failures }
+
+-- a text is taken whole, or a failure breaks it off; it isn't lost in silence
+said : Says (shelf (1 ∷ []) 0) (shelf (1 ∷ 2 ∷ 3 ∷ []) 0) (2 ∷ 3 ∷ []) × (Takes (shelf (1 ∷ []) 0) (shelf (1 ∷ []) 0) (2 ∷ []) → ⊥) × (Breaks (shelf [] 0) (shelf [] 0) (2 ∷ []) → ⊥)
+unfolding shelf
+said = (inl (record { whole = refl; quiet = refl }), λ taken. omega (arith, ap length taken.whole), λ broken. omega (arith, broken.blamed))
+
+-- playing never comes to an acceptance or to a failed read, nor checking to the end of a play
+never : (story certificate before now : Option (List ℕ)) (budget : ℕ) →
+    (ComesTo story budget before now Accepted → ⊥) × (ComesTo story budget before now (Stopped (Failed Read)) → ⊥)
+    × (PlayComesTo story certificate budget before now Accepted → ⊥) × (PlayComesTo story certificate budget before now (Stopped (Failed Read)) → ⊥)
+    × (CheckComesTo story certificate before now (Played ends.Quit) → ⊥) × (CheckComesTo story certificate before now (Stopped (Failed Read)) → ⊥)
+never story certificate before now budget = (λ no. no, λ no. no, λ no. no, λ no. no.0, λ no. no, λ no. no.0)
