@@ -5,15 +5,7 @@
 # with its memory and what it gave out, the undisturbed run stood there too.
 # Usage: calls.sh PROGRAM FOLDER, which has the story and the certificate.
 set -u
-program=$(realpath "$1")
-here=$(cd "$(dirname "$0")" && pwd)
-[ -x "$program" ] || exit 1
-work=$(mktemp -d)
-trap 'rm -rf "$work"' EXIT
-cc -O1 -shared -fPIC -o "$work/refuse.so" "$here/refuse.c" || exit 1
-cd "$2" || exit 1
-passed=0
-failed=0
+. "$(dirname "$0")/prepare.sh" "$@"
 timeout 20 "$program" >"$work/ample" </dev/null || exit 1
 : >"$work/kinds"
 # Where the undisturbed run stood, without the word for what was done there.

@@ -3,16 +3,7 @@
 # to be the one of ample memory, or `failed: memory` with status 4 and a beginning of the output.
 # Usage: run.sh PROGRAM STORIES, a folder with the stories that the commands below name.
 set -u
-program=$(realpath "$1")
-stories=$(realpath "$2")
-here=$(cd "$(dirname "$0")" && pwd)
-[ -x "$program" ] || exit 1
-work=$(mktemp -d)
-trap 'rm -rf "$work"' EXIT
-cc -O1 -shared -fPIC -o "$work/refuse.so" "$here/refuse.c" || exit 1
-cd "$stories" || exit 1
-passed=0
-failed=0
+. "$(dirname "$0")/prepare.sh" "$@"
 
 # answer NAME SETTINGS WORD..: the status, output and errors of a run, in files of that name. The settings are of the
 # program's environment alone.
