@@ -4,23 +4,12 @@
 ghost use Rattle.std.specs.Prelude.{◌≡◌, IfOk, map, string_bytes};
 ghost use Rattle.clap.specs.Walk.{texts};
 
-mod accepting;
-mod files;
-mod message;
-mod outcome;
-mod perform;
-#[cfg(test)]
-mod tests;
-mod unasked;
-mod words;
-
-use crate::files::Disk;
-use crate::outcome::Failure;
 use std::alloc::{AllocError, Global};
 use std::env;
 use std::io::ErrorKind;
 use std::process::ExitCode;
 use zfault::{FromRead, ToWrite};
+use zperform::{Disk, Failure, fail, perform, refuse_bytes};
 
 fn main(rt: HostRuntime) -> ExitCode {
     ExitCode::from(run(&rt))
@@ -32,21 +21,21 @@ fn run(rt: &HostRuntime) -> u8 {
     let arguments = match env::args(rt) {
         Ok(arguments) => arguments,
         Err(error) if error.kind() == ErrorKind::InvalidData => {
-            return perform::refuse_bytes(&mut errors);
+            return refuse_bytes(&mut errors);
         }
-        Err(_) => return perform::fail(Failure::Memory, &mut errors),
+        Err(_) => return fail(Failure::Memory, &mut errors),
     };
     let arguments = match arguments.skip(1).collect::<Vec<String>>(rt.alloc()) {
         Ok(arguments) => arguments,
-        Err(_) => return perform::fail(Failure::Memory, &mut errors),
+        Err(_) => return fail(Failure::Memory, &mut errors),
     };
     let words = match words_of(rt.alloc(), &arguments) {
         Ok(words) => words,
-        Err(_) => return perform::fail(Failure::Memory, &mut errors),
+        Err(_) => return fail(Failure::Memory, &mut errors),
     };
     let mut reader = FromRead::new(rt.stdin());
     let mut writer = ToWrite::new(rt.stdout());
-    perform::perform(
+    perform(
         rt.alloc(),
         &words,
         &mut Disk::new(rt),

@@ -1,0 +1,3 @@
+mod Matched
+pub mod Entered
+mod Worked

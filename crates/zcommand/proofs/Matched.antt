@@ -1,0 +1,104 @@
+-- What is read of the matches of a command.
+use Rattle.std.proofs.Common.{◌≡◌, ◌∙◌, ◌&&◌, ℕ, Bool, true, false, refl, ap, List, [], ◌∷◌, length, Option, Some, None, Result, Ok, Err, lt-ltb, ltb-true, nat_lt, ◌^◌}
+use Rattle.std.specs.Prelude.{Box, codes, option_map, unwrap_or}
+use Rattle.std.specs.Box.{box_value}
+use Rattle.std.specs.Option.{option_map_or}
+use Rattle.std.specs.declared.alloc.Global.{Global}
+use Rattle.clap.specs.declared.parser.matches.Found.{Found}
+use Rattle.clap.specs.declared.parser.matches.SubCommand.{SubCommand}
+use Rattle.std.specs.List.{list_all}
+use Rattle.std.specs.Borrow.{Bor}
+use Rattle.std.specs.Char.{digit_value}
+use Rattle.std.specs.Str.Parse.{AllDigits, ParsesUnsigned, digits_value, without_leading_plus}
+use Rattle.clap.proofs.WalkLemmas.{both, first_value-rows, one_text-rows}
+use Rattle.clap.specs.Words.{ReadsOne, Row, Text, first_value, one_text, rows_of, subcommand_name_of, subcommand_rows_of}
+use Rattle.clap.specs.declared.parser.matches.ArgMatches.{ArgMatches}
+use Rattle.clap.specs.declared.parser.matches.ArgMatches.TheViews.{out-ArgMatches, out-SubCommand}
+use Rattle.clap.specs.Simple.{subcommand_rows}
+use Rattle.zcommand.specs.CommandLine.{budget_of, certificate_of, number_in, story_of}
+
+digits_pass : (ds : List ℕ) → AllDigits 10 ds → list_all (λ d. nat_lt (digit_value d) 10) ds ≡ true
+digits_pass [] h = refl
+digits_pass (d ∷ ds) h = rw (lt-ltb (digit_value d) 10 h.0) (digits_pass ds h.1)
+
+digits_from : (ds : List ℕ) → list_all (λ d. nat_lt (digit_value d) 10) ds ≡ true → AllDigits 10 ds
+digits_from [] e = tt
+digits_from (d ∷ ds) e =
+    let parts = both _ _ e in
+    (ltb-true _ _ parts.0, digits_from ds parts.1)
+
+abbrev is_number : List ℕ → Bool
+is_number ds = nat_lt 0 (length ds) && list_all (λ d. nat_lt (digit_value d) 10) ds && nat_lt (digits_value 10 ds) (2 ^ 32)
+
+-- what `parse::<u32>()` makes of a text is the number in it
+number_read : {E : Type 0} (text : Text) (r : Result ℕ E) → ParsesUnsigned 32 10 text r → (n : ℕ) → r ≡ Ok n → n ≡ number_in text
+number_read text (Ok m) h n e =
+    let ds = without_leading_plus text in
+    let value : m ≡ number_in text = rw (lt-ltb 0 (length ds) h.0.0.0, digits_pass ds h.0.0.1, lt-ltb (digits_value 10 ds) (2 ^ 32) h.0.1) h.1 in
+    cc
+number_read text (Err x) h n e = cc
+
+no_number : {E : Type 0} (text : Text) (e : E) → ParsesUnsigned 32 10 text (Err e) → 0 ≡ number_in text
+no_number text e h = go (is_number (without_leading_plus text)) refl
+  where
+    go : (b : Bool) → is_number (without_leading_plus text) ≡ b → 0 ≡ number_in text
+    go false t = rw t refl
+    go true t =
+        let outer = both _ _ t in
+        let inner = both _ _ outer.0 in
+        absurd (h ((ltb-true _ _ inner.0, digits_from (without_leading_plus text) inner.1), ltb-true _ _ outer.1))
+
+-- what the getter of texts gives, or else the empty text
+pub story_read : (found : Found) (o : Option (Bor Text)) (d r : Bor Text) → option_map (λ s. s.now) o ≡ first_value found (codes "STORY") → d.now ≡ [] → r ≡ unwrap_or o d → r.now ≡ story_of (rows_of found)
+story_read found o d r given empty is =
+    ap (λ (s : Bor Text). s.now) is ∙ default o d empty ∙ ap (λ (x : Option Text). unwrap_or x []) (given ∙ first_value-rows found (codes "STORY"))
+  where
+    default : (o : Option (Bor Text)) (d : Bor Text) → d.now ≡ [] → (unwrap_or o d).now ≡ unwrap_or (option_map (λ s. s.now) o) []
+    default None d e = e
+    default (Some s) d e = refl
+
+-- what the getter of texts gives of a certificate, and else the empty text
+pub certificate_given : (found : Found) (o : Option (Bor Text)) → option_map (λ s. s.now) o ≡ first_value found (codes "CERT") → option_map (λ s. s.now) o ≡ certificate_of (rows_of found)
+certificate_given found o given = given ∙ first_value-rows found (codes "CERT")
+
+pub certificate_read : (found : Found) (o : Option (Bor Text)) (d r : Bor Text) → option_map (λ s. s.now) o ≡ first_value found (codes "CERT") → d.now ≡ [] → r ≡ unwrap_or o d → r.now ≡ unwrap_or (certificate_of (rows_of found)) []
+certificate_read found o d r given empty is =
+    ap (λ (s : Bor Text). s.now) is ∙ default o d empty ∙ ap (λ (x : Option Text). unwrap_or x []) (certificate_given found o given)
+  where
+    default : (o : Option (Bor Text)) (d : Bor Text) → d.now ≡ [] → (unwrap_or o d).now ≡ unwrap_or (option_map (λ s. s.now) o) []
+    default None d e = e
+    default (Some s) d e = refl
+
+-- what the getter of numbers gives, or else 0
+pub budget_read : {E : Type 0} (G : List ℕ → Result ℕ E → Type 0) (found : Found) (o : Option ℕ) (r : ℕ)
+    → (one_text found (codes "budget") ≡ None → o ≡ None) → ((t : Text) → one_text found (codes "budget") ≡ Some t → ReadsOne G t o)
+    → ((t : Text) (x : Result ℕ E) → G t x → ParsesUnsigned 32 10 t x)
+    → r ≡ unwrap_or o 0 → r ≡ budget_of (rows_of found)
+budget_read {E} G found o r none given parses is =
+    is ∙ go (one_text found (codes "budget")) refl o none given ∙ ap (λ (x : Option Text). option_map_or number_in x 0) (one_text-rows found (codes "budget"))
+  where
+    read : (t : Text) (o : Option ℕ) → ReadsOne G t o → unwrap_or o 0 ≡ number_in t
+    read t (Some n) h = number_read {E = E} t (Ok n) (parses t (Ok n) h) n refl
+    read t None h = no_number t h.0 (parses t (Err h.0) h.1)
+
+    go : (x : Option Text) → one_text found (codes "budget") ≡ x → (o : Option ℕ)
+        → (one_text found (codes "budget") ≡ None → o ≡ None) → ((t : Text) → one_text found (codes "budget") ≡ Some t → ReadsOne G t o)
+        → unwrap_or o 0 ≡ option_map_or number_in x 0
+    go None e o none given = ap (λ (y : Option ℕ). unwrap_or y 0) (none e)
+    go (Some t) e o none given = read t o (given t e)
+
+-- the name of a subcommand is the first of the pair that is its matches
+pub name_first : (m : ArgMatches) → option_map (λ p. p.0) (subcommand_rows_of m) ≡ subcommand_name_of m
+name_first m = go (out-ArgMatches m).subcommand
+  where
+    go : (o : Option (Box SubCommand Global)) → option_map (λ p. p.0) (subcommand_rows o) ≡ option_map (λ b. (out-SubCommand (box_value b)).name.now) o
+    go None = refl
+    go (Some b) = refl
+
+-- the matches of a subcommand of this name
+pub rows_named : (m : ArgMatches) (name : Text) (rows : List Row) → subcommand_name_of m ≡ Some name → option_map (λ p. p.1) (subcommand_rows_of m) ≡ Some rows → subcommand_rows_of m ≡ Some (name, rows)
+rows_named m name rows named given = pair (subcommand_rows_of m) (name_first m ∙ named) given
+  where
+    pair : (o : Option (Text × List Row)) → option_map (λ p. p.0) o ≡ Some name → option_map (λ p. p.1) o ≡ Some rows → o ≡ Some (name, rows)
+    pair None e f = cc
+    pair (Some (n, rs)) e f = cc

@@ -1,0 +1,35 @@
+-- Values of the definitions, computed.
+use Rattle.std.proofs.Common.{◌≡◌, List, [], ◌∷◌, Bool, true, false, codes, refl}
+use Rattle.std.specs.Prelude.{IsSomeAnd, None, Some}
+use Rattle.clap.specs.Kinds.{Kinds}
+use Rattle.clap.specs.Words.{Text, subcommand_of, fault_of}
+use Rattle.clap.specs.Walk.{walked}
+use Rattle.clap.specs.Faults.{defaults_fault, walk_fault}
+use Rattle.zcommand.specs.CommandLine.{Asks, Request, Check, Play, number_in, zpc_app}
+
+-- a number is below 2 to the 32nd, and has digits alone behind one plus
+numbers :
+    (number_in (codes "0") ≡ 0) × (number_in (codes "+17") ≡ 17) × (number_in (codes "4294967295") ≡ 4294967295) × (number_in (codes "4294967296") ≡ 0) × (number_in (codes "1x") ≡ 0) × (number_in (codes "+") ≡ 0)
+numbers = (refl, refl, refl, refl, refl, refl)
+
+-- words that ask for something
+abbrev Ask : List Text → Request → Type 0
+Ask words request = (fault_of zpc_app words ≡ []) × IsSomeAnd (subcommand_of zpc_app words) (λ matches. Asks matches request)
+
+asked :
+    Ask (codes "play" ∷ codes "hello.z3" ∷ []) (Play (codes "hello.z3") None 1000000000)
+    × Ask (codes "play" ∷ codes "--budget" ∷ codes "12" ∷ codes "hello.z3" ∷ codes "hello.cert" ∷ []) (Play (codes "hello.z3") (Some (codes "hello.cert")) 12)
+    × Ask (codes "check" ∷ codes "hello.z3" ∷ codes "hello.cert" ∷ []) (Check (codes "hello.z3") (codes "hello.cert"))
+unfolding defaults_fault walk_fault walked
+asked = ((refl, (refl, refl, refl, refl)), (refl, (refl, refl, refl, refl)), (refl, (refl, refl, refl)))
+
+-- a command lacks a file, or there is none of the name, or none at all, or the budget is 2 to the 32nd
+is_wrong : Kinds → Bool
+is_wrong [] = false
+is_wrong (kind ∷ kinds) = true
+
+wrong :
+    (is_wrong (fault_of zpc_app (codes "check" ∷ codes "hello.z3" ∷ [])) ≡ true) × (is_wrong (fault_of zpc_app (codes "sing" ∷ [])) ≡ true)
+    × (is_wrong (fault_of zpc_app []) ≡ true) × (is_wrong (fault_of zpc_app (codes "play" ∷ codes "hello.z3" ∷ codes "--budget" ∷ codes "4294967296" ∷ [])) ≡ true)
+unfolding is_wrong defaults_fault walk_fault walked
+wrong = (refl, refl, refl, refl)

@@ -1,0 +1,9 @@
+use Rattle.std.proofs.Common.{refl}
+use Rattle.zcommand.proofs.Matched.{rows_named}
+use Rattle.zcommand.proofs.words.command_of.Goals as goal
+
+pub returns-in-Some : goal.returns-in-Some
+returns-in-Some c = rw (rows_named _ _ _ (c.in-Some.ensures.found.0 refl) c.in-Some.ensures.rows) c.check_of.ensures
+
+pub returns : goal.returns
+returns c = rw (rows_named _ _ _ (c.in-Some-subcommand_matches.ensures.found.0 refl) c.in-Some-subcommand_matches.ensures.rows) c.play_of.ensures

@@ -1,0 +1,89 @@
+-- The command line: which words the program takes, in the terms of clap's definitions, and what the matches that clap
+-- makes of them ask for (own).
+use Rattle.std.specs.Prelude.{◌≡◌, ℕ, ◌^◌, ◌&&◌, Bool, true, false, List, [], ◌∷◌, Option, Some, option_map, length, codes, if◌then◌else◌, nat_lt, pos, unwrap_or}
+use Rattle.std.specs.List.{list_all}
+use Rattle.std.specs.Option.{option_map_or}
+use Rattle.std.specs.Char.{digit_value}
+use Rattle.std.specs.Str.Parse.{digits_value, without_leading_plus}
+use Rattle.clap.specs.Words.{App, Row, Rule, Text, first_of, new_app, new_rule, one_of, with_rule, with_subcommand}
+use Rattle.clap.specs.declared.builder.value_parser.ValueParser.TheVariants as parsers
+use Rattle.zcommand.specs.declared.words.Command.{Command}
+use Rattle.zcommand.specs.declared.words.Command.TheVariants as commands
+
+-- `STORY`, which has to be there
+abbrev pub story_rule : Rule
+story_rule = record (new_rule (codes "STORY")) { required = true }
+
+-- `--budget N`, where N is a u32
+abbrev pub budget_rule : Rule
+budget_rule = record (new_rule (codes "budget")) {
+  long = Some (codes "budget");
+  value_names = 1;
+  defaults = codes "1000000000" ∷ [];
+  parser = Some (parsers.Signed (pos 0) (pos 4294967295));
+}
+
+-- `CERT`, which has to be there or may be
+abbrev pub certificate_rule : Bool → Rule
+certificate_rule required = record (new_rule (codes "CERT")) { required = required }
+
+-- a command on a story, and on a certificate, which has to be there or may be
+abbrev pub files_app : Text → Bool → App
+files_app name required = with_rule (with_rule (new_app name) story_rule) (certificate_rule required)
+
+-- `check STORY CERT`
+abbrev pub check_app : App
+check_app = files_app (codes "check") true
+
+-- `play STORY [CERT] --budget N`
+abbrev pub play_app : App
+play_app = with_rule (files_app (codes "play") false) budget_rule
+
+-- the program, before its commands: its words don't begin with its name, and one of them is a command
+abbrev pub bare_app : App
+bare_app =
+    record (new_app (codes "zpc")) { top = record (new_app (codes "zpc")).top { no_binary_name = true; has_version = true; subcommand_required = true } }
+
+-- the program
+abbrev pub zpc_app : App
+zpc_app = with_subcommand (with_subcommand bare_app check_app.top) play_app.top
+
+-- the number that a text says in decimal digits, with or without a plus before them, where it is a u32; else 0
+abbrev pub number_in : Text → ℕ
+number_in text =
+    let digits = without_leading_plus text in
+    if nat_lt 0 (length digits) && list_all (λ d. nat_lt (digit_value d) 10) digits && nat_lt (digits_value 10 digits) (2 ^ 32)
+    then digits_value 10 digits else 0
+
+-- the name of the story among the matches of a command; without one clap makes no matches
+abbrev pub story_of : List Row → Text
+story_of rows = unwrap_or (first_of (codes "STORY") rows) []
+
+-- the budget among the matches of `play`; one that is no u32 isn't among them
+abbrev pub budget_of : List Row → ℕ
+budget_of rows = option_map_or number_in (one_of (codes "budget") rows) 0
+
+-- the name of the certificate among the matches of a command, if there is one
+abbrev pub certificate_of : List Row → Option Text
+certificate_of rows = first_of (codes "CERT") rows
+
+-- what is asked for, by the names of files
+pub data Request : Type 0 where
+  Check : (story certificate : Text) → Request
+  Play : (story : Text) (certificate : Option Text) (budget : ℕ) → Request
+
+-- the request is the one that clap's matches name, with the values among them
+abbrev pub Asks : Text × List Row → Request → Type 0
+Asks matches (Check story certificate) =
+    (matches.0 ≡ codes "check") × (story ≡ story_of matches.1) × (certificate ≡ unwrap_or (certificate_of matches.1) [])
+Asks matches (Play story certificate budget) =
+    (matches.0 ≡ codes "play") × (story ≡ story_of matches.1) × (certificate ≡ certificate_of matches.1) × (budget ≡ budget_of matches.1)
+
+-- what a command asks for
+abbrev pub request_of : Command → Request
+request_of (commands.Check story certificate) = Check story.now certificate.now
+request_of (commands.Play story certificate budget) = Play story.now (option_map (λ c. c.now) certificate) budget
+
+-- the command is the one that clap's matches name
+abbrev pub IsReadFrom : Text × List Row → Command → Type 0
+IsReadFrom matches command = Asks matches (request_of command)

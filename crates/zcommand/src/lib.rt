@@ -1,0 +1,6 @@
+//! The command line: what the words after the program's name ask for.
+#![tactic(auto)]
+
+mod words;
+
+pub use words::{Command, read_words};

@@ -1,0 +1,167 @@
+//! The words after the program's name.
+
+ghost use Rattle.std.specs.Prelude.{◌≡◌, ◌⊎◌, IfOk, IsSomeAnd, Some, codes, false};
+ghost use Rattle.clap.specs.Walk.{texts};
+ghost use Rattle.clap.specs.Words.{FailsBy, app_of, fault_of, found_of, rows_of, rule_of, subcommand_name_of, subcommand_of, subcommand_rows_of};
+ghost use Rattle.clap.specs.declared.builder.command.Command.TheViews.{out-Command as fields_of};
+ghost use Rattle.zcommand.specs.CommandLine.{IsReadFrom, bare_app, budget_rule, certificate_rule, check_app, files_app, play_app, story_rule, zpc_app};
+
+use clap::{Arg, ArgMatches, Error, value_parser};
+use std::alloc::{AllocError, Global};
+
+/// The version of the program, which `--version` prints.
+const VERSION: &str = "0.1.0";
+
+/// The steps that `play` makes at most where no budget is named.
+const BUDGET: &str = "1000000000";
+
+/// What the words ask for.
+#[derive(Clone, Copy, Debug, PartialEq, Eq)]
+pub enum Command<'a> {
+    /// Checks a certificate.
+    Check {
+        /// The name of the story's file.
+        story: &'a str,
+        /// The name of the certificate's file.
+        certificate: &'a str,
+    },
+    /// Plays a story.
+    Play {
+        /// The name of the story's file.
+        story: &'a str,
+        /// The name of the certificate's file, if the story is played by one and not by testing everything.
+        certificate: Option<&'a str>,
+        /// The most steps that are made.
+        budget: u32,
+    },
+}
+
+/// Reads the words after the program's name.
+pub fn read_words<'a>(alloc: Global, words: &'a [&'a str]) -> Result<Command<'a>, Error>
+    ensures read { IfOk result (λ command. IsSomeAnd (subcommand_of zpc_app (texts words.entry.now)) (λ matches. IsReadFrom matches command)) }
+    ensures fails { FailsBy (fault_of zpc_app (texts words.entry.now)) result }
+{
+    let matches = program(alloc)?.try_get_matches_from(words)?;
+    Ok(command_of(&matches))
+}
+
+/// The command that the matches name, with its values.
+fn command_of<'a>(matches: &ArgMatches<'a>) -> Command<'a>
+    requires { (subcommand_name_of matches.now ≡ Some (codes "check")) ⊎ (subcommand_name_of matches.now ≡ Some (codes "play")) }
+    ensures { IsSomeAnd (subcommand_rows_of matches.now) (λ matches. IsReadFrom matches result) }
+{
+    if let Some(check) = matches.subcommand_matches("check") {
+        return check_of(check);
+    }
+    match matches.subcommand_matches("play") {
+        Some(play) => play_of(play),
+        None => unreachable!(),
+    }
+}
+
+/// `check`, with the values that are among its matches.
+fn check_of<'a>(matches: &ArgMatches<'a>) -> Command<'a>
+    ensures { IsReadFrom (codes "check", rows_of (found_of matches.now)) result }
+{
+    let story = matches.get_str("STORY").unwrap_or("");
+    let certificate = matches.get_str("CERT").unwrap_or("");
+    Command::Check { story, certificate }
+}
+
+/// `play`, with the values that are among its matches.
+fn play_of<'a>(matches: &ArgMatches<'a>) -> Command<'a>
+    ensures { IsReadFrom (codes "play", rows_of (found_of matches.now)) result }
+{
+    let story = matches.get_str("STORY").unwrap_or("");
+    let certificate = matches.get_str("CERT");
+    let budget = matches.get_one("budget").unwrap_or(0);
+    Command::Play {
+        story,
+        certificate,
+        budget,
+    }
+}
+
+fn program<'a>(alloc: Global) -> Result<clap::Command<'a>, AllocError>
+    ensures { IfOk result (λ program. app_of program ≡ zpc_app) }
+{
+    let program = bare_program(alloc)?;
+    let program = program.subcommand(check(alloc)?)?;
+    program.subcommand(play(alloc)?)
+}
+
+/// The program before its commands.
+fn bare_program<'a>(alloc: Global) -> Result<clap::Command<'a>, AllocError>
+    ensures app { IfOk result (λ program. app_of program ≡ bare_app) }
+{
+    clap::Command::new(alloc, "zpc")
+        .about("Checks and plays Z-machine version 3 stories")
+        .version(VERSION)
+        .no_binary_name(true)
+        .subcommand_required(true)
+        .bin_name("zpc")
+}
+
+fn check<'a>(alloc: Global) -> Result<clap::Command<'a>, AllocError>
+    ensures app { IfOk result (λ check. app_of check ≡ check_app) }
+    ensures local { IfOk result (λ check. (fields_of check).has_globals ≡ false) }
+{
+    on_files(alloc, "check", "Checks a certificate of a story", true)
+}
+
+fn play<'a>(alloc: Global) -> Result<clap::Command<'a>, AllocError>
+    ensures app { IfOk result (λ play. app_of play ≡ play_app) }
+    ensures local { IfOk result (λ play. (fields_of play).has_globals ≡ false) }
+{
+    let play = on_files(
+        alloc,
+        "play",
+        "Plays a story, with a certificate or without",
+        false,
+    )?;
+    play.arg(budget(alloc))
+}
+
+/// A command on a story and a certificate, which has to be there or may be.
+fn on_files<'a>(
+    alloc: Global,
+    name: &'a str,
+    about: &'a str,
+    required: bool,
+) -> Result<clap::Command<'a>, AllocError>
+    ensures app { IfOk result (λ command. app_of command ≡ files_app name.now required) }
+    ensures local { IfOk result (λ command. (fields_of command).has_globals ≡ false) }
+{
+    let command = clap::Command::new(alloc, name).about(about);
+    command.arg(story(alloc))?.arg(certificate(alloc, required))
+}
+
+fn story<'a>(alloc: Global) -> Arg<'a>
+    ensures rule { rule_of result ≡ story_rule }
+    ensures local { result.global ≡ false }
+{
+    Arg::new(alloc, "STORY")
+        .help("The story's file")
+        .required(true)
+}
+
+fn certificate<'a>(alloc: Global, required: bool) -> Arg<'a>
+    ensures rule { rule_of result ≡ certificate_rule required }
+    ensures local { result.global ≡ false }
+{
+    Arg::new(alloc, "CERT")
+        .help("The certificate's file")
+        .required(required)
+}
+
+fn budget<'a>(alloc: Global) -> Arg<'a>
+    ensures rule { rule_of result ≡ budget_rule }
+    ensures local { result.global ≡ false }
+{
+    Arg::new(alloc, "budget")
+        .long("budget")
+        .help("The most steps that are made")
+        .value_name("N")
+        .value_parser(value_parser!(u32))
+        .default_value(BUDGET)
+}

@@ -1,9 +1,0 @@
-mod Matched
-mod Entered
-mod FileLemmas
-mod StoryFiles
-mod PlayLemmas
-mod PerformLemmas
-mod AcceptLemmas
-mod SessionLemmas
-mod Worked

@@ -1,8 +1,0 @@
-use Rattle.std.proofs.Common.{rules, ◌≡◌, take}
-use Rattle.zpc.specs.declared.accepting.TheConstants.{CERTIFICATE_LIMIT}
-use Rattle.zpc.proofs.AcceptLemmas.{where_known}
-use Rattle.zpc.proofs.accepting.open_certificate.Goals as goal
-
-pub returns-clause-held : goal.returns-clause-held
-returns-clause-held g c =
-    (c.in_ok-file.file.items, where_known _ (λ bytes. c.in_ok-file.file.items ≡ take CERTIFICATE_LIMIT bytes) c.in_ok-file.ensures.read, search rules)

@@ -1,4 +1,0 @@
-use Rattle.zpc.proofs.perform.play_by_certificate.Goals as goal
-
-pub returns-clause-comes : goal.returns-clause-comes
-returns-clause-comes g c = c.play_accepted.ensures.comes _ _ c.in_ok-accepted.ensures.accepted

@@ -1,6 +1,0 @@
-pub mod CommandLine
-pub mod Contents
-pub mod Report
-pub mod Playing
-pub mod Accepting
-pub mod Performing

@@ -1,0 +1,7 @@
+mod FileLemmas
+mod StoryFiles
+mod PlayLemmas
+mod PerformLemmas
+mod AcceptLemmas
+mod SessionLemmas
+mod Worked

@@ -1,0 +1,83 @@
+-- What comes of playing by a certificate.
+use Rattle.std.proofs.Common.{◌≡◌, ◌≢◌, inl, inr, ◌∙◌, ℕ, List, [], refl, sym, ap, subst, true≢false}
+use Rattle.std.specs.Prelude.{ℤ, Option, Result, Ok, Err, IsErr, IsErrAnd}
+use Rattle.std.specs.Io.KnownBytes.{Appends, Keeps}
+use Rattle.std.proofs.KnownBytes.{Appends-kept}
+use Rattle.zfault.specs.declared.fault.Fault.{Fault}
+use Rattle.zfault.specs.Devices.{AppendsBeginning}
+use Rattle.zstate.specs.State.{State, opening}
+use Rattle.zstate.specs.Run.{Ending, run}
+use Rattle.zcheck.specs.Acceptance.{Acceptance}
+use Rattle.zplay.specs.Session.{Playing, setting_of}
+use Rattle.zplayer.specs.declared.end.End.{End}
+use Rattle.zplayer.specs.declared.end.End.TheVariants as ends
+use Rattle.zplayer.specs.declared.end.PlayError.{PlayError}
+use Rattle.zplayer.specs.declared.end.PlayError.TheVariants as errors
+use Rattle.zplayer.specs.Playing.{PlaysSome, end_of}
+use Rattle.zplayer.specs.Rendering.{render}
+use Rattle.zperform.specs.declared.outcome.Failure.TheVariants.{File, Read, Write, Memory}
+use Rattle.zperform.specs.declared.outcome.Problem.{Problem}
+use Rattle.zperform.specs.declared.outcome.Problem.TheVariants.{Refused, Unreadable, BreaksStory, BreaksInstruction, Failed}
+use Rattle.zperform.specs.declared.outcome.Outcome.TheVariants.{Played, Stopped}
+use Rattle.zperform.specs.Accepting.{IsAccepted, IsUnaccepted, PlayComesTo, ending_with}
+use Rattle.zperform.specs.Report.{outcome_of, problem_of_play}
+use Rattle.zperform.proofs.PlayLemmas.{whole_begun}
+
+module _ (story certificate : Option (List ℕ)) (budget : ℕ) (before : Option (List ℕ)) where
+  -- what isn't accepted isn't played
+  pub unaccepted : (problem : Problem) → IsUnaccepted story certificate problem → PlayComesTo story certificate budget before before (Stopped problem)
+  unaccepted (Refused error) h = (h, refl)
+  unaccepted (Unreadable error) h = (h, refl)
+  unaccepted (BreaksStory rule) h = (h, refl)
+  unaccepted (BreaksInstruction address rule) h = (h, refl)
+  unaccepted (Failed File) h = (h, refl)
+  unaccepted (Failed Memory) h = inl refl
+  unaccepted (Failed Read) h = absurd h
+  unaccepted (Failed Write) h = absurd h
+
+  -- nor is the writer blamed
+  pub unblamed : (problem : Problem) → IsUnaccepted story certificate problem → problem ≢ Failed Write
+  unblamed (Refused error) h = λ e. cc
+  unblamed (Unreadable error) h = λ e. cc
+  unblamed (BreaksStory rule) h = λ e. cc
+  unblamed (BreaksInstruction address rule) h = λ e. cc
+  unblamed (Failed File) h = λ e. cc
+  unblamed (Failed Memory) h = λ e. cc
+  unblamed (Failed Read) h = absurd h
+  unblamed (Failed Write) h = absurd h
+
+  pub handed_on : (now : Option (List ℕ)) (r : Result End Problem) (problem : Problem) → IsErr r × IsErrAnd r (λ q. q ≡ problem)
+      → PlayComesTo story certificate budget before now (Stopped problem) → PlayComesTo story certificate budget before now (outcome_of r)
+  handed_on now (Ok end) problem (is, same) h = absurd (true≢false (sym is))
+  handed_on now (Err q) problem (is, same) h = subst (λ (x : Problem). PlayComesTo story certificate budget before now (Stopped x)) (sym same) h
+
+  -- a session that opened
+  module _ (a : Acceptance) (accepted : IsAccepted story certificate a) (p : Playing) (opened : p ≡ record { accepted = a; state = opening a.story }) (now : Option (List ℕ)) where
+    abbrev ending : Ending
+    ending = run (setting_of p.accepted) [] budget p.state
+
+    same : ending ≡ ending_with a budget
+    same = ap (λ (q : Playing). run (setting_of q.accepted) [] budget q.state) opened
+
+    pub played : (end : End) (later : Option (List ℕ)) → end ≡ end_of ending.stop → ((fault : Fault) (place : ℤ) → end ≢ ends.Fault fault place) → Appends before now (render ending.items) → Keeps now later
+        → PlayComesTo story certificate budget before later (Played end)
+    played end later ended safe written kept = (
+      a,
+      accepted,
+      record {
+        ended = ended ∙ ap (λ (e : Ending). end_of e.stop) same;
+        safe = safe;
+        written = Appends-kept before now later _ (subst (λ (e : Ending). Appends before now (render e.items)) same written) kept;
+      },
+    )
+
+    pub unflushed : (later : Option (List ℕ)) → Appends before now (render ending.items) → Keeps now later → PlayComesTo story certificate budget before later (Stopped (Failed Write))
+    unflushed later written kept =
+        (a, accepted, whole_begun before now later (render (ending_with a budget).items) (subst (λ (e : Ending). Appends before now (render e.items)) same written) kept)
+
+    pub broken : (error : PlayError) → error ≢ errors.Read → (error ≡ errors.Write → AppendsBeginning before now (render ending.items)) → (state : State) → (error ≡ errors.OutOfMemory → PlaysSome (setting_of p.accepted) budget p.state state before now)
+        → PlayComesTo story certificate budget before now (Stopped (problem_of_play error))
+    broken errors.Read no_read begun state finished = absurd (no_read refl)
+    broken errors.Write no_read begun state finished = (a, accepted, subst (λ (e : Ending). AppendsBeginning before now (render e.items)) same (begun refl))
+    broken errors.OutOfMemory no_read begun state finished =
+        inr (a, accepted, (state, subst (λ (q : Playing). PlaysSome (setting_of q.accepted) budget q.state state before now) opened (finished refl)))

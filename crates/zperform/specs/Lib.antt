@@ -1,0 +1,5 @@
+pub mod Contents
+pub mod Report
+pub mod Playing
+pub mod Accepting
+pub mod Performing

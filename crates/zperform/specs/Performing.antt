@@ -1,0 +1,100 @@
+-- What the words of a command line come to: what is done, what is said of it, and the exit status (own).
+use Rattle.std.specs.Prelude.{◌≡◌, ◌≢◌, ◌⊎◌, ℕ, Bool, true, false, List, Option, None, Some, MatchBool}
+use Rattle.std.specs.Io.KnownBytes.{Appends}
+use Rattle.clap.specs.Kinds.{IsAmong, Kinds}
+use Rattle.clap.specs.Words.{Row, Text, subcommand_of}
+use Rattle.clap.specs.declared.error.kind.ErrorKind.{ErrorKind}
+use Rattle.clap.specs.declared.error.kind.ErrorKind.TheVariants.{DisplayHelp, DisplayVersion}
+use Rattle.zfault.specs.Devices.{AppendsBeginning, HasRisen}
+use Rattle.zcommand.specs.CommandLine.{Asks, Request, Check, Play, zpc_app}
+use Rattle.zperform.specs.Playing.{ComesTo}
+use Rattle.zperform.specs.Accepting.{CheckComesTo, PlayComesTo}
+use Rattle.zperform.specs.Report.{line_of, status_of, text_of}
+use Rattle.zperform.specs.declared.outcome.Failure.TheVariants.{Write, Memory}
+use Rattle.zperform.specs.declared.outcome.Problem.TheVariants.{Failed}
+use Rattle.zperform.specs.declared.outcome.Outcome.{Outcome}
+use Rattle.zperform.specs.declared.outcome.Outcome.TheVariants.{Stopped}
+
+-- what is seen of a sink: the bytes that it took, where they are known, and its count of failures
+pub record Seen : Type 0 where
+  pub contents : Option (List ℕ)
+  pub failures : ℕ
+
+abbrev pub seen : {Sink : Type 0} → (Sink → Option (List ℕ)) → (Sink → ℕ) → Sink → Seen
+seen contents failures sink = record { contents = contents sink; failures = failures sink }
+
+-- the writer, and the errors
+pub record Sinks : Type 0 where
+  pub writer : Seen
+  pub errors : Seen
+
+abbrev pub sinks : Seen → Seen → Sinks
+sinks writer errors = record { writer = writer; errors = errors }
+
+-- a text was taken whole, with no failure
+pub record Takes (old new : Seen) (text : List ℕ) : Type 0 where
+  pub whole : Appends old.contents new.contents text
+  pub quiet : new.failures ≡ old.failures
+
+-- a failure broke a text off
+pub record Breaks (old new : Seen) (text : List ℕ) : Type 0 where
+  pub begun : AppendsBeginning old.contents new.contents text
+  pub blamed : HasRisen old.failures new.failures
+
+-- a text was said, as far as the sink took it
+abbrev pub Says : Seen → Seen → List ℕ → Type 0
+Says old new text = Takes old new text ⊎ Breaks old new text
+
+-- an outcome's exit status, and its line
+pub record Reports (outcome : Outcome) (status : ℕ) (old new : Seen) : Type 0 where
+  pub status_is : status ≡ status_of outcome
+  pub said : Says old new (line_of (text_of outcome))
+
+-- ---- words that name no command
+
+-- help and the version are asked for; any other kind is a mistake in the words
+abbrev pub is_request : ErrorKind → Bool
+is_request DisplayHelp = true
+is_request DisplayVersion = true
+is_request _ = false
+
+-- what was asked for goes to the writer, and only a failure there is reported
+abbrev pub Shows : List ℕ → ℕ → Sinks → Sinks → Type 0
+Shows text status old new =
+    (Takes old.writer new.writer text × (status ≡ 0) × (new.errors ≡ old.errors))
+    ⊎ (Breaks old.writer new.writer text × Reports (Stopped (Failed Write)) status old.errors new.errors)
+
+-- a mistake is told on the errors
+abbrev pub Tells : List ℕ → ℕ → Sinks → Sinks → Type 0
+Tells text status old new = Says old.errors new.errors text × (status ≡ 2) × (new.writer ≡ old.writer)
+
+-- memory was refused, and nothing was shown
+abbrev pub Lacks : ℕ → Sinks → Sinks → Type 0
+Lacks status old new = Reports (Stopped (Failed Memory)) status old.errors new.errors × (new.writer ≡ old.writer)
+
+-- words with an answer of one of these kinds in place of a command get its text, which is clap's
+abbrev pub Explains : Kinds → ℕ → Sinks → Sinks → Type 0
+Explains kinds status old new =
+    Lacks status old new
+    ⊎ ((kind : ErrorKind) × (text : List ℕ) × IsAmong kind kinds × MatchBool (is_request kind) (Shows text status old new) (Tells text status old new))
+
+-- ---- words that name one
+
+-- what comes of a request, with what the writer took before and has taken now
+abbrev pub Comes : Request → (List ℕ → Option (List ℕ)) → Option (List ℕ) → Option (List ℕ) → Outcome → Type 0
+Comes (Check story certificate) known before now outcome = CheckComesTo (known story) (known certificate) before now outcome
+Comes (Play story None budget) known before now outcome = ComesTo (known story) budget before now outcome
+Comes (Play story (Some certificate) budget) known before now outcome = PlayComesTo (known story) (known certificate) budget before now outcome
+
+-- a request, with the values among clap's matches: what it comes to is reported, and the writer is blamed just where it
+-- failed
+pub record Performs (words : List Text) (known : List ℕ → Option (List ℕ)) (status : ℕ) (old new : Sinks) : Type 0 where
+  pub matches : Text × List Row
+  pub named : subcommand_of zpc_app words ≡ Some matches
+  pub request : Request
+  pub asks : Asks matches request
+  pub outcome : Outcome
+  pub comes : Comes request known old.writer.contents new.writer.contents outcome
+  pub blamed : outcome ≡ Stopped (Failed Write) → HasRisen old.writer.failures new.writer.failures
+  pub quiet : outcome ≢ Stopped (Failed Write) → new.writer.failures ≡ old.writer.failures
+  pub reported : Reports outcome status old.errors new.errors

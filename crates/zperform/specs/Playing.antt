@@ -1,0 +1,76 @@
+-- What playing a story file comes to (own).
+use Rattle.std.specs.Prelude.{◌≡◌, ◌≢◌, ℕ, List, Option, [], IfSome, ◌⊎◌, ⊤}
+use Rattle.std.specs.Io.KnownBytes.{Appends}
+use Rattle.zfault.specs.Devices.{AppendsBeginning}
+use Rattle.zstory.specs.LoadedStory.{LoadedStory}
+use Rattle.zstory.specs.Loading.{IsLoaded}
+use Rattle.zstory.specs.Refusal.{HasNone, IsCause, IsLowest}
+use Rattle.zstory.specs.declared.load_error.LoadError.{LoadError}
+use Rattle.zstory.specs.declared.load_error.LoadError.TheVariants.{OutOfMemory as NoMemoryToLoad}
+use Rattle.zstate.specs.State.{State, opening}
+use Rattle.zstate.specs.Run.{Ending, run}
+use Rattle.zref.specs.Machine.{setting_of}
+use Rattle.zref.specs.declared.scope.Scope.TheVariants.{All}
+use Rattle.zplayer.specs.declared.end.End.{End}
+use Rattle.zplayer.specs.Playing.{PlaysSome, end_of}
+use Rattle.zplayer.specs.Rendering.{render}
+use Rattle.zperform.specs.declared.outcome.Failure.TheVariants.{File, Read, Write, Memory}
+use Rattle.zperform.specs.declared.outcome.Problem.{Problem}
+use Rattle.zperform.specs.declared.outcome.Problem.TheVariants.{Refused, Failed}
+use Rattle.zperform.specs.declared.outcome.Outcome.{Outcome}
+use Rattle.zperform.specs.declared.outcome.Outcome.TheVariants.{Played, Stopped}
+
+-- how a play of so many steps ends: from the story's opening, with every place of it in scope
+abbrev pub ending_of : LoadedStory → ℕ → Ending
+ending_of story budget = run (setting_of story All) [] budget (opening story)
+
+-- a file holds a story, and nothing speaks against it
+pub record Holds (file : List ℕ) (story : LoadedStory) : Type 0 where
+  pub loaded : IsLoaded file story
+  pub no_cause : HasNone (IsCause file)
+
+-- a file was played: so it ended, and all that the play gives out was written
+pub record IsPlayed (file : List ℕ) (budget : ℕ) (end : End) (before now : Option (List ℕ)) : Type 0 where
+  pub story : LoadedStory
+  pub holds : Holds file story
+  pub ended : end ≡ end_of (ending_of story budget).stop
+  pub written : Appends before now (render (ending_of story budget).items)
+
+-- of what the play of a file gives out, a beginning was written
+pub record IsBegun (file : List ℕ) (budget : ℕ) (before now : Option (List ℕ)) : Type 0 where
+  pub story : LoadedStory
+  pub holds : Holds file story
+  pub begun : AppendsBeginning before now (render (ending_of story budget).items)
+
+-- the play of a file stopped behind one of its steps, and what the steps up to there give out was written
+pub record IsCutShort (file : List ℕ) (budget : ℕ) (before now : Option (List ℕ)) : Type 0 where
+  pub story : LoadedStory
+  pub holds : Holds file story
+  pub state : State
+  pub finished : PlaysSome (setting_of story All) budget (opening story) state before now
+
+-- a file is no story, for its cause with the lowest number; want of memory is none
+pub record IsRefused (file : List ℕ) (error : LoadError) : Type 0 where
+  pub lowest : IsLowest (IsCause file) error
+  pub of_file : error ≢ NoMemoryToLoad
+
+-- why a file isn't loaded
+abbrev pub IsUnloaded : List ℕ → Problem → Type 0
+IsUnloaded file (Refused error) = IsRefused file error
+IsUnloaded file (Failed Memory) = ⊤
+IsUnloaded file problem = ⊥
+
+-- a file with this property was read: the one of the name, where its bytes are known
+abbrev pub Reads : Option (List ℕ) → (List ℕ → Type 0) → Type 0
+Reads known property = (file : List ℕ) × IfSome known (λ bytes. file ≡ bytes) × property file
+
+-- What playing a file comes to, where its bytes are known, with what the writer took before and has taken now. It never
+-- comes to a failed read, as no opcode of this build reads.
+abbrev pub ComesTo : Option (List ℕ) → ℕ → Option (List ℕ) → Option (List ℕ) → Outcome → Type 0
+ComesTo known budget before now (Played end) = Reads known (λ file. IsPlayed file budget end before now)
+ComesTo known budget before now (Stopped (Refused error)) = Reads known (λ file. IsRefused file error) × (now ≡ before)
+ComesTo known budget before now (Stopped (Failed File)) = now ≡ before
+ComesTo known budget before now (Stopped (Failed Read)) = ⊥
+ComesTo known budget before now (Stopped (Failed Write)) = Reads known (λ file. IsBegun file budget before now)
+ComesTo known budget before now (Stopped (Failed Memory)) = (now ≡ before) ⊎ Reads known (λ file. IsCutShort file budget before now)
+ComesTo known budget before now outcome = ⊥

@@ -1,0 +1,105 @@
+-- What the program says of what a command came to, and its exit status (own).
+use Rattle.std.specs.Prelude.{Result, Ok, Err, ℕ, ◌/◌, ◌%◌, ◌++◌, List, [], ◌∷◌, ℤ, pos, negsuc, codes, decimal, if◌then◌else◌, nat_lt, slice_index}
+use Rattle.std.specs.Fmt.{signed_decimal}
+use Rattle.zfault.specs.Fault.{number_of as fault_number}
+use Rattle.zstory.specs.Refusal.{number_of as refusal_number}
+use Rattle.zstory.specs.declared.load_error.LoadError.{LoadError}
+use Rattle.zstory.specs.declared.load_error.LoadError.TheVariants.{OutOfMemory as NoMemoryToLoad}
+use Rattle.zcert.specs.Refusal.{number_of as reading_number}
+use Rattle.zcert.specs.declared.error.CertError.{CertError}
+use Rattle.zcert.specs.declared.error.CertError.TheVariants.{OutOfMemory as NoMemoryToRead}
+use Rattle.zrule.specs.Numbers.{number_of as rule_number}
+use Rattle.zcheck.specs.Numbers.{number_of as story_rule_number}
+use Rattle.zcheck.specs.declared.refusal.Refusal.{Refusal}
+use Rattle.zcheck.specs.declared.refusal.Refusal.TheVariants as refusals
+use Rattle.zplayer.specs.declared.end.End.{End}
+use Rattle.zplayer.specs.declared.end.End.TheVariants as ends
+use Rattle.zplayer.specs.declared.end.PlayError.{PlayError}
+use Rattle.zplayer.specs.declared.end.PlayError.TheVariants as errors
+use Rattle.zperform.specs.declared.outcome.Failure.{Failure}
+use Rattle.zperform.specs.declared.outcome.Failure.TheVariants.{File, Read, Write, Memory}
+use Rattle.zperform.specs.declared.outcome.Problem.{Problem}
+use Rattle.zperform.specs.declared.outcome.Problem.TheVariants.{Refused, Unreadable, BreaksStory, BreaksInstruction, Failed}
+use Rattle.zperform.specs.declared.outcome.Outcome.{Outcome}
+use Rattle.zperform.specs.declared.outcome.Outcome.TheVariants.{Accepted, Played, Stopped}
+
+-- a story that isn't loaded is refused, but for want of memory
+abbrev pub problem_of_load : LoadError → Problem
+problem_of_load NoMemoryToLoad = Failed Memory
+problem_of_load error = Refused error
+
+-- a file that isn't read as a certificate is refused, but for want of memory
+abbrev pub problem_of_reading : CertError → Problem
+problem_of_reading NoMemoryToRead = Failed Memory
+problem_of_reading error = Unreadable error
+
+-- a certificate that doesn't hold is refused, but for want of memory
+abbrev pub problem_of_checking : Refusal → Problem
+problem_of_checking (refusals.Story rule) = BreaksStory rule
+problem_of_checking (refusals.Instruction address rule) = BreaksInstruction address rule
+problem_of_checking refusals.OutOfMemory = Failed Memory
+
+-- what breaks playing off is a failure
+abbrev pub problem_of_play : PlayError → Problem
+problem_of_play errors.Read = Failed Read
+problem_of_play errors.Write = Failed Write
+problem_of_play errors.OutOfMemory = Failed Memory
+
+-- the exit status: 1 for a refusal, 3 for a fault, 4 for a failure, and else 0
+abbrev pub status_of : Outcome → ℕ
+status_of (Played (ends.Fault fault place)) = 3
+status_of (Played end) = 0
+status_of Accepted = 0
+status_of (Stopped (Failed failure)) = 4
+status_of (Stopped problem) = 1
+
+-- the lower-case hexadecimal digit of a number below 16
+abbrev pub hex_digit : ℕ → ℕ
+hex_digit n = slice_index (codes "0123456789abcdef") n
+
+-- the five digits of a number below 0x100000
+abbrev pub address_text : ℕ → List ℕ
+address_text n = hex_digit (n / 65536) ∷ hex_digit (n / 4096 % 16) ∷ hex_digit (n / 256 % 16) ∷ hex_digit (n / 16 % 16) ∷ hex_digit (n % 16) ∷ []
+
+-- a place: an address from 0 to 0xfffff, and any other number in decimal
+abbrev pub place_text : ℤ → List ℕ
+place_text (pos n) = if nat_lt n 1048576 then address_text n else decimal n
+place_text (negsuc n) = signed_decimal (negsuc n)
+
+abbrev pub failure_text : Failure → List ℕ
+failure_text File = codes "failed: file"
+failure_text Read = codes "failed: read"
+failure_text Write = codes "failed: write"
+failure_text Memory = codes "failed: memory"
+
+abbrev pub end_text : End → List ℕ
+end_text ends.Quit = []
+end_text ends.NoInput = codes "end: no input"
+end_text ends.Budget = codes "end: budget"
+end_text ends.FrameLimit = codes "end: frame limit"
+end_text (ends.Fault fault place) = codes "fault: F" ++ decimal (fault_number fault) ++ codes " at " ++ place_text place
+
+abbrev pub text_of : Outcome → List ℕ
+text_of Accepted = []
+text_of (Played end) = end_text end
+text_of (Stopped (Refused error)) = codes "refused: L" ++ decimal (refusal_number error)
+text_of (Stopped (Unreadable error)) = codes "refused: K" ++ decimal (reading_number error)
+text_of (Stopped (BreaksStory rule)) = codes "refused: S" ++ decimal (story_rule_number rule)
+text_of (Stopped (BreaksInstruction address rule)) = codes "refused: I" ++ decimal (rule_number rule) ++ codes " at " ++ place_text (pos address)
+text_of (Stopped (Failed failure)) = failure_text failure
+
+-- what comes of playing, or of what kept it from being done
+abbrev pub outcome_of : Result End Problem → Outcome
+outcome_of (Ok end) = Played end
+outcome_of (Err problem) = Stopped problem
+
+-- what is said of arguments that are no text, as clap says it of words: three lines with empty ones between
+abbrev pub no_text : List ℕ
+no_text =
+    codes "error: invalid UTF-8 was detected in one or more arguments" ++ 10 ∷ 10 ∷ codes "Usage: zpc <COMMAND>"
+    ++ 10 ∷ 10 ∷ codes "For more information, try '--help'." ++ 10 ∷ []
+
+-- a text as a line, and none where it is empty
+abbrev pub line_of : List ℕ → List ℕ
+line_of [] = []
+line_of (byte ∷ bytes) = (byte ∷ bytes) ++ 10 ∷ []

@@ -1,0 +1,13 @@
+//! Doing what the words after the program's name ask for: files, the checker, the player, and what is said of it.
+#![tactic(auto)]
+
+mod accepting;
+mod files;
+mod message;
+mod outcome;
+mod performing;
+mod unasked;
+
+pub use files::{Disk, Files};
+pub use outcome::{Failure, Outcome, Problem};
+pub use performing::{fail, perform, refuse_bytes};

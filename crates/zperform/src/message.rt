@@ -1,0 +1,184 @@
+//! The line that says what a command came to, made with no memory.
+
+ghost use Rattle.std.specs.Prelude.{◌≡◌, ◌<◌, ◌≤◌, ◌+◌, ◌++◌, [], ◌∷◌, length, decimal, pos};
+ghost use Rattle.zperform.specs.Report.{address_text, end_text, failure_text, line_of, place_text, text_of};
+
+use crate::outcome::{Failure, Outcome, Problem};
+use arrayvec::ArrayVec;
+use itoa::Buffer;
+use std::marker::Model;
+use zfault::Fault;
+use zplayer::End;
+
+/// The most bytes that a line has room for.
+const ROOM: usize = 32;
+
+/// The lower-case hexadecimal digits.
+const DIGITS: [u8; 16] = *b"0123456789abcdef";
+
+/// A short line of text.
+#[derive(Drop)]
+pub struct Message {
+    bytes: ArrayVec<u8, ROOM>,
+}
+
+impl Model for Message {
+    ghost use Rattle.std.specs.Prelude.{List, ℕ};
+
+    ghost Value = { List ℕ };
+
+    ghost view = { λ message. message.bytes.items };
+}
+
+impl Message {
+    /// The line of an outcome, with its end; empty where there is nothing to say.
+    pub fn of(outcome: &Outcome) -> Message
+        ensures { result ≡ line_of (text_of outcome.now) }
+    {
+        let mut message = Message::new();
+        match outcome {
+            Outcome::Accepted => {}
+            Outcome::Played(end) => message.push_end(end),
+            Outcome::Stopped(problem) => message.push_problem(problem),
+        }
+        message.finish();
+        message
+    }
+
+    /// The bytes of the line.
+    pub fn as_slice(&self) -> &[u8]
+        ensures { result.now ≡ self.now }
+    {
+        self.bytes.as_slice()
+    }
+
+    fn new() -> Message
+        ensures { result ≡ [] }
+    {
+        Message {
+            bytes: ArrayVec::new(),
+        }
+    }
+
+    fn push(&mut self, text: &[u8])
+        requires { length self.old + length text.now ≤ ROOM }
+        ensures { self.new ≡ self.old ++ text.now }
+    {
+        let _ = self.bytes.try_extend_from_slice(text);
+    }
+
+    fn push_problem(&mut self, problem: &Problem)
+        requires { self.old ≡ [] }
+        ensures text { self.new ≡ text_of (Outcome.Stopped problem.now) }
+        ensures room { length self.new < ROOM }
+    {
+        match problem {
+            Problem::Refused(error) => self.push_code(b"refused: L", error.number()),
+            Problem::Unreadable(error) => self.push_code(b"refused: K", error.number()),
+            Problem::BreaksStory(rule) => self.push_code(b"refused: S", rule.number()),
+            Problem::BreaksInstruction(address, rule) => {
+                self.push_code(b"refused: I", rule.number());
+                self.push(b" at ");
+                self.push_address(*address);
+            }
+            Problem::Failed(failure) => self.push(failure_text(*failure)),
+        }
+    }
+
+    fn push_code(&mut self, text: &[u8], number: u8)
+        requires empty { self.old ≡ [] }
+        requires short { length text.now ≤ 10 }
+        ensures text { self.new ≡ text.now ++ decimal number }
+        ensures most { length self.new ≤ 13 }
+    {
+        self.push(text);
+        self.push_number(number);
+    }
+
+    fn push_end(&mut self, end: &End)
+        requires { self.old ≡ [] }
+        ensures text { self.new ≡ end_text end.now }
+        ensures room { length self.new < ROOM }
+    {
+        match end {
+            End::Quit => {}
+            End::NoInput => self.push(b"end: no input"),
+            End::Budget => self.push(b"end: budget"),
+            End::FrameLimit => self.push(b"end: frame limit"),
+            End::Fault(fault, place) => self.push_fault(*fault, *place),
+        }
+    }
+
+    fn push_fault(&mut self, fault: Fault, place: i32)
+        requires { self.old ≡ [] }
+        ensures text { self.new ≡ end_text (End.Fault fault place) }
+        ensures room { length self.new < ROOM }
+    {
+        self.push(b"fault: F");
+        self.push_number(fault.number());
+        self.push(b" at ");
+        self.push_place(place);
+    }
+
+    fn push_number(&mut self, number: u8)
+        requires { length self.old + 3 ≤ ROOM }
+        ensures text { self.new ≡ self.old ++ decimal number }
+        ensures most { length self.new ≤ length self.old + 3 }
+    {
+        self.push(Buffer::new().format(number).as_bytes());
+    }
+
+    fn push_place(&mut self, place: i32)
+        requires { length self.old + 11 ≤ ROOM }
+        ensures text { self.new ≡ self.old ++ place_text place }
+        ensures most { length self.new ≤ length self.old + 11 }
+    {
+        if 0 <= place && place < 0x100000 {
+            self.push(&address_text(place as u32));
+        } else {
+            self.push(Buffer::new().format(place).as_bytes());
+        }
+    }
+
+    fn push_address(&mut self, address: u32)
+        requires { length self.old + 11 ≤ ROOM }
+        ensures text { self.new ≡ self.old ++ place_text (pos address) }
+        ensures most { length self.new ≤ length self.old + 11 }
+    {
+        if address < 0x100000 {
+            self.push(&address_text(address));
+        } else {
+            self.push(Buffer::new().format(address).as_bytes());
+        }
+    }
+
+    fn finish(&mut self)
+        requires { length self.old < ROOM }
+        ensures { self.new ≡ line_of self.old }
+    {
+        if !self.bytes.is_empty() {
+            self.push(b"\n");
+        }
+    }
+}
+
+fn failure_text(failure: Failure) -> &'static [u8]
+    ensures text { result.now ≡ failure_text failure }
+    ensures room { length result.now < ROOM }
+{
+    match failure {
+        Failure::File => b"failed: file",
+        Failure::Read => b"failed: read",
+        Failure::Write => b"failed: write",
+        Failure::Memory => b"failed: memory",
+    }
+}
+
+/// The five hexadecimal digits of a place.
+fn address_text(place: u32) -> [u8; 5]
+    requires { place < 0x100000 }
+    ensures { result ≡ address_text place }
+{
+    let digit = |shift: u32| DIGITS[((place >> shift) & 0xf) as usize];
+    [digit(16), digit(12), digit(8), digit(4), digit(0)]
+}

@@ -1,0 +1,122 @@
+//! What a command comes to.
+
+ghost use Rattle.std.specs.Prelude.{◌≡◌};
+ghost use Rattle.zperform.specs.Report.{problem_of_checking, problem_of_load, problem_of_play, problem_of_reading, status_of};
+
+use std::alloc::AllocError;
+use zcert::CertError;
+use zcheck::{Refusal, StoryRule};
+use zplayer::{End, PlayError};
+use zrule::Rule;
+use zstory::LoadError;
+
+/// What a file, a device or the system kept from being done.
+#[derive(Clone, Copy, Debug, PartialEq, Eq)]
+pub enum Failure {
+    /// A file can't be read or written.
+    File,
+    /// Input can't be read.
+    Read,
+    /// Output can't be written.
+    Write,
+    /// Memory was refused.
+    Memory,
+}
+
+/// Why a command wasn't done, or not to its end.
+#[derive(Clone, Copy, Debug, PartialEq, Eq)]
+pub enum Problem {
+    /// The file is no story of this profile. Never for want of memory.
+    Refused(LoadError),
+    /// The file is no certificate. Never for want of memory.
+    Unreadable(CertError),
+    /// The certificate doesn't hold of the story.
+    BreaksStory(StoryRule),
+    /// The certificate doesn't hold of the instruction at an address.
+    BreaksInstruction(u32, Rule),
+    /// Something failed that isn't the story's fault.
+    Failed(Failure),
+}
+
+/// What a command came to.
+#[derive(Clone, Copy, Debug, PartialEq, Eq)]
+pub enum Outcome {
+    /// The certificate was accepted.
+    Accepted,
+    /// The story was played, and ended so.
+    Played(End),
+    /// The command wasn't done, or not to its end.
+    Stopped(Problem),
+}
+
+impl Outcome {
+    /// The exit status.
+    pub fn status(&self) -> u8
+        ensures { result ≡ status_of self.now }
+    {
+        match self {
+            Outcome::Played(End::Fault(_, _)) => 3,
+            Outcome::Accepted | Outcome::Played(_) => 0,
+            Outcome::Stopped(Problem::Failed(_)) => 4,
+            Outcome::Stopped(_) => 1,
+        }
+    }
+}
+
+impl From<LoadError> for Problem {
+    ghost from_gives = { λ error problem. problem ≡ problem_of_load error };
+
+    fn from(error: LoadError) -> Problem {
+        match error {
+            LoadError::OutOfMemory => Problem::Failed(Failure::Memory),
+            _ => Problem::Refused(error),
+        }
+    }
+}
+
+impl From<CertError> for Problem {
+    ghost from_gives = { λ error problem. problem ≡ problem_of_reading error };
+
+    fn from(error: CertError) -> Problem {
+        match error {
+            CertError::OutOfMemory => Problem::Failed(Failure::Memory),
+            _ => Problem::Unreadable(error),
+        }
+    }
+}
+
+impl From<Refusal> for Problem {
+    ghost from_gives = { λ refusal problem. problem ≡ problem_of_checking refusal };
+
+    fn from(refusal: Refusal) -> Problem {
+        match refusal {
+            Refusal::Story(rule) => Problem::BreaksStory(rule),
+            Refusal::Instruction(address, rule) => Problem::BreaksInstruction(address, rule),
+            Refusal::OutOfMemory => Problem::Failed(Failure::Memory),
+        }
+    }
+}
+
+impl From<PlayError> for Problem {
+    ghost from_gives = { λ error problem. problem ≡ problem_of_play error };
+
+    fn from(error: PlayError) -> Problem {
+        Problem::Failed(match error {
+            PlayError::Read => Failure::Read,
+            PlayError::Write => Failure::Write,
+            PlayError::OutOfMemory => Failure::Memory,
+        })
+    }
+}
+
+impl From<AllocError> for Problem {
+    ghost use Rattle.std.specs.Prelude.{◌≡◌};
+    ghost use Rattle.zperform.specs.declared.outcome.Failure.TheVariants.{Memory};
+    ghost use Rattle.zperform.specs.declared.outcome.Problem.TheVariants.{Failed};
+
+    ghost from_gives = { λ _ problem. problem ≡ Failed Memory };
+
+    fn from(_: AllocError) -> Problem {
+        Problem::Failed(Failure::Memory)
+    }
+}

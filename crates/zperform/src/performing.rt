@@ -1,0 +1,311 @@
+//! Doing what the words ask for.
+
+ghost use Rattle.std.specs.Prelude.{◌≡◌, ◌≢◌, ◌⊎◌, [], ℕ, List, Err, OnErr, OnOk, Option, Some};
+ghost use Rattle.clap.specs.Kinds.{HasKind, Kinds};
+ghost use Rattle.clap.specs.Walk.{texts};
+ghost use Rattle.clap.specs.Words.{fault_of};
+ghost use Rattle.std.specs.Io.KnownBytes.{Appends};
+ghost use Rattle.zfault.specs.Devices.{AppendsBeginning, HasRisen};
+ghost use Rattle.zperform.specs.Accepting.{CheckComesTo, IsAccepted, PlayComesTo, accepted_line};
+ghost use Rattle.zcommand.specs.CommandLine.{request_of, zpc_app};
+ghost use Rattle.zperform.specs.Performing.{Comes, Explains, Performs, Says, seen, sinks};
+ghost use Rattle.zperform.specs.Playing.{ComesTo, Holds};
+ghost use Rattle.zperform.specs.Report.{failure_text, line_of, no_text, outcome_of, status_of, text_of};
+
+use crate::accepting::{STORY_LIMIT, accept, load};
+use crate::files::{Files, read_file};
+use crate::message::Message;
+use crate::outcome::{Failure, Outcome, Problem};
+use crate::unasked::{NoSaves, Zeros};
+use zcommand::{Command, read_words};
+use clap::Error;
+use clap::error::ErrorKind;
+use std::alloc::Global;
+use zcheck::Accepted;
+use zfault::{Failed, Sink, Source, write_whole};
+use zplay::Session;
+use zplayer::{End, Options, play_checked};
+use zref::{CheckedMachine, Scope};
+use zstory::Story;
+
+/// The exit status where the words are wrong.
+const USAGE: u8 = 2;
+
+/// What is said of a certificate that is accepted.
+const ACCEPTED: &[u8] = b"accepted\n";
+
+/// What is said of arguments that are no text.
+const NO_TEXT: &[u8] = b"error: invalid UTF-8 was detected in one or more arguments
+
+Usage: zpc <COMMAND>
+
+For more information, try '--help'.
+";
+
+/// Does what the words after the program's name ask for, and answers the exit status. What a story shows, and help
+/// that was asked for, go to the writer; a line on anything else goes to `errors`, where a failure is ignored.
+///
+/// What is wrong is found in this order: the words, the story, its certificate, the work.
+pub fn perform<F: Files, R: Source, W: Sink, E: Sink>(
+    alloc: Global,
+    words: &[&str],
+    files: &mut F,
+    reader: &mut R,
+    writer: &mut W,
+    errors: &mut E,
+) -> u8
+    ensures performs { fault_of zpc_app (texts words.entry.now) ≡ [] → Performs (texts words.entry.now) (F.known files.old) result (sinks (seen W.contents W.failures writer.old) (seen E.contents E.failures errors.old)) (sinks (seen W.contents W.failures writer.new) (seen E.contents E.failures errors.new)) }
+    ensures explains { fault_of zpc_app (texts words.entry.now) ≢ [] → Explains (fault_of zpc_app (texts words.entry.now)) result (sinks (seen W.contents W.failures writer.old) (seen E.contents E.failures errors.old)) (sinks (seen W.contents W.failures writer.new) (seen E.contents E.failures errors.new)) }
+    ensures kept { F.known files.new ≡ F.known files.old }
+{
+    match read_words(alloc, words) {
+        Ok(command) => report(&carry_out(alloc, command, files, reader, writer), errors),
+        Err(error) => explain(alloc, &error, writer, errors),
+    }
+}
+
+/// Does what a command asks for.
+fn carry_out<F: Files, R: Source, W: Sink>(
+    alloc: Global,
+    command: Command<'_>,
+    files: &mut F,
+    reader: &mut R,
+    writer: &mut W,
+) -> Outcome
+    ensures comes { Comes (request_of command.entry) (F.known files.old) (W.contents writer.old) (W.contents writer.new) result }
+    ensures blamed { result ≡ Outcome.Stopped (Problem.Failed Failure.Write) → HasRisen (W.failures writer.old) (W.failures writer.new) }
+    ensures quiet { result ≢ Outcome.Stopped (Problem.Failed Failure.Write) → W.failures writer.new ≡ W.failures writer.old }
+    ensures kept { F.known files.new ≡ F.known files.old }
+{
+    match command {
+        Command::Check { story, certificate } => {
+            check_files(alloc, story, certificate, files, writer)
+        }
+        Command::Play {
+            story,
+            certificate: None,
+            budget,
+        } => outcome_of(play(alloc, story, budget, files, reader, writer)),
+        Command::Play {
+            story,
+            certificate: Some(certificate),
+            budget,
+        } => outcome_of(play_by_certificate(
+            alloc,
+            story,
+            certificate,
+            budget,
+            files,
+            reader,
+            writer,
+        )),
+    }
+}
+
+/// Says whether a story is accepted with a certificate, each in its file.
+fn check_files<F: Files, W: Sink>(
+    alloc: Global,
+    story: &str,
+    certificate: &str,
+    files: &mut F,
+    writer: &mut W,
+) -> Outcome
+    ensures comes { CheckComesTo (F.known files.old story.now) (F.known files.old certificate.now) (W.contents writer.old) (W.contents writer.new) result }
+    ensures blamed { result ≡ Outcome.Stopped (Problem.Failed Failure.Write) → HasRisen (W.failures writer.old) (W.failures writer.new) }
+    ensures quiet { result ≢ Outcome.Stopped (Problem.Failed Failure.Write) → W.failures writer.new ≡ W.failures writer.old }
+    ensures kept { F.known files.new ≡ F.known files.old }
+{
+    match accept(alloc, story, certificate, files) {
+        Ok(_) => say_accepted(writer),
+        Err(problem) => Outcome::Stopped(problem),
+    }
+}
+
+/// Writes that a certificate is accepted.
+fn say_accepted<W: Sink>(writer: &mut W) -> Outcome
+    ensures written { result ≡ Outcome.Accepted → Appends (W.contents writer.old) (W.contents writer.new) accepted_line }
+    ensures begun { result ≡ Outcome.Stopped (Problem.Failed Failure.Write) → AppendsBeginning (W.contents writer.old) (W.contents writer.new) accepted_line }
+    ensures only { (result ≡ Outcome.Accepted) ⊎ (result ≡ Outcome.Stopped (Problem.Failed Failure.Write)) }
+    ensures blamed { result ≡ Outcome.Stopped (Problem.Failed Failure.Write) → HasRisen (W.failures writer.old) (W.failures writer.new) }
+    ensures quiet { result ≢ Outcome.Stopped (Problem.Failed Failure.Write) → W.failures writer.new ≡ W.failures writer.old }
+{
+    match write_and_flush(writer, ACCEPTED) {
+        Ok(()) => Outcome::Accepted,
+        Err(Failed) => Outcome::Stopped(Problem::Failed(Failure::Write)),
+    }
+}
+
+/// Writes a text, and sees that it is through.
+fn write_and_flush<W: Sink>(writer: &mut W, text: &[u8]) -> Result<(), Failed>
+    ensures written { OnOk result (Appends (W.contents writer.old) (W.contents writer.new) text.now) }
+    ensures begun { OnErr result (AppendsBeginning (W.contents writer.old) (W.contents writer.new) text.now) }
+    ensures blamed { OnErr result (HasRisen (W.failures writer.old) (W.failures writer.new)) }
+    ensures quiet { OnOk result (W.failures writer.new ≡ W.failures writer.old) }
+{
+    write_whole(writer, text)?;
+    writer.flush()
+}
+
+/// Plays a story from its file.
+fn play<F: Files, R: Source, W: Sink>(
+    alloc: Global,
+    name: &str,
+    budget: u32,
+    files: &mut F,
+    reader: &mut R,
+    writer: &mut W,
+) -> Result<End, Problem>
+    ensures comes { ComesTo (F.known files.old name.now) budget (W.contents writer.old) (W.contents writer.new) (outcome_of result) }
+    ensures blamed { result ≡ Err (Problem.Failed Failure.Write) → HasRisen (W.failures writer.old) (W.failures writer.new) }
+    ensures quiet { result ≢ Err (Problem.Failed Failure.Write) → W.failures writer.new ≡ W.failures writer.old }
+    ensures kept { F.known files.new ≡ F.known files.old }
+{
+    let file = read_file(alloc, files, name, STORY_LIMIT)?;
+    let story = load(alloc, file)?;
+    play_story(alloc, &story, budget, reader, writer)
+}
+
+/// Plays a story from its opening.
+fn play_story<R: Source, W: Sink>(
+    alloc: Global,
+    story: &Story,
+    budget: u32,
+    reader: &mut R,
+    writer: &mut W,
+) -> Result<End, Problem>
+    ensures comes { (file : List ℕ) → Holds file story.now → ComesTo (Some file) budget (W.contents writer.old) (W.contents writer.new) (outcome_of result) }
+    ensures blamed { result ≡ Err (Problem.Failed Failure.Write) → HasRisen (W.failures writer.old) (W.failures writer.new) }
+    ensures quiet { result ≢ Err (Problem.Failed Failure.Write) → W.failures writer.new ≡ W.failures writer.old }
+{
+    let mut machine = CheckedMachine::new(alloc, story, Scope::All)?;
+    let options = Options {
+        budget,
+        status: false,
+    };
+    let end = play_checked(
+        alloc,
+        &mut machine,
+        reader,
+        writer,
+        &mut NoSaves::new(),
+        &mut Zeros,
+        options,
+    )?;
+    match writer.flush() {
+        Ok(()) => Ok(end),
+        Err(_) => Err(Problem::Failed(Failure::Write)),
+    }
+}
+
+/// Plays a story that is accepted with a certificate, each in its file.
+fn play_by_certificate<F: Files, R: Source, W: Sink>(
+    alloc: Global,
+    story: &str,
+    certificate: &str,
+    budget: u32,
+    files: &mut F,
+    reader: &mut R,
+    writer: &mut W,
+) -> Result<End, Problem>
+    ensures comes { PlayComesTo (F.known files.old story.now) (F.known files.old certificate.now) budget (W.contents writer.old) (W.contents writer.new) (outcome_of result) }
+    ensures blamed { result ≡ Err (Problem.Failed Failure.Write) → HasRisen (W.failures writer.old) (W.failures writer.new) }
+    ensures quiet { result ≢ Err (Problem.Failed Failure.Write) → W.failures writer.new ≡ W.failures writer.old }
+    ensures kept { F.known files.new ≡ F.known files.old }
+{
+    let accepted = accept(alloc, story, certificate, files)?;
+    play_accepted(alloc, &accepted, budget, reader, writer)
+}
+
+/// Plays an accepted story from its opening.
+fn play_accepted<R: Source, W: Sink>(
+    alloc: Global,
+    accepted: &Accepted,
+    budget: u32,
+    reader: &mut R,
+    writer: &mut W,
+) -> Result<End, Problem>
+    ensures comes { (story certificate : Option (List ℕ)) → IsAccepted story certificate accepted.now → PlayComesTo story certificate budget (W.contents writer.old) (W.contents writer.new) (outcome_of result) }
+    ensures blamed { result ≡ Err (Problem.Failed Failure.Write) → HasRisen (W.failures writer.old) (W.failures writer.new) }
+    ensures quiet { result ≢ Err (Problem.Failed Failure.Write) → W.failures writer.new ≡ W.failures writer.old }
+{
+    let mut session = Session::start(alloc, accepted)?;
+    let options = Options {
+        budget,
+        status: false,
+    };
+    let end = zplayer::play_story(
+        alloc,
+        &mut session,
+        reader,
+        writer,
+        &mut NoSaves::new(),
+        &mut Zeros,
+        options,
+    )?;
+    match writer.flush() {
+        Ok(()) => Ok(end),
+        Err(_) => Err(Problem::Failed(Failure::Write)),
+    }
+}
+
+fn outcome_of(played: Result<End, Problem>) -> Outcome
+    ensures { result ≡ outcome_of played }
+{
+    match played {
+        Ok(end) => Outcome::Played(end),
+        Err(problem) => Outcome::Stopped(problem),
+    }
+}
+
+/// Says what a command came to, and answers the exit status.
+pub fn report<E: Sink>(outcome: &Outcome, errors: &mut E) -> u8
+    ensures status { result ≡ status_of outcome.now }
+    ensures said { Says (seen E.contents E.failures errors.old) (seen E.contents E.failures errors.new) (line_of (text_of outcome.now)) }
+{
+    say(Message::of(outcome).as_slice(), errors);
+    outcome.status()
+}
+
+/// Writes a text, where a failure is ignored.
+fn say<E: Sink>(text: &[u8], errors: &mut E)
+    ensures { Says (seen E.contents E.failures errors.old) (seen E.contents E.failures errors.new) text.now }
+{
+    let _ = write_whole(errors, text);
+}
+
+/// Writes clap's answer to words that name no command: to the writer where they ask for help or for the version.
+fn explain<W: Sink, E: Sink>(alloc: Global, error: &Error, writer: &mut W, errors: &mut E) -> u8
+    ensures { (kinds : Kinds) → HasKind kinds error.now → Explains kinds result (sinks (seen W.contents W.failures writer.old) (seen E.contents E.failures errors.old)) (sinks (seen W.contents W.failures writer.new) (seen E.contents E.failures errors.new)) }
+{
+    if error.kind() == ErrorKind::OutOfMemory {
+        return fail(Failure::Memory, errors);
+    }
+    let Ok(text) = error.to_string(alloc) else {
+        return fail(Failure::Memory, errors);
+    };
+    if error.use_stderr() {
+        say(text.as_bytes(), errors);
+        return USAGE;
+    }
+    match write_whole(writer, text.as_bytes()) {
+        Ok(()) => 0,
+        Err(_) => fail(Failure::Write, errors),
+    }
+}
+
+/// Says that an argument is no text, and so no word, and answers the exit status.
+pub fn refuse_bytes<E: Sink>(errors: &mut E) -> u8
+    ensures status { result ≡ 2 }
+    ensures said { Says (seen E.contents E.failures errors.old) (seen E.contents E.failures errors.new) no_text }
+{
+    say(NO_TEXT, errors);
+    USAGE
+}
+
+/// Says what failed, and answers the exit status.
+pub fn fail<E: Sink>(failure: Failure, errors: &mut E) -> u8
+    ensures status { result ≡ 4 }
+    ensures said { Says (seen E.contents E.failures errors.old) (seen E.contents E.failures errors.new) (line_of (failure_text failure)) }
+{
+    report(&Outcome::Stopped(Problem::Failed(failure)), errors)
+}
