@@ -10,29 +10,54 @@ use zstory::{LoadError, Story};
 pub fn accept(rt: &HostRuntime) -> io::Result<Accepted> {
     let story = file(rt, "story.z3")?;
     let certificate = file(rt, "story.cert")?;
-    match check(rt.alloc(), load(rt, &story)?, read(rt, &certificate)?) {
+    checked(rt, &story, &certificate)
+}
+
+/// Checks what the two files hold.
+fn checked(rt: &HostRuntime, story: &[u8], certificate: &[u8]) -> io::Result<Accepted> {
+    match attempt(rt, story, certificate)? {
         Err(Refusal::OutOfMemory) => {
             println!(rt; "refused: check")?;
-            check(rt.alloc(), load(rt, &story)?, read(rt, &certificate)?).map_err(|_| unwanted())
+            wanted(attempt(rt, story, certificate)?)
         }
-        answer => answer.map_err(|_| unwanted()),
+        answer => wanted(answer),
     }
 }
 
-/// What is answered where a call's answer isn't the wanted one.
-fn unwanted() -> io::Error {
-    io::Error::from(ErrorKind::InvalidData)
+/// What one call of the checker answers.
+fn attempt(
+    rt: &HostRuntime,
+    story: &[u8],
+    certificate: &[u8],
+) -> io::Result<Result<Accepted, Refusal>> {
+    let story = load(rt, story)?;
+    let certificate = read(rt, certificate)?;
+    Ok(check(rt.alloc(), story, certificate))
+}
+
+/// The value of a call whose answer is to be one.
+fn wanted<T: Drop, E: Drop>(answer: Result<T, E>) -> io::Result<T> {
+    match answer {
+        Ok(value) => Ok(value),
+        Err(_) => Err(io::Error::from(ErrorKind::InvalidData)),
+    }
 }
 
 /// The bytes of a file.
 fn file(rt: &HostRuntime, name: &str) -> io::Result<Vec<u8>> {
     match fs::read(rt, name) {
-        Err(error) if error.kind() == ErrorKind::OutOfMemory => {
-            println!(rt; "refused: file")?;
-            fs::read(rt, name)
-        }
-        answer => answer,
+        Err(error) => match error.kind() {
+            ErrorKind::OutOfMemory => file_again(rt, name),
+            _ => Err(error),
+        },
+        bytes => bytes,
     }
+}
+
+/// The bytes of a file whose reading was refused memory.
+fn file_again(rt: &HostRuntime, name: &str) -> io::Result<Vec<u8>> {
+    println!(rt; "refused: file")?;
+    fs::read(rt, name)
 }
 
 /// Loads a story.
@@ -40,9 +65,9 @@ fn load(rt: &HostRuntime, file: &[u8]) -> io::Result<Story> {
     match Story::load(rt.alloc(), file) {
         Err(LoadError::OutOfMemory) => {
             println!(rt; "refused: load")?;
-            Story::load(rt.alloc(), file).map_err(|_| unwanted())
+            wanted(Story::load(rt.alloc(), file))
         }
-        answer => answer.map_err(|_| unwanted()),
+        answer => wanted(answer),
     }
 }
 
@@ -51,8 +76,8 @@ fn read(rt: &HostRuntime, file: &[u8]) -> io::Result<Certificate> {
     match zcert::read(rt.alloc(), file) {
         Err(CertError::OutOfMemory) => {
             println!(rt; "refused: read")?;
-            zcert::read(rt.alloc(), file).map_err(|_| unwanted())
+            wanted(zcert::read(rt.alloc(), file))
         }
-        answer => answer.map_err(|_| unwanted()),
+        answer => wanted(answer),
     }
 }

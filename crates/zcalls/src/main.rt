@@ -9,7 +9,7 @@ mod outside;
 mod pieces;
 
 use crate::accepting::accept;
-use crate::pieces::{play, run, step};
+use crate::pieces::{Way, go};
 use std::alloc::AllocError;
 use std::io;
 use zcheck::Accepted;
@@ -19,27 +19,44 @@ use zstory::Story;
 
 fn main(rt: HostRuntime) -> io::Result<()> {
     let accepted = accept(&rt)?;
+    on_both(&rt, &accepted)
+}
+
+/// Plays the accepted story on a session, and on the checked machine under both scopes.
+fn on_both(rt: &HostRuntime, accepted: &Accepted) -> io::Result<()> {
     println!(rt; "accepted")?;
-    on_session(&rt, &accepted)?;
+    on_session(rt, accepted)?;
     println!(rt; "checked machine, anywhere")?;
-    on_checked(&rt, accepted.story(), Scope::All)?;
+    on_checked(rt, accepted.story(), Scope::All)?;
     println!(rt; "checked machine, on the listing")?;
-    on_checked(&rt, accepted.story(), Scope::Only(accepted.listing()))
+    on_checked(rt, accepted.story(), Scope::Only(accepted.listing()))
 }
 
 /// Plays the accepted story on a session for each way of calling it.
 fn on_session(rt: &HostRuntime, accepted: &Accepted) -> io::Result<()> {
     println!(rt; "session")?;
-    step(rt, &mut started(rt, accepted)?)?;
-    run(rt, &mut started(rt, accepted)?)?;
-    play(rt, &mut started(rt, accepted)?)
+    start_and_go(rt, accepted, Way::Steps)?;
+    start_and_go(rt, accepted, Way::Whole)?;
+    start_and_go(rt, accepted, Way::Pieces)
 }
 
 /// Plays the story on the checked machine in the same ways.
 fn on_checked(rt: &HostRuntime, story: &Story, scope: Scope<'_>) -> io::Result<()> {
-    step(rt, &mut made(rt, story, scope)?)?;
-    run(rt, &mut made(rt, story, scope)?)?;
-    play(rt, &mut made(rt, story, scope)?)
+    make_and_go(rt, story, scope, Way::Steps)?;
+    make_and_go(rt, story, scope, Way::Whole)?;
+    make_and_go(rt, story, scope, Way::Pieces)
+}
+
+/// Plays on a session of its own.
+fn start_and_go(rt: &HostRuntime, accepted: &Accepted, way: Way) -> io::Result<()> {
+    let mut session = started(rt, accepted)?;
+    go(rt, &mut session, way)
+}
+
+/// Plays on a checked machine of its own.
+fn make_and_go(rt: &HostRuntime, story: &Story, scope: Scope<'_>, way: Way) -> io::Result<()> {
+    let mut machine = made(rt, story, scope)?;
+    go(rt, &mut machine, way)
 }
 
 /// A session at the story's opening.

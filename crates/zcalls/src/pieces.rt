@@ -11,8 +11,28 @@ use zstate::Stop;
 /// More pieces than any of these plays needs, with one that is refused.
 const MOST: u32 = 50;
 
+/// A way of calling a machine.
+#[derive(Clone, Copy)]
+pub enum Way {
+    /// A call for each step.
+    Steps,
+    /// One call for all steps.
+    Whole,
+    /// Two steps at a time, to the same page.
+    Pieces,
+}
+
+/// Plays in this way.
+pub fn go<M: Machine>(rt: &HostRuntime, machine: &mut M, way: Way) -> io::Result<()> {
+    match way {
+        Way::Steps => step(rt, machine),
+        Way::Whole => run(rt, machine),
+        Way::Pieces => play(rt, machine),
+    }
+}
+
 /// Steps one by one, and says where each leads.
-pub fn step<M: Machine>(rt: &HostRuntime, machine: &mut M) -> io::Result<()> {
+fn step<M: Machine>(rt: &HostRuntime, machine: &mut M) -> io::Result<()> {
     let mut items = Vec::new(rt.alloc());
     say(rt, "opening", machine, &Page::new())?;
     for _ in 0..MOST {
@@ -28,7 +48,7 @@ pub fn step<M: Machine>(rt: &HostRuntime, machine: &mut M) -> io::Result<()> {
 }
 
 /// Makes all steps at once.
-pub fn run<M: Machine>(rt: &HostRuntime, machine: &mut M) -> io::Result<()> {
+fn run<M: Machine>(rt: &HostRuntime, machine: &mut M) -> io::Result<()> {
     let mut items = Vec::new(rt.alloc());
     let mut left = MOST;
     for _ in 0..MOST {
@@ -46,7 +66,7 @@ pub fn run<M: Machine>(rt: &HostRuntime, machine: &mut M) -> io::Result<()> {
 }
 
 /// Plays two steps at a time to the same page.
-pub fn play<M: Machine>(rt: &HostRuntime, machine: &mut M) -> io::Result<()> {
+fn play<M: Machine>(rt: &HostRuntime, machine: &mut M) -> io::Result<()> {
     let mut page = Page::new();
     for _ in 0..MOST {
         match machine.play(rt.alloc(), &mut page, 2) {
