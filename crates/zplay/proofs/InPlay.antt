@@ -4,6 +4,7 @@ use Rattle.std.specs.Prelude.{pos, ◌==◌, position, slice_get, option_map, un
 use Rattle.std.specs.List.{position_or_len}
 use Rattle.std.proofs.lemmas.Bool.{cond_below, ltb-true, eqb-true}
 use Rattle.std.proofs.lemmas.List.Quantifiers.{position-Some}
+use Rattle.std.proofs.lemmas.List.{length-map}
 use Rattle.std.proofs.lemmas.Option.{slice_get_within, get_or_from_slice_get, slice_get-get_or, slice_get-map}
 use Rattle.zlist.specs.declared.record.Record.{Record}
 use Rattle.zlist.specs.Listing.{ListedCode, addresses_of, index_of, is_listed}
@@ -74,6 +75,10 @@ pub record Turn (a : Acceptance) (index : ℕ) (s : State) (x : Decoded) : Type 
   pub is : x ≡ decoded_of a.listing listed
   pub place : slice_index (addresses_of a.listing.records) index ≡ listed.address
   pub comes : Comes x.action x.address (state_at a.listing index s) (at_place (pos (listed.address + listed.instruction.size)) s) (step (setting_of a) (state_at a.listing index s))
+
+-- the index is one of the decoded instructions
+pub within_records : (a : Acceptance) (records : List Decoded) (index : ℕ) (s : State) → IsInPlay a records index s → index < length records
+within_records a records index s playing = omega (arith, playing.within, ap length playing.decoded, length-map a.listing.records (decoded_of a.listing))
 
 -- bytes make items
 some_items : (bytes : List ℕ) → 0 < length bytes → map Text bytes ≡ [] → ⊥

@@ -1,55 +1,14 @@
 -- A call of `run`, step by step.
-use Rattle.std.proofs.Common.{◌≡◌, ℕ, ◌+◌, ◌-◌, ◌<◌, List, [], Ok, Err, true, false, Option, Some, None, refl, sym, ap, subst, ◌∙◌, arith}
-use Rattle.std.specs.Prelude.{is_some}
+use Rattle.std.proofs.Common.{◌≡◌, ℕ, ◌+◌, ◌-◌, ◌<◌, List, [], Ok, Err, None, refl, sym, ap, subst, ◌∙◌, arith}
 use Rattle.zfault.specs.declared.item.Item.{Item}
 use Rattle.zfault.specs.declared.pause.Pause.{Pause}
 use Rattle.zfault.specs.declared.pause.Pause.TheVariants as pauses
-use Rattle.zfault.specs.declared.pause.Need.{Need}
-use Rattle.zfault.specs.declared.pause.Need.TheVariants as needs
-use Rattle.zstate.specs.declared.halt.Halt.{Halt}
-use Rattle.zstate.specs.declared.halt.Halt.TheVariants as halts
 use Rattle.zstate.specs.declared.halt.Stop.TheVariants.{Paused}
 use Rattle.zstate.specs.State.{State, Setting}
 use Rattle.zstate.specs.Step.{Done, step}
-use Rattle.zstate.specs.Run.{awaited, need_in, run, stop_of, Ends, Makes}
+use Rattle.zstate.specs.Run.{run, stop_of, Ends, Makes}
 use Rattle.zstate.proofs.Calls.{makes_none, makes_more, ends_at_halt, ends_at_budget}
-use Rattle.zplay.specs.Session.{Playing, setting_of, setting, Pauses, PausesBy, Steps}
-
--- ---- needs
-
--- what a pause waits for
-abbrev need_of : Pause → Option Need
-need_of pauses.NeedLine = Some needs.Line
-need_of pauses.NeedRandom = Some needs.Random
-need_of pauses.NeedSave = Some needs.Saved
-need_of pauses.NeedRestore = Some needs.Restore
-need_of pauses.Budget = None
-need_of pauses.Quit = None
-need_of pauses.FrameLimit = None
-
-same_pause : (p q : Pause) → Paused p ≡ Paused q → q ≡ p
-same_pause p q e = cc
-
-need_at : (h : Halt) (s : State) (pause : Pause) → stop_of h s ≡ Paused pause → need_of pause ≡ need_in (Err h)
-need_at (halts.Need needs.Line) s pause e = ap need_of (same_pause pauses.NeedLine pause e)
-need_at (halts.Need needs.Random) s pause e = ap need_of (same_pause pauses.NeedRandom pause e)
-need_at (halts.Need needs.Saved) s pause e = ap need_of (same_pause pauses.NeedSave pause e)
-need_at (halts.Need needs.Restore) s pause e = ap need_of (same_pause pauses.NeedRestore pause e)
-need_at halts.Quit s pause e = ap need_of (same_pause pauses.Quit pause e)
-need_at halts.FrameLimit s pause e = ap need_of (same_pause pauses.FrameLimit pause e)
-need_at (halts.Fault f) s pause e = absurd cc
-
--- what the machine waits for, where nothing was given
-pub needed : (m : Setting) (s : State) (pause : Pause) → Pauses m pause s → is_some s.waiting ≡ false → need_of pause ≡ awaited m s
-needed m s pause p none = rw (none, p.stuck) (need_at p.halt s pause p.why)
-
-pub unneeded : (m : Setting) (s : State) → PausesBy None m s → is_some s.waiting ≡ false → None ≡ awaited m s
-unneeded m s (d, made) none = rw (none, made) refl
-
-pub given_before : (m : Setting) (s : State) → is_some s.waiting ≡ true → None ≡ awaited m s
-given_before m s given = rw given refl
-
--- ---- budgets
+use Rattle.zplay.specs.Session.{Playing, setting_of, setting, Pauses, Steps}
 
 -- so much of a budget is left, and the rest went into steps
 pub record SoFar (budget left : ℕ) (old now : Playing) (before items : List Item) : Type 0 where

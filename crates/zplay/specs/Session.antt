@@ -1,7 +1,10 @@
 -- The session, as contracts see it.
-use Rattle.std.specs.Prelude.{◌≡◌, ℕ, ◌<◌, List, [], ◌++◌, Option, Some, None, Ok, Err, length, map, pos, slice_index}
+use Rattle.std.specs.Prelude.{◌≡◌, ℕ, ◌<◌, List, ◌++◌, Option, Some, None, Ok, Err, length, map, pos, slice_index}
 use Rattle.zfault.specs.declared.item.Item.{Item}
 use Rattle.zfault.specs.declared.pause.Pause.{Pause}
+use Rattle.zfault.specs.declared.pause.Pause.TheVariants as pauses
+use Rattle.zfault.specs.declared.pause.Need.{Need}
+use Rattle.zfault.specs.declared.pause.Need.TheVariants as needs
 use Rattle.zlist.specs.Listing.{ListedCode, addresses_of}
 use Rattle.zdomain.specs.Interval.{interval_operations}
 use Rattle.zstate.specs.declared.halt.Halt.{Halt}
@@ -53,3 +56,13 @@ Steps m (Some pause) old new before items = Pauses m pause old × (new ≡ old) 
 abbrev pub PausesBy : Option Pause → Setting → State → Type 0
 PausesBy None m s = (d : Done) × (step m s ≡ Ok d)
 PausesBy (Some pause) m s = Pauses m pause s
+
+-- what is waited for at a pause
+abbrev pub need_of : Pause → Option Need
+need_of pauses.NeedLine = Some needs.Line
+need_of pauses.NeedRandom = Some needs.Random
+need_of pauses.NeedSave = Some needs.Saved
+need_of pauses.NeedRestore = Some needs.Restore
+need_of pauses.Budget = None
+need_of pauses.Quit = None
+need_of pauses.FrameLimit = None

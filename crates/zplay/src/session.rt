@@ -8,7 +8,7 @@ ghost use Rattle.zstate.specs.Run.{awaited, run, Ends, GivesOut, Makes, Stands};
 ghost use Rattle.zfault.specs.declared.event.Event.{Event as AnEvent};
 ghost use Rattle.zrule.specs.Described.{IsNoFault};
 ghost use Rattle.zplay.specs.Accepted.{IsAccepted};
-ghost use Rattle.zplay.specs.Session.{setting, Steps, PausesBy};
+ghost use Rattle.zplay.specs.Session.{setting, need_of, Steps, PausesBy};
 
 use crate::decoded::{Action, Decoded, decode_listing};
 use crate::giving::give_out;
@@ -84,20 +84,13 @@ impl<'a> Session<'a> {
     }
 
     /// What the instruction at the place waits for, if nothing was given for it yet. No opcode of this build waits.
-    #[tactic(auto, using(crate::proofs::Running::needed))]
     pub fn awaits(&self) -> Option<Need>
         ensures { result ≡ awaited (setting self.now) self.now.state }
     {
         if self.state.is_given() {
             return None;
         }
-        match self.pause()? {
-            Pause::NeedLine => Some(Need::Line),
-            Pause::NeedRandom => Some(Need::Random),
-            Pause::NeedSave => Some(Need::Saved),
-            Pause::NeedRestore => Some(Need::Restore),
-            Pause::Budget | Pause::Quit | Pause::FrameLimit => None,
-        }
+        need_of(self.pause()?)
     }
 
     /// Hands in an event of the kind that is awaited.
@@ -180,6 +173,19 @@ impl<'a> Session<'a> {
             Action::Quit => Some(Pause::Quit),
             _ => None,
         }
+    }
+}
+
+/// What is waited for where the session stands still.
+fn need_of(pause: Pause) -> Option<Need>
+    ensures { result ≡ need_of pause }
+{
+    match pause {
+        Pause::NeedLine => Some(Need::Line),
+        Pause::NeedRandom => Some(Need::Random),
+        Pause::NeedSave => Some(Need::Saved),
+        Pause::NeedRestore => Some(Need::Restore),
+        Pause::Budget | Pause::Quit | Pause::FrameLimit => None,
     }
 }
 

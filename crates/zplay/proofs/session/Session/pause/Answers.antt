@@ -1,7 +1,10 @@
 use Rattle.std.proofs.Common.{refl}
 use Rattle.zstate.specs.declared.halt.Halt.TheVariants.{Quit}
-use Rattle.zplay.proofs.InPlay.{stands, moves}
+use Rattle.zplay.proofs.InPlay.{within_records, stands, moves}
 use Rattle.zplay.proofs.session.Session.pause.Goals as goal
+
+pub index-requires : goal.index-requires
+index-requires c = rw c.self.inside.records.ok.0 (within_records _ _ _ _ c.self.invariant)
 
 pub returns-in-Quit : goal.returns-in-Quit
 returns-in-Quit c =

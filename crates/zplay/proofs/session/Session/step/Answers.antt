@@ -1,7 +1,10 @@
 use Rattle.std.proofs.Common.{refl}
 use Rattle.zstate.specs.declared.halt.Halt.TheVariants.{Quit}
-use Rattle.zplay.proofs.InPlay.{stands, moves, prints, steps, starves, on_err}
+use Rattle.zplay.proofs.InPlay.{within_records, stands, moves, prints, steps, starves, on_err}
 use Rattle.zplay.proofs.session.Session.step.Goals as goal
+
+pub index-decoded-requires : goal.index-decoded-requires
+index-decoded-requires c = rw c.self.inside.records.ok.0 (within_records _ _ _ _ c.self.invariant)
 
 pub returns-in-Quit-clause-ok : goal.returns-in-Quit-clause-ok
 returns-in-Quit-clause-ok c =
