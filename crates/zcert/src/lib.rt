@@ -11,8 +11,6 @@ mod laws;
 mod limits;
 mod parts;
 mod reading;
-#[cfg(test)]
-mod tests;
 mod turns;
 mod writing;
 

@@ -19,6 +19,3 @@ pub use instr::{Branch, Destination, Instr, Operand};
 pub use laws::{one_spelling, reading_is_local, reading_is_spelling};
 pub use opcode::{Excluded, Opcode};
 pub use reading::decode;
-
-#[cfg(test)]
-mod tests;

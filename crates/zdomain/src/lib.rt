@@ -4,8 +4,6 @@
 mod domain;
 mod interval;
 mod interval_domain;
-#[cfg(test)]
-mod tests;
 
 pub use domain::Domain;
 pub use interval::Interval;

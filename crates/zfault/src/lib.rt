@@ -19,6 +19,3 @@ pub use item::{Item, Name, Status};
 pub use line::{LINE_LIMIT, Line};
 pub use pause::{Need, Pause};
 pub use writing::write_whole;
-
-#[cfg(test)]
-mod tests;

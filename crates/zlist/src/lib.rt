@@ -10,6 +10,3 @@ mod record;
 
 pub use listing::Listing;
 pub use record::Record;
-
-#[cfg(test)]
-mod tests;

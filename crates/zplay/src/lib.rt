@@ -4,7 +4,5 @@
 mod decoded;
 mod giving;
 mod session;
-#[cfg(test)]
-mod tests;
 
 pub use session::Session;

@@ -7,8 +7,6 @@ mod machine;
 mod plan;
 mod scope;
 mod step;
-#[cfg(test)]
-mod tests;
 
 pub use machine::CheckedMachine;
 pub use scope::Scope;

@@ -15,6 +15,3 @@ pub use header::{DEFAULTS_LENGTH, GLOBALS_LENGTH, OBJECT_ENTRY_LENGTH};
 pub use identity::Identity;
 pub use load_error::LoadError;
 pub use story::Story;
-
-#[cfg(test)]
-mod tests;

@@ -12,6 +12,3 @@ pub use abbreviations::{TextSpan, plain_abbreviation};
 pub use decode::decode_into;
 pub use error::TextError;
 pub use length::text_length;
-
-#[cfg(test)]
-mod tests;

@@ -1,38 +1,14 @@
-//! Runs of small stories.
+//! Runs of small stories on the fully checked machine.
 
-use crate::machine::CheckedMachine;
-use crate::scope::Scope;
+use crate::samples::{HELLO, OPEN, story_of, text_of};
 use std::alloc::{AllocError, Global};
 use std::test::Fail;
 use zcode::decode;
-use zfault::{Fault, Item, Pause};
+use zfault::{Fault, Pause};
 use zlist::{Listing, Record};
+use zref::{CheckedMachine, Scope};
 use zstate::Stop;
 use zstory::Story;
-
-// Version 3, first instruction at 0x324, dictionary at 0x320, defaults at 0x220, globals at 0x40, static memory and
-// abbreviations from 0x25E on, and no length word.
-const HEADER: [u8; 64] = [
-    3, 0, 0, 1, 0x03, 0x24, 0x03, 0x24, 0x03, 0x20, 0x02, 0x20, 0x00, 0x40, 0x02, 0x5E, 0, 0, b'2',
-    b'6', b'0', b'1', b'0', b'1', 0x02, 0x5E, 0, 0, 0, 0, 0, 0, 0, 0, 0, 0, 0, 0, 0, 0, 0, 0, 0, 0,
-    0, 0, 0, 0, 0, 0, 0, 0, 0, 0, 0, 0, 0, 0, 0, 0, 0, 0, 0, 0,
-];
-
-// prints hello, and quits
-const HELLO: [u8; 6] = [0xB2, 0x35, 0x51, 0xC6, 0x85, 0xBA];
-
-// A story with this code, empty abbreviations, no object and an empty dictionary.
-fn story_of(alloc: Global, code: &[u8]) -> Result<Vec<u8>, AllocError> {
-    let mut file = Vec::new(alloc);
-    file.extend_from_slice(&HEADER)?;
-    file.extend_from_slice(&[0; 0x25E - 0x40])?;
-    for _ in 0..96 {
-        file.extend_from_slice(&[0x01, 0x8F])?;
-    }
-    file.extend_from_slice(&[0x94, 0xA5, 0, 4, 0, 0])?;
-    file.extend_from_slice(code)?;
-    Ok(file)
-}
 
 // What came of runs with these budgets, one after another.
 #[derive(Drop)]
@@ -40,16 +16,6 @@ struct Played {
     stop: Stop,
     text: Vec<u8>,
     place: i32,
-}
-
-fn text_of(alloc: Global, items: &[Item]) -> Result<Vec<u8>, AllocError> {
-    let mut text = Vec::new(alloc);
-    for item in items {
-        if let Item::Text(byte) = item {
-            text.push(*byte)?;
-        }
-    }
-    Ok(text)
 }
 
 fn run_story(
@@ -70,7 +36,7 @@ fn run_story(
 }
 
 fn outcome(alloc: Global, code: &[u8], budgets: &[u32]) -> Result<Played, Fail> {
-    let file = story_of(alloc, code)?;
+    let file = story_of(alloc, OPEN, code)?;
     let story = Story::load(alloc, file.as_slice())?;
     Ok(run_story(alloc, &story, Scope::All, budgets)?)
 }
@@ -134,7 +100,7 @@ fn only(alloc: Global, story: &Story, address: u32) -> Result<Listing, Fail> {
 // nop, new_line, quit, of which the nop is listed.
 #[test]
 fn plays_only_what_is_listed(rt: HostRuntime) -> Result<(), Fail> {
-    let file = story_of(rt.alloc(), &[0xB4, 0xBB, 0xBA])?;
+    let file = story_of(rt.alloc(), OPEN, &[0xB4, 0xBB, 0xBA])?;
     let story = Story::load(rt.alloc(), file.as_slice())?;
     let listing = only(rt.alloc(), &story, 0x324)?;
     let run = run_story(rt.alloc(), &story, Scope::Only(&listing), &[10])?;

@@ -4,8 +4,8 @@ ghost use Rattle.std.specs.Prelude.{◌≡◌, [], ◌∷◌, Err, Some, None, t
 ghost use Rattle.zcode.specs.Reading.{instruction_by};
 ghost use Rattle.zcode.specs.Spelling.{Spells};
 
-use crate::{Branch, DecodeError, Destination, Excluded, Opcode, Operand, Unsupported, decode};
 use std::test::Fail;
+use zcode::{Branch, DecodeError, Destination, Excluded, Opcode, Operand, Unsupported, decode};
 
 /// The definition at instructions that are written out by hand, whether this build plays them or not.
 fn instructions_are_spelled()

@@ -1,7 +1,7 @@
 use Rattle.std.proofs.Common.{[], ◌∷◌, refl, lit<, lit≤}
 use Rattle.zcode.specs.declared.types.OperandType.TheVariants.{Large, Small, Variable}
 use Rattle.zcode.specs.Spelling.{Long, ShortOne, VariableTwo}
-use Rattle.zcode.proofs.tests.instructions_are_spelled.Goals as goal
+use Rattle.ztests.proofs.codes.instructions_are_spelled.Goals as goal
 
 pub returns : goal.returns
 returns c = record {

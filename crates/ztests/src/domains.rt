@@ -1,8 +1,7 @@
-//! Worked examples.
+//! Worked examples of sets of words.
 
-use crate::domain::Domain;
-use crate::interval::Interval;
 use std::test::Fail;
+use zdomain::{Domain, Interval};
 
 #[test]
 fn ends_are_kept_in_order(rt: HostRuntime) -> Result<(), Fail> {

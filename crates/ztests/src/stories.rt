@@ -1,27 +1,13 @@
 //! Two small stories byte for byte, and files that are refused.
 
-use crate::{Identity, LoadError, Story};
+use crate::samples::{HELLO, OPEN, push_abbreviations, story_of};
 use std::alloc::{AllocError, Global};
-use std::process::Abort;
 use std::test::Fail;
-
-/// Appends one word of the abbreviations table for each of its 96 places.
-fn push_abbreviations(file: &mut Vec<u8>, word: [u8; 2]) -> Result<(), AllocError> {
-    for _ in 0..96 {
-        file.extend_from_slice(&word)?;
-    }
-    Ok(())
-}
+use zstory::{Identity, LoadError, Story};
 
 /// A story of 810 bytes without objects and words, which prints `hello` and quits.
 fn first_sample(alloc: Global) -> Result<Vec<u8>, AllocError> {
-    let mut file = Vec::new(alloc);
-    file.extend_from_slice(b"\x03\x00\x00\x01\x03\x24\x03\x24\x03\x20\x02\x20\x00\x40\x02\x5e")?;
-    file.extend_from_slice(b"\x00\x00260101\x02\x5e\x01\x95\x3a\x7a\x00\x00")?;
-    file.resize(0x25e, 0)?;
-    push_abbreviations(&mut file, [0x01, 0x8f])?;
-    file.extend_from_slice(b"\x94\xa5\x00\x04\x00\x00\xb2\x35\x51\xc6\x85\xba")?;
-    Ok(file)
+    story_of(alloc, [0x01, 0x95, 0x3a, 0x7a], &HELLO)
 }
 
 /// A story of 882 bytes with two objects and two words, which quits.
@@ -115,12 +101,7 @@ fn bytes_behind_the_stated_length_are_dropped(rt: HostRuntime) -> Result<(), Fai
 
 #[test]
 fn a_header_may_leave_length_and_checksum_open(rt: HostRuntime) -> Result<(), Fail> {
-    let mut file = first_sample(rt.alloc())?;
-    for place in 0x1a..0x1e {
-        if let Some(byte) = file.get_mut(place) {
-            *byte = 0;
-        }
-    }
+    let file = story_of(rt.alloc(), OPEN, &HELLO)?;
     let story = Story::load(rt.alloc(), &file)?;
     assert_eq!(rt; story.length(), 810);
     assert_eq!(rt; story.identity().checksum, 0);

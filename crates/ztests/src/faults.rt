@@ -2,13 +2,13 @@
 
 ghost use Rattle.std.specs.Prelude.{Some};
 
-use crate::{
-    Event, Failed, Fault, FromRead, Item, LINE_LIMIT, Line, Name, Need, Pause, Sink, Source,
-    Status, ToWrite, write_whole,
-};
 use std::alloc::Global;
 use std::io::{self, ErrorKind, Read, Write};
 use std::test::Fail;
+use zfault::{
+    Event, Failed, Fault, FromRead, Item, LINE_LIMIT, Line, Name, Need, Pause, Sink, Source,
+    Status, ToWrite, write_whole,
+};
 
 #[test]
 fn faults_have_their_numbers(rt: HostRuntime) -> Result<(), Fail> {

@@ -1,7 +1,7 @@
 //! Worked texts. What they print is worked out by hand from the tables of Z 3.5.3.
 
-use crate::{TextError, TextSpan, decode_into, plain_abbreviation, text_length};
 use std::test::Fail;
+use ztext::{TextError, TextSpan, decode_into, plain_abbreviation, text_length};
 
 #[test]
 fn texts(rt: HostRuntime) -> Result<(), Fail> {

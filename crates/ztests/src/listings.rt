@@ -1,8 +1,8 @@
-//! Worked examples: two instructions and one routine.
+//! Worked examples of listings: two instructions and one routine.
 
-use crate::{Listing, Record};
 use std::test::Fail;
 use zcode::{Instr, decode};
+use zlist::{Listing, Record};
 
 /// `new_line`, which is one byte.
 fn new_line() -> Result<Instr, Fail> {

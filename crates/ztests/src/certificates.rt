@@ -1,12 +1,9 @@
 //! A worked example: a certificate of a story with two listed instructions.
 
-use crate::builder::CertBuilder;
-use crate::error::CertError;
-use crate::field::Field;
-use crate::reading::read;
-use crate::writing::write;
+use crate::samples::certificate_of;
 use std::alloc::{AllocError, Global};
 use std::test::Fail;
+use zcert::{CertBuilder, CertError, Field, read, write};
 use zdomain::Interval;
 
 static HEAD: [u8; 21] = [
@@ -24,10 +21,7 @@ static TAIL: [u8; 20] = [
 
 // The sample certificate: 1,001 bytes. Each global is 0.
 fn sample_certificate(alloc: Global) -> Result<Vec<u8>, AllocError> {
-    let mut bytes = Vec::from_slice(alloc, &HEAD)?;
-    bytes.extend_from_slice(&[0; 960])?;
-    bytes.extend_from_slice(&TAIL)?;
-    Ok(bytes)
+    certificate_of(alloc, &HEAD, &TAIL)
 }
 
 #[test]

@@ -1,20 +1,13 @@
 //! A small story, accepted and played.
 
-use crate::session::Session;
+use crate::samples::{OPEN, certificate_of, story_of, text_of};
 use std::alloc::{AllocError, Global};
 use std::test::Fail;
 use zcert::{Certificate, read};
 use zcheck::{Accepted, check};
-use zfault::{Item, Need, Pause};
+use zfault::{Need, Pause};
+use zplay::Session;
 use zstory::Story;
-
-// Version 3, first instruction at 0x324, dictionary at 0x320, defaults at 0x220, globals at 0x40, static memory and
-// abbreviations from 0x25E on, and no length word.
-const HEADER: [u8; 64] = [
-    3, 0, 0, 1, 0x03, 0x24, 0x03, 0x24, 0x03, 0x20, 0x02, 0x20, 0x00, 0x40, 0x02, 0x5E, 0, 0, b'2',
-    b'6', b'0', b'1', b'0', b'1', 0x02, 0x5E, 0, 0, 0, 0, 0, 0, 0, 0, 0, 0, 0, 0, 0, 0, 0, 0, 0, 0,
-    0, 0, 0, 0, 0, 0, 0, 0, 0, 0, 0, 0, 0, 0, 0, 0, 0, 0, 0, 0,
-];
 
 // prints hello and a new line, does nothing, and quits
 const CODE: [u8; 8] = [0xB2, 0x35, 0x51, 0xC6, 0x85, 0xBB, 0xB4, 0xBA];
@@ -34,39 +27,15 @@ const TAIL: [u8; 34] = [
     0x00, 0x00, 0x03, 0x2B, 0x00, 0x00, 0x00,
 ];
 
-// The story, with empty abbreviations, no object and an empty dictionary.
-fn story_file(alloc: Global) -> Result<Vec<u8>, AllocError> {
-    let mut file = Vec::from_slice(alloc, &HEADER)?;
-    file.extend_from_slice(&[0; 0x25E - 0x40])?;
-    for _ in 0..96 {
-        file.extend_from_slice(&[0x01, 0x8F])?;
-    }
-    file.extend_from_slice(&[0x94, 0xA5, 0, 4, 0, 0])?;
-    file.extend_from_slice(&CODE)?;
-    Ok(file)
-}
-
 fn certificate(alloc: Global) -> Result<Certificate, Fail> {
-    let mut bytes = Vec::from_slice(alloc, &HEAD)?;
-    bytes.extend_from_slice(&[0; 960])?;
-    bytes.extend_from_slice(&TAIL)?;
+    let bytes = certificate_of(alloc, &HEAD, &TAIL)?;
     Ok(read(alloc, bytes.as_slice())?)
 }
 
 fn accepted(alloc: Global) -> Result<Accepted, Fail> {
-    let file = story_file(alloc)?;
+    let file = story_of(alloc, OPEN, &CODE)?;
     let story = Story::load(alloc, file.as_slice())?;
     Ok(check(alloc, story, certificate(alloc)?)?)
-}
-
-fn text_of(alloc: Global, items: &[Item]) -> Result<Vec<u8>, AllocError> {
-    let mut text = Vec::new(alloc);
-    for item in items {
-        if let Item::Text(byte) = item {
-            text.push(*byte)?;
-        }
-    }
-    Ok(text)
 }
 
 // What came of runs with these budgets, one after another.

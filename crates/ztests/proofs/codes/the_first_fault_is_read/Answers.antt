@@ -1,6 +1,6 @@
 use Rattle.std.proofs.Common.{refl}
 use Rattle.zcode.specs.Reading.{branch_if, checked_head, head_at, instruction_by, operand_at, operands_at, played_opcode, short_head, store_if, text_if, variable_head}
-use Rattle.zcode.proofs.tests.the_first_fault_is_read.Goals as goal
+use Rattle.ztests.proofs.codes.the_first_fault_is_read.Goals as goal
 
 pub returns : goal.returns
 unfolding instruction_by head_at short_head variable_head played_opcode checked_head operands_at operand_at store_if branch_if text_if

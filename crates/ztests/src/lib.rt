@@ -1,0 +1,23 @@
+//! The tests of the libraries' public calls. A crate that holds tests is proved once more with them, so they stand here.
+#![tactic(auto)]
+
+#[cfg(test)]
+mod certificates;
+#[cfg(test)]
+mod codes;
+#[cfg(test)]
+mod domains;
+#[cfg(test)]
+mod faults;
+#[cfg(test)]
+mod listings;
+#[cfg(test)]
+mod references;
+#[cfg(test)]
+mod samples;
+#[cfg(test)]
+mod sessions;
+#[cfg(test)]
+mod stories;
+#[cfg(test)]
+mod texts;
