@@ -1,5 +1,5 @@
 -- Values of the definitions, computed.
-use Rattle.std.proofs.Common.{◌≡◌, inl, ℕ, List, length, ap, [], ◌∷◌, ◌++◌, Bool, true, false, pos, codes, decimal, refl, arith}
+use Rattle.std.proofs.Common.{◌≡◌, inl, ℕ, List, length, ap, [], ◌∷◌, ◌++◌, true, false, pos, codes, decimal, refl, arith}
 use Rattle.clap.specs.declared.error.kind.ErrorKind.TheVariants.{DisplayHelp, DisplayVersion, UnknownArgument}
 use Rattle.zfault.specs.declared.fault.Fault.TheVariants as faults
 use Rattle.zstory.specs.declared.load_error.LoadError.TheVariants as loads
@@ -12,7 +12,7 @@ use Rattle.zplayer.specs.declared.end.PlayError.TheVariants as errors
 use Rattle.zperform.specs.declared.outcome.Failure.TheVariants.{Read, Write, Memory}
 use Rattle.zperform.specs.declared.outcome.Problem.TheVariants.{Refused, Unreadable, BreaksStory, BreaksInstruction, Failed}
 use Rattle.zperform.specs.declared.outcome.Outcome.TheVariants.{Accepted, Played, Stopped}
-use Rattle.std.specs.Prelude.{IsSomeAnd, Option, None, Some}
+use Rattle.std.specs.Prelude.{Option, Some}
 use Rattle.zperform.specs.Contents.{GivesPart, IsBeginning}
 use Rattle.zperform.specs.Accepting.{CheckComesTo, PlayComesTo}
 use Rattle.zperform.specs.Performing.{Breaks, Seen, Says, Takes, is_request}
