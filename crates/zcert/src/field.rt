@@ -1,7 +1,11 @@
 //! The fields of a certificate, and which of them comes next.
 
+ghost use Rattle.std.specs.Prelude.{◌≡◌, ⊤};
+
+use std::alloc::AllocError;
+
 /// A field, in the order of the file. Magic and version stand before the first.
-#[derive(Clone, Copy, Debug, PartialEq, Eq)]
+#[derive(Copy, Debug, PartialEq, Eq)]
 pub enum Field<V> {
     /// The release number of the story.
     Release(u16),
@@ -37,6 +41,17 @@ pub enum Field<V> {
     Height(u8),
     /// The values of a local, or, after the locals, of a slot, the bottom first.
     Value(V),
+}
+
+// By hand, since a derived one goes through all kinds of fields.
+impl<V: Copy> Clone for Field<V> {
+    ghost is_clone = { λ field copy. copy ≡ field };
+
+    ghost is_infallible = { λ _. ⊤ };
+
+    fn clone(&self) -> Result<Field<V>, AllocError> {
+        Ok(*self)
+    }
 }
 
 /// What is said of an instruction before its values.
