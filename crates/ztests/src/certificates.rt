@@ -1,6 +1,5 @@
 //! A worked example: a certificate of a story with two listed instructions.
 
-use crate::samples::certificate_of;
 use std::alloc::{AllocError, Global};
 use std::test::Fail;
 use zcert::{CertBuilder, CertError, Field, read, write};
@@ -21,7 +20,10 @@ static TAIL: [u8; 20] = [
 
 // The sample certificate: 1,001 bytes. Each global is 0.
 fn sample_certificate(alloc: Global) -> Result<Vec<u8>, AllocError> {
-    certificate_of(alloc, &HEAD, &TAIL)
+    let mut bytes = Vec::from_slice(alloc, &HEAD)?;
+    bytes.extend_from_slice(&[0; 960])?;
+    bytes.extend_from_slice(&TAIL)?;
+    Ok(bytes)
 }
 
 #[test]
@@ -39,25 +41,6 @@ fn the_sample_is_read_and_written_back(rt: HostRuntime) -> Result<(), Fail> {
     assert!(rt; certificate.routines().is_empty());
     let written = write(rt.alloc(), &certificate)?;
     assert_eq!(rt; written.as_slice(), bytes.as_slice());
-    Ok(())
-}
-
-#[test]
-fn instructions_are_found_by_address(rt: HostRuntime) -> Result<(), Fail> {
-    let bytes = sample_certificate(rt.alloc())?;
-    let certificate = read(rt.alloc(), bytes.as_slice())?;
-    assert_eq!(rt; certificate.instruction_count(), 2);
-    for (address, is_there) in [(0x323, false), (0x324, true), (0x329, true), (0x32A, false)] {
-        assert_eq!(rt;
-            certificate.instruction_at(address).is_some(),
-            is_there,
-            "at {address}"
-        );
-    }
-    let first = certificate.instruction_at(0x324).ok_or("it is listed")?;
-    assert_eq!(rt; first.routine, 0);
-    assert!(rt; first.locals.is_empty());
-    assert!(rt; first.slots.is_empty());
     Ok(())
 }
 

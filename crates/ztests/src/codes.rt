@@ -5,7 +5,7 @@ ghost use Rattle.zcode.specs.Reading.{instruction_by};
 ghost use Rattle.zcode.specs.Spelling.{Spells};
 
 use std::test::Fail;
-use zcode::{Branch, DecodeError, Destination, Excluded, Opcode, Operand, Unsupported, decode};
+use zcode::{Branch, DecodeError, Excluded, Opcode, Operand, Unsupported, decode};
 
 /// The definition at instructions that are written out by hand, whether this build plays them or not.
 fn instructions_are_spelled()
@@ -54,31 +54,6 @@ fn once_on(opcode: Opcode, answer: DecodeError) -> DecodeError {
     } else {
         DecodeError::NotInProfile(Unsupported::Unplayed(opcode))
     }
-}
-
-#[test]
-fn faults_are_named(rt: HostRuntime) {
-    let set_window = Unsupported::Excluded(Excluded::SetWindow);
-    assert_eq!(rt; set_window.name(), "set_window");
-    assert_eq!(rt; Unsupported::Unplayed(Opcode::Call).name(), "call");
-    let none: [u8; 0] = [];
-    assert_eq!(rt; decode(&none, 0), Err(DecodeError::Truncated));
-    assert_eq!(rt; decode(&[0xb4], 2), Err(DecodeError::Truncated));
-    assert_eq!(rt; decode(&[0xbe], 0), Err(DecodeError::NoSuchOpcode));
-    assert_eq!(rt;
-        decode(&[0xeb, 0x7f, 0x00], 0),
-        Err(DecodeError::NotInProfile(set_window))
-    );
-    assert_eq!(rt;
-        decode(&[0xe0], 0),
-        Err(once_on(Opcode::Call, DecodeError::Truncated))
-    );
-    assert_eq!(rt;
-        decode(&[0xe9, 0xff], 0),
-        Err(once_on(Opcode::Pull, DecodeError::Operands))
-    );
-    assert_eq!(rt; decode(&[0xb2], 0), Err(DecodeError::Text));
-    assert_eq!(rt; decode(&[0xb2, 0x35, 0x51], 0), Err(DecodeError::Text));
 }
 
 /// The bytes of an instruction and what they say.
@@ -161,40 +136,6 @@ fn examples_are_read(rt: HostRuntime) {
                 assert_eq!(rt; error, refused);
             }
         }
-    }
-}
-
-/// Whatever the bytes, an instruction is no longer than they are.
-fn is_within(bytes: &[u8]) -> bool {
-    match decode(bytes, 0) {
-        Ok(instr) => 0 < instr.length() && instr.length() <= bytes.len(),
-        Err(_) => true,
-    }
-}
-
-#[test]
-fn every_byte_and_pair_is_answered(rt: HostRuntime) {
-    for first in 0..=255u8 {
-        assert!(rt; is_within(&[first]), "at {first}");
-        for second in 0..=255u8 {
-            assert!(rt; is_within(&[first, second]), "at {first}, {second}");
-        }
-    }
-}
-
-#[test]
-fn branches_lead(rt: HostRuntime) {
-    for (offset, want) in [
-        (0, Destination::ReturnFalse),
-        (1, Destination::ReturnTrue),
-        (20, Destination::Relative(18)),
-        (-2, Destination::Relative(-4)),
-    ] {
-        let branch = Branch {
-            sense: true,
-            offset,
-        };
-        assert_eq!(rt; branch.destination(), want, "at {offset}");
     }
 }
 

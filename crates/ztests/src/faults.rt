@@ -1,77 +1,17 @@
-//! Numbers, kept bytes, and devices that fail.
+//! A message, names, and devices that fail.
 
 ghost use Rattle.std.specs.Prelude.{Some};
 
 use std::alloc::Global;
 use std::io::{self, ErrorKind, Read, Write};
 use std::test::Fail;
-use zfault::{
-    Event, Failed, Fault, FromRead, Item, LINE_LIMIT, Line, Name, Need, Pause, Sink, Source,
-    Status, ToWrite, write_whole,
-};
+use zfault::{Failed, Fault, FromRead, Name, Sink, Source, ToWrite, write_whole};
 
 #[test]
-fn faults_have_their_numbers(rt: HostRuntime) -> Result<(), Fail> {
-    let faults = [
-        Fault::UnlistedInstruction,
-        Fault::IllegalOpcode,
-        Fault::UnlistedCall,
-        Fault::StackUnderflow,
-        Fault::AbsentLocal,
-        Fault::AbsentObject,
-        Fault::AbsentAttribute,
-        Fault::AbsentProperty,
-        Fault::PropertyTooLong,
-        Fault::ZeroDivisor,
-        Fault::WriteOutside,
-        Fault::ReadOutside,
-        Fault::TextOutside,
-        Fault::SmallBuffer,
-        Fault::ReturnFromMain,
-        Fault::BadVariable,
-    ];
-    for (index, fault) in faults.iter().enumerate() {
-        assert_eq!(rt; usize::from(fault.number()), index + 1);
-    }
+fn faults_are_told(rt: HostRuntime) -> Result<(), Fail> {
     let message = format!(in rt.alloc(); "{}", Fault::StackUnderflow)?;
     assert_eq!(rt; message.as_str(), "the stack is empty");
     Ok(())
-}
-
-#[test]
-fn events_answer_needs(rt: HostRuntime) {
-    let needs = [Need::Line, Need::Random, Need::Saved, Need::Restore];
-    let pauses = [
-        Pause::NeedLine,
-        Pause::NeedRandom,
-        Pause::NeedSave,
-        Pause::NeedRestore,
-    ];
-    let events = [
-        Event::Line(Line::new(b"look")),
-        Event::Random(6),
-        Event::Saved(false),
-        Event::NotRestored,
-    ];
-    for (index, need) in needs.iter().enumerate() {
-        assert_eq!(rt; Pause::from(*need), pauses[index]);
-        for (other, event) in events.iter().enumerate() {
-            assert_eq!(rt; event.answers(*need), index == other, "{need:?}, {event:?}");
-        }
-    }
-}
-
-#[test]
-fn keeps_254_bytes_of_a_line(rt: HostRuntime) {
-    let mut typed = [b'x'; 255];
-    typed[253] = b'y';
-    for (length, kept) in [(0, 0), (1, 1), (254, 254), (255, 254)] {
-        let line = Line::new(&typed[..length]);
-        assert_eq!(rt; line.as_slice(), &typed[..kept]);
-    }
-    assert_eq!(rt; LINE_LIMIT, 254);
-    assert_eq!(rt; Line::new(&typed), Line::new(&typed[..254]));
-    assert_ne!(rt; Line::new(b"a"), Line::new(b"a\0"));
 }
 
 #[test]
@@ -82,27 +22,6 @@ fn names_are_kept_whole(rt: HostRuntime) -> Result<(), Fail> {
         assert_eq!(rt; name.as_slice(), text);
     }
     Ok(())
-}
-
-#[test]
-fn items_compare_by_value(rt: HostRuntime) -> Result<(), Fail> {
-    let mut items = Vec::new(rt.alloc());
-    items.push(Item::Text(b'a'))?;
-    items.push(status(rt.alloc(), -1)?)?;
-    let same = status(rt.alloc(), -1)?;
-    let other = status(rt.alloc(), 1)?;
-    assert_eq!(rt; items.get(1), Some(&same));
-    assert_ne!(rt; items.get(1), Some(&other));
-    Ok(())
-}
-
-fn status(alloc: Global, first: i16) -> Result<Item, Fail> {
-    Ok(Item::Status(Status {
-        name: Name::from_slice(alloc, b"Forest")?,
-        first,
-        second: 7,
-        time: false,
-    }))
 }
 
 #[test]

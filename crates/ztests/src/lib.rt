@@ -6,17 +6,9 @@ mod certificates;
 #[cfg(test)]
 mod codes;
 #[cfg(test)]
-mod domains;
-#[cfg(test)]
 mod faults;
 #[cfg(test)]
 mod listings;
-#[cfg(test)]
-mod references;
-#[cfg(test)]
-mod samples;
-#[cfg(test)]
-mod sessions;
 #[cfg(test)]
 mod stories;
 #[cfg(test)]

@@ -1,13 +1,26 @@
 //! Two small stories byte for byte, and files that are refused.
 
-use crate::samples::{HELLO, OPEN, push_abbreviations, story_of};
 use std::alloc::{AllocError, Global};
 use std::test::Fail;
 use zstory::{Identity, LoadError, Story};
 
+/// Appends one word of the abbreviations table for each of its 96 places.
+fn push_abbreviations(file: &mut Vec<u8>, word: [u8; 2]) -> Result<(), AllocError> {
+    for _ in 0..96 {
+        file.extend_from_slice(&word)?;
+    }
+    Ok(())
+}
+
 /// A story of 810 bytes without objects and words, which prints `hello` and quits.
 fn first_sample(alloc: Global) -> Result<Vec<u8>, AllocError> {
-    story_of(alloc, [0x01, 0x95, 0x3a, 0x7a], &HELLO)
+    let mut file = Vec::new(alloc);
+    file.extend_from_slice(b"\x03\x00\x00\x01\x03\x24\x03\x24\x03\x20\x02\x20\x00\x40\x02\x5e")?;
+    file.extend_from_slice(b"\x00\x00260101\x02\x5e\x01\x95\x3a\x7a\x00\x00")?;
+    file.resize(0x25e, 0)?;
+    push_abbreviations(&mut file, [0x01, 0x8f])?;
+    file.extend_from_slice(b"\x94\xa5\x00\x04\x00\x00\xb2\x35\x51\xc6\x85\xba")?;
+    Ok(file)
 }
 
 /// A story of 882 bytes with two objects and two words, which quits.
@@ -92,33 +105,6 @@ fn second_sample_has_two_objects(rt: HostRuntime) -> Result<(), Fail> {
 }
 
 #[test]
-fn flags_of_the_interpreter_are_cleared(rt: HostRuntime) -> Result<(), Fail> {
-    let story = Story::load(rt.alloc(), &changed(rt.alloc(), 0x01, 0xff)?)?;
-    assert_eq!(rt; story.memory().get(0x01).copied(), Some(0x8f));
-    assert!(rt; story.is_time_game());
-    Ok(())
-}
-
-#[test]
-fn bytes_behind_the_stated_length_are_dropped(rt: HostRuntime) -> Result<(), Fail> {
-    let mut file = first_sample(rt.alloc())?;
-    file.push(0x55)?;
-    let story = Story::load(rt.alloc(), &file)?;
-    assert_eq!(rt; story.memory(), first_sample(rt.alloc())?.as_slice());
-    Ok(())
-}
-
-#[test]
-fn a_header_may_leave_length_and_checksum_open(rt: HostRuntime) -> Result<(), Fail> {
-    let file = story_of(rt.alloc(), OPEN, &HELLO)?;
-    let story = Story::load(rt.alloc(), &file)?;
-    assert_eq!(rt; story.length(), 810);
-    assert_eq!(rt; story.identity().checksum, 0);
-    assert_eq!(rt; story.save_checksum(), 14_970);
-    Ok(())
-}
-
-#[test]
 fn wrong_bytes_are_refused(rt: HostRuntime) -> Result<(), Fail> {
     let cases = [
         (0x00, 0x05, LoadError::NotVersion3),
@@ -152,31 +138,4 @@ fn falling_words_are_refused(rt: HostRuntime) -> Result<(), Fail> {
         Some(LoadError::DictionaryOrder)
     );
     Ok(())
-}
-
-#[test]
-fn wrong_lengths_are_refused(rt: HostRuntime) -> Result<(), Fail> {
-    let file = first_sample(rt.alloc())?;
-    for length in 0..file.len() {
-        let refusal = if length < 64 {
-            LoadError::TooShort
-        } else {
-            LoadError::LengthWord
-        };
-        assert_eq!(rt;
-            refusal_of(rt.alloc(), &file[..length]),
-            Some(refusal),
-            "at {length}"
-        );
-    }
-    let mut long = first_sample(rt.alloc())?;
-    long.resize(131_073, 0)?;
-    assert_eq!(rt; refusal_of(rt.alloc(), &long), Some(LoadError::TooLong));
-    Ok(())
-}
-
-#[test]
-fn refusals_are_numbered(rt: HostRuntime) {
-    assert_eq!(rt; LoadError::TooShort.number(), 1);
-    assert_eq!(rt; LoadError::OutOfMemory.number(), 12);
 }
