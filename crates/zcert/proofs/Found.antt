@@ -295,42 +295,6 @@ module _ {V : Type 0} (format : Format V) (law : IsFormat format) where
   end_is c d [] e = (ok_is c d e, refl)
   end_is c d (b ∷ bytes) e = absurd cc
 
-  -- Parts that were taken one after another, with nothing behind them, spell what they make. The parts are variables here: with
-  -- the steps that read them in their place, the same takes far longer to prove.
-  all_parts : (identity : Identity) (ranges : List Range) (globals : List V) (routines : List (Routine V)) (instructions : List (Instruction V)) (bytes b1 b2 b3 b4 b5 rest : List ℕ) (c : Certificate V)
-      → Takes bytes (heading format) b1
-      → Takes b1 (identity_bytes identity) b2 × IsIdentity identity
-      → Takes b2 (counted numbers.RangeCount range_bytes ranges) b3 × (length ranges ≤ MAX_RANGES) × AllByRecursion IsRange ranges × AreApart 0 ranges
-      → TakesValues GLOBALS b3 globals b4
-      → Takes b4 (counted numbers.RoutineCount (routine_bytes format) routines) b5 × (length routines ≤ MAX_ROUTINES) × AllByRecursion (IsRoutine format) routines × Rise (λ (r : Routine V). r.address) 0 routines
-      → Takes b5 (counted numbers.InstructionCount (instruction_bytes format) instructions) rest × (length instructions ≤ MAX_INSTRUCTIONS) × AllByRecursion (IsInstruction format routines) instructions × Rise (λ (i : Instruction V). i.address) 0 instructions
-      → at_end format (record { identity = identity; ranges = ranges; globals = globals; routines = routines; instructions = instructions }) rest ≡ Ok c → (bytes ≡ spelling format c) × HasSpelling format c
-  all_parts identity ranges globals routines instructions bytes b1 b2 b3 b4 b5 rest c tv ti tr tg ts tn e =
-      let made : Certificate V = record { identity = identity; ranges = ranges; globals = globals; routines = routines; instructions = instructions } in
-      let done = end_is made c rest e in
-      let vi = Takes-then bytes _ b1 _ b2 tv ti.0 in
-      let vir = Takes-then bytes _ b2 _ b3 vi tr.0 in
-      let virg = Takes-then bytes _ b3 _ b4 vir tg.takes in
-      let virgs = Takes-then bytes _ b4 _ b5 virg ts.0 in
-      let all = Takes-then bytes _ b5 _ rest virgs tn.0 in
-      subst (λ (d : Certificate V). (bytes ≡ spelling format d) × HasSpelling format d) {x = made} done.0 (
-        all_taken bytes (spelling format made) rest all done.1,
-        record {
-          identity = ti.1;
-          few_ranges = tr.1;
-          ranges = tr.2;
-          ranges_apart = tr.3;
-          globals = tg.count;
-          global_values = tg.each;
-          few_routines = ts.1;
-          routines = ts.2;
-          routines_rise = ts.3;
-          few_instructions = tn.1;
-          instructions = tn.2;
-          instructions_rise = tn.3;
-        },
-      )
-
   -- what is read is spelled by all of the bytes, and has a spelling
   pub found : (bytes : List ℕ) (c : Certificate V) → IsBytes bytes → reading format bytes ≡ Ok c → (bytes ≡ spelling format c) × HasSpelling format c
   unfolding reading
@@ -347,4 +311,28 @@ module _ {V : Type 0} (format : Format V) (law : IsFormat format) where
       let tg = values_take GLOBALS r.0.1 g.0 tr.0.rest_fits g.1 in
       let ts = all_routines_take g.0.1 s.0 tg.takes.rest_fits s.1 in
       let tn = all_instructions_take s.0.0 s.0.1 n.0 ts.0.rest_fits n.1 in
-      all_parts i.0.0 r.0.0 g.0.0 s.0.0 n.0.0 bytes v.0 i.0.1 r.0.1 g.0.1 s.0.1 n.0.1 c tv ti tr tg ts tn n.2
+      let made : Certificate V = record { identity = i.0.0; ranges = r.0.0; globals = g.0.0; routines = s.0.0; instructions = n.0.0 } in
+      let done = end_is made c n.0.1 n.2 in
+      let vi = Takes-then bytes _ v.0 _ i.0.1 tv ti.0 in
+      let vir = Takes-then bytes _ i.0.1 _ r.0.1 vi tr.0 in
+      let virg = Takes-then bytes _ r.0.1 _ g.0.1 vir tg.takes in
+      let virgs = Takes-then bytes _ g.0.1 _ s.0.1 virg ts.0 in
+      let all = Takes-then bytes _ s.0.1 _ n.0.1 virgs tn.0 in
+      let whole : bytes ≡ spelling format made = all_taken bytes (spelling format made) n.0.1 all done.1 in
+      subst (λ (d : Certificate V). (bytes ≡ spelling format d) × HasSpelling format d) {x = made} done.0 (
+        whole,
+        record {
+          identity = ti.1;
+          few_ranges = tr.1;
+          ranges = tr.2;
+          ranges_apart = tr.3;
+          globals = tg.count;
+          global_values = tg.each;
+          few_routines = ts.1;
+          routines = ts.2;
+          routines_rise = ts.3;
+          few_instructions = tn.1;
+          instructions = tn.2;
+          instructions_rise = tn.3;
+        },
+      )
