@@ -4,11 +4,13 @@
 mod abbreviations;
 mod characters;
 mod decode;
+mod ends;
 mod error;
 mod length;
 mod pieces;
 
 pub use abbreviations::{TextSpan, plain_abbreviation};
 pub use decode::decode_into;
+pub use ends::TextEnds;
 pub use error::TextError;
 pub use length::text_length;
