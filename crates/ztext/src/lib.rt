@@ -6,6 +6,7 @@ mod characters;
 mod decode;
 mod ends;
 mod error;
+mod laws;
 mod length;
 mod pieces;
 
@@ -13,4 +14,5 @@ pub use abbreviations::{TextSpan, plain_abbreviation};
 pub use decode::decode_into;
 pub use ends::TextEnds;
 pub use error::TextError;
+pub use laws::text_is_at_front;
 pub use length::text_length;
