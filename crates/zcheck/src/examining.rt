@@ -18,10 +18,10 @@ pub fn examine(story: &Story, certificate: &Certificate) -> Option<Refusal>
     if let Some(rule) = broken_story_rule(story, certificate) {
         return Some(Refusal::Story(rule));
     }
+    let mut ends = TextEnds::new(story.memory());
     for index in 0..certificate.instruction_count() {
-        let listed = certificate.instruction(index);
-        if let Some(rule) = broken_rule(story, certificate, &listed) {
-            return Some(Refusal::Instruction(listed.address, rule));
+        if let Err(refusal) = judged_record(story, certificate, index, &mut ends) {
+            return Some(refusal);
         }
     }
     None
