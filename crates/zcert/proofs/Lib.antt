@@ -12,3 +12,4 @@ pub mod Makes
 pub mod Rising
 pub mod Lookup
 pub mod ReadLoop
+pub mod Longest

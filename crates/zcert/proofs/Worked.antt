@@ -11,6 +11,7 @@ use Rattle.zcert.specs.declared.field.Turn.TheVariants as turns
 use Rattle.zcert.specs.declared.parts.Range.{Range}
 use Rattle.zcert.specs.declared.parts.Routine.{Routine}
 use Rattle.zcert.specs.declared.contents.Stored.{Stored}
+use Rattle.zcert.specs.declared.limits.TheConstants.{MAGIC, VERSION, GLOBALS, ADDRESS_LIMIT, MAX_LOCALS, MAX_INSTRUCTIONS, MAX_RANGES, MAX_ROUTINES, MAX_HEIGHT, LARGEST}
 use Rattle.zcert.specs.Numbers.{width, number, HasRoom}
 use Rattle.zcert.specs.Numbers as numbers
 use Rattle.zcert.specs.Certificate.{Instruction, locals_of}
@@ -23,6 +24,12 @@ use Rattle.zcert.specs.Fields.{field_bytes, IsField, field_at, next_at, IsReache
 use Rattle.zcert.specs.Contents.{values_of, stored_instruction, LiesIn}
 use Rattle.zcert.specs.Listed.{listed_at, Finds}
 use Rattle.zcert.specs.Refusal.{number_of}
+
+-- ---- limits
+
+-- as long as a certificate can be: 27 bytes, the globals, and 67 bytes for each instruction
+limits : (MAGIC ≡ 0x5A504343) × (VERSION ≡ 1) × (GLOBALS ≡ 240) × (ADDRESS_LIMIT ≡ 131072) × (MAX_LOCALS ≡ 15) × (MAX_INSTRUCTIONS ≡ 131072) × (MAX_RANGES ≡ 0) × (MAX_ROUTINES ≡ 0) × (MAX_HEIGHT ≡ 0) × (LARGEST ≡ 8782811)
+limits = (refl, refl, refl, refl, refl, refl, refl, refl, refl, refl)
 
 -- ---- numbers
 
