@@ -13,3 +13,4 @@ pub mod Rising
 pub mod Lookup
 pub mod ReadLoop
 pub mod Longest
+pub mod Room

@@ -20,7 +20,7 @@ use Rattle.zcert.specs.Format.{interval_format, nonempty}
 use Rattle.zcert.specs.Spelling.{identity_bytes, range_bytes, counted, routine_bytes, instruction_bytes, heading, IsIdentity, IsRange, AreApart, InstructionsRise, IsRoutine, IsInstruction}
 use Rattle.zcert.specs.Reading.{magic_at, version_at, heading_at, identity_at, range_at, ranges_at, all_ranges_at, address_fits, values_at, routine_at, routines_at, all_routines_at, instruction_at, instructions_at, all_instructions_at}
 use Rattle.zcert.specs.Building.{Progress, opening, before_globals, before_ranges, before_routines, before_instructions, instruction_of, taken, all_taken}
-use Rattle.zcert.specs.Fields.{field_bytes, IsField, field_at, next_at, IsReached}
+use Rattle.zcert.specs.Fields.{field_bytes, IsField, field_at, next_at, IsReached, LeadsToPart}
 use Rattle.zcert.specs.Contents.{values_of, stored_instruction, LiesIn}
 use Rattle.zcert.specs.Listed.{listed_at, Finds}
 use Rattle.zcert.specs.Refusal.{number_of}
@@ -288,6 +288,25 @@ next_fields = (refl, refl, refl)
 reached : IsReached interval_format start
 unfolding start
 reached = ([], tt, refl)
+
+-- the first global is the first part of a certificate without ranges; before it nothing wants memory
+first_part : LeadsToPart interval_format (heading interval_format ++ identity_text ++ 0 ∷ 0 ∷ 0 ∷ 0 ∷ 0 ∷ 7 ∷ 9 ∷ [])
+unfolding identity_text
+first_part = record {
+  fields = fields.Release 1 ∷ fields.Serial (0x32 ∷ 0x36 ∷ 0x30 ∷ 0x31 ∷ 0x30 ∷ 0x31 ∷ []) ∷ fields.Checksum 0x3A7A ∷ fields.LoadedLength 0x32A ∷ fields.RangeCount 0 ∷ [];
+  last = fields.Global (record { lo = pos 0; hi = pos 7; ordered = in_order (pos 0) (pos 7) refl });
+  rest = 9 ∷ [];
+  each = (
+    omega arith,
+    ((refl, (omega arith, (omega arith, (omega arith, (omega arith, (omega arith, (omega arith, tt))))))), (omega arith, (omega arith, (omega arith, ((omega arith, omega arith), tt))))),
+  );
+  led = refl;
+  adds = tt;
+  spelled = refl;
+}
+
+no_part : LeadsToPart interval_format (0x5A ∷ 0x50 ∷ 0x43 ∷ 0x43 ∷ 2 ∷ []) → ⊥
+no_part l = absurd (let e = l.spelled in cc)
 
 -- ---- how it is kept
 

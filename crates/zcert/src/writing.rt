@@ -124,7 +124,7 @@ fn room_for(contents: &Contents) -> usize {
     })
 }
 
-/// The one spelling of a certificate.
+/// The one spelling of a certificate. It always has bytes, so whichever certificate it is, the growth for them may be refused.
 pub fn write(alloc: Global, certificate: &Certificate) -> Result<Vec<u8>, AllocError>
     ensures spelled { IfOk result (λ bytes. bytes.items ≡ spelling interval_format certificate.now) }
     // So that reading it gives the certificate again.
