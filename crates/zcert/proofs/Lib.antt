@@ -14,3 +14,4 @@ pub mod Lookup
 pub mod ReadLoop
 pub mod Longest
 pub mod Room
+pub mod Refused

@@ -118,7 +118,7 @@ pub record IsRead {V : Type 0} (format : Format V) (bytes : List ℕ) (p : Progr
   pub led : all_taken opening fields ≡ Ok p
   pub spelled : bytes ≡ heading format ++ (flat_map (field_bytes format) fields ++ rest)
 
-one_text_more : {A : Type 0} (f : A → List ℕ) (xs : List A) (x : A) (rest : List ℕ) → flat_map f (xs ++ x ∷ []) ++ rest ≡ flat_map f xs ++ (f x ++ rest)
+pub one_text_more : {A : Type 0} (f : A → List ℕ) (xs : List A) (x : A) (rest : List ℕ) → flat_map f (xs ++ x ∷ []) ++ rest ≡ flat_map f xs ++ (f x ++ rest)
 one_text_more f [] x rest = ap (λ t. t ++ rest) (append-nil (f x))
 one_text_more f (y ∷ xs) x rest = append_assoc (f y) (flat_map f (xs ++ x ∷ [])) rest ∙ ap (λ t. f y ++ t) (one_text_more f xs x rest) ∙ sym (append_assoc (f y) (flat_map f xs) (f x ++ rest))
 

@@ -19,7 +19,7 @@ use Rattle.zcert.specs.Steps.{◌>>=◌, need, sized_at, number_at, serial_at}
 use Rattle.zcert.specs.Format.{interval_format, nonempty}
 use Rattle.zcert.specs.Spelling.{identity_bytes, range_bytes, counted, routine_bytes, instruction_bytes, heading, IsIdentity, IsRange, AreApart, InstructionsRise, IsRoutine, IsInstruction}
 use Rattle.zcert.specs.Reading.{magic_at, version_at, heading_at, identity_at, range_at, ranges_at, all_ranges_at, address_fits, values_at, routine_at, routines_at, all_routines_at, instruction_at, instructions_at, all_instructions_at}
-use Rattle.zcert.specs.Building.{Progress, opening, before_globals, before_ranges, before_routines, before_instructions, instruction_of, taken, all_taken, Adds, IsDue}
+use Rattle.zcert.specs.Building.{Progress, opening, before_globals, before_ranges, before_routines, before_instructions, instruction_of, InTurn, taken, all_taken, Adds, IsDue}
 use Rattle.zcert.specs.Fields.{field_bytes, IsField, field_at, next_at, IsReached, LeadsToPart}
 use Rattle.zcert.specs.Contents.{values_of, stored_instruction, LiesIn}
 use Rattle.zcert.specs.Listed.{listed_at, Finds}
@@ -282,6 +282,10 @@ at_limits = (refl, refl, refl, refl, refl, refl)
 addresses_taken : (taken (at_turn (turns.RoutineAddress 0) 5) (fields.RoutineAddress 4) ≡ Err errors.Order) × (taken (at_turn (turns.RoutineAddress 0) 5) (fields.RoutineAddress 131072) ≡ Err errors.Limit) × (taken (at_turn (turns.InstructionAddress 0) 5) (fields.InstructionAddress 4) ≡ Err errors.Order) × (taken (at_turn (turns.InstructionAddress 0) 5) (fields.InstructionAddress 131071) ≡ Ok (at_turn (turns.RoutineNumber 0 131071) 5))
 unfolding at_turn
 addresses_taken = (refl, refl, refl, refl)
+
+-- a field is in turn by its kind alone; sets come in three places
+in_turns : InTurn {V = Interval} turns.Checksum (fields.Checksum 7) × (InTurn {V = Interval} turns.Checksum (fields.Release 7) → ⊥) × InTurn (turns.Global 3) (fields.Global (point 1)) × (InTurn (turns.Global 3) (fields.Value (point 1)) → ⊥) × (InTurn (turns.Value 3 header 1) (fields.RoutineResult (point 1)) → ⊥) × (InTurn {V = Interval} turns.Complete (fields.Release 7) → ⊥)
+in_turns = (tt, λ t. t, tt, λ t. t, λ t. t, λ t. t)
 
 -- which fields add a part, and what is due in an unfinished one
 parts_added : Adds {V = Interval} (fields.Height 0) × Adds {V = Interval} (fields.RangeLast 1) × (Adds {V = Interval} (fields.RangeFirst 1) → ⊥) × (Adds {V = Interval} (fields.InstructionAddress 1) → ⊥)

@@ -9,6 +9,7 @@ ghost use Rattle.zcert.specs.Format.{interval_format};
 ghost use Rattle.zcert.specs.Spelling.{heading, spelling, HasSpelling};
 ghost use Rattle.zcert.specs.Reading.{reading};
 ghost use Rattle.zcert.specs.Fields.{field_bytes, Makes};
+ghost use Rattle.zcert.specs.Refusal.{RefuseInTurn, RefuseAtEnd, RefuseOutOfTurn};
 ghost use Rattle.zcert.specs.Longest.{IsDecidedBy, IsLongest};
 
 use crate::limits::LARGEST;
@@ -25,6 +26,15 @@ pub fn fields_make_certificates()
     ensures spelled { (fs : List (Field Interval)) (c : Certificate Interval) → Makes interval_format fs c →
         HasSpelling interval_format c × (spelling interval_format c ≡ heading interval_format ++ flat_map (field_bytes interval_format) fs) }
     ensures each { (c : Certificate Interval) → HasSpelling interval_format c → (fs : List (Field Interval)) × Makes interval_format fs c }
+{}
+
+/// A builder refuses what a reader would: the first field that it refuses, where it is in its turn, is refused for what the bytes
+/// that spell the fields up to it are refused for. A field out of its turn is out of order, and fields that end too early are cut
+/// off, as their bytes are.
+pub fn builders_refuse_as_readers()
+    ensures in_turn { RefuseInTurn interval_format }
+    ensures out_of_turn { RefuseOutOfTurn Interval }
+    ensures at_end { RefuseAtEnd interval_format }
 {}
 
 /// What is read of a file is decided by its first [`LARGEST`] bytes and one more: a reader of files needs no further ones, and
