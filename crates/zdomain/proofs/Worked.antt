@@ -57,7 +57,7 @@ no_inclusion = (λ w. no_words.0 (w 2 (record { word = omega arith; member = (om
 
 -- sets that don't have their single word are unsound
 nothing : SetOperations ℕ
-nothing = record { has = λ _ _. ⊥; single = λ word. word; any = 0 }
+nothing = record { has = λ _ _. ⊥; single = λ word. word; any = 0; known = λ a. None; join = λ a b. a; meet = λ a b. None; unary = λ op a. a; binary = λ op a b. a; narrow = λ q c a b. None }
 
 unsound : AreSound nothing → ⊥
 unfolding nothing
