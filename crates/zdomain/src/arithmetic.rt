@@ -4,7 +4,7 @@
 
 ghost use Rattle.std.specs.Prelude.{◌≡◌, ◌*ℤ◌, int_div, pos};
 ghost use Rattle.std.specs.Int.{int_min};
-ghost use Rattle.zdomain.specs.Interval.{fitting, around, at_ends, sums, differences, point, quotients, reach, remainders, are_single, conjunctions, disjunctions, unary};
+ghost use Rattle.zdomain.specs.Interval.{fitting, around, at_ends, sums, differences, quotients, reach, remainders, are_single, conjunctions, disjunctions, unary};
 ghost use Rattle.zword.specs.declared.unary.UnaryOp.TheVariants.{Not};
 
 use crate::interval::Interval;
@@ -79,7 +79,7 @@ pub(crate) fn conjunctions(a: Interval, b: Interval) -> Interval
     ensures { result ≡ conjunctions a b }
 {
     if are_single(a, b) {
-        return point(a.lo.cast_unsigned() & b.lo.cast_unsigned());
+        return Interval::of_word(a.lo.cast_unsigned() & b.lo.cast_unsigned());
     }
     match (a.has_negative(), b.has_negative()) {
         (true, true) => Interval::all(),
@@ -94,7 +94,7 @@ pub(crate) fn disjunctions(a: Interval, b: Interval) -> Interval
     ensures { result ≡ disjunctions a b }
 {
     if are_single(a, b) {
-        return point(a.lo.cast_unsigned() | b.lo.cast_unsigned());
+        return Interval::of_word(a.lo.cast_unsigned() | b.lo.cast_unsigned());
     }
     match (a.has_negative(), b.has_negative()) {
         (false, false) => fitting(0, 32767),
@@ -114,17 +114,6 @@ pub(crate) fn complements(a: Interval) -> Interval
     ensures { result ≡ unary Not a }
 {
     fitting(-1 - a.high(), -1 - a.low())
-}
-
-/// The interval of one word.
-pub(crate) fn point(word: u16) -> Interval
-    ensures { result ≡ point word }
-{
-    let value = word.cast_signed();
-    Interval {
-        lo: value,
-        hi: value,
-    }
 }
 
 /// From 0 to the upper end.

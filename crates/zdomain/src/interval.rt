@@ -15,7 +15,7 @@ pub struct Interval {
 
 impl Interval {
     ghost use Rattle.std.specs.Prelude.{◌≡◌, ◌↔◌, ◌<ℤ◌, IfSome, IsNone};
-    ghost use Rattle.zdomain.specs.Interval.{interval_of, is_single, has_zero, has_negative, all_words};
+    ghost use Rattle.zdomain.specs.Interval.{interval_of, point, is_single, has_zero, has_negative, all_words};
 
     /// The numbers from `lo` to `hi`, or `None` where there is none.
     pub fn new(lo: i16, hi: i16) -> Option<Interval>
@@ -27,6 +27,17 @@ impl Interval {
             Some(Interval { lo, hi })
         } else {
             None
+        }
+    }
+
+    /// The one word.
+    pub(crate) fn of_word(word: u16) -> Interval
+        ensures { result ≡ point word }
+    {
+        let value = word.cast_signed();
+        Interval {
+            lo: value,
+            hi: value,
         }
     }
 

@@ -18,18 +18,11 @@ impl Domain for Interval {
     ghost sound = { interval_sound };
 
     fn single(word: u16) -> Interval {
-        let value = word.cast_signed();
-        Interval {
-            lo: value,
-            hi: value,
-        }
+        Interval::of_word(word)
     }
 
     fn any() -> Interval {
-        Interval {
-            lo: i16::MIN,
-            hi: i16::MAX,
-        }
+        Interval::all()
     }
 
     fn contains(self, word: u16) -> bool {
