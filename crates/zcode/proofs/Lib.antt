@@ -8,3 +8,4 @@ pub mod ReadingLaws
 mod Tails
 mod Inline
 mod Worked
+mod Operating

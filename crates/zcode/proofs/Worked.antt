@@ -2,7 +2,7 @@
 use Rattle.std.proofs.Common.{◌≡◌, ℕ, ◌+◌, ◌<◌, zero, suc, Bool, true, false, [], ◌∷◌, length, Some, None, Ok, Err, pos, negsuc, refl, arith, lit<, lit≤}
 use Rattle.zstory.specs.Bytes.{byte_at}
 use Rattle.zcode.specs.declared.opcode.Opcode.{Opcode}
-use Rattle.zcode.specs.declared.opcode.Opcode.TheVariants.{Je, IncChk, Or, Mul, Mod, Jz, GetChild, Jump, Not, Rtrue, Print, PrintRet, Nop, Quit, NewLine, Verify, Call, Storew, Sread, Pull}
+use Rattle.zcode.specs.declared.opcode.Opcode.TheVariants.{Je, IncChk, Dec, Or, Mul, Mod, Jz, GetChild, Jump, Not, Rtrue, Print, PrintRet, Nop, Quit, NewLine, Verify, Call, Storew, Sread, Load, Push, Pull, Pop}
 use Rattle.zcode.specs.declared.opcode.Excluded.TheVariants.{SplitWindow, SetWindow, OutputStream, SoundEffect}
 use Rattle.zcode.specs.declared.error.DecodeError.TheVariants.{Truncated, NoSuchOpcode, NotInProfile, Operands, Text}
 use Rattle.zcode.specs.declared.error.Unsupported.TheVariants.{Excluded, Unplayed}
@@ -10,6 +10,12 @@ use Rattle.zcode.specs.declared.table.OperandCount.TheVariants.{Two, One, Zero, 
 use Rattle.zcode.specs.declared.types.OperandType.TheVariants as types
 use Rattle.zcode.specs.declared.instr.Operand.TheVariants.{Constant, Variable}
 use Rattle.zcode.specs.declared.instr.Destination.TheVariants.{ReturnFalse, ReturnTrue, Relative}
+use Rattle.zword.specs.declared.unary.UnaryOp.TheVariants as unary
+use Rattle.zword.specs.declared.binary.BinaryOp.TheVariants as binary
+use Rattle.zword.specs.declared.question.Question.TheVariants as questions
+use Rattle.zword.specs.declared.count.CountOp.TheVariants as counts
+use Rattle.zcode.specs.declared.operation.Operation.TheVariants as operations
+use Rattle.zcode.specs.Operation.{operation_of, inputs, target}
 use Rattle.zcode.specs.Instruction.{Instruction, IsWellFormed, destination}
 use Rattle.zcode.specs.Names.{name_of, excluded_name, unsupported_name}
 use Rattle.zcode.specs.Opcodes.{missing, table, opcode_of, operand_bounds, TakesOperands, stores, branches, prints_text}
@@ -150,3 +156,14 @@ agreeing = (record { size_is = refl; bytes = same }, λ a. absurd (let e = a.byt
     same zero below = refl
     same (suc zero) below = refl
     same (suc (suc k)) below = absurd (omega (arith, below))
+
+-- ---- what opcodes do
+
+done_for : (operation_of Je ≡ Some (operations.Compare questions.Equal)) × (operation_of IncChk ≡ Some (operations.Count counts.Up (Some questions.Greater))) × (operation_of Dec ≡ Some (operations.Count counts.Down None)) × (operation_of Mod ≡ Some (operations.Binary binary.Mod)) × (operation_of Push ≡ Some (operations.Unary unary.Keep)) × (operation_of Pull ≡ Some operations.Store) × (operation_of Pop ≡ Some operations.Nop) × (operation_of Call ≡ None)
+unfolding operation_of
+done_for = (refl, refl, refl, refl, refl, refl, refl, refl)
+
+-- jz compares with 0, pull takes a word off the stack behind the variable's number, and push gives to the stack
+read_and_given : (inputs (record { opcode = Jz; operands = Variable 1 ∷ []; store = None; branch = None; size = 4 }) ≡ Variable 1 ∷ Constant 0 ∷ []) × (inputs (record { opcode = Pull; operands = Constant 16 ∷ []; store = None; branch = None; size = 3 }) ≡ Constant 16 ∷ Variable 0 ∷ []) × (inputs inc_chk ≡ inc_chk.operands) × (target (record { opcode = Push; operands = Constant 3 ∷ []; store = None; branch = None; size = 3 }) ≡ 0) × (target (record { opcode = Load; operands = Constant 1 ∷ []; store = Some 16; branch = None; size = 3 }) ≡ 16)
+unfolding inc_chk
+read_and_given = (refl, refl, refl, refl, refl)

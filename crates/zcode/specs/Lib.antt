@@ -5,5 +5,6 @@ pub mod Places
 pub mod Instruction
 pub mod Spelling
 pub mod Reading
+pub mod Operation
 pub use Rattle.zstory.specs.Bytes
 pub use Rattle.ztext.specs.Words

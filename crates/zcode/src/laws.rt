@@ -7,6 +7,7 @@ ghost use Rattle.zcode.specs.Instruction.{Instruction, IsWellFormed};
 ghost use Rattle.zcode.specs.Playable.{playable};
 ghost use Rattle.zcode.specs.Reading.{Agree, instruction_at};
 ghost use Rattle.zcode.specs.Spelling.{IsAtFront, Spells};
+ghost use Rattle.zcode.specs.Operation.{PlayedOperate};
 
 use ztext::text_is_at_front;
 
@@ -33,3 +34,8 @@ pub fn text_ends_instruction()
 {
     text_is_at_front();
 }
+
+/// Each opcode that this build plays does something.
+pub fn played_operate()
+    ensures { PlayedOperate }
+{}

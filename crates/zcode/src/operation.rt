@@ -1,0 +1,117 @@
+//! What opcodes do, by families: the one table from which every layer takes what an opcode does.
+
+ghost use Rattle.std.specs.Prelude.{◌≡◌, ◌++◌, ◌≤◌, length, option_to_list};
+ghost use Rattle.zcode.specs.Operation.{implied, inputs, operation_of, target};
+
+use crate::instr::{Instr, Operand};
+use crate::opcode::Opcode;
+use arrayvec::ArrayVec;
+use zword::{BinaryOp, CountOp, Question, UnaryOp};
+
+/// What an opcode does, by its family (Z 15). Every layer goes by these.
+#[derive(Clone, Copy, PartialEq, Eq)]
+pub enum Operation {
+    /// One value makes the one that goes to the result variable.
+    Unary(UnaryOp),
+    /// Two values make the one that goes to the result variable.
+    Binary(BinaryOp),
+    /// The branch asks whether a question holds of the first value and one of the others.
+    Compare(Question),
+    /// The variable that the first value names is counted, and its new value is asked against the second, if at all.
+    Count(CountOp, Option<Question>),
+    /// The variable that the first value names is given the second.
+    Store,
+    /// The variable that the first value names gives its value to the result variable.
+    Load,
+    /// The next instruction is as far away as the value says.
+    Jump,
+    /// The branch asks whether the story's sum is that of its header.
+    Verify,
+    /// The character of a code is printed.
+    PrintChar,
+    /// A signed number is printed.
+    PrintNumber,
+    /// The text behind the opcode byte is printed.
+    Print,
+    /// A new line is printed.
+    NewLine,
+    /// Nothing but the reading of operands.
+    Nop,
+    /// The machine stands still.
+    Quit,
+}
+
+impl Opcode {
+    /// What the opcode does, where that is said.
+    #[tactic(auto, unfolding(crate::specs::Operation::operation_of))]
+    pub fn operation(self) -> Option<Operation>
+        ensures { result ≡ operation_of self }
+    {
+        Some(match self {
+            Opcode::Je | Opcode::Jz => Operation::Compare(Question::Equal),
+            Opcode::Jl => Operation::Compare(Question::Less),
+            Opcode::Jg => Operation::Compare(Question::Greater),
+            Opcode::Test => Operation::Compare(Question::Test),
+            Opcode::DecChk => Operation::Count(CountOp::Down, Some(Question::Less)),
+            Opcode::IncChk => Operation::Count(CountOp::Up, Some(Question::Greater)),
+            Opcode::Dec => Operation::Count(CountOp::Down, None),
+            Opcode::Inc => Operation::Count(CountOp::Up, None),
+            Opcode::Or => Operation::Binary(BinaryOp::Or),
+            Opcode::And => Operation::Binary(BinaryOp::And),
+            Opcode::Add => Operation::Binary(BinaryOp::Add),
+            Opcode::Sub => Operation::Binary(BinaryOp::Sub),
+            Opcode::Mul => Operation::Binary(BinaryOp::Mul),
+            Opcode::Div => Operation::Binary(BinaryOp::Div),
+            Opcode::Mod => Operation::Binary(BinaryOp::Mod),
+            Opcode::Not => Operation::Unary(UnaryOp::Not),
+            Opcode::Push => Operation::Unary(UnaryOp::Keep),
+            Opcode::Store | Opcode::Pull => Operation::Store,
+            Opcode::Load => Operation::Load,
+            Opcode::Jump => Operation::Jump,
+            Opcode::Verify => Operation::Verify,
+            Opcode::PrintChar => Operation::PrintChar,
+            Opcode::PrintNum => Operation::PrintNumber,
+            Opcode::Print => Operation::Print,
+            Opcode::NewLine => Operation::NewLine,
+            Opcode::Nop | Opcode::Pop => Operation::Nop,
+            Opcode::Quit => Operation::Quit,
+            _ => return None,
+        })
+    }
+
+    /// What the opcode takes that isn't spelled, behind its operands: at most one.
+    fn implied(self) -> Option<Operand>
+        ensures { option_to_list result ≡ implied self }
+    {
+        match self {
+            Opcode::Jz => Some(Operand::Constant(0)),
+            Opcode::Pull | Opcode::Pop => Some(Operand::Variable(0)),
+            _ => None,
+        }
+    }
+}
+
+impl Instr {
+    #[tactic(auto, using(crate::proofs::Operating::inputting))]
+    /// All that the instruction reads, from left to right: its operands, and what its opcode takes beside them.
+    pub fn inputs(&self) -> ArrayVec<Operand, 4>
+        ensures value { result.items ≡ inputs self.now }
+        ensures few { length result.items ≤ 4 }
+    {
+        let mut inputs = ArrayVec::new();
+        for operand in self.operands() {
+            inputs.push(*operand);
+        }
+        if let Some(operand) = self.opcode().implied() {
+            inputs.push(operand);
+        }
+        inputs
+    }
+
+    /// The variable that takes what the instruction gives: the stack, where it names none.
+    pub fn target(&self) -> u8
+        ensures { result ≡ target self.now }
+    {
+        self.store().unwrap_or(0)
+    }
+}
