@@ -1,7 +1,7 @@
-mod Worked
 pub mod Calls
 mod InTurn
 pub mod Joins
 mod Keeps
 mod Reading
 mod Stacks
+mod Worked

@@ -1,29 +1,37 @@
 -- Values of the definitions, computed.
-use Rattle.std.proofs.Common.{◌≡◌, ℕ, zero, suc, ◌+◌, ◌-◌, ◌≤◌, Bool, true, false, List, [], ◌∷◌, ◌++◌, length, replicate, map, Some, None, Result, Ok, Err, pos, negsuc, refl, arith}
-use Rattle.std.specs.Prelude.{nat_le, if◌then◌else◌}
+use Rattle.std.proofs.Common.{◌≡◌, ℕ, zero, suc, ◌+◌, ◌-◌, ◌≤◌, Bool, true, false, List, [], ◌∷◌, ◌++◌, length, replicate, map, Some, None, Result, Ok, Err, pos, negsuc, refl, arith, inl, inr}
+use Rattle.std.specs.Prelude.{nat_le, if◌then◌else◌, ℤ}
 use Rattle.std.proofs.lemmas.List.{length-replicate}
+use Rattle.std.specs.Fmt.{digits}
 use Rattle.zstory.specs.LoadedStory.{LoadedStory}
 use Rattle.zcode.specs.declared.error.DecodeError.TheVariants.{Truncated}
 use Rattle.zcode.specs.declared.instr.Operand.TheVariants.{Constant, Variable}
-use Rattle.zcode.specs.declared.opcode.Opcode.TheVariants.{Print as APrint, NewLine, Nop, Quit as AQuit}
+use Rattle.zcode.specs.declared.opcode.Opcode.TheVariants.{Print as APrint, NewLine, Nop, Quit as AQuit, Jz, IncChk, Pull}
+use Rattle.zcode.specs.declared.instr.Destination.TheVariants.{Relative}
+use Rattle.zcode.specs.declared.operation.Operation.TheVariants as operations
+use Rattle.zcode.specs.Operation.{operation_of, inputs}
+use Rattle.zword.specs.declared.unary.UnaryOp.TheVariants as unary
+use Rattle.zword.specs.declared.binary.BinaryOp.TheVariants as binary
+use Rattle.zword.specs.declared.question.Question.TheVariants as questions
+use Rattle.zword.specs.declared.count.CountOp.TheVariants as counts
 use Rattle.zcode.specs.Instruction.{Instruction}
 use Rattle.zcode.specs.Playable.{playable}
 use Rattle.zcode.specs.Reading.{instruction_by, head_at, short_head, played_opcode, checked_head, operands_at, store_if, branch_if, text_if}
 use Rattle.ztext.specs.declared.error.TextError.TheVariants.{Outside, NestedAbbreviation}
 use Rattle.ztext.specs.Alphabets.{small_letters}
 use Rattle.ztext.specs.Output.{output_at, output_of_characters}
-use Rattle.zfault.specs.declared.fault.Fault.TheVariants.{UnlistedInstruction, IllegalOpcode, StackUnderflow, AbsentLocal, TextOutside}
+use Rattle.zfault.specs.declared.fault.Fault.TheVariants.{UnlistedInstruction, IllegalOpcode, StackUnderflow, AbsentLocal, TextOutside, ReturnFromMain, ZeroDivisor, BadVariable}
 use Rattle.zfault.specs.declared.pause.Need.TheVariants as needs
 use Rattle.zfault.specs.declared.pause.Pause.TheVariants as pauses
 use Rattle.zfault.specs.declared.event.Event.TheVariants as events
 use Rattle.zfault.specs.declared.item.Item.TheVariants.{Text}
 use Rattle.zstate.specs.declared.halt.Halt.TheVariants as halts
 use Rattle.zstate.specs.declared.halt.Stop.TheVariants as stops
-use Rattle.zstate.specs.declared.mode.RandomMode.TheVariants.{Words}
+use Rattle.zstate.specs.declared.mode.RandomMode.TheVariants.{Words, Counting}
 use Rattle.zstate.specs.InTurn.{in_turn}
-use Rattle.zstate.specs.State.{Frame, State, Setting, has_head, scope_all, scope_only, first_frame, opening, IsFrame, IsFirst, AreFrames, IsState, with_stack, popped, at_place, give, global, pop, found, read_named, read_variable, read_operand, read_operands}
-use Rattle.zstate.specs.Step.{Proceed, Print, decoded, fetch, printed, print_at, effect_of, plan, advance, act, items_of, step}
-use Rattle.zstate.specs.Run.{stop_of, until, is_answered, need_in, awaited, run, Goes, Stands}
+use Rattle.zstate.specs.State.{Frame, State, Setting, has_head, usual_limit, scope_all, scope_only, first_frame, opening, IsFrame, IsFirst, AreFrames, IsCount, IsState, with_stack, with_locals, write_word, exists, has_room, put, put_named, put_in_place, read_in_place, popped, at_place, give, global, pop, found, read_named, read_variable, read_operand, read_operands}
+use Rattle.zstate.specs.Step.{on, back, Effect, proceeds, giving, assigning, testing, printing, quitting, decoded, fetch, printed, print_at, effect_of, way, course, admits, pauses, settle, plan, advance, changed, act, items_of, step}
+use Rattle.zstate.specs.Run.{stop_of, until, is_answered, need_in, awaited, run, Goes, Stands, IsLonger, WantsMemory}
 use Rattle.zstate.specs.Gives.{Gives, IsNear}
 
 -- ---- a story: its first instruction is at 70, its globals begin at 64
@@ -39,7 +47,7 @@ story : LoadedStory
 story = record { memory = memory; objects = 0 }
 
 setting : Setting
-setting = record { story = story; scope = scope_all story }
+setting = record { story = story; scope = scope_all story; limit = usual_limit }
 
 -- two locals, and two words on the stack, of which 5 is the topmost
 frame : Frame
@@ -84,8 +92,8 @@ no_frames = (λ f. omega (arith, f.locals), λ f. omega (arith, f.supplied), λ 
 frames : AreFrames first_frame [] × AreFrames frame (first_frame ∷ []) × (AreFrames first_frame (frame ∷ []) → ⊥) × (AreFrames frame [] → ⊥)
 frames = (first, (above, first), λ f. no_frames.3 f.1.1, λ f. no_frames.3 f.1)
 
-is_state : IsState story (opening story)
-is_state = record { memory = refl; frames = first; few = omega arith }
+is_state : IsState usual_limit story (opening story)
+is_state = record { memory = refl; frames = first; few = omega arith; count = tt }
 
 -- each bound of a frame is reached, and a word more on the stack is too many
 full_frame : (stack locals : List ℕ) → length stack ≡ 65535 → length locals ≡ 15 → IsFrame (record { return_place = 16777215; result = 255; supplied = 3; locals = locals; stack = stack })
@@ -99,18 +107,22 @@ all_first : (n : ℕ) → AreFrames first_frame (replicate n first_frame)
 all_first zero = first
 all_first (suc n) = (first.0, all_first n)
 
-many_frames : (n : ℕ) → n ≤ 1024 → IsState story (record (opening story) { callers = replicate n first_frame })
-many_frames n few = record { memory = refl; frames = all_first n; few = omega (arith, few, length-replicate n first_frame) }
+many_frames : (n : ℕ) → n ≤ 1024 → IsState usual_limit story (record (opening story) { callers = replicate n first_frame })
+many_frames n few = record { memory = refl; frames = all_first n; few = omega (arith, few, length-replicate n first_frame); count = tt }
 
-too_many_frames : (s : State) → length s.callers ≡ 1025 → IsState story s → ⊥
+too_many_frames : (s : State) → length s.callers ≡ 1025 → IsState usual_limit story s → ⊥
 too_many_frames s many is = omega (arith, many, is.few)
 
+-- a count gives the numbers of its seed
+is_count : IsCount (Counting 32768 32768) × (IsCount (Counting 3 4) → ⊥) × (IsCount (Counting 3 0) → ⊥) × (IsCount (Counting 32769 1) → ⊥)
+is_count = ((omega arith, omega arith, omega arith), λ h. omega (arith, h.1), λ h. omega (arith, h.0), λ h. omega (arith, h.2))
+
 -- memory is as long as the story
-shortened : IsState story (record (opening story) { memory = [] }) → ⊥
+shortened : IsState usual_limit story (record (opening story) { memory = [] }) → ⊥
 unfolding story memory code
 shortened s = omega (arith, s.memory)
 
-no_state : (IsState story (record (opening story) { callers = replicate 1025 first_frame }) → ⊥)
+no_state : (IsState usual_limit story (record (opening story) { callers = replicate 1025 first_frame }) → ⊥)
 no_state s = omega (arith, s.few)
 
 -- ---- accesses
@@ -169,30 +181,123 @@ fetches = (refl, refl, refl, refl)
 hello : List ℕ
 hello = 0x68 ∷ 0x65 ∷ 0x6C ∷ 0x6C ∷ 0x6F ∷ []
 
-prints : (printed (Ok (65 ∷ [])) ≡ Ok (Print (65 ∷ []))) × (printed (Err Outside) ≡ Err (halts.Fault TextOutside)) × (printed (Err NestedAbbreviation) ≡ Err (halts.Fault TextOutside))
+prints : (printed (Ok (65 ∷ [])) ≡ Ok (printing (65 ∷ []))) × (printed (Err Outside) ≡ Err (halts.Fault TextOutside)) × (printed (Err NestedAbbreviation) ≡ Err (halts.Fault TextOutside))
 prints = (refl, refl, refl)
 
-texts : (print_at (pos 73) memory ≡ Ok (Print hello)) × (print_at (pos 78) memory ≡ Err (halts.Fault TextOutside)) × (print_at (negsuc 0) memory ≡ Err (halts.Fault TextOutside))
+texts : (print_at (pos 73) memory ≡ Ok (printing hello)) × (print_at (pos 78) memory ≡ Err (halts.Fault TextOutside)) × (print_at (negsuc 0) memory ≡ Err (halts.Fault TextOutside))
 unfolding output_at output_of_characters small_letters memory code hello
 texts = (refl, refl, refl)
 
-effects : (effect_of APrint [] (at 72) ≡ Ok (Print hello)) × (effect_of NewLine [] (at 72) ≡ Ok (Print (10 ∷ []))) × (effect_of Nop [] (at 72) ≡ Ok Proceed) × (effect_of AQuit [] (at 72) ≡ Err halts.Quit)
-unfolding effect_of output_at output_of_characters small_letters at story memory code hello
+effects : (effect_of setting operations.Print [] (at 72) ≡ Ok (printing hello)) × (effect_of setting operations.NewLine [] (at 72) ≡ Ok (printing (10 ∷ []))) × (effect_of setting operations.Nop [] (at 72) ≡ Ok proceeds) × (effect_of setting operations.Quit [] (at 72) ≡ Ok quitting)
+unfolding effect_of output_at output_of_characters small_letters setting at story memory code hello
 effects = (refl, refl, refl, refl)
 
--- ---- the effect
+-- words: 65,535 is -1
+given_words : (effect_of setting (operations.Binary binary.Add) (32767 ∷ 2 ∷ []) state ≡ Ok (giving 32769)) × (effect_of setting (operations.Binary binary.Div) (65525 ∷ 2 ∷ []) state ≡ Ok (giving 65531)) × (effect_of setting (operations.Binary binary.Mod) (13 ∷ 65531 ∷ []) state ≡ Ok (giving 3)) × (effect_of setting (operations.Binary binary.Div) (7 ∷ 0 ∷ []) state ≡ Err (halts.Fault ZeroDivisor)) × (effect_of setting (operations.Unary unary.Not) (1 ∷ []) state ≡ Ok (giving 65534)) × (effect_of setting (operations.Unary unary.Keep) (9 ∷ []) state ≡ Ok (giving 9))
+unfolding effect_of
+given_words = (refl, refl, refl, refl, refl, refl)
 
-acts : (act (plain 5) Proceed (at 72) ≡ at 77) × (act (plain 5) (Print hello) (at 72) ≡ at 77) × (advance (plain 1) (at_place (negsuc 0) (at 0)) ≡ at 0)
-unfolding act plain at
+-- the first of several against each of the others
+questions_asked : (effect_of setting (operations.Compare questions.Equal) (4 ∷ 1 ∷ 2 ∷ 4 ∷ []) state ≡ Ok (testing true)) × (effect_of setting (operations.Compare questions.Equal) (4 ∷ 1 ∷ 2 ∷ 3 ∷ []) state ≡ Ok (testing false)) × (effect_of setting (operations.Compare questions.Less) (65535 ∷ 0 ∷ []) state ≡ Ok (testing true)) × (effect_of setting (operations.Compare questions.Greater) (65535 ∷ 0 ∷ []) state ≡ Ok (testing false)) × (effect_of setting (operations.Compare questions.Test) (7 ∷ 5 ∷ []) state ≡ Ok (testing true))
+unfolding effect_of
+questions_asked = (refl, refl, refl, refl, refl)
+
+-- the second local is 8, and the top of the stack is 5, which stays
+counted_variables : (effect_of setting (operations.Count counts.Up (Some questions.Greater)) (2 ∷ 0 ∷ []) state ≡ Ok (record (assigning 2 9) { tests = Some true })) × (effect_of setting (operations.Count counts.Up (Some questions.Greater)) (2 ∷ 9 ∷ []) state ≡ Ok (record (assigning 2 9) { tests = Some false })) × (effect_of setting (operations.Count counts.Down None) (0 ∷ []) state ≡ Ok (assigning 0 4)) × (effect_of setting (operations.Count counts.Down None) (3 ∷ []) state ≡ Err (halts.Fault AbsentLocal))
+unfolding effect_of read_in_place read_named state frame
+counted_variables = (refl, refl, refl, refl)
+
+named_variables : (effect_of setting operations.Store (18 ∷ 4 ∷ []) state ≡ Ok (assigning 18 4)) × (effect_of setting operations.Load (0 ∷ []) state ≡ Ok (giving 5)) × (effect_of setting operations.Load (18 ∷ []) state ≡ Ok (giving 0xFFFE)) × (effect_of setting operations.Load (256 ∷ []) state ≡ Err (halts.Fault BadVariable)) × (effect_of setting operations.Store (0 ∷ 4 ∷ []) (popped 2 state) ≡ Err (halts.Fault StackUnderflow))
+unfolding effect_of read_in_place read_named setting story memory code state frame
+named_variables = (refl, refl, refl, refl, refl)
+
+-- the story has no checksum in its header, and its bytes behind the header sum up to more
+printed_and_moved : (effect_of setting operations.PrintChar (65 ∷ []) state ≡ Ok (printing (65 ∷ []))) × (effect_of setting operations.PrintChar (13 ∷ []) state ≡ Ok (printing (10 ∷ []))) × (effect_of setting operations.PrintChar (0 ∷ []) state ≡ Ok (printing [])) × (effect_of setting operations.PrintNumber (65535 ∷ []) state ≡ Ok (printing (45 ∷ 49 ∷ []))) × (effect_of setting operations.Jump (65535 ∷ []) state ≡ Ok (record proceeds { moves = on (negsuc 2) })) × (effect_of setting operations.Verify [] state ≡ Ok (testing false))
+unfolding digits effect_of setting story memory code
+printed_and_moved = (refl, refl, refl, refl, refl, refl)
+
+-- ---- variables that are written
+
+written : (put story 0 9 state ≡ with_stack (9 ∷ 5 ∷ 6 ∷ []) state) × (put_in_place story 0 9 state ≡ with_stack (9 ∷ 6 ∷ []) state) × (put story 2 9 state ≡ with_locals (7 ∷ 9 ∷ []) state) × ((put_in_place story 18 0x1234 state).memory ≡ write_word memory 68 0x1234) × (read_named story 18 (put_in_place story 18 0x1234 state) ≡ Ok 0x1234)
+unfolding put put_in_place put_named read_named story memory code state frame
+written = (refl, refl, refl, refl, refl)
+
+there : (exists 0 frame ≡ true) × (exists 2 frame ≡ true) × (exists 3 frame ≡ false) × (exists 15 frame ≡ false) × (exists 16 frame ≡ true)
+unfolding frame
+there = (refl, refl, refl, refl, refl)
+
+full : (stack : List ℕ) → length stack ≡ 65535 → (has_room 0 (record frame { stack = stack }) ≡ false) × (has_room 1 (record frame { stack = stack }) ≡ true)
+full stack deep = (rw deep refl, refl)
+
+-- ---- where a step leads
+
+-- a branch on true with an offset of so much
+branching : ℤ → Instruction
+branching offset = record { opcode = Jz; operands = Variable 1 ∷ []; store = None; branch = Some (record { sense = true; offset = offset }); size = 4 }
+
+ways : (way (Some true) (branching (negsuc 1)).branch ≡ Some (Relative (negsuc 3))) × (way (Some false) (branching (pos 5)).branch ≡ None) × (course (testing true) (branching (pos 0)).branch ≡ back 0) × (course (testing true) (branching (pos 1)).branch ≡ back 1) × (course (testing false) (branching (pos 1)).branch ≡ on (pos 0))
+unfolding branching
+ways = (refl, refl, refl, refl, refl)
+
+-- a frame that returns to 75, in a caller's variable 2
+called : State
+called = record (at 72) { frame = record frame { return_place = 75; result = 2 }; callers = frame ∷ first_frame ∷ [] }
+
+-- nothing returns from the first frame; a caller has to have the variable; then `quit` and a full stack are seen
+settled : (settle (branching (pos 0)) (testing true) (at 72) ≡ Err (halts.Fault ReturnFromMain)) × (settle (branching (pos 0)) (testing true) called ≡ Ok tt) × (settle (branching (pos 1)) (testing true) (record called { callers = first_frame ∷ [] }) ≡ Err (halts.Fault AbsentLocal)) × (settle (plain 1) quitting (at 72) ≡ Err halts.Quit) × (settle (record (plain 1) { store = Some 3 }) (giving 4) state ≡ Err (halts.Fault AbsentLocal)) × (settle (record (plain 1) { store = Some 2 }) (giving 4) state ≡ Ok tt)
+unfolding admits pauses branching called plain state frame at
+settled = (refl, refl, refl, refl, refl, refl)
+
+-- the result variable before a return from the first frame, and both before a need
+settled_in_order : (settle (record (branching (pos 0)) { store = Some 9 }) (record (testing true) { gives = Some 1 }) (at 72) ≡ Err (halts.Fault AbsentLocal)) × (settle (branching (pos 0)) (record (testing true) { needs = Some needs.Saved }) (at 72) ≡ Err (halts.Fault ReturnFromMain)) × (settle (plain 1) (record quitting { needs = Some needs.Random }) (at 72) ≡ Err (halts.Need needs.Random))
+unfolding admits pauses branching plain at
+settled_in_order = (refl, refl, refl)
+
+full_stack : (stack : List ℕ) → length stack ≡ 65535 → settle (plain 1) (giving 4) (with_stack stack state) ≡ Err halts.FrameLimit
+unfolding admits pauses plain
+full_stack stack deep = rw deep refl
+
+-- ---- the effect, done
+
+acts : (act story (plain 5) proceeds (at 72) ≡ at 77) × (act story (plain 5) (printing hello) (at 72) ≡ at 77) × (advance (plain 1) (at_place (negsuc 0) (at 0)) ≡ at 0)
+unfolding act changed plain at
 acts = (refl, refl, refl)
 
-given : (items_of Proceed ≡ []) × (items_of (Print (72 ∷ 105 ∷ [])) ≡ Text 72 ∷ Text 105 ∷ [])
+-- a jump, or a branch, of 4 back from behind its instruction is for ever; a return goes to the caller's variable
+goes_on : (act story (branching (negsuc 1)) (testing true) (at 72) ≡ at 72) × (act story (branching (negsuc 1)) (testing false) (at 72) ≡ at 76) × (act story (plain 3) (record proceeds { moves = on (negsuc 2) }) (at 72) ≡ at 72) × (act story (branching (pos 1)) (testing true) called ≡ record (at 75) { frame = record frame { locals = 7 ∷ 1 ∷ [] }; callers = first_frame ∷ [] })
+unfolding act changed put put_named branching called plain frame at
+goes_on = (refl, refl, refl, refl)
+
+-- an inc_chk of local 2 against 0, which branches 18 bytes on
+counts_and_branches : act story (record (branching (pos 20)) { opcode = IncChk }) (record (assigning 2 9) { tests = Some true }) state ≡ at_place (pos 92) (with_locals (7 ∷ 9 ∷ []) state)
+unfolding act changed put_in_place put_named branching state frame story memory code
+counts_and_branches = refl
+
+gives_and_assigns : (act story (record (plain 3) { store = Some 0 }) (giving 9) state ≡ at_place (pos 73) (with_stack (9 ∷ 5 ∷ 6 ∷ []) state)) × (act story (plain 3) (assigning 0 9) state ≡ at_place (pos 73) (with_stack (9 ∷ 6 ∷ []) state))
+unfolding act changed put put_in_place plain state frame story memory code
+gives_and_assigns = (refl, refl)
+
+-- pull takes a word off the stack before its variable is judged
+pulls : (read_operands story (inputs (record (plain 3) { opcode = Pull; operands = Constant 16 ∷ [] })) state ≡ Ok (16 ∷ 5 ∷ [], popped 1 state)) × (read_operands story (inputs (record (plain 3) { opcode = Pull; operands = Constant 16 ∷ [] })) (at 72) ≡ Err (halts.Fault StackUnderflow))
+unfolding in_turn read_operand read_variable plain state frame at
+pulls = (refl, refl)
+
+given : (items_of proceeds ≡ []) × (items_of (printing (72 ∷ 105 ∷ [])) ≡ Text 72 ∷ Text 105 ∷ [])
 given = (refl, refl)
+
+-- a stack gets longer where it is pushed, the caller's too
+longer : IsLonger state (with_stack (1 ∷ 5 ∷ 6 ∷ []) state) × IsLonger called (record called { frame = record frame { stack = 0 ∷ 5 ∷ 6 ∷ [] }; callers = first_frame ∷ [] }) × (IsLonger state (with_stack (1 ∷ 6 ∷ []) state) → ⊥)
+unfolding state frame called
+longer = (inl (refl, omega arith), inr (_, refl, omega arith), not_longer)
+  where
+    not_longer : IsLonger (record (opening story) { frame = record { return_place = 0; result = 0; supplied = 0; locals = 7 ∷ 8 ∷ []; stack = 5 ∷ 6 ∷ [] } }) (record (opening story) { frame = record { return_place = 0; result = 0; supplied = 0; locals = 7 ∷ 8 ∷ []; stack = 1 ∷ 6 ∷ [] } }) → ⊥
+    not_longer (inl h) = omega (arith, h.1)
+    not_longer (inr (g, e, h)) = absurd cc
 
 -- ---- steps, where these opcodes are played
 
-planned : playable NewLine ≡ true → plan setting (at 70) ≡ Ok (plain 1, Print (10 ∷ []), at 70)
-unfolding plan fetch effect_of in_turn instruction_by head_at short_head played_opcode checked_head operands_at store_if branch_if text_if setting plain at story memory code
+planned : playable NewLine ≡ true → plan setting (at 70) ≡ Ok (plain 1, printing (10 ∷ []), at 70)
+unfolding plan fetch effect_of operation_of admits pauses in_turn instruction_by head_at short_head played_opcode checked_head operands_at store_if branch_if text_if setting plain at story memory code
 planned p = rw p refl
 
 unplanned : (plan setting (at 79) ≡ Err (halts.Fault UnlistedInstruction)) × (plan setting (at 78) ≡ Err (halts.Fault IllegalOpcode))
@@ -200,19 +305,19 @@ unfolding plan fetch instruction_by head_at short_head played_opcode setting at 
 unplanned = (refl, refl)
 
 new_line_step : playable NewLine ≡ true → step setting (at 70) ≡ Ok (record { state = at 71; items = Text 10 ∷ [] })
-unfolding step plan act fetch effect_of in_turn instruction_by head_at short_head played_opcode checked_head operands_at store_if branch_if text_if setting at story memory code
+unfolding step plan act changed fetch effect_of operation_of admits pauses in_turn instruction_by head_at short_head played_opcode checked_head operands_at store_if branch_if text_if setting at story memory code
 new_line_step p = rw p refl
 
 nop_step : playable Nop ≡ true → step setting (at 71) ≡ Ok (record { state = at 72; items = [] })
-unfolding step plan act fetch effect_of in_turn instruction_by head_at short_head played_opcode checked_head operands_at store_if branch_if text_if setting at story memory code
+unfolding step plan act changed fetch effect_of operation_of admits pauses in_turn instruction_by head_at short_head played_opcode checked_head operands_at store_if branch_if text_if setting at story memory code
 nop_step p = rw p refl
 
 print_step : playable APrint ≡ true → step setting (at 72) ≡ Ok (record { state = at 77; items = map Text hello })
-unfolding step plan act fetch effect_of in_turn instruction_by head_at short_head played_opcode checked_head operands_at store_if branch_if text_if output_at output_of_characters small_letters setting at story memory code hello
+unfolding step plan act changed fetch effect_of operation_of admits pauses in_turn instruction_by head_at short_head played_opcode checked_head operands_at store_if branch_if text_if output_at output_of_characters small_letters setting at story memory code hello
 print_step p = rw p refl
 
 quit_step : playable AQuit ≡ true → step setting (at 77) ≡ Err halts.Quit
-unfolding step plan fetch effect_of in_turn instruction_by head_at short_head played_opcode checked_head operands_at store_if branch_if text_if setting at story memory code
+unfolding step plan fetch effect_of operation_of admits pauses in_turn instruction_by head_at short_head played_opcode checked_head operands_at store_if branch_if text_if setting at story memory code
 quit_step p = rw p refl
 
 no_step : (step setting (at 78) ≡ Err (halts.Fault IllegalOpcode)) × (step setting (at 79) ≡ Err (halts.Fault UnlistedInstruction))

@@ -1,14 +1,17 @@
 //! Frames of routines.
 
-ghost use Rattle.std.specs.Prelude.{◌≡◌, ◌<◌, ◌≤◌, ◌-◌, drop, length, reverse, slice_get, slice_index};
-ghost use Rattle.zstate.specs.State.{first_frame};
+ghost use Rattle.std.specs.Prelude.{◌≡◌, ◌<◌, ◌≤◌, ◌-◌, ◌∷◌, drop, length, reverse, slice_get, slice_index, slice_set, OnOk, OnErr};
+ghost use Rattle.zstate.specs.State.{exists, first_frame, has_room};
 
 use arrayvec::ArrayVec;
-use std::alloc::Global;
+use std::alloc::{AllocError, Global};
 use std::marker::Model;
 
 /// The most locals that a routine has (Z 5.2).
 const MAX_LOCALS: usize = 15;
+
+/// The most words that lie on the stack of a frame (own).
+const MAX_HEIGHT: usize = 65_535;
 
 /// A frame: what a routine keeps while it runs (Z 6.3.3, 6.4). Contracts see its stack with the top first.
 #[derive(Drop)]
@@ -99,5 +102,55 @@ impl Frame {
         ensures { self.new ≡ record self.old { stack = drop count self.old.stack } }
     {
         self.stack.truncate(self.stack.len() - count);
+    }
+
+    /// Whether it has a variable: the stack and each global are there, and a local below its count (Z 6.4.2).
+    pub fn has(&self, variable: u8) -> bool
+        ensures { result ≡ exists variable self.now }
+    {
+        variable == 0 || usize::from(variable) <= self.locals.len() || variable >= 16
+    }
+
+    /// Whether a variable takes one word more, where so many were taken off the stack before: the stack takes no more than
+    /// 65,535 words (own).
+    pub fn has_room(&self, variable: u8, before: usize) -> bool
+        requires { before ≤ length self.now.stack }
+        ensures { result ≡ has_room variable (record self.now { stack = drop before self.now.stack }) }
+    {
+        variable != 0 || self.stack.len() - before < MAX_HEIGHT
+    }
+
+    /// Takes so many words off the stack, and puts one on it. Memory is wanted only where none is taken off; an error
+    /// changes nothing.
+    pub(crate) fn exchange(&mut self, count: usize, word: u16) -> Result<(), AllocError>
+        requires { count ≤ length self.old.stack }
+        ensures ok { OnOk result (self.new ≡ record self.old { stack = word ∷ drop count self.old.stack }) }
+        ensures err { OnErr result (self.new ≡ self.old) }
+        ensures wants { OnErr result (count ≡ 0) }
+    {
+        if count == 0 {
+            self.stack.push(word)?;
+            return Ok(());
+        }
+        self.stack.truncate(self.stack.len() - count);
+        self.stack.push_reserved(word);
+        Ok(())
+    }
+
+    /// Writes the top of the stack in place.
+    pub(crate) fn set_top(&mut self, word: u16)
+        requires { 0 < length self.old.stack }
+        ensures { self.new ≡ record self.old { stack = slice_set self.old.stack 0 word } }
+    {
+        self.stack.truncate(self.stack.len() - 1);
+        self.stack.push_reserved(word);
+    }
+
+    /// Writes a local.
+    pub(crate) fn set_local(&mut self, index: usize, word: u16)
+        requires { index < length self.old.locals }
+        ensures { self.new ≡ record self.old { locals = slice_set self.old.locals index word } }
+    {
+        self.locals[index] = word;
     }
 }

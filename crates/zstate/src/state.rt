@@ -1,9 +1,9 @@
 //! The state of a machine.
 
-ghost use Rattle.std.specs.Prelude.{◌≡◌, ◌≤◌, ◌<◌, ◌+◌, ◌*◌, ◌-◌, ◌==◌, ◌+ℤ◌, ◌≤ℤ◌, Some, drop, length, map, reverse, slice_get, slice_index, pos, IfOk, is_some};
+ghost use Rattle.std.specs.Prelude.{◌≡◌, ◌≤◌, ◌<◌, ◌+◌, ◌*◌, ◌-◌, ◌^◌, ◌==◌, ◌+ℤ◌, ◌≤ℤ◌, ◌∷◌, Some, List, drop, length, map, reverse, slice_get, slice_index, pos, negsuc, true, [], MatchOption, IfOk, OnOk, OnErr, IsOk, is_some};
 ghost use Rattle.zstory.specs.LoadedStory.{globals};
 ghost use Rattle.zstory.specs.Bytes.{word_at};
-ghost use Rattle.zstate.specs.State.{State as StateValue, opening, popped, at_place, give, global, read_named, read_variable, read_operand, read_operands, found, pop};
+ghost use Rattle.zstate.specs.State.{State as StateValue, opening, popped, at_place, give, global, read_named, read_variable, read_operand, read_operands, found, pop, Frame as FrameValue, exists, put, put_named, put_in_place, read_in_place, with_memory, write_word};
 ghost use Rattle.zstate.specs.Gives.{Gives, IsNear};
 
 use crate::frame::Frame;
@@ -99,6 +99,13 @@ impl State {
         self.callers.as_slice()
     }
 
+    /// The newest of the frames below the newest, to which that one returns.
+    pub fn caller(&self) -> Option<&Frame>
+        ensures { MatchOption result (self.now.callers ≡ []) (λ g. (gs : List FrameValue) × (self.now.callers ≡ g.now ∷ gs)) }
+    {
+        self.callers.last()
+    }
+
     /// The address of the instruction that comes next. A jump may lead outside memory, below 0 too.
     pub fn place(&self) -> i32
         ensures { result ≡ self.now.place }
@@ -143,6 +150,16 @@ impl State {
         self.place += length as i32;
     }
 
+    /// Moves the place by a distance.
+    pub fn go(&mut self, distance: i32)
+        requires near { IsNear self.old.place }
+        requires low { negsuc 100000 ≤ℤ distance }
+        requires high { distance ≤ℤ pos 100000 }
+        ensures { self.new ≡ at_place (self.old.place +ℤ distance) self.old }
+    {
+        self.place += distance;
+    }
+
     /// Takes so many words off the stack.
     pub fn pop(&mut self, count: usize)
         requires { count ≤ length self.old.frame.stack }
@@ -162,11 +179,12 @@ impl State {
         BigEndian::read_u16(&memory[at..])
     }
 
-    #[tactic(auto, unfolding(crate::specs::State::read_named))]
+    #[tactic(auto, unfolding(crate::specs::State::read_named), using(crate::proofs::Reading::existing))]
     fn read_named(&self, story: &Story, variable: u8) -> Result<u16, Halt>
         requires memory { length self.now.memory ≡ length story.now.memory }
         requires named { 0 < variable }
-        ensures { Gives (λ x. x) result (read_named story.now variable self.now) }
+        ensures value { Gives (λ x. x) result (read_named story.now variable self.now) }
+        ensures there { IfOk result (λ _. exists variable self.now.frame ≡ true) }
     {
         if variable >= 16 {
             return Ok(self.global(story, variable));
@@ -233,5 +251,123 @@ impl State {
             popped = after;
         }
         Ok(Values { words, popped })
+    }
+
+    /// The value of the variable of a number, where so many words were taken off the stack before. The top of the stack is
+    /// read in place (Z 6.3.4).
+    #[tactic(auto, unfolding(crate::specs::State::read_in_place), using(crate::proofs::Reading::reading, crate::proofs::Reading::existing))]
+    pub fn read_in_place(&self, story: &Story, number: u16, before: usize) -> Result<u16, Halt>
+        requires memory { length self.now.memory ≡ length story.now.memory }
+        requires within { before ≤ length self.now.frame.stack }
+        ensures value { Gives (λ x. x) result (read_in_place story.now number (popped before self.now)) }
+        ensures named { IfOk result (λ _. number < 256) }
+        ensures there { IfOk result (λ _. exists number self.now.frame ≡ true) }
+        ensures filled { IfOk result (λ _. number ≡ 0 → before < length self.now.frame.stack) }
+    {
+        if number >= 256 {
+            return Err(Halt::Fault(Fault::BadVariable));
+        }
+        if number == 0 {
+            if before == self.frame.height() {
+                return Err(Halt::Fault(Fault::StackUnderflow));
+            }
+            return Ok(self.frame.slot(before));
+        }
+        self.read_named(story, number as u8)
+    }
+
+    /// Writes a global.
+    fn set_global(&mut self, story: &Story, variable: u8, word: u16)
+        requires memory { length self.old.memory ≡ length story.now.memory }
+        requires named { 16 ≤ variable }
+        ensures { self.new ≡ with_memory (write_word self.old.memory (global story.now variable) word) self.old }
+    {
+        let memory = self.memory.as_mut_slice();
+        let at = story.globals() + 2 * (usize::from(variable) - 16);
+        memory[at] = (word >> 8) as u8;
+        memory[at + 1] = (word & 0xff) as u8;
+    }
+
+    /// Writes a local that is there, or a global.
+    #[tactic(auto, unfolding(crate::specs::State::put_named))]
+    pub fn put_named(&mut self, story: &Story, variable: u8, word: u16)
+        requires memory { length self.old.memory ≡ length story.now.memory }
+        requires named { 0 < variable }
+        requires there { exists variable self.old.frame ≡ true }
+        ensures { self.new ≡ put_named story.now variable word self.old }
+    {
+        if variable < 16 {
+            self.frame.set_local(usize::from(variable) - 1, word);
+        } else {
+            self.set_global(story, variable, word);
+        }
+    }
+
+    /// Writes a variable that is there; the top of the stack is written in place (Z 6.3.4).
+    #[tactic(auto, unfolding(crate::specs::State::put_in_place))]
+    pub fn put_in_place(&mut self, story: &Story, variable: u8, word: u16)
+        requires memory { length self.old.memory ≡ length story.now.memory }
+        requires there { exists variable self.old.frame ≡ true }
+        requires filled { variable ≡ 0 → 0 < length self.old.frame.stack }
+        ensures { self.new ≡ put_in_place story.now variable word self.old }
+    {
+        if variable == 0 {
+            self.frame.set_top(word);
+        } else {
+            self.put_named(story, variable, word);
+        }
+    }
+
+    /// Takes so many words off the stack, and puts one into a variable that is there. The stack is pushed. Memory is wanted
+    /// only where it gets longer; an error changes nothing.
+    #[tactic(auto, unfolding(crate::specs::State::put))]
+    pub fn put(
+        &mut self,
+        story: &Story,
+        variable: u8,
+        count: usize,
+        word: u16,
+    ) -> Result<(), AllocError>
+        requires memory { length self.old.memory ≡ length story.now.memory }
+        requires within { count ≤ length self.old.frame.stack }
+        requires there { exists variable self.old.frame ≡ true }
+        ensures ok { OnOk result (self.new ≡ put story.now variable word (popped count self.old)) }
+        ensures err { OnErr result (self.new ≡ self.old) }
+        ensures wants { OnErr result ((variable ≡ 0) × (count ≡ 0)) }
+    {
+        if variable == 0 {
+            self.frame.exchange(count, word)?;
+            return Ok(());
+        }
+        self.pop(count);
+        self.put_named(story, variable, word);
+        Ok(())
+    }
+
+    /// Puts a word on the stack of the newest caller. An error changes nothing.
+    pub fn push_to_caller(&mut self, word: u16) -> Result<(), AllocError>
+        requires { 0 < length self.old.callers }
+        ensures ok { OnOk result ((g : FrameValue) (gs : List FrameValue) → self.old.callers ≡ g ∷ gs → self.new ≡ record self.old { callers = record g { stack = word ∷ g.stack } ∷ gs }) }
+        ensures err { OnErr result (self.new ≡ self.old) }
+    {
+        let Some(mut caller) = self.callers.pop() else {
+            unreachable!()
+        };
+        let pushed = caller.exchange(0, word);
+        self.callers.push_reserved(caller);
+        pushed
+    }
+
+    /// Leaves the newest frame: its caller is the newest, and goes on where the frame says (Z 6.4.5).
+    pub fn leave(&mut self)
+        requires called { 0 < length self.old.callers }
+        requires reached { self.old.frame.return_place < 2 ^ 24 }
+        ensures { (g : FrameValue) (gs : List FrameValue) → self.old.callers ≡ g ∷ gs → self.new ≡ record self.old { frame = g; callers = gs; place = pos self.old.frame.return_place } }
+    {
+        let Some(caller) = self.callers.pop() else {
+            unreachable!()
+        };
+        self.place = self.frame.return_place() as i32;
+        self.frame = caller;
     }
 }
