@@ -1,4 +1,6 @@
-mod Worked
+mod Doing
 mod Needless
 pub mod Running
+mod Plain
+mod Short
 mod Stepping

@@ -1,9 +1,13 @@
 -- No opcode of this build waits for anything.
-use Rattle.std.proofs.Common.{◌≡◌, ℕ, Bool, true, false, List, [], ◌∷◌, Result, Ok, Err, Option, Some, None, refl, if◌then◌else◌}
-use Rattle.std.specs.Prelude.{ℤ, pos, negsuc, is_some, ◌==◌, nat_lt, drop}
+use Rattle.std.proofs.Common.{◌≡◌, ℕ, Bool, true, false, List, [], ◌∷◌, Result, Ok, Err, Option, Some, None, refl, sym, subst, if◌then◌else◌}
+use Rattle.std.specs.Prelude.{ℤ, pos, negsuc, is_some, not, ◌||◌, ◌==◌, nat_lt, drop}
 use Rattle.zfault.specs.declared.fault.Fault.{Fault}
-use Rattle.zcode.specs.declared.opcode.Opcode.{Opcode}
-use Rattle.zcode.specs.declared.opcode.Opcode.TheVariants as opcodes
+use Rattle.zfault.specs.declared.fault.Fault.TheVariants.{ZeroDivisor, AbsentLocal, ReturnFromMain}
+use Rattle.zfault.specs.declared.pause.Need.{Need}
+use Rattle.zword.specs.Binary.{is_defined}
+use Rattle.zcode.specs.declared.operation.Operation.{Operation}
+use Rattle.zcode.specs.declared.operation.Operation.TheVariants as operations
+use Rattle.zcode.specs.Operation.{operation_of, inputs, target}
 use Rattle.zcode.specs.declared.instr.Operand.{Operand}
 use Rattle.zcode.specs.declared.instr.Operand.TheVariants.{Constant, Variable}
 use Rattle.zcode.specs.declared.error.DecodeError.{DecodeError}
@@ -15,9 +19,9 @@ use Rattle.zstory.specs.LoadedStory.{LoadedStory}
 use Rattle.zstate.specs.declared.halt.Halt.{Halt}
 use Rattle.zstate.specs.declared.halt.Halt.TheVariants as halts
 use Rattle.zstate.specs.InTurn.{◌>>=◌, in_turn}
-use Rattle.zstate.specs.State.{State, Scope, Setting, pop, found, read_named, read_variable, read_operand}
+use Rattle.zstate.specs.State.{State, Scope, Setting, exists, has_room, fault, pop, found, read_named, read_variable, read_operand, read_in_place}
 use Rattle.zstate.specs.Run.{need_in, awaited}
-use Rattle.zstate.specs.Step.{Done, decoded, fetch, printed, print_at, effect_of, plan, step}
+use Rattle.zstate.specs.Step.{Effect, Move, Done, course, has_caller, is_taken, is_roomy, decoded, fetch, arg, printed, print_at, effect_of, effect_if, asked, waits, admits, pauses, settle, plan, step}
 
 abbrev pub IsNeedless : {A : Type 0} → Result A Halt → Type 0
 IsNeedless (Ok x) = Unit {0}
@@ -68,22 +72,82 @@ unfolding in_turn
 of_operands story [] s = tt
 of_operands story (o ∷ os) s = bind (read_operand story o s) _ (of_operand story o s) (λ x. bind (in_turn (read_operand story) os x.1) _ (of_operands story os x.1) (λ xs. tt))
 
-of_text : (r : Result (List ℕ) TextError) → IsNeedless (printed r)
-of_text (Ok bytes) = tt
+-- an effect that needs nothing, or what keeps it from being, which is no need
+abbrev NeedsNothing : Result Effect Halt → Type 0
+NeedsNothing (Ok e) = e.needs ≡ None
+NeedsNothing (Err h) = IsNeedless {A = Effect} (Err h)
+
+read_first : (r : Result ℕ Halt) (f : ℕ → Effect) → IsNeedless r → ((x : ℕ) → (f x).needs ≡ None) → NeedsNothing (r >>= λ x. Ok (f x))
+read_first (Ok x) f h k = k x
+read_first (Err (halts.Fault e)) f h k = tt
+read_first (Err (halts.Need n)) f h k = h
+read_first (Err halts.Quit) f h k = tt
+read_first (Err halts.FrameLimit) f h k = tt
+
+of_in_place : (story : LoadedStory) (v : ℕ) (s : State) → IsNeedless (read_in_place story v s)
+unfolding read_in_place
+of_in_place story v s = either (nat_lt v 256) _ _ (either (v == 0) _ _ (of_found _ _) (of_named story v s)) tt
+
+of_division : (b : Bool) (e : Effect) → e.needs ≡ None → NeedsNothing (if b then Ok e else fault ZeroDivisor)
+of_division true e h = h
+of_division false e h = tt
+
+of_text : (r : Result (List ℕ) TextError) → NeedsNothing (printed r)
+of_text (Ok bytes) = refl
 of_text (Err e) = tt
 
-of_print : (place : ℤ) (memory : List ℕ) → IsNeedless (print_at place memory)
+of_print : (place : ℤ) (memory : List ℕ) → NeedsNothing (print_at place memory)
 of_print (pos p) memory = of_text (output_at memory p)
 of_print (negsuc n) memory = tt
 
-of_effect : (o : Opcode) (values : List ℕ) (s : State) → IsNeedless (effect_of o values s)
+of_operation : (m : Setting) (o : Operation) (values : List ℕ) (s : State) → NeedsNothing (effect_of m o values s)
 unfolding effect_of
-of_effect opcodes.Print values s = of_print _ s.memory
-of_effect _ values s = tt
+of_operation m (operations.Binary op) values s = of_division (is_defined op (arg values 1)) _ refl
+of_operation m (operations.Count op question) values s = read_first (read_in_place m.story (arg values 0) s) _ (of_in_place m.story (arg values 0) s) (λ x. refl)
+of_operation m operations.Store values s = read_first (read_in_place m.story (arg values 0) s) _ (of_in_place m.story (arg values 0) s) (λ x. refl)
+of_operation m operations.Load values s = read_first (read_in_place m.story (arg values 0) s) _ (of_in_place m.story (arg values 0) s) (λ x. refl)
+of_operation m operations.Print values s = of_print _ s.memory
+of_operation m _ values s = refl
+
+of_effect : (m : Setting) (o : Option Operation) (values : List ℕ) (s : State) → NeedsNothing (effect_if m o values s)
+of_effect m None values s = tt
+of_effect m (Some o) values s = of_operation m o values s
+
+of_asked : (b : Bool) (h : Halt) → IsNeedless {A = Unit {0}} (Err h) → IsNeedless (asked b h)
+of_asked true h n = tt
+of_asked false h n = n
+
+then_asked : {A : Type 0} (b : Bool) (h : Halt) (f : Unit {0} → Result A Halt) → IsNeedless {A = Unit {0}} (Err h) → ((u : Unit {0}) → IsNeedless (f u)) → IsNeedless (asked b h >>= f)
+then_asked b h f n k = bind (asked b h) f (of_asked b h n) k
+
+of_admits : (v : ℕ) (e : Effect) (move : Move) (s : State) → IsNeedless (admits v e move s)
+unfolding admits
+of_admits v e move s =
+    then_asked (not (is_some e.gives) || exists v s.frame) (halts.Fault AbsentLocal) _ tt
+    (λ a. then_asked (has_caller move s.callers) (halts.Fault ReturnFromMain) _ tt
+    (λ b. of_asked (is_taken move s.frame.result s.callers) (halts.Fault AbsentLocal) tt))
+
+of_pauses : (v : ℕ) (e : Effect) (move : Move) (s : State) → e.needs ≡ None → IsNeedless (pauses v e move s)
+unfolding pauses
+of_pauses v e move s none =
+    bind (waits e.needs) _ (subst (λ (n : Option Need). IsNeedless (waits n)) (sym none) tt)
+    (λ a. then_asked (not e.quits) halts.Quit _ tt
+    (λ b. then_asked (not (is_some e.gives) || has_room v s.frame) halts.FrameLimit _ tt
+    (λ c. of_asked (is_roomy move s.frame.result s.callers) halts.FrameLimit tt)))
+
+of_settling : (i : Instruction) (e : Effect) (s : State) → e.needs ≡ None → IsNeedless (settle i e s)
+of_settling i e s none = bind (admits (target i) e (course e i.branch) s) _ (of_admits (target i) e (course e i.branch) s) (λ u. of_pauses (target i) e (course e i.branch) s none)
+
+bind_effect : {B : Type 0} (r : Result Effect Halt) (f : Effect → Result B Halt) → NeedsNothing r → ((e : Effect) → e.needs ≡ None → IsNeedless (f e)) → IsNeedless (r >>= f)
+bind_effect (Ok e) f h k = k e h
+bind_effect (Err (halts.Fault e)) f h k = tt
+bind_effect (Err (halts.Need n)) f h k = h
+bind_effect (Err halts.Quit) f h k = tt
+bind_effect (Err halts.FrameLimit) f h k = tt
 
 of_plan : (m : Setting) (s : State) → IsNeedless (plan m s)
 unfolding plan
-of_plan m s = bind _ _ (of_fetch m.scope s.place s.memory) (λ i. bind _ _ (of_operands m.story i.operands s) (λ v. bind _ _ (of_effect i.opcode v.0 v.1) (λ e. tt)))
+of_plan m s = bind _ _ (of_fetch m.scope s.place s.memory) (λ i. bind _ _ (of_operands m.story (inputs i) s) (λ v. bind_effect _ _ (of_effect m (operation_of i.opcode) v.0 v.1) (λ e none. bind _ _ (of_settling i e v.1 none) (λ u. tt))))
 
 of_step : (m : Setting) (s : State) → IsNeedless (step m s)
 unfolding step

@@ -1,52 +1,154 @@
 //! The effect of a step, which only want of memory can keep from being done.
 
-ghost use Rattle.std.specs.Prelude.{◌≡◌, ◌<◌, ◌≤◌, ◌++◌, length, map, vec_len, OnOk, OnErr};
+ghost use Rattle.std.specs.Prelude.{◌≡◌, ◌<◌, ◌≤◌, ◌+◌, ◌^◌, ◌++◌, ◌+ℤ◌, ℕ, Option, None, [], true, pos, length, map, is_some, vec_len, OnOk, OnErr};
+ghost use Rattle.std.specs.Vec.{vec_capacity};
 ghost use Rattle.zfault.specs.declared.item.Item.TheVariants.{Text};
-ghost use Rattle.zstate.specs.State.{popped};
-ghost use Rattle.zstate.specs.Step.{act, items_of};
-ghost use Rattle.zref.specs.Plan.{EndsBy, Prints, effect_of};
+ghost use Rattle.zcode.specs.Operation.{target};
+ghost use Rattle.zstate.specs.Run.{IsLonger};
+ghost use Rattle.zstate.specs.State.{exists, popped, popped as taken};
+ghost use Rattle.zstate.specs.Step.{act, assigned, course, stored};
+ghost use Rattle.zref.specs.Plan.{EndsBy, IsAssignable, IsOpenWay, IsReady, IsShort, effect_with, move_of, on_from, returned, went};
 
-use crate::effect::Effect;
+use crate::effect::{Course, Effect};
 use crate::plan::Plan;
 use std::alloc::AllocError;
 use zfault::Item;
 use zstate::State;
+use zstory::Story;
 
-/// Does what was planned, and gives out its items: all of them or, with nothing changed, none.
-#[tactic(auto, unfolding(zstate::specs::Step::act))]
+/// Does what was planned, and gives out its items: all of them or, with nothing changed, none. Memory is wanted only where
+/// something is given out, or a stack gets longer.
+#[tactic(auto, using(crate::proofs::Doing::acting))]
 pub(crate) fn act_on(
+    story: &Story,
     state: &mut State,
     plan: &Plan,
     text: &[u8],
     items: &mut Vec<Item>,
 ) -> Result<(), AllocError>
-    requires within { plan.now.popped ≤ length state.old.frame.stack }
+    requires memory { length state.old.memory ≡ length story.now.memory }
+    requires reached { state.old.frame.return_place < 2 ^ 24 }
     requires near { EndsBy 131072 plan.now.instruction.size state.old.place }
-    ensures ok { OnOk result (state.new ≡ act plan.now.instruction (effect_of plan.now.effect text.now) (popped plan.now.popped state.old)) }
-    ensures given { OnOk result (items.new.items ≡ items.old.items ++ items_of (effect_of plan.now.effect text.now)) }
+    requires course { move_of plan.now.course ≡ course (effect_with plan.now.effect []) plan.now.instruction.branch }
+    requires ready { IsReady (target plan.now.instruction) plan.now.effect plan.now.course plan.now.popped state.old }
+    ensures ok { OnOk result (state.new ≡ act story.now plan.now.instruction (effect_with plan.now.effect text.now) (popped plan.now.popped state.old)) }
+    ensures given { OnOk result (items.new.items ≡ items.old.items ++ map Text text.now) }
     ensures err { OnErr result (state.new ≡ state.old) }
     ensures kept { OnErr result (items.new.items ≡ items.old.items) }
-    ensures wants { OnErr result (Prints (effect_of plan.now.effect text.now)) }
+    ensures wants { OnErr result (length text.now ≡ 0 → IsLonger state.old (act story.now plan.now.instruction (effect_with plan.now.effect text.now) (popped plan.now.popped state.old))) }
 {
-    match plan.effect {
-        Effect::Proceed => {}
-        Effect::PrintByte(byte) => give_text(items, &[byte])?,
-        Effect::PrintText => give_text(items, text)?,
-    }
-    state.pop(plan.popped);
-    state.advance(plan.instruction.length());
+    items.reserve(text.len())?;
+    go(story, state, plan)?;
+    give_text(items, text);
     Ok(())
 }
 
-/// Gives out bytes of text, all or none.
-fn give_text(items: &mut Vec<Item>, bytes: &[u8]) -> Result<(), AllocError>
-    ensures ok { OnOk result (items.new.items ≡ items.old.items ++ map Text bytes.now) }
-    ensures err { OnErr result (items.new.items ≡ items.old.items) }
-    ensures wants { OnErr result (0 < length bytes.now) }
+/// Does all but giving out.
+fn go(story: &Story, state: &mut State, plan: &Plan) -> Result<(), AllocError>
+    requires memory { length state.old.memory ≡ length story.now.memory }
+    requires reached { state.old.frame.return_place < 2 ^ 24 }
+    requires near { EndsBy 131072 plan.now.instruction.size state.old.place }
+    requires ready { IsReady (target plan.now.instruction) plan.now.effect plan.now.course plan.now.popped state.old }
+    ensures ok { OnOk result (state.new ≡ went story.now plan.now.instruction plan.now.effect plan.now.course (popped plan.now.popped state.old)) }
+    ensures err { OnErr result (state.new ≡ state.old) }
+    ensures wants { OnErr result (IsLonger state.old (went story.now plan.now.instruction plan.now.effect plan.now.course (popped plan.now.popped state.old))) }
 {
-    items.reserve(bytes.len())?;
+    match plan.course {
+        Course::On(distance) => go_on(story, state, plan, distance),
+        Course::Back(word) => match state.frame().result() {
+            0 => push_back(story, state, plan, word),
+            variable => {
+                put_back(story, state, plan, variable, word);
+                Ok(())
+            }
+        },
+    }
+}
+
+/// Changes variables, and goes on so far behind the next instruction.
+#[tactic(auto, using(crate::proofs::Doing::doing))]
+fn go_on(
+    story: &Story,
+    state: &mut State,
+    plan: &Plan,
+    distance: i32,
+) -> Result<(), AllocError>
+    requires memory { length state.old.memory ≡ length story.now.memory }
+    requires near { EndsBy 131072 plan.now.instruction.size state.old.place }
+    requires short { IsShort distance }
+    requires within { plan.now.popped ≤ length state.old.frame.stack }
+    requires assigns { IsAssignable plan.now.effect.assigns plan.now.popped state.old }
+    requires there { is_some plan.now.effect.gives ≡ true → exists (target plan.now.instruction) state.old.frame ≡ true }
+    requires apart { is_some plan.now.effect.gives ≡ true → plan.now.effect.assigns ≡ None }
+    ensures ok { OnOk result (state.new ≡ on_from plan.now.instruction distance (stored story.now plan.now.effect.gives (target plan.now.instruction) (assigned story.now plan.now.effect.assigns (popped plan.now.popped state.old)))) }
+    ensures err { OnErr result (state.new ≡ state.old) }
+    ensures wants { OnErr result (IsLonger state.old (on_from plan.now.instruction distance (stored story.now plan.now.effect.gives (target plan.now.instruction) (assigned story.now plan.now.effect.assigns (popped plan.now.popped state.old))))) }
+{
+    match plan.effect.gives {
+        Some(word) => state.put(story, plan.instruction.target(), plan.popped, word)?,
+        None => change(story, state, plan.effect, plan.popped),
+    }
+    state.advance(plan.instruction.length());
+    state.go(distance);
+    Ok(())
+}
+
+/// Takes the words of the operands off the stack, and gives a variable its value.
+#[tactic(auto, using(crate::proofs::Doing::doing))]
+fn change(story: &Story, state: &mut State, effect: Effect, popped: usize)
+    requires memory { length state.old.memory ≡ length story.now.memory }
+    requires within { popped ≤ length state.old.frame.stack }
+    requires assigns { IsAssignable effect.assigns popped state.old }
+    ensures { state.new ≡ assigned story.now effect.assigns (taken popped state.old) }
+{
+    state.pop(popped);
+    if let Some((variable, word)) = effect.assigns {
+        state.put_in_place(story, variable, word);
+    }
+}
+
+/// Changes variables, leaves the frame, and puts a value on the caller's stack.
+#[tactic(auto, using(crate::proofs::Doing::doing))]
+fn push_back(story: &Story, state: &mut State, plan: &Plan, word: u16) -> Result<(), AllocError>
+    requires memory { length state.old.memory ≡ length story.now.memory }
+    requires reached { state.old.frame.return_place < 2 ^ 24 }
+    requires way { IsOpenWay (Course.Back word) state.old }
+    requires stack { state.old.frame.result ≡ 0 }
+    requires within { plan.now.popped ≤ length state.old.frame.stack }
+    requires assigns { IsAssignable plan.now.effect.assigns plan.now.popped state.old }
+    ensures ok { OnOk result (state.new ≡ returned story.now word (assigned story.now plan.now.effect.assigns (popped plan.now.popped state.old))) }
+    ensures err { OnErr result (state.new ≡ state.old) }
+    ensures wants { OnErr result (IsLonger state.old (returned story.now word (assigned story.now plan.now.effect.assigns (popped plan.now.popped state.old)))) }
+{
+    state.push_to_caller(word)?;
+    change(story, state, plan.effect, plan.popped);
+    state.leave();
+    Ok(())
+}
+
+/// Changes variables, leaves the frame, and gives the caller's variable a value.
+#[tactic(auto, using(crate::proofs::Doing::doing))]
+fn put_back(story: &Story, state: &mut State, plan: &Plan, variable: u8, word: u16)
+    requires memory { length state.old.memory ≡ length story.now.memory }
+    requires reached { state.old.frame.return_place < 2 ^ 24 }
+    requires way { IsOpenWay (Course.Back word) state.old }
+    requires result { state.old.frame.result ≡ variable }
+    requires named { 0 < variable }
+    requires within { plan.now.popped ≤ length state.old.frame.stack }
+    requires assigns { IsAssignable plan.now.effect.assigns plan.now.popped state.old }
+    ensures { state.new ≡ returned story.now word (assigned story.now plan.now.effect.assigns (popped plan.now.popped state.old)) }
+{
+    change(story, state, plan.effect, plan.popped);
+    state.leave();
+    state.put_named(story, variable, word);
+}
+
+/// Gives out bytes of text, for which there is room.
+fn give_text(items: &mut Vec<Item>, bytes: &[u8])
+    requires { vec_len items.old + length bytes.now ≤ vec_capacity items.old }
+    ensures { items.new.items ≡ items.old.items ++ map Text bytes.now }
+{
     for byte in bytes {
         items.push_reserved(Item::Text(*byte));
     }
-    Ok(())
 }

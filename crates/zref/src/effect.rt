@@ -1,9 +1,25 @@
 //! What an instruction does, once nothing is wrong with it.
 
-/// The effect of an instruction. A text that is printed was decoded aside.
-#[derive(Clone, Copy, Debug, PartialEq, Eq)]
-pub enum Effect {
-    Proceed,
-    PrintByte(u8),
-    PrintText,
+/// The effect of an instruction, in parts that don't depend on one another. What is printed stands aside.
+#[derive(Clone, Copy)]
+pub(crate) struct Effect {
+    /// The value that goes to the result variable.
+    pub(crate) gives: Option<u16>,
+    /// The variable that is given a value in place, and the value.
+    pub(crate) assigns: Option<(u8, u16)>,
+    /// The condition that the branch data asks for.
+    pub(crate) tests: Option<bool>,
+    /// The value of a jump, which tells how far it leads.
+    pub(crate) jumps: Option<u16>,
+    /// Whether the machine stands still.
+    pub(crate) quits: bool,
+}
+
+/// Where a step leads.
+#[derive(Clone, Copy)]
+pub(crate) enum Course {
+    /// So many bytes behind the next instruction.
+    On(i32),
+    /// To the caller, with a value.
+    Back(u16),
 }

@@ -3,9 +3,11 @@
 
 mod act;
 mod effect;
+mod families;
 mod machine;
 mod plan;
 mod scope;
+mod settling;
 mod step;
 
 pub use machine::CheckedMachine;

@@ -1,7 +1,7 @@
 pub mod Calls
 mod InTurn
 pub mod Joins
-mod Keeps
+pub mod Keeps
 mod Reading
 mod Stacks
 mod Worked

@@ -125,8 +125,9 @@ fn write_code(code: u16, text: &mut Vec<u8>, outcome: Outcome) -> Outcome
     text.push(byte).or(Err(TextError::OutOfMemory))
 }
 
-// The byte that a ZSCII code prints, if any.
-fn output_byte(code: u16) -> Option<u8>
+/// The byte that a ZSCII code prints, if any: none for 0, byte 10 for 13, itself from 32 to 126, and `?` for every other
+/// code, above 255 too (Z 3.8; the last is own).
+pub fn output_byte(code: u16) -> Option<u8>
     ensures { option_to_list result ≡ output_of_code code }
 {
     match code {

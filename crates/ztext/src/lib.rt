@@ -11,7 +11,7 @@ mod length;
 mod pieces;
 
 pub use abbreviations::{TextSpan, plain_abbreviation};
-pub use decode::decode_into;
+pub use decode::{decode_into, output_byte};
 pub use ends::TextEnds;
 pub use error::TextError;
 pub use laws::text_is_at_front;
