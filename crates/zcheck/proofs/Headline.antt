@@ -9,7 +9,7 @@ use Rattle.zlist.specs.Listing.{ListedCode}
 use Rattle.zcert.specs.Certificate.{Instruction, Certificate}
 use Rattle.zcert.specs.Listed.{listed_at}
 use Rattle.zfault.specs.declared.event.Event.{Event}
-use Rattle.zstate.specs.State.{Scope, Setting, opening, scope_all, scope_only}
+use Rattle.zstate.specs.State.{Scope, Setting, opening, scope_all, scope_only, usual_limit}
 use Rattle.zstate.specs.Run.{run}
 use Rattle.zrule.specs.Claims.{claims_of}
 use Rattle.zrule.specs.Rules.{Supports}
@@ -56,7 +56,7 @@ module _ {V : Type 0} (o : SetOperations V) (story : LoadedStory) (c : Certifica
 
   module _ (loaded : IsLoadedStory story) (passes : Passes o story c) (scope : Scope) (listed : IsListedIn o (claims_of o c) scope) where
     setting : Setting
-    setting = record { story = story; scope = scope }
+    setting = record { story = story; scope = scope; limit = usual_limit }
 
     runs : (events : List Event) (n : ℕ) → IsNoFault (run setting events n (opening story)).stop × Described o (claims_of o c) story (run setting events n (opening story)).state
     unfolding setting

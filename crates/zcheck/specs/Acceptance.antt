@@ -10,7 +10,7 @@ use Rattle.zlist.specs.Listing.{ListedCode}
 use Rattle.zcert.specs.Certificate.{Instruction, Certificate}
 use Rattle.zdomain.specs.declared.interval.Interval.{Interval}
 use Rattle.zdomain.specs.Interval.{interval_operations}
-use Rattle.zstate.specs.State.{Scope, opening, scope_all, scope_only}
+use Rattle.zstate.specs.State.{Scope, opening, scope_all, scope_only, usual_limit}
 use Rattle.zstate.specs.Run.{run}
 use Rattle.zrule.specs.Bytes.{IsFixed}
 use Rattle.zrule.specs.Claims.{claims_of}
@@ -42,7 +42,7 @@ module _ {V : Type 0} where
 
 -- no run of the story meets a fault in the scope, whatever the events and however many the steps
 abbrev pub RunsWithoutFault : LoadedStory → Scope → Type 0
-RunsWithoutFault story scope = (events : List Event) (n : ℕ) → IsNoFault (run (record { story = story; scope = scope }) events n (opening story)).stop
+RunsWithoutFault story scope = (events : List Event) (n : ℕ) → IsNoFault (run (record { story = story; scope = scope; limit = usual_limit }) events n (opening story)).stop
 
 -- with the certificate's listing as with every place of the story
 pub record NeverFaults (a : Acceptance) : Type 0 where
@@ -52,7 +52,7 @@ pub record NeverFaults (a : Acceptance) : Type 0 where
 -- no run of the story changes a byte that is fixed or frozen, whatever the events and however many the steps
 abbrev pub RunsWithoutChange : LoadedStory → (ℕ → Bool) → Scope → Type 0
 RunsWithoutChange story is_frozen scope =
-    (events : List Event) (n p : ℕ) → IsFixed story is_frozen p ⊎ (is_frozen p ≡ true) → byte_at (run (record { story = story; scope = scope }) events n (opening story)).state.memory p ≡ byte_at story.memory p
+    (events : List Event) (n p : ℕ) → IsFixed story is_frozen p ⊎ (is_frozen p ≡ true) → byte_at (run (record { story = story; scope = scope; limit = usual_limit }) events n (opening story)).state.memory p ≡ byte_at story.memory p
 
 -- with the one listing as with the other
 pub record NeverChanges (a : Acceptance) : Type 0 where

@@ -4,7 +4,7 @@ use Rattle.std.specs.Io.KnownBytes.{Appends}
 use Rattle.zfault.specs.Devices.{AppendsBeginning}
 use Rattle.zfault.specs.declared.fault.Fault.{Fault}
 use Rattle.zstory.specs.LoadedStory.{LoadedStory}
-use Rattle.zstate.specs.State.{State, opening, scope_only}
+use Rattle.zstate.specs.State.{State, opening, scope_only, usual_limit}
 use Rattle.zstate.specs.Run.{Ending, run}
 use Rattle.zplayer.specs.declared.end.End.{End}
 use Rattle.zplayer.specs.declared.end.End.TheVariants as ends
@@ -96,7 +96,7 @@ CheckComesTo story_known certificate_known before now (Stopped problem) = IsUnac
 
 -- how a play of so many steps ends that the certificate's listing bounds
 abbrev pub ending_with : Acceptance → ℕ → Ending
-ending_with a budget = run (record { story = a.story; scope = scope_only a.listing }) [] budget (opening a.story)
+ending_with a budget = run (record { story = a.story; scope = scope_only a.listing; limit = usual_limit }) [] budget (opening a.story)
 
 -- it was played: so it ended, with no fault, and all that the play gives out was written
 pub record IsPlayedBy (a : Acceptance) (budget : ℕ) (end : End) (before now : Option (List ℕ)) : Type 0 where
@@ -106,7 +106,7 @@ pub record IsPlayedBy (a : Acceptance) (budget : ℕ) (end : End) (before now : 
 
 -- the play stopped behind one of its steps, and what the steps up to there give out was written
 abbrev pub IsCutShortBy : Acceptance → ℕ → Option (List ℕ) → Option (List ℕ) → Type 0
-IsCutShortBy a budget before now = (state : State) × PlaysSome (record { story = a.story; scope = scope_only a.listing }) budget (opening a.story) state before now
+IsCutShortBy a budget before now = (state : State) × PlaysSome (record { story = a.story; scope = scope_only a.listing; limit = usual_limit }) budget (opening a.story) state before now
 
 -- What playing by a certificate comes to.
 abbrev pub PlayComesTo : Option (List ℕ) → Option (List ℕ) → ℕ → Option (List ℕ) → Option (List ℕ) → Outcome → Type 0

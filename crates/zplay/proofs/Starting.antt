@@ -79,7 +79,7 @@ place_read listing index d order within =
 -- an event changes nothing that is described
 described_given : {V : Type 0} (o : SetOperations V) (claims : Claims V) (story : LoadedStory) (e : Event) (s : State) → Described o claims story s → Described o claims story (give e s)
 described_given o claims story e s d = record {
-  is_state = record { memory = d.is_state.memory; frames = d.is_state.frames; few = d.is_state.few };
+  is_state = record { memory = d.is_state.memory; frames = d.is_state.frames; few = d.is_state.few; count = d.is_state.count };
   at = d.at;
   place = d.place;
   entry = d.entry;

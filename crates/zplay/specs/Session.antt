@@ -9,7 +9,7 @@ use Rattle.zlist.specs.Listing.{ListedCode, addresses_of}
 use Rattle.zdomain.specs.Interval.{interval_operations}
 use Rattle.zstate.specs.declared.halt.Halt.{Halt}
 use Rattle.zstate.specs.declared.halt.Stop.TheVariants.{Paused}
-use Rattle.zstate.specs.State.{State, Setting, at_place, scope_only}
+use Rattle.zstate.specs.State.{State, Setting, at_place, scope_only, usual_limit}
 use Rattle.zstate.specs.Step.{Done, step}
 use Rattle.zstate.specs.Run.{stop_of}
 use Rattle.zrule.specs.Described.{Described}
@@ -25,7 +25,7 @@ pub record Playing : Type 0 where
 
 -- what it is played in: the story, of which only what is listed is played
 abbrev pub setting_of : Acceptance → Setting
-setting_of a = record { story = a.story; scope = scope_only a.listing }
+setting_of a = record { story = a.story; scope = scope_only a.listing; limit = usual_limit }
 
 abbrev pub setting : Playing → Setting
 setting p = setting_of p.accepted

@@ -12,7 +12,7 @@ use Rattle.zstory.specs.LoadedStory.{LoadedStory}
 use Rattle.zdomain.specs.Domain.{SetOperations}
 use Rattle.zstate.specs.declared.halt.Halt.{Halt}
 use Rattle.zstate.specs.declared.halt.Halt.TheVariants as halts
-use Rattle.zstate.specs.State.{State, Setting, opening, scope_all, give}
+use Rattle.zstate.specs.State.{State, Setting, opening, scope_all, usual_limit, give}
 use Rattle.zstate.specs.Step.{Done, step}
 use Rattle.zstate.specs.Run.{Ending, ends, stop_of, by_step, until, is_answered, run}
 use Rattle.zrule.specs.declared.rule.Rule.TheVariants as rules
@@ -33,7 +33,7 @@ module _ {V : Type 0} (o : SetOperations V) (claims : Claims V) (m : Setting) (l
   -- an event changes nothing that is described
   given : (e : Event) (s : State) → Described o claims m.story s → Described o claims m.story (give e s)
   given e s d = record {
-    is_state = record { memory = d.is_state.memory; frames = d.is_state.frames; few = d.is_state.few };
+    is_state = record { memory = d.is_state.memory; frames = d.is_state.frames; few = d.is_state.few; count = d.is_state.count };
     at = d.at;
     place = d.place;
     entry = d.entry;
@@ -91,7 +91,7 @@ all_listed o claims story supports p e listed =
     let found = supports.each p e listed rules.Decodes in
     lt-ltb p (length story.memory) (place_within story.memory p found.0 found.1.decodes)
 
-pub never_faults : {V : Type 0} (o : SetOperations V) (claims : Claims V) (story : LoadedStory) (events : List Event) (n : ℕ) → IsLoadedStory story → Supports o claims story → IsNoFault (run (record { story = story; scope = scope_all story }) events n (opening story)).stop
+pub never_faults : {V : Type 0} (o : SetOperations V) (claims : Claims V) (story : LoadedStory) (events : List Event) (n : ℕ) → IsLoadedStory story → Supports o claims story → IsNoFault (run (record { story = story; scope = scope_all story; limit = usual_limit }) events n (opening story)).stop
 never_faults o claims story events n loaded supports =
-    let m : Setting = record { story = story; scope = scope_all story } in
+    let m : Setting = record { story = story; scope = scope_all story; limit = usual_limit } in
     (run_safe o claims m loaded supports (all_listed o claims story supports) events n (opening story) (opening_described o claims story supports)).0

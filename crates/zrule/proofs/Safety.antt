@@ -13,12 +13,13 @@ use Rattle.zcode.specs.declared.opcode.Opcode.{Opcode}
 use Rattle.zcode.specs.declared.instr.Operand.{Operand}
 use Rattle.zcode.specs.Opcodes.{prints_text}
 use Rattle.zcode.specs.Playable.{playable}
+use Rattle.zcode.specs.Operation.{operation_of}
 use Rattle.zcode.specs.Instruction.{Instruction}
 use Rattle.zdomain.specs.Domain.{SetOperations, In, Within}
 use Rattle.zstate.specs.declared.halt.Halt.{Halt}
 use Rattle.zstate.specs.InTurn.{◌>>=◌}
 use Rattle.zstate.specs.State.{State, Setting, opening, at_place}
-use Rattle.zstate.specs.Step.{Done, printed, print_at, effect_of, act, step}
+use Rattle.zstate.specs.Step.{Done, printed, print_at, effect_of, effect_if, admits, pauses, changed, act, step}
 use Rattle.zrule.specs.declared.rule.Rule.TheVariants as rules
 use Rattle.zrule.specs.Claims.{Shape, Claims}
 use Rattle.zrule.specs.Rules.{pops, below, goes_on, Covers, Leads, IsThere, HasFixedText, Supports}
@@ -32,6 +33,13 @@ zip_within o [] (b ∷ bs) xs w z = absurd w
 zip_within o (a ∷ rest) [] xs w z = absurd w
 zip_within o (a ∷ rest) (b ∷ bs) [] w z = absurd z
 zip_within o (a ∷ rest) (b ∷ bs) (x ∷ xs) w z = (w.0 x z.0, zip_within o rest bs xs w.1 z.1)
+
+add_nothing : (n : ℕ) → n + 0 ≡ n
+add_nothing n = omega arith
+
+-- the state at the next instruction
+abbrev pub onward : State → Instruction → State
+onward s i = at_place ((s.place +ℤ pos i.size) +ℤ pos 0) s
 
 module _ {V : Type 0} (o : SetOperations V) (claims : Claims V) (m : Setting) (sound : IsSound m.story.memory) (counted : IsObjectCount m.story.memory m.story.objects) (supports : Supports o claims m.story) (listed : IsListedIn o claims m.scope) (s : State) (d : Described o claims m.story s) where
   -- every rule holds there, of the instruction that was judged
@@ -53,14 +61,14 @@ module _ {V : Type 0} (o : SetOperations V) (claims : Claims V) (m : Setting) (s
   reads = reads_there o claims m s instruction sound counted listed d there
 
   -- on to the next instruction, with what was known before
-  goes : Leads o claims d.entry.routine (below (pops instruction.operands) d.entry.shape) (d.at + instruction.size) → Described o claims m.story (at_place (s.place +ℤ pos instruction.size) s)
+  goes : Leads o claims d.entry.routine (below (pops instruction.operands) d.entry.shape) (d.at + instruction.size) → Described o claims m.story (onward s instruction)
   goes leads =
       let shape : below (pops instruction.operands) d.entry.shape ≡ d.entry.shape = ap (λ (n : ℕ). below n d.entry.shape) reads.pops_none in
       let covered = subst (λ (e : Shape V). Covers o e leads.entry.shape) shape leads.covered in
       record {
-        is_state = record { memory = d.is_state.memory; frames = d.is_state.frames; few = d.is_state.few };
+        is_state = record { memory = d.is_state.memory; frames = d.is_state.frames; few = d.is_state.few; count = d.is_state.count };
         at = d.at + instruction.size;
-        place = ap (λ (p : ℤ). p +ℤ pos instruction.size) d.place;
+        place = ap (λ (p : ℤ). (p +ℤ pos instruction.size) +ℤ pos 0) d.place ∙ ap (λ (n : ℕ). pos n) (add_nothing (d.at + instruction.size));
         entry = leads.entry;
         listed = leads.listed;
         fits = record {
@@ -73,11 +81,11 @@ module _ {V : Type 0} (o : SetOperations V) (claims : Claims V) (m : Setting) (s
       }
 
   Goal : Opcode → Type 0
-  Goal op = IsSafe o claims m.story (effect_of op reads.values s >>= done_by s instruction)
+  Goal op = IsSafe o claims m.story (effect_if m (operation_of op) reads.values s >>= done_by m s instruction)
 
   -- what prints bytes, or does nothing, and goes on
-  print_safe : (r : Result (List ℕ) TextError) → IsOk r → Described o claims m.story (at_place (s.place +ℤ pos instruction.size) s) → IsSafe o claims m.story (printed r >>= done_by s instruction)
-  unfolding act
+  print_safe : (r : Result (List ℕ) TextError) → IsOk r → Described o claims m.story (onward s instruction) → IsSafe o claims m.story (printed r >>= done_by m s instruction)
+  unfolding admits pauses act changed
   print_safe (Ok bytes) ok next = next
   print_safe (Err e) ok next = absurd cc
 
@@ -90,15 +98,15 @@ module _ {V : Type 0} (o : SetOperations V) (claims : Claims V) (m : Setting) (s
       let found : text_at s.memory (d.at + 1) ≡ Some rule.text = ap front_text same ∙ rule.found in
       output_at-ok s.memory (d.at + 1) rule.text (λ n few. abbreviation_same m.story sound counted claims.is_frozen s.memory d.is_state.memory d.fixed supports.abbreviations n few) found
 
-  next_of : goes_on instruction.opcode ≡ true → Described o claims m.story (at_place (s.place +ℤ pos instruction.size) s)
+  next_of : goes_on instruction.opcode ≡ true → Described o claims m.story (onward s instruction)
   next_of on = goes (subst (λ (b : Bool). OnTrue b (Leads o claims d.entry.routine (below (pops instruction.operands) d.entry.shape) (d.at + instruction.size))) on edges)
 
   by_opcode : (op : Opcode) → IsPlayed op → op ≡ instruction.opcode → Goal op
-  unfolding Goal effect_of act
+  unfolding Goal effect_of operation_of admits pauses act changed
   by_opcode op print same =
       let at : s.place +ℤ pos 1 ≡ pos (d.at + 1) = ap (λ (p : ℤ). p +ℤ pos 1) d.place in
       let next = next_of (ap goes_on (sym same)) in
-      subst (λ (p : ℤ). IsSafe o claims m.story (print_at p s.memory >>= done_by s instruction)) (sym at)
+      subst (λ (p : ℤ). IsSafe o claims m.story (print_at p s.memory >>= done_by m s instruction)) (sym at)
       (print_safe (output_at s.memory (d.at + 1)) (prints (ap prints_text (sym same))) next)
   by_opcode op new_line same = next_of (ap goes_on (sym same))
   by_opcode op nop same = next_of (ap goes_on (sym same))
@@ -117,6 +125,7 @@ opening_described o claims story supports =
         memory = refl;
         frames = (record { reached = omega arith; supplied = omega arith; locals = omega arith; stack = omega arith }, record { return_place = refl; result = refl; supplied = refl; locals = refl });
         few = omega arith;
+        count = tt;
       };
       at = first_instruction story;
       place = refl;

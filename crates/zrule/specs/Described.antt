@@ -7,7 +7,7 @@ use Rattle.zstory.specs.LoadedStory.{LoadedStory}
 use Rattle.zdomain.specs.Domain.{SetOperations, In}
 use Rattle.zstate.specs.declared.halt.Halt.{Halt}
 use Rattle.zstate.specs.declared.halt.Halt.TheVariants as halts
-use Rattle.zstate.specs.State.{Frame, State, Scope, Setting, IsState, opening, scope_all}
+use Rattle.zstate.specs.State.{Frame, State, Scope, Setting, IsState, opening, scope_all, usual_limit}
 use Rattle.zstate.specs.Step.{Done, step}
 use Rattle.zstate.specs.Run.{run}
 use Rattle.zstate.specs.declared.halt.Stop.{Stop}
@@ -40,7 +40,7 @@ module _ {V : Type 0} (o : SetOperations V) (claims : Claims V) where
       × ((x : ℕ) → In o (claims.result routine) x → FitsWith result x e.shape g) × Callers e.routine g.return_place g.result gs
 
   pub record Described (story : LoadedStory) (s : State) : Type 0 where
-    pub is_state : IsState story s
+    pub is_state : IsState usual_limit story s
     pub at : ℕ
     pub place : s.place ≡ pos at
     pub entry : Entry V
@@ -89,4 +89,4 @@ module _ {V : Type 0} (o : SetOperations V) (claims : Claims V) where
 
   -- a story of which the claims hold never faults, where every place of it may be played
   abbrev pub NeverFaults : Type 0
-  NeverFaults = (story : LoadedStory) (events : List Event) (n : ℕ) → IsLoadedStory story → Supports o claims story → IsNoFault (run (record { story = story; scope = scope_all story }) events n (opening story)).stop
+  NeverFaults = (story : LoadedStory) (events : List Event) (n : ℕ) → IsLoadedStory story → Supports o claims story → IsNoFault (run (record { story = story; scope = scope_all story; limit = usual_limit }) events n (opening story)).stop
