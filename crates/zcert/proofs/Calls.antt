@@ -150,7 +150,7 @@ module _ {V : Type 0} where
       let a = bind_ok (taken p f) (λ x. all_taken x fs) q e in
       due_all fs a.0 q a.2 (due_taken f p a.0 a.1 due)
 
-  one_more : (fs : List (Field V)) (f : Field V) (p q r : Progress V) → all_taken p fs ≡ Ok q → taken q f ≡ Ok r → all_taken p (fs ++ f ∷ []) ≡ Ok r
+  pub one_more : (fs : List (Field V)) (f : Field V) (p q r : Progress V) → all_taken p fs ≡ Ok q → taken q f ≡ Ok r → all_taken p (fs ++ f ∷ []) ≡ Ok r
   one_more [] f p q r e d = let same = ok_is p q e in rw (same, d) refl
   one_more (g ∷ fs) f p q r e d =
       let a = bind_ok (taken p g) (λ x. all_taken x fs) q e in
@@ -160,7 +160,7 @@ module _ {V : Type 0} (format : Format V) where
   pub reached_due : (p : Progress V) → IsReached format p → IsDue p.turn p.values
   reached_due p (fs, each, led) = due_all fs opening p led tt
 
-  each_more : (fs : List (Field V)) (f : Field V) → AllByRecursion (IsField format) fs → IsField format f → AllByRecursion (IsField format) (fs ++ f ∷ [])
+  pub each_more : (fs : List (Field V)) (f : Field V) → AllByRecursion (IsField format) fs → IsField format f → AllByRecursion (IsField format) (fs ++ f ∷ [])
   each_more [] f each is = (is, tt)
   each_more (g ∷ fs) f each is = (each.0, each_more fs f each.1 is)
 

@@ -1,7 +1,9 @@
 -- The bytes of fields: those that were taken are read as the certificate that they make.
-use Rattle.std.proofs.Common.{◌≡◌, ℕ, ◌<◌, List, [], ◌∷◌, ◌++◌, length, get_or, Ok, refl, ap, subst, ◌∙◌, append_assoc, arith, length-append}
+use Rattle.std.proofs.Common.{◌≡◌, ℕ, ◌<◌, List, [], ◌∷◌, ◌++◌, length, get_or, Result, Ok, Err, inl, inr, ◌⊎◌, refl, sym, ap, subst, ◌∙◌, append_assoc, arith, length-append}
 use Rattle.std.specs.List.{flat_map, AllByRecursion}
 use Rattle.byteorder.specs.Numbers.{length-bytes_high_first}
+use Rattle.zcert.specs.declared.error.CertError.{CertError}
+use Rattle.zcert.specs.declared.error.CertError.TheVariants as errors
 use Rattle.zcert.specs.declared.field.Field.{Field}
 use Rattle.zcert.specs.declared.field.Field.TheVariants as fields
 use Rattle.zcert.specs.declared.field.Turn.{Turn}
@@ -10,7 +12,7 @@ use Rattle.zcert.specs.Numbers.{Number, number, width, HasRoom}
 use Rattle.zcert.specs.Numbers as numbers
 use Rattle.zcert.specs.Steps.{number_at, serial_at}
 use Rattle.zcert.specs.Format.{Format}
-use Rattle.zcert.specs.Building.{Progress, taken, all_taken, after_release, after_serial, after_checksum, after_loaded_length, after_range_count, after_range_first, after_range_last, after_global, after_routine_count, after_routine_address, after_local_count, after_routine_result, after_instruction_count, after_instruction_address, after_routine_number, after_height, after_value}
+use Rattle.zcert.specs.Building.{Progress, InTurn, taken, all_taken, after_release, after_serial, after_checksum, after_loaded_length, after_range_count, after_range_first, after_range_last, after_global, after_routine_count, after_routine_address, after_local_count, after_routine_result, after_instruction_count, after_instruction_address, after_routine_number, after_height, after_value}
 use Rattle.zcert.specs.Fields.{field_bytes, IsField, as_field, field_at}
 use Rattle.zcert.proofs.Stepping.{IsBytes, IsBytes-append, IsBytes-number, by_place, width_some, Takes, bind_ok, ok_is, number_takes, number_again, serial_takes, serial_again}
 use Rattle.zcert.proofs.Formats.{IsFormat}
@@ -21,97 +23,129 @@ pub below_each : (s : List ℕ) → AllByRecursion (λ b. b < 256) s → IsBytes
 below_each [] each = λ i. omega arith
 below_each (b ∷ s) each = by_place (λ i. get_or (b ∷ s) i 0 < 256) each.0 (below_each s each.1)
 
+-- a field is in its turn, or out of order
+module _ {V : Type 0} where
+  turn_release : (n : ℕ) (t : Turn) (p : Progress V) → InTurn {V = V} t (fields.Release n) ⊎ (after_release n t p ≡ Err errors.Order)
+  turn_release n turns.Release p = inl tt
+  turn_release n _ p = inr refl
+
+  turn_serial : (s : List ℕ) (t : Turn) (p : Progress V) → InTurn {V = V} t (fields.Serial s) ⊎ (after_serial s t p ≡ Err errors.Order)
+  turn_serial s turns.Serial p = inl tt
+  turn_serial s _ p = inr refl
+
+  turn_checksum : (n : ℕ) (t : Turn) (p : Progress V) → InTurn {V = V} t (fields.Checksum n) ⊎ (after_checksum n t p ≡ Err errors.Order)
+  turn_checksum n turns.Checksum p = inl tt
+  turn_checksum n _ p = inr refl
+
+  turn_loaded_length : (n : ℕ) (t : Turn) (p : Progress V) → InTurn {V = V} t (fields.LoadedLength n) ⊎ (after_loaded_length n t p ≡ Err errors.Order)
+  turn_loaded_length n turns.LoadedLength p = inl tt
+  turn_loaded_length n _ p = inr refl
+
+  turn_range_count : (n : ℕ) (t : Turn) (p : Progress V) → InTurn {V = V} t (fields.RangeCount n) ⊎ (after_range_count n t p ≡ Err errors.Order)
+  turn_range_count n turns.RangeCount p = inl tt
+  turn_range_count n _ p = inr refl
+
+  turn_range_first : (n : ℕ) (t : Turn) (p : Progress V) → InTurn {V = V} t (fields.RangeFirst n) ⊎ (after_range_first n t p ≡ Err errors.Order)
+  turn_range_first n (turns.RangeFirst more) p = inl tt
+  turn_range_first n _ p = inr refl
+
+  turn_range_last : (n : ℕ) (t : Turn) (p : Progress V) → InTurn {V = V} t (fields.RangeLast n) ⊎ (after_range_last n t p ≡ Err errors.Order)
+  turn_range_last n (turns.RangeLast more first) p = inl tt
+  turn_range_last n _ p = inr refl
+
+  turn_global : (v : V) (t : Turn) (p : Progress V) → InTurn {V = V} t (fields.Global v) ⊎ (after_global v t p ≡ Err errors.Order)
+  turn_global v (turns.Global more) p = inl tt
+  turn_global v _ p = inr refl
+
+  turn_routine_count : (n : ℕ) (t : Turn) (p : Progress V) → InTurn {V = V} t (fields.RoutineCount n) ⊎ (after_routine_count n t p ≡ Err errors.Order)
+  turn_routine_count n turns.RoutineCount p = inl tt
+  turn_routine_count n _ p = inr refl
+
+  turn_routine_address : (n : ℕ) (t : Turn) (p : Progress V) → InTurn {V = V} t (fields.RoutineAddress n) ⊎ (after_routine_address n t p ≡ Err errors.Order)
+  turn_routine_address n (turns.RoutineAddress more) p = inl tt
+  turn_routine_address n _ p = inr refl
+
+  turn_local_count : (n : ℕ) (t : Turn) (p : Progress V) → InTurn {V = V} t (fields.LocalCount n) ⊎ (after_local_count n t p ≡ Err errors.Order)
+  turn_local_count n (turns.LocalCount more address) p = inl tt
+  turn_local_count n _ p = inr refl
+
+  turn_routine_result : (v : V) (t : Turn) (p : Progress V) → InTurn {V = V} t (fields.RoutineResult v) ⊎ (after_routine_result v t p ≡ Err errors.Order)
+  turn_routine_result v (turns.RoutineResult more address locals) p = inl tt
+  turn_routine_result v _ p = inr refl
+
+  turn_instruction_count : (n : ℕ) (t : Turn) (p : Progress V) → InTurn {V = V} t (fields.InstructionCount n) ⊎ (after_instruction_count n t p ≡ Err errors.Order)
+  turn_instruction_count n turns.InstructionCount p = inl tt
+  turn_instruction_count n _ p = inr refl
+
+  turn_instruction_address : (n : ℕ) (t : Turn) (p : Progress V) → InTurn {V = V} t (fields.InstructionAddress n) ⊎ (after_instruction_address n t p ≡ Err errors.Order)
+  turn_instruction_address n (turns.InstructionAddress more) p = inl tt
+  turn_instruction_address n _ p = inr refl
+
+  turn_routine_number : (n : ℕ) (t : Turn) (p : Progress V) → InTurn {V = V} t (fields.RoutineNumber n) ⊎ (after_routine_number n t p ≡ Err errors.Order)
+  turn_routine_number n (turns.RoutineNumber more address) p = inl tt
+  turn_routine_number n _ p = inr refl
+
+  turn_height : (n : ℕ) (t : Turn) (p : Progress V) → InTurn {V = V} t (fields.Height n) ⊎ (after_height n t p ≡ Err errors.Order)
+  turn_height n (turns.Height more address routine) p = inl tt
+  turn_height n _ p = inr refl
+
+  turn_value : (v : V) (t : Turn) (p : Progress V) → InTurn {V = V} t (fields.Value v) ⊎ (after_value v t p ≡ Err errors.Order)
+  turn_value v (turns.Value more h left) p = inl tt
+  turn_value v _ p = inr refl
+
+  pub in_turn_or : (f : Field V) (p : Progress V) → InTurn p.turn f ⊎ (taken p f ≡ Err errors.Order)
+  in_turn_or (fields.Release n) p = turn_release n p.turn p
+  in_turn_or (fields.Serial s) p = turn_serial s p.turn p
+  in_turn_or (fields.Checksum n) p = turn_checksum n p.turn p
+  in_turn_or (fields.LoadedLength n) p = turn_loaded_length n p.turn p
+  in_turn_or (fields.RangeCount n) p = turn_range_count n p.turn p
+  in_turn_or (fields.RangeFirst n) p = turn_range_first n p.turn p
+  in_turn_or (fields.RangeLast n) p = turn_range_last n p.turn p
+  in_turn_or (fields.Global v) p = turn_global v p.turn p
+  in_turn_or (fields.RoutineCount n) p = turn_routine_count n p.turn p
+  in_turn_or (fields.RoutineAddress n) p = turn_routine_address n p.turn p
+  in_turn_or (fields.LocalCount n) p = turn_local_count n p.turn p
+  in_turn_or (fields.RoutineResult v) p = turn_routine_result v p.turn p
+  in_turn_or (fields.InstructionCount n) p = turn_instruction_count n p.turn p
+  in_turn_or (fields.InstructionAddress n) p = turn_instruction_address n p.turn p
+  in_turn_or (fields.RoutineNumber n) p = turn_routine_number n p.turn p
+  in_turn_or (fields.Height n) p = turn_height n p.turn p
+  in_turn_or (fields.Value v) p = turn_value v p.turn p
+
+  in_turn_of : (t : Turn) (f : Field V) (answer : Result (Progress V) CertError) (q : Progress V) → InTurn t f ⊎ (answer ≡ Err errors.Order) → answer ≡ Ok q → InTurn t f
+  in_turn_of t f answer q (inl due) e = due
+  in_turn_of t f answer q (inr out) e = absurd (let both = sym out ∙ e in cc)
+
+  taken_in_turn : (f : Field V) (p q : Progress V) → taken p f ≡ Ok q → InTurn p.turn f
+  taken_in_turn f p q e = in_turn_of p.turn f (taken p f) q (in_turn_or f p) e
+
 module _ {V : Type 0} (format : Format V) (law : IsFormat format) where
-  -- a field that is taken in its turn is read from its bytes
+  -- a field that is in its turn is read from its bytes
   abbrev IsReadAgain : Turn → Field V → List ℕ → Type 0
   IsReadAgain t f rest = field_at format t (field_bytes format f ++ rest) ≡ Ok (f, rest)
 
-  again_release : (n : ℕ) (t : Turn) (p q : Progress V) (rest : List ℕ) → HasRoom numbers.Release n → after_release n t p ≡ Ok q → IsReadAgain t (fields.Release n) rest
-  again_release n turns.Release p q rest is e = rw (number_again numbers.Release n rest is) refl
-  again_release n _ p q rest is e = absurd cc
-
-  again_serial : (s : List ℕ) (t : Turn) (p q : Progress V) (rest : List ℕ) → length s ≡ 6 → after_serial s t p ≡ Ok q → IsReadAgain t (fields.Serial s) rest
-  again_serial s turns.Serial p q rest is e = rw (serial_again s rest is) refl
-  again_serial s _ p q rest is e = absurd cc
-
-  again_checksum : (n : ℕ) (t : Turn) (p q : Progress V) (rest : List ℕ) → HasRoom numbers.Checksum n → after_checksum n t p ≡ Ok q → IsReadAgain t (fields.Checksum n) rest
-  again_checksum n turns.Checksum p q rest is e = rw (number_again numbers.Checksum n rest is) refl
-  again_checksum n _ p q rest is e = absurd cc
-
-  again_loaded_length : (n : ℕ) (t : Turn) (p q : Progress V) (rest : List ℕ) → HasRoom numbers.LoadedLength n → after_loaded_length n t p ≡ Ok q → IsReadAgain t (fields.LoadedLength n) rest
-  again_loaded_length n turns.LoadedLength p q rest is e = rw (number_again numbers.LoadedLength n rest is) refl
-  again_loaded_length n _ p q rest is e = absurd cc
-
-  again_range_count : (n : ℕ) (t : Turn) (p q : Progress V) (rest : List ℕ) → HasRoom numbers.RangeCount n → after_range_count n t p ≡ Ok q → IsReadAgain t (fields.RangeCount n) rest
-  again_range_count n turns.RangeCount p q rest is e = rw (number_again numbers.RangeCount n rest is) refl
-  again_range_count n _ p q rest is e = absurd cc
-
-  again_range_first : (n : ℕ) (t : Turn) (p q : Progress V) (rest : List ℕ) → HasRoom numbers.RangeFirst n → after_range_first n t p ≡ Ok q → IsReadAgain t (fields.RangeFirst n) rest
-  again_range_first n (turns.RangeFirst more) p q rest is e = rw (number_again numbers.RangeFirst n rest is) refl
-  again_range_first n _ p q rest is e = absurd cc
-
-  again_range_last : (n : ℕ) (t : Turn) (p q : Progress V) (rest : List ℕ) → HasRoom numbers.RangeLast n → after_range_last n t p ≡ Ok q → IsReadAgain t (fields.RangeLast n) rest
-  again_range_last n (turns.RangeLast more first) p q rest is e = rw (number_again numbers.RangeLast n rest is) refl
-  again_range_last n _ p q rest is e = absurd cc
-
-  again_global : (v : V) (t : Turn) (p q : Progress V) (rest : List ℕ) → format.Has v → after_global v t p ≡ Ok q → IsReadAgain t (fields.Global v) rest
-  again_global v (turns.Global more) p q rest is e = rw (law.again v rest is) refl
-  again_global v _ p q rest is e = absurd cc
-
-  again_routine_count : (n : ℕ) (t : Turn) (p q : Progress V) (rest : List ℕ) → HasRoom numbers.RoutineCount n → after_routine_count n t p ≡ Ok q → IsReadAgain t (fields.RoutineCount n) rest
-  again_routine_count n turns.RoutineCount p q rest is e = rw (number_again numbers.RoutineCount n rest is) refl
-  again_routine_count n _ p q rest is e = absurd cc
-
-  again_routine_address : (n : ℕ) (t : Turn) (p q : Progress V) (rest : List ℕ) → HasRoom numbers.RoutineAddress n → after_routine_address n t p ≡ Ok q → IsReadAgain t (fields.RoutineAddress n) rest
-  again_routine_address n (turns.RoutineAddress more) p q rest is e = rw (number_again numbers.RoutineAddress n rest is) refl
-  again_routine_address n _ p q rest is e = absurd cc
-
-  again_local_count : (n : ℕ) (t : Turn) (p q : Progress V) (rest : List ℕ) → HasRoom numbers.LocalCount n → after_local_count n t p ≡ Ok q → IsReadAgain t (fields.LocalCount n) rest
-  again_local_count n (turns.LocalCount more address) p q rest is e = rw (number_again numbers.LocalCount n rest is) refl
-  again_local_count n _ p q rest is e = absurd cc
-
-  again_routine_result : (v : V) (t : Turn) (p q : Progress V) (rest : List ℕ) → format.Has v → after_routine_result v t p ≡ Ok q → IsReadAgain t (fields.RoutineResult v) rest
-  again_routine_result v (turns.RoutineResult more address locals) p q rest is e = rw (law.again v rest is) refl
-  again_routine_result v _ p q rest is e = absurd cc
-
-  again_instruction_count : (n : ℕ) (t : Turn) (p q : Progress V) (rest : List ℕ) → HasRoom numbers.InstructionCount n → after_instruction_count n t p ≡ Ok q → IsReadAgain t (fields.InstructionCount n) rest
-  again_instruction_count n turns.InstructionCount p q rest is e = rw (number_again numbers.InstructionCount n rest is) refl
-  again_instruction_count n _ p q rest is e = absurd cc
-
-  again_instruction_address : (n : ℕ) (t : Turn) (p q : Progress V) (rest : List ℕ) → HasRoom numbers.InstructionAddress n → after_instruction_address n t p ≡ Ok q → IsReadAgain t (fields.InstructionAddress n) rest
-  again_instruction_address n (turns.InstructionAddress more) p q rest is e = rw (number_again numbers.InstructionAddress n rest is) refl
-  again_instruction_address n _ p q rest is e = absurd cc
-
-  again_routine_number : (n : ℕ) (t : Turn) (p q : Progress V) (rest : List ℕ) → HasRoom numbers.RoutineNumber n → after_routine_number n t p ≡ Ok q → IsReadAgain t (fields.RoutineNumber n) rest
-  again_routine_number n (turns.RoutineNumber more address) p q rest is e = rw (number_again numbers.RoutineNumber n rest is) refl
-  again_routine_number n _ p q rest is e = absurd cc
-
-  again_height : (n : ℕ) (t : Turn) (p q : Progress V) (rest : List ℕ) → HasRoom numbers.Height n → after_height n t p ≡ Ok q → IsReadAgain t (fields.Height n) rest
-  again_height n (turns.Height more address routine) p q rest is e = rw (number_again numbers.Height n rest is) refl
-  again_height n _ p q rest is e = absurd cc
-
-  again_value : (v : V) (t : Turn) (p q : Progress V) (rest : List ℕ) → format.Has v → after_value v t p ≡ Ok q → IsReadAgain t (fields.Value v) rest
-  again_value v (turns.Value more h left) p q rest is e = rw (law.again v rest is) refl
-  again_value v _ p q rest is e = absurd cc
+  pub again_at : (t : Turn) (f : Field V) (rest : List ℕ) → IsField format f → InTurn t f → IsReadAgain t f rest
+  again_at turns.Release (fields.Release n) rest is due = rw (number_again numbers.Release n rest is) refl
+  again_at turns.Serial (fields.Serial s) rest is due = rw (serial_again s rest is.0) refl
+  again_at turns.Checksum (fields.Checksum n) rest is due = rw (number_again numbers.Checksum n rest is) refl
+  again_at turns.LoadedLength (fields.LoadedLength n) rest is due = rw (number_again numbers.LoadedLength n rest is) refl
+  again_at turns.RangeCount (fields.RangeCount n) rest is due = rw (number_again numbers.RangeCount n rest is) refl
+  again_at (turns.RangeFirst more) (fields.RangeFirst n) rest is due = rw (number_again numbers.RangeFirst n rest is) refl
+  again_at (turns.RangeLast more first) (fields.RangeLast n) rest is due = rw (number_again numbers.RangeLast n rest is) refl
+  again_at (turns.Global more) (fields.Global v) rest is due = rw (law.again v rest is) refl
+  again_at turns.RoutineCount (fields.RoutineCount n) rest is due = rw (number_again numbers.RoutineCount n rest is) refl
+  again_at (turns.RoutineAddress more) (fields.RoutineAddress n) rest is due = rw (number_again numbers.RoutineAddress n rest is) refl
+  again_at (turns.LocalCount more address) (fields.LocalCount n) rest is due = rw (number_again numbers.LocalCount n rest is) refl
+  again_at (turns.RoutineResult more address locals) (fields.RoutineResult v) rest is due = rw (law.again v rest is) refl
+  again_at turns.InstructionCount (fields.InstructionCount n) rest is due = rw (number_again numbers.InstructionCount n rest is) refl
+  again_at (turns.InstructionAddress more) (fields.InstructionAddress n) rest is due = rw (number_again numbers.InstructionAddress n rest is) refl
+  again_at (turns.RoutineNumber more address) (fields.RoutineNumber n) rest is due = rw (number_again numbers.RoutineNumber n rest is) refl
+  again_at (turns.Height more address routine) (fields.Height n) rest is due = rw (number_again numbers.Height n rest is) refl
+  again_at (turns.Value more h left) (fields.Value v) rest is due = rw (law.again v rest is) refl
+  again_at _ _ rest is due = absurd due
 
   field_again : (f : Field V) (p q : Progress V) (rest : List ℕ) → IsField format f → taken p f ≡ Ok q → IsReadAgain p.turn f rest
-  field_again (fields.Release n) p q rest is e = again_release n p.turn p q rest is e
-  field_again (fields.Serial s) p q rest is e = again_serial s p.turn p q rest is.0 e
-  field_again (fields.Checksum n) p q rest is e = again_checksum n p.turn p q rest is e
-  field_again (fields.LoadedLength n) p q rest is e = again_loaded_length n p.turn p q rest is e
-  field_again (fields.RangeCount n) p q rest is e = again_range_count n p.turn p q rest is e
-  field_again (fields.RangeFirst n) p q rest is e = again_range_first n p.turn p q rest is e
-  field_again (fields.RangeLast n) p q rest is e = again_range_last n p.turn p q rest is e
-  field_again (fields.Global v) p q rest is e = again_global v p.turn p q rest is e
-  field_again (fields.RoutineCount n) p q rest is e = again_routine_count n p.turn p q rest is e
-  field_again (fields.RoutineAddress n) p q rest is e = again_routine_address n p.turn p q rest is e
-  field_again (fields.LocalCount n) p q rest is e = again_local_count n p.turn p q rest is e
-  field_again (fields.RoutineResult v) p q rest is e = again_routine_result v p.turn p q rest is e
-  field_again (fields.InstructionCount n) p q rest is e = again_instruction_count n p.turn p q rest is e
-  field_again (fields.InstructionAddress n) p q rest is e = again_instruction_address n p.turn p q rest is e
-  field_again (fields.RoutineNumber n) p q rest is e = again_routine_number n p.turn p q rest is e
-  field_again (fields.Height n) p q rest is e = again_height n p.turn p q rest is e
-  field_again (fields.Value v) p q rest is e = again_value v p.turn p q rest is e
+  field_again f p q rest is e = again_at p.turn f rest is (taken_in_turn f p q e)
 
   -- where a field was read, one is in turn
   pub has_more : (t : Turn) (bytes : List ℕ) (x : Field V × List ℕ) → field_at format t bytes ≡ Ok x → HasMore format t bytes

@@ -44,7 +44,7 @@ version_takes version bytes rest fits e =
     let t = number_takes numbers.Version bytes a.0.0 a.0.1 fits a.1 in
     subst (λ (r : List ℕ). Takes bytes (number numbers.Version version) r) (ok_is _ _ o.1) (subst (λ (n : ℕ). Takes bytes (number numbers.Version n) a.0.1) (eqb-true _ _ o.0) t.0)
 
-heading_takes : {V : Type 0} (format : Format V) (bytes rest : List ℕ) → IsBytes bytes → heading_at format.version bytes ≡ Ok rest → Takes bytes (heading format) rest
+pub heading_takes : {V : Type 0} (format : Format V) (bytes rest : List ℕ) → IsBytes bytes → heading_at format.version bytes ≡ Ok rest → Takes bytes (heading format) rest
 unfolding heading_at
 heading_takes format bytes rest fits e =
     let m = bind_ok (magic_at bytes) _ _ e in

@@ -12,3 +12,6 @@ pub mod Makes
 pub mod Rising
 pub mod Lookup
 pub mod ReadLoop
+pub mod Longest
+pub mod Room
+pub mod Refused

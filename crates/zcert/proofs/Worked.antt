@@ -11,6 +11,7 @@ use Rattle.zcert.specs.declared.field.Turn.TheVariants as turns
 use Rattle.zcert.specs.declared.parts.Range.{Range}
 use Rattle.zcert.specs.declared.parts.Routine.{Routine}
 use Rattle.zcert.specs.declared.contents.Stored.{Stored}
+use Rattle.zcert.specs.declared.limits.TheConstants.{MAGIC, VERSION, GLOBALS, ADDRESS_LIMIT, MAX_LOCALS, MAX_INSTRUCTIONS, MAX_RANGES, MAX_ROUTINES, MAX_HEIGHT, LARGEST}
 use Rattle.zcert.specs.Numbers.{width, number, HasRoom}
 use Rattle.zcert.specs.Numbers as numbers
 use Rattle.zcert.specs.Certificate.{Instruction, locals_of}
@@ -18,11 +19,18 @@ use Rattle.zcert.specs.Steps.{◌>>=◌, need, sized_at, number_at, serial_at}
 use Rattle.zcert.specs.Format.{interval_format, nonempty}
 use Rattle.zcert.specs.Spelling.{identity_bytes, range_bytes, counted, routine_bytes, instruction_bytes, heading, IsIdentity, IsRange, AreApart, InstructionsRise, IsRoutine, IsInstruction}
 use Rattle.zcert.specs.Reading.{magic_at, version_at, heading_at, identity_at, range_at, ranges_at, all_ranges_at, address_fits, values_at, routine_at, routines_at, all_routines_at, instruction_at, instructions_at, all_instructions_at}
-use Rattle.zcert.specs.Building.{Progress, opening, before_globals, before_ranges, before_routines, before_instructions, instruction_of, taken, all_taken}
-use Rattle.zcert.specs.Fields.{field_bytes, IsField, field_at, next_at, IsReached}
+use Rattle.zcert.specs.Building.{Progress, opening, before_globals, before_ranges, before_routines, before_instructions, instruction_of, InTurn, taken, all_taken, Adds, IsDue}
+use Rattle.zcert.specs.Fields.{field_bytes, IsField, field_at, next_at, IsReached, LeadsToPart}
 use Rattle.zcert.specs.Contents.{values_of, stored_instruction, LiesIn}
 use Rattle.zcert.specs.Listed.{listed_at, Finds}
 use Rattle.zcert.specs.Refusal.{number_of}
+use Rattle.zcert.specs.View.{Refuses, RefusesField, Answers, Takes}
+
+-- ---- limits
+
+-- as long as a certificate can be: 27 bytes, the globals, and 67 bytes for each instruction
+limits : (MAGIC ≡ 0x5A504343) × (VERSION ≡ 1) × (GLOBALS ≡ 240) × (ADDRESS_LIMIT ≡ 131072) × (MAX_LOCALS ≡ 15) × (MAX_INSTRUCTIONS ≡ 131072) × (MAX_RANGES ≡ 0) × (MAX_ROUTINES ≡ 0) × (MAX_HEIGHT ≡ 0) × (LARGEST ≡ 8782811)
+limits = (refl, refl, refl, refl, refl, refl, refl, refl, refl, refl)
 
 -- ---- numbers
 
@@ -142,6 +150,10 @@ is_identity = record {
   loaded_length = omega arith;
 }
 
+last_address : IsRoutine interval_format (record routine { address = 131071; locals = 15 }) × (IsInstruction interval_format [] (record main_instruction { address = 131072 }) → ⊥) × (IsInstruction interval_format [] (record main_instruction { slots = point 0 ∷ [] }) → ⊥)
+unfolding routine main_instruction
+last_address = (record { address = omega arith; locals = omega arith; result = (omega arith, omega arith) }, λ i. omega (arith, i.address), λ i. omega (arith, i.height))
+
 is_routine : IsRoutine interval_format routine × (IsRoutine interval_format (record routine { locals = 16 }) → ⊥) × (IsRoutine interval_format (record routine { address = 131072 }) → ⊥)
 unfolding routine
 is_routine = (record { address = omega arith; locals = omega arith; result = (omega arith, omega arith) }, λ r. omega (arith, r.locals), λ r. omega (arith, r.address))
@@ -222,6 +234,11 @@ counted_instructions : (all_instructions_at interval_format [] (0 ∷ 0 ∷ 0 �
 unfolding all_instructions_at instructions_at instruction_at
 counted_instructions = (refl, refl, refl)
 
+-- none of these may be counted, nor be on the stack, in this build
+none_counted : (all_ranges_at (0 ∷ 1 ∷ []) ≡ Err errors.Limit) × (all_routines_at interval_format (0 ∷ 1 ∷ []) ≡ Err errors.Limit) × (instruction_at interval_format [] 0 (0 ∷ 0 ∷ 3 ∷ 0x24 ∷ 0 ∷ 0 ∷ 1 ∷ []) ≡ Err errors.Limit)
+unfolding all_ranges_at all_routines_at instruction_at
+none_counted = (refl, refl, refl)
+
 -- ---- field by field
 
 -- what is to come, where so many parts are
@@ -250,6 +267,38 @@ first_fields = (refl, refl, refl)
 range_fields : (taken (at_turn (turns.RangeFirst 0) 68) (fields.RangeFirst 68) ≡ Ok (at_turn (turns.RangeLast 0 68) 68)) × (taken (at_turn (turns.RangeFirst 0) 68) (fields.RangeFirst 67) ≡ Err errors.Order) × (taken (at_turn (turns.RangeLast 0 68) 68) (fields.RangeLast 67) ≡ Err errors.Order)
 unfolding at_turn
 range_fields = (refl, refl, refl)
+
+-- the next range begins above the byte after this one's last
+range_ended : taken (at_turn (turns.RangeLast 1 64) 64) (fields.RangeLast 66) ≡ Ok (record { content = record start.content { ranges = range ∷ [] }; values = []; floor = 68; turn = turns.RangeFirst 0 })
+unfolding at_turn start range
+range_ended = refl
+
+-- a number at its limit is taken, and the next isn't
+at_limits : (taken (at_turn turns.RangeCount 7) (fields.RangeCount 1) ≡ Err errors.Limit) × (taken (at_turn turns.RoutineCount 7) (fields.RoutineCount 0) ≡ Ok (at_turn turns.InstructionCount 0)) × (taken (at_turn turns.RoutineCount 7) (fields.RoutineCount 1) ≡ Err errors.Limit) × (taken (at_turn (turns.LocalCount 1 0x32E) 0) (fields.LocalCount 15) ≡ Ok (at_turn (turns.RoutineResult 1 0x32E 15) 0)) × (taken (at_turn turns.InstructionCount 7) (fields.InstructionCount 131072) ≡ Ok (at_turn (turns.InstructionAddress 131071) 0)) × (taken (at_turn (turns.Height 1 0x324 0) 0) (fields.Height 1) ≡ Err errors.Limit)
+unfolding at_turn
+at_limits = (refl, refl, refl, refl, refl, refl)
+
+-- an address rises and is below its limit
+addresses_taken : (taken (at_turn (turns.RoutineAddress 0) 5) (fields.RoutineAddress 4) ≡ Err errors.Order) × (taken (at_turn (turns.RoutineAddress 0) 5) (fields.RoutineAddress 131072) ≡ Err errors.Limit) × (taken (at_turn (turns.InstructionAddress 0) 5) (fields.InstructionAddress 4) ≡ Err errors.Order) × (taken (at_turn (turns.InstructionAddress 0) 5) (fields.InstructionAddress 131071) ≡ Ok (at_turn (turns.RoutineNumber 0 131071) 5))
+unfolding at_turn
+addresses_taken = (refl, refl, refl, refl)
+
+-- a field is in turn by its kind alone; sets come in three places
+in_turns : InTurn {V = Interval} turns.Checksum (fields.Checksum 7) × (InTurn {V = Interval} turns.Checksum (fields.Release 7) → ⊥) × InTurn (turns.Global 3) (fields.Global (point 1)) × (InTurn (turns.Global 3) (fields.Value (point 1)) → ⊥) × (InTurn (turns.Value 3 header 1) (fields.RoutineResult (point 1)) → ⊥) × (InTurn {V = Interval} turns.Complete (fields.Release 7) → ⊥)
+in_turns = (tt, λ t. t, tt, λ t. t, λ t. t, λ t. t)
+
+-- which fields add a part, and what is due in an unfinished one
+parts_added : Adds {V = Interval} (fields.Height 0) × Adds {V = Interval} (fields.RangeLast 1) × (Adds {V = Interval} (fields.RangeFirst 1) → ⊥) × (Adds {V = Interval} (fields.InstructionAddress 1) → ⊥)
+parts_added = (tt, tt, λ a. a, λ a. a)
+
+due : IsDue {V = Interval} (turns.LocalCount 0 131071) [] × (IsDue {V = Interval} (turns.RoutineResult 0 131072 1) [] → ⊥) × (IsDue {V = Interval} (turns.Height 0 131072 0) [] → ⊥) × (IsDue (turns.RoutineNumber 0 1) (point 1 ∷ []) → ⊥) × IsDue (turns.Value 0 header 0) (point 1 ∷ []) × (IsDue (turns.Value 0 header 1) (point 1 ∷ []) → ⊥)
+unfolding header
+due = (omega arith, λ d. omega (arith, d), λ d. omega (arith, d.0), λ d. omega (arith, d.1), (omega arith, refl), λ d. omega (arith, d.1))
+
+-- an error that is due, and want of memory, which a refused field never gives
+refused : Refuses errors.Order (taken start (fields.Checksum 1)) × (Refuses errors.Limit (taken start (fields.Checksum 1)) → ⊥) × Refuses errors.OutOfMemory (taken start (fields.Checksum 1)) × RefusesField errors.OutOfMemory (taken start (fields.Release 1)) × (RefusesField errors.OutOfMemory (taken start (fields.Checksum 1)) → ⊥)
+unfolding start
+refused = (refl, λ e. absurd cc, tt, refl, λ e. absurd cc)
 
 -- the next address is to be above this one
 routine_fields : (taken (at_turn (turns.RoutineAddress 1) 0) (fields.RoutineAddress 0x32E) ≡ Ok (at_turn (turns.LocalCount 1 0x32E) 0)) × (taken (at_turn (turns.LocalCount 1 0x32E) 0) (fields.LocalCount 16) ≡ Err errors.Limit) × (taken (at_turn (turns.RoutineResult 1 0x32E 1) 0) (fields.RoutineResult (point 1)) ≡ Ok (record { content = record start.content { routines = routine ∷ [] }; values = []; floor = 0x32F; turn = turns.RoutineAddress 0 }))
@@ -281,6 +330,25 @@ next_fields = (refl, refl, refl)
 reached : IsReached interval_format start
 unfolding start
 reached = ([], tt, refl)
+
+-- the first global is the first part of a certificate without ranges; before it nothing wants memory
+first_part : LeadsToPart interval_format (heading interval_format ++ identity_text ++ 0 ∷ 0 ∷ 0 ∷ 0 ∷ 0 ∷ 7 ∷ 9 ∷ [])
+unfolding identity_text
+first_part = record {
+  fields = fields.Release 1 ∷ fields.Serial (0x32 ∷ 0x36 ∷ 0x30 ∷ 0x31 ∷ 0x30 ∷ 0x31 ∷ []) ∷ fields.Checksum 0x3A7A ∷ fields.LoadedLength 0x32A ∷ fields.RangeCount 0 ∷ [];
+  last = fields.Global (record { lo = pos 0; hi = pos 7; ordered = in_order (pos 0) (pos 7) refl });
+  rest = 9 ∷ [];
+  each = (
+    omega arith,
+    ((refl, (omega arith, (omega arith, (omega arith, (omega arith, (omega arith, (omega arith, tt))))))), (omega arith, (omega arith, (omega arith, ((omega arith, omega arith), tt))))),
+  );
+  led = refl;
+  adds = tt;
+  spelled = refl;
+}
+
+no_part : LeadsToPart interval_format (0x5A ∷ 0x50 ∷ 0x43 ∷ 0x43 ∷ 2 ∷ []) → ⊥
+no_part l = absurd (let e = l.spelled in cc)
 
 -- ---- how it is kept
 

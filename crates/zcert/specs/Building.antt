@@ -198,6 +198,27 @@ module _ {V : Type 0} where
     q ← taken p f
     all_taken q fs
 
+-- the field is of the kind whose turn it is
+abbrev pub InTurn : {V : Type 0} → Turn → Field V → Type 0
+InTurn turns.Release (fields.Release n) = ⊤
+InTurn turns.Serial (fields.Serial s) = ⊤
+InTurn turns.Checksum (fields.Checksum n) = ⊤
+InTurn turns.LoadedLength (fields.LoadedLength n) = ⊤
+InTurn turns.RangeCount (fields.RangeCount n) = ⊤
+InTurn (turns.RangeFirst more) (fields.RangeFirst n) = ⊤
+InTurn (turns.RangeLast more first) (fields.RangeLast n) = ⊤
+InTurn (turns.Global more) (fields.Global v) = ⊤
+InTurn turns.RoutineCount (fields.RoutineCount n) = ⊤
+InTurn (turns.RoutineAddress more) (fields.RoutineAddress n) = ⊤
+InTurn (turns.LocalCount more address) (fields.LocalCount n) = ⊤
+InTurn (turns.RoutineResult more address locals) (fields.RoutineResult v) = ⊤
+InTurn turns.InstructionCount (fields.InstructionCount n) = ⊤
+InTurn (turns.InstructionAddress more) (fields.InstructionAddress n) = ⊤
+InTurn (turns.RoutineNumber more address) (fields.RoutineNumber n) = ⊤
+InTurn (turns.Height more address routine) (fields.Height n) = ⊤
+InTurn (turns.Value more h left) (fields.Value v) = ⊤
+InTurn _ _ = ⊥
+
 -- the field may be the last of a part, for which there has to be room
 abbrev pub Adds : {V : Type 0} → Field V → Type 0
 Adds (fields.RangeLast n) = Unit {0}

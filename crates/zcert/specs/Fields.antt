@@ -1,6 +1,6 @@
 -- The fields of a certificate as bytes, each by itself, and what they make.
-use Rattle.std.specs.Prelude.{◌≡◌, ℕ, ◌<◌, List, length, Result, Ok, Err}
-use Rattle.std.specs.List.{AllByRecursion}
+use Rattle.std.specs.Prelude.{◌≡◌, ℕ, ◌<◌, List, [], ◌∷◌, ◌++◌, length, Result, Ok, Err, IsOk}
+use Rattle.std.specs.List.{flat_map, AllByRecursion}
 use Rattle.zcert.specs.declared.error.CertError.{CertError}
 use Rattle.zcert.specs.declared.error.CertError.TheVariants as errors
 use Rattle.zcert.specs.declared.field.Field.{Field}
@@ -12,7 +12,8 @@ use Rattle.zcert.specs.Numbers as numbers
 use Rattle.zcert.specs.Certificate.{Certificate}
 use Rattle.zcert.specs.Steps.{◌>>=◌, number_at, serial_at}
 use Rattle.zcert.specs.Format.{Format}
-use Rattle.zcert.specs.Building.{Progress, opening, taken, all_taken}
+use Rattle.zcert.specs.Spelling.{heading}
+use Rattle.zcert.specs.Building.{Progress, opening, taken, all_taken, Adds}
 
 module _ {V : Type 0} (format : Format V) where
   abbrev pub field_bytes : Field V → List ℕ
@@ -97,3 +98,21 @@ module _ {V : Type 0} (format : Format V) where
     pub led : all_taken opening fs ≡ Ok end
     pub complete : end.turn ≡ turns.Complete
     pub content : end.content ≡ c
+
+  -- the next field can be taken, and adds a part
+  pub record NextAdds (p : Progress V) (bytes : List ℕ) : Type 0 where
+    pub field : Field V
+    pub rest : List ℕ
+    pub read : field_at p.turn bytes ≡ Ok (field, rest)
+    pub due : IsOk (taken p field)
+    pub adds : Adds field
+
+  -- the bytes begin with the heading and fields that can all be taken, of which the last adds a part
+  pub record LeadsToPart (bytes : List ℕ) : Type 0 where
+    pub fields : List (Field V)
+    pub last : Field V
+    pub rest : List ℕ
+    pub each : AllByRecursion IsField (fields ++ last ∷ [])
+    pub led : IsOk (all_taken opening (fields ++ last ∷ []))
+    pub adds : Adds last
+    pub spelled : bytes ≡ heading format ++ (flat_map field_bytes (fields ++ last ∷ []) ++ rest)

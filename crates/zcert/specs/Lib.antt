@@ -10,3 +10,4 @@ pub mod Contents
 pub mod View
 pub mod Listed
 pub mod Refusal
+pub mod Longest

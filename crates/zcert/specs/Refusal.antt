@@ -1,7 +1,15 @@
--- The number of a refusal of a certificate's bytes, which is shown (own).
-use Rattle.std.specs.Prelude.{ℕ}
+-- Refusals of a certificate's bytes, by the numbers that are shown, and of a builder's fields (own).
+use Rattle.std.specs.Prelude.{◌≡◌, ◌≢◌, ℕ, List, [], ◌∷◌, ◌++◌, Ok, Err}
+use Rattle.std.specs.List.{flat_map, AllByRecursion}
 use Rattle.zcert.specs.declared.error.CertError.{CertError}
 use Rattle.zcert.specs.declared.error.CertError.TheVariants as errors
+use Rattle.zcert.specs.declared.field.Field.{Field}
+use Rattle.zcert.specs.declared.field.Turn.TheVariants as turns
+use Rattle.zcert.specs.Format.{Format}
+use Rattle.zcert.specs.Spelling.{heading}
+use Rattle.zcert.specs.Reading.{reading}
+use Rattle.zcert.specs.Building.{Progress, opening, InTurn, taken, all_taken}
+use Rattle.zcert.specs.Fields.{field_bytes, IsField}
 
 abbrev pub number_of : CertError → ℕ
 number_of errors.Magic = 1
@@ -12,3 +20,17 @@ number_of errors.Order = 5
 number_of errors.EmptyInterval = 6
 number_of errors.Limit = 7
 number_of errors.OutOfMemory = 8
+
+-- Builders refuse as readers do.
+module _ {V : Type 0} (format : Format V) where
+  -- for a field in its turn, as the bytes are refused that spell it and the fields before it, whatever follows
+  abbrev pub RefuseInTurn : Type 0
+  RefuseInTurn = (before : List (Field V)) (f : Field V) (rest : List ℕ) (p : Progress V) (e : CertError) → AllByRecursion (IsField format) (before ++ f ∷ []) → all_taken opening before ≡ Ok p → InTurn p.turn f → taken p f ≡ Err e → reading format (heading format ++ (flat_map (field_bytes format) (before ++ f ∷ []) ++ rest)) ≡ Err e
+
+  -- for fields that end too early, as the bytes are refused that spell them
+  abbrev pub RefuseAtEnd : Type 0
+  RefuseAtEnd = (fs : List (Field V)) (p : Progress V) → AllByRecursion (IsField format) fs → all_taken opening fs ≡ Ok p → p.turn ≢ turns.Complete → reading format (heading format ++ flat_map (field_bytes format) fs) ≡ Err errors.Truncated
+
+-- a field out of its turn, which no bytes spell, is out of order
+abbrev pub RefuseOutOfTurn : Type 0 → Type 0
+RefuseOutOfTurn V = (p : Progress V) (f : Field V) → (InTurn p.turn f → ⊥) → taken p f ≡ Err errors.Order

@@ -1,6 +1,6 @@
 //! What holds of all certificates: each function here is empty, and its contract is a law.
 
-ghost use Rattle.std.specs.Prelude.{◌≡◌, ◌++◌, List, Ok};
+ghost use Rattle.std.specs.Prelude.{◌≡◌, ◌+◌, ◌++◌, List, Ok};
 ghost use Rattle.std.specs.List.{flat_map};
 ghost use Rattle.zdomain.specs.declared.interval.Interval.{Interval};
 ghost use Rattle.zcert.specs.declared.field.Field.{Field};
@@ -9,6 +9,10 @@ ghost use Rattle.zcert.specs.Format.{interval_format};
 ghost use Rattle.zcert.specs.Spelling.{heading, spelling, HasSpelling};
 ghost use Rattle.zcert.specs.Reading.{reading};
 ghost use Rattle.zcert.specs.Fields.{field_bytes, Makes};
+ghost use Rattle.zcert.specs.Refusal.{RefuseInTurn, RefuseAtEnd, RefuseOutOfTurn};
+ghost use Rattle.zcert.specs.Longest.{IsDecidedBy, IsLongest};
+
+use crate::limits::LARGEST;
 
 /// The spelling of a certificate is read as that certificate, and no other certificate has it.
 pub fn spellings_are_read()
@@ -22,4 +26,20 @@ pub fn fields_make_certificates()
     ensures spelled { (fs : List (Field Interval)) (c : Certificate Interval) → Makes interval_format fs c →
         HasSpelling interval_format c × (spelling interval_format c ≡ heading interval_format ++ flat_map (field_bytes interval_format) fs) }
     ensures each { (c : Certificate Interval) → HasSpelling interval_format c → (fs : List (Field Interval)) × Makes interval_format fs c }
+{}
+
+/// A builder refuses what a reader would: the first field that it refuses, where it is in its turn, is refused for what the bytes
+/// that spell the fields up to it are refused for. A field out of its turn is out of order, and fields that end too early are cut
+/// off, as their bytes are.
+pub fn builders_refuse_as_readers()
+    ensures in_turn { RefuseInTurn interval_format }
+    ensures out_of_turn { RefuseOutOfTurn Interval }
+    ensures at_end { RefuseAtEnd interval_format }
+{}
+
+/// What is read of a file is decided by its first [`LARGEST`] bytes and one more: a reader of files needs no further ones, and
+/// answers of a longer file what its first bytes say, or that bytes follow the certificate. No certificate is longer.
+pub fn largest_decides()
+    ensures decided { IsDecidedBy interval_format (LARGEST + 1) }
+    ensures longest { IsLongest interval_format LARGEST }
 {}

@@ -26,3 +26,26 @@ pub const MAX_ROUTINES: u16 = 0;
 
 /// The greatest height of the stack before an instruction.
 pub const MAX_HEIGHT: u8 = 0;
+
+/// The bytes of magic, version and identity, and of the three counts.
+pub const FIXED_BYTES: usize = 27;
+
+/// The bytes of a range.
+pub const RANGE_BYTES: usize = 4;
+
+/// The bytes of a set of values.
+pub const VALUE_BYTES: usize = 4;
+
+/// The bytes of a routine.
+pub const ROUTINE_BYTES: usize = 9;
+
+/// The bytes of an instruction before its values.
+pub const HEADER_BYTES: usize = 7;
+
+/// No certificate has more bytes, by the limits above. So many and one more decide what is read of a file.
+pub const LARGEST: usize = FIXED_BYTES
+    + MAX_RANGES as usize * RANGE_BYTES
+    + GLOBALS as usize * VALUE_BYTES
+    + MAX_ROUTINES as usize * ROUTINE_BYTES
+    + MAX_INSTRUCTIONS as usize
+        * (HEADER_BYTES + (MAX_LOCALS as usize + MAX_HEIGHT as usize) * VALUE_BYTES);

@@ -9,7 +9,7 @@ ghost use Rattle.zcert.specs.Steps.{number_at, serial_at, sized_at};
 ghost use Rattle.zcert.specs.Format.{interval_format};
 ghost use Rattle.zcert.specs.Spelling.{spelling, HasSpelling};
 ghost use Rattle.zcert.specs.Reading.{heading_at, reading};
-ghost use Rattle.zcert.specs.Fields.{field_at, next_at};
+ghost use Rattle.zcert.specs.Fields.{field_at, next_at, NextAdds, LeadsToPart};
 ghost use Rattle.zcert.specs.View.{Gives, Refuses, Answers};
 
 use crate::builder::CertBuilder;
@@ -128,6 +128,7 @@ fn next_of<'a>(builder: &mut CertBuilder, bytes: &'a [u8]) -> Result<&'a [u8], C
     ensures ok { IfOk result (λ rest. next_at interval_format builder.old bytes.now ≡ Ok (builder.new, rest.now)) }
     ensures shorter { IfOk result (λ rest. length rest.now < length bytes.now) }
     ensures refused { IfErr result (λ e. Refuses e (next_at interval_format builder.old bytes.now)) }
+    ensures memory { result ≡ Err CertError.OutOfMemory → NextAdds interval_format builder.old bytes.now }
 {
     let (field, rest) = field_of(builder.turn(), bytes)?;
     builder.take(field)?;
@@ -136,7 +137,8 @@ fn next_of<'a>(builder: &mut CertBuilder, bytes: &'a [u8]) -> Result<&'a [u8], C
 
 // The certificate that the bytes spell, or the first wrong field.
 fn certificate_of(alloc: Global, bytes: &[u8]) -> Result<Certificate, CertError>
-    ensures { Answers result (reading interval_format bytes.now) }
+    ensures exact { Answers result (reading interval_format bytes.now) }
+    ensures memory { result ≡ Err CertError.OutOfMemory → LeadsToPart interval_format bytes.now }
 {
     let mut rest = heading_of(bytes)?;
     let mut builder = CertBuilder::new(alloc);
@@ -148,7 +150,8 @@ fn certificate_of(alloc: Global, bytes: &[u8]) -> Result<Certificate, CertError>
 
 /// The certificate that all of the bytes spell. It is refused for the first wrong field.
 ///
-/// Memory is taken for what has been read alone, never for what a count says.
+/// Memory is taken for what has been read alone, never for what a count says, and wanted only where fields up to one that adds a
+/// part could all be taken.
 pub fn read(alloc: Global, bytes: &[u8]) -> Result<Certificate, CertError>
     // What is read is spelled by the bytes.
     ensures found { IfOk result (λ c. (bytes.now ≡ spelling interval_format c) × HasSpelling interval_format c) }
@@ -156,6 +159,9 @@ pub fn read(alloc: Global, bytes: &[u8]) -> Result<Certificate, CertError>
     ensures only { (c : Content Set) → HasSpelling interval_format c → bytes.now ≡ spelling interval_format c → Answers result (Ok c) }
     // Which refusal it is.
     ensures exact { Answers result (reading interval_format bytes.now) }
+
+    // Memory is wanted only for a part that the bytes have.
+    ensures memory { result ≡ Err CertError.OutOfMemory → LeadsToPart interval_format bytes.now }
 {
     certificate_of(alloc, bytes)
 }

@@ -10,7 +10,9 @@ ghost use Rattle.zcert.specs.Spelling.{identity_bytes, range_bytes, values_bytes
 
 use crate::certificate::Certificate;
 use crate::contents::{Contents, Stored};
-use crate::limits::{MAGIC, VERSION};
+use crate::limits::{
+    FIXED_BYTES, HEADER_BYTES, MAGIC, RANGE_BYTES, ROUTINE_BYTES, VALUE_BYTES, VERSION,
+};
 use crate::parts::{Range, Routine};
 use std::alloc::{AllocError, Global};
 use zdomain::Interval;
@@ -110,22 +112,19 @@ fn put_instructions(out: &mut Vec<u8>, contents: &Contents) -> Result<(), AllocE
 
 // How many bytes a certificate takes, so that they are taken at once.
 fn room_for(contents: &Contents) -> usize {
-    let heading_and_counts = 27;
     let parts = [
-        (contents.ranges.len(), 4),
-        (contents.globals.len(), 4),
-        (contents.routines.len(), 9),
-        (contents.stored.len(), 7),
-        (contents.values.len(), 4),
+        (contents.ranges.len(), RANGE_BYTES),
+        (contents.globals.len(), VALUE_BYTES),
+        (contents.routines.len(), ROUTINE_BYTES),
+        (contents.stored.len(), HEADER_BYTES),
+        (contents.values.len(), VALUE_BYTES),
     ];
-    parts
-        .iter()
-        .fold(heading_and_counts, |sum: usize, (count, size)| {
-            sum.saturating_add(count.saturating_mul(*size))
-        })
+    parts.iter().fold(FIXED_BYTES, |sum: usize, (count, size)| {
+        sum.saturating_add(count.saturating_mul(*size))
+    })
 }
 
-/// The one spelling of a certificate.
+/// The one spelling of a certificate. It always has bytes, so whichever certificate it is, the growth for them may be refused.
 pub fn write(alloc: Global, certificate: &Certificate) -> Result<Vec<u8>, AllocError>
     ensures spelled { IfOk result (λ bytes. bytes.items ≡ spelling interval_format certificate.now) }
     // So that reading it gives the certificate again.

@@ -1,5 +1,5 @@
 -- Values of the definitions, computed.
-use Rattle.std.proofs.Common.{◌≡◌, ℕ, zero, suc, ◌+◌, ◌-◌, ◌<◌, ◌≤◌, ◌==◌, true, false, [], ◌∷◌, slice_index, Some, None, refl, arith}
+use Rattle.std.proofs.Common.{◌≡◌, ℕ, zero, suc, ◌+◌, ◌-◌, ◌<◌, ◌≤◌, ◌==◌, true, false, List, [], ◌∷◌, length, get_or, slice_index, Some, None, refl, arith}
 use Rattle.std.specs.Prelude.{All}
 use Rattle.std.specs.List.Sorted.{IsStrictlyIncreasing}
 use Rattle.zcode.specs.declared.opcode.Opcode.TheVariants.{NewLine}
@@ -73,6 +73,56 @@ in_order = record {
 not_in_order : (IsInOrder (record listing { routines = 4 ∷ 4 ∷ [] }) → ⊥) × (IsInOrder (record listing { routines = 131072 ∷ [] }) → ⊥) × (IsInOrder (record listing { routines = [] }) → ⊥)
 unfolding listing main first
 not_in_order = (λ o. omega (arith, o.routines_rising 0 (omega arith)), λ o. omega (arith, o.routines_inside 0 0 (omega arith)), λ o. omega (arith, o.owned 1 main (omega arith)))
+
+-- so many addresses one behind another
+successive : ℕ → ℕ → List ℕ
+successive zero address = []
+successive (suc n) address = address ∷ successive n (address + 1)
+
+so_many : (n address : ℕ) → length (successive n address) ≡ n
+unfolding successive
+so_many zero address = refl
+so_many (suc n) address = omega (arith, so_many n (address + 1))
+
+each_of : (n address k d : ℕ) → k < n → get_or (successive n address) k d ≡ address + k
+unfolding successive
+each_of zero address k d l = absurd (omega (arith, l))
+each_of (suc n) address zero d l = omega arith
+each_of (suc n) address (suc k) d l = omega (arith, each_of n (address + 1) k d (omega (arith, l)))
+
+-- 65,535 routines, at the last addresses of all, are in order, and one more isn't
+most_routines : (n : ℕ) → n ≤ 65535 → IsInOrder (record { records = []; routines = successive n 65537 })
+most_routines n few = record {
+  rising = λ k l. absurd (omega (arith, l));
+  inside = λ k d l. absurd (omega (arith, l));
+  owned = λ k d l. absurd (omega (arith, l));
+  routines_rising = λ k l. omega (arith, l, so_many n 65537, each_of n 65537 k 0 (omega (arith, l, so_many n 65537)), each_of n 65537 (k + 1) 0 (omega (arith, l, so_many n 65537)));
+  routines_inside = λ k d l. omega (arith, l, few, so_many n 65537, each_of n 65537 k d (omega (arith, l, so_many n 65537)));
+  routines_numbered = omega (arith, few, so_many n 65537);
+}
+
+one_too_many : (listing : ListedCode) → length listing.routines ≡ 65536 → IsInOrder listing → ⊥
+one_too_many listing e o = omega (arith, e, o.routines_numbered)
+
+-- an instruction may stand at the last address, and not behind it, nor twice at one
+last_address : IsInOrder (record { records = main ∷ record first { address = 131071 } ∷ []; routines = 131071 ∷ [] }) × (IsInOrder (record listing { records = record first { address = 131072 } ∷ [] }) → ⊥) × (IsInOrder (record listing { records = main ∷ main ∷ [] }) → ⊥)
+unfolding listing main first
+last_address = (
+  record {
+    rising = two_rise 2 131071 (omega arith);
+    inside = of_two (λ (r : Record). r.address < 131072) main (record first { address = 131071 }) (omega arith) (omega arith);
+    owned = of_two (λ (r : Record). r.routine ≤ 1) main (record first { address = 131071 }) (omega arith) (omega arith);
+    routines_rising = λ k l. absurd (omega (arith, l));
+    routines_inside = one_inside;
+    routines_numbered = omega arith;
+  },
+  λ o. omega (arith, o.inside 0 main (omega arith)),
+  λ o. omega (arith, o.rising 0 (omega arith)),
+)
+  where
+    one_inside : All (λ (a : ℕ). a < 131072) (131071 ∷ [])
+    one_inside zero d l = omega arith
+    one_inside (suc k) d l = absurd (omega (arith, l))
 
 -- ---- tables of numbers
 

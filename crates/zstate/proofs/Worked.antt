@@ -1,6 +1,7 @@
 -- Values of the definitions, computed.
-use Rattle.std.proofs.Common.{◌≡◌, ℕ, ◌+◌, ◌-◌, Bool, true, false, List, [], ◌∷◌, ◌++◌, replicate, map, Some, None, Result, Ok, Err, pos, negsuc, refl, arith}
+use Rattle.std.proofs.Common.{◌≡◌, ℕ, zero, suc, ◌+◌, ◌-◌, ◌≤◌, Bool, true, false, List, [], ◌∷◌, ◌++◌, length, replicate, map, Some, None, Result, Ok, Err, pos, negsuc, refl, arith}
 use Rattle.std.specs.Prelude.{nat_le, if◌then◌else◌}
+use Rattle.std.proofs.lemmas.List.{length-replicate}
 use Rattle.zstory.specs.LoadedStory.{LoadedStory}
 use Rattle.zcode.specs.declared.error.DecodeError.TheVariants.{Truncated}
 use Rattle.zcode.specs.declared.instr.Operand.TheVariants.{Constant, Variable}
@@ -85,6 +86,29 @@ frames = (first, (above, first), λ f. no_frames.3 f.1.1, λ f. no_frames.3 f.1)
 
 is_state : IsState story (opening story)
 is_state = record { memory = refl; frames = first; few = omega arith }
+
+-- each bound of a frame is reached, and a word more on the stack is too many
+full_frame : (stack locals : List ℕ) → length stack ≡ 65535 → length locals ≡ 15 → IsFrame (record { return_place = 16777215; result = 255; supplied = 3; locals = locals; stack = stack })
+full_frame stack locals deep wide = record { reached = omega arith; supplied = omega arith; locals = omega (arith, wide); stack = omega (arith, deep) }
+
+too_deep : (stack : List ℕ) → length stack ≡ 65536 → IsFrame (record first_frame { stack = stack }) → ⊥
+too_deep stack deep f = omega (arith, deep, f.stack)
+
+-- 1,024 frames above the first
+all_first : (n : ℕ) → AreFrames first_frame (replicate n first_frame)
+all_first zero = first
+all_first (suc n) = (first.0, all_first n)
+
+many_frames : (n : ℕ) → n ≤ 1024 → IsState story (record (opening story) { callers = replicate n first_frame })
+many_frames n few = record { memory = refl; frames = all_first n; few = omega (arith, few, length-replicate n first_frame) }
+
+too_many_frames : (s : State) → length s.callers ≡ 1025 → IsState story s → ⊥
+too_many_frames s many is = omega (arith, many, is.few)
+
+-- memory is as long as the story
+shortened : IsState story (record (opening story) { memory = [] }) → ⊥
+unfolding story memory code
+shortened s = omega (arith, s.memory)
 
 no_state : (IsState story (record (opening story) { callers = replicate 1025 first_frame }) → ⊥)
 no_state s = omega (arith, s.few)

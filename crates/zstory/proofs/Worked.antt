@@ -1,5 +1,5 @@
 -- Values of the definitions, computed.
-use Rattle.std.proofs.Common.{◌≡◌, inl, inr, ℕ, zero, suc, ◌<◌, ◌≤◌, true, false, List, [], ◌∷◌, ◌++◌, replicate, length, take, refl, arith, lit<, lit≤}
+use Rattle.std.proofs.Common.{◌≡◌, ◌⊎◌, inl, inr, ℕ, zero, suc, ◌<◌, ◌≤◌, true, false, List, [], ◌∷◌, ◌++◌, replicate, length, take, refl, arith, lit<, lit≤}
 use Rattle.std.specs.Prelude.{slice_set}
 use Rattle.std.proofs.lemmas.Bool.{cases_lt}
 use Rattle.zstory.specs.declared.load_error.LoadError.{LoadError}
@@ -11,6 +11,10 @@ use Rattle.zstory.specs.Dictionary.{separator_count, entry_length, entry_count, 
 use Rattle.zstory.specs.LoadedStory.{LoadedStory, IsSound, identity_of, file_sum, save_checksum}
 use Rattle.zstory.specs.Loading.{stated_length, stated_part, with_flags_cleared, loaded_memory, IsLoaded}
 use Rattle.zstory.specs.Refusal.{number_of, IsTooShort, IsTooLong, HasOtherVersion, HasWrongLength, HasWrongBase, HasWrongGlobals, HasWrongDefaults, HasWrongDictionary, HasShortEntries, HasWrongStart, IsCause, IsLowest, HasNone}
+
+neither : {A B : Type 0} → (A → ⊥) → (B → ⊥) → A ⊎ B → ⊥
+neither no_a no_b (inl a) = no_a a
+neither no_a no_b (inr b) = no_b b
 
 -- ---- two stories
 
@@ -139,6 +143,20 @@ no_object = record {
   greatest = λ other few has. elim (cases_lt 0 other) [ inl more ↦ absurd (let entry = has 1 (omega arith) (omega (arith, more)) in omega (arith, entry.dynamic, numbers.4, numbers.6)) | inr within ↦ within ];
 }
 
+-- an entry may end where static memory begins, and not behind it
+last_dynamic : IsEntry (slice_set plain 0x0F 0x67) 1 × (IsEntry (slice_set plain 0x0F 0x66) 1 → ⊥)
+unfolding plain
+last_dynamic = (record { dynamic = lit≤ tt; before_tables = λ other some few. one other some few }, λ entry. omega (arith, entry.dynamic))
+  where
+    one : (other : ℕ) → 1 ≤ other → other ≤ 1 → object_end (slice_set plain 0x0F 0x67) 1 ≤ property_table (slice_set plain 0x0F 0x67) other
+    one zero some few = absurd (omega (arith, some))
+    one (suc zero) some few = lit≤ tt
+    one (suc (suc k)) some few = absurd (omega (arith, few))
+
+-- no more than a byte can number
+most_objects : (memory : List ℕ) → IsObjectCount memory 256 → ⊥
+most_objects memory count = omega (arith, count.within)
+
 one_count_alone : (IsObjectCount peopled 1 → ⊥) × (IsObjectCount peopled 3 → ⊥)
 one_count_alone = (λ count. omega (arith, count.greatest 2 (omega arith) two_objects.entries), λ count. no_third (count.entries 3 (omega arith) (omega arith)))
 
@@ -152,6 +170,14 @@ lengths = (refl, refl, refl)
 parts : (stated_part (plain ++ 0x55 ∷ 0x66 ∷ []) ≡ plain) × (stated_part plain ≡ plain)
 unfolding plain
 parts = (refl, refl)
+
+abbrev stating : ℕ → List ℕ
+stating words = slice_set (slice_set plain 0x1A 0) 0x1B words
+
+-- a file that states the length of a header alone
+header_alone : (stated_length (stating 32) ≡ 64) × (stated_part (stating 32) ≡ take 64 (stating 32)) × (stated_length (stating 31) ≡ 62)
+unfolding plain
+header_alone = (refl, refl, refl)
 
 -- of all flags the three are cleared
 flags : (with_flags_cleared (1 ∷ 0xFF ∷ 0xFF ∷ []) ≡ 1 ∷ 0x8F ∷ 0xFF ∷ []) × (with_flags_cleared (1 ∷ 0x70 ∷ []) ≡ 1 ∷ 0 ∷ []) × (loaded_memory (with_flags 0x32) ≡ with_flags 0x02)
@@ -183,6 +209,47 @@ sound = record {
   first_instruction_within = omega (arith, sizes.1, of_peopled.1);
 }
 
+-- each bound of it, one beyond
+beyond :
+    (IsSound (take 63 plain) → ⊥)
+    × ((memory : List ℕ) → length memory ≡ 131073 → IsSound memory → ⊥)
+    × (IsSound (slice_set plain 0x00 4) → ⊥)
+    × (IsSound (slice_set (slice_set plain 0x0E 0) 0x0F 63) → ⊥)
+    × (IsSound (slice_set (slice_set plain 0x0E 0x03) 0x0F 0x2B) → ⊥)
+    × (IsSound (slice_set plain 0x0D 63) → ⊥)
+    × (IsSound (slice_set plain 0x0D 127) → ⊥)
+    × (IsSound (slice_set (slice_set plain 0x0A 0) 0x0B 63) → ⊥)
+    × (IsSound (slice_set plain 0x0B 0x21) → ⊥)
+unfolding plain
+beyond = (
+  λ sound. omega (arith, sound.least_length),
+  λ memory e sound. omega (arith, e, sound.greatest_length),
+  λ sound. omega (arith, sound.version),
+  λ sound. omega (arith, sound.static_base_above),
+  λ sound. omega (arith, sound.static_base_within),
+  λ sound. omega (arith, sound.globals_above),
+  λ sound. omega (arith, sound.globals_within),
+  λ sound. omega (arith, sound.defaults_above),
+  λ sound. omega (arith, sound.defaults_within),
+)
+
+beyond_too :
+    (IsSound (slice_set (slice_set plain 0x08 0x02) 0x09 0x5D) → ⊥)
+    × (IsSound (take 803 plain) → ⊥)
+    × (IsSound (slice_set plain 0x321 3) → ⊥)
+    × (IsSound (slice_set peopled 0x361 0x47) → ⊥)
+    × (IsSound (slice_set (slice_set plain 0x06 0) 0x07 63) → ⊥)
+    × (IsSound (slice_set plain 0x07 0x2A) → ⊥)
+unfolding plain peopled
+beyond_too = (
+  λ sound. omega (arith, sound.dictionary_above),
+  λ sound. omega (arith, sound.dictionary_within),
+  λ sound. omega (arith, sound.entries_long),
+  λ sound. omega (arith, sound.entries_ordered 0 (lit< tt)),
+  λ sound. omega (arith, sound.first_instruction_above),
+  λ sound. omega (arith, sound.first_instruction_within),
+)
+
 -- but not of one that ends where its code begins
 unsound : IsSound (take 804 plain) → ⊥
 unfolding plain
@@ -208,6 +275,10 @@ sums : (file_sum (story plain) ≡ 14970) × (file_sum (story peopled) ≡ 19218
 unfolding plain peopled without_checksum
 sums = (refl, refl, refl, refl, refl)
 
+-- a sum of 65,790 is 254
+wrapped : file_sum (story (replicate 64 1 ++ replicate 258 255)) ≡ 254
+wrapped = refl
+
 -- ---- refusals
 
 refusals : (number_of TooShort ≡ 1) × (number_of TooLong ≡ 2) × (number_of NotVersion3 ≡ 3) × (number_of LengthWord ≡ 4) × (number_of StaticBase ≡ 5) × (number_of Globals ≡ 6) × (number_of Objects ≡ 7) × (number_of Dictionary ≡ 8) × (number_of EntryLength ≡ 9) × (number_of DictionaryOrder ≡ 10) × (number_of FirstInstruction ≡ 11) × (number_of OutOfMemory ≡ 12)
@@ -228,6 +299,51 @@ other_version = (λ e. omega (arith, e), λ other. other refl)
 wrong_lengths : HasWrongLength (take 809 plain) × HasWrongLength (slice_set (slice_set plain 0x1A 0) 0x1B 31)
 unfolding plain
 wrong_lengths = ((λ e. omega (arith, e), inr (lit< tt)), (λ e. omega (arith, e), inl (lit< tt)))
+
+-- as long as the file, and as long as a header
+right_lengths : (HasWrongLength plain → ⊥) × (HasWrongLength (stating 32) → ⊥)
+unfolding plain
+right_lengths = (λ wrong. neither (λ low. omega (arith, low)) (λ high. omega (arith, high)) wrong.1, λ wrong. neither (λ low. omega (arith, low)) (λ high. omega (arith, high)) wrong.1)
+
+-- each place at its bounds, and one beyond: where static memory begins
+bases : (HasWrongBase (slice_set (slice_set plain 0x0E 0) 0x0F 64) → ⊥) × HasWrongBase (slice_set (slice_set plain 0x0E 0) 0x0F 63) × (HasWrongBase (slice_set (slice_set plain 0x0E 0x03) 0x0F 0x2A) → ⊥) × HasWrongBase (slice_set (slice_set plain 0x0E 0x03) 0x0F 0x2B)
+unfolding plain
+bases = (neither (λ low. omega (arith, low)) (λ high. omega (arith, high)), inl (lit< tt), neither (λ low. omega (arith, low)) (λ high. omega (arith, high)), inr (lit< tt))
+
+-- the globals, from 64 to static memory
+globals_placed : (HasWrongGlobals plain → ⊥) × (HasWrongGlobals (slice_set plain 0x0D 126) → ⊥) × HasWrongGlobals (slice_set plain 0x0D 127)
+unfolding plain
+globals_placed = (neither (λ low. omega (arith, low)) (λ high. omega (arith, high)), neither (λ low. omega (arith, low)) (λ high. omega (arith, high)), inr (lit< tt))
+
+-- the property defaults; those of this story end where static memory begins
+defaults_placed : (HasWrongDefaults (slice_set (slice_set plain 0x0A 0) 0x0B 64) → ⊥) × HasWrongDefaults (slice_set (slice_set plain 0x0A 0) 0x0B 63) × (HasWrongDefaults plain → ⊥) × HasWrongDefaults (slice_set plain 0x0B 0x21)
+unfolding plain
+defaults_placed = (neither (λ low. omega (arith, low)) (λ high. omega (arith, high)), inl (lit< tt), neither (λ low. omega (arith, low)) (λ high. omega (arith, high)), inr (lit< tt))
+
+-- the dictionary: at static memory's first byte and the one before, and up to the last byte and one more
+dictionary_placed : (HasWrongDictionary (slice_set (slice_set plain 0x0E 0x03) 0x0F 0x20) → ⊥) × HasWrongDictionary (slice_set (slice_set plain 0x0E 0x03) 0x0F 0x21) × (HasWrongDictionary (take 804 plain) → ⊥) × HasWrongDictionary (take 803 plain)
+unfolding plain
+dictionary_placed = (neither (λ low. omega (arith, low)) (λ high. omega (arith, high)), inl (lit< tt), neither (λ low. omega (arith, low)) (λ high. omega (arith, high)), inr (lit< tt))
+
+-- equal texts don't fall: here the second word is written as the first is
+equal_texts : List ℕ
+equal_texts = slice_set (slice_set (slice_set (slice_set peopled 0x368 0x1B) 0x369 0x25) 0x36A 0x94) 0x36B 0xA5
+
+equals : (encoded_text equal_texts 0 ≡ encoded_text equal_texts 1) × (entry_count equal_texts ≡ 2)
+unfolding equal_texts peopled
+equals = (refl, refl)
+
+equal_entries : HasFallingEntries equal_texts → ⊥
+equal_entries (zero, some, less) = omega (arith, less, equals.0)
+equal_entries (suc k, some, less) = omega (arith, some, equals.1)
+
+first_places : HasWrongStart (slice_set (slice_set plain 0x06 0) 0x07 63) × (HasWrongStart (slice_set (slice_set plain 0x06 0) 0x07 64) → ⊥)
+unfolding plain
+first_places = (inl (lit< tt), neither (λ low. omega (arith, low)) (λ high. omega (arith, high)))
+
+other_versions : HasOtherVersion (slice_set plain 0 2) × HasOtherVersion (slice_set plain 0 4)
+unfolding plain
+other_versions = (λ e. omega (arith, e), λ e. omega (arith, e))
 
 misplaced : HasWrongBase (slice_set plain 0x0E 0x03) × HasWrongGlobals (slice_set plain 0x0D 0x3F) × HasWrongDefaults (slice_set plain 0x0A 0x00) × HasWrongDictionary (slice_set plain 0x322 0xFF) × HasWrongDictionary (slice_set plain 0x08 0x02)
 unfolding plain

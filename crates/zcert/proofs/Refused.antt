@@ -1,0 +1,67 @@
+-- What a builder refuses is refused of the bytes.
+use Rattle.std.proofs.Common.{◌≡◌, ◌≢◌, ℕ, List, [], ◌∷◌, ◌++◌, Ok, Err, inl, inr, ◌⊎◌, refl, sym, ap, ◌∙◌, append_assoc}
+use Rattle.std.specs.List.{flat_map, AllByRecursion}
+use Rattle.std.proofs.lemmas.List.{append-nil}
+use Rattle.zcert.specs.declared.error.CertError.{CertError}
+use Rattle.zcert.specs.declared.error.CertError.TheVariants as errors
+use Rattle.zcert.specs.declared.field.Field.{Field}
+use Rattle.zcert.specs.declared.field.Turn.{Turn}
+use Rattle.zcert.specs.declared.field.Turn.TheVariants as turns
+use Rattle.zcert.specs.Format.{Format, interval_format}
+use Rattle.zcert.specs.Spelling.{heading}
+use Rattle.zcert.specs.Reading.{reading}
+use Rattle.zcert.specs.Building.{Progress, opening, InTurn, taken, all_taken}
+use Rattle.zcert.specs.Fields.{field_bytes, IsField, field_at}
+use Rattle.zcert.specs.Refusal.{RefuseInTurn, RefuseAtEnd, RefuseOutOfTurn}
+use Rattle.zcert.proofs.Formats.{IsFormat}
+use Rattle.zcert.proofs.Rest.{rest_of, HasMore, reads_on}
+use Rattle.zcert.proofs.FieldBytes.{in_turn_or, again_at, has_more, fields_again}
+use Rattle.zcert.proofs.Makes.{after_heading}
+use Rattle.zcert.proofs.Room.{one_text_more}
+
+pub out_of_turn : {V : Type 0} → RefuseOutOfTurn V
+out_of_turn p f out = elim (in_turn_or f p) [ inl due ↦ absurd (out due) | inr order ↦ order ]
+
+-- no bytes are a set
+abbrev pub IsCut : {V : Type 0} → Format V → Type 0
+IsCut format = format.value_at [] ≡ Err errors.Truncated
+
+pub interval_is_cut : IsCut interval_format
+interval_is_cut = refl
+
+module _ {V : Type 0} (format : Format V) (law : IsFormat format) where
+  before_last : (fs : List (Field V)) (f : Field V) → AllByRecursion (IsField format) (fs ++ f ∷ []) → AllByRecursion (IsField format) fs × IsField format f
+  before_last [] f each = (tt, each.0)
+  before_last (g ∷ fs) f each = let b = before_last fs f each.1 in ((each.0, b.0), b.1)
+
+  pub in_turn : RefuseInTurn format
+  in_turn before f rest p e each led due refused =
+      let is = before_last before f each in
+      let bytes = field_bytes format f ++ rest in
+      let again = again_at format law p.turn f rest is.1 due in
+      after_heading format law (flat_map (field_bytes format) (before ++ f ∷ []) ++ rest)
+      ∙ ap (rest_of format opening) (one_text_more (field_bytes format) before f rest)
+      ∙ fields_again format law before opening p bytes is.0 led
+      ∙ reads_on format p bytes (has_more format law p.turn bytes (f, rest) again)
+      ∙ rw (again, refused) refl
+
+  -- where a field is due and no byte is left
+  more_due : (t : Turn) → t ≢ turns.Complete → HasMore format t []
+  more_due turns.Complete due = due refl
+  more_due _ due = tt
+
+  cut_at : IsCut format → (t : Turn) → t ≢ turns.Complete → field_at format t [] ≡ Err errors.Truncated
+  cut_at cut (turns.Global more) due = rw cut refl
+  cut_at cut (turns.RoutineResult more address locals) due = rw cut refl
+  cut_at cut (turns.Value more h left) due = rw cut refl
+  cut_at cut turns.Complete due = absurd (due refl)
+  cut_at cut _ due = refl
+
+  pub at_end : IsCut format → RefuseAtEnd format
+  at_end cut fs p each led due =
+      let bytes = flat_map (field_bytes format) fs in
+      after_heading format law bytes
+      ∙ ap (rest_of format opening) (sym (append-nil bytes))
+      ∙ fields_again format law fs opening p [] each led
+      ∙ reads_on format p [] (more_due p.turn due)
+      ∙ rw (cut_at cut p.turn due) refl

@@ -1,0 +1,177 @@
+-- Memory is wanted only for a part that the bytes have.
+use Rattle.std.proofs.Common.{◌≡◌, ◌≢◌, ℕ, Bool, true, false, cond, ltb, List, [], ◌∷◌, ◌++◌, length, take, drop, Option, Some, None, Result, Ok, Err, refl, sym, ap, subst, ◌∙◌, append_assoc}
+use Rattle.std.specs.Prelude.{IsOk, ◌==◌}
+use Rattle.std.specs.Int.{w16, cast_signed}
+use Rattle.std.specs.List.{flat_map, AllByRecursion}
+use Rattle.std.proofs.lemmas.List.{append-nil}
+use Rattle.byteorder.specs.Endian.{big_number}
+use Rattle.zdomain.specs.declared.interval.Interval.{Interval}
+use Rattle.zdomain.specs.Interval.{interval_of}
+use Rattle.zcert.specs.declared.error.CertError.{CertError}
+use Rattle.zcert.specs.declared.error.CertError.TheVariants as errors
+use Rattle.zcert.specs.declared.field.Field.{Field}
+use Rattle.zcert.specs.declared.field.Field.TheVariants as fields
+use Rattle.zcert.specs.declared.field.Turn.{Turn}
+use Rattle.zcert.specs.declared.field.Turn.TheVariants as turns
+use Rattle.zcert.specs.declared.limits.TheConstants.{MAGIC}
+use Rattle.zcert.specs.Numbers.{Number}
+use Rattle.zcert.specs.Numbers as numbers
+use Rattle.zcert.specs.Certificate.{Certificate}
+use Rattle.zcert.specs.Steps.{◌>>=◌, need, sized_at, number_at, serial_at}
+use Rattle.zcert.specs.Format.{Format, nonempty, interval_format}
+use Rattle.zcert.specs.Spelling.{heading}
+use Rattle.zcert.specs.Reading.{magic_at, version_at, heading_at, reading}
+use Rattle.zcert.specs.Building.{Progress, opening, taken, all_taken, Adds}
+use Rattle.zcert.specs.Fields.{field_bytes, IsField, as_field, field_at, next_at, NextAdds, LeadsToPart}
+use Rattle.zcert.specs.View.{RefusesField}
+use Rattle.zcert.proofs.Stepping.{IsBytes, bind_ok, ok_is}
+use Rattle.zcert.proofs.Formats.{IsFormat}
+use Rattle.zcert.proofs.Found.{heading_takes}
+use Rattle.zcert.proofs.Calls.{one_more, each_more}
+use Rattle.zcert.proofs.Rest.{rest_of}
+use Rattle.zcert.proofs.FieldBytes.{field_takes}
+
+-- ---- no step of reading wants memory
+
+abbrev IsPlain : {A : Type 0} → Result A CertError → Type 0
+IsPlain r = r ≢ Err errors.OutOfMemory
+
+plain_then : {A B : Type 0} (r : Result A CertError) (f : A → Result B CertError) → IsPlain r → ((x : A) → IsPlain (f x)) → IsPlain (r >>= f)
+plain_then (Ok x) f p q e = q x e
+plain_then (Err d) f p q e = p (let same : d ≡ errors.OutOfMemory = cc in ap (λ (x : CertError). Err x) same)
+
+plain_ok : {A : Type 0} (x : A) → IsPlain {A = A} (Ok x)
+plain_ok x e = absurd cc
+
+plain_need : (b : Bool) (d : CertError) → d ≢ errors.OutOfMemory → IsPlain (need b d)
+plain_need true d p e = absurd cc
+plain_need false d p e = p cc
+
+plain_guard : {A : Type 0} (b : Bool) (x : A) → IsPlain {A = A} (cond b (Err errors.Truncated) (Ok x))
+plain_guard true x e = absurd cc
+plain_guard false x e = absurd cc
+
+plain_sized : (n : ℕ) (bytes : List ℕ) → IsPlain (sized_at n bytes)
+plain_sized n bytes = plain_guard (ltb (length bytes) n) (big_number n bytes, drop n bytes)
+
+plain_serial : (bytes : List ℕ) → IsPlain (serial_at bytes)
+plain_serial bytes = plain_guard (ltb (length bytes) 6) (take 6 bytes, drop 6 bytes)
+
+plain_magic : (bytes : List ℕ) → IsPlain (magic_at bytes)
+unfolding magic_at
+plain_magic bytes = plain_then (number_at numbers.Magic bytes) _ (plain_sized 4 bytes) (λ x. plain_then (need (x.0 == MAGIC) errors.Magic) _ (plain_need (x.0 == MAGIC) errors.Magic (λ e. absurd cc)) (λ u. plain_ok x.1))
+
+plain_version : (version : ℕ) (bytes : List ℕ) → IsPlain (version_at version bytes)
+unfolding version_at
+plain_version version bytes = plain_then (number_at numbers.Version bytes) _ (plain_sized 1 bytes) (λ x. plain_then (need (x.0 == version) errors.Version) _ (plain_need (x.0 == version) errors.Version (λ e. absurd cc)) (λ u. plain_ok x.1))
+
+pub plain_heading : (version : ℕ) (bytes : List ℕ) → IsPlain (heading_at version bytes)
+unfolding heading_at
+plain_heading version bytes = plain_then (magic_at bytes) _ (plain_magic bytes) (λ rest. plain_version version rest)
+
+plain_nonempty : (o : Option Interval) → IsPlain (nonempty o)
+plain_nonempty (Some i) e = absurd cc
+plain_nonempty None e = absurd cc
+
+-- nor does reading a set
+abbrev pub IsPlainFormat : {V : Type 0} → Format V → Type 0
+IsPlainFormat format = (bytes : List ℕ) → IsPlain (format.value_at bytes)
+
+pub interval_is_plain : IsPlainFormat interval_format
+interval_is_plain bytes =
+    plain_then (number_at numbers.End bytes) _ (plain_sized 2 bytes) (λ lo.
+    plain_then (number_at numbers.End lo.1) _ (plain_sized 2 lo.1) (λ hi.
+    plain_then (nonempty (interval_of (cast_signed w16 lo.0) (cast_signed w16 hi.0))) _ (plain_nonempty (interval_of (cast_signed w16 lo.0) (cast_signed w16 hi.0))) (λ i. plain_ok (i, hi.1))))
+
+module _ {V : Type 0} (format : Format V) (plain : IsPlainFormat format) where
+  plain_field : {X : Type 0} (make : X → Field V) (read : Result (X × List ℕ) CertError) → IsPlain read → IsPlain (as_field format make read)
+  plain_field make read p = plain_then read _ p (λ x. plain_ok (make x.0, x.1))
+
+  pub plain_field_at : (t : Turn) (bytes : List ℕ) → IsPlain (field_at format t bytes)
+  plain_field_at turns.Release bytes = plain_field fields.Release _ (plain_sized 2 bytes)
+  plain_field_at turns.Serial bytes = plain_field fields.Serial _ (plain_serial bytes)
+  plain_field_at turns.Checksum bytes = plain_field fields.Checksum _ (plain_sized 2 bytes)
+  plain_field_at turns.LoadedLength bytes = plain_field fields.LoadedLength _ (plain_sized 4 bytes)
+  plain_field_at turns.RangeCount bytes = plain_field fields.RangeCount _ (plain_sized 2 bytes)
+  plain_field_at (turns.RangeFirst more) bytes = plain_field fields.RangeFirst _ (plain_sized 2 bytes)
+  plain_field_at (turns.RangeLast more first) bytes = plain_field fields.RangeLast _ (plain_sized 2 bytes)
+  plain_field_at (turns.Global more) bytes = plain_field fields.Global _ (plain bytes)
+  plain_field_at turns.RoutineCount bytes = plain_field fields.RoutineCount _ (plain_sized 2 bytes)
+  plain_field_at (turns.RoutineAddress more) bytes = plain_field fields.RoutineAddress _ (plain_sized 4 bytes)
+  plain_field_at (turns.LocalCount more address) bytes = plain_field fields.LocalCount _ (plain_sized 1 bytes)
+  plain_field_at (turns.RoutineResult more address locals) bytes = plain_field fields.RoutineResult _ (plain bytes)
+  plain_field_at turns.InstructionCount bytes = plain_field fields.InstructionCount _ (plain_sized 4 bytes)
+  plain_field_at (turns.InstructionAddress more) bytes = plain_field fields.InstructionAddress _ (plain_sized 4 bytes)
+  plain_field_at (turns.RoutineNumber more address) bytes = plain_field fields.RoutineNumber _ (plain_sized 2 bytes)
+  plain_field_at (turns.Height more address routine) bytes = plain_field fields.Height _ (plain_sized 1 bytes)
+  plain_field_at (turns.Value more h left) bytes = plain_field fields.Value _ (plain bytes)
+  plain_field_at turns.Complete bytes = λ e. absurd cc
+
+-- ---- what has been read
+
+-- the bytes are the heading, the fields that led here, and the rest, which would be read as the whole is
+pub record IsRead {V : Type 0} (format : Format V) (bytes : List ℕ) (p : Progress V) (rest : List ℕ) : Type 0 where
+  pub so_far : rest_of format p rest ≡ reading format bytes
+  pub fits : IsBytes rest
+  pub fields : List (Field V)
+  pub each : AllByRecursion (IsField format) fields
+  pub led : all_taken opening fields ≡ Ok p
+  pub spelled : bytes ≡ heading format ++ (flat_map (field_bytes format) fields ++ rest)
+
+pub one_text_more : {A : Type 0} (f : A → List ℕ) (xs : List A) (x : A) (rest : List ℕ) → flat_map f (xs ++ x ∷ []) ++ rest ≡ flat_map f xs ++ (f x ++ rest)
+one_text_more f [] x rest = ap (λ t. t ++ rest) (append-nil (f x))
+one_text_more f (y ∷ xs) x rest = append_assoc (f y) (flat_map f (xs ++ x ∷ [])) rest ∙ ap (λ t. f y ++ t) (one_text_more f xs x rest) ∙ sym (append_assoc (f y) (flat_map f xs) (f x ++ rest))
+
+module _ {V : Type 0} (format : Format V) (law : IsFormat format) where
+  pub read_first : (bytes rest : List ℕ) → IsBytes bytes → heading_at format.version bytes ≡ Ok rest → rest_of format opening rest ≡ reading format bytes → IsRead format bytes opening rest
+  read_first bytes rest fits e so_far =
+      let t = heading_takes format bytes rest fits e in
+      record { so_far = so_far; fits = t.rest_fits; fields = []; each = tt; led = refl; spelled = t.parts }
+
+  one_spelled : (f : Field V) (fs : List (Field V)) (bytes rest after : List ℕ) → bytes ≡ heading format ++ (flat_map (field_bytes format) fs ++ rest) → rest ≡ field_bytes format f ++ after → bytes ≡ heading format ++ (flat_map (field_bytes format) (fs ++ f ∷ []) ++ after)
+  one_spelled f fs bytes rest after e d =
+      e ∙ ap (λ (t : List ℕ). heading format ++ (flat_map (field_bytes format) fs ++ t)) d ∙ ap (λ (t : List ℕ). heading format ++ t) (sym (one_text_more (field_bytes format) fs f after))
+
+  pub read_next : (bytes : List ℕ) (p q : Progress V) (rest after : List ℕ) → IsRead format bytes p rest → next_at format p rest ≡ Ok (q, after) → rest_of format q after ≡ reading format bytes → IsRead format bytes q after
+  read_next bytes p q rest after r e so_far =
+      let a = bind_ok (field_at format p.turn rest) (λ f. taken p f.0 >>= λ x. Ok (x, f.1)) (q, after) e in
+      let b = bind_ok (taken p a.0.0) (λ x. Ok (x, a.0.1)) (q, after) a.2 in
+      let t = field_takes format law p.turn rest a.0.0 a.0.1 r.fits a.1 in
+      let made : Progress V × List ℕ = (b.0, a.0.1) in
+      let same = ok_is made (q, after) b.2 in
+      let led : taken p a.0.0 ≡ Ok q = b.1 ∙ ap (λ (x : Progress V × List ℕ). Ok x.0) same in
+      let left : a.0.1 ≡ after = ap (λ (x : Progress V × List ℕ). x.1) same in
+      record {
+        so_far = so_far;
+        fits = subst IsBytes left t.takes.rest_fits;
+        fields = r.fields ++ a.0.0 ∷ [];
+        each = each_more format r.fields a.0.0 r.each t.is;
+        led = one_more r.fields a.0.0 opening p q r.led led;
+        spelled = one_spelled a.0.0 r.fields bytes rest after r.spelled (t.takes.parts ∙ ap (λ (l : List ℕ). field_bytes format a.0.0 ++ l) left);
+      }
+
+  taken_too : (fs : List (Field V)) (f : Field V) (p : Progress V) (r : Result (Progress V) CertError) → all_taken opening fs ≡ Ok p → taken p f ≡ r → IsOk r → IsOk (all_taken opening (fs ++ f ∷ []))
+  taken_too fs f p (Ok q) led e ok = rw (one_more fs f opening p q led e) refl
+  taken_too fs f p (Err d) led e ok = absurd cc
+
+  pub leads_to_part : (bytes : List ℕ) (p : Progress V) (rest : List ℕ) → IsRead format bytes p rest → NextAdds format p rest → LeadsToPart format bytes
+  leads_to_part bytes p rest r n =
+      let t = field_takes format law p.turn rest n.field n.rest r.fits n.read in
+      record {
+        fields = r.fields;
+        last = n.field;
+        rest = n.rest;
+        each = each_more format r.fields n.field r.each t.is;
+        led = taken_too r.fields n.field p (taken p n.field) r.led refl n.due;
+        adds = n.adds;
+        spelled = one_spelled n.field r.fields bytes rest n.rest r.spelled t.takes.parts;
+      }
+
+  -- a heading that is refused wants no memory
+  pub heading_wants_none : (e : CertError) (bytes : List ℕ) → heading_at format.version bytes ≡ Err e → e ≢ errors.OutOfMemory
+  heading_wants_none e bytes h d = plain_heading format.version bytes (h ∙ ap (λ (x : CertError). Err x) d)
+
+-- a field that memory was wanting for
+pub next_adds : {V : Type 0} (format : Format V) (p : Progress V) (bytes : List ℕ) (e : CertError) (f : Field V) (rest : List ℕ) → field_at format p.turn bytes ≡ Ok (f, rest) → RefusesField e (taken p f) → Adds f → e ≡ errors.OutOfMemory → NextAdds format p bytes
+next_adds format p bytes e f rest read refused adds same =
+    record { field = f; rest = rest; read = read; due = subst (λ (x : CertError). RefusesField x (taken p f)) same refused; adds = adds }
