@@ -3,7 +3,7 @@ use Rattle.std.proofs.Common.{◌≡◌, ◌≢◌, inl, inr, ℕ, List, [], Opt
 use Rattle.std.specs.Prelude.{codes, unwrap_or}
 use Rattle.clap.specs.Kinds.{IsAmong, Kinds}
 use Rattle.clap.specs.Words.{Row, Text, fault_of, subcommand_of}
-use Rattle.zfault.specs.Devices.{HasRisen}
+use Rattle.zfault.specs.Devices.{RisesByOne}
 use Rattle.zcommand.specs.CommandLine.{Asks, Request, Check, Play, budget_of, certificate_of, story_of, zpc_app}
 use Rattle.zperform.specs.Performing.{Comes, Explains, Lacks, Performs, Reports, Seen, Sinks}
 use Rattle.zperform.specs.declared.outcome.Failure.TheVariants.{Write, Memory}
@@ -49,7 +49,7 @@ module _ (words : List Text) (known : List ℕ → Option (List ℕ)) (status : 
           lacking (codes "play", rows) e (Play (story_of rows) (certificate_of rows) (budget_of rows)) (refl, refl, refl, refl) lack (lacking_play (story_of rows) (certificate_of rows) (budget_of rows) (same_contents lack))
 
   module _ (outcome : Outcome)
-      (blamed : outcome ≡ Stopped (Failed Write) → HasRisen old.writer.failures new.writer.failures)
+      (blamed : outcome ≡ Stopped (Failed Write) → RisesByOne old.writer.failures new.writer.failures)
       (quiet : outcome ≢ Stopped (Failed Write) → new.writer.failures ≡ old.writer.failures)
       (reported : Reports outcome status old.errors new.errors) where
     pub performs_request : (request : Request) → Comes request known old.writer.contents new.writer.contents outcome → IsSomeAnd (subcommand_of zpc_app words) (λ matches. Asks matches request)

@@ -5,7 +5,7 @@ use Rattle.clap.specs.Kinds.{IsAmong, Kinds}
 use Rattle.clap.specs.Words.{Row, Text, subcommand_of}
 use Rattle.clap.specs.declared.error.kind.ErrorKind.{ErrorKind}
 use Rattle.clap.specs.declared.error.kind.ErrorKind.TheVariants.{DisplayHelp, DisplayVersion}
-use Rattle.zfault.specs.Devices.{AppendsBeginning, HasRisen}
+use Rattle.zfault.specs.Devices.{AppendsBeginning, RisesByOne}
 use Rattle.zcommand.specs.CommandLine.{Asks, Request, Check, Play, zpc_app}
 use Rattle.zperform.specs.Playing.{ComesTo}
 use Rattle.zperform.specs.Accepting.{CheckComesTo, PlayComesTo}
@@ -39,7 +39,7 @@ pub record Takes (old new : Seen) (text : List ℕ) : Type 0 where
 -- a failure broke a text off
 pub record Breaks (old new : Seen) (text : List ℕ) : Type 0 where
   pub begun : AppendsBeginning old.contents new.contents text
-  pub blamed : HasRisen old.failures new.failures
+  pub blamed : RisesByOne old.failures new.failures
 
 -- a text was said, as far as the sink took it
 abbrev pub Says : Seen → Seen → List ℕ → Type 0
@@ -95,6 +95,6 @@ pub record Performs (words : List Text) (known : List ℕ → Option (List ℕ))
   pub asks : Asks matches request
   pub outcome : Outcome
   pub comes : Comes request known old.writer.contents new.writer.contents outcome
-  pub blamed : outcome ≡ Stopped (Failed Write) → HasRisen old.writer.failures new.writer.failures
+  pub blamed : outcome ≡ Stopped (Failed Write) → RisesByOne old.writer.failures new.writer.failures
   pub quiet : outcome ≢ Stopped (Failed Write) → new.writer.failures ≡ old.writer.failures
   pub reported : Reports outcome status old.errors new.errors

@@ -5,7 +5,7 @@ ghost use Rattle.clap.specs.Kinds.{HasKind, Kinds};
 ghost use Rattle.clap.specs.Walk.{texts};
 ghost use Rattle.clap.specs.Words.{fault_of};
 ghost use Rattle.std.specs.Io.KnownBytes.{Appends};
-ghost use Rattle.zfault.specs.Devices.{AppendsBeginning, HasRisen};
+ghost use Rattle.zfault.specs.Devices.{AppendsBeginning, RisesByOne};
 ghost use Rattle.zperform.specs.Accepting.{CheckComesTo, IsAccepted, PlayComesTo, accepted_line};
 ghost use Rattle.zcommand.specs.CommandLine.{request_of, zpc_app};
 ghost use Rattle.zperform.specs.Performing.{Comes, Explains, Performs, Says, seen, sinks};
@@ -73,7 +73,7 @@ fn carry_out<F: Files, R: Source, W: Sink>(
     writer: &mut W,
 ) -> Outcome
     ensures comes { Comes (request_of command.entry) (F.known files.old) (W.contents writer.old) (W.contents writer.new) result }
-    ensures blamed { result ≡ Outcome.Stopped (Problem.Failed Failure.Write) → HasRisen (W.failures writer.old) (W.failures writer.new) }
+    ensures blamed { result ≡ Outcome.Stopped (Problem.Failed Failure.Write) → RisesByOne (W.failures writer.old) (W.failures writer.new) }
     ensures quiet { result ≢ Outcome.Stopped (Problem.Failed Failure.Write) → W.failures writer.new ≡ W.failures writer.old }
     ensures kept { F.known files.new ≡ F.known files.old }
 {
@@ -111,7 +111,7 @@ fn check_files<F: Files, W: Sink>(
     writer: &mut W,
 ) -> Outcome
     ensures comes { CheckComesTo (F.known files.old story.now) (F.known files.old certificate.now) (W.contents writer.old) (W.contents writer.new) result }
-    ensures blamed { result ≡ Outcome.Stopped (Problem.Failed Failure.Write) → HasRisen (W.failures writer.old) (W.failures writer.new) }
+    ensures blamed { result ≡ Outcome.Stopped (Problem.Failed Failure.Write) → RisesByOne (W.failures writer.old) (W.failures writer.new) }
     ensures quiet { result ≢ Outcome.Stopped (Problem.Failed Failure.Write) → W.failures writer.new ≡ W.failures writer.old }
     ensures kept { F.known files.new ≡ F.known files.old }
 {
@@ -126,7 +126,7 @@ fn say_accepted<W: Sink>(writer: &mut W) -> Outcome
     ensures written { result ≡ Outcome.Accepted → Appends (W.contents writer.old) (W.contents writer.new) accepted_line }
     ensures begun { result ≡ Outcome.Stopped (Problem.Failed Failure.Write) → AppendsBeginning (W.contents writer.old) (W.contents writer.new) accepted_line }
     ensures only { (result ≡ Outcome.Accepted) ⊎ (result ≡ Outcome.Stopped (Problem.Failed Failure.Write)) }
-    ensures blamed { result ≡ Outcome.Stopped (Problem.Failed Failure.Write) → HasRisen (W.failures writer.old) (W.failures writer.new) }
+    ensures blamed { result ≡ Outcome.Stopped (Problem.Failed Failure.Write) → RisesByOne (W.failures writer.old) (W.failures writer.new) }
     ensures quiet { result ≢ Outcome.Stopped (Problem.Failed Failure.Write) → W.failures writer.new ≡ W.failures writer.old }
 {
     match write_and_flush(writer, ACCEPTED) {
@@ -139,7 +139,7 @@ fn say_accepted<W: Sink>(writer: &mut W) -> Outcome
 fn write_and_flush<W: Sink>(writer: &mut W, text: &[u8]) -> Result<(), Failed>
     ensures written { OnOk result (Appends (W.contents writer.old) (W.contents writer.new) text.now) }
     ensures begun { OnErr result (AppendsBeginning (W.contents writer.old) (W.contents writer.new) text.now) }
-    ensures blamed { OnErr result (HasRisen (W.failures writer.old) (W.failures writer.new)) }
+    ensures blamed { OnErr result (RisesByOne (W.failures writer.old) (W.failures writer.new)) }
     ensures quiet { OnOk result (W.failures writer.new ≡ W.failures writer.old) }
 {
     write_whole(writer, text)?;
@@ -156,7 +156,7 @@ fn play<F: Files, R: Source, W: Sink>(
     writer: &mut W,
 ) -> Result<End, Problem>
     ensures comes { ComesTo (F.known files.old name.now) budget (W.contents writer.old) (W.contents writer.new) (outcome_of result) }
-    ensures blamed { result ≡ Err (Problem.Failed Failure.Write) → HasRisen (W.failures writer.old) (W.failures writer.new) }
+    ensures blamed { result ≡ Err (Problem.Failed Failure.Write) → RisesByOne (W.failures writer.old) (W.failures writer.new) }
     ensures quiet { result ≢ Err (Problem.Failed Failure.Write) → W.failures writer.new ≡ W.failures writer.old }
     ensures kept { F.known files.new ≡ F.known files.old }
 {
@@ -174,7 +174,7 @@ fn play_story<R: Source, W: Sink>(
     writer: &mut W,
 ) -> Result<End, Problem>
     ensures comes { (file : List ℕ) → Holds file story.now → ComesTo (Some file) budget (W.contents writer.old) (W.contents writer.new) (outcome_of result) }
-    ensures blamed { result ≡ Err (Problem.Failed Failure.Write) → HasRisen (W.failures writer.old) (W.failures writer.new) }
+    ensures blamed { result ≡ Err (Problem.Failed Failure.Write) → RisesByOne (W.failures writer.old) (W.failures writer.new) }
     ensures quiet { result ≢ Err (Problem.Failed Failure.Write) → W.failures writer.new ≡ W.failures writer.old }
 {
     let mut machine = CheckedMachine::new(alloc, story, Scope::All)?;
@@ -208,7 +208,7 @@ fn play_by_certificate<F: Files, R: Source, W: Sink>(
     writer: &mut W,
 ) -> Result<End, Problem>
     ensures comes { PlayComesTo (F.known files.old story.now) (F.known files.old certificate.now) budget (W.contents writer.old) (W.contents writer.new) (outcome_of result) }
-    ensures blamed { result ≡ Err (Problem.Failed Failure.Write) → HasRisen (W.failures writer.old) (W.failures writer.new) }
+    ensures blamed { result ≡ Err (Problem.Failed Failure.Write) → RisesByOne (W.failures writer.old) (W.failures writer.new) }
     ensures quiet { result ≢ Err (Problem.Failed Failure.Write) → W.failures writer.new ≡ W.failures writer.old }
     ensures kept { F.known files.new ≡ F.known files.old }
 {
@@ -225,7 +225,7 @@ fn play_accepted<R: Source, W: Sink>(
     writer: &mut W,
 ) -> Result<End, Problem>
     ensures comes { (story certificate : Option (List ℕ)) → IsAccepted story certificate accepted.now → PlayComesTo story certificate budget (W.contents writer.old) (W.contents writer.new) (outcome_of result) }
-    ensures blamed { result ≡ Err (Problem.Failed Failure.Write) → HasRisen (W.failures writer.old) (W.failures writer.new) }
+    ensures blamed { result ≡ Err (Problem.Failed Failure.Write) → RisesByOne (W.failures writer.old) (W.failures writer.new) }
     ensures quiet { result ≢ Err (Problem.Failed Failure.Write) → W.failures writer.new ≡ W.failures writer.old }
 {
     let mut session = Session::start(alloc, accepted)?;

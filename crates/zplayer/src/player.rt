@@ -2,7 +2,7 @@
 
 ghost use Rattle.std.specs.Prelude.{◌≡◌, ◌≢◌, ◌<◌, ℤ, [], Ok, None, IsErrOf, IfOk, IfNone, IfSome, OnOk};
 ghost use Rattle.std.specs.Io.KnownBytes.{Appends};
-ghost use Rattle.zfault.specs.Devices.{AppendsBeginning, HasRisen};
+ghost use Rattle.zfault.specs.Devices.{AppendsBeginning, RisesByOne};
 ghost use Rattle.zstate.specs.Run.{run, Stands};
 ghost use Rattle.zref.specs.Machine.{setting, SamePlay};
 ghost use Rattle.zfault.specs.declared.fault.Fault.{Fault as AFault};
@@ -43,7 +43,7 @@ pub fn play_checked<R: Source, W: Sink, S: SaveStore, G: Words>(
     ensures quiet { ¬ IsErrOf result PlayError.Write → W.failures writer.new ≡ W.failures writer.old }
     ensures no_read { ¬ IsErrOf result PlayError.Read }
     ensures begun { IsErrOf result PlayError.Write → AppendsBeginning (W.contents writer.old) (W.contents writer.new) (render (run (setting machine.old) [] options.budget machine.old.state).items) }
-    ensures blamed { IsErrOf result PlayError.Write → HasRisen (W.failures writer.old) (W.failures writer.new) }
+    ensures blamed { IsErrOf result PlayError.Write → RisesByOne (W.failures writer.old) (W.failures writer.new) }
     ensures finished { IsErrOf result PlayError.OutOfMemory → PlaysSome (setting machine.old) options.budget machine.old.state machine.new.state (W.contents writer.old) (W.contents writer.new) }
     ensures in_part { IsErrOf result PlayError.Write → PlaysInPart (setting machine.old) options.budget machine.old.state machine.new.state (W.contents writer.old) (W.contents writer.new) }
     ensures reader { _reader.new ≡ _reader.old }
@@ -71,7 +71,7 @@ pub fn play_story<R: Source, W: Sink, S: SaveStore, G: Words>(
     ensures quiet { ¬ IsErrOf result PlayError.Write → W.failures writer.new ≡ W.failures writer.old }
     ensures no_read { ¬ IsErrOf result PlayError.Read }
     ensures begun { IsErrOf result PlayError.Write → AppendsBeginning (W.contents writer.old) (W.contents writer.new) (render (run (setting_of session.old.accepted) [] options.budget session.old.state).items) }
-    ensures blamed { IsErrOf result PlayError.Write → HasRisen (W.failures writer.old) (W.failures writer.new) }
+    ensures blamed { IsErrOf result PlayError.Write → RisesByOne (W.failures writer.old) (W.failures writer.new) }
     ensures finished { IsErrOf result PlayError.OutOfMemory → PlaysSome (setting_of session.old.accepted) options.budget session.old.state session.new.state (W.contents writer.old) (W.contents writer.new) }
     ensures in_part { IsErrOf result PlayError.Write → PlaysInPart (setting_of session.old.accepted) options.budget session.old.state session.new.state (W.contents writer.old) (W.contents writer.new) }
     ensures reader { _reader.new ≡ _reader.old }
@@ -96,7 +96,7 @@ fn play_machine<M: Machine, W: Sink>(
     ensures quiet { ¬ IsErrOf result PlayError.Write → W.failures writer.new ≡ W.failures writer.old }
     ensures no_read { ¬ IsErrOf result PlayError.Read }
     ensures begun { IsErrOf result PlayError.Write → AppendsBeginning (W.contents writer.old) (W.contents writer.new) (render (run (M.setting machine.old) [] budget (M.state machine.old)).items) }
-    ensures blamed { IsErrOf result PlayError.Write → HasRisen (W.failures writer.old) (W.failures writer.new) }
+    ensures blamed { IsErrOf result PlayError.Write → RisesByOne (W.failures writer.old) (W.failures writer.new) }
     ensures finished { IsErrOf result PlayError.OutOfMemory → PlaysSome (M.setting machine.old) budget (M.state machine.old) (M.state machine.new) (W.contents writer.old) (W.contents writer.new) }
     ensures in_part { IsErrOf result PlayError.Write → PlaysInPart (M.setting machine.old) budget (M.state machine.old) (M.state machine.new) (W.contents writer.old) (W.contents writer.new) }
 {
@@ -135,7 +135,7 @@ fn turn<M: Machine, W: Sink>(
     ensures quiet { ¬ IsErrOf result PlayError.Write → W.failures writer.new ≡ W.failures writer.old }
     ensures no_read { ¬ IsErrOf result PlayError.Read }
     ensures begun { IsErrOf result PlayError.Write → AppendsBeginning (W.contents writer.old) (W.contents writer.new) (render (run (M.setting machine.old) [] left.old (M.state machine.old)).items) }
-    ensures blamed { IsErrOf result PlayError.Write → HasRisen (W.failures writer.old) (W.failures writer.new) }
+    ensures blamed { IsErrOf result PlayError.Write → RisesByOne (W.failures writer.old) (W.failures writer.new) }
     ensures finished { IsErrOf result PlayError.OutOfMemory → Plays (M.setting machine.old) left.old left.new (M.state machine.old) (M.state machine.new) (W.contents writer.old) (W.contents writer.new) }
     ensures in_part { IsErrOf result PlayError.Write → PlaysInPart (M.setting machine.old) left.old (M.state machine.old) (M.state machine.new) (W.contents writer.old) (W.contents writer.new) }
 {
