@@ -1,8 +1,8 @@
 -- What writes in a row append, whole or begun.
 use Rattle.std.proofs.Common.{◌≡◌, ℕ, ◌+◌, ◌-◌, ◌≤◌, List, ◌++◌, length, take, drop, subst, refl, sym, ap, ◌∙◌, arith}
 use Rattle.std.specs.Prelude.{Option, Bool, true, [], ◌∷◌, min}
-use Rattle.std.specs.Io.KnownBytes.{Appends}
-use Rattle.std.proofs.KnownBytes.{Appends-trans}
+use Rattle.std.specs.Io.KnownBytes.{Appends, Keeps}
+use Rattle.std.proofs.KnownBytes.{Appends-kept, Appends-trans}
 use Rattle.std.proofs.Math.Seq.{take-add, take-append-add, take-length}
 use Rattle.std.proofs.lemmas.List.{length-drop, take-append-le, take_all, take_min}
 use Rattle.zfault.specs.Devices.{AppendsBeginning, waits_after}
@@ -55,6 +55,11 @@ AppendsBeginning-append a b xs ys begun =
       taken = n;
       grown = rw (take-append-le n xs ys within, take_min) begun.grown;
     }
+
+-- a whole piece, of which nothing was lost since
+pub AppendsBeginning-whole : (a b c : Option (List ℕ)) (xs : List ℕ) → Appends a b xs → Keeps b c → AppendsBeginning a c xs
+AppendsBeginning-whole a b c xs whole kept =
+    record { taken = length xs; grown = subst (Appends a c) (sym (take-length xs)) (Appends-kept a b c xs whole kept) }
 
 -- for writes in a row
 pub ruleset beginnings = (AppendsBeginning-after, AppendsBeginning-append, Appends-trans)
