@@ -1,5 +1,5 @@
 -- Values of the definitions, computed.
-use Rattle.std.proofs.Common.{◌≡◌, inl, ℕ, List, length, ap, [], ◌∷◌, ◌++◌, true, false, pos, codes, decimal, refl, arith}
+use Rattle.std.proofs.Common.{◌≡◌, inl, ℕ, List, length, ap, [], ◌∷◌, ◌++◌, Bool, true, false, pos, codes, decimal, refl, arith}
 use Rattle.clap.specs.declared.error.kind.ErrorKind.TheVariants.{DisplayHelp, DisplayVersion, UnknownArgument}
 use Rattle.zfault.specs.declared.fault.Fault.TheVariants as faults
 use Rattle.zstory.specs.declared.load_error.LoadError.TheVariants as loads
@@ -54,18 +54,28 @@ given = (record { within = omega arith; read = refl; ends = λ none _. omega (ar
 no_gap : GivesPart (10 ∷ 20 ∷ 30 ∷ []) 1 0 (99 ∷ []) → ⊥
 no_gap it = omega (arith, it.ends refl (omega arith))
 
-begun : IsBeginning 2 (10 ∷ 20 ∷ 99 ∷ []) (10 ∷ 20 ∷ 30 ∷ []) × (IsBeginning 3 (10 ∷ 20 ∷ 30 ∷ []) (10 ∷ 20 ∷ []) → ⊥)
-begun = ((omega arith, refl), λ it. omega (arith, it.0))
+-- the first two bytes of three, and two others
+begun : IsBeginning (10 ∷ 20 ∷ []) (10 ∷ 20 ∷ 30 ∷ []) × IsBeginning [] [] × (IsBeginning (10 ∷ 30 ∷ []) (10 ∷ 20 ∷ 30 ∷ []) → ⊥) × (IsBeginning (10 ∷ 20 ∷ []) (10 ∷ []) → ⊥)
+begun = (refl, refl, λ e. absurd cc, λ e. absurd cc)
 
 -- ---- what is said, and what commands come to
 
-shelf : List ℕ → ℕ → Seen
-shelf bytes failures = record { contents = Some bytes; failures = failures }
+shelf : List ℕ → ℕ → Bool → Seen
+shelf bytes failures waits = record { contents = Some bytes; failures = failures; waits = waits }
 
--- a text is taken whole, or a failure breaks it off; it isn't lost in silence
-said : Says (shelf (1 ∷ []) 0) (shelf (1 ∷ 2 ∷ 3 ∷ []) 0) (2 ∷ 3 ∷ []) × (Takes (shelf (1 ∷ []) 0) (shelf (1 ∷ []) 0) (2 ∷ []) → ⊥) × (Breaks (shelf [] 0) (shelf [] 0) (2 ∷ []) → ⊥)
+-- a text is taken whole and flushed, or a failure breaks it off; it isn't lost in silence, nor left unflushed, nor tried twice
+said :
+    Says (shelf (1 ∷ []) 0 false) (shelf (1 ∷ 2 ∷ 3 ∷ []) 0 false) (2 ∷ 3 ∷ []) × (Takes (shelf (1 ∷ []) 0 false) (shelf (1 ∷ []) 0 false) (2 ∷ []) → ⊥) × (Takes (shelf [] 0 false) (shelf (2 ∷ []) 0 true) (2 ∷ []) → ⊥)
+    × (Breaks (shelf [] 0 false) (shelf [] 0 false) (2 ∷ []) → ⊥) × (Breaks (shelf [] 0 false) (shelf [] 2 false) (2 ∷ []) → ⊥) × (Says (shelf [] 0 false) (shelf [] 1 false) [] → ⊥)
 unfolding shelf
-said = (inl (record { whole = refl; quiet = refl }), λ taken. omega (arith, ap length taken.whole), λ broken. omega (arith, broken.blamed))
+said = (
+  inl (record { whole = refl; quiet = refl; flushed = refl }),
+  λ taken. omega (arith, ap length taken.whole),
+  λ taken. absurd (let e = taken.flushed in cc),
+  λ broken. omega (arith, broken.blamed),
+  λ broken. omega (arith, broken.blamed),
+  λ same. omega (arith, ap (λ (s : Seen). s.failures) same),
+)
 
 -- playing never comes to an acceptance or to a failed read, nor checking to the end of a play
 never : (story certificate before now : Option (List ℕ)) (budget : ℕ) →

@@ -1,6 +1,6 @@
 use Rattle.std.proofs.Common.{◌≡◌}
 use Rattle.zplayer.specs.Playing.{Plays}
-use Rattle.zplayer.proofs.player.play_machine.Given as goal
+use Rattle.zplayer.proofs.player.play_turns.Given as goal
 
 -- what was done and written so far, and what is left of the budget
 abbrev pub invariant-turns : goal.invariant-turns
