@@ -7,8 +7,7 @@ ghost use Rattle.zcheck.specs.Acceptance.{IsListingOf, NeverChanges, NeverFaults
 ghost use Rattle.zcheck.specs.Passes.{IsRefused, Passes};
 
 use crate::accepted::Accepted;
-use crate::examining::examine;
-use crate::listing::listing_of;
+use crate::listing::judged_listing;
 use crate::refusal::Refusal;
 use std::alloc::Global;
 use zcert::Certificate;
@@ -28,10 +27,7 @@ pub fn check(alloc: Global, story: Story, certificate: Certificate) -> Result<Ac
     ensures never_faults { IfOk result NeverFaults }
     ensures never_changes { IfOk result NeverChanges }
 {
-    if let Some(refusal) = examine(&story, &certificate) {
-        return Err(refusal);
-    }
-    let listing = listing_of(alloc, &story, &certificate)?;
+    let listing = judged_listing(alloc, &story, &certificate)?;
     loaded_soundly(&story);
     Ok(Accepted::new(story, certificate, listing))
 }

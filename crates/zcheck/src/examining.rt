@@ -2,13 +2,14 @@
 
 ghost use Rattle.std.specs.Prelude.{MatchOption};
 ghost use Rattle.zdomain.specs.Interval.{interval_operations};
-ghost use Rattle.zcheck.specs.Passes.{IsCause, Passes};
+ghost use Rattle.zcheck.specs.Passes.{IsCause, IsRefused, Passes};
 
 use crate::refusal::Refusal;
 use crate::story_rules::broken_story_rule;
 use zcert::Certificate;
-use zrule::broken_rule;
+use zrule::judge;
 use zstory::Story;
+use ztext::TextEnds;
 
 /// What is wrong first with a certificate for a story, and `None` where it passes (own). It takes no memory, and is
 /// never `OutOfMemory`.
@@ -18,11 +19,22 @@ pub fn examine(story: &Story, certificate: &Certificate) -> Option<Refusal>
     if let Some(rule) = broken_story_rule(story, certificate) {
         return Some(Refusal::Story(rule));
     }
+    let mut ends = TextEnds::new(story.memory());
     for index in 0..certificate.instruction_count() {
         let listed = certificate.instruction(index);
-        if let Some(rule) = broken_rule(story, certificate, &listed) {
+        if let Err(rule) = judge(story, certificate, &listed, index + 1, &mut ends) {
             return Some(Refusal::Instruction(listed.address, rule));
         }
     }
     None
+}
+
+/// What is answered for want of memory: what is wrong first, where something is.
+pub(crate) fn refusal_without_memory(story: &Story, certificate: &Certificate) -> Refusal
+    ensures { IsRefused interval_operations story.now certificate.now result }
+{
+    match examine(story, certificate) {
+        Some(refusal) => refusal,
+        None => Refusal::OutOfMemory,
+    }
 }

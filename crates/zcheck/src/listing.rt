@@ -1,64 +1,87 @@
-//! The listing of a certificate.
+//! The listing of a certificate, made while its instructions are judged.
 
-ghost use Rattle.std.specs.Prelude.{◌<◌, IfOk, IfSome, length, slice_get};
+ghost use Rattle.std.specs.Prelude.{◌≡◌, ◌≤◌, [], IfOk, IfErr, length, vec_capacity};
 ghost use Rattle.zdomain.specs.Interval.{interval_operations};
 ghost use Rattle.zcert.specs.Format.{interval_format};
 ghost use Rattle.zcert.specs.Spelling.{HasSpelling};
-ghost use Rattle.zcheck.specs.Acceptance.{IsRecordOf, IsListingOf, AreRecords, AreRoutines};
-ghost use Rattle.zcheck.specs.Passes.{Passes};
+ghost use Rattle.zcheck.specs.declared.refusal.StoryRule.{StoryRule as ARule};
+ghost use Rattle.zcheck.specs.Acceptance.{IsListingOf, AreRecords, AreRoutines};
+ghost use Rattle.zcheck.specs.Passes.{IsRefused, KeepsStory, Passes};
 
+use crate::examining::refusal_without_memory;
+use crate::refusal::Refusal;
+use crate::story_rules::broken_story_rule;
 use std::alloc::{AllocError, Global};
 use zcert::Certificate;
 use zlist::{Listing, Record};
-use zrule::instruction_there;
+use zrule::judge;
 use zstory::Story;
+use ztext::TextEnds;
 
-/// The listing of a certificate that passes. Want of memory is the only error.
-pub(crate) fn listing_of(
+/// The listing of a certificate that passes, and else what is wrong first. Want of memory is answered only for a
+/// certificate that passes. Each instruction is decoded once.
+pub(crate) fn judged_listing(
     alloc: Global,
     story: &Story,
     certificate: &Certificate,
-) -> Result<Listing, AllocError>
-    requires { Passes interval_operations story.now certificate.now }
-    ensures { IfOk result (λ listing. IsListingOf story.now certificate.now listing) }
+) -> Result<Listing, Refusal>
+    ensures passes { IfOk result (λ _. Passes interval_operations story.now certificate.now) }
+    ensures lists { IfOk result (λ listing. IsListingOf story.now certificate.now listing) }
+    ensures refused { IfErr result (IsRefused interval_operations story.now certificate.now) }
 {
-    let records = records_of(alloc, story, certificate)?;
+    let records = judged_records(alloc, story, certificate)?;
     let routines = routines_of(alloc, certificate)?;
-    Listing::new(alloc, records, routines)
+    let listing = Listing::new(alloc, records, routines)?;
+    Ok(listing)
 }
 
-/// The listed instructions as the story spells them.
-fn records_of(
+/// The listed instructions as the story spells them. Their room comes first, so that a certificate that doesn't pass is
+/// refused for what is wrong with it, and not for want of memory.
+fn judged_records(
     alloc: Global,
     story: &Story,
     certificate: &Certificate,
-) -> Result<Vec<Record>, AllocError>
-    requires { Passes interval_operations story.now certificate.now }
-    ensures { IfOk result (λ records. AreRecords story.now certificate.now records.items) }
+) -> Result<Vec<Record>, Refusal>
+    ensures passes { IfOk result (λ _. Passes interval_operations story.now certificate.now) }
+    ensures records { IfOk result (λ records. AreRecords story.now certificate.now records.items) }
+    ensures refused { IfErr result (IsRefused interval_operations story.now certificate.now) }
 {
-    let mut records = Vec::with_capacity(alloc, certificate.instruction_count())?;
+    let Ok(records) = Vec::with_capacity(alloc, certificate.instruction_count()) else {
+        return Err(refusal_without_memory(story, certificate));
+    };
+    if let Some(rule) = broken_story_rule(story, certificate) {
+        return Err(Refusal::Story(rule));
+    }
+    each_judged(story, certificate, records)
+}
+
+/// The listed instructions as the story spells them, in these records.
+fn each_judged(
+    story: &Story,
+    certificate: &Certificate,
+    mut records: Vec<Record>,
+) -> Result<Vec<Record>, Refusal>
+    requires story_rules { (rule : ARule) → KeepsStory interval_operations story.now certificate.now rule }
+    requires none_yet { records.items ≡ [] }
+    requires room { length certificate.now.instructions ≤ vec_capacity records }
+    ensures passes { IfOk result (λ _. Passes interval_operations story.now certificate.now) }
+    ensures records { IfOk result (λ records. AreRecords story.now certificate.now records.items) }
+    ensures refused { IfErr result (IsRefused interval_operations story.now certificate.now) }
+{
+    let mut ends = TextEnds::new(story.memory());
     for index in 0..certificate.instruction_count() {
-        let record = record_of(story, certificate, index);
-        records.push(record)?;
+        let listed = certificate.instruction(index);
+        let instruction = match judge(story, certificate, &listed, index + 1, &mut ends) {
+            Ok(instruction) => instruction,
+            Err(rule) => return Err(Refusal::Instruction(listed.address, rule)),
+        };
+        records.push_reserved(Record {
+            address: listed.address,
+            routine: listed.routine,
+            instruction,
+        });
     }
     Ok(records)
-}
-
-/// A listed instruction, by its index, as the story spells it.
-fn record_of(story: &Story, certificate: &Certificate, index: usize) -> Record
-    requires passes { Passes interval_operations story.now certificate.now }
-    requires within { index < length certificate.now.instructions }
-    ensures { IfSome (slice_get certificate.now.instructions index) (λ listed. IsRecordOf story.now listed result) }
-{
-    let listed = certificate.instruction(index);
-    let Some(instruction) = instruction_there(story, listed.address) else {
-        unreachable!()
-    };
-    Record {
-        address: listed.address,
-        routine: listed.routine,
-        instruction,
-    }
 }
 
 /// The addresses of the routines.

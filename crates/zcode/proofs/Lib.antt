@@ -5,4 +5,6 @@ pub mod FoundParts
 pub mod Found
 pub mod Only
 pub mod ReadingLaws
+mod Tails
+mod Inline
 mod Worked

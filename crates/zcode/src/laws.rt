@@ -1,10 +1,14 @@
 //! Laws of the definitions: the contracts of these functions, which do nothing.
 
-ghost use Rattle.std.specs.Prelude.{◌≡◌, ◌↔◌, ◌++◌, ℕ, IsTrue, List, Ok, drop};
+ghost use Rattle.std.specs.Prelude.{◌≡◌, ◌↔◌, ◌++◌, ◌+◌, ◌-◌, ℕ, IsTrue, List, Ok, Some, drop};
+ghost use Rattle.ztext.specs.Words.{length_at};
+ghost use Rattle.zcode.specs.Opcodes.{prints_text};
 ghost use Rattle.zcode.specs.Instruction.{Instruction, IsWellFormed};
 ghost use Rattle.zcode.specs.Playable.{playable};
 ghost use Rattle.zcode.specs.Reading.{Agree, instruction_at};
 ghost use Rattle.zcode.specs.Spelling.{IsAtFront, Spells};
+
+use ztext::text_is_at_front;
 
 /// A place spells at most one instruction, whether this build plays it or not, and tells which bytes it takes.
 pub fn one_spelling()
@@ -22,3 +26,10 @@ pub fn reading_is_spelling()
 pub fn reading_is_local()
     ensures { (before now : List ℕ) (at : ℕ) (i : Instruction) → instruction_at (drop at before) ≡ Ok i → Agree before now at i.size → instruction_at (drop at now) ≡ Ok i }
 {}
+
+/// The text of an instruction that prints one follows its first byte, and both end together.
+pub fn text_ends_instruction()
+    ensures { (memory : List ℕ) (at : ℕ) (i : Instruction) → instruction_at (drop at memory) ≡ Ok i → IsTrue (prints_text i.opcode) → length_at memory (at + 1) ≡ Some (i.size - 1) }
+{
+    text_is_at_front();
+}

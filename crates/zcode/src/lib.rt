@@ -16,6 +16,6 @@ mod types;
 
 pub use error::{DecodeError, Unsupported};
 pub use instr::{Branch, Destination, Instr, Operand};
-pub use laws::{one_spelling, reading_is_local, reading_is_spelling};
+pub use laws::{one_spelling, reading_is_local, reading_is_spelling, text_ends_instruction};
 pub use opcode::{Excluded, Opcode};
-pub use reading::decode;
+pub use reading::{decode, decode_by};

@@ -1,6 +1,6 @@
 //! Reading an instruction, in one pass. Each function hands on the bytes after what it read.
 
-ghost use Rattle.std.specs.Prelude.{◌≡◌, ℕ, ◌/◌, ◌%◌, ◌<◌, ◌≤◌, ◌+◌, ◌++◌, ◌↔◌, length, drop, take, IfOk, IsTrue, List, Ok};
+ghost use Rattle.std.specs.Prelude.{◌≡◌, ℕ, ◌/◌, ◌%◌, ◌<◌, ◌≤◌, ◌+◌, ◌-◌, ◌++◌, ◌↔◌, length, drop, take, IfOk, IsTrue, List, Ok};
 ghost use Rattle.zcode.specs.Instruction.{Instruction};
 ghost use Rattle.zcode.specs.Playable.{playable};
 ghost use Rattle.zcode.specs.Spelling.{Spells, IsAtFront, type_of};
@@ -14,6 +14,7 @@ use crate::table::{OperandCount, played_opcode};
 use crate::types::{OperandType, OperandTypes, long_type, type_of, types_of};
 use arrayvec::ArrayVec;
 use std::marker::Model;
+use ztext::TextEnds;
 
 /// What the bytes before the operands say.
 #[derive(Drop)]
@@ -183,34 +184,40 @@ fn branch_if(branches: bool, bytes: &[u8]) -> Result<(Option<Branch>, &[u8]), De
     Ok((Some(branch), rest))
 }
 
+/// Where the text ends that begins with these bytes of the memory, the last ones.
 #[tactic(auto, unfolding(crate::specs::Reading::text_if))]
-fn text_if(prints: bool, bytes: &[u8]) -> Result<&[u8], DecodeError>
-    ensures { Gives (λ x. x.now) result (text_if prints bytes.now) }
+fn text_if<'a>(
+    prints: bool,
+    ends: &mut TextEnds<'a>,
+    bytes: &'a [u8],
+) -> Result<&'a [u8], DecodeError>
+    requires { bytes.now ≡ drop (length ends.old - length bytes.now) ends.old }
+    ensures memory { ends.new ≡ ends.old }
+    ensures reads { Gives (λ x. x.now) result (text_if prints bytes.now) }
 {
     if !prints {
         return Ok(bytes);
     }
-    let mut rest = bytes;
-    while let [high, _, after @ ..] = rest {
-        if *high >= 0x80 {
-            return Ok(after);
-        }
-        rest = after;
+    let place = ends.memory().len().saturating_sub(bytes.len());
+    match ends.text_length(place) {
+        Some(size) => Ok(&bytes[size..]),
+        None => Err(DecodeError::Text),
     }
-    Err(DecodeError::Text)
 }
 
-/// The instruction at the front of the bytes.
+/// The instruction at the front of the last bytes of the memory.
 #[tactic(auto, unfolding(crate::specs::Reading::instruction_by))]
-fn instruction_at(bytes: &[u8]) -> Result<Instr, DecodeError>
-    ensures { result ≡ instruction_at bytes.now }
+fn instruction_at<'a>(ends: &mut TextEnds<'a>, bytes: &'a [u8]) -> Result<Instr, DecodeError>
+    requires { bytes.now ≡ drop (length ends.old - length bytes.now) ends.old }
+    ensures memory { ends.new ≡ ends.old }
+    ensures reads { result ≡ instruction_at bytes.now }
 {
     let (head, rest) = head_at(bytes)?;
     let opcode = head.opcode;
     let (operands, rest) = operands_at(head.operand_types.as_slice(), rest)?;
     let (store, rest) = store_if(opcode.stores(), rest)?;
     let (branch, rest) = branch_if(opcode.branches(), rest)?;
-    let rest = text_if(opcode.prints_text(), rest)?;
+    let rest = text_if(opcode.prints_text(), ends, rest)?;
     let length = bytes.len().saturating_sub(rest.len());
     let operands = Operands::of(operands.as_slice());
     Ok(Instr::new(opcode, operands, store, branch, length))
@@ -231,8 +238,21 @@ pub fn decode(memory: &[u8], at: usize) -> Result<Instr, DecodeError>
     ensures exact { result ≡ instruction_at (drop at memory.now) }
     ensures within { IfOk result (λ i. at + i.size ≤ length memory.now) }
 {
-    match memory.get(at..) {
-        Some(bytes) => instruction_at(bytes),
+    decode_by(&mut TextEnds::new(memory), at)
+}
+
+/// What `decode` answers of the memory of these texts. An inline text whose end is known isn't gone over again, so that
+/// instructions that are read by rising places take no longer together than going over memory a few times.
+pub fn decode_by(ends: &mut TextEnds<'_>, at: usize) -> Result<Instr, DecodeError>
+    ensures memory { ends.new ≡ ends.old }
+    ensures found { IfOk result (λ i. IsAtFront (drop at ends.old) i) }
+    ensures played { IfOk result (λ i. IsTrue (playable i.opcode)) }
+    ensures only { (i : Instruction) → IsAtFront (drop at ends.old) i → IsTrue (playable i.opcode) → result ≡ Ok i }
+    ensures exact { result ≡ instruction_at (drop at ends.old) }
+    ensures within { IfOk result (λ i. at + i.size ≤ length ends.old) }
+{
+    match ends.memory().get(at..) {
+        Some(bytes) => instruction_at(ends, bytes),
         None => Err(DecodeError::Truncated),
     }
 }

@@ -1,6 +1,7 @@
 -- What stays as it was loaded, in a state that claims describe.
-use Rattle.std.proofs.Common.{◌↔◌, ◌≡◌, ℕ, ◌+◌, ◌*◌, ◌-◌, ◌<◌, ◌≤◌, inl, inr, Bool, true, false, List, length, drop, Option, Some, None, refl, sym, ap, subst, ◌∙◌, arith, nat_lt, min, [], if◌then◌else◌}
+use Rattle.std.proofs.Common.{◌↔◌, ◌≡◌, ℕ, ◌+◌, ◌*◌, ◌-◌, ◌<◌, ◌≤◌, inl, inr, Bool, true, false, List, length, drop, Option, Some, None, Ok, refl, sym, ap, subst, ◌∙◌, arith, nat_lt, min, [], if◌then◌else◌}
 use Rattle.std.specs.Prelude.{IsTrue, is_some, option_map, unwrap_or}
+use Rattle.std.specs.Bool.{OnTrue}
 use Rattle.std.specs.Option.{option_and_then, IsSomeAnd}
 use Rattle.std.proofs.lemmas.List.{get_or-drop, length-drop}
 use Rattle.std.proofs.lemmas.Grind.{same_number_lists}
@@ -12,7 +13,14 @@ use Rattle.ztext.specs.Codes.{abbreviations_used}
 use Rattle.ztext.specs.Abbreviations.{readable_word, abbreviation_at, IsPlainAbbreviation}
 use Rattle.ztext.proofs.Sameness.{text_at-same, abbreviation_at-same}
 use Rattle.zrule.specs.Bytes.{IsFlags, IsChanging, IsAbbreviation, read_length, header, an_abbreviation, static, IsFixed}
-use Rattle.zrule.specs.Rules.{HasAbbreviations, HasFixedText}
+use Rattle.zcode.specs.Instruction.{Instruction}
+use Rattle.zcode.specs.Opcodes.{prints_text}
+use Rattle.zcode.specs.Reading.{instruction_at}
+use Rattle.zrule.specs.Rules.{HasAbbreviations, HasFixedText, IsThere}
+
+on_true : (b : Bool) (P : Type 0) → (b ≡ true → P) → OnTrue b P
+on_true true P gives = gives refl
+on_true false P gives = tt
 
 -- what is there
 some_of : {A : Type 0} (found : Option A) (P : A → Type 0) → IsSomeAnd found P → (x : A) × (found ≡ Some x) × P x
@@ -74,6 +82,11 @@ module _ (story : LoadedStory) (sound : IsSound story.memory) (counted : IsObjec
         by_text (Some text) e =
             let some : size ≡ Some (length text) = is ∙ ap (option_map length) e in
             (λ t. record { text = text; found = e; fixed = λ p within. static_fixed p (omega (arith, above, within.0)) }, λ fixed. ap is_some some)
+
+    -- and so does that of an instruction that is there, whose text ends with it
+    pub text_kept : ((memory : List ℕ) (at : ℕ) (i : Instruction) → instruction_at (drop at memory) ≡ Ok i → IsTrue (prints_text i.opcode) → length_at memory (at + 1) ≡ Some (i.size - 1)) → (p : ℕ) (i : Instruction) → IsThere story p i → OnTrue (prints_text i.opcode) (HasFixedText story is_frozen (p + 1))
+    text_kept ends p i there =
+        on_true (prints_text i.opcode) (HasFixedText story is_frozen (p + 1)) (λ prints. (text_fixed (p + 1) (omega (arith, there.static)) (Some (i.size - 1)) (sym (ends story.memory p i there.decodes prints))).0 refl)
 
     -- nor the header, but for Flags 2
     header_unchanging : (p : ℕ) → p < 64 → (IsFlags p → ⊥) → IsChanging story p → ⊥

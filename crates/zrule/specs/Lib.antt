@@ -1,5 +1,6 @@
 pub mod Claims
 pub mod Bytes
+pub mod Apart
 pub mod Numbers
 pub mod Rules
 pub mod Described

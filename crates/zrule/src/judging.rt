@@ -1,8 +1,7 @@
 //! Which rule an instruction breaks.
 
-ghost use Rattle.std.specs.Prelude.{◌≡◌, ◌↔◌, ◌+◌, ◌≤◌, ℕ, Bool, IsTrue, IfSome, IfNone, MatchOption, Some};
+ghost use Rattle.std.specs.Prelude.{◌≡◌, ◌↔◌, ◌+◌, ◌≤◌, ℕ, Bool, IsTrue, IfSome, IfNone, IfOk, IfErr, MatchOption, Some};
 ghost use Rattle.std.specs.Bool.{OnTrue};
-ghost use Rattle.zstory.specs.LoadedStory.{static_base};
 ghost use Rattle.zdomain.specs.Interval.{interval_operations};
 ghost use Rattle.zcert.specs.Listed.{seen};
 ghost use Rattle.zcode.specs.Instruction.{Instruction as Spelled};
@@ -14,10 +13,10 @@ ghost use Rattle.zrule.specs.Rules.{pops, below, goes_on, IsThere, Leads, HasFix
 use crate::rule::Rule;
 use crate::shapes::leads;
 use zcert::{Certificate, Instruction};
-use zcode::{Instr, Opcode, Operand, decode};
+use zcode::{Instr, Opcode, Operand, decode_by, text_ends_instruction};
 use zdomain::Interval;
 use zstory::Story;
-use ztext::text_length;
+use ztext::TextEnds;
 
 /// The rules that are asked of an instruction that is there, by their numbers.
 const RULES: [Rule; 3] = [Rule::Height, Rule::Successor, Rule::Text];
@@ -29,11 +28,23 @@ pub fn instruction_there(story: &Story, address: u32) -> Option<Instr>
     ensures some { IfSome result (λ i. IsThere story.now address i) }
     ensures within { IfSome result (λ i. address + i.size ≤ 131072) }
 {
+    spelled_there(story, address, &mut TextEnds::new(story.memory()))
+}
+
+/// What `instruction_there` answers, by the ends of the texts of the story's memory.
+fn spelled_there(story: &Story, address: u32, ends: &mut TextEnds<'_>) -> Option<Instr>
+    requires { ends.old ≡ story.now.memory }
+    ensures memory { ends.new ≡ ends.old }
+    ensures none { IfNone result ((i : Spelled) → IsThere story.now address i → ⊥) }
+    ensures some { IfSome result (λ i. IsThere story.now address i) }
+    ensures within { IfSome result (λ i. address + i.size ≤ 131072) }
+{
+    let _length = story.length(); // at most 131,072
     let place = address as usize;
     if place < story.static_base() {
         return None;
     }
-    decode(story.memory(), place).ok()
+    decode_by(ends, place).ok()
 }
 
 /// How many words the operands take off the stack.
@@ -46,17 +57,25 @@ fn pops(operands: &[Operand]) -> usize
         .count()
 }
 
-/// Whether each edge of an instruction leads on.
+/// Whether each edge of an instruction leads on. The next instruction is looked for at the index `near` first.
 fn has_edges(
     certificate: &Certificate,
     listed: &Instruction<'_, Interval>,
     instruction: &Instr,
+    near: usize,
 ) -> bool
     requires { listed.now.address + instruction.now.size ≤ 131072 }
     ensures { IsTrue result ↔ OnTrue (goes_on instruction.now.opcode) (Leads interval_operations (claims_of interval_operations certificate.now) listed.now.routine (below (pops instruction.now.operands) (entry_of (seen listed.now)).shape) (listed.now.address + instruction.now.size)) }
 {
     let next = listed.address + instruction.length() as u32;
-    !goes_on(instruction.opcode()) || leads(certificate, listed, pops(instruction.operands()), next)
+    !goes_on(instruction.opcode())
+        || leads(
+            certificate,
+            listed,
+            pops(instruction.operands()),
+            next,
+            near,
+        )
 }
 
 /// Whether the next instruction comes after one of this opcode.
@@ -66,21 +85,13 @@ fn goes_on(opcode: Opcode) -> bool
     !matches!(opcode, Opcode::Quit)
 }
 
-/// Whether the text behind the opcode byte stays as it is, where there is one.
-fn has_text(story: &Story, listed: &Instruction<'_, Interval>, instruction: &Instr) -> bool
-    requires { static_base story.now ≤ listed.now.address }
-    ensures { (is_frozen : ℕ → Bool) → IsTrue result ↔ OnTrue (prints_text instruction.now.opcode) (HasFixedText story.now is_frozen (listed.now.address + 1)) }
+/// The text behind the opcode byte of an instruction that is there ends in memory, since that was decoded, and no play changes a
+/// byte of it, since it's static.
+fn texts_are_fixed(story: &Story)
+    ensures { (is_frozen : ℕ → Bool) (p : ℕ) (i : Spelled) → IsThere story.now p i → OnTrue (prints_text i.opcode) (HasFixedText story.now is_frozen (p + 1)) }
 {
-    !instruction.opcode().prints_text() || is_fixed_text(story, listed.address as usize + 1)
-}
-
-/// Whether the text at a place, where no instruction changes a byte, is whole.
-#[tactic(auto, using(crate::proofs::Unchanged::text_fixed))]
-fn is_fixed_text(story: &Story, at: usize) -> bool
-    requires { static_base story.now ≤ at }
-    ensures { (is_frozen : ℕ → Bool) → IsTrue result ↔ HasFixedText story.now is_frozen at }
-{
-    text_length(story.memory(), at).is_some()
+    let _memory = story.memory(); // which is sound
+    text_ends_instruction();
 }
 
 /// Whether an instruction that is there keeps a rule.
@@ -89,6 +100,7 @@ fn keeps(
     certificate: &Certificate,
     listed: &Instruction<'_, Interval>,
     instruction: &Instr,
+    near: usize,
     rule: Rule,
 ) -> bool
     requires there { IsThere story.now listed.now.address instruction.now }
@@ -98,8 +110,11 @@ fn keeps(
     match rule {
         Rule::Decodes => true,
         Rule::Height => pops(instruction.operands()) <= listed.slots.len(),
-        Rule::Successor => has_edges(certificate, listed, instruction),
-        Rule::Text => has_text(story, listed, instruction),
+        Rule::Successor => has_edges(certificate, listed, instruction, near),
+        Rule::Text => {
+            texts_are_fixed(story);
+            true
+        }
     }
 }
 
@@ -112,15 +127,44 @@ pub fn broken_rule(
 ) -> Option<Rule>
     ensures { MatchOption result ((rule : ARule) → Keeps interval_operations (claims_of interval_operations certificate.now) story.now listed.now.address (entry_of (seen listed.now)) rule) (IsLowestBroken interval_operations (claims_of interval_operations certificate.now) story.now listed.now.address (entry_of (seen listed.now))) }
 {
-    let Some(instruction) = instruction_there(story, listed.address) else {
-        return Some(Rule::Decodes);
+    let mut ends = TextEnds::new(story.memory());
+    match judge(
+        story,
+        certificate,
+        listed,
+        certificate.instruction_count(),
+        &mut ends,
+    ) {
+        Ok(_) => None,
+        Err(rule) => Some(rule),
+    }
+}
+
+/// A listed instruction as the story spells it, where it keeps all rules, and else the lowest rule that it breaks (own).
+/// `ends` are those of the texts of the story's memory. The instruction behind it is looked for at the index `near` first, and
+/// searched for where another is listed there.
+pub fn judge(
+    story: &Story,
+    certificate: &Certificate,
+    listed: &Instruction<'_, Interval>,
+    near: usize,
+    ends: &mut TextEnds<'_>,
+) -> Result<Instr, Rule>
+    requires { ends.old ≡ story.now.memory }
+    ensures memory { ends.new ≡ ends.old }
+    ensures there { IfOk result (λ i. IsThere story.now listed.now.address i) }
+    ensures kept { IfOk result (λ i. (rule : ARule) → Keeps interval_operations (claims_of interval_operations certificate.now) story.now listed.now.address (entry_of (seen listed.now)) rule) }
+    ensures broken { IfErr result (IsLowestBroken interval_operations (claims_of interval_operations certificate.now) story.now listed.now.address (entry_of (seen listed.now))) }
+{
+    let Some(instruction) = spelled_there(story, listed.address, ends) else {
+        return Err(Rule::Decodes);
     };
     for rule in RULES {
-        if !keeps(story, certificate, listed, &instruction, rule) {
-            return Some(rule);
+        if !keeps(story, certificate, listed, &instruction, near, rule) {
+            return Err(rule);
         }
     }
-    None
+    Ok(instruction)
 }
 
 /// The lowest rule that is broken at an address, where an instruction is listed there (own). `None` where all are kept,

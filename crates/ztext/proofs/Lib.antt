@@ -4,4 +4,5 @@ pub mod Printed
 pub mod Outcomes
 pub mod Sameness
 pub mod Printable
+mod KnownEnds
 mod Worked

@@ -6,3 +6,4 @@ pub mod Abbreviations
 pub mod Output
 pub mod Begun
 pub mod Progress
+pub mod Ends

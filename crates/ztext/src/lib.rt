@@ -4,11 +4,15 @@
 mod abbreviations;
 mod characters;
 mod decode;
+mod ends;
 mod error;
+mod laws;
 mod length;
 mod pieces;
 
 pub use abbreviations::{TextSpan, plain_abbreviation};
 pub use decode::decode_into;
+pub use ends::TextEnds;
 pub use error::TextError;
+pub use laws::text_is_at_front;
 pub use length::text_length;

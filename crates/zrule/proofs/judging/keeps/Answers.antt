@@ -5,5 +5,5 @@ use Rattle.zrule.proofs.judging.keeps.Goals as goal
 
 pub returns-in-Text : goal.returns-in-Text
 returns-in-Text c =
-    let told = c.has_text.ensures (claims_of interval_operations c.args.certificate.now).is_frozen in
+    let told = c.texts_are_fixed.ensures (claims_of interval_operations c.args.certificate.now).is_frozen c.args.listed.now.address in
     search (rules, told)

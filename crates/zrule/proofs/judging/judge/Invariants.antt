@@ -5,7 +5,7 @@ use Rattle.zdomain.specs.Interval.{interval_operations}
 use Rattle.zrule.specs.Claims.{claims_of, entry_of}
 use Rattle.zrule.specs.Rules.{Keeps}
 use Rattle.zrule.proofs.Order.{asked}
-use Rattle.zrule.proofs.judging.broken_rule.Given as goal
+use Rattle.zrule.proofs.judging.judge.Given as goal
 
 abbrev pub invariant-loop-rule : goal.invariant-loop-rule
 invariant-loop-rule l =
