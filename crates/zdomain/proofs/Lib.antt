@@ -1,3 +1,4 @@
 pub mod Ends
 pub mod Inclusion
+pub mod Reading
 mod Worked

@@ -1,9 +1,13 @@
 -- Values of the definitions, computed.
-use Rattle.std.proofs.Common.{◌≡◌, ℕ, pos, negsuc, Some, None, option_map, refl, arith}
+use Rattle.std.proofs.Common.{◌≡◌, ℕ, ◌-◌, ℤ, pos, negsuc, int_le, true, false, Option, Some, None, option_map, refl, arith}
+use Rattle.std.specs.Int.Signed.{≤ℤ_refl}
 use Rattle.std.proofs.lemmas.Int.{ints}
 use Rattle.zdomain.specs.declared.interval.Interval.{Interval}
 use Rattle.zdomain.specs.Domain.{SetOperations, In, Within, AreSound}
-use Rattle.zdomain.specs.Interval.{signed, point, all_words, interval_of, HasMember, HasAddress, interval_operations}
+use Rattle.zword.specs.declared.unary.UnaryOp.TheVariants.{Not, Keep}
+use Rattle.zword.specs.declared.binary.BinaryOp.TheVariants.{Add, Sub, Mul, Div, Mod, Or, And}
+use Rattle.zword.specs.declared.question.Question.TheVariants.{Equal, Less, Greater, Test}
+use Rattle.zdomain.specs.Interval.{signed, in_order, point, all_words, interval_of, HasMember, HasAddress, unary, binary, join, meet, narrow, interval_operations}
 
 -- a word from 0x8000 on is negative
 signed_words : (signed 0 ≡ pos 0) × (signed 0x7FFF ≡ pos 32767) × (signed 0x8000 ≡ negsuc 32767) × (signed 0xFFFF ≡ negsuc 0)
@@ -57,8 +61,111 @@ no_inclusion = (λ w. no_words.0 (w 2 (record { word = omega arith; member = (om
 
 -- sets that don't have their single word are unsound
 nothing : SetOperations ℕ
-nothing = record { has = λ _ _. ⊥; single = λ word. word; any = 0 }
+nothing = record { has = λ _ _. ⊥; single = λ word. word; any = 0; known = λ a. None; join = λ a b. a; meet = λ a b. None; unary = λ op a. a; binary = λ op a b. a; narrow = λ q c a b. None }
 
 unsound : AreSound nothing → ⊥
 unfolding nothing
 unsound sound = (sound.single 0 (omega arith)).member
+
+-- ---- what instructions make of sets
+
+abbrev from : (lo hi : ℤ) → int_le lo hi ≡ true → Interval
+from lo hi e = record { lo = lo; hi = hi; ordered = in_order lo hi e }
+
+abbrev IsFrom : Interval → ℤ → ℤ → Type 0
+IsFrom i lo hi = (i.lo ≡ lo) × (i.hi ≡ hi)
+
+-- -n for n above 0
+abbrev minus : ℕ → ℤ
+minus n = negsuc (n - 1)
+
+abbrev word : ℤ → Interval
+word z = record { lo = z; hi = z; ordered = ≤ℤ_refl z }
+
+-- [0, 5]
+abbrev few : Interval
+few = from (pos 0) (pos 5) refl
+
+-- where a result may wrap it may be any word
+sums : IsFrom (binary Add few (from (minus 3) (pos 4) refl)) (minus 3) (pos 9) × IsFrom (binary Add (word (pos 32767)) (word (pos 1))) (minus 32768) (pos 32767) × IsFrom (binary Add few (word (pos 32763))) (minus 32768) (pos 32767) × IsFrom (binary Add few (word (pos 32762))) (pos 32762) (pos 32767)
+sums = ((refl, refl), (refl, refl), (refl, refl), (refl, refl))
+
+differences : IsFrom (binary Sub few (from (pos 2) (pos 3) refl)) (minus 3) (pos 3) × IsFrom (binary Sub (word (minus 32768)) (word (pos 1))) (minus 32768) (pos 32767) × IsFrom (binary Sub few (word (minus 1))) (pos 1) (pos 6)
+differences = ((refl, refl), (refl, refl), (refl, refl))
+
+-- of 15, -12, -10 and 8
+products : IsFrom (binary Mul (from (minus 3) (pos 2) refl) (from (minus 5) (pos 4) refl)) (minus 12) (pos 15) × IsFrom (binary Mul (from (minus 2) (pos 3) refl) (word (pos 7))) (minus 14) (pos 21) × IsFrom (binary Mul (word (pos 300)) (word (pos 300))) (minus 32768) (pos 32767)
+products = ((refl, refl), (refl, refl), (refl, refl))
+
+-- -11 by 2 is -5, and 10 and 20 by -3 and by -2 are -3, -5, -6 and -10
+quotients : IsFrom (binary Div (from (minus 11) (pos 11) refl) (word (pos 2))) (minus 5) (pos 5) × IsFrom (binary Div (from (pos 10) (pos 20) refl) (from (minus 3) (minus 2) refl)) (minus 10) (minus 3)
+quotients = ((refl, refl), (refl, refl))
+
+-- the divisor may be 0; -32,768 by -1 wraps
+no_quotients : IsFrom (binary Div (word (pos 1)) few) (minus 32768) (pos 32767) × IsFrom (binary Div (word (pos 1)) (from (minus 1) (pos 1) refl)) (minus 32768) (pos 32767) × IsFrom (binary Div (word (minus 32768)) (word (minus 1))) (minus 32768) (pos 32767)
+no_quotients = ((refl, refl), (refl, refl), (refl, refl))
+
+-- by 5 nothing beyond 4 is left, on either side; by -5 the same; a dividend of one sign leaves that sign, and no more than it is
+remainders : IsFrom (binary Mod (from (minus 13) (pos 13) refl) (word (pos 5))) (minus 4) (pos 4) × IsFrom (binary Mod (word (pos 13)) (word (minus 5))) (pos 0) (pos 4) × IsFrom (binary Mod (from (minus 13) (minus 2) refl) (from (pos 5) (pos 7) refl)) (minus 6) (pos 0) × IsFrom (binary Mod (from (pos 2) (pos 3) refl) (word (pos 10))) (pos 0) (pos 3) × IsFrom (binary Mod few (word (minus 1))) (pos 0) (pos 0) × IsFrom (binary Mod (from (pos 0) (pos 32767) refl) (word (minus 32768))) (pos 0) (pos 32767)
+remainders = ((refl, refl), (refl, refl), (refl, refl), (refl, refl), (refl, refl), (refl, refl))
+
+no_remainders : IsFrom (binary Mod few few) (minus 32768) (pos 32767) × IsFrom (binary Mod few (from (minus 5) (pos 0) refl)) (minus 32768) (pos 32767)
+no_remainders = ((refl, refl), (refl, refl))
+
+-- two single words exactly; else at most the lesser end of those that are never negative
+conjunctions : IsFrom (binary And (word (pos 12)) (word (pos 10))) (pos 8) (pos 8) × IsFrom (binary And (word (minus 1)) (word (minus 8))) (minus 8) (minus 8) × IsFrom (binary And (from (pos 2) (pos 9) refl) (from (pos 1) (pos 5) refl)) (pos 0) (pos 5) × IsFrom (binary And (from (minus 4) (pos 9) refl) (from (pos 0) (pos 7) refl)) (pos 0) (pos 7) × IsFrom (binary And few (from (minus 1) (pos 100) refl)) (pos 0) (pos 5) × IsFrom (binary And (word (pos 12)) (from (minus 1) (pos 3) refl)) (pos 0) (pos 12) × IsFrom (binary And (from (minus 4) (pos 9) refl) (from (minus 1) (pos 3) refl)) (minus 32768) (pos 32767)
+conjunctions = ((refl, refl), (refl, refl), (refl, refl), (refl, refl), (refl, refl), (refl, refl), (refl, refl))
+
+disjunctions : IsFrom (binary Or (word (pos 12)) (word (pos 3))) (pos 15) (pos 15) × IsFrom (binary Or (word (minus 8)) (word (pos 1))) (minus 7) (minus 7) × IsFrom (binary Or few (from (pos 0) (pos 1) refl)) (pos 0) (pos 32767) × IsFrom (binary Or (from (minus 1) (pos 5) refl) (word (pos 1))) (minus 32768) (pos 32767)
+disjunctions = ((refl, refl), (refl, refl), (refl, refl), (refl, refl))
+
+complements : IsFrom (unary Not few) (minus 6) (minus 1) × IsFrom (unary Not all_words) (minus 32768) (pos 32767) × IsFrom (unary Keep few) (pos 0) (pos 5)
+complements = ((refl, refl), (refl, refl), (refl, refl))
+
+-- ---- sets joined and met
+
+joined : IsFrom (join (from (pos 0) (pos 2) refl) (from (pos 8) (pos 9) refl)) (pos 0) (pos 9) × IsFrom (join few (word (minus 1))) (minus 1) (pos 5)
+joined = ((refl, refl), (refl, refl))
+
+-- the ends of what is there
+abbrev IsSomeFrom : Option Interval → ℤ → ℤ → Type 0
+IsSomeFrom None lo hi = ⊥
+IsSomeFrom (Some i) lo hi = IsFrom i lo hi
+
+common : IsSomeFrom (meet few (from (pos 3) (pos 9) refl)) (pos 3) (pos 5) × IsSomeFrom (meet few (from (pos 5) (pos 9) refl)) (pos 5) (pos 5) × (meet few (from (pos 6) (pos 9) refl) ≡ None)
+common = ((refl, refl), (refl, refl), refl)
+
+only : (interval_operations.known (word (pos 5)) ≡ Some 5) × (interval_operations.known (word (minus 2)) ≡ Some 0xFFFE) × (interval_operations.known (from (pos 0) (pos 1) refl) ≡ None)
+only = (refl, refl, refl)
+
+-- ---- what an answer leaves
+
+abbrev AreFrom : Option (Interval × Interval) → ℤ → ℤ → ℤ → ℤ → Type 0
+AreFrom None lo hi lo' hi' = ⊥
+AreFrom (Some p) lo hi lo' hi' = IsFrom p.0 lo hi × IsFrom p.1 lo' hi'
+
+abbrev pairs_none : Option (Interval × Interval)
+pairs_none = None
+
+-- [0, 9]
+abbrev ten : Interval
+ten = from (pos 0) (pos 9) refl
+
+less : AreFrom (narrow Less true ten few) (pos 0) (pos 4) (pos 1) (pos 5) × (narrow Less true (from (pos 5) (pos 9) refl) few ≡ pairs_none) × (narrow Less true all_words (word (minus 32768)) ≡ pairs_none) × AreFrom (narrow Less true (word (minus 1)) (word (pos 0))) (minus 1) (minus 1) (pos 0) (pos 0)
+less = (((refl, refl), (refl, refl)), refl, refl, ((refl, refl), (refl, refl)))
+
+not_less : AreFrom (narrow Less false ten (from (pos 3) (pos 5) refl)) (pos 3) (pos 9) (pos 3) (pos 5) × AreFrom (narrow Less false few ten) (pos 0) (pos 5) (pos 0) (pos 5) × (narrow Less false (from (pos 0) (pos 2) refl) (from (pos 3) (pos 9) refl) ≡ pairs_none)
+not_less = (((refl, refl), (refl, refl)), ((refl, refl), (refl, refl)), refl)
+
+greater : AreFrom (narrow Greater true ten few) (pos 1) (pos 9) (pos 0) (pos 5) × AreFrom (narrow Greater false ten few) (pos 0) (pos 5) (pos 0) (pos 5) × (narrow Greater true (word (pos 0)) few ≡ pairs_none)
+greater = (((refl, refl), (refl, refl)), ((refl, refl), (refl, refl)), refl)
+
+equal : AreFrom (narrow Equal true ten (from (pos 5) (pos 20) refl)) (pos 5) (pos 9) (pos 5) (pos 9) × AreFrom (narrow Equal true (from (minus 3) (pos 4) refl) (word (pos 0))) (pos 0) (pos 0) (pos 0) (pos 0) × (narrow Equal true few (word (pos 6)) ≡ pairs_none)
+equal = (((refl, refl), (refl, refl)), ((refl, refl), (refl, refl)), refl)
+
+-- a single value is cut off at one end, and nowhere else
+unequal : AreFrom (narrow Equal false few (word (pos 0))) (pos 1) (pos 5) (pos 0) (pos 0) × AreFrom (narrow Equal false (from (minus 9) (pos 0) refl) (word (pos 0))) (minus 9) (minus 1) (pos 0) (pos 0) × AreFrom (narrow Equal false (from (minus 9) (pos 9) refl) (word (pos 0))) (minus 9) (pos 9) (pos 0) (pos 0) × AreFrom (narrow Equal false few ten) (pos 0) (pos 5) (pos 0) (pos 9) × AreFrom (narrow Equal false (word (pos 9)) ten) (pos 9) (pos 9) (pos 0) (pos 8) × AreFrom (narrow Equal false all_words (word (pos 32767))) (minus 32768) (pos 32766) (pos 32767) (pos 32767) × (narrow Equal false (word (pos 7)) (word (pos 7)) ≡ pairs_none)
+unequal = (((refl, refl), (refl, refl)), ((refl, refl), (refl, refl)), ((refl, refl), (refl, refl)), ((refl, refl), (refl, refl)), ((refl, refl), (refl, refl)), ((refl, refl), (refl, refl)), refl)
+
+tested : AreFrom (narrow Test true ten few) (pos 0) (pos 9) (pos 0) (pos 5) × AreFrom (narrow Test false ten few) (pos 0) (pos 9) (pos 0) (pos 5)
+tested = (((refl, refl), (refl, refl)), ((refl, refl), (refl, refl)))

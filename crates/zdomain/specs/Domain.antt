@@ -1,11 +1,27 @@
 -- Sets of words, by what a domain offers. A word is a natural number below 65,536 (Z 2.1).
-use Rattle.std.specs.Prelude.{ℕ, ◌<◌}
+use Rattle.std.specs.Prelude.{◌≡◌, ℕ, ◌<◌, Bool, Option, Some, MatchOption}
+use Rattle.zword.specs.declared.unary.UnaryOp.{UnaryOp}
+use Rattle.zword.specs.declared.binary.BinaryOp.{BinaryOp}
+use Rattle.zword.specs.declared.question.Question.{Question}
+use Rattle.zword.specs.Unary.{transform}
+use Rattle.zword.specs.Binary.{apply}
+use Rattle.zword.specs.Question.{holds}
 
 -- which words a set of the domain has, and what its operations answer
 pub record SetOperations (V : Type 0) : Type 1 where
   pub has : V → ℕ → Type 0
   pub single : ℕ → V
   pub any : V
+  -- the word, where the set has but one
+  pub known : V → Option ℕ
+  -- the words of either set, and of both
+  pub join : V → V → V
+  pub meet : V → V → Option V
+  -- what an operation makes of any words of the sets
+  pub unary : UnaryOp → V → V
+  pub binary : BinaryOp → V → V → V
+  -- what is left of two sets where a question on a word of each has this answer: nothing where it never has
+  pub narrow : Question → Bool → V → V → Option (V × V)
 
 -- the number is a word, and the set has it
 pub record In {V : Type 0} (o : SetOperations V) (a : V) (x : ℕ) : Type 0 where
@@ -20,3 +36,11 @@ Within o a b = (x : ℕ) → In o a x → In o b x
 pub record AreSound {V : Type 0} (o : SetOperations V) : Type 0 where
   pub single : (x : ℕ) → x < 65536 → In o (o.single x) x
   pub any : (x : ℕ) → x < 65536 → In o o.any x
+  pub known : (a : V) (n x : ℕ) → o.known a ≡ Some n → In o a x → x ≡ n
+  pub known_single : (x : ℕ) → x < 65536 → o.known (o.single x) ≡ Some x
+  pub join_left : (a b : V) (x : ℕ) → In o a x → In o (o.join a b) x
+  pub join_right : (a b : V) (x : ℕ) → In o b x → In o (o.join a b) x
+  pub meet : (a b : V) (x : ℕ) → In o a x → In o b x → MatchOption (o.meet a b) ⊥ (λ c. In o c x)
+  pub unary : (op : UnaryOp) (a : V) (x : ℕ) → In o a x → In o (o.unary op a) (transform op x)
+  pub binary : (op : BinaryOp) (a b : V) (x y : ℕ) → In o a x → In o b y → In o (o.binary op a b) (apply op x y)
+  pub narrow : (q : Question) (c : Bool) (a b : V) (x y : ℕ) → In o a x → In o b y → holds q x y ≡ c → MatchOption (o.narrow q c a b) ⊥ (λ p. In o p.0 x × In o p.1 y)

@@ -1,11 +1,28 @@
--- What an operation on intervals answers contains what it has to.
-use Rattle.std.proofs.Common.{arith}
-use Rattle.std.proofs.lemmas.Int.{ints}
+-- What an operation on intervals answers contains what it has to. The modules below are parts of the proof, and nothing to
+-- believe.
+pub mod Lying
+pub mod Products
+pub mod Quotients
+pub mod Remainders
+pub mod Bits
+pub mod Results
+pub mod Edges
 use Rattle.zdomain.specs.Domain.{AreSound}
 use Rattle.zdomain.specs.Interval.{interval_operations}
+use Rattle.zdomain.specs.IntervalLaw.Lying.{any_has, point_has}
+use Rattle.zdomain.specs.IntervalLaw.Results.{unary_has, binary_has}
+use Rattle.zdomain.specs.IntervalLaw.Edges.{join_left, join_right, meet_has, known_has, known_single, narrow_has}
 
 pub interval_sound : AreSound interval_operations
 interval_sound = record {
-  single = λ x h. record { word = h; member = (omega (arith, ints), omega (arith, ints)) };
-  any = λ x h. record { word = h; member = (omega (arith, ints), omega (arith, ints)) };
+  single = point_has;
+  any = any_has;
+  known = known_has;
+  known_single = known_single;
+  join_left = join_left;
+  join_right = join_right;
+  meet = meet_has;
+  unary = unary_has;
+  binary = binary_has;
+  narrow = narrow_has;
 }

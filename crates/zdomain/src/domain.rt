@@ -3,7 +3,9 @@
 ghost use Rattle.std.specs.Prelude.{◌≡◌, ◌↔◌, IsTrue};
 ghost use Rattle.zdomain.specs.Domain.{SetOperations, AreSound, In, Within};
 
-/// A set of words, with a test for each question that a rule asks of one.
+use zword::{BinaryOp, Question, UnaryOp};
+
+/// A set of words, of which there is at least one, with what a rule asks of sets and makes of them.
 ///
 /// Contracts see a domain by its operations alone, so that what is proved over them holds for every domain.
 pub trait Domain: Copy + Drop {
@@ -25,6 +27,35 @@ pub trait Domain: Copy + Drop {
     /// Whether each word of the set is in the other.
     fn is_within(self, other: Self) -> bool
         ensures { IsTrue result ↔ Within operations self other };
+
+    /// A word of the set: there is always one.
+    fn member(self) -> u16
+        ensures { In operations self result };
+
+    /// The word of the set, where it has but one.
+    fn known(self) -> Option<u16>
+        ensures { result ≡ operations.known self };
+
+    /// A set that has the words of both.
+    fn join(self, other: Self) -> Self
+        ensures { result ≡ operations.join self other };
+
+    /// A set that has each word that is in both, or `None` where there is none.
+    fn meet(self, other: Self) -> Option<Self>
+        ensures { result ≡ operations.meet self other };
+
+    /// A set that has what the operation makes of any word of the set.
+    fn unary(operation: UnaryOp, operand: Self) -> Self
+        ensures { result ≡ operations.unary operation operand };
+
+    /// A set that has what the operation makes of any two words of the two sets.
+    fn binary(operation: BinaryOp, first: Self, second: Self) -> Self
+        ensures { result ≡ operations.binary operation first second };
+
+    /// What is left of two sets where the question, asked of a word of each, is answered so: sets that have each word for
+    /// which it can be, or `None` where it never is.
+    fn narrow(question: Question, answer: bool, first: Self, second: Self) -> Option<(Self, Self)>
+        ensures { result ≡ operations.narrow question answer first second };
 
     /// The law: what an operation answers contains each word that it has to.
     ghost sound: { AreSound operations };

@@ -9,6 +9,8 @@ ghost use Rattle.zdomain.specs.IntervalLaw.{interval_sound};
 
 use crate::domain::Domain;
 use crate::interval::Interval;
+use crate::{arithmetic, edges};
+use zword::{BinaryOp, Question, UnaryOp};
 
 impl Domain for Interval {
     ghost operations = { interval_operations };
@@ -16,18 +18,11 @@ impl Domain for Interval {
     ghost sound = { interval_sound };
 
     fn single(word: u16) -> Interval {
-        let value = word.cast_signed();
-        Interval {
-            lo: value,
-            hi: value,
-        }
+        Interval::of_word(word)
     }
 
     fn any() -> Interval {
-        Interval {
-            lo: i16::MIN,
-            hi: i16::MAX,
-        }
+        Interval::all()
     }
 
     fn contains(self, word: u16) -> bool {
@@ -38,6 +33,65 @@ impl Domain for Interval {
     #[tactic(auto, using(crate::proofs::Inclusion::ends_decide))]
     fn is_within(self, other: Interval) -> bool {
         other.lo <= self.lo && self.hi <= other.hi
+    }
+
+    fn member(self) -> u16 {
+        self.lo.cast_unsigned()
+    }
+
+    fn known(self) -> Option<u16> {
+        if self.is_single() {
+            Some(self.lo.cast_unsigned())
+        } else {
+            None
+        }
+    }
+
+    fn join(self, other: Interval) -> Interval {
+        edges::join(self, other)
+    }
+
+    fn meet(self, other: Interval) -> Option<Interval> {
+        edges::meet(self, other)
+    }
+
+    fn unary(operation: UnaryOp, operand: Interval) -> Interval {
+        match operation {
+            UnaryOp::Not => arithmetic::complements(operand),
+            UnaryOp::Keep => operand,
+        }
+    }
+
+    fn binary(operation: BinaryOp, first: Interval, second: Interval) -> Interval {
+        match operation {
+            BinaryOp::Add => arithmetic::sums(first, second),
+            BinaryOp::Sub => arithmetic::differences(first, second),
+            BinaryOp::Mul => arithmetic::products(first, second),
+            BinaryOp::Div => arithmetic::quotients(first, second),
+            BinaryOp::Mod => arithmetic::remainders(first, second),
+            BinaryOp::Or => arithmetic::disjunctions(first, second),
+            BinaryOp::And => arithmetic::conjunctions(first, second),
+        }
+    }
+
+    fn narrow(
+        question: Question,
+        answer: bool,
+        first: Interval,
+        second: Interval,
+    ) -> Option<(Interval, Interval)> {
+        match (question, answer) {
+            (Question::Equal, true) => edges::same(first, second),
+            (Question::Equal, false) => edges::both(
+                edges::apart(first, second),
+                edges::apart(second, first),
+            ),
+            (Question::Less, true) => edges::below(first, second),
+            (Question::Less, false) => edges::not_below(first, second),
+            (Question::Greater, true) => edges::swapped(edges::below(second, first)),
+            (Question::Greater, false) => edges::swapped(edges::not_below(second, first)),
+            (Question::Test, _) => Some((first, second)),
+        }
     }
 }
 

@@ -1,7 +1,9 @@
-//! Sets of words: what a certificate says of the values of a variable.
+//! Sets of words: what a certificate says of the values of a variable, and what instructions make of them.
 #![tactic(auto)]
 
+mod arithmetic;
 mod domain;
+mod edges;
 mod interval;
 mod interval_domain;
 

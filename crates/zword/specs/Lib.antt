@@ -1,0 +1,4 @@
+pub mod Unary
+pub mod Binary
+pub mod Question
+pub mod Count
