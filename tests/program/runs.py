@@ -73,6 +73,24 @@ WORDS = [
     ("a name that isn't UTF-8", ["play", b"a\xff"], Answer(2, b"", help_text("no_text.txt"))),
 ]
 
+# ---- texts: the words of a text, and what it prints, worked out by hand from the alphabets (Z 3.5.3)
+
+TEXTS = [
+    ("an escape", b"\x14\xc2\x80\xa5", b"@"),
+    ("shifts alone", b"\x94\xa5", b""),
+    ("letters", b"\x35\x51\xc6\x85", b"hello"),
+    ("of 4 5 13 the last shift counts", b"\x90\xad", b"5"),
+    ("in 4 0 6 a space uses the shift up", b"\x90\x06", b" a"),
+    ("5 6 2, an escape that is cut off", b"\x94\xc2", b""),
+    ("5 5 6, an escape that is cut off", b"\x94\xa6", b""),
+    ("code 1,023", b"\x14\xdf\xfc\xa5", b"?"),
+    ("code 0", b"\x14\xc0\x80\xa5", b""),
+    ("code 13", b"\x14\xc0\xb4\xa5", b"\n"),
+    ("a capital and a mark", b"\x10\xc5\xc8\xa5", b"A."),
+    ("an abbreviation that uses the shift up", b"\x10\x20\x98\xa5", b"helloa"),
+    ("an abbreviation that is cut off", b"\x98\xa1", b"a"),
+]
+
 # ---- commands: name, words, files, answer
 
 CHECK = ["check", "story", "certificate"]
@@ -182,6 +200,13 @@ def main():
     count = Count("runs")
     for name, words, wanted in WORDS:
         count.is_answer(name, program.run(words), wanted)
+    for name, words, wanted in TEXTS:
+        code = b"\xb2" + words + QUIT
+        place = CODE + len(code) + len(code) % 2
+        made = story(code.ljust(place - CODE, b"\0") + HELLO[1:], abbreviations=[place] * 96)
+        listed = certificate(made, [CODE, CODE + len(code) - 1])
+        count.is_answer(f"{name}, checked", program.run(PLAY, files(made)), done(wanted))
+        count.is_answer(f"{name}, by its certificate", program.run(PLAY_LISTED, files(made, listed)), done(wanted))
     for name, words, given, wanted in COMMANDS:
         count.is_answer(name, program.run(words, given), wanted)
     see_streams(program, count)
