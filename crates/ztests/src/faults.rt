@@ -114,6 +114,7 @@ struct Shelf {
     most: usize,
     good_calls: u64,
     failures: u64,
+    waits: bool,
 }
 
 impl Shelf {
@@ -123,6 +124,7 @@ impl Shelf {
             most,
             good_calls,
             failures: 0,
+            waits: false,
         }
     }
 }
@@ -132,10 +134,13 @@ impl Sink for Shelf {
 
     ghost failures = { λ shelf. shelf.failures };
 
+    ghost waits = { λ shelf. shelf.waits };
+
     fn write(&mut self, piece: &[u8]) -> Result<usize, Failed> {
         let count = self.most.max(1).min(piece.len());
         if self.good_calls > 0 && self.bytes.extend_from_slice(&piece[..count]).is_ok() {
             self.good_calls -= 1;
+            self.waits = self.waits || count > 0;
             return Ok(count);
         }
         self.failures = self.failures.saturating_add(1);
@@ -143,6 +148,7 @@ impl Sink for Shelf {
     }
 
     fn flush(&mut self) -> Result<(), Failed> {
+        self.waits = false;
         Ok(())
     }
 }

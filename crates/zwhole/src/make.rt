@@ -1,6 +1,7 @@
 //! Sample stories, and devices in memory.
 
-ghost use Rattle.std.specs.Prelude.{None, Some, bytes_eq, codes, if◌then◌else◌};
+ghost use Rattle.std.specs.Prelude.{◌≡◌, IfSome, MatchBool, MatchOption, None, Some, bytes_eq, codes, if◌then◌else◌};
+ghost use Rattle.zfault.specs.Devices.{RisesByOne};
 
 use std::alloc::{AllocError, Global};
 use zfault::{Failed, Sink, Source};
@@ -90,54 +91,121 @@ pub fn with_byte(mut bytes: Vec<u8>, at: usize, byte: u8) -> Vec<u8> {
     bytes
 }
 
-/// A story and a certificate, in files of the names `story` and `certificate`, with bytes that contracts know. Reading
-/// fails after so many calls.
+/// Which calls of a device fail, and how many did.
+#[derive(Drop)]
+pub struct Calls {
+    made: u64,
+    first_bad: u64,
+    next_good: u64,
+    pub failures: u64,
+}
+
+impl Calls {
+    /// So many are good, and none after them.
+    pub fn good(count: u64) -> Calls {
+        Calls {
+            made: 0,
+            first_bad: count,
+            next_good: u64::MAX,
+            failures: 0,
+        }
+    }
+
+    /// All are good but one, counted from 0.
+    pub fn all_but(call: u64) -> Calls {
+        Calls {
+            made: 0,
+            first_bad: call,
+            next_good: call.saturating_add(1),
+            failures: 0,
+        }
+    }
+
+    // Makes a call, and answers whether it is good.
+    fn is_good(&mut self) -> bool
+        ensures { MatchBool result (self.new.failures ≡ self.old.failures) (RisesByOne self.old.failures self.new.failures) }
+    {
+        let call = self.made;
+        self.made = call.saturating_add(1);
+        if call < self.first_bad || self.next_good <= call {
+            return true;
+        }
+        self.fail();
+        false
+    }
+
+    fn fail(&mut self)
+        ensures { RisesByOne self.old.failures self.new.failures }
+    {
+        self.failures = self.failures.saturating_add(1);
+    }
+}
+
+/// A story and a certificate, in files of the names `story` and `certificate`, with bytes that contracts know.
 #[derive(Drop)]
 pub struct TwoFiles<'a> {
     pub story: &'a [u8],
     pub certificate: &'a [u8],
-    pub good_calls: u64,
+    pub calls: Calls,
+}
+
+impl<'a> TwoFiles<'a> {
+    // The file of a name, if there is one and the call is good.
+    fn opened(&mut self, name: &str) -> Option<&'a [u8]>
+        ensures story { self.new.story ≡ self.old.story }
+        ensures certificate { self.new.certificate ≡ self.old.certificate }
+        ensures known { IfSome result (λ file. (if bytes_eq name.now (codes "story") then Some self.old.story.now else (if bytes_eq name.now (codes "certificate") then Some self.old.certificate.now else None)) ≡ Some file.now) }
+        ensures counts { MatchOption result (RisesByOne self.old.calls.failures self.new.calls.failures) (λ _. self.new.calls.failures ≡ self.old.calls.failures) }
+    {
+        if !self.calls.is_good() {
+            return None;
+        }
+        if name == "story" {
+            return Some(self.story);
+        }
+        if name == "certificate" {
+            return Some(self.certificate);
+        }
+        self.calls.fail();
+        None
+    }
 }
 
 impl<'a> Files for TwoFiles<'a> {
     ghost known = { λ files name. if bytes_eq name (codes "story") then Some files.story.now else (if bytes_eq name (codes "certificate") then Some files.certificate.now else None) };
 
+    ghost failures = { λ files. files.calls.failures };
+
     fn read_at(&mut self, name: &str, from: u64, buffer: &mut [u8]) -> Option<usize> {
-        self.good_calls = self.good_calls.checked_sub(1)?;
-        let file = if name == "story" {
-            self.story
-        } else if name == "certificate" {
-            self.certificate
-        } else {
-            return None;
-        };
-        let rest = file.get(usize::try_from(from).ok()?..).unwrap_or(b"");
+        let file = self.opened(name)?;
+        let rest = &file[file.len().min(from as usize)..];
         let count = rest.len().min(buffer.len());
         buffer[..count].copy_from_slice(&rest[..count]);
         Some(count)
     }
 
     fn put(&mut self, _name: &str, _bytes: &[u8]) -> bool {
+        self.calls.fail();
         false
     }
 }
 
-/// Keeps what it takes, at most so many bytes a call, and fails after so many calls, be they writes or flushes.
+/// Keeps what it takes, at most so many bytes a call. Its calls are writes and flushes.
 #[derive(Drop)]
 pub struct Shelf {
     pub bytes: Vec<u8>,
     most: usize,
-    good_calls: u64,
-    failures: u64,
+    waits: bool,
+    pub calls: Calls,
 }
 
 impl Shelf {
-    pub fn new(alloc: Global, most: usize, good_calls: u64) -> Shelf {
+    pub fn new(alloc: Global, most: usize, calls: Calls) -> Shelf {
         Shelf {
             bytes: Vec::new(alloc),
             most,
-            good_calls,
-            failures: 0,
+            waits: false,
+            calls,
         }
     }
 }
@@ -145,25 +213,29 @@ impl Shelf {
 impl Sink for Shelf {
     ghost contents = { λ shelf. Some shelf.bytes.items };
 
-    ghost failures = { λ shelf. shelf.failures };
+    ghost failures = { λ shelf. shelf.calls.failures };
+
+    ghost waits = { λ shelf. shelf.waits };
 
     fn write(&mut self, piece: &[u8]) -> Result<usize, Failed> {
         let count = self.most.max(1).min(piece.len());
-        if self.good_calls > 0 && self.bytes.extend_from_slice(&piece[..count]).is_ok() {
-            self.good_calls -= 1;
-            return Ok(count);
+        if !self.calls.is_good() {
+            return Err(Failed);
         }
-        self.failures = self.failures.saturating_add(1);
-        Err(Failed)
+        if self.bytes.extend_from_slice(&piece[..count]).is_err() {
+            self.calls.fail();
+            return Err(Failed);
+        }
+        self.waits = self.waits || count > 0;
+        Ok(count)
     }
 
     fn flush(&mut self) -> Result<(), Failed> {
-        if self.good_calls > 0 {
-            self.good_calls -= 1;
-            return Ok(());
+        if !self.calls.is_good() {
+            return Err(Failed);
         }
-        self.failures = self.failures.saturating_add(1);
-        Err(Failed)
+        self.waits = false;
+        Ok(())
     }
 }
 
@@ -182,7 +254,10 @@ impl NoLines {
 impl Source for NoLines {
     ghost failures = { λ lines. lines.failures };
 
-    fn read(&mut self, _buffer: &mut [u8]) -> Result<usize, Failed> {
+    fn read(&mut self, buffer: &mut [u8]) -> Result<usize, Failed> {
+        if buffer.is_empty() {
+            return Ok(0);
+        }
         self.failures = self.failures.saturating_add(1);
         Err(Failed)
     }

@@ -1,6 +1,6 @@
 //! What commands come to.
 
-use crate::make::{HELLO, NoLines, Shelf, TwoFiles, first_sample};
+use crate::make::{Calls, HELLO, NoLines, Shelf, TwoFiles, first_sample};
 use std::alloc::{AllocError, Global};
 use std::test::Fail;
 use zperform::perform;
@@ -11,6 +11,7 @@ pub struct Done {
     status: u8,
     output: Vec<u8>,
     errors: Vec<u8>,
+    pub failures: u64,
 }
 
 // Performs words where `story` is a file and `certificate` an empty one, with a writer that takes so many bytes a call,
@@ -31,9 +32,9 @@ pub fn performed_with(
     let mut files = TwoFiles {
         story,
         certificate,
-        good_calls: 100,
+        calls: Calls::good(100),
     };
-    let writer = Shelf::new(alloc, most, good_calls);
+    let writer = Shelf::new(alloc, most, Calls::good(good_calls));
     performed_on(alloc, words, &mut files, writer)
 }
 
@@ -45,12 +46,13 @@ pub fn performed_on(
     mut writer: Shelf,
 ) -> Done {
     let mut reader = NoLines::new();
-    let mut errors = Shelf::new(alloc, 100, 100);
+    let mut errors = Shelf::new(alloc, 100, Calls::good(100));
     let status = perform(alloc, words, files, &mut reader, &mut writer, &mut errors);
     Done {
         status,
         output: writer.bytes,
         errors: errors.bytes,
+        failures: writer.calls.failures,
     }
 }
 
