@@ -27,10 +27,10 @@ RELEASE = 1
 SERIAL = b"260101"
 
 
-def body():
-    """What stands between the header and the code."""
+def body(texts):
+    """What stands between the header and the code, where the abbreviations are at these words."""
     dynamic = bytes(STATIC - 64)  # 240 globals, and 31 property defaults
-    abbreviations = struct.pack(">H", EMPTY_TEXT // 2) * 96
+    abbreviations = struct.pack(">96H", *(texts or [EMPTY_TEXT // 2] * 96))
     return dynamic + abbreviations + b"\x94\xa5" + bytes([0, 4, 0, 0])
 
 
@@ -43,9 +43,9 @@ def header(length, checksum):
     return words.ljust(64, b"\0")
 
 
-def story(code):
-    """The whole story with this code, and its checksum."""
-    rest = body() + code
+def story(code, texts=None):
+    """The whole story with this code, and its checksum. The abbreviations are at these words, or have nothing in them."""
+    rest = body(texts) + code
     if len(rest) % 2 == 1:
         rest += b"\0"
     length = 64 + len(rest)
@@ -80,4 +80,5 @@ def main():
         file.write(certificate(len(whole), checksum, addresses))
 
 
-main()
+if __name__ == "__main__":
+    main()

@@ -7,4 +7,5 @@ pub mod Only
 pub mod ReadingLaws
 mod Tails
 mod Inline
+mod Standard
 mod Worked
