@@ -3,8 +3,8 @@ use Rattle.std.proofs.lemmas.List.{get_or_read_under}
 use Rattle.zframe.proofs.Held.{local_seen, local_within}
 use Rattle.zframe.proofs.frames.Frames.local.Goals as goal
 
-pub overflow_add-self-inside : goal.overflow_add-self-inside
-overflow_add-self-inside c = let q = c.self.inside in omega (arith, local_within q.limit q.above q.base q.top q.words.items c.self.invariant c.args.self.now c.self.view_is c.args.k c.requires, c.self.invariant.within, q.words.ok.0)
+pub overflow_add-at : goal.overflow_add-at
+overflow_add-at c = let q = c.self.inside in omega (arith, local_within q.limit q.above q.base q.top q.words.items c.self.invariant c.args.self.now c.self.view_is c.args.k c.requires, c.self.invariant.within, q.words.ok.0)
 
 pub index-requires : goal.index-requires
 index-requires c = let q = c.self.inside in omega (arith, local_within q.limit q.above q.base q.top q.words.items c.self.invariant c.args.self.now c.self.view_is c.args.k c.requires, c.self.invariant.within, q.words.ok.0)
