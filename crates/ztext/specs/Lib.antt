@@ -8,3 +8,4 @@ pub mod Begun
 pub mod Progress
 pub mod Ends
 pub mod Open
+pub mod Local
