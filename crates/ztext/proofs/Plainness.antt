@@ -1,5 +1,5 @@
 -- Whether Z-characters use an abbreviation, one after another.
-use Rattle.std.proofs.Common.{◌≡◌, ◌↔◌, ◌⊎◌, inl, inr, ℕ, zero, suc, ◌+◌, ◌*◌, ◌/◌, ◌%◌, ◌<◌, ◌≤◌, Bool, true, false, nat_lt, nat_eq, ◌-◌, take, drop, length, get_or, List, [], ◌∷◌, ◌++◌, Option, Some, None, refl, sym, ap, subst, ◌∙◌, arith}
+use Rattle.std.proofs.Common.{◌≡◌, ◌↔◌, ◌⊎◌, inl, inr, ℕ, zero, suc, ◌+◌, ◌*◌, ◌/◌, ◌%◌, ◌<◌, ◌≤◌, false, nat_lt, nat_eq, ◌-◌, take, drop, length, get_or, List, [], ◌∷◌, Option, Some, None, refl, sym, ap, subst, ◌∙◌, arith}
 use Rattle.std.specs.Option.{option_and_then}
 use Rattle.std.proofs.lemmas.List.{take_rest}
 use Rattle.std.proofs.lemmas.Bool.{cases_lt, lt-ltb, le-ltb, ne_eqb}
@@ -7,7 +7,7 @@ use Rattle.ztext.specs.declared.plain.Open.{Open}
 use Rattle.ztext.specs.declared.plain.Open.TheVariants.{Letter, Mark, Bank, Escape, EscapeHigh}
 use Rattle.ztext.specs.Words.{characters_in}
 use Rattle.ztext.specs.Codes.{abbreviations_used}
-use Rattle.ztext.specs.Open.{characters_open, opened, open_after, open_after_word, IsPlainFrom, IsPlainAfter}
+use Rattle.ztext.specs.Open.{opened, open_after, open_after_word, IsPlainFrom, IsPlainAfter}
 
 abbrev IsPlain : List ℕ → Type 0
 IsPlain zs = abbreviations_used zs ≡ []
