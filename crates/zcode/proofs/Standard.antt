@@ -2,7 +2,6 @@
 -- say: the name, the fewest and the most operands, and whether a store byte, branch data and text follow.
 use Rattle.std.proofs.Common.{◌≡◌, ℕ, Bool, true, false, List, [], ◌∷◌, map, Ok, Err, refl}
 use Rattle.std.specs.Prelude.{codes}
-use Rattle.zcode.specs.declared.opcode.Opcode.{Opcode}
 use Rattle.zcode.specs.declared.error.DecodeError.TheVariants.{NoSuchOpcode, NotInProfile}
 use Rattle.zcode.specs.declared.error.Unsupported.TheVariants.{Excluded}
 use Rattle.zcode.specs.declared.table.OperandCount.TheVariants.{Two, One, Zero, Many}

@@ -5,4 +5,5 @@ pub mod Outcomes
 pub mod Sameness
 pub mod Printable
 mod KnownEnds
+mod Plainness
 mod Worked

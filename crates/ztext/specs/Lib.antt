@@ -7,3 +7,5 @@ pub mod Output
 pub mod Begun
 pub mod Progress
 pub mod Ends
+pub mod Open
+pub mod Local

@@ -8,7 +8,8 @@ ghost use Rattle.ztext.specs.Abbreviations.{readable_word, abbreviation_at, IsPl
 ghost use Rattle.ztext.specs.Words.{characters_in};
 
 use crate::length::text_length;
-use crate::pieces::{Piece, Pieces};
+use crate::pieces::Pieces;
+use crate::plain::is_plain;
 
 // The place in the header of the abbreviations table's address (Z 1.1, 11.1).
 const TABLE: usize = 0x18;
@@ -36,7 +37,7 @@ pub fn plain_abbreviation(memory: &[u8], number: u8) -> Option<TextSpan>
     ensures entry { IfSome result (λ _. word_at memory.now 0x18 + 2 * number + 1 < length memory.now) }
 {
     let span = abbreviation_span(memory, number)?;
-    if are_plain(span_pieces(memory, span)) {
+    if is_plain(&memory[span.place..span.place + span.size]) {
         Some(span)
     } else {
         None
@@ -73,18 +74,6 @@ fn span_pieces(memory: &[u8], span: TextSpan) -> Pieces<'_>
     ensures { result ≡ pieces_of (characters_in (take span.size (drop span.place memory.now))) }
 {
     Pieces::new(&memory[span.place..span.place + span.size])
-}
-
-// Whether none of the pieces is an abbreviation.
-fn are_plain(mut pieces: Pieces<'_>) -> bool
-    ensures { IsTrue result ↔ (abbreviations_among pieces.entry ≡ []) }
-{
-    while let Some(piece) = pieces.next_piece() {
-        if let Piece::Abbreviation(_) = piece {
-            return false;
-        }
-    }
-    true
 }
 
 // The word at a place of readable memory.
