@@ -1,4 +1,4 @@
-use Rattle.std.proofs.Common.{◌-◌, sym, length, take, arith}
+use Rattle.std.proofs.Common.{◌-◌, sym, arith}
 use Rattle.std.proofs.lemmas.List.{length-take-le}
 use Rattle.zframe.specs.Packed.{seen}
 use Rattle.zframe.proofs.Packing.{fits}

@@ -1,4 +1,4 @@
-use Rattle.std.proofs.Common.{◌≡◌, ◌-◌, ◌∷◌, ◌∙◌, sym, ap, slice_get, arith}
+use Rattle.std.proofs.Common.{◌-◌, ◌∷◌, ◌∙◌, sym, ap, slice_get, arith}
 use Rattle.zframe.specs.Frames.{Chain}
 use Rattle.zframe.specs.Packed.{seen}
 use Rattle.zframe.proofs.Held.{depth_seen}

@@ -1,4 +1,4 @@
-use Rattle.std.proofs.Common.{◌≡◌, ◌-◌, ◌∙◌, get_or, arith}
+use Rattle.std.proofs.Common.{◌≡◌, ◌-◌, get_or, arith}
 use Rattle.std.proofs.lemmas.List.{get_or_read_under}
 use Rattle.zframe.proofs.Held.{head_within, height_word, stack_most}
 use Rattle.zframe.proofs.frames.Frames.height.Goals as goal
