@@ -20,7 +20,7 @@ use Rattle.zcert.specs.Steps.{◌>>=◌, need, sized_at, number_at, serial_at}
 use Rattle.zcert.specs.Format.{nonempty, interval_format}
 use Rattle.zcert.specs.Reading.{magic_at, version_at, heading_at, identity_at, range_at, ranges_at, all_ranges_at, address_fits, values_at, routine_at, routines_at, all_routines_at, instruction_at, instructions_at, all_instructions_at, at_end, reading}
 use Rattle.zcert.specs.Spelling.{spelling, HasSpelling}
-use Rattle.zcert.specs.Longest.{IsDecidedBy, IsLongest}
+use Rattle.zcert.specs.Longest.{IsDecidedBy, NoneIsLonger}
 use Rattle.zcert.proofs.Stepping.{IsBytes-append, by_place}
 use Rattle.zcert.proofs.Formats.{interval_is_format}
 use Rattle.zcert.proofs.Found.{found}
@@ -321,5 +321,5 @@ no_longer c has (inl more) =
     let same : bytes ++ 0 ∷ [] ≡ bytes = (found interval_format interval_is_format (bytes ++ 0 ∷ []) c fits read).0 in
     absurd (omega (arith, ap length same, length-append bytes (0 ∷ [])))
 
-pub longest : IsLongest interval_format LARGEST
+pub longest : NoneIsLonger interval_format LARGEST
 longest c has = no_longer c has (cases_lt LARGEST (length (spelling interval_format c)))
