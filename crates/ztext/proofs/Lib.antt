@@ -6,3 +6,4 @@ pub mod Sameness
 pub mod Printable
 mod KnownEnds
 mod Worked
+mod Table

@@ -7,3 +7,4 @@ pub mod Output
 pub mod Begun
 pub mod Progress
 pub mod Ends
+pub mod States

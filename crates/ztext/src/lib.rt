@@ -9,6 +9,7 @@ mod error;
 mod laws;
 mod length;
 mod pieces;
+mod state;
 
 pub use abbreviations::{TextSpan, plain_abbreviation};
 pub use decode::decode_into;
