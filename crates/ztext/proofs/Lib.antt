@@ -7,3 +7,4 @@ pub mod Printable
 mod KnownEnds
 mod Worked
 mod Table
+mod Steps

@@ -1,6 +1,6 @@
 -- The table has what prints at once.
-use Rattle.std.proofs.Common.{◌≡◌, ℕ, ◌+◌, ◌<◌, ◌≤◌, ◌%◌, nat_eq, nat_lt, ◌==◌, ◌-◌, Bool, true, false, ◌&&◌, Option, Some, None, zero, suc, refl, sym, ap, ◌∙◌, arith, slice_index_or, if◌then◌else◌}
-use Rattle.std.proofs.lemmas.Bool.{cond_both, eqb-true, eqb-false, ltb-true, ltb-false, false≢true}
+use Rattle.std.proofs.Common.{◌≡◌, ℕ, ◌+◌, ◌<◌, ◌≤◌, ◌%◌, nat_eq, nat_lt, ◌==◌, ◌-◌, Bool, true, false, Option, Some, None, refl, ap, arith, slice_index_or, if◌then◌else◌}
+use Rattle.std.proofs.lemmas.Bool.{cond_both, eqb-true, eqb-false, ltb-true, ltb-false, false≢true, agree_below, agree_below_at}
 use Rattle.ztext.specs.declared.state.TheConstants.{AT_ONCE}
 use Rattle.ztext.specs.declared.pieces.Alphabet.{Alphabet}
 use Rattle.ztext.specs.declared.pieces.Alphabet.TheVariants.{Small, Capital, Mark}
@@ -8,26 +8,6 @@ use Rattle.ztext.specs.declared.pieces.Begun.{Begun}
 use Rattle.ztext.specs.declared.pieces.Begun.TheVariants.{Letter, Bank, Escape, EscapeHigh}
 use Rattle.ztext.specs.Alphabets.{small_letters, capital_letters, marks}
 use Rattle.ztext.specs.States.{begun_at, IsPlace, byte_at_once}
-
-both : (a b : Bool) → (a && b) ≡ true → (a ≡ true) × (b ≡ true)
-both true b e = (refl, e)
-both false b e = absurd (false≢true e)
-
--- a test that each number below n passes
-passes : (ℕ → Bool) → ℕ → Bool
-passes test zero = true
-passes test (suc n) = test n && passes test n
-
-passes-at : (test : ℕ → Bool) (n z : ℕ) → passes test n ≡ true → z < n → test z ≡ true
-unfolding passes
-passes-at test zero z all below = absurd (omega arith)
-passes-at test (suc n) z all below =
-    let p = both (test n) (passes test n) all in
-    at (nat_eq z n) refl p.0 (λ less. passes-at test n z p.1 less)
-  where
-    at : (same : Bool) → nat_eq z n ≡ same → test n ≡ true → (z < n → test z ≡ true) → test z ≡ true
-    at true e here rest = rw (eqb-true z n e) here
-    at false e here rest = rest (let differ : z ≡ n → ⊥ = eqb-false z n e in omega arith)
 
 same : Option ℕ → Option ℕ → Bool
 same None None = true
@@ -50,39 +30,39 @@ entry k = let byte = slice_index_or AT_ONCE k 0 in (if byte == 0 then None else 
 agrees : ℕ → Begun → ℕ → Bool
 agrees from begun z = same (entry (from + z)) (byte_at_once begun z)
 
-small_agrees : passes (agrees 0 (Letter Small)) 32 ≡ true
-unfolding passes same agrees small_letters
+small_agrees : agree_below (agrees 0 (Letter Small)) (λ z. true) 32 ≡ true
+unfolding same agrees small_letters
 small_agrees = refl
 
-capital_agrees : passes (agrees 32 (Letter Capital)) 32 ≡ true
-unfolding passes same agrees capital_letters
+capital_agrees : agree_below (agrees 32 (Letter Capital)) (λ z. true) 32 ≡ true
+unfolding same agrees capital_letters
 capital_agrees = refl
 
-mark_agrees : passes (agrees 64 (Letter Mark)) 32 ≡ true
-unfolding passes same agrees marks
+mark_agrees : agree_below (agrees 64 (Letter Mark)) (λ z. true) 32 ≡ true
+unfolding same agrees marks
 mark_agrees = refl
 
-others_agree : passes (agrees 96 Escape) 192 ≡ true
-unfolding passes same agrees
+others_agree : agree_below (agrees 96 Escape) (λ z. true) 192 ≡ true
+unfolding same agrees
 others_agree = refl
 
 at_small : (z : ℕ) → z < 32 → entry (0 + z) ≡ byte_at_once (Letter Small) z
 unfolding agrees
-at_small z below = same-is _ _ (passes-at (agrees 0 (Letter Small)) 32 z small_agrees below)
+at_small z below = same-is _ _ (agree_below_at (agrees 0 (Letter Small)) (λ z. true) 32 z small_agrees below)
 
 at_capital : (z : ℕ) → z < 32 → entry (32 + z) ≡ byte_at_once (Letter Capital) z
 unfolding agrees
-at_capital z below = same-is _ _ (passes-at (agrees 32 (Letter Capital)) 32 z capital_agrees below)
+at_capital z below = same-is _ _ (agree_below_at (agrees 32 (Letter Capital)) (λ z. true) 32 z capital_agrees below)
 
 at_mark : (z : ℕ) → z < 32 → entry (64 + z) ≡ byte_at_once (Letter Mark) z
 unfolding agrees
-at_mark z below = same-is _ _ (passes-at (agrees 64 (Letter Mark)) 32 z mark_agrees below)
+at_mark z below = same-is _ _ (agree_below_at (agrees 64 (Letter Mark)) (λ z. true) 32 z mark_agrees below)
 
 behind : (k : ℕ) → 96 ≤ k → k < 288 → entry k ≡ None
 unfolding agrees
 behind k above below =
     let place : 96 + (k - 96) ≡ k = omega arith in
-    rw place at (same-is _ _ (passes-at (agrees 96 Escape) 192 (k - 96) others_agree (omega arith)))
+    rw place at (same-is _ _ (agree_below_at (agrees 96 Escape) (λ z. true) 192 (k - 96) others_agree (omega arith)))
 
 -- the table says of each place and each Z-character what is printed at once
 pub at_once : (place z : ℕ) → IsPlace place → z < 32 → entry (place + z) ≡ byte_at_once (begun_at place) z

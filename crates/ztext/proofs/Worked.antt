@@ -15,7 +15,7 @@ use Rattle.ztext.specs.Codes.{plain_codes, codes_of, text_of, abbreviations_amon
 use Rattle.ztext.specs.Abbreviations.{readable_word, abbreviation_at, abbreviation_characters, IsPlainAbbreviation}
 use Rattle.ztext.specs.Output.{output_of_code, output_of, output_of_characters, output_at}
 use Rattle.ztext.specs.Begun.{letters_of, characters_begun, IsBegun, pieces_from, IsStep}
-use Rattle.ztext.specs.Progress.{first_error, joined, all_joined, plain_output, abbreviation_output, piece_output, nested_after, HasFront, IsSoFar, LeadsTo, Decodes}
+use Rattle.ztext.specs.Progress.{first_error, joined, all_joined, plain_output, abbreviation_output, piece_output, HasFront, IsStopped, IsWritten, LeadsOn}
 
 -- ---- words
 
@@ -202,28 +202,3 @@ pieces_print = (refl, refl, refl, refl)
 all_print : (all_joined (piece_output memory) (Abbreviation 1 ∷ Code 97 ∷ Abbreviation 2 ∷ []) ≡ Err Outside) × (all_joined plain_output (Code 97 ∷ Code 0 ∷ []) ≡ Ok (97 ∷ [])) × (abbreviation_output (Some (Abbreviation 0 ∷ [])) ≡ Err NestedAbbreviation) × (abbreviation_output None ≡ Err Outside)
 unfolding memory small_letters
 all_print = (refl, refl, refl, refl)
-
-nested : (nested_after (Ok tt) ≡ Err NestedAbbreviation) × (nested_after (Err Outside) ≡ Err Outside) × (nested_after (Err OutOfMemory) ≡ Err NestedAbbreviation)
-nested = (refl, refl, refl)
-
--- a buffer that held 1 and has room for two bytes
-so_far : IsSoFar (1 ∷ []) 2 (1 ∷ 7 ∷ []) (Ok tt) (Ok (7 ∷ [])) × IsSoFar (1 ∷ []) 2 (1 ∷ 7 ∷ []) (Err OutOfMemory) (Ok (7 ∷ 8 ∷ [])) × IsSoFar (1 ∷ []) 2 (1 ∷ 7 ∷ []) (Err Outside) (Err Outside)
-unfolding IsSoFar
-so_far = ((7 ∷ [], refl, refl), (7 ∷ 8 ∷ [], refl, lit< tt, (7 ∷ [], refl)), (refl, (7 ∷ [], refl)))
-
--- no error after a value, no want of memory where there is room, and nothing else before what is added
-not_so_far : (IsSoFar [] 2 [] (Err Outside) (Ok []) → ⊥) × (IsSoFar [] 2 (7 ∷ []) (Err NestedAbbreviation) (Err Outside) → ⊥) × (HasFront (1 ∷ []) (2 ∷ []) → ⊥)
-unfolding IsSoFar
-not_so_far = (λ so. absurd (let e = so.0 in cc), λ so. absurd (let e = so.0 in cc), λ front. absurd (let e = front.1 in cc))
-
-leads : LeadsTo [] 2 (7 ∷ []) (Ok tt) (Ok (8 ∷ [])) (Ok (7 ∷ 8 ∷ []))
-unfolding LeadsTo IsSoFar
-leads = (Ok (7 ∷ []), (7 ∷ [], refl, refl), refl)
-
--- one byte more has been decoded only where it was written or refused
-not_decoded : Decodes 9 [] (Ok tt) [] (Ok tt) (Ok (7 ∷ [])) → ⊥
-unfolding Decodes LeadsTo IsSoFar
-not_decoded decodes =
-    let way = decodes [] 9 (Ok []) (Ok (7 ∷ [])) (omega arith) (Ok [], ([], refl, refl), refl) in
-    let out : way.1.0 ≡ [] = sym way.1.2 in
-    absurd cc

@@ -10,6 +10,7 @@ mod laws;
 mod length;
 mod pieces;
 mod state;
+mod writing;
 
 pub use abbreviations::{TextSpan, plain_abbreviation};
 pub use decode::decode_into;

@@ -89,8 +89,8 @@ impl Alphabet {
 }
 
 impl Begun {
-    // What a Z-character does after what has begun.
-    fn step(self, z: u8) -> Step
+    /// What a Z-character does after what has begun.
+    pub(crate) fn step(self, z: u8) -> Step
         requires begun { IsBegun self }
         requires below { z < 32 }
         ensures step { IsStep result }

@@ -52,6 +52,16 @@ const AT_ONCE: [u8; 288] = *b"\
 \0\0\0\0\0\0\0\0\0\0\0\0\0\0\0\0\0\0\0\0\0\0\0\0\0\0\0\0\0\0\0\0";
 
 impl State {
+    ghost use Rattle.ztext.specs.declared.pieces.Begun.TheVariants.{Letter};
+    ghost use Rattle.ztext.specs.declared.pieces.Alphabet.TheVariants.{Small};
+
+    /// Where nothing has begun, as at the front of a text and behind a piece.
+    pub(crate) fn start() -> State
+        ensures { result ≡ Letter Small }
+    {
+        State { place: SMALL }
+    }
+
     /// Where this has begun.
     pub(crate) fn new(begun: Begun) -> State
         requires { IsBegun begun }
