@@ -69,6 +69,7 @@ never_refused memory at = by_text (text_at memory at) refl
     by_codes true (Some codes) output e f = absurd cc
     by_codes true None output e f = absurd cc
     by_codes false codes output e f = absurd cc
+
     by_text : (text : Option (List ℕ)) → text_at memory at ≡ text → output_at memory at ≡ Err OutOfMemory → ⊥
     by_text None e f = let none = output_at-none memory at e in absurd cc
     by_text (Some text) e f = by_codes _ _ (output_of_characters memory (characters_in text)) refl (let same = output_at-characters memory at text e in sym same ∙ f)

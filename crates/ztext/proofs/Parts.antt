@@ -42,7 +42,6 @@ pub joined-end : (r : Result (List ℕ) TextError) → joined r (Ok []) ≡ r
 joined-end (Ok a) = ap (λ (xs : List ℕ). Ok xs) (append-nil a)
 joined-end (Err e) = refl
 
-
 -- a front of a value is one part of it
 joined-ok : (front rest : Result (List ℕ) TextError) (out : List ℕ) → joined front rest ≡ Ok out → (a : List ℕ) × (b : List ℕ) × (front ≡ Ok a) × (rest ≡ Ok b) × (out ≡ a ++ b)
 joined-ok (Ok a) (Ok b) out e = (a, b, refl, refl, let same : a ++ b ≡ out = cc in sym same)
@@ -53,20 +52,25 @@ joined-ok (Err d) (Err f) out e = absurd cc
 -- what stops in a part stops in the whole
 IsStopped-part : (capacity : ℕ) (old new : List ℕ) (whole part rest : Result (List ℕ) TextError) → whole ≡ joined part rest → IsStopped capacity old new part → IsStopped capacity old new whole
 unfolding IsStopped
-IsStopped-part capacity old new whole part rest e stop = (stop.0, λ out is.
-    let p = joined-ok part rest out (sym e ∙ is) in
-    let small : capacity < length old + length p.0 = stop.1 p.0 p.2 in
-    omega (arith, ap length p.4, length-append p.0 p.1))
+IsStopped-part capacity old new whole part rest e stop = (
+  stop.0,
+  λ out is.
+      let p = joined-ok part rest out (sym e ∙ is) in
+      let small : capacity < length old + length p.0 = stop.1 p.0 p.2 in
+      omega (arith, ap length p.4, length-append p.0 p.1),
+)
 
 -- and what stops behind a part that was written
 IsStopped-behind : (capacity larger : ℕ) (old mid new out : List ℕ) (whole rest : Result (List ℕ) TextError) → whole ≡ joined (Ok out) rest → mid ≡ old ++ out → capacity ≤ larger → IsStopped larger mid new rest → IsStopped capacity old new whole
 unfolding IsStopped
-IsStopped-behind capacity larger old mid new out whole rest e m grows stop =
-    ((out ++ stop.0.0, stop.0.1 ∙ rw m (append_assoc old out stop.0.0)), λ all is.
-    let p = joined-ok (Ok out) rest all (sym e ∙ is) in
-    let small : larger < length mid + length p.1 = stop.1 p.1 p.3 in
-    let front : out ≡ p.0 = cc in
-    omega (arith, ap length p.4, length-append p.0 p.1, ap length m, length-append old out, ap length front))
+IsStopped-behind capacity larger old mid new out whole rest e m grows stop = (
+  (out ++ stop.0.0, stop.0.1 ∙ rw m (append_assoc old out stop.0.0)),
+  λ all is.
+      let p = joined-ok (Ok out) rest all (sym e ∙ is) in
+      let small : larger < length mid + length p.1 = stop.1 p.1 p.3 in
+      let front : out ≡ p.0 = cc in
+      omega (arith, ap length p.4, length-append p.0 p.1, ap length m, length-append old out, ap length front),
+)
 
 -- nothing has to be written
 pub IsWritten-none : (capacity : ℕ) (items : List ℕ) (u : Unit {0}) → IsWritten capacity items items (Some u) (Ok [])
@@ -96,10 +100,11 @@ LeadsOn-stopped capacity old new whole part rest left e stop = IsStopped-part ca
 -- one step after another
 pub LeadsOn-then : (capacity larger : ℕ) (old mid new : List ℕ) (begun : Begun) (answer : Option Begun) (whole : Result (List ℕ) TextError) (left after : Begun → Result (List ℕ) TextError) → capacity ≤ larger → LeadsOn capacity old mid (Some begun) whole left → LeadsOn larger mid new answer (left begun) after → LeadsOn capacity old new answer whole after
 unfolding LeadsOn
-LeadsOn-then capacity larger old mid new begun (Some next) whole left after grows first second =
-    (first.0 ++ second.0,
-    first.1 ∙ ap (λ (r : Result (List ℕ) TextError). joined (Ok first.0) r) second.1 ∙ sym (joined-assoc (Ok first.0) (Ok second.0) (after next)),
-    second.2 ∙ rw first.2 (append_assoc old first.0 second.0))
+LeadsOn-then capacity larger old mid new begun (Some next) whole left after grows first second = (
+  first.0 ++ second.0,
+  first.1 ∙ ap (λ (r : Result (List ℕ) TextError). joined (Ok first.0) r) second.1 ∙ sym (joined-assoc (Ok first.0) (Ok second.0) (after next)),
+  second.2 ∙ rw first.2 (append_assoc old first.0 second.0),
+)
 LeadsOn-then capacity larger old mid new begun None whole left after grows first second =
     IsStopped-behind capacity larger old mid new first.0 whole (left begun) first.1 first.2 grows second
 

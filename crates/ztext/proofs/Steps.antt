@@ -80,9 +80,9 @@ space_printed alphabet byte e = let same : 32 ≡ byte = cc in rw (← same) (32
 letter_or_space : (alphabet : Alphabet) (z byte : ℕ) → byte_at_once (Letter alphabet) z ≡ Some byte → PrintsByte (Letter alphabet) z byte
 letter_or_space alphabet z byte =
     cond_both (nat_eq z 0) _ _ (λ shown. shown ≡ Some byte → PrintsByte (Letter alphabet) z byte)
-        (λ is_0 e. rw (eqb-true z 0 is_0) (space_printed alphabet byte e)) (λ _.
+    (λ is_0 e. rw (eqb-true z 0 is_0) (space_printed alphabet byte e)) (λ _.
     cond_both (nat_lt z 6) _ _ (λ shown. shown ≡ Some byte → PrintsByte (Letter alphabet) z byte) (λ _ e. absurd cc)
-        (λ from e. letter_printed alphabet z byte (ltb-false z 6 from) e))
+    (λ from e. letter_printed alphabet z byte (ltb-false z 6 from) e))
 
 -- what is printed at once completes a code
 pub prints_byte : (begun : Begun) (z byte : ℕ) → byte_at_once begun z ≡ Some byte → PrintsByte begun z byte
