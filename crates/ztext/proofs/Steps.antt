@@ -1,12 +1,11 @@
 -- Writing character by character.
-use Rattle.std.proofs.Common.{◌≡◌, ℕ, ◌+◌, ◌*◌, ◌/◌, ◌%◌, ◌<◌, ◌≤◌, nat_eq, nat_lt, nat_le, ◌==◌, ◌&&◌, List, [], ◌∷◌, ◌++◌, length, get_or, take, drop, ◌-◌, Option, Some, None, Result, Ok, Err, refl, sym, ap, ◌∙◌, arith, if◌then◌else◌}
+use Rattle.std.proofs.Common.{◌≡◌, ℕ, ◌+◌, ◌*◌, ◌/◌, ◌%◌, ◌<◌, ◌≤◌, nat_eq, nat_lt, nat_le, ◌&&◌, List, [], ◌∷◌, ◌++◌, length, get_or, take, drop, ◌-◌, Option, Some, None, Result, Ok, refl, sym, ap, arith}
 use Rattle.std.specs.Prelude.{slice_get}
 use Rattle.std.proofs.lemmas.Bool.{cond_both, ltb-false, le-ltb, lt-ltb, eqb-true, ne_eqb}
 use Rattle.std.proofs.lemmas.List.{append-nil, take_all}
 use Rattle.ztext.specs.declared.error.TextError.{TextError}
-use Rattle.ztext.specs.declared.error.TextError.TheVariants.{NestedAbbreviation}
 use Rattle.ztext.specs.declared.pieces.Piece.{Piece}
-use Rattle.ztext.specs.declared.pieces.Piece.TheVariants.{Code, Abbreviation}
+use Rattle.ztext.specs.declared.pieces.Piece.TheVariants.{Code}
 use Rattle.ztext.specs.declared.pieces.Alphabet.{Alphabet}
 use Rattle.ztext.specs.declared.pieces.Alphabet.TheVariants.{Small, Capital, Mark}
 use Rattle.ztext.specs.declared.pieces.Begun.{Begun}
@@ -18,7 +17,7 @@ use Rattle.ztext.specs.Abbreviations.{abbreviation_at}
 use Rattle.ztext.specs.Output.{output_of_code}
 use Rattle.ztext.specs.Begun.{letters_of, characters_begun, IsBegun}
 use Rattle.ztext.specs.States.{byte_at_once}
-use Rattle.ztext.specs.Progress.{joined, all_joined, piece_printed, characters_printed, printed_from, nested_use, memory_use, IsStopped, IsWritten, LeadsOn}
+use Rattle.ztext.specs.Progress.{all_joined, piece_printed, characters_printed, printed_from, nested_use, memory_use, IsStopped, IsWritten, LeadsOn}
 use Rattle.ztext.proofs.Parts.{LeadsOn-begins, LeadsOn-part, LeadsOn-stopped, LeadsOn-then, IsWritten-stopped}
 
 -- a Z-character that begins something

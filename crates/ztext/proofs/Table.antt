@@ -2,10 +2,9 @@
 use Rattle.std.proofs.Common.{◌≡◌, ℕ, ◌+◌, ◌<◌, ◌≤◌, ◌%◌, nat_eq, nat_lt, ◌==◌, ◌-◌, Bool, true, false, Option, Some, None, refl, ap, arith, slice_index_or, if◌then◌else◌}
 use Rattle.std.proofs.lemmas.Bool.{cond_both, eqb-true, eqb-false, ltb-true, ltb-false, false≢true, agree_below, agree_below_at}
 use Rattle.ztext.specs.declared.state.TheConstants.{AT_ONCE}
-use Rattle.ztext.specs.declared.pieces.Alphabet.{Alphabet}
 use Rattle.ztext.specs.declared.pieces.Alphabet.TheVariants.{Small, Capital, Mark}
 use Rattle.ztext.specs.declared.pieces.Begun.{Begun}
-use Rattle.ztext.specs.declared.pieces.Begun.TheVariants.{Letter, Bank, Escape, EscapeHigh}
+use Rattle.ztext.specs.declared.pieces.Begun.TheVariants.{Letter, Escape}
 use Rattle.ztext.specs.Alphabets.{small_letters, capital_letters, marks}
 use Rattle.ztext.specs.States.{begun_at, IsPlace, byte_at_once}
 

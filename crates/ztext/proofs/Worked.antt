@@ -1,5 +1,5 @@
 -- Values of the definitions, computed.
-use Rattle.std.proofs.Common.{◌≡◌, ℕ, ◌+◌, Bool, false, List, [], ◌∷◌, ◌++◌, ◌%◌, replicate, length, Some, None, Result, Ok, Err, zero, suc, refl, sym, ap, arith, lit<, lit≤, nat_lt, if◌then◌else◌}
+use Rattle.std.proofs.Common.{◌≡◌, ℕ, ◌+◌, Bool, false, List, [], ◌∷◌, ◌++◌, ◌%◌, replicate, length, Some, None, Result, Ok, Err, zero, suc, refl, ap, arith, lit<, lit≤, nat_lt, if◌then◌else◌}
 use Rattle.std.specs.Prelude.{min}
 use Rattle.std.proofs.lemmas.Bool.{le-ltb}
 use Rattle.zstory.specs.Bytes.{word_at}

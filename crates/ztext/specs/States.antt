@@ -1,6 +1,5 @@
 -- What has begun, as a place in the table of what prints at once.
 use Rattle.std.specs.Prelude.{◌≡◌, ℕ, ◌-◌, ◌/◌, ◌%◌, ◌<◌, nat_lt, ◌==◌, if◌then◌else◌, Option, Some, None, slice_get}
-use Rattle.ztext.specs.declared.pieces.Alphabet.{Alphabet}
 use Rattle.ztext.specs.declared.pieces.Alphabet.TheVariants.{Small, Capital, Mark}
 use Rattle.ztext.specs.declared.pieces.Begun.{Begun}
 use Rattle.ztext.specs.declared.pieces.Begun.TheVariants.{Letter, Bank, Escape, EscapeHigh}
