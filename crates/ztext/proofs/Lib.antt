@@ -7,3 +7,5 @@ pub mod Printable
 mod KnownEnds
 mod Plainness
 mod Worked
+mod Table
+mod Steps

@@ -9,3 +9,4 @@ pub mod Progress
 pub mod Ends
 pub mod Open
 pub mod Local
+pub mod States

@@ -1,6 +1,7 @@
 //! The abbreviations of a memory.
 
 ghost use Rattle.std.specs.Prelude.{◌≡◌, ◌+◌, ◌*◌, ◌<◌, ◌≤◌, ◌↔◌, [], length, take, drop, IsSome, IfSome, IsTrue, option_map};
+ghost use Rattle.std.specs.Option.{option_copied};
 ghost use Rattle.zstory.specs.Bytes.{word_at};
 ghost use Rattle.ztext.specs.Pieces.{pieces_of};
 ghost use Rattle.ztext.specs.Codes.{abbreviations_among};
@@ -44,13 +45,13 @@ pub fn plain_abbreviation(memory: &[u8], number: u8) -> Option<TextSpan>
     }
 }
 
-/// The pieces of an abbreviation's text, by its number. `None` where the text or a word that leads to it isn't whole
-/// in memory.
-pub(crate) fn abbreviation(memory: &[u8], number: u8) -> Option<Pieces<'_>>
-    ensures { result ≡ option_map (λ text. pieces_of (characters_in text)) (abbreviation_at memory.now number) }
+/// The bytes of an abbreviation's text, by its number. `None` where the text or a word that leads to it isn't whole in
+/// memory.
+pub(crate) fn abbreviation_text(memory: &[u8], number: u8) -> Option<&[u8]>
+    ensures { option_copied result ≡ abbreviation_at memory.now number }
 {
     let span = abbreviation_span(memory, number)?;
-    Some(span_pieces(memory, span))
+    Some(&memory[span.place..span.place + span.size])
 }
 
 // Where the text of an abbreviation lies, where it and the words that lead to it are whole in memory.

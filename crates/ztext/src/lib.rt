@@ -10,6 +10,8 @@ mod laws;
 mod length;
 mod pieces;
 mod plain;
+mod state;
+mod writing;
 
 pub use abbreviations::{TextSpan, plain_abbreviation};
 pub use decode::decode_into;
