@@ -5,10 +5,11 @@ ghost use Rattle.ztext.specs.Words.{length_at};
 ghost use Rattle.ztext.specs.Output.{output_at};
 ghost use Rattle.ztext.specs.Progress.{first_error, error_of, all_joined, memory_use, piece_output};
 
-use crate::abbreviations::{abbreviation_text, are_plain};
+use crate::abbreviations::abbreviation_text;
 use crate::error::TextError;
 use crate::length::text_bytes;
 use crate::pieces::{Piece, Pieces};
+use crate::plain::is_plain;
 use crate::writing::{InMemory, write_words};
 
 /// Appends what the text at a place of memory prints, and answers its length in bytes, up to and with its end word
@@ -63,7 +64,7 @@ fn error_of_use(memory: &[u8], number: u8) -> TextError
     let Some(bytes) = abbreviation_text(memory, number) else {
         return TextError::Outside;
     };
-    if are_plain(Pieces::new(bytes)) {
+    if is_plain(bytes) {
         TextError::OutOfMemory
     } else {
         TextError::NestedAbbreviation
