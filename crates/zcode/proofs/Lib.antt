@@ -1,4 +1,4 @@
-pub mod Loops
+mod TypeBytes
 pub mod Steps
 pub mod FoundHead
 pub mod FoundParts

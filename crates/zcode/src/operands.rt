@@ -1,6 +1,6 @@
 //! The operands of an instruction, kept in place.
 
-ghost use Rattle.std.specs.Prelude.{◌≡◌, ◌≤◌, length};
+ghost use Rattle.std.specs.Prelude.{◌≡◌, [], ◌∷◌};
 
 use crate::instr::Operand;
 use std::marker::Model;
@@ -34,21 +34,58 @@ impl Model for Operands {
 }
 
 impl Operands {
-    /// The operands of a list of at most four.
-    pub(crate) fn of(operands: &[Operand]) -> Operands
-        requires { length operands.now ≤ 4 }
-        ensures { result ≡ operands.now }
+    /// No operand.
+    #[inline(always)]
+    pub(crate) fn none() -> Operands
+        ensures { result ≡ [] }
     {
-        let places = match operands {
-            [] => [UNUSED; MOST],
-            [a] => [*a, UNUSED, UNUSED, UNUSED],
-            [a, b] => [*a, *b, UNUSED, UNUSED],
-            [a, b, c] => [*a, *b, *c, UNUSED],
-            [a, b, c, d, ..] => [*a, *b, *c, *d],
-        };
         Operands {
-            places,
-            count: operands.len() as u8,
+            places: [UNUSED; MOST],
+            count: 0,
+        }
+    }
+
+    /// One operand.
+    #[inline(always)]
+    pub(crate) fn one(a: Operand) -> Operands
+        ensures { result ≡ a ∷ [] }
+    {
+        Operands {
+            places: [a, UNUSED, UNUSED, UNUSED],
+            count: 1,
+        }
+    }
+
+    /// Two operands.
+    #[inline(always)]
+    pub(crate) fn two(a: Operand, b: Operand) -> Operands
+        ensures { result ≡ a ∷ b ∷ [] }
+    {
+        Operands {
+            places: [a, b, UNUSED, UNUSED],
+            count: 2,
+        }
+    }
+
+    /// Three operands.
+    #[inline(always)]
+    pub(crate) fn three(a: Operand, b: Operand, c: Operand) -> Operands
+        ensures { result ≡ a ∷ b ∷ c ∷ [] }
+    {
+        Operands {
+            places: [a, b, c, UNUSED],
+            count: 3,
+        }
+    }
+
+    /// Four operands.
+    #[inline(always)]
+    pub(crate) fn four(a: Operand, b: Operand, c: Operand, d: Operand) -> Operands
+        ensures { result ≡ a ∷ b ∷ c ∷ d ∷ [] }
+    {
+        Operands {
+            places: [a, b, c, d],
+            count: 4,
         }
     }
 

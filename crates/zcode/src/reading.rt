@@ -1,9 +1,9 @@
 //! Reading an instruction, in one pass. Each function hands on the bytes after what it read.
 
-ghost use Rattle.std.specs.Prelude.{◌≡◌, ℕ, ◌/◌, ◌%◌, ◌<◌, ◌≤◌, ◌+◌, ◌-◌, ◌++◌, ◌↔◌, length, drop, take, IfOk, IsTrue, List, Ok};
+ghost use Rattle.std.specs.Prelude.{◌≡◌, ℕ, ◌/◌, ◌%◌, ◌<◌, ◌≤◌, ◌+◌, ◌-◌, ◌++◌, ◌↔◌, length, drop, take, IfOk, IsTrue, List, Ok, true};
 ghost use Rattle.zcode.specs.Instruction.{Instruction};
 ghost use Rattle.zcode.specs.Playable.{playable};
-ghost use Rattle.zcode.specs.Spelling.{Spells, IsAtFront, type_of};
+ghost use Rattle.zcode.specs.Spelling.{Spells, IsAtFront, type_of, types_of};
 ghost use Rattle.zcode.specs.Reading.{Gives, first_byte, long_head, short_head, variable_head, checked_head, head_at, operand_at, operands_at, store_if, branch_at, branch_if, text_if, instruction_at};
 
 use crate::error::DecodeError;
@@ -11,16 +11,15 @@ use crate::instr::{Branch, Instr, Operand};
 use crate::opcode::Opcode;
 use crate::operands::Operands;
 use crate::table::{OperandCount, played_opcode};
-use crate::types::{OperandType, OperandTypes, long_type, type_of, types_of};
-use arrayvec::ArrayVec;
+use crate::types::{OperandType, long_types, short_types, type_count, type_of};
 use std::marker::Model;
 use ztext::TextEnds;
 
-/// What the bytes before the operands say.
+/// What the bytes before the operands say: the types as a type byte names them.
 #[derive(Drop)]
 struct Head {
     opcode: Opcode,
-    operand_types: OperandTypes,
+    types: u8,
 }
 
 impl Model for Head {
@@ -28,7 +27,9 @@ impl Model for Head {
 
     ghost Value = { HeadValue };
 
-    ghost view = { λ h. record { opcode = h.opcode; operand_types = h.operand_types.items } };
+    ghost use Rattle.zcode.specs.Spelling.{types_of};
+
+    ghost view = { λ h. record { opcode = h.opcode; operand_types = types_of h.types } };
 }
 
 fn first_byte(bytes: &[u8]) -> Result<(u8, &[u8]), DecodeError>
@@ -40,19 +41,18 @@ fn first_byte(bytes: &[u8]) -> Result<(u8, &[u8]), DecodeError>
     }
 }
 
-/// The head of an opcode that takes so many operands.
+/// The head of an opcode with these types, as a type byte names them, if it takes so many operands.
+#[inline(always)]
 #[tactic(auto, unfolding(crate::specs::Reading::checked_head))]
-fn checked_head(opcode: Opcode, operand_types: OperandTypes) -> Result<Head, DecodeError>
-    ensures { result ≡ checked_head opcode operand_types.items }
+fn checked_head(opcode: Opcode, types: u8) -> Result<Head, DecodeError>
+    ensures { result ≡ checked_head opcode (types_of types) }
 {
     let (fewest, most) = opcode.operand_bounds();
-    if operand_types.len() < fewest || most < operand_types.len() {
+    let count = type_count(types);
+    if count < fewest || most < count {
         return Err(DecodeError::Operands);
     }
-    Ok(Head {
-        opcode,
-        operand_types,
-    })
+    Ok(Head { opcode, types })
 }
 
 #[tactic(auto, unfolding(crate::specs::Reading::long_head))]
@@ -60,25 +60,20 @@ fn long_head(first: u8) -> Result<Head, DecodeError>
     ensures { result ≡ long_head playable first }
 {
     let opcode = played_opcode(OperandCount::Two, first & 0x1f)?;
-    let mut operand_types = ArrayVec::new();
-    operand_types.push(long_type((first >> 6) & 1));
-    operand_types.push(long_type((first >> 5) & 1));
-    checked_head(opcode, operand_types)
+    checked_head(opcode, long_types(first))
 }
 
 #[tactic(auto, unfolding(crate::specs::Reading::short_head))]
 fn short_head(first: u8) -> Result<Head, DecodeError>
     ensures { result ≡ short_head playable first (type_of (first / 16 % 4)) }
 {
-    let mut operand_types = ArrayVec::new();
-    let opcode = match type_of((first >> 4) & 3) {
-        Some(operand_type) => {
-            operand_types.push(operand_type);
-            played_opcode(OperandCount::One, first & 0x0f)?
-        }
-        None => played_opcode(OperandCount::Zero, first & 0x0f)?,
+    let bits = (first >> 4) & 3;
+    let count = match type_of(bits) {
+        Some(_) => OperandCount::One,
+        None => OperandCount::Zero,
     };
-    checked_head(opcode, operand_types)
+    let opcode = played_opcode(count, first & 0x0f)?;
+    checked_head(opcode, short_types(bits))
 }
 
 #[tactic(auto, unfolding(crate::specs::Reading::variable_head))]
@@ -87,7 +82,7 @@ fn variable_head(count: OperandCount, first: u8, bytes: &[u8]) -> Result<(Head, 
 {
     let opcode = played_opcode(count, first & 0x1f)?;
     let (types, rest) = first_byte(bytes)?;
-    Ok((checked_head(opcode, types_of(types))?, rest))
+    Ok((checked_head(opcode, types)?, rest))
 }
 
 #[tactic(auto, unfolding(crate::specs::Reading::head_at))]
@@ -124,21 +119,28 @@ fn operand_at(operand_type: OperandType, bytes: &[u8]) -> Result<(Operand, &[u8]
     }
 }
 
-fn operands_at<'a>(
-    operand_types: &[OperandType],
-    bytes: &'a [u8],
-) -> Result<(ArrayVec<Operand, 4>, &'a [u8]), DecodeError>
-    requires { length operand_types.now ≤ 4 }
-    ensures { Gives (λ x. (x.0.items, x.1.now)) result (operands_at operand_types.now bytes.now) }
+/// The operands of these types, as a type byte names them. What is omitted costs nothing.
+#[tactic(auto, unfolding(crate::specs::Reading::operands_at))]
+fn operands_at(types: u8, bytes: &[u8]) -> Result<(Operands, &[u8]), DecodeError>
+    ensures { Gives (λ x. (x.0, x.1.now)) result (operands_at (types_of types) bytes.now) }
 {
-    let mut operands = ArrayVec::new();
-    let mut rest = bytes;
-    for operand_type in operand_types {
-        let (operand, after) = operand_at(*operand_type, rest)?;
-        operands.push(operand);
-        rest = after;
-    }
-    Ok((operands, rest))
+    let Some(first) = type_of(types >> 6) else {
+        return Ok((Operands::none(), bytes));
+    };
+    let (a, rest) = operand_at(first, bytes)?;
+    let Some(second) = type_of((types >> 4) & 3) else {
+        return Ok((Operands::one(a), rest));
+    };
+    let (b, rest) = operand_at(second, rest)?;
+    let Some(third) = type_of((types >> 2) & 3) else {
+        return Ok((Operands::two(a, b), rest));
+    };
+    let (c, rest) = operand_at(third, rest)?;
+    let Some(fourth) = type_of(types & 3) else {
+        return Ok((Operands::three(a, b, c), rest));
+    };
+    let (d, rest) = operand_at(fourth, rest)?;
+    Ok((Operands::four(a, b, c, d), rest))
 }
 
 #[tactic(auto, unfolding(crate::specs::Reading::store_if))]
@@ -185,6 +187,7 @@ fn branch_if(branches: bool, bytes: &[u8]) -> Result<(Option<Branch>, &[u8]), De
 }
 
 /// Where the text ends that begins with these bytes of the memory, the last ones.
+#[inline(always)]
 #[tactic(auto, unfolding(crate::specs::Reading::text_if))]
 fn text_if<'a>(
     prints: bool,
@@ -195,9 +198,20 @@ fn text_if<'a>(
     ensures memory { ends.new ≡ ends.old }
     ensures reads { Gives (λ x. x.now) result (text_if prints bytes.now) }
 {
-    if !prints {
-        return Ok(bytes);
+    if prints {
+        text_at(ends, bytes)
+    } else {
+        Ok(bytes)
     }
+}
+
+#[inline(never)]
+#[tactic(auto, unfolding(crate::specs::Reading::text_if))]
+fn text_at<'a>(ends: &mut TextEnds<'a>, bytes: &'a [u8]) -> Result<&'a [u8], DecodeError>
+    requires { bytes.now ≡ drop (length ends.old - length bytes.now) ends.old }
+    ensures memory { ends.new ≡ ends.old }
+    ensures reads { Gives (λ x. x.now) result (text_if true bytes.now) }
+{
     let place = ends.memory().len().saturating_sub(bytes.len());
     match ends.text_length(place) {
         Some(size) => Ok(&bytes[size..]),
@@ -214,12 +228,14 @@ fn instruction_at<'a>(ends: &mut TextEnds<'a>, bytes: &'a [u8]) -> Result<Instr,
 {
     let (head, rest) = head_at(bytes)?;
     let opcode = head.opcode;
-    let (operands, rest) = operands_at(head.operand_types.as_slice(), rest)?;
+    let (operands, rest) = match operands_at(head.types, rest) {
+        Ok(read) => read,
+        Err(error) => return Err(error),
+    };
     let (store, rest) = store_if(opcode.stores(), rest)?;
     let (branch, rest) = branch_if(opcode.branches(), rest)?;
     let rest = text_if(opcode.prints_text(), ends, rest)?;
     let length = bytes.len().saturating_sub(rest.len());
-    let operands = Operands::of(operands.as_slice());
     Ok(Instr::new(opcode, operands, store, branch, length))
 }
 
