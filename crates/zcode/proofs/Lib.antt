@@ -1,4 +1,5 @@
 mod TypeBytes
+mod Kept
 pub mod Steps
 pub mod FoundHead
 pub mod FoundParts

@@ -1,8 +1,44 @@
--- Four places that hold a list of operands.
-use Rattle.std.specs.Prelude.{List, [], ◌∷◌, ◌++◌, take}
+-- How the operands of an instruction are kept: four words, and the types of those that are used in one byte.
+use Rattle.std.specs.Prelude.{ℕ, ◌+◌, ◌*◌, ◌%◌, ◌<◌, List, [], ◌∷◌, ◌++◌, map, take}
+use Rattle.zcode.specs.declared.types.OperandType.{OperandType}
+use Rattle.zcode.specs.declared.types.OperandType.TheVariants as types
 use Rattle.zcode.specs.declared.instr.Operand.{Operand}
-use Rattle.zcode.specs.declared.instr.Operand.TheVariants.{Constant}
+use Rattle.zcode.specs.declared.instr.Operand.TheVariants.{Constant, Variable}
 
--- the list, and unused places after it
-abbrev pub padded : List Operand → List Operand
-padded operands = take 4 (operands ++ Constant 0 ∷ Constant 0 ∷ Constant 0 ∷ Constant 0 ∷ [])
+-- the operand that a word of a type is (Z 4.2)
+abbrev pub operand_of : OperandType → ℕ → Operand
+operand_of types.Variable word = Variable (word % 256)
+operand_of _ word = Constant word
+
+-- the operands that words of these types are
+abbrev pub typed : List OperandType → List ℕ → List Operand
+typed (t ∷ ts) (word ∷ words) = operand_of t word ∷ typed ts words
+typed _ _ = []
+
+-- the value of a constant, and the number of a variable
+abbrev pub word_of : Operand → ℕ
+word_of (Constant word) = word
+word_of (Variable number) = number
+
+-- the number of a variable is a byte
+abbrev pub IsByte : Operand → Type 0
+IsByte (Constant word) = Unit {0}
+IsByte (Variable number) = number < 256
+
+-- the two bits that name how an operand is kept: a constant of either size as one of two bytes (own)
+abbrev pub bits_of : Operand → ℕ
+bits_of (Constant word) = 0
+bits_of (Variable number) = 2
+
+-- four pairs of bits in a byte, the first at its top (Z 4.4.3)
+abbrev pub packed : List ℕ → ℕ
+packed (a ∷ b ∷ c ∷ d ∷ _) = 64 * a + 16 * b + 4 * c + d
+packed _ = 0
+
+-- the words of operands, and unused places after them
+abbrev pub padded : List Operand → List ℕ
+padded operands = take 4 (map word_of operands ++ 0 ∷ 0 ∷ 0 ∷ 0 ∷ [])
+
+-- the type byte of operands, which names the places after them as omitted
+abbrev pub type_byte : List Operand → ℕ
+type_byte operands = packed (map bits_of operands ++ 3 ∷ 3 ∷ 3 ∷ 3 ∷ [])

@@ -1,7 +1,8 @@
 //! Instructions as they are read.
 
 use crate::opcode::Opcode;
-use crate::operands::Operands;
+use crate::operands::{MOST, Operands};
+use arrayvec::ArrayVec;
 use std::marker::Model;
 
 /// An operand (Z 4.2).
@@ -123,11 +124,11 @@ impl Instr {
     }
 
     /// The operands in order, as many as the opcode takes: at most four.
-    pub fn operands(&self) -> &[Operand]
-        ensures value { result.now ≡ self.now.operands }
-        ensures number { TakesOperands self.now.opcode (length result.now) }
+    pub fn operands(&self) -> ArrayVec<Operand, MOST>
+        ensures value { result.items ≡ self.now.operands }
+        ensures number { TakesOperands self.now.opcode (length result.items) }
     {
-        self.operands.as_slice()
+        self.operands.list()
     }
 
     /// The variable that takes the result, where the opcode stores one: 0 pushes it on the stack.
