@@ -1,6 +1,6 @@
 //! Reading an instruction, in one pass. Each function hands on the bytes after what it read.
 
-ghost use Rattle.std.specs.Prelude.{◌≡◌, ℕ, ◌/◌, ◌%◌, ◌<◌, ◌≤◌, ◌+◌, ◌-◌, ◌++◌, ◌↔◌, length, drop, take, IfOk, IsTrue, List, Ok, true};
+ghost use Rattle.std.specs.Prelude.{◌≡◌, ℕ, ◌/◌, ◌%◌, ◌<◌, ◌≤◌, ◌+◌, ◌-◌, ◌++◌, ◌↔◌, length, drop, take, IfOk, IsTrue, List, Ok};
 ghost use Rattle.zcode.specs.Instruction.{Instruction};
 ghost use Rattle.zcode.specs.Playable.{playable};
 ghost use Rattle.zcode.specs.Spelling.{Spells, IsAtFront, type_of, types_of};
@@ -98,24 +98,19 @@ fn head_at(bytes: &[u8]) -> Result<(Head, &[u8]), DecodeError>
     }
 }
 
+#[inline(always)]
 #[tactic(auto, unfolding(crate::specs::Reading::operand_at))]
 fn operand_at(operand_type: OperandType, bytes: &[u8]) -> Result<(Operand, &[u8]), DecodeError>
     ensures { Gives (λ x. (x.0, x.1.now)) result (operand_at operand_type bytes.now) }
 {
+    let (first, rest) = first_byte(bytes)?;
     match operand_type {
         OperandType::Large => {
-            let (high, rest) = first_byte(bytes)?;
             let (low, rest) = first_byte(rest)?;
-            Ok((Operand::Constant(u16::from_be_bytes([high, low])), rest))
+            Ok((Operand::Constant(u16::from_be_bytes([first, low])), rest))
         }
-        OperandType::Small => {
-            let (byte, rest) = first_byte(bytes)?;
-            Ok((Operand::Constant(u16::from(byte)), rest))
-        }
-        OperandType::Variable => {
-            let (byte, rest) = first_byte(bytes)?;
-            Ok((Operand::Variable(byte), rest))
-        }
+        OperandType::Small => Ok((Operand::Constant(u16::from(first)), rest)),
+        OperandType::Variable => Ok((Operand::Variable(first), rest)),
     }
 }
 
@@ -198,20 +193,9 @@ fn text_if<'a>(
     ensures memory { ends.new ≡ ends.old }
     ensures reads { Gives (λ x. x.now) result (text_if prints bytes.now) }
 {
-    if prints {
-        text_at(ends, bytes)
-    } else {
-        Ok(bytes)
+    if !prints {
+        return Ok(bytes);
     }
-}
-
-#[inline(never)]
-#[tactic(auto, unfolding(crate::specs::Reading::text_if))]
-fn text_at<'a>(ends: &mut TextEnds<'a>, bytes: &'a [u8]) -> Result<&'a [u8], DecodeError>
-    requires { bytes.now ≡ drop (length ends.old - length bytes.now) ends.old }
-    ensures memory { ends.new ≡ ends.old }
-    ensures reads { Gives (λ x. x.now) result (text_if true bytes.now) }
-{
     let place = ends.memory().len().saturating_sub(bytes.len());
     match ends.text_length(place) {
         Some(size) => Ok(&bytes[size..]),
@@ -220,6 +204,7 @@ fn text_at<'a>(ends: &mut TextEnds<'a>, bytes: &'a [u8]) -> Result<&'a [u8], Dec
 }
 
 /// The instruction at the front of the last bytes of the memory.
+#[inline(always)]
 #[tactic(auto, unfolding(crate::specs::Reading::instruction_by))]
 fn instruction_at<'a>(ends: &mut TextEnds<'a>, bytes: &'a [u8]) -> Result<Instr, DecodeError>
     requires { bytes.now ≡ drop (length ends.old - length bytes.now) ends.old }
@@ -267,8 +252,9 @@ pub fn decode_by(ends: &mut TextEnds<'_>, at: usize) -> Result<Instr, DecodeErro
     ensures exact { result ≡ instruction_at (drop at ends.old) }
     ensures within { IfOk result (λ i. at + i.size ≤ length ends.old) }
 {
-    match ends.memory().get(at..) {
-        Some(bytes) => instruction_at(ends, bytes),
-        None => Err(DecodeError::Truncated),
+    let memory = ends.memory();
+    if memory.len() <= at {
+        return Err(DecodeError::Truncated);
     }
+    instruction_at(ends, &memory[at..])
 }
