@@ -1,9 +1,15 @@
--- How the operands of an instruction are kept: four words, and the types of those that are used in one byte.
-use Rattle.std.specs.Prelude.{ℕ, ◌+◌, ◌*◌, ◌%◌, ◌<◌, List, [], ◌∷◌, ◌++◌, map, take}
+-- How an instruction is kept: its operands as four words, with the types of those that are used in one byte, and zeros for
+-- what its opcode has none of.
+use Rattle.std.specs.Prelude.{◌≡◌, ℤ, pos, Bool, true, false, Option, Some, None, ℕ, ◌+◌, ◌*◌, ◌%◌, ◌<◌, List, [], ◌∷◌, ◌++◌, map, take}
 use Rattle.zcode.specs.declared.types.OperandType.{OperandType}
 use Rattle.zcode.specs.declared.types.OperandType.TheVariants as types
+use Rattle.zcode.specs.declared.opcode.Opcode.{Opcode}
+use Rattle.zcode.specs.declared.instr.Branch.{Branch}
+use Rattle.zcode.specs.declared.instr.Tail.{Tail}
 use Rattle.zcode.specs.declared.instr.Operand.{Operand}
 use Rattle.zcode.specs.declared.instr.Operand.TheVariants.{Constant, Variable}
+use Rattle.zcode.specs.Opcodes.{branches, stores}
+use Rattle.zcode.specs.Instruction.{Instruction}
 
 -- the operand that a word of a type is (Z 4.2)
 abbrev pub operand_of : OperandType → ℕ → Operand
@@ -42,3 +48,22 @@ padded operands = take 4 (map word_of operands ++ 0 ∷ 0 ∷ 0 ∷ 0 ∷ [])
 -- the type byte of operands, which names the places after them as omitted
 abbrev pub type_byte : List Operand → ℕ
 type_byte operands = packed (map bits_of operands ++ 3 ∷ 3 ∷ 3 ∷ 3 ∷ [])
+
+-- a value where there is one
+abbrev pub given_if : {A : Type 0} → Bool → A → Option A
+given_if true x = Some x
+given_if false x = None
+
+-- the instruction of these parts, of which the opcode tells whether there are a store variable and branch data
+abbrev pub written : Opcode → List Operand → Tail → ℕ → Instruction
+written opcode operands tail size = record { opcode = opcode; operands = operands; store = given_if (stores opcode) tail.store; branch = given_if (branches opcode) (record { sense = tail.sense; offset = tail.offset }); size = size }
+
+-- what follows the operands, with zeros for what there is none of
+abbrev pub tail_of : Option ℕ → Option Branch → Tail
+tail_of None None = record { store = 0; sense = false; offset = pos 0 }
+tail_of (Some number) None = record { store = number; sense = false; offset = pos 0 }
+tail_of None (Some branch) = record { store = 0; sense = branch.sense; offset = branch.offset }
+tail_of (Some number) (Some branch) = record { store = number; sense = branch.sense; offset = branch.offset }
+
+abbrev pub kept : Instruction → Tail
+kept instruction = tail_of instruction.store instruction.branch

@@ -32,6 +32,7 @@ impl Model for Head {
     ghost view = { λ h. record { opcode = h.opcode; operand_types = types_of h.types } };
 }
 
+#[inline(always)]
 fn first_byte(bytes: &[u8]) -> Result<(u8, &[u8]), DecodeError>
     ensures { Gives (λ x. (x.0, x.1.now)) result (first_byte bytes.now) }
 {
@@ -55,6 +56,7 @@ fn checked_head(opcode: Opcode, types: u8) -> Result<Head, DecodeError>
     Ok(Head { opcode, types })
 }
 
+#[inline(always)]
 #[tactic(auto, unfolding(crate::specs::Reading::long_head))]
 fn long_head(first: u8) -> Result<Head, DecodeError>
     ensures { result ≡ long_head playable first }
@@ -63,19 +65,20 @@ fn long_head(first: u8) -> Result<Head, DecodeError>
     checked_head(opcode, long_types(first))
 }
 
+#[inline(always)]
 #[tactic(auto, unfolding(crate::specs::Reading::short_head))]
 fn short_head(first: u8) -> Result<Head, DecodeError>
     ensures { result ≡ short_head playable first (type_of (first / 16 % 4)) }
 {
     let bits = (first >> 4) & 3;
-    let count = match type_of(bits) {
-        Some(_) => OperandCount::One,
-        None => OperandCount::Zero,
+    let opcode = match type_of(bits) {
+        Some(_) => played_opcode(OperandCount::One, first & 0x0f)?,
+        None => played_opcode(OperandCount::Zero, first & 0x0f)?,
     };
-    let opcode = played_opcode(count, first & 0x0f)?;
     checked_head(opcode, short_types(bits))
 }
 
+#[inline(always)]
 #[tactic(auto, unfolding(crate::specs::Reading::variable_head))]
 fn variable_head(count: OperandCount, first: u8, bytes: &[u8]) -> Result<(Head, &[u8]), DecodeError>
     ensures { Gives (λ x. (x.0, x.1.now)) result (variable_head playable count first bytes.now) }
@@ -85,6 +88,7 @@ fn variable_head(count: OperandCount, first: u8, bytes: &[u8]) -> Result<(Head, 
     Ok((checked_head(opcode, types)?, rest))
 }
 
+#[inline(always)]
 #[tactic(auto, unfolding(crate::specs::Reading::head_at))]
 fn head_at(bytes: &[u8]) -> Result<(Head, &[u8]), DecodeError>
     ensures { Gives (λ x. (x.0, x.1.now)) result (head_at playable bytes.now) }
@@ -115,6 +119,7 @@ fn operand_at(operand_type: OperandType, bytes: &[u8]) -> Result<(Operand, &[u8]
 }
 
 /// The operands of these types, as a type byte names them. What is omitted costs nothing.
+#[inline(always)]
 #[tactic(auto, unfolding(crate::specs::Reading::operands_at))]
 fn operands_at(types: u8, bytes: &[u8]) -> Result<(Operands, &[u8]), DecodeError>
     ensures { Gives (λ x. (x.0, x.1.now)) result (operands_at (types_of types) bytes.now) }
@@ -138,6 +143,7 @@ fn operands_at(types: u8, bytes: &[u8]) -> Result<(Operands, &[u8]), DecodeError
     Ok((Operands::four(a, b, c, d), rest))
 }
 
+#[inline(always)]
 #[tactic(auto, unfolding(crate::specs::Reading::store_if))]
 fn store_if(stores: bool, bytes: &[u8]) -> Result<(Option<u8>, &[u8]), DecodeError>
     ensures { Gives (λ x. (x.0, x.1.now)) result (store_if stores bytes.now) }
@@ -149,6 +155,7 @@ fn store_if(stores: bool, bytes: &[u8]) -> Result<(Option<u8>, &[u8]), DecodeErr
     Ok((Some(byte), rest))
 }
 
+#[inline(always)]
 #[tactic(auto, unfolding(crate::specs::Reading::branch_at))]
 fn branch_at(bytes: &[u8]) -> Result<(Branch, &[u8]), DecodeError>
     ensures { Gives (λ x. (x.0, x.1.now)) result (branch_at bytes.now) }
@@ -170,6 +177,7 @@ fn branch_at(bytes: &[u8]) -> Result<(Branch, &[u8]), DecodeError>
     Ok((Branch { sense, offset }, rest))
 }
 
+#[inline(always)]
 #[tactic(auto, unfolding(crate::specs::Reading::branch_if))]
 fn branch_if(branches: bool, bytes: &[u8]) -> Result<(Option<Branch>, &[u8]), DecodeError>
     ensures { Gives (λ x. (x.0, x.1.now)) result (branch_if branches bytes.now) }
