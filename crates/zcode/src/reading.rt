@@ -42,14 +42,14 @@ fn first_byte(bytes: &[u8]) -> Result<(u8, &[u8]), DecodeError>
     }
 }
 
-/// The head of an opcode with these types, as a type byte names them, if it takes so many operands.
+/// The head of an opcode with so many types, as a type byte names them, if it takes so many operands.
 #[inline(always)]
 #[tactic(auto, unfolding(crate::specs::Reading::checked_head))]
-fn checked_head(opcode: Opcode, types: u8) -> Result<Head, DecodeError>
+fn checked_head(opcode: Opcode, types: u8, count: usize) -> Result<Head, DecodeError>
+    requires { count ≡ length (types_of types) }
     ensures { result ≡ checked_head opcode (types_of types) }
 {
     let (fewest, most) = opcode.operand_bounds();
-    let count = type_count(types);
     if count < fewest || most < count {
         return Err(DecodeError::Operands);
     }
@@ -62,7 +62,7 @@ fn long_head(first: u8) -> Result<Head, DecodeError>
     ensures { result ≡ long_head playable first }
 {
     let opcode = played_opcode(OperandCount::Two, first & 0x1f)?;
-    checked_head(opcode, long_types(first))
+    checked_head(opcode, long_types(first), 2)
 }
 
 #[inline(always)]
@@ -71,11 +71,17 @@ fn short_head(first: u8) -> Result<Head, DecodeError>
     ensures { result ≡ short_head playable first (type_of (first / 16 % 4)) }
 {
     let bits = (first >> 4) & 3;
-    let opcode = match type_of(bits) {
-        Some(_) => played_opcode(OperandCount::One, first & 0x0f)?,
-        None => played_opcode(OperandCount::Zero, first & 0x0f)?,
-    };
-    checked_head(opcode, short_types(bits))
+    let types = short_types(bits);
+    match type_of(bits) {
+        Some(_) => {
+            let opcode = played_opcode(OperandCount::One, first & 0x0f)?;
+            checked_head(opcode, types, 1)
+        }
+        None => {
+            let opcode = played_opcode(OperandCount::Zero, first & 0x0f)?;
+            checked_head(opcode, types, 0)
+        }
+    }
 }
 
 #[inline(always)]
@@ -85,7 +91,7 @@ fn variable_head(count: OperandCount, first: u8, bytes: &[u8]) -> Result<(Head, 
 {
     let opcode = played_opcode(count, first & 0x1f)?;
     let (types, rest) = first_byte(bytes)?;
-    Ok((checked_head(opcode, types)?, rest))
+    Ok((checked_head(opcode, types, type_count(types))?, rest))
 }
 
 #[inline(always)]
