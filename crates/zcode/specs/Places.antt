@@ -11,7 +11,7 @@ use Rattle.zcode.specs.declared.instr.Operand.TheVariants.{Constant, Variable}
 use Rattle.zcode.specs.Opcodes.{branches, stores}
 use Rattle.zcode.specs.Instruction.{Instruction}
 
--- the operand that a word of a type is (Z 4.2)
+-- the operand that a word of a type is, where the number of a variable is the low byte (Z 4.2)
 abbrev pub operand_of : OperandType → ℕ → Operand
 operand_of types.Variable word = Variable (word % 256)
 operand_of _ word = Constant word

@@ -1,14 +1,14 @@
-//! How operands are written: their types, as the head of an instruction names them.
+//! How operands are written: their types, as the head of an instruction names them. Each form's types are turned into the
+//! type byte that the variable form has.
 
 ghost use Rattle.std.specs.Prelude.{◌≡◌, ◌/◌, ◌%◌, ◌<◌, [], ◌∷◌, length};
 ghost use Rattle.std.specs.Option.{option_to_list};
 ghost use Rattle.zcode.specs.Spelling.{long_type, type_of, types_of};
 
 /// How an operand is written (Z 4.2).
-#[derive(Clone, Copy, Debug, Default, PartialEq, Eq)]
+#[derive(Clone, Copy)]
 pub enum OperandType {
     /// A constant of two bytes.
-    #[default]
     Large,
     /// A constant of one byte.
     Small,
@@ -25,16 +25,6 @@ pub(crate) fn type_of(bits: u8) -> Option<OperandType>
         1 => Some(OperandType::Small),
         2 => Some(OperandType::Variable),
         _ => None,
-    }
-}
-
-/// The type that one bit of the long form names.
-pub(crate) fn long_type(bit: u8) -> OperandType
-    ensures { result ≡ long_type bit }
-{
-    match bit {
-        0 => OperandType::Small,
-        _ => OperandType::Variable,
     }
 }
 
