@@ -125,7 +125,7 @@ fn examples_are_read(rt: HostRuntime) {
                 assert!(rt; example.opcode.is_playable());
                 assert_eq!(rt; instr.opcode(), example.opcode);
                 assert_eq!(rt; instr.name(), example.opcode.name());
-                assert_eq!(rt; instr.operands(), example.operands);
+                assert_eq!(rt; instr.operands().as_slice(), example.operands);
                 assert_eq!(rt; instr.store(), example.store);
                 assert_eq!(rt; instr.branch(), example.branch);
                 assert_eq!(rt; instr.length(), example.bytes.len());
