@@ -1,6 +1,6 @@
 -- How an instruction is kept: its operands as four words, with the types of those that are used in one byte, and zeros for
 -- what its opcode has none of.
-use Rattle.std.specs.Prelude.{◌≡◌, ℤ, pos, Bool, true, false, Option, Some, None, ℕ, ◌+◌, ◌*◌, ◌%◌, ◌<◌, List, [], ◌∷◌, ◌++◌, map, take}
+use Rattle.std.specs.Prelude.{pos, Bool, true, false, Option, Some, None, ℕ, ◌+◌, ◌*◌, ◌%◌, ◌<◌, List, [], ◌∷◌, ◌++◌, map, take}
 use Rattle.zcode.specs.declared.types.OperandType.{OperandType}
 use Rattle.zcode.specs.declared.types.OperandType.TheVariants as types
 use Rattle.zcode.specs.declared.opcode.Opcode.{Opcode}

@@ -1,4 +1,4 @@
-use Rattle.std.proofs.Common.{◌≡◌, ◌/◌, ◌%◌, ◌*◌, bit_and, arith}
+use Rattle.std.proofs.Common.{◌≡◌, ◌/◌, ◌%◌, bit_and, arith}
 use Rattle.std.proofs.lemmas.Nat.{and_mask}
 use Rattle.zcode.proofs.TypeBytes.{long_byte}
 use Rattle.zcode.proofs.types.long_types.Goals as goal
