@@ -1,4 +1,5 @@
-pub mod Loops
+mod TypeBytes
+mod Kept
 pub mod Steps
 pub mod FoundHead
 pub mod FoundParts
