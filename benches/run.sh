@@ -48,3 +48,4 @@ printf '%-10s %9s %12s %9s %12s %10s %12s\n' kind few host many host 'host/each'
 measure nop 10000 110000 0
 measure new_line 10000 110000 1
 measure print 2000 22000 5
+measure sentence 400 1400 114

@@ -3,17 +3,42 @@
 
     straight.py KIND COUNT STORY CERTIFICATE
 
-KIND is nop, new_line or print; COUNT says how many of them come before the quit. The story has no objects, 96 abbreviations
+KIND is nop, new_line, print (of hello) or sentence (a print of 114 bytes); COUNT says how many of them come before the quit. The story has no objects, 96 abbreviations
 with nothing in them and a dictionary with no entry. Its certificate lists each instruction, and says that each global is 0.
 """
 import struct
 import sys
 
+SENTENCE = (
+    "The path leads north through tall grass, past an old stone well, and ends at a small gate. A bird sings somewhere."
+)
+MARKS = "0123456789.,!?_#'\"/\\-:()"
+
+
+def encoded(text):
+    """The words of a text of letters, spaces and marks, padded with Z-character 5."""
+    characters = []
+    for letter in text:
+        if letter == " ":
+            characters.append(0)
+        elif letter.islower():
+            characters.append(ord(letter) - ord("a") + 6)
+        elif letter.isupper():
+            characters += [4, ord(letter) - ord("A") + 6]
+        else:
+            characters += [5, MARKS.index(letter) + 8]
+    characters += [5] * (-len(characters) % 3)
+    words = [a << 10 | b << 5 | c for a, b, c in zip(*[iter(characters)] * 3)]
+    words[-1] |= 0x8000
+    return struct.pack(f">{len(words)}H", *words)
+
+
 # The bytes of one instruction.
 KINDS = {
     "nop": b"\xb4",
     "new_line": b"\xbb",
-    "print": b"\xb2\x35\x51\xc6\x85",  # hello
+    "print": b"\xb2" + encoded("hello"),
+    "sentence": b"\xb2" + encoded(SENTENCE),
 }
 QUIT = b"\xba"
 
@@ -27,10 +52,10 @@ RELEASE = 1
 SERIAL = b"260101"
 
 
-def body():
-    """What stands between the header and the code."""
+def body(texts):
+    """What stands between the header and the code, where the abbreviations are at these words."""
     dynamic = bytes(STATIC - 64)  # 240 globals, and 31 property defaults
-    abbreviations = struct.pack(">H", EMPTY_TEXT // 2) * 96
+    abbreviations = struct.pack(">96H", *(texts or [EMPTY_TEXT // 2] * 96))
     return dynamic + abbreviations + b"\x94\xa5" + bytes([0, 4, 0, 0])
 
 
@@ -43,9 +68,9 @@ def header(length, checksum):
     return words.ljust(64, b"\0")
 
 
-def story(code):
-    """The whole story with this code, and its checksum."""
-    rest = body() + code
+def story(code, texts=None):
+    """The whole story with this code, and its checksum. The abbreviations are at these words, or have nothing in them."""
+    rest = body(texts) + code
     if len(rest) % 2 == 1:
         rest += b"\0"
     length = 64 + len(rest)
@@ -80,4 +105,5 @@ def main():
         file.write(certificate(len(whole), checksum, addresses))
 
 
-main()
+if __name__ == "__main__":
+    main()

@@ -14,6 +14,7 @@ const ROOM: usize = 256;
 pub struct Page {
     bytes: ArrayVec<u8, ROOM>,
     failures: u64,
+    waits: bool,
 }
 
 impl Page {
@@ -22,6 +23,7 @@ impl Page {
         Page {
             bytes: ArrayVec::new(),
             failures: 0,
+            waits: false,
         }
     }
 
@@ -47,8 +49,11 @@ impl Sink for Page {
 
     ghost failures = { λ page. page.failures };
 
+    ghost waits = { λ page. page.waits };
+
     fn write(&mut self, piece: &[u8]) -> Result<usize, Failed> {
         if self.bytes.try_extend_from_slice(piece).is_ok() {
+            self.waits = self.waits || !piece.is_empty();
             return Ok(piece.len());
         }
         self.failures = self.failures.saturating_add(1);
@@ -56,6 +61,7 @@ impl Sink for Page {
     }
 
     fn flush(&mut self) -> Result<(), Failed> {
+        self.waits = false;
         Ok(())
     }
 }

@@ -1,6 +1,6 @@
 -- How many bytes decide what is read: each step takes no more than so many, and finds the same where more follow.
 use Rattle.std.proofs.Common.{◌≡◌, ℕ, zero, suc, ◌+◌, ◌*◌, ◌<◌, ◌≤◌, Bool, true, false, ltb, List, [], ◌∷◌, ◌++◌, length, take, drop, Result, Ok, Err, refl, sym, ap, subst, ◌∙◌, arith, length-append, get_or, inl, inr, ◌⊎◌}
-use Rattle.std.specs.Prelude.{nat_le, ◌==◌, Option, Some, None, slice_get, ⊤}
+use Rattle.std.specs.Prelude.{nat_le, ◌==◌, slice_get, ⊤}
 use Rattle.std.specs.Int.{w16, cast_signed}
 use Rattle.std.specs.List.{AllByRecursion}
 use Rattle.std.proofs.lemmas.Bool.{leb-true, le-ltb, cases_lt}
@@ -11,18 +11,16 @@ use Rattle.zdomain.specs.declared.interval.Interval.{Interval}
 use Rattle.zdomain.specs.Interval.{interval_of}
 use Rattle.zcert.specs.declared.error.CertError.{CertError}
 use Rattle.zcert.specs.declared.error.CertError.TheVariants as errors
-use Rattle.zcert.specs.declared.parts.Range.{Range}
 use Rattle.zcert.specs.declared.parts.Routine.{Routine}
 use Rattle.zcert.specs.declared.limits.TheConstants.{GLOBALS, MAGIC, MAX_LOCALS, MAX_INSTRUCTIONS, MAX_RANGES, MAX_ROUTINES, MAX_HEIGHT, LARGEST}
-use Rattle.zstory.specs.declared.identity.Identity.{Identity}
 use Rattle.zcert.specs.Numbers.{Number, width}
 use Rattle.zcert.specs.Numbers as numbers
-use Rattle.zcert.specs.Certificate.{Instruction, Certificate, locals_there, locals_of}
+use Rattle.zcert.specs.Certificate.{Certificate, locals_there, locals_of}
 use Rattle.zcert.specs.Steps.{◌>>=◌, need, sized_at, number_at, serial_at}
 use Rattle.zcert.specs.Format.{nonempty, interval_format}
 use Rattle.zcert.specs.Reading.{magic_at, version_at, heading_at, identity_at, range_at, ranges_at, all_ranges_at, address_fits, values_at, routine_at, routines_at, all_routines_at, instruction_at, instructions_at, all_instructions_at, at_end, reading}
 use Rattle.zcert.specs.Spelling.{spelling, HasSpelling}
-use Rattle.zcert.specs.Longest.{IsDecidedBy, IsLongest}
+use Rattle.zcert.specs.Longest.{IsDecidedBy, NoneIsLonger}
 use Rattle.zcert.proofs.Stepping.{IsBytes-append, by_place}
 use Rattle.zcert.proofs.Formats.{interval_is_format}
 use Rattle.zcert.proofs.Found.{found}
@@ -323,5 +321,5 @@ no_longer c has (inl more) =
     let same : bytes ++ 0 ∷ [] ≡ bytes = (found interval_format interval_is_format (bytes ++ 0 ∷ []) c fits read).0 in
     absurd (omega (arith, ap length same, length-append bytes (0 ∷ [])))
 
-pub longest : IsLongest interval_format LARGEST
+pub longest : NoneIsLonger interval_format LARGEST
 longest c has = no_longer c has (cases_lt LARGEST (length (spelling interval_format c)))

@@ -1,16 +1,13 @@
 -- What a builder refuses is refused of the bytes.
-use Rattle.std.proofs.Common.{◌≡◌, ◌≢◌, ℕ, List, [], ◌∷◌, ◌++◌, Ok, Err, inl, inr, ◌⊎◌, refl, sym, ap, ◌∙◌, append_assoc}
+use Rattle.std.proofs.Common.{◌≡◌, ◌≢◌, List, [], ◌∷◌, ◌++◌, Err, inl, inr, refl, sym, ap, ◌∙◌}
 use Rattle.std.specs.List.{flat_map, AllByRecursion}
 use Rattle.std.proofs.lemmas.List.{append-nil}
-use Rattle.zcert.specs.declared.error.CertError.{CertError}
 use Rattle.zcert.specs.declared.error.CertError.TheVariants as errors
 use Rattle.zcert.specs.declared.field.Field.{Field}
 use Rattle.zcert.specs.declared.field.Turn.{Turn}
 use Rattle.zcert.specs.declared.field.Turn.TheVariants as turns
 use Rattle.zcert.specs.Format.{Format, interval_format}
-use Rattle.zcert.specs.Spelling.{heading}
-use Rattle.zcert.specs.Reading.{reading}
-use Rattle.zcert.specs.Building.{Progress, opening, InTurn, taken, all_taken}
+use Rattle.zcert.specs.Building.{opening}
 use Rattle.zcert.specs.Fields.{field_bytes, IsField, field_at}
 use Rattle.zcert.specs.Refusal.{RefuseInTurn, RefuseAtEnd, RefuseOutOfTurn}
 use Rattle.zcert.proofs.Formats.{IsFormat}

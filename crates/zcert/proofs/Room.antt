@@ -16,7 +16,6 @@ use Rattle.zcert.specs.declared.field.Turn.TheVariants as turns
 use Rattle.zcert.specs.declared.limits.TheConstants.{MAGIC}
 use Rattle.zcert.specs.Numbers.{Number}
 use Rattle.zcert.specs.Numbers as numbers
-use Rattle.zcert.specs.Certificate.{Certificate}
 use Rattle.zcert.specs.Steps.{◌>>=◌, need, sized_at, number_at, serial_at}
 use Rattle.zcert.specs.Format.{Format, nonempty, interval_format}
 use Rattle.zcert.specs.Spelling.{heading}

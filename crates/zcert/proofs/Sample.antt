@@ -71,6 +71,19 @@ has = record {
     each_alike zero v has = tt
     each_alike (suc n) v has = (has, each_alike n v has)
 
+-- a part more than may be counted, or a global too few
+none_has :
+    ((c : Certificate Interval) → length c.instructions ≡ 131073 → HasSpelling interval_format c → ⊥)
+    × ((c : Certificate Interval) → length c.ranges ≡ 1 → HasSpelling interval_format c → ⊥)
+    × ((c : Certificate Interval) → length c.routines ≡ 1 → HasSpelling interval_format c → ⊥)
+    × ((c : Certificate Interval) → length c.globals ≡ 239 → HasSpelling interval_format c → ⊥)
+none_has = (
+  λ c e h. omega (arith, e, h.few_instructions),
+  λ c e h. omega (arith, e, h.few_ranges),
+  λ c e h. omega (arith, e, h.few_routines),
+  λ c e h. omega (arith, e, h.globals),
+)
+
 one_more : reading interval_format (sample ++ 0 ∷ []) ≡ Err errors.Trailing
 unfolding sample front back reading heading_at magic_at version_at identity_at range_at ranges_at all_ranges_at values_at routine_at routines_at all_routines_at instruction_at instructions_at all_instructions_at at_end
 one_more = refl

@@ -24,7 +24,7 @@ use Rattle.zcert.specs.Fields.{field_bytes, IsField, field_at, next_at, IsReache
 use Rattle.zcert.specs.Contents.{values_of, stored_instruction, LiesIn}
 use Rattle.zcert.specs.Listed.{listed_at, Finds}
 use Rattle.zcert.specs.Refusal.{number_of}
-use Rattle.zcert.specs.View.{Refuses, RefusesField, Answers, Takes}
+use Rattle.zcert.specs.View.{Refuses, RefusesField}
 
 -- ---- limits
 

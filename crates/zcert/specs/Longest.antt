@@ -11,5 +11,5 @@ module _ {V : Type 0} (format : Format V) where
   IsDecidedBy n = (bytes : List ℕ) → reading format (take n bytes) ≡ reading format bytes
 
   -- no certificate has more bytes
-  abbrev pub IsLongest : ℕ → Type 0
-  IsLongest n = (c : Certificate V) → HasSpelling format c → length (spelling format c) ≤ n
+  abbrev pub NoneIsLonger : ℕ → Type 0
+  NoneIsLonger n = (c : Certificate V) → HasSpelling format c → length (spelling format c) ≤ n

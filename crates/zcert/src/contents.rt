@@ -8,7 +8,7 @@ use zdomain::Interval;
 use zstory::Identity;
 
 /// What is said of an instruction. Its values begin at `start` of the list of all values: its locals, and then its slots.
-#[derive(Clone, Copy, Debug)]
+#[derive(Clone, Copy)]
 pub struct Stored {
     pub address: u32,
     pub routine: u16,

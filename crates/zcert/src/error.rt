@@ -9,30 +9,23 @@ use thiserror::Error;
 /// The first wrong field in the order of the file. Where several things are wrong with one field it is the cut
 /// (`Truncated`), and else the first that is named here.
 #[derive(Clone, Copy, Debug, PartialEq, Eq, Error)]
+#[error("{}", self.text())]
 pub enum CertError {
     /// K1: the file does not begin with `ZPCC`.
-    #[error("not a certificate")]
     Magic,
     /// K2: another version of the format.
-    #[error("the version is not known")]
     Version,
     /// K3: the file ends within this field, or before it.
-    #[error("the certificate is cut off")]
     Truncated,
     /// K4: bytes follow the last field.
-    #[error("bytes follow the certificate")]
     Trailing,
     /// K5: ranges or addresses that do not rise, a range that ends before its first byte, or a field out of turn.
-    #[error("a field is out of order")]
     Order,
     /// K6: an interval whose lower end is above its upper end.
-    #[error("an interval is empty")]
     EmptyInterval,
     /// K7: a number above its limit.
-    #[error("a number is above its limit")]
     Limit,
     /// K8: a growth was refused.
-    #[error("out of memory")]
     OutOfMemory,
 }
 
@@ -52,6 +45,20 @@ impl CertError {
             CertError::EmptyInterval => 6,
             CertError::Limit => 7,
             CertError::OutOfMemory => 8,
+        }
+    }
+
+    // What is printed of it.
+    fn text(self) -> &'static str {
+        match self {
+            CertError::Magic => "not a certificate",
+            CertError::Version => "the version is not known",
+            CertError::Truncated => "the certificate is cut off",
+            CertError::Trailing => "bytes follow the certificate",
+            CertError::Order => "a field is out of order",
+            CertError::EmptyInterval => "an interval is empty",
+            CertError::Limit => "a number is above its limit",
+            CertError::OutOfMemory => "out of memory",
         }
     }
 }

@@ -5,7 +5,7 @@ ghost use Rattle.std.specs.Prelude.{◌≡◌, ⊤};
 use std::alloc::AllocError;
 
 /// A field, in the order of the file. Magic and version stand before the first.
-#[derive(Copy, Debug, PartialEq, Eq)]
+#[derive(Copy)]
 pub enum Field<V> {
     /// The release number of the story.
     Release(u16),
@@ -55,7 +55,7 @@ impl<V: Copy> Clone for Field<V> {
 }
 
 /// What is said of an instruction before its values.
-#[derive(Clone, Copy, Debug, PartialEq, Eq)]
+#[derive(Clone, Copy)]
 pub struct Header {
     pub address: u32,
     pub routine: u16,
@@ -65,7 +65,7 @@ pub struct Header {
 
 /// The field that comes next, with what is known of an unfinished part. `more` counts what follows after the part that
 /// this field belongs to.
-#[derive(Clone, Copy, Debug, PartialEq, Eq)]
+#[derive(Clone, Copy)]
 pub enum Turn {
     Release,
     Serial,

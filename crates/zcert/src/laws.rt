@@ -10,7 +10,7 @@ ghost use Rattle.zcert.specs.Spelling.{heading, spelling, HasSpelling};
 ghost use Rattle.zcert.specs.Reading.{reading};
 ghost use Rattle.zcert.specs.Fields.{field_bytes, Makes};
 ghost use Rattle.zcert.specs.Refusal.{RefuseInTurn, RefuseAtEnd, RefuseOutOfTurn};
-ghost use Rattle.zcert.specs.Longest.{IsDecidedBy, IsLongest};
+ghost use Rattle.zcert.specs.Longest.{IsDecidedBy, NoneIsLonger};
 
 use crate::limits::LARGEST;
 
@@ -41,5 +41,5 @@ pub fn builders_refuse_as_readers()
 /// answers of a longer file what its first bytes say, or that bytes follow the certificate. No certificate is longer.
 pub fn largest_decides()
     ensures decided { IsDecidedBy interval_format (LARGEST + 1) }
-    ensures longest { IsLongest interval_format LARGEST }
+    ensures none_longer { NoneIsLonger interval_format LARGEST }
 {}

@@ -1,4 +1,5 @@
-pub mod Loops
+mod TypeBytes
+mod Kept
 pub mod Steps
 pub mod FoundHead
 pub mod FoundParts
@@ -7,5 +8,6 @@ pub mod Only
 pub mod ReadingLaws
 mod Tails
 mod Inline
+mod Standard
 mod Worked
 mod Operating

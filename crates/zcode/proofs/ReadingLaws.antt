@@ -1,5 +1,5 @@
 -- Laws of reading and spelling.
-use Rattle.std.proofs.Common.{◌≡◌, ℕ, ◌<◌, ◌≤◌, ◌+◌, ◌-◌, Bool, true, List, [], ◌++◌, length, get_or, Result, Ok, Err, refl, sym, ap, ◌∙◌, take, drop, arith, length-append, length-drop, inl, inr, ◌⊎◌, ◌↔◌}
+use Rattle.std.proofs.Common.{◌≡◌, ℕ, ◌<◌, ◌≤◌, ◌+◌, ◌-◌, Bool, true, List, [], ◌++◌, length, get_or, Result, Ok, Err, refl, sym, ap, ◌∙◌, take, drop, arith, length-append, length-drop, ◌↔◌}
 use Rattle.std.proofs.lemmas.List.{take_at, ext_get_or, get_or-take, get_or-drop, take-append-drop, length-take, drop_all}
 use Rattle.std.specs.Prelude.{IfOk, IsTrue}
 use Rattle.zcode.specs.declared.error.DecodeError.{DecodeError}
@@ -18,9 +18,8 @@ pub nothing_there : instruction_at [] ≡ Err Truncated
 unfolding instruction_by head_at
 nothing_there = refl
 
-pub nothing_past : (memory : List ℕ) (at : ℕ) → (length memory < at) ⊎ (length memory < length memory) → Err Truncated ≡ instruction_at (drop at memory)
-nothing_past memory at (inl past) = rw (drop_all at memory (omega (arith, past))) (sym nothing_there)
-nothing_past memory at (inr never) = absurd (omega (arith, never))
+pub nothing_past : (memory : List ℕ) (at : ℕ) → length memory ≤ at → Err Truncated ≡ instruction_at (drop at memory)
+nothing_past memory at past = rw (drop_all at memory past) (sym nothing_there)
 
 pub found_if : (r : Result Instruction DecodeError) (bytes : List ℕ) → r ≡ instruction_at bytes → IfOk r (λ i. IsAtFront bytes i)
 found_if (Ok i) bytes e = (found playable bytes i (sym e)).spelled

@@ -19,7 +19,7 @@ use Rattle.zcode.specs.Operation.{operation_of, inputs, target}
 use Rattle.zcode.specs.Instruction.{Instruction, IsWellFormed, destination}
 use Rattle.zcode.specs.Names.{name_of, excluded_name, unsupported_name}
 use Rattle.zcode.specs.Opcodes.{missing, table, opcode_of, operand_bounds, TakesOperands, stores, branches, prints_text}
-use Rattle.zcode.specs.Places.{padded}
+use Rattle.zcode.specs.Places.{padded, typed, type_byte}
 use Rattle.zcode.specs.Playable.{playable}
 use Rattle.zcode.specs.Spelling.{type_of, long_type, before_omitted, types_of, Long, ShortOne, VariableTwo, VariableMany, SpellsHead, SpellsOperand, SpellsOperands, SpellsBranch, SpellsBranchIf, SpellsTextIf, signed_14}
 use Rattle.zcode.specs.Reading.{Gives, first_byte, played_opcode, checked_head, long_head, short_head, variable_head, head_at, operand_at, operands_at, store_if, branch_at, branch_if, text_if, instruction_by, Agree}
@@ -81,8 +81,8 @@ well_formed = record { operands = (lit≤ tt, lit≤ tt); store = refl; branch =
 ill_formed : (IsWellFormed (record { opcode = IncChk; operands = Constant 2 ∷ Constant 0 ∷ []; store = None; branch = None; size = 4 }) → ⊥) × (IsWellFormed (record { opcode = Jump; operands = []; store = None; branch = None; size = 3 }) → ⊥) × (IsWellFormed (record { opcode = Quit; operands = []; store = Some 0; branch = None; size = 1 }) → ⊥)
 ill_formed = (λ w. absurd (let e = w.branch in cc), λ w. omega (arith, w.operands.0), λ w. absurd (let e = w.store in cc))
 
-pads : (padded [] ≡ Constant 0 ∷ Constant 0 ∷ Constant 0 ∷ Constant 0 ∷ []) × (padded (Variable 1 ∷ []) ≡ Variable 1 ∷ Constant 0 ∷ Constant 0 ∷ Constant 0 ∷ []) × (padded (Variable 1 ∷ Variable 2 ∷ Variable 3 ∷ Variable 4 ∷ []) ≡ Variable 1 ∷ Variable 2 ∷ Variable 3 ∷ Variable 4 ∷ [])
-pads = (refl, refl, refl)
+pads : (padded [] ≡ 0 ∷ 0 ∷ 0 ∷ 0 ∷ []) × (padded (Variable 1 ∷ Constant 300 ∷ []) ≡ 1 ∷ 300 ∷ 0 ∷ 0 ∷ []) × (type_byte [] ≡ 0xFF) × (type_byte (Variable 1 ∷ Constant 300 ∷ []) ≡ 0x8F) × (typed (types.Variable ∷ types.Small ∷ []) (1 ∷ 300 ∷ 0 ∷ 0 ∷ []) ≡ Variable 1 ∷ Constant 300 ∷ [])
+pads = (refl, refl, refl, refl, refl)
 
 -- ---- spelling
 

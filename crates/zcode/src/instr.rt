@@ -1,7 +1,8 @@
 //! Instructions as they are read.
 
 use crate::opcode::Opcode;
-use crate::operands::Operands;
+use crate::operands::{MOST, Operands};
+use arrayvec::ArrayVec;
 use std::marker::Model;
 
 /// An operand (Z 4.2).
@@ -34,6 +35,12 @@ pub struct Branch {
     pub offset: i16,
 }
 
+/// What stands in the place of branch data that there is none of.
+const NO_BRANCH: Branch = Branch {
+    sense: false,
+    offset: 0,
+};
+
 /// Where a branch leads that is taken (Z 4.7.1, 4.7.2).
 #[derive(Clone, Copy, Debug, PartialEq, Eq)]
 pub enum Destination {
@@ -61,26 +68,39 @@ impl Branch {
     }
 }
 
+/// What follows the operands of an instruction. The opcode tells whether there are a store variable and branch data: where
+/// there are none, zeros stand in their places.
+#[derive(Clone, Copy, Debug, PartialEq, Eq)]
+struct Tail {
+    store: u8,
+    sense: bool,
+    offset: i16,
+}
+
 /// An instruction, which contracts see as the record `Instruction`. It has what its opcode asks for.
 #[derive(Clone, Copy, Debug, PartialEq, Eq)]
 pub struct Instr {
     length: usize,
     operands: Operands,
+    tail: Tail,
     opcode: Opcode,
-    store: Option<u8>,
-    branch: Option<Branch>,
 }
 
 impl Model for Instr {
-    ghost use Rattle.zcode.specs.Instruction.{Instruction, IsWellFormed};
+    ghost use Rattle.std.specs.Prelude.{◌≡◌};
+    ghost use Rattle.zcode.specs.Instruction.{Instruction};
 
     ghost Value = { Instruction };
 
-    ghost view = { λ i. record { opcode = i.opcode; operands = i.operands; store = i.store; branch = i.branch; size = i.length } };
+    ghost use Rattle.zcode.specs.Instruction.{IsWellFormed};
+    ghost use Rattle.zcode.specs.Places.{kept, written};
 
-    ghost invariant = { λ i. IsWellFormed (record { opcode = i.opcode; operands = i.operands; store = i.store; branch = i.branch; size = i.length }) };
+    ghost view = { λ i. written i.opcode i.operands i.tail i.length };
 
-    ghost inverse = { λ i. record { length = i.size; operands = i.operands; opcode = i.opcode; store = i.store; branch = i.branch } };
+    // Equal instructions are equal values.
+    ghost invariant = { λ i. IsWellFormed (written i.opcode i.operands i.tail i.length) × (i.tail ≡ kept (written i.opcode i.operands i.tail i.length)) };
+
+    ghost inverse = { λ i. record { length = i.size; operands = i.operands; tail = kept i; opcode = i.opcode } };
 }
 
 impl Instr {
@@ -89,6 +109,7 @@ impl Instr {
     ghost use Rattle.zcode.specs.Opcodes.{TakesOperands, branches, stores};
     ghost use Rattle.zcode.specs.Names.{name_of};
 
+    #[inline(always)]
     pub(crate) fn new(
         opcode: Opcode,
         operands: Operands,
@@ -99,12 +120,16 @@ impl Instr {
         requires { IsWellFormed (record { opcode = opcode; operands = operands; store = store; branch = branch; size = bytes }) }
         ensures { result ≡ record { opcode = opcode; operands = operands; store = store; branch = branch; size = bytes } }
     {
+        let Branch { sense, offset } = branch.unwrap_or(NO_BRANCH);
         Instr {
             length: bytes,
             operands,
+            tail: Tail {
+                store: store.unwrap_or(0),
+                sense,
+                offset,
+            },
             opcode,
-            store,
-            branch,
         }
     }
 
@@ -123,11 +148,11 @@ impl Instr {
     }
 
     /// The operands in order, as many as the opcode takes: at most four.
-    pub fn operands(&self) -> &[Operand]
-        ensures value { result.now ≡ self.now.operands }
-        ensures number { TakesOperands self.now.opcode (length result.now) }
+    pub fn operands(&self) -> ArrayVec<Operand, MOST>
+        ensures value { result.items ≡ self.now.operands }
+        ensures number { TakesOperands self.now.opcode (length result.items) }
     {
-        self.operands.as_slice()
+        self.operands.list()
     }
 
     /// The variable that takes the result, where the opcode stores one: 0 pushes it on the stack.
@@ -135,7 +160,11 @@ impl Instr {
         ensures value { result ≡ self.now.store }
         ensures present { is_some result ≡ stores self.now.opcode }
     {
-        self.store
+        if self.opcode.stores() {
+            Some(self.tail.store)
+        } else {
+            None
+        }
     }
 
     /// The branch data, where the opcode branches.
@@ -143,7 +172,14 @@ impl Instr {
         ensures value { result ≡ self.now.branch }
         ensures present { is_some result ≡ branches self.now.opcode }
     {
-        self.branch
+        if self.opcode.branches() {
+            Some(Branch {
+                sense: self.tail.sense,
+                offset: self.tail.offset,
+            })
+        } else {
+            None
+        }
     }
 
     /// The number of its bytes, at least 1.

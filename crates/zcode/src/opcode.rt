@@ -151,6 +151,7 @@ pub enum Excluded {
 
 impl Opcode {
     /// The fewest and the most operands that it takes (Z 14).
+    #[inline(always)]
     pub fn operand_bounds(self) -> (usize, usize)
         ensures { result ≡ operand_bounds self }
     {

@@ -98,10 +98,7 @@ impl Instr {
         ensures value { result.items ≡ inputs self.now }
         ensures few { length result.items ≤ 4 }
     {
-        let mut inputs = ArrayVec::new();
-        for operand in self.operands() {
-            inputs.push(*operand);
-        }
+        let mut inputs = self.operands();
         if let Some(operand) = self.opcode().implied() {
             inputs.push(operand);
         }

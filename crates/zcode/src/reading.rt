@@ -3,7 +3,7 @@
 ghost use Rattle.std.specs.Prelude.{◌≡◌, ℕ, ◌/◌, ◌%◌, ◌<◌, ◌≤◌, ◌+◌, ◌-◌, ◌++◌, ◌↔◌, length, drop, take, IfOk, IsTrue, List, Ok};
 ghost use Rattle.zcode.specs.Instruction.{Instruction};
 ghost use Rattle.zcode.specs.Playable.{playable};
-ghost use Rattle.zcode.specs.Spelling.{Spells, IsAtFront, type_of};
+ghost use Rattle.zcode.specs.Spelling.{Spells, IsAtFront, type_of, types_of};
 ghost use Rattle.zcode.specs.Reading.{Gives, first_byte, long_head, short_head, variable_head, checked_head, head_at, operand_at, operands_at, store_if, branch_at, branch_if, text_if, instruction_at};
 
 use crate::error::DecodeError;
@@ -11,16 +11,15 @@ use crate::instr::{Branch, Instr, Operand};
 use crate::opcode::Opcode;
 use crate::operands::Operands;
 use crate::table::{OperandCount, played_opcode};
-use crate::types::{OperandType, OperandTypes, long_type, type_of, types_of};
-use arrayvec::ArrayVec;
+use crate::types::{OperandType, long_types, short_types, type_count, type_of};
 use std::marker::Model;
 use ztext::TextEnds;
 
-/// What the bytes before the operands say.
+/// What the bytes before the operands say: the types as a type byte names them.
 #[derive(Drop)]
 struct Head {
     opcode: Opcode,
-    operand_types: OperandTypes,
+    types: u8,
 }
 
 impl Model for Head {
@@ -28,9 +27,12 @@ impl Model for Head {
 
     ghost Value = { HeadValue };
 
-    ghost view = { λ h. record { opcode = h.opcode; operand_types = h.operand_types.items } };
+    ghost use Rattle.zcode.specs.Spelling.{types_of};
+
+    ghost view = { λ h. record { opcode = h.opcode; operand_types = types_of h.types } };
 }
 
+#[inline(always)]
 fn first_byte(bytes: &[u8]) -> Result<(u8, &[u8]), DecodeError>
     ensures { Gives (λ x. (x.0, x.1.now)) result (first_byte bytes.now) }
 {
@@ -40,56 +42,59 @@ fn first_byte(bytes: &[u8]) -> Result<(u8, &[u8]), DecodeError>
     }
 }
 
-/// The head of an opcode that takes so many operands.
+/// The head of an opcode with so many types, as a type byte names them, if it takes so many operands.
+#[inline(always)]
 #[tactic(auto, unfolding(crate::specs::Reading::checked_head))]
-fn checked_head(opcode: Opcode, operand_types: OperandTypes) -> Result<Head, DecodeError>
-    ensures { result ≡ checked_head opcode operand_types.items }
+fn checked_head(opcode: Opcode, types: u8, count: usize) -> Result<Head, DecodeError>
+    requires { count ≡ length (types_of types) }
+    ensures { result ≡ checked_head opcode (types_of types) }
 {
     let (fewest, most) = opcode.operand_bounds();
-    if operand_types.len() < fewest || most < operand_types.len() {
+    if count < fewest || most < count {
         return Err(DecodeError::Operands);
     }
-    Ok(Head {
-        opcode,
-        operand_types,
-    })
+    Ok(Head { opcode, types })
 }
 
+#[inline(always)]
 #[tactic(auto, unfolding(crate::specs::Reading::long_head))]
 fn long_head(first: u8) -> Result<Head, DecodeError>
     ensures { result ≡ long_head playable first }
 {
     let opcode = played_opcode(OperandCount::Two, first & 0x1f)?;
-    let mut operand_types = ArrayVec::new();
-    operand_types.push(long_type((first >> 6) & 1));
-    operand_types.push(long_type((first >> 5) & 1));
-    checked_head(opcode, operand_types)
+    checked_head(opcode, long_types(first), 2)
 }
 
+#[inline(always)]
 #[tactic(auto, unfolding(crate::specs::Reading::short_head))]
 fn short_head(first: u8) -> Result<Head, DecodeError>
     ensures { result ≡ short_head playable first (type_of (first / 16 % 4)) }
 {
-    let mut operand_types = ArrayVec::new();
-    let opcode = match type_of((first >> 4) & 3) {
-        Some(operand_type) => {
-            operand_types.push(operand_type);
-            played_opcode(OperandCount::One, first & 0x0f)?
+    let bits = (first >> 4) & 3;
+    let types = short_types(bits);
+    match type_of(bits) {
+        Some(_) => {
+            let opcode = played_opcode(OperandCount::One, first & 0x0f)?;
+            checked_head(opcode, types, 1)
         }
-        None => played_opcode(OperandCount::Zero, first & 0x0f)?,
-    };
-    checked_head(opcode, operand_types)
+        None => {
+            let opcode = played_opcode(OperandCount::Zero, first & 0x0f)?;
+            checked_head(opcode, types, 0)
+        }
+    }
 }
 
+#[inline(always)]
 #[tactic(auto, unfolding(crate::specs::Reading::variable_head))]
 fn variable_head(count: OperandCount, first: u8, bytes: &[u8]) -> Result<(Head, &[u8]), DecodeError>
     ensures { Gives (λ x. (x.0, x.1.now)) result (variable_head playable count first bytes.now) }
 {
     let opcode = played_opcode(count, first & 0x1f)?;
     let (types, rest) = first_byte(bytes)?;
-    Ok((checked_head(opcode, types_of(types))?, rest))
+    Ok((checked_head(opcode, types, type_count(types))?, rest))
 }
 
+#[inline(always)]
 #[tactic(auto, unfolding(crate::specs::Reading::head_at))]
 fn head_at(bytes: &[u8]) -> Result<(Head, &[u8]), DecodeError>
     ensures { Gives (λ x. (x.0, x.1.now)) result (head_at playable bytes.now) }
@@ -103,44 +108,48 @@ fn head_at(bytes: &[u8]) -> Result<(Head, &[u8]), DecodeError>
     }
 }
 
+#[inline(always)]
 #[tactic(auto, unfolding(crate::specs::Reading::operand_at))]
 fn operand_at(operand_type: OperandType, bytes: &[u8]) -> Result<(Operand, &[u8]), DecodeError>
     ensures { Gives (λ x. (x.0, x.1.now)) result (operand_at operand_type bytes.now) }
 {
+    let (first, rest) = first_byte(bytes)?;
     match operand_type {
         OperandType::Large => {
-            let (high, rest) = first_byte(bytes)?;
             let (low, rest) = first_byte(rest)?;
-            Ok((Operand::Constant(u16::from_be_bytes([high, low])), rest))
+            Ok((Operand::Constant(u16::from_be_bytes([first, low])), rest))
         }
-        OperandType::Small => {
-            let (byte, rest) = first_byte(bytes)?;
-            Ok((Operand::Constant(u16::from(byte)), rest))
-        }
-        OperandType::Variable => {
-            let (byte, rest) = first_byte(bytes)?;
-            Ok((Operand::Variable(byte), rest))
-        }
+        OperandType::Small => Ok((Operand::Constant(u16::from(first)), rest)),
+        OperandType::Variable => Ok((Operand::Variable(first), rest)),
     }
 }
 
-fn operands_at<'a>(
-    operand_types: &[OperandType],
-    bytes: &'a [u8],
-) -> Result<(ArrayVec<Operand, 4>, &'a [u8]), DecodeError>
-    requires { length operand_types.now ≤ 4 }
-    ensures { Gives (λ x. (x.0.items, x.1.now)) result (operands_at operand_types.now bytes.now) }
+/// The operands of these types, as a type byte names them. What is omitted costs nothing.
+#[inline(always)]
+#[tactic(auto, unfolding(crate::specs::Reading::operands_at))]
+fn operands_at(types: u8, bytes: &[u8]) -> Result<(Operands, &[u8]), DecodeError>
+    ensures { Gives (λ x. (x.0, x.1.now)) result (operands_at (types_of types) bytes.now) }
 {
-    let mut operands = ArrayVec::new();
-    let mut rest = bytes;
-    for operand_type in operand_types {
-        let (operand, after) = operand_at(*operand_type, rest)?;
-        operands.push(operand);
-        rest = after;
-    }
-    Ok((operands, rest))
+    let Some(first) = type_of(types >> 6) else {
+        return Ok((Operands::none(), bytes));
+    };
+    let (a, rest) = operand_at(first, bytes)?;
+    let Some(second) = type_of((types >> 4) & 3) else {
+        return Ok((Operands::one(a), rest));
+    };
+    let (b, rest) = operand_at(second, rest)?;
+    let Some(third) = type_of((types >> 2) & 3) else {
+        return Ok((Operands::two(a, b), rest));
+    };
+    let (c, rest) = operand_at(third, rest)?;
+    let Some(fourth) = type_of(types & 3) else {
+        return Ok((Operands::three(a, b, c), rest));
+    };
+    let (d, rest) = operand_at(fourth, rest)?;
+    Ok((Operands::four(a, b, c, d), rest))
 }
 
+#[inline(always)]
 #[tactic(auto, unfolding(crate::specs::Reading::store_if))]
 fn store_if(stores: bool, bytes: &[u8]) -> Result<(Option<u8>, &[u8]), DecodeError>
     ensures { Gives (λ x. (x.0, x.1.now)) result (store_if stores bytes.now) }
@@ -152,6 +161,7 @@ fn store_if(stores: bool, bytes: &[u8]) -> Result<(Option<u8>, &[u8]), DecodeErr
     Ok((Some(byte), rest))
 }
 
+#[inline(always)]
 #[tactic(auto, unfolding(crate::specs::Reading::branch_at))]
 fn branch_at(bytes: &[u8]) -> Result<(Branch, &[u8]), DecodeError>
     ensures { Gives (λ x. (x.0, x.1.now)) result (branch_at bytes.now) }
@@ -173,6 +183,7 @@ fn branch_at(bytes: &[u8]) -> Result<(Branch, &[u8]), DecodeError>
     Ok((Branch { sense, offset }, rest))
 }
 
+#[inline(always)]
 #[tactic(auto, unfolding(crate::specs::Reading::branch_if))]
 fn branch_if(branches: bool, bytes: &[u8]) -> Result<(Option<Branch>, &[u8]), DecodeError>
     ensures { Gives (λ x. (x.0, x.1.now)) result (branch_if branches bytes.now) }
@@ -185,6 +196,7 @@ fn branch_if(branches: bool, bytes: &[u8]) -> Result<(Option<Branch>, &[u8]), De
 }
 
 /// Where the text ends that begins with these bytes of the memory, the last ones.
+#[inline(always)]
 #[tactic(auto, unfolding(crate::specs::Reading::text_if))]
 fn text_if<'a>(
     prints: bool,
@@ -206,6 +218,7 @@ fn text_if<'a>(
 }
 
 /// The instruction at the front of the last bytes of the memory.
+#[inline(always)]
 #[tactic(auto, unfolding(crate::specs::Reading::instruction_by))]
 fn instruction_at<'a>(ends: &mut TextEnds<'a>, bytes: &'a [u8]) -> Result<Instr, DecodeError>
     requires { bytes.now ≡ drop (length ends.old - length bytes.now) ends.old }
@@ -214,12 +227,14 @@ fn instruction_at<'a>(ends: &mut TextEnds<'a>, bytes: &'a [u8]) -> Result<Instr,
 {
     let (head, rest) = head_at(bytes)?;
     let opcode = head.opcode;
-    let (operands, rest) = operands_at(head.operand_types.as_slice(), rest)?;
+    let (operands, rest) = match operands_at(head.types, rest) {
+        Ok(read) => read,
+        Err(error) => return Err(error),
+    };
     let (store, rest) = store_if(opcode.stores(), rest)?;
     let (branch, rest) = branch_if(opcode.branches(), rest)?;
     let rest = text_if(opcode.prints_text(), ends, rest)?;
     let length = bytes.len().saturating_sub(rest.len());
-    let operands = Operands::of(operands.as_slice());
     Ok(Instr::new(opcode, operands, store, branch, length))
 }
 
@@ -251,8 +266,9 @@ pub fn decode_by(ends: &mut TextEnds<'_>, at: usize) -> Result<Instr, DecodeErro
     ensures exact { result ≡ instruction_at (drop at ends.old) }
     ensures within { IfOk result (λ i. at + i.size ≤ length ends.old) }
 {
-    match ends.memory().get(at..) {
-        Some(bytes) => instruction_at(ends, bytes),
-        None => Err(DecodeError::Truncated),
+    let memory = ends.memory();
+    if memory.len() <= at {
+        return Err(DecodeError::Truncated);
     }
+    instruction_at(ends, &memory[at..])
 }

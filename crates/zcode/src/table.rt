@@ -23,6 +23,7 @@ pub enum OperandCount {
 }
 
 /// The opcode of a number, whether this build plays it or not.
+#[inline(always)]
 pub(crate) fn opcode_of(count: OperandCount, number: u8) -> Result<Opcode, DecodeError>
     ensures { result ≡ opcode_of count number }
 {
@@ -34,6 +35,7 @@ pub(crate) fn opcode_of(count: OperandCount, number: u8) -> Result<Opcode, Decod
     }
 }
 
+#[inline(always)]
 fn two_operands(number: u8) -> Result<Opcode, DecodeError>
     ensures { result ≡ opcode_of OperandCount.Two number }
 {
@@ -67,6 +69,7 @@ fn two_operands(number: u8) -> Result<Opcode, DecodeError>
     }
 }
 
+#[inline(always)]
 fn one_operand(number: u8) -> Result<Opcode, DecodeError>
     ensures { result ≡ opcode_of OperandCount.One number }
 {
@@ -90,6 +93,7 @@ fn one_operand(number: u8) -> Result<Opcode, DecodeError>
     }
 }
 
+#[inline(always)]
 fn no_operand(number: u8) -> Result<Opcode, DecodeError>
     ensures { result ≡ opcode_of OperandCount.Zero number }
 {
@@ -112,6 +116,7 @@ fn no_operand(number: u8) -> Result<Opcode, DecodeError>
     }
 }
 
+#[inline(always)]
 fn many_operands(number: u8) -> Result<Opcode, DecodeError>
     ensures { result ≡ opcode_of OperandCount.Many number }
 {
@@ -143,6 +148,7 @@ fn excluded(opcode: Excluded) -> Result<Opcode, DecodeError>
 }
 
 /// The opcode of a number, if this build plays it.
+#[inline(always)]
 #[tactic(auto, unfolding(crate::specs::Reading::played_opcode))]
 pub(crate) fn played_opcode(count: OperandCount, number: u8) -> Result<Opcode, DecodeError>
     ensures { result ≡ played_opcode playable count number }

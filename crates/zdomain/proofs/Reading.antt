@@ -1,5 +1,5 @@
 -- Ends as the code reads them: a number that fits its type is read as itself.
-use Rattle.std.proofs.Common.{◌≡◌, Bool, true, false, ◌&&◌, if◌then◌else◌, Option, Some, ℤ, pos, negsuc, ◌+ℤ◌, ◌-ℤ◌, ◌*ℤ◌, ◌≤ℤ◌, ◌<ℤ◌, int_le, int_lt, int_div, FitsSigned, w32, to_z, of_z, arith, refl, ap, ◌∙◌}
+use Rattle.std.proofs.Common.{◌≡◌, false, Option, Some, ℤ, pos, negsuc, ◌+ℤ◌, ◌-ℤ◌, ◌*ℤ◌, ◌≤ℤ◌, int_lt, int_div, FitsSigned, w32, to_z, of_z, arith, refl, ◌∙◌}
 use Rattle.std.specs.Int.{w16, int_min, int_max}
 use Rattle.std.proofs.lemmas.Int.{ints, clamps, to_z-of_z, fits_signed_mul}
 use Rattle.zdomain.specs.declared.interval.Interval.{Interval}

@@ -1,11 +1,11 @@
 -- What writes in a row append, whole or begun.
-use Rattle.std.proofs.Common.{◌≡◌, ℕ, ◌+◌, ◌-◌, ◌≤◌, List, ◌++◌, length, take, drop, subst, refl, arith}
-use Rattle.std.specs.Prelude.{Option, min}
-use Rattle.std.specs.Io.KnownBytes.{Appends}
-use Rattle.std.proofs.KnownBytes.{Appends-trans}
+use Rattle.std.proofs.Common.{◌≡◌, ℕ, ◌+◌, ◌-◌, ◌≤◌, List, ◌++◌, length, take, drop, subst, refl, sym, ap, ◌∙◌, arith}
+use Rattle.std.specs.Prelude.{Option, Bool, true, [], ◌∷◌, min}
+use Rattle.std.specs.Io.KnownBytes.{Appends, Keeps}
+use Rattle.std.proofs.KnownBytes.{Appends-kept, Appends-trans}
 use Rattle.std.proofs.Math.Seq.{take-add, take-append-add, take-length}
-use Rattle.std.proofs.lemmas.List.{length-drop, take-append-le, take_min}
-use Rattle.zfault.specs.Devices.{AppendsBeginning}
+use Rattle.std.proofs.lemmas.List.{length-drop, take-append-le, take_all, take_min}
+use Rattle.zfault.specs.Devices.{AppendsBeginning, waits_after}
 
 -- what `&xs[i..]` is
 take-drop-all : (i : ℕ) (xs : List ℕ) → take (length xs - i) (drop i xs) ≡ drop i xs
@@ -16,6 +16,27 @@ pub Appends-take-add : (a b c : Option (List ℕ)) (i n : ℕ) (xs : List ℕ) �
 Appends-take-add a b c i n xs before more =
     let P : List ℕ → Type 0 = λ ys. Appends b c (take n ys) in
     rw take-add (Appends-trans a b c (take i xs) (take n (drop i xs)) before (subst P (take-drop-all i xs) more))
+
+-- bytes that were taken in two calls wait as if they were taken in one
+pub waits_after-append : (before : Bool) (xs ys : List ℕ) → waits_after (waits_after before xs) ys ≡ waits_after before (xs ++ ys)
+waits_after-append before [] ys = refl
+waits_after-append before (x ∷ xs) [] = refl
+waits_after-append before (x ∷ xs) (y ∷ ys) = refl
+
+-- what waits goes on waiting
+pub still_waits : (before after : Bool) (xs : List ℕ) → after ≡ waits_after before xs → before ≡ true → after ≡ true
+still_waits before after [] now waiting = now ∙ waiting
+still_waits before after (x ∷ xs) now waiting = now
+
+-- the first i bytes, and then n more of the rest
+pub waits_after-take_add : (a b c : Bool) (i n : ℕ) (xs : List ℕ) → b ≡ waits_after a (take i xs) → c ≡ waits_after b (take n (take (length xs - i) (drop i xs))) → c ≡ waits_after a (take (i + n) xs)
+waits_after-take_add a b c i n xs before more =
+    more ∙ ap (λ (ys : List ℕ). waits_after b (take n ys)) (take-drop-all i xs) ∙ ap (λ (w : Bool). waits_after w (take n (drop i xs))) before ∙ waits_after-append a (take i xs) (take n (drop i xs))
+    ∙ sym (ap (waits_after a) (take-add i n xs))
+
+-- all of the bytes
+pub waits_after-whole : (a b : Bool) (i : ℕ) (xs : List ℕ) → length xs ≤ i → b ≡ waits_after a (take i xs) → b ≡ waits_after a xs
+waits_after-whole a b i xs whole waits = waits ∙ ap (waits_after a) (take_all i xs whole)
 
 -- a whole piece, and then a beginning of the next
 pub AppendsBeginning-after : (a b c : Option (List ℕ)) (xs ys : List ℕ) → Appends a b xs → AppendsBeginning b c ys → AppendsBeginning a c (xs ++ ys)
@@ -34,6 +55,11 @@ AppendsBeginning-append a b xs ys begun =
       taken = n;
       grown = rw (take-append-le n xs ys within, take_min) begun.grown;
     }
+
+-- a whole piece, of which nothing was lost since
+pub AppendsBeginning-whole : (a b c : Option (List ℕ)) (xs : List ℕ) → Appends a b xs → Keeps b c → AppendsBeginning a c xs
+AppendsBeginning-whole a b c xs whole kept =
+    record { taken = length xs; grown = subst (Appends a c) (sym (take-length xs)) (Appends-kept a b c xs whole kept) }
 
 -- for writes in a row
 pub ruleset beginnings = (AppendsBeginning-after, AppendsBeginning-append, Appends-trans)

@@ -1,5 +1,5 @@
 -- Values of the definitions, computed.
-use Rattle.std.proofs.Common.{◌≡◌, ℕ, zero, suc, ◌^◌, ◌-◌, inl, inr, Bool, true, false, [], ◌∷◌, replicate, Some, None, Result, Ok, Err, refl, arith}
+use Rattle.std.proofs.Common.{◌≡◌, ℕ, zero, suc, ◌^◌, ◌-◌, Bool, true, false, [], ◌∷◌, replicate, Some, None, Result, Ok, Err, refl, arith}
 use Rattle.std.specs.Prelude.{take}
 use Rattle.std.specs.Io.KnownBytes.{Appends}
 use Rattle.zfault.specs.declared.adapters.FromRead.{FromRead}
@@ -8,9 +8,9 @@ use Rattle.zfault.specs.declared.event.Event.TheVariants.{Line, Random, Saved, N
 use Rattle.zfault.specs.declared.fault.Fault.TheVariants.{UnlistedInstruction, IllegalOpcode, UnlistedCall, StackUnderflow, AbsentLocal, AbsentObject, AbsentAttribute, AbsentProperty, PropertyTooLong, ZeroDivisor, WriteOutside, ReadOutside, TextOutside, SmallBuffer, ReturnFromMain, BadVariable}
 use Rattle.zfault.specs.declared.pause.Need.TheVariants as needs
 use Rattle.zfault.specs.declared.pause.Pause.TheVariants as pauses
-use Rattle.zfault.specs.Adapters.{reader_of, read_failures, writer_of, write_failures}
+use Rattle.zfault.specs.Adapters.{reader_of, read_failures, unflushed, writer_of, write_failures}
 use Rattle.zfault.specs.Answers.{pause_for, answers}
-use Rattle.zfault.specs.Devices.{HasRisen, CountsFailure, AppendsBeginning}
+use Rattle.zfault.specs.Devices.{AppendsBeginning, ChangesFront, CountsFailure, HandsOn, LetsWait, RisesByOne, waits_after}
 use Rattle.zfault.specs.Fault.{number_of}
 use Rattle.zfault.specs.Line.{padded, IsPadded}
 
@@ -35,29 +35,35 @@ unanswered = (refl, refl, refl, refl, refl)
 
 -- ---- devices
 
--- a count rises by any number, and at its last value it has risen
-risen : HasRisen 0 1 × HasRisen 3 7 × HasRisen (2 ^ 64 - 1) (2 ^ 64 - 1) × (HasRisen 1 1 → ⊥) × (HasRisen 2 1 → ⊥)
-risen = (inl (omega arith), inl (omega arith), inr refl, same, less)
-  where
-    same : HasRisen 1 1 → ⊥
-    same (inl rises) = omega (arith, rises)
-    same (inr last) = omega (arith, last)
-
-    less : HasRisen 2 1 → ⊥
-    less (inl rises) = omega (arith, rises)
-    less (inr last) = omega (arith, last)
+-- a count rises by one, and at its last value it stays
+risen : RisesByOne 0 1 × RisesByOne (2 ^ 64 - 2) (2 ^ 64 - 1) × RisesByOne (2 ^ 64 - 1) (2 ^ 64 - 1) × (RisesByOne 1 1 → ⊥) × (RisesByOne 3 5 → ⊥) × (RisesByOne 2 1 → ⊥)
+risen = (refl, refl, refl, λ rises. omega (arith, rises), λ rises. omega (arith, rises), λ rises. omega (arith, rises))
 
 outcome : Bool → Result ℕ ℕ
 outcome true = Ok 3
 outcome false = Err 0
 
-counted : CountsFailure 2 2 (outcome true) × CountsFailure 2 3 (outcome false) × (CountsFailure 2 3 (outcome true) → ⊥) × (CountsFailure 2 2 (outcome false) → ⊥)
+counted : CountsFailure 2 2 (outcome true) × CountsFailure 2 3 (outcome false) × (CountsFailure 2 3 (outcome true) → ⊥) × (CountsFailure 2 2 (outcome false) → ⊥) × (CountsFailure 2 4 (outcome false) → ⊥)
 unfolding outcome
-counted = (refl, inl (omega arith), λ counts. omega (arith, counts), still)
-  where
-    still : HasRisen 2 2 → ⊥
-    still (inl rises) = omega (arith, rises)
-    still (inr last) = omega (arith, last)
+counted = (refl, refl, λ counts. omega (arith, counts), λ counts. omega (arith, counts), λ counts. omega (arith, counts))
+
+-- of four bytes three may change at the front; at an error none
+front : ChangesFront (1 ∷ 2 ∷ 3 ∷ 4 ∷ []) (7 ∷ 8 ∷ 9 ∷ 4 ∷ []) (outcome true) × (ChangesFront (1 ∷ 2 ∷ 3 ∷ 4 ∷ []) (7 ∷ 8 ∷ 9 ∷ 5 ∷ []) (outcome true) → ⊥) × (ChangesFront (1 ∷ []) (7 ∷ []) (outcome false) → ⊥)
+unfolding outcome
+front = (refl, λ e. absurd cc, λ e. absurd cc)
+
+-- a byte waits, none leaves it as it is, and nothing waits behind a flush
+waiting : (waits_after false (1 ∷ []) ≡ true) × (waits_after false [] ≡ false) × (waits_after true [] ≡ true) × LetsWait false true (outcome true) (1 ∷ []) × LetsWait false false (outcome false) (1 ∷ [])
+unfolding outcome
+waiting = (refl, refl, refl, refl, refl)
+
+flushed : Bool → Result Unit ℕ
+flushed true = Ok tt
+flushed false = Err 0
+
+handed_on : HandsOn true false (flushed true) × HandsOn true true (flushed false) × (HandsOn true true (flushed true) → ⊥) × (HandsOn true false (flushed false) → ⊥)
+unfolding flushed
+handed_on = (refl, refl, λ e. absurd cc, λ e. absurd cc)
 
 -- two of three bytes, none of them, and what isn't known; known bytes stay known, and no others come
 begun : AppendsBeginning (Some (1 ∷ [])) (Some (1 ∷ 2 ∷ 3 ∷ [])) (2 ∷ 3 ∷ 4 ∷ []) × AppendsBeginning (Some (1 ∷ [])) (Some (1 ∷ [])) (2 ∷ []) × AppendsBeginning None None (2 ∷ []) × (AppendsBeginning (Some []) None (2 ∷ []) → ⊥) × (AppendsBeginning (Some []) (Some (9 ∷ [])) (2 ∷ []) → ⊥)
@@ -71,11 +77,11 @@ source : FromRead ℕ
 source = record { reader = 7; failed_reads = 2 }
 
 sink : ToWrite ℕ
-sink = record { writer = 8; failed_calls = 3 }
+sink = record { writer = 8; failed_calls = 3; unflushed = true }
 
-seen : (reader_of source ≡ 7) × (read_failures source ≡ 2) × (writer_of sink ≡ 8) × (write_failures sink ≡ 3)
+seen : (reader_of source ≡ 7) × (read_failures source ≡ 2) × (writer_of sink ≡ 8) × (write_failures sink ≡ 3) × (unflushed sink ≡ true)
 unfolding source sink
-seen = (refl, refl, refl, refl)
+seen = (refl, refl, refl, refl, refl)
 
 -- ---- lines
 

@@ -1,5 +1,5 @@
 -- What a contract sees of a `FromRead` and of a `ToWrite`.
-use Rattle.std.specs.Prelude.{ℕ}
+use Rattle.std.specs.Prelude.{ℕ, Bool}
 use Rattle.zfault.specs.declared.adapters.FromRead.{FromRead}
 use Rattle.zfault.specs.declared.adapters.ToWrite.{ToWrite}
 
@@ -18,3 +18,7 @@ writer_of sink = sink.writer
 -- how many of its writes and flushes failed
 abbrev pub write_failures : {W : Type 0} → ToWrite W → ℕ
 write_failures sink = sink.failed_calls
+
+-- whether it took bytes since its last flush
+abbrev pub unflushed : {W : Type 0} → ToWrite W → Bool
+unflushed sink = sink.unflushed

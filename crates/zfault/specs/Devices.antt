@@ -1,16 +1,33 @@
--- What a call of a device does to its count of failures and to its known bytes (own).
-use Rattle.std.specs.Prelude.{◌≡◌, ℕ, ◌-◌, ◌^◌, ◌<◌, ◌⊎◌, List, take, MatchResult, Result, Option}
+-- What a call of a device does to its count of failures, to its known bytes, and to what waits to be handed on (own).
+use Rattle.std.specs.Prelude.{◌≡◌, ℕ, ◌+◌, ◌-◌, ◌^◌, min, Bool, true, false, List, [], ◌∷◌, take, drop, MatchResult, Result, Option}
 use Rattle.std.specs.Io.KnownBytes.{Appends}
 
--- a count of failures, a u64, went up; at its last value it can't, and counts as risen
-abbrev pub HasRisen : ℕ → ℕ → Type 0
-HasRisen old new = (old < new) ⊎ (new ≡ 2 ^ 64 - 1)
+-- a count of failures, a u64, goes up by one, and stays at its last value
+abbrev pub RisesByOne : ℕ → ℕ → Type 0
+RisesByOne old new = new ≡ min (old + 1) (2 ^ 64 - 1)
 
--- the count rises just at an error
+-- the count rises just at an error, and by one
 abbrev pub CountsFailure : {A E : Type 0} → ℕ → ℕ → Result A E → Type 0
-CountsFailure old new outcome = MatchResult outcome (λ _. new ≡ old) (λ _. HasRisen old new)
+CountsFailure old new outcome = MatchResult outcome (λ _. new ≡ old) (λ _. RisesByOne old new)
+
+-- a call that reads changes so many bytes at the front of its buffer, and none at an error
+abbrev pub ChangesFront : {E : Type 0} → List ℕ → List ℕ → Result ℕ E → Type 0
+ChangesFront old new outcome = MatchResult outcome (λ count. drop count new ≡ drop count old) (λ _. new ≡ old)
 
 -- known bytes grow by a beginning of these
 pub record AppendsBeginning (old new : Option (List ℕ)) (bytes : List ℕ) : Type 0 where
   pub taken : ℕ
   pub grown : Appends old new (take taken bytes)
+
+-- whether bytes wait for a flush once these were taken: any byte does, and with none it is as before
+abbrev pub waits_after : Bool → List ℕ → Bool
+waits_after before [] = before
+waits_after before (byte ∷ bytes) = true
+
+-- the bytes that a call took wait for a flush, and at an error nothing has changed
+abbrev pub LetsWait : {E : Type 0} → Bool → Bool → Result ℕ E → List ℕ → Type 0
+LetsWait old new outcome piece = MatchResult outcome (λ count. new ≡ waits_after old (take count piece)) (λ _. new ≡ old)
+
+-- after a flush nothing waits, and at an error what waited still does
+abbrev pub HandsOn : {E : Type 0} → Bool → Bool → Result Unit E → Type 0
+HandsOn old new outcome = MatchResult outcome (λ _. new ≡ false) (λ _. new ≡ old)

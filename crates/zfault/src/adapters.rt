@@ -1,10 +1,14 @@
 //! Devices over the readers and writers of the standard library.
 
-ghost use Rattle.std.specs.Prelude.{◌≡◌, ◌+◌, min};
-ghost use Rattle.zfault.specs.Adapters.{reader_of, read_failures, writer_of, write_failures};
+ghost use Rattle.std.specs.Prelude.{◌≡◌, false};
+ghost use Rattle.zfault.specs.Adapters.{reader_of, read_failures, unflushed, writer_of, write_failures};
+ghost use Rattle.zfault.specs.Devices.{RisesByOne};
 
 use crate::devices::{Failed, Sink, Source};
 use std::io::{Read, Write};
+
+/// The most bytes that a source reads in one call.
+const PIECE: usize = 256;
 
 /// A reader that counts its failures. Any error counts, an interrupted call among them.
 #[derive(Drop)]
@@ -39,8 +43,17 @@ impl<R: Read> Source for FromRead<R> {
     ghost failures = { read_failures };
 
     fn read(&mut self, buffer: &mut [u8]) -> Result<usize, Failed> {
-        match self.reader.read(buffer) {
-            Ok(count) => Ok(count),
+        if buffer.is_empty() {
+            return Ok(0);
+        }
+        // What a reader does to a buffer behind the bytes that it gives isn't known, so it gets one of its own.
+        let mut piece = [0; PIECE];
+        let room = buffer.len().min(PIECE);
+        match self.reader.read(&mut piece[..room]) {
+            Ok(count) => {
+                buffer[..count].copy_from_slice(&piece[..count]);
+                Ok(count)
+            }
             Err(_) => Err(failed(&mut self.failed_reads)),
         }
     }
@@ -51,17 +64,20 @@ impl<R: Read> Source for FromRead<R> {
 pub struct ToWrite<W> {
     writer: W,
     failed_calls: u64,
+    unflushed: bool,
 }
 
 impl<W> ToWrite<W> {
-    /// The writer, with no failure yet.
+    /// The writer, with no failure yet and nothing to flush.
     pub fn new(writer: W) -> ToWrite<W>
         ensures writer { writer_of result ≡ writer }
         ensures failures { write_failures result ≡ 0 }
+        ensures flushed { unflushed result ≡ false }
     {
         ToWrite {
             writer,
             failed_calls: 0,
+            unflushed: false,
         }
     }
 
@@ -78,16 +94,24 @@ impl<W: Write> Sink for ToWrite<W> {
 
     ghost failures = { write_failures };
 
+    ghost waits = { unflushed };
+
     fn write(&mut self, piece: &[u8]) -> Result<usize, Failed> {
         match self.writer.write(piece) {
-            Ok(count) if count > 0 || piece.is_empty() => Ok(count),
+            Ok(count) if count > 0 || piece.is_empty() => {
+                self.unflushed = self.unflushed || count > 0;
+                Ok(count)
+            }
             _ => Err(failed(&mut self.failed_calls)),
         }
     }
 
     fn flush(&mut self) -> Result<(), Failed> {
         match self.writer.flush() {
-            Ok(()) => Ok(()),
+            Ok(()) => {
+                self.unflushed = false;
+                Ok(())
+            }
             Err(_) => Err(failed(&mut self.failed_calls)),
         }
     }
@@ -95,7 +119,7 @@ impl<W: Write> Sink for ToWrite<W> {
 
 /// Counts a failure.
 fn failed(failures: &mut u64) -> Failed
-    ensures { failures.new ≡ min (failures.old + 1) u64.MAX }
+    ensures { RisesByOne failures.old failures.new }
 {
     *failures = failures.saturating_add(1);
     Failed

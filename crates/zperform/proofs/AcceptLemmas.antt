@@ -1,18 +1,100 @@
 -- What was read of files, as what is known of them.
-use Rattle.std.proofs.Common.{◌≡◌, ℕ, List, Option, Some, None, refl, take, arith}
-use Rattle.std.specs.Prelude.{IfSome, IfOk, IfErr, Result, Ok, Err}
+use Rattle.std.proofs.Common.{◌≡◌, ◌≢◌, ℕ, List, Option, Some, None, ◌+◌, ◌<◌, ◌∙◌, refl, sym, ap, subst, take, length, length-take, arith}
+use Rattle.std.specs.Prelude.{IfSome, IfOk, IfErr, IsErr, IsErrAnd, Result, Ok, Err}
 use Rattle.zstory.specs.LoadedStory.{LoadedStory}
 use Rattle.zperform.specs.declared.outcome.Failure.TheVariants.{File, Read, Write, Memory}
 use Rattle.zperform.specs.declared.outcome.Problem.{Problem}
 use Rattle.zperform.specs.declared.outcome.Problem.TheVariants.{Refused, Unreadable, BreaksStory, BreaksInstruction, Failed}
-use Rattle.zperform.specs.Playing.{Holds, IsRefused, IsUnloaded}
-use Rattle.zperform.specs.Accepting.{HoldsStory, IsNoStory}
+use Rattle.zstory.specs.Refusal.{HasNone, IsCause}
+use Rattle.zstory.specs.declared.load_error.LoadError.TheVariants.{TooShort}
+use Rattle.zdomain.specs.declared.interval.Interval.{Interval}
+use Rattle.zcert.specs.Certificate.{Certificate}
+use Rattle.zcert.specs.Format.{interval_format}
+use Rattle.zcert.specs.Longest.{IsDecidedBy}
+use Rattle.zcert.specs.Reading.{reading}
+use Rattle.zcert.specs.declared.error.CertError.{CertError}
+use Rattle.zcert.specs.declared.limits.TheConstants.{LARGEST}
+use Rattle.zdomain.specs.Interval.{interval_operations}
+use Rattle.zcheck.specs.Passes.{IsRefused as IsRefusedBy}
+use Rattle.zcheck.specs.declared.refusal.Refusal.{Refusal}
+use Rattle.zcheck.specs.declared.refusal.Refusal.TheVariants as refusals
+use Rattle.zperform.specs.Report.{problem_of_checking}
+use Rattle.zperform.specs.Contents.{HasBytes}
+use Rattle.zperform.specs.Playing.{Holds, IsRefused, IsUnloaded, Reads}
+use Rattle.zperform.specs.Accepting.{HoldsCertificate, HoldsStory, IsNoCertificate, IsNoStory, IsUnaccepted, IsUnreadable}
 use Rattle.zperform.proofs.StoryFiles.{holds_whole, reads, refused_whole}
 
 -- of a file whose bytes are known
 pub where_known : (known : Option (List ℕ)) (P : List ℕ → Type 0) → ((bytes : List ℕ) → known ≡ Some bytes → P bytes) → IfSome known P
 where_known None P part = tt
 where_known (Some bytes) P part = part bytes refl
+
+-- a story that nothing speaks against has bytes
+pub sound_bytes : (file : List ℕ) → HasNone (IsCause file) → 0 < length file
+sound_bytes file none =
+    let long : ¬ (length file < 64) = none TooShort (omega arith) in
+    omega (arith, long)
+
+-- a file has bytes of which a part has some
+pub part_bytes : (known : Option (List ℕ)) (most : ℕ) (taken : List ℕ) → ((file : List ℕ) → known ≡ Some file → taken ≡ take most file) → 0 < length taken → HasBytes known
+part_bytes None most taken part some = tt
+part_bytes (Some file) most taken part some = omega (arith, ap length (part file refl), length-take most file)
+
+-- a file that holds a story has bytes
+pub story_bytes : (known : Option (List ℕ)) (story : LoadedStory) → HoldsStory known story → HasBytes known
+story_bytes None story held = tt
+story_bytes (Some file) story (same_file, same, holds) = subst (λ (bytes : List ℕ). 0 < length bytes) same (sound_bytes same_file holds.no_cause)
+
+-- what is refused of a story and a certificate is refused of their files
+pub refused_of : (story_known certificate_known : Option (List ℕ)) (story : LoadedStory) (c : Certificate Interval) → HoldsStory story_known story → HoldsCertificate certificate_known c
+    → (refusal : Refusal) → IsRefusedBy interval_operations story c refusal → IsUnaccepted story_known certificate_known (problem_of_checking refusal)
+refused_of story_known certificate_known story c held read (refusals.Story rule) why = record { story = story; certificate = c; held = held; read = read; why = why }
+refused_of story_known certificate_known story c held read (refusals.Instruction address rule) why = record { story = story; certificate = c; held = held; read = read; why = why }
+refused_of story_known certificate_known story c held read refusals.OutOfMemory why = story_bytes story_known story held
+
+-- an error that is handed on
+pub handed_on : {T : Type 0} (P : Problem → Type 0) (r : Result T Problem) (problem : Problem) → IsErr r × IsErrAnd r (λ q. q ≡ problem) → P problem → IfErr r P
+handed_on P (Ok x) problem (is, same) h = tt
+handed_on P (Err q) problem (is, same) h = subst P (sym same) h
+
+-- what is read of the part of a certificate's file is read of the file
+module _ (known : Option (List ℕ)) (taken : List ℕ) (part : (file : List ℕ) → known ≡ Some file → taken ≡ take (LARGEST + 1) file) (decided : IsDecidedBy interval_format (LARGEST + 1)) where
+  whole : (due : Result (Certificate Interval) CertError) → reading interval_format taken ≡ due → Reads known (λ file. reading interval_format file ≡ due)
+  whole due read = go known part
+    where
+      go : (o : Option (List ℕ)) → ((file : List ℕ) → o ≡ Some file → taken ≡ take (LARGEST + 1) file) → Reads o (λ file. reading interval_format file ≡ due)
+      go None part = (taken, tt, read)
+      go (Some file) part = (file, refl, sym (decided file) ∙ ap (reading interval_format) (sym (part file refl)) ∙ read)
+
+  pub certificate_held : (r : Result (Certificate Interval) Problem) → IfOk r (λ c. reading interval_format taken ≡ Ok c) → IfOk r (HoldsCertificate known)
+  certificate_held (Ok c) read = whole (Ok c) read
+  certificate_held (Err problem) read = tt
+
+  no_certificate : (problem : Problem) → IsUnreadable taken problem → IsNoCertificate known problem
+  no_certificate (Unreadable error) read = whole (Err error) read
+  no_certificate (Refused error) h = absurd h
+  no_certificate (BreaksStory rule) h = absurd h
+  no_certificate (BreaksInstruction address rule) h = absurd h
+  no_certificate (Failed File) h = absurd h
+  no_certificate (Failed Read) h = absurd h
+  no_certificate (Failed Write) h = absurd h
+  no_certificate (Failed Memory) h = tt
+
+  pub certificate_refused : (r : Result (Certificate Interval) Problem) → IfErr r (IsUnreadable taken) → IfErr r (IsNoCertificate known)
+  certificate_refused (Ok c) h = tt
+  certificate_refused (Err problem) h = no_certificate problem h
+
+-- bytes that aren't read as a certificate are no failure of a file
+pub unreadable_reads : (taken : List ℕ) (r : Result (Certificate Interval) Problem) → IfErr r (IsUnreadable taken) → r ≢ Err (Failed File)
+unreadable_reads taken (Ok c) h = λ e. cc
+unreadable_reads taken (Err (Failed File)) h = absurd h
+unreadable_reads taken (Err problem) h = λ e. cc
+
+-- nor is a story that isn't loaded
+pub unloaded_reads : (taken : List ℕ) (r : Result LoadedStory Problem) → IfErr r (IsUnloaded taken) → r ≢ Err (Failed File)
+unloaded_reads taken (Ok c) h = λ e. cc
+unloaded_reads taken (Err (Failed File)) h = absurd h
+unloaded_reads taken (Err problem) h = λ e. cc
 
 module _ (known : Option (List ℕ)) (taken : List ℕ) (part : (file : List ℕ) → known ≡ Some file → taken ≡ take 131073 file) where
   -- the part that was read holds a story, and so does the file
@@ -28,7 +110,7 @@ module _ (known : Option (List ℕ)) (taken : List ℕ) (part : (file : List ℕ
   no_story (Failed File) h = absurd h
   no_story (Failed Read) h = absurd h
   no_story (Failed Write) h = absurd h
-  no_story (Failed Memory) h = tt
+  no_story (Failed Memory) h = part_bytes known 131073 taken part (sound_bytes taken h)
 
   pub held_ok : (r : Result LoadedStory Problem) → IfOk r (Holds taken) → IfOk r (HoldsStory known)
   held_ok (Ok story) h = story_held story h

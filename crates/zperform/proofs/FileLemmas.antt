@@ -1,27 +1,27 @@
 -- Reading a file in pieces.
-use Rattle.std.proofs.Common.{◌≡◌, ◌∙◌, ◌+◌, ◌≤◌, ℕ, List, ◌++◌, length, take, sym, ap, ap₂, arith}
-use Rattle.std.proofs.lemmas.List.{drop_at, length-take-le, take-take, take_at}
-use Rattle.std.proofs.lemmas.Slice.{take-put_mid}
+use Rattle.std.proofs.Common.{◌≡◌, ◌∙◌, ◌+◌, ◌<◌, ◌≤◌, ◌⊎◌, inl, inr, ℕ, List, ◌++◌, length, take, drop, sym, ap, ap₂, arith, length-append}
+use Rattle.std.specs.Prelude.{Option, Some, None}
+use Rattle.std.proofs.lemmas.List.{length-take-le, take_all}
 use Rattle.std.proofs.Math.Seq.{take-add}
-use borrow.Rule.Slice.PartMut.{put_mid}
-use Rattle.zperform.specs.Contents.{GivesPart, IsBeginning}
-
--- the beginning of a buffer of which a part was written
-written : (filled room count : ℕ) (buffer part : List ℕ) → filled ≤ length buffer → count ≤ length part
-    → take (filled + count) (put_mid filled room buffer part) ≡ take filled buffer ++ take count part
-written filled room count buffer part within few =
-    let front : length (take filled buffer) ≡ filled = length-take-le filled buffer within in
-    let shorter = sym (take-take (filled + count) (filled + length part) (put_mid filled room buffer part) (omega arith)) in
-    let whole = ap (take (filled + count)) (take-put_mid filled room buffer part (filled + length part) (omega arith) within) in
-    let split = take-add filled count (take filled buffer ++ part) in
-    let parts = ap₂ (λ (xs ys : List ℕ). xs ++ take count ys) (take_at (take filled buffer) part filled front) (drop_at (take filled buffer) part filled front) in
-    shorter ∙ whole ∙ split ∙ parts
+use Rattle.zperform.specs.Contents.{GivesPart, HasBytes, IsBeginning, ReadsPart}
 
 -- a beginning, and the bytes that follow it
-pub beginning_more : (filled room count : ℕ) (buffer part file : List ℕ) → filled ≤ length buffer → count ≤ length part → IsBeginning filled buffer file → GivesPart file filled count part
-    → IsBeginning (filled + count) (put_mid filled room buffer part) file
-beginning_more filled room count buffer part file within few begun more =
-    let split = take-add filled count file in (
-      omega (arith, begun.0, more.within),
-      written filled room count buffer part within few ∙ ap₂ (λ (xs ys : List ℕ). xs ++ ys) begun.1 more.read ∙ sym split,
-    )
+pub beginning_more : (at count : ℕ) (part buffer whole file : List ℕ) → at ≡ length part → count ≤ length buffer → whole ≡ part ++ take count buffer → IsBeginning part file → GivesPart file at count buffer → IsBeginning whole file
+beginning_more at count part buffer whole file place few is begun more =
+    let long : length whole ≡ at + count = ap length is ∙ length-append part (take count buffer) ∙ ap₂ (λ (m n : ℕ). m + n) (sym place) (length-take-le count buffer few) in
+    let split : take (at + count) file ≡ take at file ++ take count (drop at file) = take-add at count file in
+    is ∙ ap₂ (λ (xs ys : List ℕ). xs ++ ys) (begun ∙ ap (λ (n : ℕ). take n file) (sym place)) more.read ∙ sym split ∙ ap (λ (n : ℕ). take n file) (sym long)
+
+-- a beginning that is as long as was asked for, or is the whole file
+pub beginning_whole : (most : ℕ) (part file : List ℕ) → IsBeginning part file → length part ≤ most → (most ≤ length part) ⊎ (length file ≤ length part) → part ≡ take most file
+beginning_whole most part file begun few (inl full) =
+    let same : length part ≡ most = omega arith in
+    begun ∙ ap (λ (n : ℕ). take n file) same
+beginning_whole most part file begun few (inr end) =
+    let all : length file ≤ most = omega arith in
+    begun ∙ take_all (length part) file end ∙ sym (take_all most file all)
+
+-- a file that gave a byte has one
+pub has_bytes : (known : Option (List ℕ)) (from count : ℕ) (buffer : List ℕ) → ReadsPart known from count buffer → 0 < count → HasBytes known
+has_bytes None from count buffer given some = tt
+has_bytes (Some file) from count buffer given some = omega (arith, given.within)

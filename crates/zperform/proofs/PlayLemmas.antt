@@ -1,8 +1,6 @@
 -- What a play of a loaded story comes to.
-use Rattle.std.proofs.Common.{◌≡◌, ◌≢◌, ◌⊎◌, inl, inr, ◌∙◌, ℕ, List, [], length, Option, Some, true≢false, Result, Ok, Err, IsErr, IsErrAnd, refl, sym, ap, subst, arith, take}
-use Rattle.std.specs.Io.KnownBytes.{Appends, Keeps}
-use Rattle.std.proofs.KnownBytes.{Appends-kept}
-use Rattle.std.proofs.Math.Seq.{take-length}
+use Rattle.std.proofs.Common.{◌≡◌, ◌≢◌, ◌⊎◌, inl, inr, ◌∙◌, ℕ, List, [], Option, Some, true≢false, Result, Ok, Err, IsErr, IsErrAnd, refl, sym, ap, subst, arith, take}
+use Rattle.std.specs.Io.KnownBytes.{Appends}
 use Rattle.zfault.specs.Devices.{AppendsBeginning}
 use Rattle.zstory.specs.LoadedStory.{LoadedStory}
 use Rattle.zstory.specs.Refusal.{IsCause, IsLowest}
@@ -24,6 +22,8 @@ use Rattle.zperform.specs.declared.outcome.Outcome.{Outcome}
 use Rattle.zperform.specs.declared.outcome.Outcome.TheVariants.{Accepted, Played, Stopped}
 use Rattle.zperform.specs.Playing.{ComesTo, Holds, IsBegun, IsCutShort, IsPlayed, IsRefused, IsUnloaded, Reads, ending_of}
 use Rattle.zperform.specs.Report.{outcome_of, problem_of_load, problem_of_play}
+use Rattle.zperform.specs.Contents.{HasBytes}
+use Rattle.zperform.proofs.AcceptLemmas.{part_bytes, sound_bytes}
 use Rattle.zperform.proofs.StoryFiles.{holds_whole, reads, refused_whole}
 
 -- what the part that was read comes to, the file comes to
@@ -43,14 +43,15 @@ module _ (known : Option (List ℕ)) (taken : List ℕ) (budget : ℕ) (before n
   of_part (Stopped (Failed Read)) h = h
   of_part (Stopped (Failed Write)) h =
       along (λ file. IsBegun file budget before now) (λ file e p. record { story = p.story; holds = holds_whole 131073 taken file (omega arith) e p.story p.holds; begun = p.begun }) h
-  of_part (Stopped (Failed Memory)) (inl same) = inl same
+  of_part (Stopped (Failed Memory)) (inl (same, some)) = inl (same, part_bytes known 131073 taken part some)
   of_part (Stopped (Failed Memory)) (inr h) =
       inr (along (λ file. IsCutShort file budget before now) (λ file e p. record { story = p.story; holds = holds_whole 131073 taken file (omega arith) e p.story p.holds; state = p.state; finished = p.finished }) h)
 
 -- a file that couldn't be read
-pub unread : (known : Option (List ℕ)) (budget : ℕ) (before : Option (List ℕ)) (problem : Problem) → (problem ≡ Failed File) ⊎ (problem ≡ Failed Memory) → ComesTo known budget before before (Stopped problem)
-unread known budget before problem (inl e) = subst (λ (x : Problem). ComesTo known budget before before (Stopped x)) (sym e) refl
-unread known budget before problem (inr e) = subst (λ (x : Problem). ComesTo known budget before before (Stopped x)) (sym e) (inl refl)
+pub unread : (known : Option (List ℕ)) (budget : ℕ) (before : Option (List ℕ)) (problem : Problem) → (problem ≡ Failed File) ⊎ (problem ≡ Failed Memory) → (problem ≡ Failed Memory → HasBytes known)
+    → ComesTo known budget before before (Stopped problem)
+unread known budget before problem (inl e) wanted = subst (λ (x : Problem). ComesTo known budget before before (Stopped x)) (sym e) refl
+unread known budget before problem (inr e) wanted = subst (λ (x : Problem). ComesTo known budget before before (Stopped x)) (sym e) (inl (refl, wanted e))
 
 -- a file that isn't loaded
 pub unloaded : (file : List ℕ) (error : LoadError) → IsLowest (IsCause file) error → IsUnloaded file (problem_of_load error)
@@ -65,7 +66,7 @@ unloaded file Dictionary h = record { lowest = h; of_file = λ e. cc }
 unloaded file EntryLength h = record { lowest = h; of_file = λ e. cc }
 unloaded file DictionaryOrder h = record { lowest = h; of_file = λ e. cc }
 unloaded file FirstInstruction h = record { lowest = h; of_file = λ e. cc }
-unloaded file OutOfMemory h = tt
+unloaded file OutOfMemory h = h.1
 
 pub unloaded_comes : (file : List ℕ) (budget : ℕ) (before : Option (List ℕ)) (problem : Problem) → IsUnloaded file problem → ComesTo (Some file) budget before before (Stopped problem)
 unloaded_comes file budget before (Refused error) h = ((file, refl, h), refl)
@@ -75,29 +76,23 @@ unloaded_comes file budget before (BreaksInstruction address rule) h = absurd h
 unloaded_comes file budget before (Failed File) h = absurd h
 unloaded_comes file budget before (Failed Read) h = absurd h
 unloaded_comes file budget before (Failed Write) h = absurd h
-unloaded_comes file budget before (Failed Memory) h = inl refl
+unloaded_comes file budget before (Failed Memory) h = inl (refl, sound_bytes file h)
 
-pub unloaded_blames : (file : List ℕ) (problem : Problem) → IsUnloaded file problem → problem ≢ Failed Write
-unloaded_blames file (Refused error) h = λ e. cc
+pub unloaded_blames : (file : List ℕ) (problem : Problem) → IsUnloaded file problem → (problem ≢ Failed Write) × (problem ≢ Failed File)
+unloaded_blames file (Refused error) h = (λ e. cc, λ e. cc)
 unloaded_blames file (Unreadable error) h = absurd h
 unloaded_blames file (BreaksStory rule) h = absurd h
 unloaded_blames file (BreaksInstruction address rule) h = absurd h
 unloaded_blames file (Failed File) h = absurd h
 unloaded_blames file (Failed Read) h = absurd h
 unloaded_blames file (Failed Write) h = absurd h
-unloaded_blames file (Failed Memory) h = λ e. cc
+unloaded_blames file (Failed Memory) h = (λ e. cc, λ e. cc)
 
 -- a problem that is handed on
 pub passed_on : (known : Option (List ℕ)) (budget : ℕ) (before now : Option (List ℕ)) (r : Result End Problem) (problem : Problem) → IsErr r × IsErrAnd r (λ q. q ≡ problem)
     → ComesTo known budget before now (Stopped problem) → ComesTo known budget before now (outcome_of r)
 passed_on known budget before now (Ok end) problem (is, same) h = absurd (true≢false (sym is))
 passed_on known budget before now (Err q) problem (is, same) h = subst (λ (x : Problem). ComesTo known budget before now (Stopped x)) (sym same) h
-
--- what was written whole and then kept was begun
-pub whole_begun : (before now later : Option (List ℕ)) (bytes : List ℕ) → Appends before now bytes → Keeps now later → AppendsBeginning before later bytes
-whole_begun before now later bytes written kept =
-    let all = Appends-kept before now later bytes written kept in
-    record { taken = length bytes; grown = subst (Appends before later) (sym (take-length bytes)) all }
 
 -- a story that was played from its opening
 module _ (file : List ℕ) (story : LoadedStory) (holds : Holds file story) (budget : ℕ) (m : Machine) (opened : m ≡ record { story = story; scope = All; state = opening story }) (before now : Option (List ℕ)) where
@@ -107,25 +102,18 @@ module _ (file : List ℕ) (story : LoadedStory) (holds : Holds file story) (bud
   same : ending ≡ ending_of story budget
   same = ap (λ (x : Machine). run (setting x) [] budget x.state) opened
 
-  -- what was written is handed on
-  pub played : (end : End) (later : Option (List ℕ)) → end ≡ end_of ending.stop → Appends before now (render ending.items) → Keeps now later → ComesTo (Some file) budget before later (Played end)
-  played end later ended written kept = (
+  -- to its end
+  pub played : (end : End) → end ≡ end_of ending.stop → Appends before now (render ending.items) → ComesTo (Some file) budget before now (Played end)
+  played end ended written = (
     file,
     refl,
     record {
       story = story;
       holds = holds;
       ended = ended ∙ ap (λ (e : Ending). end_of e.stop) same;
-      written = Appends-kept before now later _ (subst (λ (e : Ending). Appends before now (render e.items)) same written) kept;
+      written = subst (λ (e : Ending). Appends before now (render e.items)) same written;
     },
   )
-
-  -- or isn't
-  pub unflushed : (later : Option (List ℕ)) → Appends before now (render ending.items) → Keeps now later → ComesTo (Some file) budget before later (Stopped (Failed Write))
-  unflushed later written kept =
-      let all = Appends-kept before now later _ (subst (λ (e : Ending). Appends before now (render e.items)) same written) kept in
-      let bytes = render (ending_of story budget).items in
-      (file, refl, record { story = story; holds = holds; begun = record { taken = length bytes; grown = subst (Appends before later) (sym (take-length bytes)) all } })
 
   -- playing broke off
   pub broken : (error : PlayError) → error ≢ errors.Read → (error ≡ errors.Write → AppendsBeginning before now (render ending.items)) → (state : State) → (error ≡ errors.OutOfMemory → PlaysSome (setting m) budget m.state state before now)

@@ -1,8 +1,7 @@
 -- What comes of playing by a certificate.
 use Rattle.std.proofs.Common.{◌≡◌, ◌≢◌, inl, inr, ◌∙◌, ℕ, List, [], refl, sym, ap, subst, true≢false}
 use Rattle.std.specs.Prelude.{ℤ, Option, Result, Ok, Err, IsErr, IsErrAnd}
-use Rattle.std.specs.Io.KnownBytes.{Appends, Keeps}
-use Rattle.std.proofs.KnownBytes.{Appends-kept}
+use Rattle.std.specs.Io.KnownBytes.{Appends}
 use Rattle.zfault.specs.declared.fault.Fault.{Fault}
 use Rattle.zfault.specs.Devices.{AppendsBeginning}
 use Rattle.zstate.specs.State.{State, opening}
@@ -21,7 +20,13 @@ use Rattle.zperform.specs.declared.outcome.Problem.TheVariants.{Refused, Unreada
 use Rattle.zperform.specs.declared.outcome.Outcome.TheVariants.{Played, Stopped}
 use Rattle.zperform.specs.Accepting.{IsAccepted, IsUnaccepted, PlayComesTo, ending_with}
 use Rattle.zperform.specs.Report.{outcome_of, problem_of_play}
-use Rattle.zperform.proofs.PlayLemmas.{whole_begun}
+use Rattle.zperform.specs.Contents.{HasBytes}
+use Rattle.zperform.proofs.AcceptLemmas.{story_bytes}
+
+-- a failed write is handed on as one
+pub as_write : (r : Result End Problem) (error : PlayError) → IsErr r × IsErrAnd r (λ q. q ≡ problem_of_play error) → error ≡ errors.Write → r ≡ Err (Failed Write)
+as_write (Ok end) error (is, same) e = absurd (true≢false (sym is))
+as_write (Err q) error (is, same) e = ap Err (same ∙ ap problem_of_play e)
 
 module _ (story certificate : Option (List ℕ)) (budget : ℕ) (before : Option (List ℕ)) where
   -- what isn't accepted isn't played
@@ -31,7 +36,7 @@ module _ (story certificate : Option (List ℕ)) (budget : ℕ) (before : Option
   unaccepted (BreaksStory rule) h = (h, refl)
   unaccepted (BreaksInstruction address rule) h = (h, refl)
   unaccepted (Failed File) h = (h, refl)
-  unaccepted (Failed Memory) h = inl refl
+  unaccepted (Failed Memory) h = inl (refl, h)
   unaccepted (Failed Read) h = absurd h
   unaccepted (Failed Write) h = absurd h
 
@@ -51,6 +56,10 @@ module _ (story certificate : Option (List ℕ)) (budget : ℕ) (before : Option
   handed_on now (Ok end) problem (is, same) h = absurd (true≢false (sym is))
   handed_on now (Err q) problem (is, same) h = subst (λ (x : Problem). PlayComesTo story certificate budget before now (Stopped x)) (sym same) h
 
+  -- memory for the session was refused
+  pub unopened : (a : Acceptance) → IsAccepted story certificate a → HasBytes story
+  unopened a accepted = story_bytes story a.story accepted.story
+
   -- a session that opened
   module _ (a : Acceptance) (accepted : IsAccepted story certificate a) (p : Playing) (opened : p ≡ record { accepted = a; state = opening a.story }) (now : Option (List ℕ)) where
     abbrev ending : Ending
@@ -59,21 +68,9 @@ module _ (story certificate : Option (List ℕ)) (budget : ℕ) (before : Option
     same : ending ≡ ending_with a budget
     same = ap (λ (q : Playing). run (setting_of q.accepted) [] budget q.state) opened
 
-    pub played : (end : End) (later : Option (List ℕ)) → end ≡ end_of ending.stop → ((fault : Fault) (place : ℤ) → end ≢ ends.Fault fault place) → Appends before now (render ending.items) → Keeps now later
-        → PlayComesTo story certificate budget before later (Played end)
-    played end later ended safe written kept = (
-      a,
-      accepted,
-      record {
-        ended = ended ∙ ap (λ (e : Ending). end_of e.stop) same;
-        safe = safe;
-        written = Appends-kept before now later _ (subst (λ (e : Ending). Appends before now (render e.items)) same written) kept;
-      },
-    )
-
-    pub unflushed : (later : Option (List ℕ)) → Appends before now (render ending.items) → Keeps now later → PlayComesTo story certificate budget before later (Stopped (Failed Write))
-    unflushed later written kept =
-        (a, accepted, whole_begun before now later (render (ending_with a budget).items) (subst (λ (e : Ending). Appends before now (render e.items)) same written) kept)
+    pub played : (end : End) → end ≡ end_of ending.stop → ((fault : Fault) (place : ℤ) → end ≢ ends.Fault fault place) → Appends before now (render ending.items) → PlayComesTo story certificate budget before now (Played end)
+    played end ended safe written =
+        (a, accepted, record { ended = ended ∙ ap (λ (e : Ending). end_of e.stop) same; safe = safe; written = subst (λ (e : Ending). Appends before now (render e.items)) same written })
 
     pub broken : (error : PlayError) → error ≢ errors.Read → (error ≡ errors.Write → AppendsBeginning before now (render ending.items)) → (state : State) → (error ≡ errors.OutOfMemory → PlaysSome (setting_of p.accepted) budget p.state state before now)
         → PlayComesTo story certificate budget before now (Stopped (problem_of_play error))

@@ -1,38 +1,136 @@
 -- Values of the definitions, computed.
-use Rattle.std.proofs.Common.{◌≡◌, inl, ℕ, List, length, ap, [], ◌∷◌, ◌++◌, true, false, pos, codes, decimal, refl, arith}
+use Rattle.std.proofs.Common.{◌≡◌, ◌<◌, inl, inr, ℕ, List, length, ap, [], ◌∷◌, ◌++◌, Bool, true, false, pos, codes, Err, refl, arith}
+use Rattle.std.specs.Fmt.{digits}
 use Rattle.clap.specs.declared.error.kind.ErrorKind.TheVariants.{DisplayHelp, DisplayVersion, UnknownArgument}
+use Rattle.zfault.specs.declared.fault.Fault.{Fault}
 use Rattle.zfault.specs.declared.fault.Fault.TheVariants as faults
+use Rattle.zstory.specs.LoadedStory.{LoadedStory}
+use Rattle.zstory.specs.Refusal.{number_of}
+use Rattle.zstory.specs.declared.load_error.LoadError.{LoadError}
 use Rattle.zstory.specs.declared.load_error.LoadError.TheVariants as loads
 use Rattle.zcert.specs.declared.error.CertError.TheVariants as readings
+use Rattle.zcert.specs.Format.{interval_format}
+use Rattle.zcert.specs.Reading.{heading_at, magic_at, reading}
 use Rattle.zrule.specs.declared.rule.Rule.TheVariants as rules
 use Rattle.zcheck.specs.declared.refusal.StoryRule.TheVariants as story_rules
 use Rattle.zcheck.specs.declared.refusal.Refusal.TheVariants as refusals
 use Rattle.zplayer.specs.declared.end.End.TheVariants as ends
 use Rattle.zplayer.specs.declared.end.PlayError.TheVariants as errors
-use Rattle.zperform.specs.declared.outcome.Failure.TheVariants.{Read, Write, Memory}
+use Rattle.zperform.specs.declared.outcome.Failure.{Failure}
+use Rattle.zperform.specs.declared.outcome.Failure.TheVariants.{File, Read, Write, Memory}
 use Rattle.zperform.specs.declared.outcome.Problem.TheVariants.{Refused, Unreadable, BreaksStory, BreaksInstruction, Failed}
 use Rattle.zperform.specs.declared.outcome.Outcome.TheVariants.{Accepted, Played, Stopped}
-use Rattle.std.specs.Prelude.{Option, Some}
+use Rattle.std.specs.Prelude.{ℤ, negsuc, Option, Some}
 use Rattle.zperform.specs.Contents.{GivesPart, IsBeginning}
 use Rattle.zperform.specs.Accepting.{CheckComesTo, PlayComesTo}
 use Rattle.zperform.specs.Performing.{Breaks, Seen, Says, Takes, is_request}
-use Rattle.zperform.specs.Playing.{ComesTo}
+use Rattle.zperform.specs.Playing.{ComesTo, Holds, IsRefused}
+use Rattle.zperform.specs.declared.accepting.TheConstants.{CERTIFICATE_LIMIT, STORY_LIMIT}
 use Rattle.zperform.specs.Report.{line_of, place_text, problem_of_checking, problem_of_load, problem_of_play, problem_of_reading, status_of, text_of}
 
-statuses : (status_of Accepted ≡ 0) × (status_of (Played ends.Quit) ≡ 0) × (status_of (Played ends.Budget) ≡ 0) × (status_of (Played (ends.Fault faults.IllegalOpcode (pos 804))) ≡ 3) × (status_of (Stopped (Refused loads.TooShort)) ≡ 1) × (status_of (Stopped (Failed Write)) ≡ 4)
-statuses = (refl, refl, refl, refl, refl, refl)
+-- ---- what is said, and the exit statuses
 
-places : (place_text (pos 0) ≡ codes "00000") × (place_text (pos 804) ≡ codes "00324") × (place_text (pos 1048575) ≡ codes "fffff") × (place_text (pos 1048576) ≡ decimal 1048576)
-places = (refl, refl, refl, refl)
+-- what was done
+done :
+    (text_of Accepted ≡ []) × (text_of (Played ends.Quit) ≡ []) × (text_of (Played ends.NoInput) ≡ codes "end: no input") × (text_of (Played ends.Budget) ≡ codes "end: budget")
+    × (text_of (Played ends.FrameLimit) ≡ codes "end: frame limit")
+done = (refl, refl, refl, refl, refl)
 
-texts :
-    (text_of Accepted ≡ []) × (text_of (Stopped (BreaksInstruction 804 rules.Successor)) ≡ codes "refused: I" ++ decimal 4 ++ codes " at " ++ codes "00324")
-    × (text_of (Played (ends.Fault faults.IllegalOpcode (pos 804))) ≡ codes "fault: F" ++ decimal 2 ++ codes " at " ++ codes "00324")
-    × (text_of (Played ends.NoInput) ≡ codes "end: no input") × (text_of (Stopped (Failed Memory)) ≡ codes "failed: memory")
-texts = (refl, refl, refl, refl, refl)
+-- the story's fault, at each kind of place
+faulty :
+    (text_of (Played (ends.Fault faults.IllegalOpcode (pos 804))) ≡ codes "fault: F2 at 00324") × (text_of (Played (ends.Fault faults.UnlistedInstruction (pos 0))) ≡ codes "fault: F1 at 00000")
+    × (text_of (Played (ends.Fault faults.BadVariable (pos 1048575))) ≡ codes "fault: F16 at fffff") × (text_of (Played (ends.Fault faults.ReturnFromMain (pos 1048576))) ≡ codes "fault: F15 at 1048576")
+    × (text_of (Played (ends.Fault faults.StackUnderflow (negsuc 6))) ≡ codes "fault: F4 at -7")
+unfolding digits
+faulty = (refl, refl, refl, refl, refl)
 
-lines : (line_of [] ≡ []) × (line_of (codes "end: budget") ≡ codes "end: budget" ++ 10 ∷ [])
-lines = (refl, refl)
+places :
+    (place_text (pos 0) ≡ codes "00000") × (place_text (pos 43981) ≡ codes "0abcd") × (place_text (pos 1048575) ≡ codes "fffff") × (place_text (pos 1048576) ≡ codes "1048576") × (place_text (negsuc 0) ≡ codes "-1")
+    × (place_text (negsuc 2147483647) ≡ codes "-2147483648")
+unfolding digits
+places = (refl, refl, refl, refl, refl, refl)
+
+-- what is wrong with a story, with a certificate, and with both
+refused :
+    (text_of (Stopped (Refused loads.TooShort)) ≡ codes "refused: L1") × (text_of (Stopped (Refused loads.TooLong)) ≡ codes "refused: L2") × (text_of (Stopped (Refused loads.FirstInstruction)) ≡ codes "refused: L11")
+    × (text_of (Stopped (Unreadable readings.Magic)) ≡ codes "refused: K1") × (text_of (Stopped (Unreadable readings.Truncated)) ≡ codes "refused: K3") × (text_of (Stopped (Unreadable readings.Limit)) ≡ codes "refused: K7")
+    × (text_of (Stopped (BreaksStory story_rules.Identity)) ≡ codes "refused: S1") × (text_of (Stopped (BreaksInstruction 804 rules.Successor)) ≡ codes "refused: I4 at 00324")
+    × (text_of (Stopped (BreaksInstruction 1048576 rules.Successor)) ≡ codes "refused: I4 at 1048576")
+unfolding digits
+refused = (refl, refl, refl, refl, refl, refl, refl, refl, refl)
+
+failed :
+    (text_of (Stopped (Failed File)) ≡ codes "failed: file") × (text_of (Stopped (Failed Read)) ≡ codes "failed: read") × (text_of (Stopped (Failed Write)) ≡ codes "failed: write")
+    × (text_of (Stopped (Failed Memory)) ≡ codes "failed: memory")
+failed = (refl, refl, refl, refl)
+
+-- a line ends with the byte 10, and with nothing to say there is none
+lines : (line_of [] ≡ []) × (line_of (codes "end: budget") ≡ codes "end: budget" ++ 10 ∷ []) × (line_of (text_of (Stopped (Failed Write))) ≡ codes "failed: write" ++ 10 ∷ [])
+lines = (refl, refl, refl)
+
+well : (status_of Accepted ≡ 0) × (status_of (Played ends.Quit) ≡ 0) × (status_of (Played ends.NoInput) ≡ 0) × (status_of (Played ends.Budget) ≡ 0) × (status_of (Played ends.FrameLimit) ≡ 0)
+well = (refl, refl, refl, refl, refl)
+
+refusals_are_1 :
+    (status_of (Stopped (Refused loads.TooShort)) ≡ 1) × (status_of (Stopped (Unreadable readings.Truncated)) ≡ 1) × (status_of (Stopped (BreaksStory story_rules.Tables)) ≡ 1)
+    × (status_of (Stopped (BreaksInstruction 804 rules.Successor)) ≡ 1)
+refusals_are_1 = (refl, refl, refl, refl)
+
+faults_are_3 : (fault : Fault) (place : ℤ) → status_of (Played (ends.Fault fault place)) ≡ 3
+faults_are_3 fault place = refl
+
+failures_are_4 : (failure : Failure) → status_of (Stopped (Failed failure)) ≡ 4
+failures_are_4 failure = refl
+
+-- ---- how far files are read
+
+limits : (STORY_LIMIT ≡ 131073) × (CERTIFICATE_LIMIT ≡ 8782812)
+limits = (refl, refl)
+
+-- A file of 131,073 bytes or more is refused as too long, or it isn't read at all. It holds no story.
+long_file : (file : List ℕ) → 131072 < length file → ((error : LoadError) → IsRefused file error → error ≡ loads.TooLong) × ((story : LoadedStory) → Holds file story → ⊥)
+long_file file long = (lowest, λ story holds. holds.no_cause loads.TooLong (omega arith) long)
+  where
+    lowest : (error : LoadError) → IsRefused file error → error ≡ loads.TooLong
+    lowest loads.TooShort is = absurd (omega (arith, is.lowest.0))
+    lowest loads.TooLong is = refl
+    lowest loads.OutOfMemory is = absurd (is.of_file refl)
+    lowest loads.NotVersion3 is = absurd (is.lowest.1 loads.TooLong (omega arith) long)
+    lowest loads.LengthWord is = absurd (is.lowest.1 loads.TooLong (omega arith) long)
+    lowest loads.StaticBase is = absurd (is.lowest.1 loads.TooLong (omega arith) long)
+    lowest loads.Globals is = absurd (is.lowest.1 loads.TooLong (omega arith) long)
+    lowest loads.Objects is = absurd (is.lowest.1 loads.TooLong (omega arith) long)
+    lowest loads.Dictionary is = absurd (is.lowest.1 loads.TooLong (omega arith) long)
+    lowest loads.EntryLength is = absurd (is.lowest.1 loads.TooLong (omega arith) long)
+    lowest loads.DictionaryOrder is = absurd (is.lowest.1 loads.TooLong (omega arith) long)
+    lowest loads.FirstInstruction is = absurd (is.lowest.1 loads.TooLong (omega arith) long)
+
+-- an empty file is no certificate: it is cut off
+empty_certificate : reading interval_format [] ≡ Err readings.Truncated
+unfolding reading heading_at magic_at
+empty_certificate = refl
+
+-- for an empty story's file memory is never wanted, and it is too short
+empty_story : (budget : ℕ) (before now : Option (List ℕ)) → (ComesTo (Some []) budget before now (Stopped (Failed Memory)) → ⊥) × (IsRefused [] loads.TooShort)
+empty_story budget before now = (unwanted, record { lowest = (omega arith, λ lower below. absurd (none lower below)); of_file = λ e. cc })
+  where
+    unwanted : ComesTo (Some []) budget before now (Stopped (Failed Memory)) → ⊥
+    unwanted (inl (same, some)) = omega (arith, some)
+    unwanted (inr (file, same, cut)) = cut.holds.no_cause loads.TooShort (omega arith) (omega (arith, ap length same))
+
+    none : (lower : LoadError) → number_of lower < 1 → ⊥
+    none loads.TooShort below = omega (arith, below)
+    none loads.TooLong below = omega (arith, below)
+    none loads.NotVersion3 below = omega (arith, below)
+    none loads.LengthWord below = omega (arith, below)
+    none loads.StaticBase below = omega (arith, below)
+    none loads.Globals below = omega (arith, below)
+    none loads.Objects below = omega (arith, below)
+    none loads.Dictionary below = omega (arith, below)
+    none loads.EntryLength below = omega (arith, below)
+    none loads.DictionaryOrder below = omega (arith, below)
+    none loads.FirstInstruction below = omega (arith, below)
+    none loads.OutOfMemory below = omega (arith, below)
 
 -- what asks, and what is a mistake
 kinds : (is_request DisplayHelp ≡ true) × (is_request DisplayVersion ≡ true) × (is_request UnknownArgument ≡ false)
@@ -54,18 +152,28 @@ given = (record { within = omega arith; read = refl; ends = λ none _. omega (ar
 no_gap : GivesPart (10 ∷ 20 ∷ 30 ∷ []) 1 0 (99 ∷ []) → ⊥
 no_gap it = omega (arith, it.ends refl (omega arith))
 
-begun : IsBeginning 2 (10 ∷ 20 ∷ 99 ∷ []) (10 ∷ 20 ∷ 30 ∷ []) × (IsBeginning 3 (10 ∷ 20 ∷ 30 ∷ []) (10 ∷ 20 ∷ []) → ⊥)
-begun = ((omega arith, refl), λ it. omega (arith, it.0))
+-- the first two bytes of three, and two others
+begun : IsBeginning (10 ∷ 20 ∷ []) (10 ∷ 20 ∷ 30 ∷ []) × IsBeginning [] [] × (IsBeginning (10 ∷ 30 ∷ []) (10 ∷ 20 ∷ 30 ∷ []) → ⊥) × (IsBeginning (10 ∷ 20 ∷ []) (10 ∷ []) → ⊥)
+begun = (refl, refl, λ e. absurd cc, λ e. absurd cc)
 
 -- ---- what is said, and what commands come to
 
-shelf : List ℕ → ℕ → Seen
-shelf bytes failures = record { contents = Some bytes; failures = failures }
+shelf : List ℕ → ℕ → Bool → Seen
+shelf bytes failures waits = record { contents = Some bytes; failures = failures; waits = waits }
 
--- a text is taken whole, or a failure breaks it off; it isn't lost in silence
-said : Says (shelf (1 ∷ []) 0) (shelf (1 ∷ 2 ∷ 3 ∷ []) 0) (2 ∷ 3 ∷ []) × (Takes (shelf (1 ∷ []) 0) (shelf (1 ∷ []) 0) (2 ∷ []) → ⊥) × (Breaks (shelf [] 0) (shelf [] 0) (2 ∷ []) → ⊥)
+-- a text is taken whole and flushed, or a failure breaks it off; it isn't lost in silence, nor left unflushed, nor tried twice
+said :
+    Says (shelf (1 ∷ []) 0 false) (shelf (1 ∷ 2 ∷ 3 ∷ []) 0 false) (2 ∷ 3 ∷ []) × (Takes (shelf (1 ∷ []) 0 false) (shelf (1 ∷ []) 0 false) (2 ∷ []) → ⊥) × (Takes (shelf [] 0 false) (shelf (2 ∷ []) 0 true) (2 ∷ []) → ⊥)
+    × (Breaks (shelf [] 0 false) (shelf [] 0 false) (2 ∷ []) → ⊥) × (Breaks (shelf [] 0 false) (shelf [] 2 false) (2 ∷ []) → ⊥) × (Says (shelf [] 0 false) (shelf [] 1 false) [] → ⊥)
 unfolding shelf
-said = (inl (record { whole = refl; quiet = refl }), λ taken. omega (arith, ap length taken.whole), λ broken. omega (arith, broken.blamed))
+said = (
+  inl (record { whole = refl; quiet = refl; flushed = refl }),
+  λ taken. omega (arith, ap length taken.whole),
+  λ taken. absurd (let e = taken.flushed in cc),
+  λ broken. omega (arith, broken.blamed),
+  λ broken. omega (arith, broken.blamed),
+  λ same. omega (arith, ap (λ (s : Seen). s.failures) same),
+)
 
 -- playing never comes to an acceptance or to a failed read, nor checking to the end of a play
 never : (story certificate before now : Option (List ℕ)) (budget : ℕ) →

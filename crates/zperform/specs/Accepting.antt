@@ -1,5 +1,5 @@
 -- What the files of a story and of a certificate come to (own).
-use Rattle.std.specs.Prelude.{◌≡◌, ◌≢◌, ◌⊎◌, ⊤, ℕ, ℤ, ◌++◌, ◌∷◌, [], List, Option, IfSome, Ok, Err, codes, take}
+use Rattle.std.specs.Prelude.{◌≡◌, ◌≢◌, ◌⊎◌, ⊤, ℕ, ℤ, ◌++◌, ◌∷◌, [], List, Option, Ok, Err, codes}
 use Rattle.std.specs.Io.KnownBytes.{Appends}
 use Rattle.zfault.specs.Devices.{AppendsBeginning}
 use Rattle.zfault.specs.declared.fault.Fault.{Fault}
@@ -18,7 +18,7 @@ use Rattle.zcert.specs.Reading.{reading}
 use Rattle.zcheck.specs.Acceptance.{Acceptance, IsListingOf}
 use Rattle.zcheck.specs.Passes.{IsCause, Passes}
 use Rattle.zcheck.specs.declared.refusal.Refusal.TheVariants.{Story, Instruction}
-use Rattle.zperform.specs.declared.accepting.TheConstants.{CERTIFICATE_LIMIT}
+use Rattle.zperform.specs.Contents.{HasBytes}
 use Rattle.zperform.specs.declared.outcome.Failure.TheVariants.{File, Read, Write, Memory}
 use Rattle.zperform.specs.declared.outcome.Problem.{Problem}
 use Rattle.zperform.specs.declared.outcome.Problem.TheVariants.{Refused, Unreadable, BreaksStory, BreaksInstruction, Failed}
@@ -26,17 +26,13 @@ use Rattle.zperform.specs.declared.outcome.Outcome.{Outcome}
 use Rattle.zperform.specs.declared.outcome.Outcome.TheVariants.{Accepted, Played, Stopped}
 use Rattle.zperform.specs.Playing.{Holds, IsRefused, Reads}
 
--- a file with this property was read, as far as the limit: the one of the name, where its bytes are known
-abbrev pub ReadsPart : Option (List ℕ) → (List ℕ → Type 0) → Type 0
-ReadsPart known property = (part : List ℕ) × IfSome known (λ bytes. part ≡ take CERTIFICATE_LIMIT bytes) × property part
-
 -- the story that a file holds
 abbrev pub HoldsStory : Option (List ℕ) → LoadedStory → Type 0
 HoldsStory known story = Reads known (λ file. Holds file story)
 
 -- the certificate that a file spells
 abbrev pub HoldsCertificate : Option (List ℕ) → Certificate Interval → Type 0
-HoldsCertificate known c = ReadsPart known (λ part. reading interval_format part ≡ Ok c)
+HoldsCertificate known c = Reads known (λ file. reading interval_format file ≡ Ok c)
 
 -- what two files hold, and the checker accepts
 pub record IsAccepted (story_known certificate_known : Option (List ℕ)) (a : Acceptance) : Type 0 where
@@ -57,27 +53,33 @@ pub record Breaks (story_known certificate_known : Option (List ℕ)) (IsWhy : L
 abbrev pub IsNoStory : Option (List ℕ) → Problem → Type 0
 IsNoStory known (Refused error) = Reads known (λ file. IsRefused file error)
 IsNoStory known (Failed File) = ⊤
-IsNoStory known (Failed Memory) = ⊤
+IsNoStory known (Failed Memory) = HasBytes known
 IsNoStory known problem = ⊥
+
+-- why the bytes of a file aren't read as a certificate
+abbrev pub IsUnreadable : List ℕ → Problem → Type 0
+IsUnreadable file (Unreadable error) = reading interval_format file ≡ Err error
+IsUnreadable file (Failed Memory) = ⊤
+IsUnreadable file problem = ⊥
 
 -- why no certificate is read from a file
 abbrev pub IsNoCertificate : Option (List ℕ) → Problem → Type 0
-IsNoCertificate known (Unreadable error) = ReadsPart known (λ part. reading interval_format part ≡ Err error)
+IsNoCertificate known (Unreadable error) = Reads known (λ file. reading interval_format file ≡ Err error)
 IsNoCertificate known (Failed File) = ⊤
 IsNoCertificate known (Failed Memory) = ⊤
 IsNoCertificate known problem = ⊥
 
 -- Why a story with a certificate isn't accepted: the story is looked at first, then the certificate's file, then whether
--- it holds.
+-- it holds. Memory is wanted only where the story's file has bytes.
 abbrev pub IsUnaccepted : Option (List ℕ) → Option (List ℕ) → Problem → Type 0
 IsUnaccepted story_known certificate_known (Refused error) = Reads story_known (λ file. IsRefused file error)
 IsUnaccepted story_known certificate_known (Unreadable error) =
-    ((story : LoadedStory) × HoldsStory story_known story) × ReadsPart certificate_known (λ part. reading interval_format part ≡ Err error)
+    ((story : LoadedStory) × HoldsStory story_known story) × Reads certificate_known (λ file. reading interval_format file ≡ Err error)
 IsUnaccepted story_known certificate_known (BreaksStory rule) = Breaks story_known certificate_known (λ story c. IsCause interval_operations story c (Story rule))
 IsUnaccepted story_known certificate_known (BreaksInstruction address rule) =
     Breaks story_known certificate_known (λ story c. IsCause interval_operations story c (Instruction address rule))
 IsUnaccepted story_known certificate_known (Failed File) = ⊤
-IsUnaccepted story_known certificate_known (Failed Memory) = ⊤
+IsUnaccepted story_known certificate_known (Failed Memory) = HasBytes story_known
 IsUnaccepted story_known certificate_known (Failed Read) = ⊥
 IsUnaccepted story_known certificate_known (Failed Write) = ⊥
 
@@ -116,5 +118,5 @@ PlayComesTo story_known certificate_known budget before now (Played end) =
 PlayComesTo story_known certificate_known budget before now (Stopped (Failed Write)) =
     (a : Acceptance) × IsAccepted story_known certificate_known a × AppendsBeginning before now (render (ending_with a budget).items)
 PlayComesTo story_known certificate_known budget before now (Stopped (Failed Memory)) =
-    (now ≡ before) ⊎ ((a : Acceptance) × IsAccepted story_known certificate_known a × IsCutShortBy a budget before now)
+    ((now ≡ before) × HasBytes story_known) ⊎ ((a : Acceptance) × IsAccepted story_known certificate_known a × IsCutShortBy a budget before now)
 PlayComesTo story_known certificate_known budget before now (Stopped problem) = IsUnaccepted story_known certificate_known problem × (now ≡ before)

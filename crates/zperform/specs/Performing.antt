@@ -1,49 +1,57 @@
 -- What the words of a command line come to: what is done, what is said of it, and the exit status (own).
-use Rattle.std.specs.Prelude.{◌≡◌, ◌≢◌, ◌⊎◌, ℕ, Bool, true, false, List, Option, None, Some, MatchBool}
+use Rattle.std.specs.Prelude.{◌≡◌, ◌≢◌, ◌⊎◌, ℕ, Bool, true, false, List, [], ◌∷◌, Option, None, Some, MatchBool}
 use Rattle.std.specs.Io.KnownBytes.{Appends}
 use Rattle.clap.specs.Kinds.{IsAmong, Kinds}
 use Rattle.clap.specs.Words.{Row, Text, subcommand_of}
 use Rattle.clap.specs.declared.error.kind.ErrorKind.{ErrorKind}
 use Rattle.clap.specs.declared.error.kind.ErrorKind.TheVariants.{DisplayHelp, DisplayVersion}
-use Rattle.zfault.specs.Devices.{AppendsBeginning, HasRisen}
+use Rattle.zfault.specs.Devices.{AppendsBeginning, RisesByOne}
 use Rattle.zcommand.specs.CommandLine.{Asks, Request, Check, Play, zpc_app}
 use Rattle.zperform.specs.Playing.{ComesTo}
 use Rattle.zperform.specs.Accepting.{CheckComesTo, PlayComesTo}
 use Rattle.zperform.specs.Report.{line_of, status_of, text_of}
-use Rattle.zperform.specs.declared.outcome.Failure.TheVariants.{Write, Memory}
+use Rattle.zperform.specs.declared.outcome.Failure.TheVariants.{File, Write, Memory}
 use Rattle.zperform.specs.declared.outcome.Problem.TheVariants.{Failed}
 use Rattle.zperform.specs.declared.outcome.Outcome.{Outcome}
 use Rattle.zperform.specs.declared.outcome.Outcome.TheVariants.{Stopped}
 
--- what is seen of a sink: the bytes that it took, where they are known, and its count of failures
+-- what is seen of a sink: the bytes that it took, where they are known, its count of failures, and whether bytes wait for a flush
 pub record Seen : Type 0 where
   pub contents : Option (List ℕ)
   pub failures : ℕ
+  pub waits : Bool
 
-abbrev pub seen : {Sink : Type 0} → (Sink → Option (List ℕ)) → (Sink → ℕ) → Sink → Seen
-seen contents failures sink = record { contents = contents sink; failures = failures sink }
+abbrev pub seen : {Sink : Type 0} → (Sink → Option (List ℕ)) → (Sink → ℕ) → (Sink → Bool) → Sink → Seen
+seen contents failures waits sink = record { contents = contents sink; failures = failures sink; waits = waits sink }
 
--- the writer, and the errors
-pub record Sinks : Type 0 where
+-- the files' count of failures, the writer, and the errors
+pub record Devices : Type 0 where
+  pub files : ℕ
   pub writer : Seen
   pub errors : Seen
 
-abbrev pub sinks : Seen → Seen → Sinks
-sinks writer errors = record { writer = writer; errors = errors }
+abbrev pub devices : ℕ → Seen → Seen → Devices
+devices files writer errors = record { files = files; writer = writer; errors = errors }
 
--- a text was taken whole, with no failure
+-- a text was taken whole and flushed, with no failure
 pub record Takes (old new : Seen) (text : List ℕ) : Type 0 where
   pub whole : Appends old.contents new.contents text
   pub quiet : new.failures ≡ old.failures
+  pub flushed : new.waits ≡ false
 
--- a failure broke a text off
+-- a failure broke a text off, or its flush
 pub record Breaks (old new : Seen) (text : List ℕ) : Type 0 where
   pub begun : AppendsBeginning old.contents new.contents text
-  pub blamed : HasRisen old.failures new.failures
+  pub blamed : RisesByOne old.failures new.failures
 
--- a text was said, as far as the sink took it
+-- a text was said, as far as the sink took it; with nothing to say the sink isn't called
 abbrev pub Says : Seen → Seen → List ℕ → Type 0
-Says old new text = Takes old new text ⊎ Breaks old new text
+Says old new [] = new ≡ old
+Says old new (byte ∷ bytes) = Takes old new (byte ∷ bytes) ⊎ Breaks old new (byte ∷ bytes)
+
+-- what was written is flushed, or the sink wasn't called
+abbrev pub IsFlushed : {Sink : Type 0} → (Sink → Bool) → Sink → Sink → Type 0
+IsFlushed waits old new = (waits new ≡ false) ⊎ (new ≡ old)
 
 -- an outcome's exit status, and its line
 pub record Reports (outcome : Outcome) (status : ℕ) (old new : Seen) : Type 0 where
@@ -59,24 +67,26 @@ is_request DisplayVersion = true
 is_request _ = false
 
 -- what was asked for goes to the writer, and only a failure there is reported
-abbrev pub Shows : List ℕ → ℕ → Sinks → Sinks → Type 0
+abbrev pub Shows : List ℕ → ℕ → Devices → Devices → Type 0
 Shows text status old new =
     (Takes old.writer new.writer text × (status ≡ 0) × (new.errors ≡ old.errors))
     ⊎ (Breaks old.writer new.writer text × Reports (Stopped (Failed Write)) status old.errors new.errors)
 
 -- a mistake is told on the errors
-abbrev pub Tells : List ℕ → ℕ → Sinks → Sinks → Type 0
+abbrev pub Tells : List ℕ → ℕ → Devices → Devices → Type 0
 Tells text status old new = Says old.errors new.errors text × (status ≡ 2) × (new.writer ≡ old.writer)
 
--- memory was refused, and nothing was shown
-abbrev pub Lacks : ℕ → Sinks → Sinks → Type 0
-Lacks status old new = Reports (Stopped (Failed Memory)) status old.errors new.errors × (new.writer ≡ old.writer)
+-- memory was refused while the words were read, and nothing was shown, nor a file read
+pub record Lacks (status : ℕ) (old new : Devices) : Type 0 where
+  pub reported : Reports (Stopped (Failed Memory)) status old.errors new.errors
+  pub writer : new.writer ≡ old.writer
+  pub files : new.files ≡ old.files
 
 -- words with an answer of one of these kinds in place of a command get its text, which is clap's
-abbrev pub Explains : Kinds → ℕ → Sinks → Sinks → Type 0
+abbrev pub Explains : Kinds → ℕ → Devices → Devices → Type 0
 Explains kinds status old new =
     Lacks status old new
-    ⊎ ((kind : ErrorKind) × (text : List ℕ) × IsAmong kind kinds × MatchBool (is_request kind) (Shows text status old new) (Tells text status old new))
+    ⊎ ((kind : ErrorKind) × (text : List ℕ) × IsAmong kind kinds × MatchBool (is_request kind) (Shows text status old new) (Tells text status old new) × (new.files ≡ old.files))
 
 -- ---- words that name one
 
@@ -86,15 +96,22 @@ Comes (Check story certificate) known before now outcome = CheckComesTo (known s
 Comes (Play story None budget) known before now outcome = ComesTo (known story) budget before now outcome
 Comes (Play story (Some certificate) budget) known before now outcome = PlayComesTo (known story) (known certificate) budget before now outcome
 
--- a request, with the values among clap's matches: what it comes to is reported, and the writer is blamed just where it
--- failed
-pub record Performs (words : List Text) (known : List ℕ → Option (List ℕ)) (status : ℕ) (old new : Sinks) : Type 0 where
+-- A request, with the values among clap's matches: what it comes to is reported. The writer is blamed just where it failed, and
+-- so are the files; what was written is flushed unless the writer failed.
+pub record Does (words : List Text) (known : List ℕ → Option (List ℕ)) (status : ℕ) (old new : Devices) : Type 0 where
   pub matches : Text × List Row
   pub named : subcommand_of zpc_app words ≡ Some matches
   pub request : Request
   pub asks : Asks matches request
   pub outcome : Outcome
   pub comes : Comes request known old.writer.contents new.writer.contents outcome
-  pub blamed : outcome ≡ Stopped (Failed Write) → HasRisen old.writer.failures new.writer.failures
+  pub blamed : outcome ≡ Stopped (Failed Write) → RisesByOne old.writer.failures new.writer.failures
   pub quiet : outcome ≢ Stopped (Failed Write) → new.writer.failures ≡ old.writer.failures
+  pub flushed : outcome ≢ Stopped (Failed Write) → IsFlushed (λ (writer : Seen). writer.waits) old.writer new.writer
+  pub unread : outcome ≡ Stopped (Failed File) → RisesByOne old.files new.files
+  pub unfailed : outcome ≢ Stopped (Failed File) → new.files ≡ old.files
   pub reported : Reports outcome status old.errors new.errors
+
+-- the request of the words was done, as far as there was memory to read them
+abbrev pub Performs : List Text → (List ℕ → Option (List ℕ)) → ℕ → Devices → Devices → Type 0
+Performs words known status old new = Does words known status old new ⊎ Lacks status old new

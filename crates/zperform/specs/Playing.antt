@@ -1,5 +1,5 @@
 -- What playing a story file comes to (own).
-use Rattle.std.specs.Prelude.{◌≡◌, ◌≢◌, ℕ, List, Option, [], IfSome, ◌⊎◌, ⊤}
+use Rattle.std.specs.Prelude.{◌≡◌, ◌≢◌, ℕ, List, Option, [], IfSome, ◌⊎◌}
 use Rattle.std.specs.Io.KnownBytes.{Appends}
 use Rattle.zfault.specs.Devices.{AppendsBeginning}
 use Rattle.zstory.specs.LoadedStory.{LoadedStory}
@@ -14,6 +14,7 @@ use Rattle.zref.specs.declared.scope.Scope.TheVariants.{All}
 use Rattle.zplayer.specs.declared.end.End.{End}
 use Rattle.zplayer.specs.Playing.{PlaysSome, end_of}
 use Rattle.zplayer.specs.Rendering.{render}
+use Rattle.zperform.specs.Contents.{HasBytes}
 use Rattle.zperform.specs.declared.outcome.Failure.TheVariants.{File, Read, Write, Memory}
 use Rattle.zperform.specs.declared.outcome.Problem.{Problem}
 use Rattle.zperform.specs.declared.outcome.Problem.TheVariants.{Refused, Failed}
@@ -54,10 +55,10 @@ pub record IsRefused (file : List ℕ) (error : LoadError) : Type 0 where
   pub lowest : IsLowest (IsCause file) error
   pub of_file : error ≢ NoMemoryToLoad
 
--- why a file isn't loaded
+-- why a file isn't loaded: memory is wanted only for one that nothing speaks against
 abbrev pub IsUnloaded : List ℕ → Problem → Type 0
 IsUnloaded file (Refused error) = IsRefused file error
-IsUnloaded file (Failed Memory) = ⊤
+IsUnloaded file (Failed Memory) = HasNone (IsCause file)
 IsUnloaded file problem = ⊥
 
 -- a file with this property was read: the one of the name, where its bytes are known
@@ -65,12 +66,12 @@ abbrev pub Reads : Option (List ℕ) → (List ℕ → Type 0) → Type 0
 Reads known property = (file : List ℕ) × IfSome known (λ bytes. file ≡ bytes) × property file
 
 -- What playing a file comes to, where its bytes are known, with what the writer took before and has taken now. It never
--- comes to a failed read, as no opcode of this build reads.
+-- comes to a failed read, as no opcode of this build reads. Memory is wanted only for a file that has bytes.
 abbrev pub ComesTo : Option (List ℕ) → ℕ → Option (List ℕ) → Option (List ℕ) → Outcome → Type 0
 ComesTo known budget before now (Played end) = Reads known (λ file. IsPlayed file budget end before now)
 ComesTo known budget before now (Stopped (Refused error)) = Reads known (λ file. IsRefused file error) × (now ≡ before)
 ComesTo known budget before now (Stopped (Failed File)) = now ≡ before
 ComesTo known budget before now (Stopped (Failed Read)) = ⊥
 ComesTo known budget before now (Stopped (Failed Write)) = Reads known (λ file. IsBegun file budget before now)
-ComesTo known budget before now (Stopped (Failed Memory)) = (now ≡ before) ⊎ Reads known (λ file. IsCutShort file budget before now)
+ComesTo known budget before now (Stopped (Failed Memory)) = ((now ≡ before) × HasBytes known) ⊎ Reads known (λ file. IsCutShort file budget before now)
 ComesTo known budget before now outcome = ⊥

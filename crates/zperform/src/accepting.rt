@@ -1,21 +1,24 @@
 //! Stories and certificates from files.
 
-ghost use Rattle.std.specs.Prelude.{◌≡◌, IfErr, IfOk};
+ghost use Rattle.std.specs.Prelude.{◌≡◌, ◌≢◌, Ok, Err, IfErr, IfOk};
+ghost use Rattle.zfault.specs.Devices.{RisesByOne};
 ghost use Rattle.zperform.specs.Playing.{Holds, IsUnloaded};
-ghost use Rattle.zperform.specs.Accepting.{HoldsCertificate, HoldsStory, IsAccepted, IsNoCertificate, IsNoStory, IsUnaccepted};
+ghost use Rattle.zperform.specs.Accepting.{HoldsCertificate, HoldsStory, IsAccepted, IsNoCertificate, IsNoStory, IsUnaccepted, IsUnreadable};
+ghost use Rattle.zcert.specs.Format.{interval_format};
+ghost use Rattle.zcert.specs.Reading.{reading};
 
 use crate::files::{Files, read_file};
-use crate::outcome::Problem;
+use crate::outcome::{Failure, Problem};
 use std::alloc::Global;
-use zcert::Certificate;
+use zcert::{Certificate, LARGEST, largest_decides};
 use zcheck::{Accepted, check};
 use zstory::Story;
 
 /// The most bytes that are read of a story: one more than the longest has, so that a longer file is told from it.
 pub const STORY_LIMIT: usize = 131_073;
 
-/// The most bytes that are read of a certificate: more than any of this build's limits has.
-pub const CERTIFICATE_LIMIT: usize = 1_048_576;
+/// The most bytes that are read of a certificate: one more than the longest has, which decide what is read of a longer file.
+pub const CERTIFICATE_LIMIT: usize = LARGEST + 1;
 
 /// Accepts the story of a file with the certificate of another, and else says why not: the story is looked at first,
 /// then the certificate's file, then whether it holds.
@@ -27,6 +30,8 @@ pub fn accept<F: Files>(
 ) -> Result<Accepted, Problem>
     ensures accepted { IfOk result (IsAccepted (F.known files.old story.now) (F.known files.old certificate.now)) }
     ensures refused { IfErr result (IsUnaccepted (F.known files.old story.now) (F.known files.old certificate.now)) }
+    ensures unread { result ≡ Err (Problem.Failed Failure.File) → RisesByOne (F.failures files.old) (F.failures files.new) }
+    ensures unfailed { result ≢ Err (Problem.Failed Failure.File) → F.failures files.new ≡ F.failures files.old }
     ensures kept { F.known files.new ≡ F.known files.old }
 {
     let story = open_story(alloc, story, files)?;
@@ -38,6 +43,8 @@ pub fn accept<F: Files>(
 pub fn open_story<F: Files>(alloc: Global, name: &str, files: &mut F) -> Result<Story, Problem>
     ensures held { IfOk result (HoldsStory (F.known files.old name.now)) }
     ensures refused { IfErr result (IsNoStory (F.known files.old name.now)) }
+    ensures unread { result ≡ Err (Problem.Failed Failure.File) → RisesByOne (F.failures files.old) (F.failures files.new) }
+    ensures unfailed { result ≢ Err (Problem.Failed Failure.File) → F.failures files.new ≡ F.failures files.old }
     ensures kept { F.known files.new ≡ F.known files.old }
 {
     let file = read_file(alloc, files, name, STORY_LIMIT)?;
@@ -60,8 +67,19 @@ fn open_certificate<F: Files>(
 ) -> Result<Certificate, Problem>
     ensures held { IfOk result (HoldsCertificate (F.known files.old name.now)) }
     ensures refused { IfErr result (IsNoCertificate (F.known files.old name.now)) }
+    ensures unread { result ≡ Err (Problem.Failed Failure.File) → RisesByOne (F.failures files.old) (F.failures files.new) }
+    ensures unfailed { result ≢ Err (Problem.Failed Failure.File) → F.failures files.new ≡ F.failures files.old }
     ensures kept { F.known files.new ≡ F.known files.old }
 {
+    largest_decides();
     let file = read_file(alloc, files, name, CERTIFICATE_LIMIT)?;
+    read_certificate(alloc, file)
+}
+
+/// Reads a certificate, and frees the bytes of its file.
+fn read_certificate(alloc: Global, file: Vec<u8>) -> Result<Certificate, Problem>
+    ensures read { IfOk result (λ certificate. reading interval_format file.items ≡ Ok certificate) }
+    ensures unreadable { IfErr result (IsUnreadable file.items) }
+{
     Ok(zcert::read(alloc, &file)?)
 }

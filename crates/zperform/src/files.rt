@@ -1,56 +1,132 @@
 //! The files that commands name.
 
-ghost use Rattle.std.specs.Prelude.{◌≡◌, ◌<◌, ◌≤◌, ◌+◌, ℕ, List, None, Option, ◌⊎◌, IfErr, IfOk, IfSome, Some, length, take};
-ghost use Rattle.zperform.specs.Contents.{IsBeginning, ReadsPart};
+ghost use Rattle.std.specs.Prelude.{◌≡◌, ◌≢◌, ◌<◌, ◌≤◌, ◌+◌, ℕ, true, false, List, None, Option, ◌⊎◌, Ok, Err, IfErr, IfOk, IfSome, OnOk, Some, length, take, vec_len};
+ghost use Rattle.zfault.specs.Devices.{RisesByOne};
+ghost use Rattle.zplayer.specs.Outside.{CountsRefusal};
+ghost use Rattle.zperform.specs.Contents.{CountsNone, HasBytes, IsBeginning, ReadsPart};
 
 use crate::outcome::{Failure, Problem};
+use arrayvec::ArrayVec;
 use std::alloc::Global;
 use std::fs;
 use std::io::{Read, Seek, SeekFrom};
 use std::rt::Runtime;
+
+/// The most bytes that are read of a file in one call.
+const PIECE: usize = 4096;
+
+/// The longest name of a file that the system opens.
+const NAME_LIMIT: usize = 4096;
 
 /// Files by name.
 pub trait Files {
     /// The bytes of the file of a name, where they are known.
     ghost known: { Self → List ℕ → Option (List ℕ) } = { λ _ _. None };
 
+    /// How often a call failed so far, a `u64` that stays at its last value.
+    ghost failures: { Self → ℕ };
+
     /// Reads bytes of a file, from a place on, to the front of the buffer and answers how many: 0 of a buffer with room
-    /// is the end of the file. `None` where it failed.
+    /// is the end of the file. `None` where it failed, and only then the count of failures rises, by one.
     fn read_at(&mut self, name: &str, from: u64, buffer: &mut [u8]) -> Option<usize>
         ensures bound { IfSome result (λ count. count ≤ length buffer.new) }
         ensures bytes { IfSome result (λ count. ReadsPart (known self.old name.now) from count buffer.new) }
-        ensures kept { known self.new ≡ known self.old };
+        ensures kept { known self.new ≡ known self.old }
+        ensures counts { CountsNone (failures self.old) (failures self.new) result };
 
-    /// Makes a file that has these bytes alone. False where it failed.
-    fn put(&mut self, name: &str, bytes: &[u8]) -> bool;
+    /// Makes a file that has these bytes alone. False where it failed, and only then the count of failures rises, by one.
+    fn put(&mut self, name: &str, bytes: &[u8]) -> bool
+        ensures counts { CountsRefusal (failures self.old) (failures self.new) result };
 }
 
-/// The files of the system.
+/// A file that is open, and how far it was read.
 #[derive(Drop)]
-pub struct Disk<'a, R> {
+struct Opened<F> {
+    name: ArrayVec<u8, NAME_LIMIT>,
+    file: F,
+    at: u64,
+}
+
+/// The files of the system. The one that was read last stays open, and goes on being read where that ended: so what can't be
+/// read from a place on, as a pipe, is read from its beginning.
+#[derive(Drop)]
+pub struct Disk<'a, R: Runtime> {
     rt: &'a R,
+    last: Option<Opened<R::File>>,
+    failures: u64,
 }
 
 impl<'a, R: Runtime> Disk<'a, R> {
     /// The files that the runtime reaches.
-    pub fn new(rt: &'a R) -> Disk<'a, R> {
-        Disk { rt }
+    pub fn new(rt: &'a R) -> Disk<'a, R>
+        ensures { result.failures ≡ 0 }
+    {
+        Disk {
+            rt,
+            last: None,
+            failures: 0,
+        }
+    }
+
+    /// Opens a file to be read from a place on.
+    fn open(&self, name: &str, from: u64) -> Option<Opened<R::File>> {
+        let mut opened = Opened {
+            name: ArrayVec::new(),
+            file: fs::open(self.rt, name).ok()?,
+            at: from,
+        };
+        opened.name.try_extend_from_slice(name.as_bytes()).ok()?;
+        if from > 0 {
+            opened.file.seek(SeekFrom::Start(from)).ok()?;
+        }
+        Some(opened)
+    }
+
+    /// Reads bytes of a file from a place on, where the file that was read last stands or else of a file opened anew.
+    fn read_from(&mut self, name: &str, from: u64, buffer: &mut [u8]) -> Option<usize>
+        ensures bound { IfSome result (λ count. count ≤ length buffer.new) }
+        ensures failures { self.new.failures ≡ self.old.failures }
+    {
+        let mut opened = match self.last.take() {
+            Some(last) if last.at == from && last.name.as_slice() == name.as_bytes() => last,
+            _ => self.open(name, from)?,
+        };
+        let count = opened.file.read(buffer).ok()?;
+        opened.at = opened.at.checked_add(count as u64)?;
+        self.last = Some(opened);
+        Some(count)
+    }
+
+    fn count_failure(&mut self)
+        ensures { RisesByOne self.old.failures self.new.failures }
+    {
+        self.failures = self.failures.saturating_add(1);
     }
 }
 
 impl<'a, R: Runtime> Files for Disk<'a, R> {
+    ghost failures = { λ disk. disk.failures };
+
     fn read_at(&mut self, name: &str, from: u64, buffer: &mut [u8]) -> Option<usize> {
-        let mut file = fs::open(self.rt, name).ok()?;
-        file.seek(SeekFrom::Start(from)).ok()?;
-        file.read(buffer).ok()
+        let count = self.read_from(name, from, buffer);
+        if count.is_none() {
+            self.count_failure();
+        }
+        count
     }
 
     fn put(&mut self, name: &str, bytes: &[u8]) -> bool {
-        fs::write(self.rt, name, bytes).is_ok()
+        self.last = None;
+        let done = fs::write(self.rt, name, bytes).is_ok();
+        if !done {
+            self.count_failure();
+        }
+        done
     }
 }
 
-/// The bytes of a file, at most so many, whatever size the system says that it has.
+/// The bytes of a file, at most so many, whatever size the system says that it has. Memory is taken for the bytes that were
+/// read alone.
 pub fn read_file<F: Files>(
     alloc: Global,
     files: &mut F,
@@ -59,48 +135,44 @@ pub fn read_file<F: Files>(
 ) -> Result<Vec<u8>, Problem>
     ensures read { (bytes : List ℕ) → F.known files.old name.now ≡ Some bytes → IfOk result (λ file. file.items ≡ take most bytes) }
     ensures failed { IfErr result (λ problem. (problem ≡ Problem.Failed Failure.File) ⊎ (problem ≡ Problem.Failed Failure.Memory)) }
+    ensures wanted { result ≡ Err (Problem.Failed Failure.Memory) → HasBytes (F.known files.old name.now) }
+    ensures unread { result ≡ Err (Problem.Failed Failure.File) → RisesByOne (F.failures files.old) (F.failures files.new) }
+    ensures unfailed { result ≢ Err (Problem.Failed Failure.File) → F.failures files.new ≡ F.failures files.old }
     ensures kept { F.known files.new ≡ F.known files.old }
 {
-    let mut file = vec![in alloc; 0; most]?;
-    let length = fill(files, name, &mut file)?;
-    file.truncate(length);
+    let mut file = Vec::new(alloc);
+    'pieces: while read_more(files, name, &mut file, most)? {}
     Ok(file)
 }
 
-/// Puts a file to the front of the buffer, as far as it has room, and answers how many bytes.
-fn fill<F: Files>(files: &mut F, name: &str, buffer: &mut [u8]) -> Result<usize, Problem>
-    ensures bound { IfOk result (λ filled. filled ≤ length buffer.new) }
-    ensures read { (bytes : List ℕ) → F.known files.old name.now ≡ Some bytes → IfOk result (λ filled. take filled buffer.new ≡ take (length buffer.new) bytes) }
-    ensures failed { IfErr result (λ problem. problem ≡ Problem.Failed Failure.File) }
-    ensures kept { F.known files.new ≡ F.known files.old }
-{
-    let mut filled = 0;
-    while filled < buffer.len() {
-        let count = read_more(files, name, buffer, filled)?;
-        if count == 0 {
-            break;
-        }
-        filled += count;
-    }
-    Ok(filled)
-}
-
-/// Reads more of a file, of which the buffer has the beginning, and answers how many bytes.
+/// Appends more of a file, of which the vector has the beginning, and answers whether there may be more: not at its end, nor
+/// where the vector has so many bytes.
 fn read_more<F: Files>(
     files: &mut F,
     name: &str,
-    buffer: &mut [u8],
-    filled: usize,
-) -> Result<usize, Problem>
-    requires { filled ≤ length buffer.old }
-    ensures bound { IfOk result (λ count. filled + count ≤ length buffer.new) }
-    ensures failed { IfErr result (λ problem. problem ≡ Problem.Failed Failure.File) }
+    file: &mut Vec<u8>,
+    most: usize,
+) -> Result<bool, Problem>
+    requires { vec_len file.old ≤ most }
+    ensures bound { OnOk result (vec_len file.new ≤ most) }
+    ensures grown { result ≡ Ok true → vec_len file.old < vec_len file.new }
+    ensures more { (bytes : List ℕ) → F.known files.old name.now ≡ Some bytes → IsBeginning file.old.items bytes → OnOk result (IsBeginning file.new.items bytes) }
+    ensures whole { (bytes : List ℕ) → F.known files.old name.now ≡ Some bytes → IsBeginning file.old.items bytes → result ≡ Ok false → file.new.items ≡ take most bytes }
+    ensures failed { IfErr result (λ problem. (problem ≡ Problem.Failed Failure.File) ⊎ (problem ≡ Problem.Failed Failure.Memory)) }
+    ensures wanted { result ≡ Err (Problem.Failed Failure.Memory) → HasBytes (F.known files.old name.now) }
+    ensures unread { result ≡ Err (Problem.Failed Failure.File) → RisesByOne (F.failures files.old) (F.failures files.new) }
+    ensures unfailed { result ≢ Err (Problem.Failed Failure.File) → F.failures files.new ≡ F.failures files.old }
     ensures kept { F.known files.new ≡ F.known files.old }
-    ensures more { (bytes : List ℕ) → F.known files.old name.now ≡ Some bytes → IsBeginning filled buffer.old bytes → IfOk result (λ count. IsBeginning (filled + count) buffer.new bytes) }
-    ensures ends { (bytes : List ℕ) → F.known files.old name.now ≡ Some bytes → filled < length buffer.old → IfOk result (λ count. count ≡ 0 → length bytes ≤ filled) }
 {
-    match files.read_at(name, filled as u64, &mut buffer[filled..]) {
-        Some(count) => Ok(count),
-        None => Err(Problem::Failed(Failure::File)),
+    let at = file.len();
+    if at == most {
+        return Ok(false);
     }
+    let mut piece = [0; PIECE];
+    let part = &mut piece[..PIECE.min(most - at)];
+    let Some(count) = files.read_at(name, at as u64, part) else {
+        return Err(Problem::Failed(Failure::File));
+    };
+    file.extend_from_slice(&part[..count])?;
+    Ok(count > 0)
 }

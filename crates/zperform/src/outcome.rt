@@ -11,7 +11,7 @@ use zrule::Rule;
 use zstory::LoadError;
 
 /// What a file, a device or the system kept from being done.
-#[derive(Clone, Copy, Debug, PartialEq, Eq)]
+#[derive(Clone, Copy)]
 pub enum Failure {
     /// A file can't be read or written.
     File,
@@ -24,7 +24,7 @@ pub enum Failure {
 }
 
 /// Why a command wasn't done, or not to its end.
-#[derive(Clone, Copy, Debug, PartialEq, Eq)]
+#[derive(Clone, Copy)]
 pub enum Problem {
     /// The file is no story of this profile. Never for want of memory.
     Refused(LoadError),
@@ -39,7 +39,7 @@ pub enum Problem {
 }
 
 /// What a command came to.
-#[derive(Clone, Copy, Debug, PartialEq, Eq)]
+#[derive(Clone, Copy)]
 pub enum Outcome {
     /// The certificate was accepted.
     Accepted,

@@ -1,14 +1,14 @@
 //! Doing what the words ask for.
 
-ghost use Rattle.std.specs.Prelude.{◌≡◌, ◌≢◌, ◌⊎◌, [], ℕ, List, Err, OnErr, OnOk, Option, Some};
+ghost use Rattle.std.specs.Prelude.{◌≡◌, ◌≢◌, ◌⊎◌, [], ℕ, false, List, Err, OnErr, OnOk, Option, Some};
 ghost use Rattle.clap.specs.Kinds.{HasKind, Kinds};
 ghost use Rattle.clap.specs.Walk.{texts};
 ghost use Rattle.clap.specs.Words.{fault_of};
 ghost use Rattle.std.specs.Io.KnownBytes.{Appends};
-ghost use Rattle.zfault.specs.Devices.{AppendsBeginning, HasRisen};
+ghost use Rattle.zfault.specs.Devices.{AppendsBeginning, RisesByOne};
 ghost use Rattle.zperform.specs.Accepting.{CheckComesTo, IsAccepted, PlayComesTo, accepted_line};
 ghost use Rattle.zcommand.specs.CommandLine.{request_of, zpc_app};
-ghost use Rattle.zperform.specs.Performing.{Comes, Explains, Performs, Says, seen, sinks};
+ghost use Rattle.zperform.specs.Performing.{Comes, Explains, IsFlushed, Performs, Says, devices, seen};
 ghost use Rattle.zperform.specs.Playing.{ComesTo, Holds};
 ghost use Rattle.zperform.specs.Report.{failure_text, line_of, no_text, outcome_of, status_of, text_of};
 
@@ -43,7 +43,8 @@ For more information, try '--help'.
 ";
 
 /// Does what the words after the program's name ask for, and answers the exit status. What a story shows, and help
-/// that was asked for, go to the writer; a line on anything else goes to `errors`, where a failure is ignored.
+/// that was asked for, go to the writer; a line on anything else goes to `errors`, where a failure is ignored. Both are flushed.
+/// The reader isn't touched, as no opcode of this build reads.
 ///
 /// What is wrong is found in this order: the words, the story, its certificate, the work.
 pub fn perform<F: Files, R: Source, W: Sink, E: Sink>(
@@ -54,8 +55,9 @@ pub fn perform<F: Files, R: Source, W: Sink, E: Sink>(
     writer: &mut W,
     errors: &mut E,
 ) -> u8
-    ensures performs { fault_of zpc_app (texts words.entry.now) ≡ [] → Performs (texts words.entry.now) (F.known files.old) result (sinks (seen W.contents W.failures writer.old) (seen E.contents E.failures errors.old)) (sinks (seen W.contents W.failures writer.new) (seen E.contents E.failures errors.new)) }
-    ensures explains { fault_of zpc_app (texts words.entry.now) ≢ [] → Explains (fault_of zpc_app (texts words.entry.now)) result (sinks (seen W.contents W.failures writer.old) (seen E.contents E.failures errors.old)) (sinks (seen W.contents W.failures writer.new) (seen E.contents E.failures errors.new)) }
+    ensures performs { fault_of zpc_app (texts words.entry.now) ≡ [] → Performs (texts words.entry.now) (F.known files.old) result (devices (F.failures files.old) (seen W.contents W.failures W.waits writer.old) (seen E.contents E.failures E.waits errors.old)) (devices (F.failures files.new) (seen W.contents W.failures W.waits writer.new) (seen E.contents E.failures E.waits errors.new)) }
+    ensures explains { fault_of zpc_app (texts words.entry.now) ≢ [] → Explains (fault_of zpc_app (texts words.entry.now)) result (devices (F.failures files.old) (seen W.contents W.failures W.waits writer.old) (seen E.contents E.failures E.waits errors.old)) (devices (F.failures files.new) (seen W.contents W.failures W.waits writer.new) (seen E.contents E.failures E.waits errors.new)) }
+    ensures reader { reader.new ≡ reader.old }
     ensures kept { F.known files.new ≡ F.known files.old }
 {
     match read_words(alloc, words) {
@@ -73,9 +75,13 @@ fn carry_out<F: Files, R: Source, W: Sink>(
     writer: &mut W,
 ) -> Outcome
     ensures comes { Comes (request_of command.entry) (F.known files.old) (W.contents writer.old) (W.contents writer.new) result }
-    ensures blamed { result ≡ Outcome.Stopped (Problem.Failed Failure.Write) → HasRisen (W.failures writer.old) (W.failures writer.new) }
+    ensures blamed { result ≡ Outcome.Stopped (Problem.Failed Failure.Write) → RisesByOne (W.failures writer.old) (W.failures writer.new) }
     ensures quiet { result ≢ Outcome.Stopped (Problem.Failed Failure.Write) → W.failures writer.new ≡ W.failures writer.old }
+    ensures flushed { result ≢ Outcome.Stopped (Problem.Failed Failure.Write) → IsFlushed W.waits writer.old writer.new }
+    ensures unread { result ≡ Outcome.Stopped (Problem.Failed Failure.File) → RisesByOne (F.failures files.old) (F.failures files.new) }
+    ensures unfailed { result ≢ Outcome.Stopped (Problem.Failed Failure.File) → F.failures files.new ≡ F.failures files.old }
     ensures kept { F.known files.new ≡ F.known files.old }
+    ensures reader { reader.new ≡ reader.old }
 {
     match command {
         Command::Check { story, certificate } => {
@@ -111,8 +117,11 @@ fn check_files<F: Files, W: Sink>(
     writer: &mut W,
 ) -> Outcome
     ensures comes { CheckComesTo (F.known files.old story.now) (F.known files.old certificate.now) (W.contents writer.old) (W.contents writer.new) result }
-    ensures blamed { result ≡ Outcome.Stopped (Problem.Failed Failure.Write) → HasRisen (W.failures writer.old) (W.failures writer.new) }
+    ensures blamed { result ≡ Outcome.Stopped (Problem.Failed Failure.Write) → RisesByOne (W.failures writer.old) (W.failures writer.new) }
     ensures quiet { result ≢ Outcome.Stopped (Problem.Failed Failure.Write) → W.failures writer.new ≡ W.failures writer.old }
+    ensures flushed { result ≢ Outcome.Stopped (Problem.Failed Failure.Write) → IsFlushed W.waits writer.old writer.new }
+    ensures unread { result ≡ Outcome.Stopped (Problem.Failed Failure.File) → RisesByOne (F.failures files.old) (F.failures files.new) }
+    ensures unfailed { result ≢ Outcome.Stopped (Problem.Failed Failure.File) → F.failures files.new ≡ F.failures files.old }
     ensures kept { F.known files.new ≡ F.known files.old }
 {
     match accept(alloc, story, certificate, files) {
@@ -126,8 +135,9 @@ fn say_accepted<W: Sink>(writer: &mut W) -> Outcome
     ensures written { result ≡ Outcome.Accepted → Appends (W.contents writer.old) (W.contents writer.new) accepted_line }
     ensures begun { result ≡ Outcome.Stopped (Problem.Failed Failure.Write) → AppendsBeginning (W.contents writer.old) (W.contents writer.new) accepted_line }
     ensures only { (result ≡ Outcome.Accepted) ⊎ (result ≡ Outcome.Stopped (Problem.Failed Failure.Write)) }
-    ensures blamed { result ≡ Outcome.Stopped (Problem.Failed Failure.Write) → HasRisen (W.failures writer.old) (W.failures writer.new) }
+    ensures blamed { result ≡ Outcome.Stopped (Problem.Failed Failure.Write) → RisesByOne (W.failures writer.old) (W.failures writer.new) }
     ensures quiet { result ≢ Outcome.Stopped (Problem.Failed Failure.Write) → W.failures writer.new ≡ W.failures writer.old }
+    ensures flushed { result ≢ Outcome.Stopped (Problem.Failed Failure.Write) → IsFlushed W.waits writer.old writer.new }
 {
     match write_and_flush(writer, ACCEPTED) {
         Ok(()) => Outcome::Accepted,
@@ -139,8 +149,9 @@ fn say_accepted<W: Sink>(writer: &mut W) -> Outcome
 fn write_and_flush<W: Sink>(writer: &mut W, text: &[u8]) -> Result<(), Failed>
     ensures written { OnOk result (Appends (W.contents writer.old) (W.contents writer.new) text.now) }
     ensures begun { OnErr result (AppendsBeginning (W.contents writer.old) (W.contents writer.new) text.now) }
-    ensures blamed { OnErr result (HasRisen (W.failures writer.old) (W.failures writer.new)) }
+    ensures blamed { OnErr result (RisesByOne (W.failures writer.old) (W.failures writer.new)) }
     ensures quiet { OnOk result (W.failures writer.new ≡ W.failures writer.old) }
+    ensures flushed { OnOk result (W.waits writer.new ≡ false) }
 {
     write_whole(writer, text)?;
     writer.flush()
@@ -156,9 +167,13 @@ fn play<F: Files, R: Source, W: Sink>(
     writer: &mut W,
 ) -> Result<End, Problem>
     ensures comes { ComesTo (F.known files.old name.now) budget (W.contents writer.old) (W.contents writer.new) (outcome_of result) }
-    ensures blamed { result ≡ Err (Problem.Failed Failure.Write) → HasRisen (W.failures writer.old) (W.failures writer.new) }
+    ensures blamed { result ≡ Err (Problem.Failed Failure.Write) → RisesByOne (W.failures writer.old) (W.failures writer.new) }
     ensures quiet { result ≢ Err (Problem.Failed Failure.Write) → W.failures writer.new ≡ W.failures writer.old }
+    ensures flushed { result ≢ Err (Problem.Failed Failure.Write) → IsFlushed W.waits writer.old writer.new }
+    ensures unread { result ≡ Err (Problem.Failed Failure.File) → RisesByOne (F.failures files.old) (F.failures files.new) }
+    ensures unfailed { result ≢ Err (Problem.Failed Failure.File) → F.failures files.new ≡ F.failures files.old }
     ensures kept { F.known files.new ≡ F.known files.old }
+    ensures reader { reader.new ≡ reader.old }
 {
     let file = read_file(alloc, files, name, STORY_LIMIT)?;
     let story = load(alloc, file)?;
@@ -174,15 +189,18 @@ fn play_story<R: Source, W: Sink>(
     writer: &mut W,
 ) -> Result<End, Problem>
     ensures comes { (file : List ℕ) → Holds file story.now → ComesTo (Some file) budget (W.contents writer.old) (W.contents writer.new) (outcome_of result) }
-    ensures blamed { result ≡ Err (Problem.Failed Failure.Write) → HasRisen (W.failures writer.old) (W.failures writer.new) }
+    ensures blamed { result ≡ Err (Problem.Failed Failure.Write) → RisesByOne (W.failures writer.old) (W.failures writer.new) }
     ensures quiet { result ≢ Err (Problem.Failed Failure.Write) → W.failures writer.new ≡ W.failures writer.old }
+    ensures flushed { result ≢ Err (Problem.Failed Failure.Write) → IsFlushed W.waits writer.old writer.new }
+    ensures no_file { result ≢ Err (Problem.Failed Failure.File) }
+    ensures reader { reader.new ≡ reader.old }
 {
     let mut machine = CheckedMachine::new(alloc, story, Scope::All)?;
     let options = Options {
         budget,
         status: false,
     };
-    let end = play_checked(
+    Ok(play_checked(
         alloc,
         &mut machine,
         reader,
@@ -190,11 +208,7 @@ fn play_story<R: Source, W: Sink>(
         &mut NoSaves::new(),
         &mut Zeros,
         options,
-    )?;
-    match writer.flush() {
-        Ok(()) => Ok(end),
-        Err(_) => Err(Problem::Failed(Failure::Write)),
-    }
+    )?)
 }
 
 /// Plays a story that is accepted with a certificate, each in its file.
@@ -208,9 +222,13 @@ fn play_by_certificate<F: Files, R: Source, W: Sink>(
     writer: &mut W,
 ) -> Result<End, Problem>
     ensures comes { PlayComesTo (F.known files.old story.now) (F.known files.old certificate.now) budget (W.contents writer.old) (W.contents writer.new) (outcome_of result) }
-    ensures blamed { result ≡ Err (Problem.Failed Failure.Write) → HasRisen (W.failures writer.old) (W.failures writer.new) }
+    ensures blamed { result ≡ Err (Problem.Failed Failure.Write) → RisesByOne (W.failures writer.old) (W.failures writer.new) }
     ensures quiet { result ≢ Err (Problem.Failed Failure.Write) → W.failures writer.new ≡ W.failures writer.old }
+    ensures flushed { result ≢ Err (Problem.Failed Failure.Write) → IsFlushed W.waits writer.old writer.new }
+    ensures unread { result ≡ Err (Problem.Failed Failure.File) → RisesByOne (F.failures files.old) (F.failures files.new) }
+    ensures unfailed { result ≢ Err (Problem.Failed Failure.File) → F.failures files.new ≡ F.failures files.old }
     ensures kept { F.known files.new ≡ F.known files.old }
+    ensures reader { reader.new ≡ reader.old }
 {
     let accepted = accept(alloc, story, certificate, files)?;
     play_accepted(alloc, &accepted, budget, reader, writer)
@@ -225,15 +243,18 @@ fn play_accepted<R: Source, W: Sink>(
     writer: &mut W,
 ) -> Result<End, Problem>
     ensures comes { (story certificate : Option (List ℕ)) → IsAccepted story certificate accepted.now → PlayComesTo story certificate budget (W.contents writer.old) (W.contents writer.new) (outcome_of result) }
-    ensures blamed { result ≡ Err (Problem.Failed Failure.Write) → HasRisen (W.failures writer.old) (W.failures writer.new) }
+    ensures blamed { result ≡ Err (Problem.Failed Failure.Write) → RisesByOne (W.failures writer.old) (W.failures writer.new) }
     ensures quiet { result ≢ Err (Problem.Failed Failure.Write) → W.failures writer.new ≡ W.failures writer.old }
+    ensures flushed { result ≢ Err (Problem.Failed Failure.Write) → IsFlushed W.waits writer.old writer.new }
+    ensures no_file { result ≢ Err (Problem.Failed Failure.File) }
+    ensures reader { reader.new ≡ reader.old }
 {
     let mut session = Session::start(alloc, accepted)?;
     let options = Options {
         budget,
         status: false,
     };
-    let end = zplayer::play_story(
+    Ok(zplayer::play_story(
         alloc,
         &mut session,
         reader,
@@ -241,11 +262,7 @@ fn play_accepted<R: Source, W: Sink>(
         &mut NoSaves::new(),
         &mut Zeros,
         options,
-    )?;
-    match writer.flush() {
-        Ok(()) => Ok(end),
-        Err(_) => Err(Problem::Failed(Failure::Write)),
-    }
+    )?)
 }
 
 fn outcome_of(played: Result<End, Problem>) -> Outcome
@@ -260,22 +277,24 @@ fn outcome_of(played: Result<End, Problem>) -> Outcome
 /// Says what a command came to, and answers the exit status.
 pub fn report<E: Sink>(outcome: &Outcome, errors: &mut E) -> u8
     ensures status { result ≡ status_of outcome.now }
-    ensures said { Says (seen E.contents E.failures errors.old) (seen E.contents E.failures errors.new) (line_of (text_of outcome.now)) }
+    ensures said { Says (seen E.contents E.failures E.waits errors.old) (seen E.contents E.failures E.waits errors.new) (line_of (text_of outcome.now)) }
 {
     say(Message::of(outcome).as_slice(), errors);
     outcome.status()
 }
 
-/// Writes a text, where a failure is ignored.
+/// Writes a text and flushes it, where a failure is ignored. With no text nothing is called.
 fn say<E: Sink>(text: &[u8], errors: &mut E)
-    ensures { Says (seen E.contents E.failures errors.old) (seen E.contents E.failures errors.new) text.now }
+    ensures { Says (seen E.contents E.failures E.waits errors.old) (seen E.contents E.failures E.waits errors.new) text.now }
 {
-    let _ = write_whole(errors, text);
+    if !text.is_empty() {
+        let _ = write_and_flush(errors, text);
+    }
 }
 
 /// Writes clap's answer to words that name no command: to the writer where they ask for help or for the version.
 fn explain<W: Sink, E: Sink>(alloc: Global, error: &Error, writer: &mut W, errors: &mut E) -> u8
-    ensures { (kinds : Kinds) → HasKind kinds error.now → Explains kinds result (sinks (seen W.contents W.failures writer.old) (seen E.contents E.failures errors.old)) (sinks (seen W.contents W.failures writer.new) (seen E.contents E.failures errors.new)) }
+    ensures { (kinds : Kinds) (files : ℕ) → HasKind kinds error.now → Explains kinds result (devices files (seen W.contents W.failures W.waits writer.old) (seen E.contents E.failures E.waits errors.old)) (devices files (seen W.contents W.failures W.waits writer.new) (seen E.contents E.failures E.waits errors.new)) }
 {
     if error.kind() == ErrorKind::OutOfMemory {
         return fail(Failure::Memory, errors);
@@ -287,7 +306,7 @@ fn explain<W: Sink, E: Sink>(alloc: Global, error: &Error, writer: &mut W, error
         say(text.as_bytes(), errors);
         return USAGE;
     }
-    match write_whole(writer, text.as_bytes()) {
+    match write_and_flush(writer, text.as_bytes()) {
         Ok(()) => 0,
         Err(_) => fail(Failure::Write, errors),
     }
@@ -296,7 +315,7 @@ fn explain<W: Sink, E: Sink>(alloc: Global, error: &Error, writer: &mut W, error
 /// Says that an argument is no text, and so no word, and answers the exit status.
 pub fn refuse_bytes<E: Sink>(errors: &mut E) -> u8
     ensures status { result ≡ 2 }
-    ensures said { Says (seen E.contents E.failures errors.old) (seen E.contents E.failures errors.new) no_text }
+    ensures said { Says (seen E.contents E.failures E.waits errors.old) (seen E.contents E.failures E.waits errors.new) no_text }
 {
     say(NO_TEXT, errors);
     USAGE
@@ -305,7 +324,7 @@ pub fn refuse_bytes<E: Sink>(errors: &mut E) -> u8
 /// Says what failed, and answers the exit status.
 pub fn fail<E: Sink>(failure: Failure, errors: &mut E) -> u8
     ensures status { result ≡ 4 }
-    ensures said { Says (seen E.contents E.failures errors.old) (seen E.contents E.failures errors.new) (line_of (failure_text failure)) }
+    ensures said { Says (seen E.contents E.failures E.waits errors.old) (seen E.contents E.failures E.waits errors.new) (line_of (failure_text failure)) }
 {
     report(&Outcome::Stopped(Problem::Failed(failure)), errors)
 }

@@ -1,6 +1,7 @@
 //! What the player of a story is handed and no opcode of this build asks for.
 
-ghost use Rattle.std.specs.Prelude.{◌≡◌};
+ghost use Rattle.std.specs.Prelude.{◌≡◌, false};
+ghost use Rattle.zplayer.specs.Outside.{CountsRefusal};
 
 use zplayer::{SaveStore, Words};
 
@@ -22,12 +23,18 @@ impl NoSaves {
 impl SaveStore for NoSaves {
     ghost failures = { λ store. store.failures };
 
-    fn put(&mut self, _save: &[u8]) -> bool {
+    fn put(&mut self, _save: &[u8]) -> bool
+        ensures counts { CountsRefusal self.old.failures self.new.failures result }
+        ensures none { result ≡ false }
+    {
         self.failures = self.failures.saturating_add(1);
         false
     }
 
-    fn get(&mut self, _save: &mut Vec<u8>) -> bool {
+    fn get(&mut self, _save: &mut Vec<u8>) -> bool
+        ensures counts { CountsRefusal self.old.failures self.new.failures result }
+        ensures none { result ≡ false }
+    {
         self.failures = self.failures.saturating_add(1);
         false
     }

@@ -1,11 +1,11 @@
 -- Turns of playing, one after another.
 use Rattle.std.proofs.Common.{◌≡◌, ℕ, ◌+◌, ◌-◌, ◌≤◌, List, [], ◌++◌, refl, sym, ap, subst, ◌∙◌, arith}
 use Rattle.std.specs.Prelude.{Option}
-use Rattle.std.specs.Io.KnownBytes.{Appends}
+use Rattle.std.specs.Io.KnownBytes.{Appends, Keeps}
 use Rattle.std.proofs.KnownBytes.{Appends-trans, Appends-nil}
 use Rattle.std.proofs.lemmas.List.{append-nil}
 use Rattle.zfault.specs.Devices.{AppendsBeginning}
-use Rattle.zfault.proofs.DeviceLemmas.{AppendsBeginning-after, AppendsBeginning-append}
+use Rattle.zfault.proofs.DeviceLemmas.{AppendsBeginning-after, AppendsBeginning-append, AppendsBeginning-whole}
 use Rattle.zfault.specs.declared.item.Item.{Item}
 use Rattle.zfault.specs.declared.pause.Pause.TheVariants as pauses
 use Rattle.zstate.specs.declared.halt.Stop.{Stop}
@@ -15,7 +15,7 @@ use Rattle.zstate.specs.Run.{Ending, after, ends, run, Goes, Stands}
 use Rattle.zstate.proofs.Joins.{steps_join}
 use Rattle.zstate.proofs.Calls.{stands_ends, goes_join}
 use Rattle.zplayer.specs.Rendering.{render}
-use Rattle.zplayer.specs.Playing.{Plays, PlaysInPart}
+use Rattle.zplayer.specs.Playing.{Plays, PlaysInPart, PlaysSome}
 use Rattle.zplayer.proofs.Writes.{renders}
 
 -- what some steps give out is a beginning of what all give out
@@ -77,6 +77,20 @@ module _ (m : Setting) (budget left : ℕ) (s t : State) (a b : Option (List ℕ
   written_is stop stands none =
       let items : (run m [] budget s).items ≡ so_far.given = ap (λ (e : Ending). e.items) (ending stop stands none) ∙ append-nil so_far.given in
       subst (λ (l : List Item). Appends a b (render l)) (sym items) so_far.written
+
+-- steps whose output is written, and a flush after them that failed
+module _ (m : Setting) (budget : ℕ) (s t : State) (a b c : Option (List ℕ)) (some : PlaysSome m budget s t a b) (kept : Keeps b c) where
+  few : some.1.steps ≤ budget
+  few = omega (arith, some.1.all)
+
+  written_in_part : AppendsBeginning a c (render some.1.given)
+  written_in_part = AppendsBeginning-whole a b c (render some.1.given) some.1.written kept
+
+  pub some_in_part : PlaysInPart m budget s t a c
+  some_in_part = record { steps = some.1.steps; given = some.1.given; few = few; goes = some.1.goes; written = written_in_part }
+
+  pub some_begun : AppendsBeginning a c (render (run m [] budget s).items)
+  some_begun = begun_of_all m budget some.1.steps s t some.1.given a c few some.1.goes written_in_part
 
 -- playing that came to a standstill, in one turn more
 module _ (m n : Setting) (budget left fewer : ℕ) (s t u : State) (a b c : Option (List ℕ)) (stop : Stop) (same : n ≡ m) (so_far : Plays m budget left s t a b) (turn : Plays n left fewer t u b c) (stands : Stands n stop u) (none : stop ≡ stops.Paused pauses.Budget → fewer ≡ 0) where

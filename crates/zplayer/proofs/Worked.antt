@@ -1,12 +1,13 @@
 -- Values of the definitions, computed.
 use Rattle.std.proofs.Common.{◌≡◌, ℕ, true, List, [], ◌∷◌, Option, refl, arith}
-use Rattle.std.specs.Prelude.{pos}
+use Rattle.std.specs.Prelude.{pos, negsuc, codes, false}
 use Rattle.zfault.specs.declared.fault.Fault.TheVariants.{IllegalOpcode}
-use Rattle.zfault.specs.declared.item.Item.TheVariants.{Text}
+use Rattle.zfault.specs.declared.item.Item.TheVariants.{Text, Status}
 use Rattle.zfault.specs.declared.pause.Pause.TheVariants as pauses
 use Rattle.zstate.specs.declared.halt.Stop.TheVariants as stops
 use Rattle.zstate.specs.State.{State, Setting}
 use Rattle.zplayer.specs.declared.end.End.TheVariants as ends
+use Rattle.zplayer.specs.declared.player.TheConstants.{TURN}
 use Rattle.zplayer.specs.Outside.{CountsRefusal}
 use Rattle.zplayer.specs.Playing.{end_of, Plays, PlaysInPart, PlaysSome}
 use Rattle.zplayer.specs.Rendering.{render, shown}
@@ -19,6 +20,14 @@ needs = (refl, refl, refl, refl)
 others : (end_of (stops.Paused pauses.Budget) ≡ ends.Budget) × (end_of (stops.Paused pauses.Quit) ≡ ends.Quit) × (end_of (stops.Paused pauses.FrameLimit) ≡ ends.FrameLimit) × (end_of (stops.Fault IllegalOpcode (pos 804)) ≡ ends.Fault IllegalOpcode (pos 804))
 others = (refl, refl, refl, refl)
 
+-- the steps of a turn
+turn : TURN ≡ 1024
+turn = refl
+
+-- a status line shows nothing yet, be it a score or a time
+status : (shown (Status (record { name = codes "attic"; first = pos 350; second = negsuc 0; time = false })) ≡ []) × (render (Text 104 ∷ Status (record { name = []; first = pos 23; second = pos 59; time = true }) ∷ Text 105 ∷ []) ≡ 104 ∷ 105 ∷ [])
+status = (refl, refl)
+
 -- bytes of text, in their order
 bytes : (render [] ≡ []) × (shown (Text 104) ≡ 104 ∷ []) × (render (Text 104 ∷ Text 10 ∷ Text 0 ∷ []) ≡ 104 ∷ 10 ∷ 0 ∷ [])
 bytes = (refl, refl, refl)
@@ -29,6 +38,10 @@ done = refl
 
 not_done : CountsRefusal 3 4 true → ⊥
 not_done same = omega (arith, same)
+
+-- one that wasn't is counted once
+refused : CountsRefusal 3 4 false × (CountsRefusal 3 5 false → ⊥)
+refused = (refl, λ rises. omega (arith, rises))
 
 -- no step is made at first, and never more than the budget has
 module _ (m : Setting) (s t : State) (a b : Option (List ℕ)) where

@@ -1,8 +1,8 @@
 //! The player of a machine.
 
-ghost use Rattle.std.specs.Prelude.{◌≡◌, ◌≢◌, ◌<◌, ℤ, [], Ok, None, IsErrOf, IfOk, IfNone, IfSome, OnOk};
-ghost use Rattle.std.specs.Io.KnownBytes.{Appends};
-ghost use Rattle.zfault.specs.Devices.{AppendsBeginning, HasRisen};
+ghost use Rattle.std.specs.Prelude.{◌≡◌, ◌≢◌, ◌<◌, ℤ, false, [], Ok, None, IsErrOf, IfErr, IfOk, IfNone, IfSome, OnOk};
+ghost use Rattle.std.specs.Io.KnownBytes.{Appends, Keeps};
+ghost use Rattle.zfault.specs.Devices.{AppendsBeginning, RisesByOne};
 ghost use Rattle.zstate.specs.Run.{run, Stands};
 ghost use Rattle.zref.specs.Machine.{setting, SamePlay};
 ghost use Rattle.zfault.specs.declared.fault.Fault.{Fault as AFault};
@@ -15,7 +15,7 @@ use crate::machine::Machine;
 use crate::outside::{SaveStore, Words};
 use crate::screen::write_items;
 use std::alloc::Global;
-use zfault::{Item, Pause, Sink, Source};
+use zfault::{Failed, Item, Pause, Sink, Source};
 use zplay::Session;
 use zref::CheckedMachine;
 use zstate::Stop;
@@ -26,7 +26,8 @@ const TURN: u32 = 1024;
 /// Plays the machine from the state that it is in: makes at most the budget's steps, and writes what they give out.
 ///
 /// No opcode of this build needs a line, a word or a save, so the reader, the store and the words aren't touched yet.
-/// After P2 a beginning of what the finished steps give out was written; after P3 all of it.
+/// After P2 a beginning of what the finished steps give out was written, and the writer isn't called again; after P3 all
+/// of it. At any other end than P2 what was written is flushed.
 pub fn play_checked<R: Source, W: Sink, S: SaveStore, G: Words>(
     alloc: Global,
     machine: &mut CheckedMachine,
@@ -43,8 +44,9 @@ pub fn play_checked<R: Source, W: Sink, S: SaveStore, G: Words>(
     ensures quiet { ¬ IsErrOf result PlayError.Write → W.failures writer.new ≡ W.failures writer.old }
     ensures no_read { ¬ IsErrOf result PlayError.Read }
     ensures begun { IsErrOf result PlayError.Write → AppendsBeginning (W.contents writer.old) (W.contents writer.new) (render (run (setting machine.old) [] options.budget machine.old.state).items) }
-    ensures blamed { IsErrOf result PlayError.Write → HasRisen (W.failures writer.old) (W.failures writer.new) }
-    ensures finished { IsErrOf result PlayError.OutOfMemory → PlaysSome (setting machine.old) options.budget machine.old.state machine.new.state (W.contents writer.old) (W.contents writer.new) }
+    ensures blamed { IsErrOf result PlayError.Write → RisesByOne (W.failures writer.old) (W.failures writer.new) }
+    ensures flushed { ¬ IsErrOf result PlayError.Write → W.waits writer.new ≡ false }
+    ensures finished { ¬ IsErrOf result PlayError.Write → PlaysSome (setting machine.old) options.budget machine.old.state machine.new.state (W.contents writer.old) (W.contents writer.new) }
     ensures in_part { IsErrOf result PlayError.Write → PlaysInPart (setting machine.old) options.budget machine.old.state machine.new.state (W.contents writer.old) (W.contents writer.new) }
     ensures reader { _reader.new ≡ _reader.old }
     ensures store { _store.new ≡ _store.old }
@@ -71,8 +73,9 @@ pub fn play_story<R: Source, W: Sink, S: SaveStore, G: Words>(
     ensures quiet { ¬ IsErrOf result PlayError.Write → W.failures writer.new ≡ W.failures writer.old }
     ensures no_read { ¬ IsErrOf result PlayError.Read }
     ensures begun { IsErrOf result PlayError.Write → AppendsBeginning (W.contents writer.old) (W.contents writer.new) (render (run (setting_of session.old.accepted) [] options.budget session.old.state).items) }
-    ensures blamed { IsErrOf result PlayError.Write → HasRisen (W.failures writer.old) (W.failures writer.new) }
-    ensures finished { IsErrOf result PlayError.OutOfMemory → PlaysSome (setting_of session.old.accepted) options.budget session.old.state session.new.state (W.contents writer.old) (W.contents writer.new) }
+    ensures blamed { IsErrOf result PlayError.Write → RisesByOne (W.failures writer.old) (W.failures writer.new) }
+    ensures flushed { ¬ IsErrOf result PlayError.Write → W.waits writer.new ≡ false }
+    ensures finished { ¬ IsErrOf result PlayError.Write → PlaysSome (setting_of session.old.accepted) options.budget session.old.state session.new.state (W.contents writer.old) (W.contents writer.new) }
     ensures in_part { IsErrOf result PlayError.Write → PlaysInPart (setting_of session.old.accepted) options.budget session.old.state session.new.state (W.contents writer.old) (W.contents writer.new) }
     ensures reader { _reader.new ≡ _reader.old }
     ensures store { _store.new ≡ _store.old }
@@ -82,7 +85,7 @@ pub fn play_story<R: Source, W: Sink, S: SaveStore, G: Words>(
     play_machine(alloc, session, writer, options.budget)
 }
 
-/// Makes at most so many steps in turns, and writes what each turn gives out.
+/// Makes at most so many steps, and writes and flushes what they give out. A failed write is the last call of the writer.
 fn play_machine<M: Machine, W: Sink>(
     alloc: Global,
     machine: &mut M,
@@ -96,8 +99,49 @@ fn play_machine<M: Machine, W: Sink>(
     ensures quiet { ¬ IsErrOf result PlayError.Write → W.failures writer.new ≡ W.failures writer.old }
     ensures no_read { ¬ IsErrOf result PlayError.Read }
     ensures begun { IsErrOf result PlayError.Write → AppendsBeginning (W.contents writer.old) (W.contents writer.new) (render (run (M.setting machine.old) [] budget (M.state machine.old)).items) }
-    ensures blamed { IsErrOf result PlayError.Write → HasRisen (W.failures writer.old) (W.failures writer.new) }
-    ensures finished { IsErrOf result PlayError.OutOfMemory → PlaysSome (M.setting machine.old) budget (M.state machine.old) (M.state machine.new) (W.contents writer.old) (W.contents writer.new) }
+    ensures blamed { IsErrOf result PlayError.Write → RisesByOne (W.failures writer.old) (W.failures writer.new) }
+    ensures flushed { ¬ IsErrOf result PlayError.Write → W.waits writer.new ≡ false }
+    ensures finished { ¬ IsErrOf result PlayError.Write → PlaysSome (M.setting machine.old) budget (M.state machine.old) (M.state machine.new) (W.contents writer.old) (W.contents writer.new) }
+    ensures in_part { IsErrOf result PlayError.Write → PlaysInPart (M.setting machine.old) budget (M.state machine.old) (M.state machine.new) (W.contents writer.old) (W.contents writer.new) }
+{
+    match play_turns(alloc, machine, writer, budget) {
+        Err(PlayError::Write) => Err(PlayError::Write),
+        played => {
+            flush(writer)?;
+            played
+        }
+    }
+}
+
+/// Hands on what was written.
+fn flush<W: Sink>(writer: &mut W) -> Result<(), PlayError>
+    ensures kept { Keeps (W.contents writer.old) (W.contents writer.new) }
+    ensures ok { OnOk result (W.waits writer.new ≡ false) }
+    ensures quiet { OnOk result (W.failures writer.new ≡ W.failures writer.old) }
+    ensures failed { IfErr result (λ error. (error ≡ PlayError.Write) × RisesByOne (W.failures writer.old) (W.failures writer.new)) }
+{
+    match writer.flush() {
+        Ok(()) => Ok(()),
+        Err(Failed) => Err(PlayError::Write),
+    }
+}
+
+/// Makes at most so many steps in turns, and writes what each turn gives out.
+fn play_turns<M: Machine, W: Sink>(
+    alloc: Global,
+    machine: &mut M,
+    writer: &mut W,
+    budget: u32,
+) -> Result<End, PlayError>
+    ensures play { M.IsSamePlay machine.old machine.new }
+    ensures ends { IfOk result (λ end. end ≡ end_of (run (M.setting machine.old) [] budget (M.state machine.old)).stop) }
+    ensures state { OnOk result (M.state machine.new ≡ (run (M.setting machine.old) [] budget (M.state machine.old)).state) }
+    ensures written { OnOk result (Appends (W.contents writer.old) (W.contents writer.new) (render (run (M.setting machine.old) [] budget (M.state machine.old)).items)) }
+    ensures quiet { ¬ IsErrOf result PlayError.Write → W.failures writer.new ≡ W.failures writer.old }
+    ensures no_read { ¬ IsErrOf result PlayError.Read }
+    ensures begun { IsErrOf result PlayError.Write → AppendsBeginning (W.contents writer.old) (W.contents writer.new) (render (run (M.setting machine.old) [] budget (M.state machine.old)).items) }
+    ensures blamed { IsErrOf result PlayError.Write → RisesByOne (W.failures writer.old) (W.failures writer.new) }
+    ensures finished { ¬ IsErrOf result PlayError.Write → PlaysSome (M.setting machine.old) budget (M.state machine.old) (M.state machine.new) (W.contents writer.old) (W.contents writer.new) }
     ensures in_part { IsErrOf result PlayError.Write → PlaysInPart (M.setting machine.old) budget (M.state machine.old) (M.state machine.new) (W.contents writer.old) (W.contents writer.new) }
 {
     let mut items = Vec::new(alloc);
@@ -135,7 +179,7 @@ fn turn<M: Machine, W: Sink>(
     ensures quiet { ¬ IsErrOf result PlayError.Write → W.failures writer.new ≡ W.failures writer.old }
     ensures no_read { ¬ IsErrOf result PlayError.Read }
     ensures begun { IsErrOf result PlayError.Write → AppendsBeginning (W.contents writer.old) (W.contents writer.new) (render (run (M.setting machine.old) [] left.old (M.state machine.old)).items) }
-    ensures blamed { IsErrOf result PlayError.Write → HasRisen (W.failures writer.old) (W.failures writer.new) }
+    ensures blamed { IsErrOf result PlayError.Write → RisesByOne (W.failures writer.old) (W.failures writer.new) }
     ensures finished { IsErrOf result PlayError.OutOfMemory → Plays (M.setting machine.old) left.old left.new (M.state machine.old) (M.state machine.new) (W.contents writer.old) (W.contents writer.new) }
     ensures in_part { IsErrOf result PlayError.Write → PlaysInPart (M.setting machine.old) left.old (M.state machine.old) (M.state machine.new) (W.contents writer.old) (W.contents writer.new) }
 {

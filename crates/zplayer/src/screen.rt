@@ -2,7 +2,7 @@
 
 ghost use Rattle.std.specs.Prelude.{◌≡◌, ◌≤◌, OnErr, OnOk, length};
 ghost use Rattle.std.specs.Io.KnownBytes.{Appends};
-ghost use Rattle.zfault.specs.Devices.{AppendsBeginning, HasRisen};
+ghost use Rattle.zfault.specs.Devices.{AppendsBeginning, RisesByOne};
 ghost use Rattle.zplayer.specs.Rendering.{render};
 
 use arrayvec::ArrayVec;
@@ -16,7 +16,7 @@ pub(crate) fn write_items<W: Sink>(sink: &mut W, items: &[Item]) -> Result<(), F
     ensures ok { OnOk result (Appends (W.contents sink.old) (W.contents sink.new) (render items.now)) }
     ensures begun { OnErr result (AppendsBeginning (W.contents sink.old) (W.contents sink.new) (render items.now)) }
     ensures quiet { OnOk result (W.failures sink.new ≡ W.failures sink.old) }
-    ensures blamed { OnErr result (HasRisen (W.failures sink.old) (W.failures sink.new)) }
+    ensures blamed { OnErr result (RisesByOne (W.failures sink.old) (W.failures sink.new)) }
 {
     let mut at = 0;
     while at < items.len() {
@@ -33,7 +33,7 @@ fn write_piece<W: Sink>(sink: &mut W, items: &[Item]) -> Result<(), Failed>
     ensures ok { OnOk result (Appends (W.contents sink.old) (W.contents sink.new) (render items.now)) }
     ensures begun { OnErr result (AppendsBeginning (W.contents sink.old) (W.contents sink.new) (render items.now)) }
     ensures quiet { OnOk result (W.failures sink.new ≡ W.failures sink.old) }
-    ensures blamed { OnErr result (HasRisen (W.failures sink.old) (W.failures sink.new)) }
+    ensures blamed { OnErr result (RisesByOne (W.failures sink.old) (W.failures sink.new)) }
 {
     write_whole(sink, piece_of(items).as_slice())
 }

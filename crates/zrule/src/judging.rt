@@ -72,7 +72,7 @@ fn has_edges(
         || leads(
             certificate,
             listed,
-            pops(instruction.operands()),
+            pops(instruction.operands().as_slice()),
             next,
             near,
         )
@@ -109,7 +109,7 @@ fn keeps(
 {
     match rule {
         Rule::Decodes => true,
-        Rule::Height => pops(instruction.operands()) <= listed.slots.len(),
+        Rule::Height => pops(instruction.operands().as_slice()) <= listed.slots.len(),
         Rule::Successor => has_edges(certificate, listed, instruction, near),
         Rule::Text => {
             texts_are_fixed(story);

@@ -9,7 +9,3 @@ mod codes;
 mod faults;
 #[cfg(test)]
 mod listings;
-#[cfg(test)]
-mod stories;
-#[cfg(test)]
-mod texts;

@@ -1,10 +1,10 @@
 -- Texts that begin within one another end where it ends.
-use Rattle.std.proofs.Common.{◌≡◌, ℕ, zero, suc, ◌+◌, ◌*◌, ◌-◌, ◌/◌, ◌%◌, ◌<◌, ◌≤◌, Bool, true, false, cond, nat_lt, List, [], ◌∷◌, length, drop, Option, Some, None, option_map, refl, sym, ap, subst, ◌∙◌, arith}
+use Rattle.std.proofs.Common.{◌≡◌, ℕ, zero, suc, ◌+◌, ◌*◌, ◌-◌, ◌/◌, ◌<◌, ◌≤◌, Bool, true, false, cond, nat_lt, List, [], ◌∷◌, length, drop, Option, Some, None, option_map, refl, sym, ap, subst, ◌∙◌, arith}
 use Rattle.std.specs.Prelude.{IfSome}
 use Rattle.std.proofs.lemmas.List.{drop-drop, length-drop}
 use Rattle.ztext.specs.declared.ends.Known.{Known}
-use Rattle.ztext.specs.Words.{front_text, text_at, length_at, after_text}
-use Rattle.ztext.specs.Ends.{Tells, IsKnown}
+use Rattle.ztext.specs.Words.{front_text, length_at, after_text}
+use Rattle.ztext.specs.Ends.{IsKnown}
 use Rattle.ztext.proofs.Texts.{after_text-some, after_text-no_text}
 
 -- the length of the text at the front

@@ -5,4 +5,7 @@ pub mod Outcomes
 pub mod Sameness
 pub mod Printable
 mod KnownEnds
+mod Plainness
 mod Worked
+mod Table
+mod Steps

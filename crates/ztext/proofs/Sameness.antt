@@ -1,26 +1,24 @@
 -- Texts in two memories: what a text prints depends on its own bytes and on the abbreviations that it uses.
-use Rattle.std.proofs.Common.{◌≡◌, ℕ, ◌+◌, ◌*◌, ◌<◌, ◌≤◌, Bool, true, false, cond, nat_lt, min, List, [], ◌∷◌, ◌++◌, length, take, drop, Option, Some, None, option_map, Result, refl, sym, ap, ◌∙◌, arith}
+use Rattle.std.proofs.Common.{◌≡◌, ℕ, ◌+◌, ◌*◌, ◌<◌, Bool, true, false, cond, nat_lt, min, ◌-◌, subst, List, [], ◌∷◌, ◌++◌, length, take, drop, Option, Some, None, option_map, Result, refl, sym, ap, ◌∙◌, arith}
+use Rattle.std.specs.Prelude.{unwrap_or}
 use Rattle.std.specs.Option.{option_and_then}
 use Rattle.std.specs.List.{AllByRecursion}
-use Rattle.std.proofs.lemmas.List.{take-append-drop, length-take, length-drop, get_or-take, get_or-drop}
+use Rattle.std.proofs.lemmas.List.{take-append-drop, length-take, length-drop, get_or-take, get_or-drop, take_rest}
 use Rattle.std.proofs.lemmas.Grind.{same_number_lists}
 use Rattle.std.proofs.Math.Seq.{take-append_seam}
-use Rattle.zstory.specs.Bytes.{byte_at, word_at}
+use Rattle.zstory.specs.Bytes.{word_at}
 use Rattle.ztext.specs.declared.error.TextError.{TextError}
 use Rattle.ztext.specs.declared.pieces.Piece.{Piece}
 use Rattle.ztext.specs.declared.pieces.Piece.TheVariants.{Code, Abbreviation}
-use Rattle.ztext.specs.Words.{text_at, characters_in}
+use Rattle.ztext.specs.Words.{front_text, text_at, characters_in}
 use Rattle.ztext.specs.Pieces.{pieces_of}
 use Rattle.ztext.specs.Codes.{abbreviations_among}
+use Rattle.ztext.specs.Local.{SameBytes, read_length, SameWords, SameAbbreviation, SameReading}
 use Rattle.ztext.specs.Abbreviations.{abbreviation_at}
 use Rattle.ztext.specs.Output.{output_of_characters, output_at}
 use Rattle.ztext.specs.Progress.{joined, all_joined, abbreviation_output, piece_output}
 use Rattle.ztext.proofs.Texts.{IsCut-from_text_at, front_text-cut}
 use Rattle.ztext.proofs.Printed.{output_of_characters-joined}
-
--- the same bytes from one place up to another
-abbrev pub SameBytes : List ℕ → List ℕ → ℕ → ℕ → Type 0
-SameBytes memory other from to = (place : ℕ) → from ≤ place → place < to → byte_at other place ≡ byte_at memory place
 
 same_taken : (memory other : List ℕ) (at size : ℕ) → length other ≡ length memory → SameBytes memory other at (at + size) → take size (drop at other) ≡ take size (drop at memory)
 same_taken memory other at size long same = same_number_lists _ _ (simp (length-take, length-drop) (rw long refl)) (λ k below.
@@ -79,3 +77,42 @@ output_of_characters-same memory other zs same =
 pub output_at-same : (memory other : List ℕ) (at : ℕ) (text : List ℕ) → text_at memory at ≡ Some text → text_at other at ≡ Some text → SameAmong memory other (pieces_of (characters_in text)) → output_at other at ≡ output_at memory at
 unfolding output_at
 output_at-same memory other at text e f same = rw (e, output_at) (rw (f, output_at) (output_of_characters-same memory other (characters_in text) same))
+
+-- ---- by what a reading goes over
+
+same_rest : (memory other : List ℕ) (at : ℕ) → length other ≡ length memory → SameBytes memory other at (at + (length memory - at)) → drop at other ≡ drop at memory
+same_rest memory other at long same =
+    let taken = same_taken memory other at (length memory - at) long same in
+    let other_whole : take (length memory - at) (drop at other) ≡ drop at other = ap (λ (n : ℕ). take (n - at) (drop at other)) (sym long) ∙ take_rest other at in
+    sym other_whole ∙ taken ∙ take_rest memory at
+
+pub text_at-local : (memory other : List ℕ) (at : ℕ) → length other ≡ length memory → SameWords memory other at → text_at other at ≡ text_at memory at
+text_at-local memory other at long same = by_text (text_at memory at) refl
+  where
+    by_text : (found : Option (List ℕ)) → text_at memory at ≡ found → text_at other at ≡ text_at memory at
+    by_text None e =
+        let all : read_length memory at ≡ length memory - at = ap (λ (t : Option (List ℕ)). unwrap_or (option_map length t) (length memory - at)) e in
+        ap front_text (same_rest memory other at long (subst (λ (n : ℕ). SameBytes memory other at (at + n)) all same))
+    by_text (Some text) e =
+        let all : read_length memory at ≡ length text = ap (λ (t : Option (List ℕ)). unwrap_or (option_map length t) (length memory - at)) e in
+        text_at-same memory other at text long e (subst (λ (n : ℕ). SameBytes memory other at (at + n)) all same) ∙ sym e
+
+pub abbreviation_at-local : (memory other : List ℕ) (n : ℕ) → length other ≡ length memory → SameAbbreviation memory other n → abbreviation_at other n ≡ abbreviation_at memory n
+abbreviation_at-local memory other n long same =
+    abbreviation_at-same memory other n long same.table same.entry (text_at-local memory other (2 * word_at memory (word_at memory 0x18 + 2 * n)) long same.text)
+
+all_same : (memory other : List ℕ) (numbers : List ℕ) → length other ≡ length memory → AllByRecursion (SameAbbreviation memory other) numbers → AllByRecursion (λ n. abbreviation_at other n ≡ abbreviation_at memory n) numbers
+all_same memory other [] long same = tt
+all_same memory other (n ∷ numbers) long same = (abbreviation_at-local memory other n long same.0, all_same memory other numbers long same.1)
+
+pub output_at-local : (memory other : List ℕ) (at : ℕ) → SameReading memory other at → output_at other at ≡ output_at memory at
+unfolding output_at
+output_at-local memory other at same = by_text (text_at memory at) refl
+  where
+    there : text_at other at ≡ text_at memory at
+    there = text_at-local memory other at same.size same.own
+
+    by_text : (found : Option (List ℕ)) → text_at memory at ≡ found → output_at other at ≡ output_at memory at
+    by_text None e = let f : text_at other at ≡ None = there ∙ e in rw (e, output_at) (rw (f, output_at) refl)
+    by_text (Some text) e =
+        output_at-same memory other at text e (there ∙ e) (all_same memory other (abbreviations_among (pieces_of (characters_in text))) same.size (same.used text e))

@@ -1,8 +1,9 @@
 -- Values of the definitions, computed.
-use Rattle.std.proofs.Common.{◌≡◌, ℕ, ◌+◌, Bool, false, List, [], ◌∷◌, ◌++◌, replicate, length, Some, None, Ok, Err, zero, suc, refl, sym, ap, arith, lit<, lit≤, nat_lt, if◌then◌else◌}
+use Rattle.std.proofs.Common.{◌≡◌, ℕ, ◌+◌, Bool, false, List, [], ◌∷◌, ◌++◌, ◌%◌, replicate, length, Some, None, Result, Ok, Err, zero, suc, refl, ap, arith, lit<, lit≤, nat_lt, if◌then◌else◌}
 use Rattle.std.specs.Prelude.{min}
 use Rattle.std.proofs.lemmas.Bool.{le-ltb}
 use Rattle.zstory.specs.Bytes.{word_at}
+use Rattle.ztext.specs.declared.error.TextError.{TextError}
 use Rattle.ztext.specs.declared.error.TextError.TheVariants.{Outside, NestedAbbreviation, OutOfMemory}
 use Rattle.ztext.specs.declared.pieces.Piece.TheVariants.{Code, Abbreviation}
 use Rattle.ztext.specs.declared.pieces.Alphabet.TheVariants.{Small, Capital, Mark}
@@ -15,7 +16,8 @@ use Rattle.ztext.specs.Codes.{plain_codes, codes_of, text_of, abbreviations_amon
 use Rattle.ztext.specs.Abbreviations.{readable_word, abbreviation_at, abbreviation_characters, IsPlainAbbreviation}
 use Rattle.ztext.specs.Output.{output_of_code, output_of, output_of_characters, output_at}
 use Rattle.ztext.specs.Begun.{letters_of, characters_begun, IsBegun, pieces_from, IsStep}
-use Rattle.ztext.specs.Progress.{first_error, joined, all_joined, plain_output, abbreviation_output, piece_output, nested_after, HasFront, IsSoFar, LeadsTo, Decodes}
+use Rattle.ztext.specs.States.{begun_at, IsPlace, byte_at_once}
+use Rattle.ztext.specs.Progress.{first_error, joined, all_joined, piece_printed, characters_printed, printed_from, nested_use, plain_output, abbreviation_output, memory_use, piece_output, error_of, HasFront, IsStopped, IsWritten, LeadsOn}
 
 -- ---- words
 
@@ -203,27 +205,43 @@ all_print : (all_joined (piece_output memory) (Abbreviation 1 ∷ Code 97 ∷ Ab
 unfolding memory small_letters
 all_print = (refl, refl, refl, refl)
 
-nested : (nested_after (Ok tt) ≡ Err NestedAbbreviation) × (nested_after (Err Outside) ≡ Err Outside) × (nested_after (Err OutOfMemory) ≡ Err NestedAbbreviation)
-nested = (refl, refl, refl)
+-- each abbreviation prints its number
+short_uses : ℕ → Result (List ℕ) TextError
+short_uses n = Ok (n ∷ [])
+
+printed_pieces : (piece_printed short_uses (Code 13) ≡ Ok (10 ∷ [])) × (piece_printed short_uses (Abbreviation 3) ≡ Ok (3 ∷ [])) × (piece_printed nested_use (Abbreviation 3) ≡ Err NestedAbbreviation) × (memory_use memory 1 ≡ Err NestedAbbreviation) × (memory_use memory 2 ≡ Err Outside)
+unfolding short_uses memory small_letters
+printed_pieces = (refl, refl, refl, refl, refl)
+
+printed_on : (characters_printed short_uses (6 ∷ 1 ∷ 2 ∷ []) ≡ Ok (97 ∷ 2 ∷ [])) × (printed_from short_uses (Letter Capital) (6 ∷ 6 ∷ []) ≡ Ok (65 ∷ 97 ∷ [])) × (printed_from short_uses (EscapeHigh 2) (0 ∷ []) ≡ Ok (64 ∷ [])) × (printed_from short_uses (Bank 2) (1 ∷ []) ≡ Ok (33 ∷ []))
+unfolding printed_from short_uses small_letters capital_letters
+printed_on = (refl, refl, refl, refl)
+
+errors : (error_of (Ok (7 ∷ [])) ≡ OutOfMemory) × (error_of (Err Outside) ≡ Outside) × (error_of (Err NestedAbbreviation) ≡ NestedAbbreviation)
+errors = (refl, refl, refl)
 
 -- a buffer that held 1 and has room for two bytes
-so_far : IsSoFar (1 ∷ []) 2 (1 ∷ 7 ∷ []) (Ok tt) (Ok (7 ∷ [])) × IsSoFar (1 ∷ []) 2 (1 ∷ 7 ∷ []) (Err OutOfMemory) (Ok (7 ∷ 8 ∷ [])) × IsSoFar (1 ∷ []) 2 (1 ∷ 7 ∷ []) (Err Outside) (Err Outside)
-unfolding IsSoFar
-so_far = ((7 ∷ [], refl, refl), (7 ∷ 8 ∷ [], refl, lit< tt, (7 ∷ [], refl)), (refl, (7 ∷ [], refl)))
+written : IsWritten 2 (1 ∷ []) (1 ∷ 7 ∷ []) (Some tt) (Ok (7 ∷ [])) × IsWritten 2 (1 ∷ []) (1 ∷ 7 ∷ []) None (Ok (7 ∷ 8 ∷ [])) × IsWritten 2 (1 ∷ []) (1 ∷ 7 ∷ []) None (Err Outside)
+unfolding IsWritten IsStopped
+written = ((7 ∷ [], refl, refl), ((7 ∷ [], refl), λ out e. (let same : 7 ∷ 8 ∷ [] ≡ out = cc in rw (← same) (lit< tt))), ((7 ∷ [], refl), λ out e. absurd cc))
 
--- no error after a value, no want of memory where there is room, and nothing else before what is added
-not_so_far : (IsSoFar [] 2 [] (Err Outside) (Ok []) → ⊥) × (IsSoFar [] 2 (7 ∷ []) (Err NestedAbbreviation) (Err Outside) → ⊥) × (HasFront (1 ∷ []) (2 ∷ []) → ⊥)
-unfolding IsSoFar
-not_so_far = (λ so. absurd (let e = so.0 in cc), λ so. absurd (let e = so.0 in cc), λ front. absurd (let e = front.1 in cc))
+-- Nothing stops where there is room and a value, nothing is lost that stood there, and nothing is written that isn't printed.
+not_written : (IsWritten 2 [] [] None (Ok (7 ∷ [])) → ⊥) × (IsStopped 2 (1 ∷ []) (2 ∷ []) (Err Outside) → ⊥) × (IsWritten 2 [] (8 ∷ []) (Some tt) (Ok (7 ∷ [])) → ⊥) × (HasFront (1 ∷ []) (2 ∷ []) → ⊥)
+unfolding IsWritten IsStopped
+not_written = (λ stop. omega (arith, stop.1 (7 ∷ []) refl), λ stop. absurd (let e = stop.0.1 in cc), λ done. absurd (let e = done.1 in let f = done.2 in cc), λ front. absurd (let e = front.1 in cc))
 
-leads : LeadsTo [] 2 (7 ∷ []) (Ok tt) (Ok (8 ∷ [])) (Ok (7 ∷ 8 ∷ []))
-unfolding LeadsTo IsSoFar
-leads = (Ok (7 ∷ []), (7 ∷ [], refl, refl), refl)
+leads : LeadsOn 2 [] (97 ∷ []) (Some (Letter Capital)) (printed_from short_uses (Letter Small) (6 ∷ 4 ∷ 6 ∷ [])) (λ begun. printed_from short_uses begun (6 ∷ []))
+unfolding LeadsOn printed_from short_uses small_letters capital_letters
+leads = (97 ∷ [], refl, refl)
 
--- one byte more has been decoded only where it was written or refused
-not_decoded : Decodes 9 [] (Ok tt) [] (Ok tt) (Ok (7 ∷ [])) → ⊥
-unfolding Decodes LeadsTo IsSoFar
-not_decoded decodes =
-    let way = decodes [] 9 (Ok []) (Ok (7 ∷ [])) (omega arith) (Ok [], ([], refl, refl), refl) in
-    let out : way.1.0 ≡ [] = sym way.1.2 in
-    absurd cc
+-- ---- places in the table
+
+places_begun : (begun_at 0 ≡ Letter Small) × (begun_at 32 ≡ Letter Capital) × (begun_at 64 ≡ Letter Mark) × (begun_at 96 ≡ Bank 1) × (begun_at 160 ≡ Bank 3) × (begun_at 192 ≡ Escape) × (begun_at 224 ≡ EscapeHigh 0) × (begun_at 255 ≡ EscapeHigh 31)
+places_begun = (refl, refl, refl, refl, refl, refl, refl, refl)
+
+are_places : IsPlace 0 × IsPlace 160 × IsPlace 231 × (IsPlace 33 → ⊥) × (IsPlace 256 → ⊥)
+are_places = ((lit< tt, λ _. refl), (lit< tt, λ _. refl), (lit< tt, λ below. absurd (omega arith)), (λ place. absurd (let e : 33 % 32 ≡ 0 = place.1 (lit< tt) in omega arith)), (λ place. absurd (omega (arith, place.0))))
+
+at_once : (byte_at_once (Letter Small) 0 ≡ Some 32) × (byte_at_once (Letter Small) 6 ≡ Some 97) × (byte_at_once (Letter Capital) 31 ≡ Some 90) × (byte_at_once (Letter Mark) 7 ≡ Some 10) × (byte_at_once (Letter Mark) 6 ≡ None) × (byte_at_once (Letter Small) 5 ≡ None) × (byte_at_once (Bank 1) 6 ≡ None)
+unfolding small_letters capital_letters marks
+at_once = (refl, refl, refl, refl, refl, refl, refl)

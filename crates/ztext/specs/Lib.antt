@@ -7,3 +7,6 @@ pub mod Output
 pub mod Begun
 pub mod Progress
 pub mod Ends
+pub mod Open
+pub mod Local
+pub mod States

@@ -1,13 +1,15 @@
 -- How the code's decoding stands to what a text prints.
-use Rattle.std.specs.Prelude.{◌≡◌, ℕ, ◌+◌, ◌<◌, ◌≤◌, List, [], ◌∷◌, ◌++◌, length, Option, None, Some, option_map, Result, Ok, Err}
+use Rattle.std.specs.Prelude.{◌≡◌, ℕ, ◌+◌, ◌<◌, List, [], ◌∷◌, ◌++◌, length, Option, None, Some, option_map, Result, Ok, Err}
 use Rattle.ztext.specs.declared.error.TextError.{TextError}
 use Rattle.ztext.specs.declared.error.TextError.TheVariants.{Outside, NestedAbbreviation, OutOfMemory}
 use Rattle.ztext.specs.declared.pieces.Piece.{Piece}
 use Rattle.ztext.specs.declared.pieces.Piece.TheVariants.{Code, Abbreviation}
+use Rattle.ztext.specs.declared.pieces.Begun.{Begun}
 use Rattle.ztext.specs.Words.{characters_in}
 use Rattle.ztext.specs.Pieces.{pieces_of}
 use Rattle.ztext.specs.Abbreviations.{abbreviation_at}
 use Rattle.ztext.specs.Output.{output_of_code}
+use Rattle.ztext.specs.Begun.{characters_begun}
 
 -- the error that is declared first
 abbrev pub first_error : TextError → TextError → TextError
@@ -29,45 +31,59 @@ abbrev pub all_joined : (Piece → Result (List ℕ) TextError) → List Piece �
 all_joined print [] = Ok []
 all_joined print (piece ∷ pieces) = joined (print piece) (all_joined print pieces)
 
+-- what a piece prints, by what the use of each abbreviation prints
+abbrev pub piece_printed : (ℕ → Result (List ℕ) TextError) → Piece → Result (List ℕ) TextError
+piece_printed uses (Code c) = Ok (output_of_code c)
+piece_printed uses (Abbreviation n) = uses n
+
+-- what Z-characters print, by what the use of each abbreviation prints
+abbrev pub characters_printed : (ℕ → Result (List ℕ) TextError) → List ℕ → Result (List ℕ) TextError
+characters_printed uses zs = all_joined (piece_printed uses) (pieces_of zs)
+
+-- the same from what has begun
+unfoldable pub printed_from : (ℕ → Result (List ℕ) TextError) → Begun → List ℕ → Result (List ℕ) TextError
+printed_from uses begun zs = characters_printed uses (characters_begun begun ++ zs)
+
+-- within an abbreviation's text: no abbreviation may be used (Z 3.3.1)
+abbrev pub nested_use : ℕ → Result (List ℕ) TextError
+nested_use n = Err NestedAbbreviation
+
 -- what a piece of an abbreviation's text prints
 abbrev pub plain_output : Piece → Result (List ℕ) TextError
-plain_output (Code c) = Ok (output_of_code c)
-plain_output (Abbreviation n) = Err NestedAbbreviation
+plain_output piece = piece_printed nested_use piece
 
 -- what the pieces of an abbreviation's text print, where it is whole in memory
 abbrev pub abbreviation_output : Option (List Piece) → Result (List ℕ) TextError
 abbreviation_output None = Err Outside
 abbreviation_output (Some pieces) = all_joined plain_output pieces
 
+-- what the use of an abbreviation of memory prints
+abbrev pub memory_use : List ℕ → ℕ → Result (List ℕ) TextError
+memory_use memory n = abbreviation_output (option_map (λ text. pieces_of (characters_in text)) (abbreviation_at memory n))
+
 -- what a piece of a text prints
 abbrev pub piece_output : List ℕ → Piece → Result (List ℕ) TextError
-piece_output memory (Code c) = Ok (output_of_code c)
-piece_output memory (Abbreviation n) = abbreviation_output (option_map (λ text. pieces_of (characters_in text)) (abbreviation_at memory n))
+piece_output memory piece = piece_printed (memory_use memory) piece
 
--- the outcome where an abbreviation uses an abbreviation
-abbrev pub nested_after : Result (Unit {0}) TextError → Result (Unit {0}) TextError
-nested_after (Ok done) = Err NestedAbbreviation
-nested_after (Err Outside) = Err Outside
-nested_after (Err NestedAbbreviation) = Err NestedAbbreviation
-nested_after (Err OutOfMemory) = Err NestedAbbreviation
+-- the error that stands where a text can't be written: its own, or else want of memory
+abbrev pub error_of : Result (List ℕ) TextError → TextError
+error_of (Ok out) = OutOfMemory
+error_of (Err e) = e
 
 -- the items are those before, and what was added to them
 abbrev pub HasFront : List ℕ → List ℕ → Type 0
 HasFront before items = (added : List ℕ) × (items ≡ before ++ added)
 
--- What has been decoded prints so_far, as far as a buffer's items and an outcome tell: nothing is missing, or it has
--- outgrown the room that was there before, or it has no value.
-unfoldable pub IsSoFar : List ℕ → ℕ → List ℕ → Result (Unit {0}) TextError → Result (List ℕ) TextError → Type 0
-IsSoFar before room items (Ok done) so_far = (out : List ℕ) × (so_far ≡ Ok out) × (items ≡ before ++ out)
-IsSoFar before room items (Err Outside) so_far = (so_far ≡ Err Outside) × HasFront before items
-IsSoFar before room items (Err NestedAbbreviation) so_far = (so_far ≡ Err NestedAbbreviation) × HasFront before items
-IsSoFar before room items (Err OutOfMemory) so_far = (out : List ℕ) × (so_far ≡ Ok out) × (room < length before + length out) × HasFront before items
+-- What stops has no value, or outgrows the capacity, and what stood before it is still there.
+unfoldable pub IsStopped : ℕ → List ℕ → List ℕ → Result (List ℕ) TextError → Type 0
+IsStopped capacity old new whole = HasFront old new × ((out : List ℕ) → whole ≡ Ok out → capacity < length old + length out)
 
--- With the rest, what has been decoded prints the total.
-unfoldable pub LeadsTo : List ℕ → ℕ → List ℕ → Result (Unit {0}) TextError → Result (List ℕ) TextError → Result (List ℕ) TextError → Type 0
-LeadsTo before room items outcome rest total = (so_far : Result (List ℕ) TextError) × IsSoFar before room items outcome so_far × (joined so_far rest ≡ total)
+-- From old items to new ones a part has been written, or it stops.
+unfoldable pub IsWritten : ℕ → List ℕ → List ℕ → Option (Unit {0}) → Result (List ℕ) TextError → Type 0
+IsWritten capacity old new (Some done) part = (out : List ℕ) × (part ≡ Ok out) × (new ≡ old ++ out)
+IsWritten capacity old new None part = IsStopped capacity old new part
 
--- From old items and outcome to new ones, so much has been decoded, whatever stood before it and comes after it.
-unfoldable pub Decodes : ℕ → List ℕ → Result (Unit {0}) TextError → List ℕ → Result (Unit {0}) TextError → Result (List ℕ) TextError → Type 0
-Decodes capacity old outcome new result part =
-    (before : List ℕ) (room : ℕ) (rest total : Result (List ℕ) TextError) → room ≤ capacity → LeadsTo before room old outcome (joined part rest) total → LeadsTo before room new result rest total
+-- From old items to new ones the whole has been written up to what is left from the answer on, or it stops.
+unfoldable pub LeadsOn : ℕ → List ℕ → List ℕ → Option Begun → Result (List ℕ) TextError → (Begun → Result (List ℕ) TextError) → Type 0
+LeadsOn capacity old new (Some begun) whole left = (out : List ℕ) × (whole ≡ joined (Ok out) (left begun)) × (new ≡ old ++ out)
+LeadsOn capacity old new None whole left = IsStopped capacity old new whole

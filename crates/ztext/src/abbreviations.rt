@@ -1,6 +1,7 @@
 //! The abbreviations of a memory.
 
 ghost use Rattle.std.specs.Prelude.{◌≡◌, ◌+◌, ◌*◌, ◌<◌, ◌≤◌, ◌↔◌, [], length, take, drop, IsSome, IfSome, IsTrue, option_map};
+ghost use Rattle.std.specs.Option.{option_copied};
 ghost use Rattle.zstory.specs.Bytes.{word_at};
 ghost use Rattle.ztext.specs.Pieces.{pieces_of};
 ghost use Rattle.ztext.specs.Codes.{abbreviations_among};
@@ -8,7 +9,8 @@ ghost use Rattle.ztext.specs.Abbreviations.{readable_word, abbreviation_at, IsPl
 ghost use Rattle.ztext.specs.Words.{characters_in};
 
 use crate::length::text_length;
-use crate::pieces::{Piece, Pieces};
+use crate::pieces::Pieces;
+use crate::plain::is_plain;
 
 // The place in the header of the abbreviations table's address (Z 1.1, 11.1).
 const TABLE: usize = 0x18;
@@ -36,20 +38,20 @@ pub fn plain_abbreviation(memory: &[u8], number: u8) -> Option<TextSpan>
     ensures entry { IfSome result (λ _. word_at memory.now 0x18 + 2 * number + 1 < length memory.now) }
 {
     let span = abbreviation_span(memory, number)?;
-    if are_plain(span_pieces(memory, span)) {
+    if is_plain(&memory[span.place..span.place + span.size]) {
         Some(span)
     } else {
         None
     }
 }
 
-/// The pieces of an abbreviation's text, by its number. `None` where the text or a word that leads to it isn't whole
-/// in memory.
-pub(crate) fn abbreviation(memory: &[u8], number: u8) -> Option<Pieces<'_>>
-    ensures { result ≡ option_map (λ text. pieces_of (characters_in text)) (abbreviation_at memory.now number) }
+/// The bytes of an abbreviation's text, by its number. `None` where the text or a word that leads to it isn't whole in
+/// memory.
+pub(crate) fn abbreviation_text(memory: &[u8], number: u8) -> Option<&[u8]>
+    ensures { option_copied result ≡ abbreviation_at memory.now number }
 {
     let span = abbreviation_span(memory, number)?;
-    Some(span_pieces(memory, span))
+    Some(&memory[span.place..span.place + span.size])
 }
 
 // Where the text of an abbreviation lies, where it and the words that lead to it are whole in memory.
@@ -73,18 +75,6 @@ fn span_pieces(memory: &[u8], span: TextSpan) -> Pieces<'_>
     ensures { result ≡ pieces_of (characters_in (take span.size (drop span.place memory.now))) }
 {
     Pieces::new(&memory[span.place..span.place + span.size])
-}
-
-// Whether none of the pieces is an abbreviation.
-fn are_plain(mut pieces: Pieces<'_>) -> bool
-    ensures { IsTrue result ↔ (abbreviations_among pieces.entry ≡ []) }
-{
-    while let Some(piece) = pieces.next_piece() {
-        if let Piece::Abbreviation(_) = piece {
-            return false;
-        }
-    }
-    true
 }
 
 // The word at a place of readable memory.

@@ -9,10 +9,14 @@ mod error;
 mod laws;
 mod length;
 mod pieces;
+mod plain;
+mod state;
+mod writing;
 
 pub use abbreviations::{TextSpan, plain_abbreviation};
-pub use decode::{decode_into, output_byte};
+pub use decode::decode_into;
 pub use ends::TextEnds;
 pub use error::TextError;
-pub use laws::text_is_at_front;
+pub use laws::{reading_is_local, text_is_at_front};
 pub use length::text_length;
+pub use writing::output_byte;

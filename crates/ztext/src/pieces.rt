@@ -20,7 +20,7 @@ pub(crate) enum Piece {
 
 // The three alphabets (Z 3.2.1).
 #[derive(Clone, Copy, PartialEq, Eq)]
-enum Alphabet {
+pub(crate) enum Alphabet {
     Small,
     Capital,
     Mark,
@@ -28,7 +28,7 @@ enum Alphabet {
 
 // What has begun and isn't complete.
 #[derive(Clone, Copy)]
-enum Begun {
+pub(crate) enum Begun {
     // no more than a shift: a letter would be one of this alphabet
     Letter(Alphabet),
     // an abbreviation of a bank, 1 to 3
@@ -40,7 +40,7 @@ enum Begun {
 }
 
 // What a Z-character does.
-enum Step {
+pub(crate) enum Step {
     Completes(Piece),
     Begins(Begun),
 }
@@ -89,8 +89,8 @@ impl Alphabet {
 }
 
 impl Begun {
-    // What a Z-character does after what has begun.
-    fn step(self, z: u8) -> Step
+    /// What a Z-character does after what has begun.
+    pub(crate) fn step(self, z: u8) -> Step
         requires begun { IsBegun self }
         requires below { z < 32 }
         ensures step { IsStep result }

@@ -1,5 +1,5 @@
 -- A proof of the law: what an answer to a question leaves has each word for which that is the answer.
-use Rattle.std.proofs.Common.{◌≡◌, ◌⊎◌, inl, inr, ℕ, ◌<◌, Bool, true, false, ◌&&◌, if◌then◌else◌, Option, Some, None, ℤ, pos, ◌+ℤ◌, ◌-ℤ◌, ◌≤ℤ◌, ◌<ℤ◌, int_le, int_lt, arith, refl, sym, ap, subst, ◌∙◌}
+use Rattle.std.proofs.Common.{◌≡◌, ℕ, ◌<◌, Bool, true, false, ◌&&◌, if◌then◌else◌, Option, Some, None, ℤ, pos, ◌+ℤ◌, ◌-ℤ◌, ◌≤ℤ◌, ◌<ℤ◌, int_le, arith, refl, sym, ap, subst, ◌∙◌}
 use Rattle.std.specs.Prelude.{MatchOption, option_map, ◌==◌}
 use Rattle.std.specs.Int.{w16, int_min, int_max}
 use Rattle.std.proofs.lemmas.Int.{ints, clamps, of_z-to_z}
@@ -10,7 +10,7 @@ use Rattle.zword.specs.declared.question.Question.TheVariants.{Equal, Less, Grea
 use Rattle.zword.specs.Question.{holds}
 use Rattle.zdomain.specs.declared.interval.Interval.{Interval}
 use Rattle.zdomain.specs.Interval.{signed, interval_of, is_single, join, meet, both, swapped, without, apart, below, not_below, narrow}
-use Rattle.zdomain.specs.IntervalLaw.Lying.{Has, Lies, between, or_all_has, le_true, le_false, lt_true, lt_false}
+use Rattle.zdomain.specs.IntervalLaw.Lying.{Has, between, or_all_has, le_true, le_false, lt_true, lt_false}
 use Rattle.zdomain.specs.IntervalLaw.Bits.{only_word}
 
 -- ---- pairs

@@ -1,11 +1,11 @@
 -- A proof of the law, first part: numbers between ends, and words whose numbers lie there.
-use Rattle.std.proofs.Common.{◌≡◌, ◌⊎◌, inl, inr, ℕ, ◌<◌, Bool, true, false, ◌||◌, if◌then◌else◌, Option, Some, None, ℤ, pos, negsuc, ◌≤ℤ◌, ◌<ℤ◌, int_le, int_lt, arith, refl, sym, ap, ◌∙◌}
+use Rattle.std.proofs.Common.{◌≡◌, ℕ, ◌<◌, Bool, true, false, ◌||◌, if◌then◌else◌, Option, Some, None, ℤ, pos, negsuc, ◌≤ℤ◌, ◌<ℤ◌, int_le, int_lt, arith, refl, sym, ◌∙◌}
 use Rattle.std.specs.Prelude.{MatchOption, unwrap_or}
 use Rattle.std.specs.Int.{w16, int_wrap, int_min, int_max}
 use Rattle.std.proofs.lemmas.Int.{ints, int_wrap_fits, clamps}
 use Rattle.zdomain.specs.declared.interval.Interval.{Interval}
 use Rattle.zdomain.specs.Domain.{In}
-use Rattle.zdomain.specs.Interval.{signed, in_order, point, all_words, interval_of, interval_where, outside, fitting, around, at_ends, interval_operations}
+use Rattle.zdomain.specs.Interval.{signed, point, all_words, interval_of, interval_where, outside, fitting, interval_operations}
 
 -- the interval has the word
 abbrev pub Has : Interval → ℕ → Type 0

@@ -1,5 +1,5 @@
 -- A proof of the law: each operation's set has its results.
-use Rattle.std.proofs.Common.{◌≡◌, ℕ, suc, ◌+◌, ◌-◌, ◌*◌, ◌/◌, ◌%◌, ◌<◌, ◌≤◌, Bool, true, false, ◌&&◌, if◌then◌else◌, ℤ, pos, negsuc, ◌+ℤ◌, ◌-ℤ◌, ◌*ℤ◌, ◌≤ℤ◌, ◌<ℤ◌, int_le, int_div, int_rem, unsigned_abs, inl, inr, arith, refl, sym, ap, subst, ◌∙◌}
+use Rattle.std.proofs.Common.{◌≡◌, ℕ, suc, ◌+◌, ◌-◌, ◌*◌, ◌%◌, ◌<◌, Bool, true, false, ◌&&◌, ℤ, pos, negsuc, ◌+ℤ◌, ◌-ℤ◌, ◌*ℤ◌, ◌≤ℤ◌, int_le, int_div, int_rem, unsigned_abs, inl, inr, arith, refl, sym, ◌∙◌}
 use Rattle.std.specs.Int.{w16, int_wrap}
 use Rattle.std.proofs.lemmas.Int.{ints, by_lt_z, to_z-of_z, int_wrap_fits, wrapping_add-bits, wrapping_sub-bits, wrapping_mul-bits}
 use native.Mathlib.Nat.{mod-lt, mod-le, div-le_self}
@@ -10,9 +10,9 @@ use Rattle.zword.specs.declared.binary.BinaryOp.TheVariants.{Add, Sub, Mul, Div,
 use Rattle.zword.specs.Unary.{transform}
 use Rattle.zword.specs.Binary.{apply, word_of}
 use Rattle.zdomain.specs.declared.interval.Interval.{Interval}
-use Rattle.zdomain.specs.Interval.{signed, HasMember, all_words, fitting, at_ends, has_zero, reach, unary, binary, quotients, remainders}
+use Rattle.zdomain.specs.Interval.{signed, has_zero, reach, unary, binary}
 use Rattle.zdomain.specs.Interval.{signed}
-use Rattle.zdomain.specs.IntervalLaw.Lying.{Has, Lies, any_has, le_true, le_false, fitting_has, lying_has, ends_lie}
+use Rattle.zdomain.specs.IntervalLaw.Lying.{Has, Lies, any_has, le_false, fitting_has, lying_has, ends_lie}
 use Rattle.zdomain.specs.IntervalLaw.Products.{mul_first, mul_second}
 use Rattle.zdomain.specs.IntervalLaw.Quotients.{OneSign, div_first, div_second, not_zero}
 use Rattle.zdomain.specs.IntervalLaw.Remainders.{remainder_lies, reach_bounds}

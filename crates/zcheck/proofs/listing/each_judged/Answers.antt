@@ -1,4 +1,4 @@
-use Rattle.std.proofs.Common.{rules, arith, length, ◌≤◌, ◌+◌, ◌∙◌, ap, sym, refl, subst, take, List}
+use Rattle.std.proofs.Common.{rules, arith, length, ◌≤◌, ◌+◌, ◌∙◌, sym, refl, subst, take, List}
 use Rattle.std.specs.List.{AllZip}
 use Rattle.std.proofs.lemmas.Option.{slice_get_within}
 use Rattle.zcert.specs.Format.{interval_format}

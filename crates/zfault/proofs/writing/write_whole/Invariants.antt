@@ -1,5 +1,6 @@
 use Rattle.std.proofs.Common.{length, ◌-◌, ◌≡◌, ◌≤◌, take}
 use Rattle.std.specs.Io.KnownBytes.{Appends}
+use Rattle.zfault.specs.Devices.{waits_after}
 use Rattle.zfault.proofs.writing.write_whole.Given as goal
 
 -- the first `at` bytes were taken, and no write has failed
@@ -8,6 +9,7 @@ invariant-loop-at g l =
     record {
       within : l.at ≤ length l.bytes;
       taken : Appends (g.W.Sink.contents l.initial.sink) (g.W.Sink.contents l.sink) (take l.at l.bytes);
+      waits : g.W.Sink.waits l.sink ≡ waits_after (g.W.Sink.waits l.initial.sink) (take l.at l.bytes);
       quiet : g.W.Sink.failures l.sink ≡ g.W.Sink.failures l.initial.sink;
     }
 

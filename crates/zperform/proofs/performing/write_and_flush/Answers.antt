@@ -1,10 +1,10 @@
 use Rattle.std.proofs.Common.{rules}
 use Rattle.zfault.specs.Devices.{AppendsBeginning}
-use Rattle.zperform.proofs.PlayLemmas.{whole_begun}
+use Rattle.zfault.proofs.DeviceLemmas.{AppendsBeginning-whole}
 use Rattle.zperform.proofs.performing.write_and_flush.Goals as goal
 
 pub returns-clause-begun : goal.returns-clause-begun
 returns-clause-begun g c =
     let begun : AppendsBeginning (g.W.Sink.contents c.args.writer.now) (g.W.Sink.contents c.flush.new.self) c.args.text.now =
-    whole_begun (g.W.Sink.contents c.args.writer.now) (g.W.Sink.contents c.write_whole.new.sink) (g.W.Sink.contents c.flush.new.self) c.args.text.now (search rules) c.flush.ensures.bytes in
+    AppendsBeginning-whole (g.W.Sink.contents c.args.writer.now) (g.W.Sink.contents c.write_whole.new.sink) (g.W.Sink.contents c.flush.new.self) c.args.text.now (search rules) c.flush.ensures.bytes in
     search (rules, begun)

@@ -1,0 +1,131 @@
+#!/usr/bin/env python3
+"""Tests of judge.py, over a small crate whose edits it has to tell apart.
+
+    test.py
+"""
+import os
+import subprocess
+import sys
+import tempfile
+
+HERE = os.path.dirname(os.path.abspath(__file__))
+
+LIBRARY = """//! A library for the tests of the judge.
+#![tactic(auto)]
+
+ghost use Rattle.std.specs.Prelude.{◌≡◌, ◌+◌, ◌*◌, ◌<◌, ◌≤◌};
+
+/// The most that is counted.
+const MOST: u32 = 20;
+
+/// One more.
+pub fn successor(n: u32) -> u32
+    requires { n < 1000 }
+    ensures { result ≡ n + 1 }
+{
+    n + 1
+}
+
+/// Two more.
+pub fn after_next(n: u32) -> u32
+    requires { n < 999 }
+    ensures { result ≡ n + 2 }
+{
+    let first = successor(n);
+    successor(first)
+}
+
+/// A number up to twenty.
+pub fn small(n: u32) -> u32
+    ensures { result ≤ 20 }
+{
+    if n < MOST { n } else { MOST }
+}
+
+/// Twice a number.
+pub fn spread(n: u32) -> u32
+    requires { n < 1000 }
+    ensures { result ≡ 2 * n }
+{
+    let doubled = n + n;
+    doubled
+}
+"""
+
+ANSWERS = """use Rattle.std.proofs.Common.{arith}
+use Rattle.low.proofs.spread.Goals as goal
+
+pub overflow_add-doubled : goal.overflow_add-doubled
+overflow_add-doubled c = omega arith
+"""
+
+# The edits, each with whether it has to be counted as refused.
+EDITS = {
+    "one_more_forgotten": (True, [("    n + 1", "    n")]),
+    "first_for_second": (True, [("    successor(first)", "    first")]),
+    "most_is_one_more": (True, [("u32 = 20", "u32 = 21")]),
+    # proved as before
+    "harmless_bound": (False, [("n < MOST", "n <= MOST")]),
+    # proved as before, but beside the first one its callee isn't
+    "harmless_caller": (False, [("    let first = successor(n);", "    let first = { successor(n) };")]),
+    # proved, but for an answer that names what is gone
+    "name_gone": (False, [("let doubled = n + n;", "let twice = n + n;"), ("    doubled", "    twice")]),
+    # no longer there, there twice, and no text that can be read
+    "stale": (False, [("n + 7", "n")]),
+    "there_twice": (False, [("successor", "small")]),
+    "unreadable": (False, [("    doubled", "    doubled +")]),
+}
+
+
+def make(root):
+    """The repository that is judged."""
+    crate = os.path.join(root, "crates/low")
+    files = {f"{crate}/src/lib.rt": LIBRARY, f"{crate}/proofs/spread/Answers.antt": ANSWERS, f"{root}/crates.txt": "low:\n"}
+    for name, (_, pairs) in EDITS.items():
+        files[f"{crate}/edits/{name}.edit"] = "file: src/lib.rt\n" + "".join(f"old: {old}\nnew: {new}\n" for old, new in pairs)
+    for path, text in files.items():
+        os.makedirs(os.path.dirname(path), exist_ok=True)
+        with open(path, "w", encoding="utf-8") as file:
+            file.write(text)
+    subprocess.run(["git", "init", "--quiet", root], check=True)
+
+
+def judged(root):
+    """What the judge says of the edits that are left: for each whether it counts."""
+    ran = subprocess.run([sys.executable, os.path.join(HERE, "judge.py")], cwd=root, capture_output=True, text=True)
+    lines = [it for it in ran.stdout.split("\n") if it.startswith("edit low/")]
+    told = {name: text.startswith("refused") for name, _, text in (it[len("edit low/") :].partition(": ") for it in lines)}
+    last = ran.stdout.rstrip("\n").rpartition("\n")[2]
+    well = sum(told.values())
+    is_counted = last == f"edits: {well} passed, {len(told) - well} failed" and ran.returncode == (1 if well < len(told) else 0)
+    return told, is_counted, ran.stdout + ran.stderr
+
+
+def main():
+    passed = failed = 0
+    with tempfile.TemporaryDirectory(prefix="judged-") as root:
+        make(root)
+        # one that can't be read keeps those planted with it from being judged together, so it comes last
+        os.rename(f"{root}/crates/low/edits/unreadable.edit", f"{root}/unreadable.edit")
+        first, is_counted, said = judged(root)
+        wanted = {name: refused for name, (refused, _) in EDITS.items() if name != "unreadable"}
+        for name in os.listdir(f"{root}/crates/low/edits"):
+            if name != "one_more_forgotten.edit":
+                os.remove(f"{root}/crates/low/edits/{name}")
+        os.rename(f"{root}/unreadable.edit", f"{root}/crates/low/edits/unreadable.edit")
+        second, is_counted_too, said_too = judged(root)
+        for well, what in [
+            (first == wanted, said),
+            (is_counted, said),
+            (second == {"one_more_forgotten": True, "unreadable": False}, said_too),
+            (is_counted_too, said_too),
+        ]:
+            passed, failed = passed + well, failed + (not well)
+            if not well:
+                print(what)
+    print(f"judge: {passed} passed, {failed} failed")
+    return 1 if failed else 0
+
+
+if __name__ == "__main__":
+    sys.exit(main())

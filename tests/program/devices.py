@@ -1,0 +1,90 @@
+#!/usr/bin/env python3
+"""Each call of a device fails in turn, alone, and the calls after it go on: what failed is named, what was written is a beginning,
+and nothing is tried again.
+
+    devices.py PROGRAM
+"""
+import errno
+import os
+import subprocess
+import sys
+import tempfile
+
+from program import Answer, Count, Program
+from samples import HELLO, QUIT, certificate, printed, story
+
+HERE = os.path.dirname(os.path.abspath(__file__))
+
+
+def shim(folder):
+    made = os.path.join(folder, "fail.so")
+    subprocess.run(["cc", "-O1", "-shared", "-fPIC", "-o", made, os.path.join(HERE, "fail.c")], check=True)
+    return made
+
+
+class Devices:
+    """A program whose devices are disturbed."""
+
+    def __init__(self, program, library, folder):
+        self.program, self.library, self.calls = program, library, os.path.join(folder, "calls")
+
+    def run(self, words, files, settings):
+        """What a run comes to, and the calls that it made: kind, device, and whether it failed."""
+        environment = {"LD_PRELOAD": self.library, "CALLS": self.calls, **{name: str(value) for name, value in settings.items()}}
+        answer = self.program.run(words, files, environment=environment)
+        with open(self.calls, encoding="ascii") as file:
+            return answer, [tuple(line.split()) for line in file]
+
+
+def is_well(answer, calls, ample, error):
+    """Whether a run in which one call failed, with the calls that it made, answers as it should. The standard library itself opens
+    a file again where a signal interrupted that."""
+    at = next(index for index, call in enumerate(calls) if call[2] == "failed")
+    kind, device, _ = calls[at]
+    if kind == "open" and error == errno.EINTR:
+        return answer == ample
+    after = [call for call in calls[at + 1 :] if call[:2] != ("write", "2")]
+    if (kind, device) == ("write", "2"):
+        return answer.status == ample.status and answer.output == ample.output and not after
+    if (kind, device) == ("write", "1"):
+        begun = ample.output.startswith(answer.output) and answer.output != ample.output
+        return (answer.status, answer.errors) == (4, b"failed: write\n") and begun and not after
+    return answer == Answer(4, b"", b"failed: file\n") and not after
+
+
+def see_each(devices, count, words, files, settings):
+    """Has each call of a run fail in turn."""
+    ample, calls = devices.run(words, files, settings)
+    assert calls, "the shim sees no call"
+    for number in range(1, len(calls) + 1):
+        for error in (errno.EIO, errno.EINTR):
+            answer, made = devices.run(words, files, {**settings, "FAIL": number, "ERROR": error})
+            count.see(is_well(answer, made, ample, error), f"{' '.join(words)} with call {number} failing by {error}: {answer}, calls {made[number - 1:]}")
+    return ample
+
+
+def main():
+    program = Program(sys.argv[1])
+    count = Count("devices")
+    made = story(HELLO + QUIT)
+    files = {"story": made, "certificate": certificate(made, [0x324, 0x329])}
+    long = story((printed("a longer text, so that it takes more than one piece".replace(",", "")) + b"\xbb") * 30 + QUIT)
+    with tempfile.TemporaryDirectory(prefix="devices-") as folder:
+        devices = Devices(program, shim(folder), folder)
+        for settings in ({}, {"SHORT": 1000}):
+            for words in (["play", "story"], ["play", "story", "certificate"], ["check", "story", "certificate"], ["play", "absent"]):
+                see_each(devices, count, words, files, settings)
+            for words in (["--help"], ["--version"], ["play"], ["check", "story", "story"]):
+                see_each(devices, count, words, files, settings)
+        # a byte a call: the text is whole, and each beginning of it is met
+        ample = see_each(devices, count, ["check", "story", "certificate"], files, {"SHORT": 400})
+        count.is_answer("reading by 400 bytes", ample, Answer(0, b"accepted\n", b""))
+        answer, _ = devices.run(["play", "story", "certificate"], files, {"SHORT": 1})
+        count.is_answer("a byte a call", answer, Answer(0, b"hello", b""))
+        ample = see_each(devices, count, ["play", "story"], {"story": long}, {"SHORT": 300})
+        count.see(len(ample.output) == 30 * 51, f"a longer story printed {len(ample.output)} bytes")
+    count.end()
+
+
+if __name__ == "__main__":
+    main()

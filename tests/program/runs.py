@@ -1,0 +1,217 @@
+#!/usr/bin/env python3
+"""Stored runs of the built program: the words, the files, and the status, output and errors that the documents ask for.
+
+    runs.py PROGRAM
+
+The texts of clap that are shown for help and for wrong words are stored in help/.
+"""
+import os
+import subprocess
+import sys
+
+from program import Answer, Count, Program
+from samples import CODE, HELLO, NEW_LINE, NOP, QUIT, certificate, changed, story, with_objects
+
+HERE = os.path.dirname(os.path.abspath(__file__))
+SAMPLE = story(HELLO + QUIT)
+LISTED = [0x324, 0x329]
+ITS_CERTIFICATE = certificate(SAMPLE, LISTED)
+
+
+def help_text(name):
+    with open(os.path.join(HERE, "help", name), "rb") as file:
+        return file.read()
+
+
+def done(output=b"", errors=b""):
+    return Answer(0, output, errors)
+
+
+def refused(code):
+    return Answer(1, b"", f"refused: {code}\n".encode())
+
+
+def failed(what, output=b""):
+    return Answer(4, output, f"failed: {what}\n".encode())
+
+
+def fault(line):
+    return Answer(3, b"", f"fault: {line}\n".encode())
+
+
+def files(made=SAMPLE, listed=ITS_CERTIFICATE):
+    return {"story": made, "certificate": listed}
+
+
+def coded(code, addresses):
+    made = story(code)
+    return files(made, certificate(made, addresses))
+
+
+# ---- words: name, words, answer
+
+WORDS = [
+    ("help", ["--help"], done(help_text("zpc.txt"))),
+    ("help, short", ["-h"], done(help_text("zpc.txt"))),
+    ("help, as a command", ["help"], done(help_text("zpc.txt"))),
+    ("help of check", ["check", "--help"], done(help_text("check.txt"))),
+    ("help of check, as a command", ["help", "check"], done(help_text("check.txt"))),
+    ("help of play", ["play", "--help"], done(help_text("play.txt"))),
+    ("help of play, as a command", ["help", "play"], done(help_text("play.txt"))),
+    ("version", ["--version"], done(b"zpc 0.1.0\n")),
+    ("version, short", ["-V"], done(b"zpc 0.1.0\n")),
+    ("no words", [], Answer(2, b"", help_text("no_words.txt"))),
+    ("an unknown command", ["sing", "story"], Answer(2, b"", help_text("unknown_command.txt"))),
+    ("no story", ["play"], Answer(2, b"", help_text("no_story.txt"))),
+    ("no certificate", ["check", "story"], Answer(2, b"", help_text("no_certificate.txt"))),
+    ("too many words to check", ["check", "a", "b", "c"], Answer(2, b"", help_text("too_many_to_check.txt"))),
+    ("too many words to play", ["play", "a", "b", "c"], Answer(2, b"", help_text("too_many_to_play.txt"))),
+    ("a budget that is no number", ["play", "--budget", "x", "story"], Answer(2, b"", help_text("no_number.txt"))),
+    ("a budget that is too large", ["play", "--budget", "4294967296", "story"], Answer(2, b"", help_text("too_large.txt"))),
+    ("an unknown option", ["play", "--bugdet", "3", "story"], Answer(2, b"", help_text("unknown_option.txt"))),
+    ("a word that isn't UTF-8", [b"a\xff"], Answer(2, b"", help_text("no_text.txt"))),
+    ("a name that isn't UTF-8", ["play", b"a\xff"], Answer(2, b"", help_text("no_text.txt"))),
+]
+
+# ---- texts: the words of a text, and what it prints, worked out by hand from the alphabets (Z 3.5.3)
+
+TEXTS = [
+    ("an escape", b"\x14\xc2\x80\xa5", b"@"),
+    ("shifts alone", b"\x94\xa5", b""),
+    ("letters", b"\x35\x51\xc6\x85", b"hello"),
+    ("of 4 5 13 the last shift counts", b"\x90\xad", b"5"),
+    ("in 4 0 6 a space uses the shift up", b"\x90\x06", b" a"),
+    ("5 6 2, an escape that is cut off", b"\x94\xc2", b""),
+    ("5 5 6, an escape that is cut off", b"\x94\xa6", b""),
+    ("code 1,023", b"\x14\xdf\xfc\xa5", b"?"),
+    ("code 0", b"\x14\xc0\x80\xa5", b""),
+    ("code 13", b"\x14\xc0\xb4\xa5", b"\n"),
+    ("a capital and a mark", b"\x10\xc5\xc8\xa5", b"A."),
+    ("an abbreviation that uses the shift up", b"\x10\x20\x98\xa5", b"helloa"),
+    ("an abbreviation that is cut off", b"\x98\xa1", b"a"),
+]
+
+# ---- commands: name, words, files, answer
+
+CHECK = ["check", "story", "certificate"]
+PLAY = ["play", "story"]
+PLAY_LISTED = ["play", "story", "certificate"]
+
+COMMANDS = [
+    ("check", CHECK, files(), done(b"accepted\n")),
+    ("play", PLAY, files(), done(b"hello")),
+    ("play by the certificate", PLAY_LISTED, files(), done(b"hello")),
+    ("nop and new_line", PLAY_LISTED, coded(NOP + NEW_LINE + QUIT, [0x324, 0x325, 0x326]), done(b"\n")),
+    ("budget 0", ["play", "--budget", "0", "story"], files(), done(errors=b"end: budget\n")),
+    ("budget 0 by the certificate", ["play", "--budget", "0", "story", "certificate"], files(), done(errors=b"end: budget\n")),
+    ("budget 1", ["play", "story", "--budget=1"], files(), done(b"hello")),
+    ("budget 1 of 2", ["play", "--budget", "1", "story"], {"story": story(HELLO + HELLO + QUIT)}, done(b"hello", b"end: budget\n")),
+    ("the largest budget", ["play", "--budget", "4294967295", "story"], files(), done(b"hello")),
+    ("an opcode out of the profile", PLAY, {"story": story(b"\xeb\x7f\x00" + QUIT)}, fault("F2 at 00324")),
+    ("a byte that is no opcode", PLAY, {"story": story(NOP + b"\xbe" + QUIT)}, fault("F2 at 00325")),
+    ("a text without an end", PLAY, {"story": story(b"\xb2\x35\x51\x46\x85" + QUIT)}, fault("F2 at 00324")),
+    ("the end of memory", PLAY, {"story": story(NOP + NOP)}, fault("F1 at 00326")),
+    ("a text whose abbreviation uses one", PLAY, {"story": story(b"\xb2\x84\x05" + QUIT + b"\x84\x05", abbreviations=[0x328] * 96)}, fault("F13 at 00324")),
+    # files that are refused, the story before its certificate
+    ("no story there", ["play", "absent"], files(), failed("file")),
+    ("no story there to check", ["check", "absent", "certificate"], files(), failed("file")),
+    ("no certificate there", ["check", "story", "absent"], files(), failed("file")),
+    ("no certificate there to play", ["play", "story", "absent"], files(), failed("file")),
+    ("a bad story, and no certificate there", ["check", "story", "absent"], files(bytes(63)), refused("L1")),
+    ("a folder as story", ["play", "."], files(), failed("file")),
+    ("an empty story", PLAY, files(b""), refused("L1")),
+    ("a story of 63 bytes", PLAY, files(bytes(63)), refused("L1")),
+    ("a story of 64 bytes, of version 0", PLAY, files(bytes(64)), refused("L3")),
+    ("a story of 131,072 bytes, of version 0", PLAY, files(bytes(131072)), refused("L3")),
+    ("a story of 131,073 bytes", PLAY, files(bytes(131073)), refused("L2")),
+    ("a story of 1,000,000 bytes", PLAY, files(bytes(1000000)), refused("L2")),
+    ("another version", PLAY, files(changed(SAMPLE, 0, 5)), refused("L3")),
+    ("a length below 64", PLAY, files(changed(SAMPLE, 0x1A, 0, 31)), refused("L4")),
+    ("a length of 64", PLAY, files(changed(SAMPLE, 0x1A, 0, 32)), refused("L5")),
+    ("a length above the file's", PLAY, files(changed(SAMPLE, 0x1A, 2)), refused("L4")),
+    ("a cut story", PLAY, files(SAMPLE[:-1]), refused("L4")),
+    ("a byte more", PLAY, files(SAMPLE + b"\0"), done(b"hello")),
+    ("static memory behind the end", PLAY, files(changed(SAMPLE, 0x0E, 3)), refused("L5")),
+    ("globals in the header", PLAY, files(changed(SAMPLE, 0x0D, 0x3F)), refused("L6")),
+    ("objects in the header", PLAY, files(changed(SAMPLE, 0x0A, 0)), refused("L7")),
+    ("a dictionary that is too long", PLAY, files(changed(SAMPLE, 0x322, 0xFF)), refused("L8")),
+    ("entries of three bytes", PLAY, files(changed(SAMPLE, 0x321, 3)), refused("L9")),
+    ("words that fall", PLAY, files(changed(with_objects(), 0x361, 0x47)), refused("L10")),
+    ("words and objects", PLAY, files(with_objects()), done()),
+    ("a first instruction behind the end", PLAY, files(changed(SAMPLE, 0x06, 4)), refused("L11")),
+    # certificates that are refused
+    ("an empty certificate", CHECK, files(listed=b""), refused("K3")),
+    ("half a magic", CHECK, files(listed=b"ZP"), refused("K3")),
+    ("another magic", CHECK, files(listed=b"ZPCD"), refused("K1")),
+    ("another version of certificate", CHECK, files(listed=changed(ITS_CERTIFICATE, 4, 9)), refused("K2")),
+    ("a cut certificate", CHECK, files(listed=ITS_CERTIFICATE[:-1]), refused("K3")),
+    ("a byte behind a certificate", CHECK, files(listed=ITS_CERTIFICATE + b"\0"), refused("K4")),
+    ("a million bytes behind a certificate", CHECK, files(listed=ITS_CERTIFICATE + bytes(1000000)), refused("K4")),
+    ("addresses that are equal", CHECK, files(listed=certificate(SAMPLE, [0x324, 0x324])), refused("K5")),
+    ("addresses that fall", CHECK, files(listed=certificate(SAMPLE, [0x329, 0x324])), refused("K5")),
+    ("an interval with nothing in it", CHECK, files(listed=changed(ITS_CERTIFICATE, 22, 1)), refused("K6")),
+    ("an address of 131,072", CHECK, files(listed=certificate(SAMPLE, [0x324, 0x20000])), refused("K7")),
+    ("an address of 131,071", CHECK, files(listed=certificate(SAMPLE, [0x324, 0x329, 0x1FFFF])), refused("I1 at 1ffff")),
+    ("a story played by a bad certificate", PLAY_LISTED, files(listed=b"ZPCD"), refused("K1")),
+    # rules that are broken
+    ("another release", CHECK, files(listed=certificate(SAMPLE, LISTED, release=2)), refused("S1")),
+    ("nothing listed", CHECK, files(listed=certificate(SAMPLE, [])), refused("S2")),
+    ("the first place isn't listed", CHECK, files(listed=certificate(SAMPLE, [0x329])), refused("S2")),
+    ("a global that isn't as stated", CHECK, files(changed(SAMPLE, 0x21F, 1)), refused("S4")),
+    ("an abbreviation behind memory", CHECK, files(changed(SAMPLE, 0x25E, 0x7F)), refused("S7")),
+    ("globals in the object table", CHECK, files(changed(SAMPLE, 0x0D, 0x41)), refused("S8")),
+    ("a listed place with no instruction", CHECK, coded(b"\xeb\x7f\x00" + QUIT, [0x324, 0x327]), refused("I1 at 00324")),
+    ("a text that has lost its end", CHECK, files(changed(SAMPLE, 0x327, 0x46)), refused("I1 at 00324")),
+    ("a successor that isn't listed", CHECK, files(listed=certificate(SAMPLE, [0x324])), refused("I4 at 00324")),
+    ("a quit that became a new_line", CHECK, files(changed(SAMPLE, 0x329, 0xBB)), refused("I4 at 00329")),
+    ("the same, played", PLAY_LISTED, files(changed(SAMPLE, 0x329, 0xBB)), refused("I4 at 00329")),
+]
+
+
+def see_streams(program, count):
+    """Streams and files that are no plain files."""
+    program_run = lambda *words: subprocess.run(["bash", "-c", *words], cwd=HERE, stdin=subprocess.DEVNULL, capture_output=True, timeout=60)
+    data = os.path.join(HERE, "../../crates/zpc/data")
+    for name, script, wanted in [
+        ("a story from a pipe", '"$1" play <(cat "$2/hello.z3")', done(b"hello")),
+        ("story and certificate from pipes", '"$1" play <(cat "$2/hello.z3") <(cat "$2/hello.cert")', done(b"hello")),
+        ("checked from pipes", '"$1" check <(cat "$2/hello.z3") <(cat "$2/hello.cert")', done(b"accepted\n")),
+        ("a pipe that comes in pieces", '"$1" play <(head -c 100 "$2/hello.z3"; sleep 0.1; tail -c +101 "$2/hello.z3")', done(b"hello")),
+        ("an endless pipe", '"$1" play <(yes)', refused("L2")),
+        ("a full device", '"$1" play "$2/hello.z3" >/dev/full', failed("write")),
+        ("a full device, by the certificate", '"$1" play "$2/hello.z3" "$2/hello.cert" >/dev/full', failed("write")),
+        ("acceptance to a full device", '"$1" check "$2/hello.z3" "$2/hello.cert" >/dev/full', failed("write")),
+        ("help to a full device", '"$1" --help >/dev/full', failed("write")),
+        ("version to a full device", '"$1" --version >/dev/full', failed("write")),
+        ("an output that nobody reads", '"$1" play "$2/hello.z3" > >(exec <&-; sleep 0.2)', None),
+        ("errors to a full device", '"$1" play absent 2>/dev/full', Answer(4, b"", b"")),
+        ("a closed output", '"$1" play "$2/hello.z3" >&-', failed("write")),
+        ("closed errors", '"$1" play absent 2>&-', Answer(4, b"", b"")),
+    ]:
+        ran = program_run(script, "run", program.path, data)
+        answer = Answer(ran.returncode, ran.stdout, ran.stderr)
+        # whether a pipe is closed by then is a race: it is written, or named
+        well = answer == wanted if wanted else answer in (done(), failed("write"))
+        count.see(well, f"{name}: {answer}; wanted was {wanted}")
+
+
+def main():
+    program = Program(sys.argv[1])
+    count = Count("runs")
+    for name, words, wanted in WORDS:
+        count.is_answer(name, program.run(words), wanted)
+    for name, words, wanted in TEXTS:
+        code = b"\xb2" + words + QUIT
+        place = CODE + len(code) + len(code) % 2
+        made = story(code.ljust(place - CODE, b"\0") + HELLO[1:], abbreviations=[place] * 96)
+        listed = certificate(made, [CODE, CODE + len(code) - 1])
+        count.is_answer(f"{name}, checked", program.run(PLAY, files(made)), done(wanted))
+        count.is_answer(f"{name}, by its certificate", program.run(PLAY_LISTED, files(made, listed)), done(wanted))
+    for name, words, given, wanted in COMMANDS:
+        count.is_answer(name, program.run(words, given), wanted)
+    see_streams(program, count)
+    count.end()
+
+
+if __name__ == "__main__":
+    main()

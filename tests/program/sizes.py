@@ -1,0 +1,94 @@
+#!/usr/bin/env python3
+"""The largest of everything that a call meets: each is played, checked or refused as it should be, in the memory that is there.
+
+    sizes.py PROGRAM
+
+No clause says that a call succeeds where there is memory, so these runs do. What they print is worked out from the stories' texts.
+"""
+import sys
+
+from program import Answer, Count, Program
+from samples import CODE, DICTIONARY, NEW_LINE, NOP, QUIT, certificate, printed, story, text
+
+LONGEST = 131072
+WIDE = (-32768, 32767)
+
+
+def see(program, count, name, made, listed, output, errors=b"", budget=None):
+    """A story that is accepted with a certificate, and prints this on both machines."""
+    files = {"story": made, "certificate": listed}
+    words = ["--budget", str(budget)] if budget is not None else []
+    count.is_answer(f"{name}, checked", program.run(["check", "story", "certificate"], files), Answer(0, b"accepted\n", b""))
+    count.is_answer(f"{name}, played", program.run(["play", *words, "story"], files), Answer(0, output, errors))
+    count.is_answer(f"{name}, by the certificate", program.run(["play", *words, "story", "certificate"], files), Answer(0, output, errors))
+
+
+def longest(program, count):
+    """The longest story: one instruction a byte up to its last one, so that most lie above 64 KiB, with the largest certificate
+    of such a story, whose values are as wide as can be, and which lists places below the first."""
+    room = LONGEST - CODE
+    first = CODE + 100
+    for name, instruction, printed_each in [("a nop", NOP, b""), ("a new_line", NEW_LINE, b"\n")]:
+        made = story(instruction * (room - 1) + QUIT, first=first)
+        assert len(made) == LONGEST and made[0x1A:0x1C] == b"\0\0"
+        listed = certificate(made, range(CODE, LONGEST), values=WIDE)
+        assert len(listed) > 900000
+        see(program, count, f"the longest story of {name}s", made, listed, printed_each * (room - 1 - 100))
+        see(program, count, f"the same, cut off by its budget", made, listed, printed_each * 70000, b"end: budget\n", 70000)
+
+
+def long_certificates(program, count):
+    """Certificates above 64 KiB, and at the edges of 4,096 instructions."""
+    for instructions in (4095, 4096, 4097, 10000):
+        made = story(NEW_LINE * (instructions - 1) + QUIT)
+        listed = certificate(made, range(CODE, CODE + instructions), values=WIDE)
+        see(program, count, f"{instructions} instructions", made, listed, b"\n" * (instructions - 1))
+
+
+def long_texts(program, count):
+    """Texts of more than 4,096 characters, up to one that fills the longest story, and a step and a turn of more than 64 KiB."""
+    for length in (4096, 4099, 5000, 65536, 190000):
+        string = ("the quick brown fox jumps over a lazy dog " * (length // 43 + 1))[:length].replace("w", "x")
+        made = story(printed(string) + QUIT)
+        place = CODE + len(printed(string))
+        see(program, count, f"a text of {length} characters", made, certificate(made, [CODE, place]), string.encode())
+    line = "abcdefghijklmnopqrstuvwxyz abcdefghijklmnopqrstuvwxyz abcdefghijklmnopqrstuvwxyz abcdefghijk"
+    one = printed(line)
+    for instructions in (1023, 1024, 1025):
+        made = story(one * instructions + QUIT)
+        addresses = [CODE + len(one) * it for it in range(instructions + 1)]
+        see(program, count, f"{instructions} prints", made, certificate(made, addresses), line.encode() * instructions)
+    # each use of an abbreviation is two Z-characters, and prints 91
+    uses = 30000
+    code = b"\xb2" + text([1, 0] * uses) + QUIT
+    place = CODE + len(code) + len(code) % 2
+    made = story(code + b"\0" * (len(code) % 2) + one[1:], abbreviations=[place] * 96)
+    listed = certificate(made, [CODE, CODE + len(code) - 1])
+    see(program, count, "a step of 2,700,000 bytes", made, listed, line.encode() * uses)
+
+
+def long_names(program, count):
+    """Names of 65, 255 and 4,000 bytes, and five words."""
+    made = story(NEW_LINE + QUIT)
+    listed = certificate(made, [CODE, CODE + 1])
+    for length in (64, 65, 255):
+        names = {"s" * length: made, "c" * length: listed}
+        words = ["play", "--budget", "2", "s" * length, "c" * length]
+        count.is_answer(f"names of {length} bytes", program.run(words, names), Answer(0, b"\n", b""))
+    deep = "./" * 1990 + "story"
+    count.is_answer("a name of 3,985 bytes", program.run(["play", deep], {"story": made}), Answer(0, b"\n", b""))
+    count.is_answer("a name that no file can have", program.run(["play", "n" * 100000], {}), Answer(4, b"", b"failed: file\n"))
+
+
+def main():
+    program = Program(sys.argv[1])
+    count = Count("sizes")
+    longest(program, count)
+    long_certificates(program, count)
+    long_texts(program, count)
+    long_names(program, count)
+    count.end()
+
+
+if __name__ == "__main__":
+    main()
