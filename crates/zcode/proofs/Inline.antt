@@ -1,22 +1,21 @@
 -- The text of an instruction stands behind its first byte.
-use Rattle.std.proofs.Common.{◌≡◌, ℕ, zero, suc, ◌+◌, ◌-◌, ◌≤◌, Bool, true, false, not, ◌&&◌, ◌%◌, List, [], ◌∷◌, ◌++◌, length, drop, Ok, Err, Option, Some, None, option_map, refl, sym, ap, subst, ◌∙◌, arith, length-append}
+use Rattle.std.proofs.Common.{◌≡◌, ℕ, zero, suc, ◌+◌, ◌-◌, ◌≤◌, Bool, true, false, not, ◌&&◌, ◌%◌, List, [], ◌∷◌, ◌++◌, length, drop, Ok, Err, Option, Some, None, option_map, refl, sym, ap, subst, ◌∙◌, arith}
 use Rattle.std.specs.Prelude.{IsTrue, is_some, slice_index_or}
 use Rattle.std.specs.Option.{option_to_list}
 use Rattle.std.specs.List.{list_all}
 use Rattle.std.proofs.lemmas.List.{drop-drop}
 use Rattle.ztext.specs.Words.{IsText, front_text, length_at}
 use Rattle.zcode.specs.declared.types.OperandType.{OperandType}
-use Rattle.zcode.specs.declared.table.OperandCount.{OperandCount}
 use Rattle.zcode.specs.declared.table.OperandCount.TheVariants.{Two, Many}
 use Rattle.zcode.specs.declared.instr.Operand.{Operand}
 use Rattle.zcode.specs.declared.instr.Branch.{Branch}
 use Rattle.zcode.specs.declared.opcode.Opcode.{Opcode}
 use Rattle.zcode.specs.declared.opcode.Opcode.TheVariants.{Print, PrintRet}
-use Rattle.zcode.specs.Opcodes.{Entry, missing, table, opcode_of, operand_bounds, TakesOperands, stores, branches, prints_text}
+use Rattle.zcode.specs.Opcodes.{Entry, missing, table, operand_bounds, stores, branches, prints_text}
 use Rattle.zcode.specs.Playable.{playable}
 use Rattle.zcode.specs.Instruction.{Instruction}
 use Rattle.zcode.specs.Reading.{instruction_at}
-use Rattle.zcode.specs.Spelling.{Form, Long, ShortOne, ShortZero, VariableTwo, VariableMany, SpellsHead, Spells, IsAtFront, SpellsOperands, SpellsBranchIf, SpellsTextIf}
+use Rattle.zcode.specs.Spelling.{Form, Long, ShortOne, ShortZero, VariableTwo, VariableMany, SpellsHead, IsAtFront, SpellsOperands, SpellsBranchIf, SpellsTextIf}
 use Rattle.zcode.proofs.Found.{found}
 
 -- an opcode with text takes nothing else

@@ -3,7 +3,7 @@ use Rattle.std.proofs.Common.{◌≡◌, ◌↔◌, ◌⊎◌, inl, inr, ℕ, �
 use Rattle.std.proofs.lemmas.Bool.{cases_lt}
 use Rattle.zstory.specs.LoadedStory.{LoadedStory, globals, object_table}
 use Rattle.zstory.specs.Objects.{object_place}
-use Rattle.zrule.specs.Bytes.{IsWithin, IsFlags, IsObjectState, IsChanging, IsUnchanging}
+use Rattle.zrule.specs.Bytes.{IsWithin, IsObjectState, IsChanging, IsUnchanging}
 use Rattle.zrule.specs.Apart.{AreApart, HasNoObjectState}
 
 pub state_here : (story : LoadedStory) (place behind : ℕ) → place ≡ object_place story.memory 1 + behind → behind / 9 < story.objects → behind % 9 < 7 → IsObjectState story place
