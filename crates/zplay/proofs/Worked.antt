@@ -11,7 +11,9 @@ use Rattle.zlist.specs.Listing.{ListedCode}
 use Rattle.zstate.specs.declared.halt.Halt.TheVariants as halts
 use Rattle.zstate.specs.InTurn.{in_turn}
 use Rattle.zstate.specs.State.{opening}
-use Rattle.zstate.specs.Step.{fetch, effect_of, plan, act, step}
+use Rattle.zstate.specs.Step.{fetch, effect_of, plan, act, step, admits, changed}
+use Rattle.zstate.specs.Step.{pauses as settled_pauses}
+use Rattle.zcode.specs.Operation.{operation_of}
 use Rattle.zrule.proofs.Instances.{memory, story, certificate_at, claims, claims_at, hello, line, stop, loaded, opens}
 use Rattle.zcheck.proofs.Instances.{all_listed, records, passes, lists}
 use Rattle.zcheck.specs.Acceptance.{Acceptance}
@@ -58,16 +60,16 @@ in_play = record { accepted = is_accepted; decoded = refl; within = omega arith;
 
 -- the new line is given out, and behind it the session stands still at `quit`
 line_given : GivesOut (setting_of accepted) (state_at listing 1 (opening story))
-unfolding accepted listing records story memory step plan fetch in_turn effect_of act playable instruction_by head_at short_head played_opcode checked_head operands_at store_if branch_if text_if
+unfolding accepted listing records story memory step plan fetch in_turn effect_of operation_of admits settled_pauses act changed playable instruction_by head_at short_head played_opcode checked_head operands_at store_if branch_if text_if
 line_given = (_, refl, λ none. cc)
 
 quits : Pauses (setting_of accepted) pauses.Quit (state_at listing 2 (opening story))
-unfolding accepted listing records story memory step plan fetch in_turn effect_of act playable instruction_by head_at short_head played_opcode checked_head operands_at store_if branch_if text_if
+unfolding accepted listing records story memory step plan fetch in_turn effect_of operation_of admits settled_pauses act changed playable instruction_by head_at short_head played_opcode checked_head operands_at store_if branch_if text_if
 quits = record { halt = halts.Quit; stuck = refl; why = refl }
 
 -- a step gives out what it did behind the items before
 steps : Steps (setting_of accepted) None (state_at listing 1 (opening story)) (state_at listing 2 (opening story)) (Text 104 ∷ []) (Text 104 ∷ Text 10 ∷ [])
-unfolding accepted listing records story memory step plan fetch in_turn effect_of act playable instruction_by head_at short_head played_opcode checked_head operands_at store_if branch_if text_if
+unfolding accepted listing records story memory step plan fetch in_turn effect_of operation_of admits settled_pauses act changed playable instruction_by head_at short_head played_opcode checked_head operands_at store_if branch_if text_if
 steps = (_, refl, refl, refl)
 
 -- and a pause leaves all as it is

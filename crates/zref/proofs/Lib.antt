@@ -4,3 +4,4 @@ pub mod Running
 mod Plain
 mod Short
 mod Stepping
+mod Worked

@@ -1,5 +1,5 @@
 -- Jumps and branches lead a short way.
-use Rattle.std.proofs.Common.{◌≡◌, ℕ, zero, suc, ℤ, pos, negsuc, ◌≤ℤ◌, ◌-ℤ◌, FitsSigned, arith}
+use Rattle.std.proofs.Common.{◌≡◌, zero, suc, ℤ, pos, negsuc, ◌≤ℤ◌, ◌-ℤ◌, FitsSigned, arith}
 use Rattle.std.proofs.lemmas.Int.{ints}
 use Rattle.std.specs.Int.{w16}
 use Rattle.zcode.specs.declared.instr.Destination.TheVariants.{Relative}

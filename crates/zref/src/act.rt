@@ -67,12 +67,7 @@ fn go(story: &Story, state: &mut State, plan: &Plan) -> Result<(), AllocError>
 
 /// Changes variables, and goes on so far behind the next instruction.
 #[tactic(auto, using(crate::proofs::Doing::doing))]
-fn go_on(
-    story: &Story,
-    state: &mut State,
-    plan: &Plan,
-    distance: i32,
-) -> Result<(), AllocError>
+fn go_on(story: &Story, state: &mut State, plan: &Plan, distance: i32) -> Result<(), AllocError>
     requires memory { length state.old.memory ≡ length story.now.memory }
     requires near { EndsBy 131072 plan.now.instruction.size state.old.place }
     requires short { IsShort distance }

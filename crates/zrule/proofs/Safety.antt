@@ -11,7 +11,6 @@ use Rattle.ztext.specs.Output.{output_at}
 use Rattle.ztext.proofs.Printable.{output_at-ok}
 use Rattle.zcode.specs.declared.opcode.Opcode.{Opcode}
 use Rattle.zcode.specs.Opcodes.{prints_text}
-use Rattle.zcode.specs.Playable.{playable}
 use Rattle.zcode.specs.Operation.{operation_of}
 use Rattle.zcode.specs.Instruction.{Instruction}
 use Rattle.zdomain.specs.Domain.{SetOperations, In, Within}

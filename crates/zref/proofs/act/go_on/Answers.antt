@@ -1,5 +1,4 @@
-use Rattle.std.proofs.lemmas.Result.{err_from_is_err_and}
-use Rattle.std.proofs.Common.{refl, rules}
+use Rattle.std.proofs.Common.{refl}
 use Rattle.zcode.specs.Operation.{target}
 use Rattle.zref.proofs.Doing.{stored_longer, on_error}
 use Rattle.zref.proofs.act.go_on.Goals as goal

@@ -1,5 +1,5 @@
 use Rattle.zref.proofs.Doing.{assigned_called, assigned_reached, left_memory, left_there, put_done}
-use Rattle.std.proofs.Common.{ap, ◌≡◌, ◌∙◌, true, sym, ℕ}
+use Rattle.std.proofs.Common.{ap, ◌∙◌, sym, ℕ}
 use Rattle.zstate.specs.State.{exists}
 use Rattle.zref.proofs.act.put_back.Goals as goal
 
