@@ -5,7 +5,7 @@ use Rattle.zfault.specs.Devices.{AppendsBeginning}
 use Rattle.zfault.specs.declared.fault.Fault.{Fault}
 use Rattle.zstory.specs.LoadedStory.{LoadedStory}
 use Rattle.zstate.specs.State.{State, opening, scope_only}
-use Rattle.zstate.specs.Run.{Ending, run}
+use Rattle.zstate.specs.Run.{Ending, GivesOut, run}
 use Rattle.zplayer.specs.declared.end.End.{End}
 use Rattle.zplayer.specs.declared.end.End.TheVariants as ends
 use Rattle.zplayer.specs.Playing.{PlaysSome, end_of}
@@ -106,9 +106,11 @@ pub record IsPlayedBy (a : Acceptance) (budget : ℕ) (end : End) (before now : 
   pub safe : (fault : Fault) (place : ℤ) → end ≢ ends.Fault fault place
   pub written : Appends before now (render (ending_with a budget).items)
 
--- the play stopped behind one of its steps, and what the steps up to there give out was written
-abbrev pub IsCutShortBy : Acceptance → ℕ → Option (List ℕ) → Option (List ℕ) → Type 0
-IsCutShortBy a budget before now = (state : State) × PlaysSome (record { story = a.story; scope = scope_only a.listing }) budget (opening a.story) state before now
+-- the play stopped before a step that gives something out, and what the steps up to there give out was written
+pub record IsCutShortBy (a : Acceptance) (budget : ℕ) (before now : Option (List ℕ)) : Type 0 where
+  pub state : State
+  pub finished : PlaysSome (record { story = a.story; scope = scope_only a.listing }) budget (opening a.story) state before now
+  pub wanted : GivesOut (record { story = a.story; scope = scope_only a.listing }) state
 
 -- What playing by a certificate comes to.
 abbrev pub PlayComesTo : Option (List ℕ) → Option (List ℕ) → ℕ → Option (List ℕ) → Option (List ℕ) → Outcome → Type 0

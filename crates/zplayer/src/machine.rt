@@ -1,8 +1,8 @@
 //! What a player asks of a machine.
 
-ghost use Rattle.std.specs.Prelude.{◌≡◌, ◌+◌, ℕ, [], Ok, IfOk};
+ghost use Rattle.std.specs.Prelude.{◌≡◌, ◌+◌, ℕ, [], Ok, IfOk, OnErr};
 ghost use Rattle.zstate.specs.State.{Setting, State};
-ghost use Rattle.zstate.specs.Run.{run, Ends, Makes, Stands};
+ghost use Rattle.zstate.specs.Run.{run, Ends, GivesOut, Makes, Stands};
 
 use std::alloc::AllocError;
 use zfault::{Item, Pause};
@@ -25,13 +25,14 @@ pub(crate) trait Machine {
     /// out is appended to `items`.
     ///
     /// A pause or a fault leaves the state before its instruction; so does want of memory, with the items of the steps
-    /// that were made.
+    /// that were made. Memory is wanted only where the next step gives something out.
     fn run_down(&mut self, left: &mut u32, items: &mut Vec<Item>) -> Result<Stop, AllocError>
         ensures play { IsSamePlay self.old self.new }
         ensures ok { IfOk result (λ stop. Ends stop (state self.new) items.old.items items.new.items (run (setting self.old) [] left.old (state self.old))) }
         ensures made { (n : ℕ) × (n + left.new ≡ left.old) × Makes (setting self.old) n (state self.old) (state self.new) items.old.items items.new.items }
         ensures stands { IfOk result (λ stop. Stands (setting self.old) stop (state self.new)) }
-        ensures spent { result ≡ Ok (Stop.Paused Pause.Budget) → left.new ≡ 0 };
+        ensures spent { result ≡ Ok (Stop.Paused Pause.Budget) → left.new ≡ 0 }
+        ensures err { OnErr result (GivesOut (setting self.old) (state self.new)) };
 
     /// A machine that didn't move.
     ghost itself: { (m : Self) → IsSamePlay m m };

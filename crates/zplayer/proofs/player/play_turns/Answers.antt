@@ -1,7 +1,7 @@
 use Rattle.std.proofs.Common.{◌∙◌, ap, subst, rules, []}
 use Rattle.zfault.specs.Devices.{AppendsBeginning}
 use Rattle.zstate.specs.State.{Setting}
-use Rattle.zstate.specs.Run.{run}
+use Rattle.zstate.specs.Run.{run, GivesOut}
 use Rattle.zplayer.specs.Playing.{Plays, PlaysInPart, end_of}
 use Rattle.zplayer.specs.Rendering.{render}
 use Rattle.zplayer.proofs.Turns.{starts, goes_on, goes_in_part, begun, stop_at_last, state_at_last, written_at_last}
@@ -50,6 +50,12 @@ returns-in_err-stop-clause-finished g c =
       goes_on _ _ _ _ _ _ _ so_far.so_far _ _ _
           (subst (λ (m : Setting). Plays m c.turns.left c.turn.new.left (g.M.Machine.state c.turns.machine) (g.M.Machine.state c.turn.new.machine) (g.W.Sink.contents c.turns.writer) (g.W.Sink.contents c.turn.new.writer)) same (c.in_err-stop.ensures.finished (search rules))),
     )
+
+pub returns-in_err-stop-clause-wanted : goal.returns-in_err-stop-clause-wanted
+returns-in_err-stop-clause-wanted g c =
+    let same = g.met.M.Machine.same_setting _ _ c.turns.invariant.play in
+    let ff = c.from_residual.ensures in
+    λ e. subst (λ (m : Setting). GivesOut m (g.M.Machine.state c.turn.new.machine)) same (c.in_err-stop.ensures.wanted (search rules))
 
 pub returns-in-Some-clause-play : goal.returns-in-Some-clause-play
 returns-in-Some-clause-play g c = g.met.M.Machine.through _ _ _ c.turns.invariant.play c.in_ok-stop.ensures.play
