@@ -118,6 +118,7 @@ COMMANDS = [
     ("no certificate there", ["check", "story", "absent"], files(), failed("file")),
     ("no certificate there to play", ["play", "story", "absent"], files(), failed("file")),
     ("a bad story, and no certificate there", ["check", "story", "absent"], files(bytes(63)), refused("L1")),
+    ("a bad story, and no certificate there, played", ["play", "story", "absent"], files(bytes(63)), refused("L1")),
     ("a folder as story", ["play", "."], files(), failed("file")),
     ("an empty story", PLAY, files(b""), refused("L1")),
     ("a story of 63 bytes", PLAY, files(bytes(63)), refused("L1")),
@@ -141,6 +142,7 @@ COMMANDS = [
     ("a first instruction behind the end", PLAY, files(changed(SAMPLE, 0x06, 4)), refused("L11")),
     # certificates that are refused
     ("an empty certificate", CHECK, files(listed=b""), refused("K3")),
+    ("the story as its certificate", ["check", "story", "story"], files(), refused("K1")),
     ("half a magic", CHECK, files(listed=b"ZP"), refused("K3")),
     ("another magic", CHECK, files(listed=b"ZPCD"), refused("K1")),
     ("another version of certificate", CHECK, files(listed=changed(ITS_CERTIFICATE, 4, 9)), refused("K2")),
