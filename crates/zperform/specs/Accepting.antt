@@ -13,6 +13,7 @@ use Rattle.zplayer.specs.Rendering.{render}
 use Rattle.zdomain.specs.declared.interval.Interval.{Interval}
 use Rattle.zdomain.specs.Interval.{interval_operations}
 use Rattle.zcert.specs.Certificate.{Certificate}
+use Rattle.zcert.specs.Fields.{LeadsToPart}
 use Rattle.zcert.specs.Format.{interval_format}
 use Rattle.zcert.specs.Reading.{reading}
 use Rattle.zcheck.specs.Acceptance.{Acceptance, IsListingOf}
@@ -56,17 +57,17 @@ IsNoStory known (Failed File) = ⊤
 IsNoStory known (Failed Memory) = HasBytes known
 IsNoStory known problem = ⊥
 
--- why the bytes of a file aren't read as a certificate
+-- why the bytes of a file aren't read as a certificate: memory is wanted only for a part that they have
 abbrev pub IsUnreadable : List ℕ → Problem → Type 0
 IsUnreadable file (Unreadable error) = reading interval_format file ≡ Err error
-IsUnreadable file (Failed Memory) = ⊤
+IsUnreadable file (Failed Memory) = LeadsToPart interval_format file
 IsUnreadable file problem = ⊥
 
--- why no certificate is read from a file
+-- why no certificate is read from a file: memory is wanted only for one that has bytes
 abbrev pub IsNoCertificate : Option (List ℕ) → Problem → Type 0
 IsNoCertificate known (Unreadable error) = Reads known (λ file. reading interval_format file ≡ Err error)
 IsNoCertificate known (Failed File) = ⊤
-IsNoCertificate known (Failed Memory) = ⊤
+IsNoCertificate known (Failed Memory) = HasBytes known
 IsNoCertificate known problem = ⊥
 
 -- Why a story with a certificate isn't accepted: the story is looked at first, then the certificate's file, then whether
