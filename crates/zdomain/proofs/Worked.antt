@@ -90,6 +90,10 @@ few = from (pos 0) (pos 5) refl
 sums : IsFrom (binary Add few (from (minus 3) (pos 4) refl)) (minus 3) (pos 9) × IsFrom (binary Add (word (pos 32767)) (word (pos 1))) (minus 32768) (pos 32767) × IsFrom (binary Add few (word (pos 32763))) (minus 32768) (pos 32767) × IsFrom (binary Add few (word (pos 32762))) (pos 32762) (pos 32767)
 sums = ((refl, refl), (refl, refl), (refl, refl), (refl, refl))
 
+-- -32,768 is the number of a word too
+least_sum : IsFrom (binary Add (word (minus 32768)) (word (pos 0))) (minus 32768) (minus 32768)
+least_sum = (refl, refl)
+
 differences : IsFrom (binary Sub few (from (pos 2) (pos 3) refl)) (minus 3) (pos 3) × IsFrom (binary Sub (word (minus 32768)) (word (pos 1))) (minus 32768) (pos 32767) × IsFrom (binary Sub few (word (minus 1))) (pos 1) (pos 6)
 differences = ((refl, refl), (refl, refl), (refl, refl))
 
@@ -108,6 +112,10 @@ no_quotients = ((refl, refl), (refl, refl), (refl, refl))
 -- by 5 nothing beyond 4 is left, on either side; by -5 the same; a dividend of one sign leaves that sign, and no more than it is
 remainders : IsFrom (binary Mod (from (minus 13) (pos 13) refl) (word (pos 5))) (minus 4) (pos 4) × IsFrom (binary Mod (word (pos 13)) (word (minus 5))) (pos 0) (pos 4) × IsFrom (binary Mod (from (minus 13) (minus 2) refl) (from (pos 5) (pos 7) refl)) (minus 6) (pos 0) × IsFrom (binary Mod (from (pos 2) (pos 3) refl) (word (pos 10))) (pos 0) (pos 3) × IsFrom (binary Mod few (word (minus 1))) (pos 0) (pos 0) × IsFrom (binary Mod (from (pos 0) (pos 32767) refl) (word (minus 32768))) (pos 0) (pos 32767)
 remainders = ((refl, refl), (refl, refl), (refl, refl), (refl, refl), (refl, refl), (refl, refl))
+
+-- 1 isn't 0: by it a number is its own quotient, and nothing is left
+by_one : IsFrom (binary Div few (word (pos 1))) (pos 0) (pos 5) × IsFrom (binary Mod few (word (pos 1))) (pos 0) (pos 0)
+by_one = ((refl, refl), (refl, refl))
 
 no_remainders : IsFrom (binary Mod few few) (minus 32768) (pos 32767) × IsFrom (binary Mod few (from (minus 5) (pos 0) refl)) (minus 32768) (pos 32767)
 no_remainders = ((refl, refl), (refl, refl))

@@ -33,6 +33,9 @@ answered = (refl, refl, refl, refl, refl)
 unanswered : (answers needs.Line (Random 0) ≡ false) × (answers needs.Random (Line []) ≡ false) × (answers needs.Saved NotRestored ≡ false) × (answers needs.Restore (Saved true) ≡ false) × (answers needs.Restore (Random 1) ≡ false)
 unanswered = (refl, refl, refl, refl, refl)
 
+unanswered_too : (answers needs.Line (Saved true) ≡ false) × (answers needs.Line NotRestored ≡ false) × (answers needs.Random (Saved false) ≡ false) × (answers needs.Random NotRestored ≡ false) × (answers needs.Saved (Line []) ≡ false) × (answers needs.Saved (Random 1) ≡ false) × (answers needs.Restore (Line []) ≡ false) × (answers needs.Restore (Saved false) ≡ false)
+unanswered_too = (refl, refl, refl, refl, refl, refl, refl, refl)
+
 -- ---- devices
 
 -- a count rises by one, and at its last value it stays

@@ -1,7 +1,7 @@
 -- Values of the definitions, computed.
-use Rattle.std.proofs.Common.{◌≡◌, ℕ, List, [], ◌∷◌, refl}
+use Rattle.std.proofs.Common.{◌≡◌, ℕ, List, [], ◌∷◌, ◌++◌, length, replicate, refl, arith, lit≤}
 use Rattle.zframe.specs.Frames.{Frame, Chain, frames, first_frame, opening, with_local, pushed, popped, with_top, begun, entered, left}
-use Rattle.zframe.specs.Packed.{frame_at, callers_at, chain_at, spelled}
+use Rattle.zframe.specs.Packed.{frame_at, callers_at, chain_at, spelled, Fits, IsHeld}
 
 -- the first frame with 7 on its stack; then one whose return goes to 0x10034 and whose result goes to variable 16, with two
 -- arguments supplied, locals 8 and 9, and 3 below 4 on its stack
@@ -39,3 +39,15 @@ calls = (refl, refl, refl)
 
 stacks : ((popped two).newest.stack ≡ 3 ∷ []) × ((with_top 5 two).newest.stack ≡ 5 ∷ 3 ∷ []) × ((with_local 1 6 two).newest.locals ≡ 8 ∷ 6 ∷ [])
 stacks = (refl, refl, refl)
+
+-- a head with fifteen locals, and 64 words of stack
+fullest : Fits 0 5 (0 ∷ 0 ∷ 0 ∷ 15 ∷ 0 ∷ replicate 79 7)
+fullest = record { head = lit≤ tt; low = lit≤ tt; below = lit≤ tt; few = lit≤ tt; within = lit≤ tt; height = lit≤ tt }
+
+-- a sixteenth local, a 65th word on the stack, a head cut off
+too_full : (Fits 0 5 (0 ∷ 0 ∷ 0 ∷ 16 ∷ 0 ∷ replicate 16 7) → ⊥) × (Fits 0 5 (0 ∷ 0 ∷ 0 ∷ 0 ∷ 0 ∷ replicate 65 7) → ⊥) × (Fits 0 4 (replicate 9 0) → ⊥)
+too_full = (λ f. omega (arith, f.few), λ f. omega (arith, f.height), λ f. omega (arith, f.head))
+
+-- 84 words are held for each frame, no fewer and no more
+room : (words : List ℕ) → IsHeld 1 0 5 5 words → length words ≡ 168
+room words held = held.room

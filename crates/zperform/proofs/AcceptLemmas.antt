@@ -9,6 +9,7 @@ use Rattle.zstory.specs.Refusal.{HasNone, IsCause}
 use Rattle.zstory.specs.declared.load_error.LoadError.TheVariants.{TooShort}
 use Rattle.zdomain.specs.declared.interval.Interval.{Interval}
 use Rattle.zcert.specs.Certificate.{Certificate}
+use Rattle.zcert.specs.Fields.{LeadsToPart}
 use Rattle.zcert.specs.Format.{interval_format}
 use Rattle.zcert.specs.Longest.{IsDecidedBy}
 use Rattle.zcert.specs.Reading.{reading}
@@ -57,6 +58,10 @@ pub handed_on : {T : Type 0} (P : Problem → Type 0) (r : Result T Problem) (pr
 handed_on P (Ok x) problem (is, same) h = tt
 handed_on P (Err q) problem (is, same) h = subst P (sym same) h
 
+-- bytes of which memory is wanted for a part are some
+part_has_bytes : (taken : List ℕ) → LeadsToPart interval_format taken → 0 < length taken
+part_has_bytes taken led = omega (arith, ap length led.spelled)
+
 -- what is read of the part of a certificate's file is read of the file
 module _ (known : Option (List ℕ)) (taken : List ℕ) (part : (file : List ℕ) → known ≡ Some file → taken ≡ take (LARGEST + 1) file) (decided : IsDecidedBy interval_format (LARGEST + 1)) where
   whole : (due : Result (Certificate Interval) CertError) → reading interval_format taken ≡ due → Reads known (λ file. reading interval_format file ≡ due)
@@ -78,7 +83,7 @@ module _ (known : Option (List ℕ)) (taken : List ℕ) (part : (file : List ℕ
   no_certificate (Failed File) h = absurd h
   no_certificate (Failed Read) h = absurd h
   no_certificate (Failed Write) h = absurd h
-  no_certificate (Failed Memory) h = tt
+  no_certificate (Failed Memory) h = part_bytes known (LARGEST + 1) taken part (part_has_bytes taken h)
 
   pub certificate_refused : (r : Result (Certificate Interval) Problem) → IfErr r (IsUnreadable taken) → IfErr r (IsNoCertificate known)
   certificate_refused (Ok c) h = tt

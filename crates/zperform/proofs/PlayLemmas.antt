@@ -7,7 +7,7 @@ use Rattle.zstory.specs.Refusal.{IsCause, IsLowest}
 use Rattle.zstory.specs.declared.load_error.LoadError.{LoadError}
 use Rattle.zstory.specs.declared.load_error.LoadError.TheVariants.{TooShort, TooLong, NotVersion3, LengthWord, StaticBase, Globals, Objects, Dictionary, EntryLength, DictionaryOrder, FirstInstruction, OutOfMemory}
 use Rattle.zstate.specs.State.{State, opening}
-use Rattle.zstate.specs.Run.{Ending, run}
+use Rattle.zstate.specs.Run.{Ending, WantsMemory, run}
 use Rattle.zref.specs.Machine.{Machine, setting}
 use Rattle.zref.specs.declared.scope.Scope.TheVariants.{All}
 use Rattle.zplayer.specs.declared.end.End.{End}
@@ -45,7 +45,7 @@ module _ (known : Option (List ℕ)) (taken : List ℕ) (budget : ℕ) (before n
       along (λ file. IsBegun file budget before now) (λ file e p. record { story = p.story; holds = holds_whole 131073 taken file (omega arith) e p.story p.holds; begun = p.begun }) h
   of_part (Stopped (Failed Memory)) (inl (same, some)) = inl (same, part_bytes known 131073 taken part some)
   of_part (Stopped (Failed Memory)) (inr h) =
-      inr (along (λ file. IsCutShort file budget before now) (λ file e p. record { story = p.story; holds = holds_whole 131073 taken file (omega arith) e p.story p.holds; state = p.state; finished = p.finished }) h)
+      inr (along (λ file. IsCutShort file budget before now) (λ file e p. record { story = p.story; holds = holds_whole 131073 taken file (omega arith) e p.story p.holds; state = p.state; finished = p.finished; wanted = p.wanted }) h)
 
 -- a file that couldn't be read
 pub unread : (known : Option (List ℕ)) (budget : ℕ) (before : Option (List ℕ)) (problem : Problem) → (problem ≡ Failed File) ⊎ (problem ≡ Failed Memory) → (problem ≡ Failed Memory → HasBytes known)
@@ -116,9 +116,9 @@ module _ (file : List ℕ) (story : LoadedStory) (holds : Holds file story) (bud
   )
 
   -- playing broke off
-  pub broken : (error : PlayError) → error ≢ errors.Read → (error ≡ errors.Write → AppendsBeginning before now (render ending.items)) → (state : State) → (error ≡ errors.OutOfMemory → PlaysSome (setting m) budget m.state state before now)
+  pub broken : (error : PlayError) → error ≢ errors.Read → (error ≡ errors.Write → AppendsBeginning before now (render ending.items)) → (state : State) → (error ≡ errors.OutOfMemory → PlaysSome (setting m) budget m.state state before now) → (error ≡ errors.OutOfMemory → WantsMemory (setting m) state)
       → ComesTo (Some file) budget before now (Stopped (problem_of_play error))
-  broken errors.Read no_read begun state finished = absurd (no_read refl)
-  broken errors.Write no_read begun state finished = (file, refl, record { story = story; holds = holds; begun = subst (λ (e : Ending). AppendsBeginning before now (render e.items)) same (begun refl) })
-  broken errors.OutOfMemory no_read begun state finished =
-      inr (file, refl, record { story = story; holds = holds; state = state; finished = subst (λ (x : Machine). PlaysSome (setting x) budget x.state state before now) opened (finished refl) })
+  broken errors.Read no_read begun state finished wanted = absurd (no_read refl)
+  broken errors.Write no_read begun state finished wanted = (file, refl, record { story = story; holds = holds; begun = subst (λ (e : Ending). AppendsBeginning before now (render e.items)) same (begun refl) })
+  broken errors.OutOfMemory no_read begun state finished wanted =
+      inr (file, refl, record { story = story; holds = holds; state = state; finished = subst (λ (x : Machine). PlaysSome (setting x) budget x.state state before now) opened (finished refl); wanted = subst (λ (x : Machine). WantsMemory (setting x) state) opened (wanted refl) })

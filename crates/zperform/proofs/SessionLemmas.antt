@@ -5,7 +5,7 @@ use Rattle.std.specs.Io.KnownBytes.{Appends}
 use Rattle.zfault.specs.declared.fault.Fault.{Fault}
 use Rattle.zfault.specs.Devices.{AppendsBeginning}
 use Rattle.zstate.specs.State.{State, opening}
-use Rattle.zstate.specs.Run.{Ending, run}
+use Rattle.zstate.specs.Run.{Ending, GivesOut, run}
 use Rattle.zcheck.specs.Acceptance.{Acceptance}
 use Rattle.zplay.specs.Session.{Playing, setting_of}
 use Rattle.zplayer.specs.declared.end.End.{End}
@@ -72,9 +72,9 @@ module _ (story certificate : Option (List ℕ)) (budget : ℕ) (before : Option
     played end ended safe written =
         (a, accepted, record { ended = ended ∙ ap (λ (e : Ending). end_of e.stop) same; safe = safe; written = subst (λ (e : Ending). Appends before now (render e.items)) same written })
 
-    pub broken : (error : PlayError) → error ≢ errors.Read → (error ≡ errors.Write → AppendsBeginning before now (render ending.items)) → (state : State) → (error ≡ errors.OutOfMemory → PlaysSome (setting_of p.accepted) budget p.state state before now)
+    pub broken : (error : PlayError) → error ≢ errors.Read → (error ≡ errors.Write → AppendsBeginning before now (render ending.items)) → (state : State) → (error ≡ errors.OutOfMemory → PlaysSome (setting_of p.accepted) budget p.state state before now) → (error ≡ errors.OutOfMemory → GivesOut (setting_of p.accepted) state)
         → PlayComesTo story certificate budget before now (Stopped (problem_of_play error))
-    broken errors.Read no_read begun state finished = absurd (no_read refl)
-    broken errors.Write no_read begun state finished = (a, accepted, subst (λ (e : Ending). AppendsBeginning before now (render e.items)) same (begun refl))
-    broken errors.OutOfMemory no_read begun state finished =
-        inr (a, accepted, (state, subst (λ (q : Playing). PlaysSome (setting_of q.accepted) budget q.state state before now) opened (finished refl)))
+    broken errors.Read no_read begun state finished wanted = absurd (no_read refl)
+    broken errors.Write no_read begun state finished wanted = (a, accepted, subst (λ (e : Ending). AppendsBeginning before now (render e.items)) same (begun refl))
+    broken errors.OutOfMemory no_read begun state finished wanted =
+        inr (a, accepted, record { state = state; finished = subst (λ (q : Playing). PlaysSome (setting_of q.accepted) budget q.state state before now) opened (finished refl); wanted = subst (λ (q : Playing). GivesOut (setting_of q.accepted) state) opened (wanted refl) })

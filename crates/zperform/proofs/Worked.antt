@@ -50,6 +50,11 @@ places :
 unfolding digits
 places = (refl, refl, refl, refl, refl, refl)
 
+-- each digit that isn't among those
+digits_are : (place_text (pos 0x12345) ≡ codes "12345") × (place_text (pos 0x6789E) ≡ codes "6789e")
+unfolding digits
+digits_are = (refl, refl)
+
 -- what is wrong with a story, with a certificate, and with both
 refused :
     (text_of (Stopped (Refused loads.TooShort)) ≡ codes "refused: L1") × (text_of (Stopped (Refused loads.TooLong)) ≡ codes "refused: L2") × (text_of (Stopped (Refused loads.FirstInstruction)) ≡ codes "refused: L11")

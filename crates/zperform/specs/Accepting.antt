@@ -5,7 +5,7 @@ use Rattle.zfault.specs.Devices.{AppendsBeginning}
 use Rattle.zfault.specs.declared.fault.Fault.{Fault}
 use Rattle.zstory.specs.LoadedStory.{LoadedStory}
 use Rattle.zstate.specs.State.{State, opening, scope_only, usual_limit}
-use Rattle.zstate.specs.Run.{Ending, run}
+use Rattle.zstate.specs.Run.{Ending, GivesOut, run}
 use Rattle.zplayer.specs.declared.end.End.{End}
 use Rattle.zplayer.specs.declared.end.End.TheVariants as ends
 use Rattle.zplayer.specs.Playing.{PlaysSome, end_of}
@@ -13,6 +13,7 @@ use Rattle.zplayer.specs.Rendering.{render}
 use Rattle.zdomain.specs.declared.interval.Interval.{Interval}
 use Rattle.zdomain.specs.Interval.{interval_operations}
 use Rattle.zcert.specs.Certificate.{Certificate}
+use Rattle.zcert.specs.Fields.{LeadsToPart}
 use Rattle.zcert.specs.Format.{interval_format}
 use Rattle.zcert.specs.Reading.{reading}
 use Rattle.zcheck.specs.Acceptance.{Acceptance, IsListingOf}
@@ -56,17 +57,17 @@ IsNoStory known (Failed File) = ⊤
 IsNoStory known (Failed Memory) = HasBytes known
 IsNoStory known problem = ⊥
 
--- why the bytes of a file aren't read as a certificate
+-- why the bytes of a file aren't read as a certificate: memory is wanted only for a part that they have
 abbrev pub IsUnreadable : List ℕ → Problem → Type 0
 IsUnreadable file (Unreadable error) = reading interval_format file ≡ Err error
-IsUnreadable file (Failed Memory) = ⊤
+IsUnreadable file (Failed Memory) = LeadsToPart interval_format file
 IsUnreadable file problem = ⊥
 
--- why no certificate is read from a file
+-- why no certificate is read from a file: memory is wanted only for one that has bytes
 abbrev pub IsNoCertificate : Option (List ℕ) → Problem → Type 0
 IsNoCertificate known (Unreadable error) = Reads known (λ file. reading interval_format file ≡ Err error)
 IsNoCertificate known (Failed File) = ⊤
-IsNoCertificate known (Failed Memory) = ⊤
+IsNoCertificate known (Failed Memory) = HasBytes known
 IsNoCertificate known problem = ⊥
 
 -- Why a story with a certificate isn't accepted: the story is looked at first, then the certificate's file, then whether
@@ -106,9 +107,11 @@ pub record IsPlayedBy (a : Acceptance) (budget : ℕ) (end : End) (before now : 
   pub safe : (fault : Fault) (place : ℤ) → end ≢ ends.Fault fault place
   pub written : Appends before now (render (ending_with a budget).items)
 
--- the play stopped behind one of its steps, and what the steps up to there give out was written
-abbrev pub IsCutShortBy : Acceptance → ℕ → Option (List ℕ) → Option (List ℕ) → Type 0
-IsCutShortBy a budget before now = (state : State) × PlaysSome (record { story = a.story; scope = scope_only a.listing; limit = usual_limit }) budget (opening a.story) state before now
+-- the play stopped before a step that gives something out, and what the steps up to there give out was written
+pub record IsCutShortBy (a : Acceptance) (budget : ℕ) (before now : Option (List ℕ)) : Type 0 where
+  pub state : State
+  pub finished : PlaysSome (record { story = a.story; scope = scope_only a.listing; limit = usual_limit }) budget (opening a.story) state before now
+  pub wanted : GivesOut (record { story = a.story; scope = scope_only a.listing; limit = usual_limit }) state
 
 -- What playing by a certificate comes to.
 abbrev pub PlayComesTo : Option (List ℕ) → Option (List ℕ) → ℕ → Option (List ℕ) → Option (List ℕ) → Outcome → Type 0

@@ -8,7 +8,7 @@ use Rattle.zstory.specs.Refusal.{HasNone, IsCause, IsLowest}
 use Rattle.zstory.specs.declared.load_error.LoadError.{LoadError}
 use Rattle.zstory.specs.declared.load_error.LoadError.TheVariants.{OutOfMemory as NoMemoryToLoad}
 use Rattle.zstate.specs.State.{State, opening}
-use Rattle.zstate.specs.Run.{Ending, run}
+use Rattle.zstate.specs.Run.{Ending, WantsMemory, run}
 use Rattle.zref.specs.Machine.{setting_of}
 use Rattle.zref.specs.declared.scope.Scope.TheVariants.{All}
 use Rattle.zplayer.specs.declared.end.End.{End}
@@ -43,12 +43,14 @@ pub record IsBegun (file : List ℕ) (budget : ℕ) (before now : Option (List �
   pub holds : Holds file story
   pub begun : AppendsBeginning before now (render (ending_of story budget).items)
 
--- the play of a file stopped behind one of its steps, and what the steps up to there give out was written
+-- the play of a file stopped before a step that gives something out or makes a stack longer, and what the steps up to there
+-- give out was written
 pub record IsCutShort (file : List ℕ) (budget : ℕ) (before now : Option (List ℕ)) : Type 0 where
   pub story : LoadedStory
   pub holds : Holds file story
   pub state : State
   pub finished : PlaysSome (setting_of story All) budget (opening story) state before now
+  pub wanted : WantsMemory (setting_of story All) state
 
 -- a file is no story, for its cause with the lowest number; want of memory is none
 pub record IsRefused (file : List ℕ) (error : LoadError) : Type 0 where

@@ -1,8 +1,8 @@
 //! What a player asks of a machine.
 
-ghost use Rattle.std.specs.Prelude.{◌≡◌, ◌+◌, ℕ, [], Ok, IfOk};
+ghost use Rattle.std.specs.Prelude.{◌≡◌, ◌+◌, ℕ, [], Ok, IfOk, OnErr};
 ghost use Rattle.zstate.specs.State.{Setting, State};
-ghost use Rattle.zstate.specs.Run.{run, Ends, Makes, Stands};
+ghost use Rattle.zstate.specs.Run.{run, Ends, GivesOut, Makes, Stands, WantsMemory};
 
 use std::alloc::AllocError;
 use zfault::{Item, Pause};
@@ -18,6 +18,9 @@ pub(crate) trait Machine {
     /// The state that it is in.
     ghost state: { Self → State };
 
+    /// Where memory may be wanted for the next step.
+    ghost Wants: { Setting → State → Type 0 };
+
     /// The second is the first, moved on: all that a play never changes is the same.
     ghost IsSamePlay: { Self → Self → Type 0 };
 
@@ -25,13 +28,14 @@ pub(crate) trait Machine {
     /// out is appended to `items`.
     ///
     /// A pause or a fault leaves the state before its instruction; so does want of memory, with the items of the steps
-    /// that were made.
+    /// that were made. Memory is wanted only for the next step.
     fn run_down(&mut self, left: &mut u32, items: &mut Vec<Item>) -> Result<Stop, AllocError>
         ensures play { IsSamePlay self.old self.new }
         ensures ok { IfOk result (λ stop. Ends stop (state self.new) items.old.items items.new.items (run (setting self.old) [] left.old (state self.old))) }
         ensures made { (n : ℕ) × (n + left.new ≡ left.old) × Makes (setting self.old) n (state self.old) (state self.new) items.old.items items.new.items }
         ensures stands { IfOk result (λ stop. Stands (setting self.old) stop (state self.new)) }
-        ensures spent { result ≡ Ok (Stop.Paused Pause.Budget) → left.new ≡ 0 };
+        ensures spent { result ≡ Ok (Stop.Paused Pause.Budget) → left.new ≡ 0 }
+        ensures err { OnErr result (Wants (setting self.old) (state self.new)) };
 
     /// A machine that didn't move.
     ghost itself: { (m : Self) → IsSamePlay m m };
@@ -52,6 +56,8 @@ impl<'a> Machine for CheckedMachine<'a> {
     ghost setting = { setting_of_checked };
 
     ghost state = { λ m. m.state };
+
+    ghost Wants = { WantsMemory };
 
     ghost IsSamePlay = { SamePlay };
 
@@ -74,6 +80,8 @@ impl<'a> Machine for Session<'a> {
     ghost setting = { setting_of_session };
 
     ghost state = { λ p. p.state };
+
+    ghost Wants = { GivesOut };
 
     ghost IsSamePlay = { λ old new. new.accepted ≡ old.accepted };
 

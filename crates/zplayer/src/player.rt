@@ -3,7 +3,7 @@
 ghost use Rattle.std.specs.Prelude.{◌≡◌, ◌≢◌, ◌<◌, ℤ, false, [], Ok, None, IsErrOf, IfErr, IfOk, IfNone, IfSome, OnOk};
 ghost use Rattle.std.specs.Io.KnownBytes.{Appends, Keeps};
 ghost use Rattle.zfault.specs.Devices.{AppendsBeginning, RisesByOne};
-ghost use Rattle.zstate.specs.Run.{run, Stands};
+ghost use Rattle.zstate.specs.Run.{run, GivesOut, Stands, WantsMemory};
 ghost use Rattle.zref.specs.Machine.{setting, SamePlay};
 ghost use Rattle.zfault.specs.declared.fault.Fault.{Fault as AFault};
 ghost use Rattle.zplay.specs.Session.{setting_of};
@@ -27,7 +27,7 @@ const TURN: u32 = 1024;
 ///
 /// No opcode of this build needs a line, a word or a save, so the reader, the store and the words aren't touched yet.
 /// After P2 a beginning of what the finished steps give out was written, and the writer isn't called again; after P3 all
-/// of it. At any other end than P2 what was written is flushed.
+/// of it, and the next step gives something out or makes a stack longer. At any other end than P2 what was written is flushed.
 pub fn play_checked<R: Source, W: Sink, S: SaveStore, G: Words>(
     alloc: Global,
     machine: &mut CheckedMachine,
@@ -47,6 +47,7 @@ pub fn play_checked<R: Source, W: Sink, S: SaveStore, G: Words>(
     ensures blamed { IsErrOf result PlayError.Write → RisesByOne (W.failures writer.old) (W.failures writer.new) }
     ensures flushed { ¬ IsErrOf result PlayError.Write → W.waits writer.new ≡ false }
     ensures finished { ¬ IsErrOf result PlayError.Write → PlaysSome (setting machine.old) options.budget machine.old.state machine.new.state (W.contents writer.old) (W.contents writer.new) }
+    ensures wanted { IsErrOf result PlayError.OutOfMemory → WantsMemory (setting machine.old) machine.new.state }
     ensures in_part { IsErrOf result PlayError.Write → PlaysInPart (setting machine.old) options.budget machine.old.state machine.new.state (W.contents writer.old) (W.contents writer.new) }
     ensures reader { _reader.new ≡ _reader.old }
     ensures store { _store.new ≡ _store.old }
@@ -76,6 +77,7 @@ pub fn play_story<R: Source, W: Sink, S: SaveStore, G: Words>(
     ensures blamed { IsErrOf result PlayError.Write → RisesByOne (W.failures writer.old) (W.failures writer.new) }
     ensures flushed { ¬ IsErrOf result PlayError.Write → W.waits writer.new ≡ false }
     ensures finished { ¬ IsErrOf result PlayError.Write → PlaysSome (setting_of session.old.accepted) options.budget session.old.state session.new.state (W.contents writer.old) (W.contents writer.new) }
+    ensures wanted { IsErrOf result PlayError.OutOfMemory → GivesOut (setting_of session.old.accepted) session.new.state }
     ensures in_part { IsErrOf result PlayError.Write → PlaysInPart (setting_of session.old.accepted) options.budget session.old.state session.new.state (W.contents writer.old) (W.contents writer.new) }
     ensures reader { _reader.new ≡ _reader.old }
     ensures store { _store.new ≡ _store.old }
@@ -102,6 +104,7 @@ fn play_machine<M: Machine, W: Sink>(
     ensures blamed { IsErrOf result PlayError.Write → RisesByOne (W.failures writer.old) (W.failures writer.new) }
     ensures flushed { ¬ IsErrOf result PlayError.Write → W.waits writer.new ≡ false }
     ensures finished { ¬ IsErrOf result PlayError.Write → PlaysSome (M.setting machine.old) budget (M.state machine.old) (M.state machine.new) (W.contents writer.old) (W.contents writer.new) }
+    ensures wanted { IsErrOf result PlayError.OutOfMemory → M.Wants (M.setting machine.old) (M.state machine.new) }
     ensures in_part { IsErrOf result PlayError.Write → PlaysInPart (M.setting machine.old) budget (M.state machine.old) (M.state machine.new) (W.contents writer.old) (W.contents writer.new) }
 {
     match play_turns(alloc, machine, writer, budget) {
@@ -142,6 +145,7 @@ fn play_turns<M: Machine, W: Sink>(
     ensures begun { IsErrOf result PlayError.Write → AppendsBeginning (W.contents writer.old) (W.contents writer.new) (render (run (M.setting machine.old) [] budget (M.state machine.old)).items) }
     ensures blamed { IsErrOf result PlayError.Write → RisesByOne (W.failures writer.old) (W.failures writer.new) }
     ensures finished { ¬ IsErrOf result PlayError.Write → PlaysSome (M.setting machine.old) budget (M.state machine.old) (M.state machine.new) (W.contents writer.old) (W.contents writer.new) }
+    ensures wanted { IsErrOf result PlayError.OutOfMemory → M.Wants (M.setting machine.old) (M.state machine.new) }
     ensures in_part { IsErrOf result PlayError.Write → PlaysInPart (M.setting machine.old) budget (M.state machine.old) (M.state machine.new) (W.contents writer.old) (W.contents writer.new) }
 {
     let mut items = Vec::new(alloc);
@@ -181,6 +185,7 @@ fn turn<M: Machine, W: Sink>(
     ensures begun { IsErrOf result PlayError.Write → AppendsBeginning (W.contents writer.old) (W.contents writer.new) (render (run (M.setting machine.old) [] left.old (M.state machine.old)).items) }
     ensures blamed { IsErrOf result PlayError.Write → RisesByOne (W.failures writer.old) (W.failures writer.new) }
     ensures finished { IsErrOf result PlayError.OutOfMemory → Plays (M.setting machine.old) left.old left.new (M.state machine.old) (M.state machine.new) (W.contents writer.old) (W.contents writer.new) }
+    ensures wanted { IsErrOf result PlayError.OutOfMemory → M.Wants (M.setting machine.old) (M.state machine.new) }
     ensures in_part { IsErrOf result PlayError.Write → PlaysInPart (M.setting machine.old) left.old (M.state machine.old) (M.state machine.new) (W.contents writer.old) (W.contents writer.new) }
 {
     let mut steps = TURN.min(*left);

@@ -6,7 +6,7 @@ use Rattle.zstory.specs.declared.load_error.LoadError.{LoadError}
 use Rattle.zstory.specs.declared.load_error.LoadError.TheVariants.{TooShort, TooLong, NotVersion3, LengthWord, StaticBase, Globals, Objects, Dictionary, EntryLength, DictionaryOrder, FirstInstruction, OutOfMemory}
 use Rattle.zstory.specs.Bytes.{byte_at, word_at, readable_end}
 use Rattle.zstory.specs.Header as header
-use Rattle.zstory.specs.Objects.{object_place, object_end, property_table, IsEntry, IsObjectCount}
+use Rattle.zstory.specs.Objects.{object_place, object_end, property_table, HasEntries, IsEntry, IsObjectCount}
 use Rattle.zstory.specs.Dictionary.{separator_count, entry_length, entry_count, entry_place, dictionary_end, encoded_text, IsOrdered, HasFallingEntries}
 use Rattle.zstory.specs.LoadedStory.{LoadedStory, IsSound, identity_of, file_sum, save_checksum}
 use Rattle.zstory.specs.Loading.{stated_length, stated_part, with_flags_cleared, loaded_memory, IsLoaded}
@@ -156,6 +156,10 @@ last_dynamic = (record { dynamic = lit≤ tt; before_tables = λ other some few.
 -- no more than a byte can number
 most_objects : (memory : List ℕ) → IsObjectCount memory 256 → ⊥
 most_objects memory count = omega (arith, count.within)
+
+-- and as many where all have an entry
+all_objects : (memory : List ℕ) → HasEntries memory 255 → IsObjectCount memory 255
+all_objects memory has = record { within = omega arith; entries = has; greatest = λ other few _. few }
 
 one_count_alone : (IsObjectCount peopled 1 → ⊥) × (IsObjectCount peopled 3 → ⊥)
 one_count_alone = (λ count. omega (arith, count.greatest 2 (omega arith) two_objects.entries), λ count. no_third (count.entries 3 (omega arith) (omega arith)))

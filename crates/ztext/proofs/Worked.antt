@@ -72,6 +72,11 @@ alphabet_lengths : (length small_letters ≡ 26) × (length capital_letters ≡ 
 unfolding small_letters capital_letters marks
 alphabet_lengths = (refl, refl, refl)
 
+-- every letter, by its code, in its place (Z 3.5.3)
+whole_alphabets : (small_letters ≡ 97 ∷ 98 ∷ 99 ∷ 100 ∷ 101 ∷ 102 ∷ 103 ∷ 104 ∷ 105 ∷ 106 ∷ 107 ∷ 108 ∷ 109 ∷ 110 ∷ 111 ∷ 112 ∷ 113 ∷ 114 ∷ 115 ∷ 116 ∷ 117 ∷ 118 ∷ 119 ∷ 120 ∷ 121 ∷ 122 ∷ []) × (capital_letters ≡ 65 ∷ 66 ∷ 67 ∷ 68 ∷ 69 ∷ 70 ∷ 71 ∷ 72 ∷ 73 ∷ 74 ∷ 75 ∷ 76 ∷ 77 ∷ 78 ∷ 79 ∷ 80 ∷ 81 ∷ 82 ∷ 83 ∷ 84 ∷ 85 ∷ 86 ∷ 87 ∷ 88 ∷ 89 ∷ 90 ∷ []) × (marks ≡ 0 ∷ 13 ∷ 48 ∷ 49 ∷ 50 ∷ 51 ∷ 52 ∷ 53 ∷ 54 ∷ 55 ∷ 56 ∷ 57 ∷ 46 ∷ 44 ∷ 33 ∷ 63 ∷ 95 ∷ 35 ∷ 39 ∷ 34 ∷ 47 ∷ 92 ∷ 45 ∷ 58 ∷ 40 ∷ 41 ∷ [])
+unfolding small_letters capital_letters marks
+whole_alphabets = (refl, refl, refl)
+
 -- ---- pieces
 
 banks : (abbreviated 1 (0 ∷ []) ≡ record { piece = Some (Abbreviation 0); more = 1 }) × (abbreviated 2 (5 ∷ 9 ∷ []) ≡ record { piece = Some (Abbreviation 37); more = 1 }) × (abbreviated 3 (31 ∷ []) ≡ record { piece = Some (Abbreviation 95); more = 1 }) × (abbreviated 3 [] ≡ dropped)

@@ -37,6 +37,9 @@ at_the_end = (refl, refl)
 defined : (is_defined Div 0 ≡ false) × (is_defined Mod 0 ≡ false) × (is_defined Div 1 ≡ true) × (is_defined Mod 0xFFFF ≡ true) × (is_defined Mul 0 ≡ true) × (is_defined And 0 ≡ true)
 defined = (refl, refl, refl, refl, refl, refl)
 
+defined_always : (is_defined Add 0 ≡ true) × (is_defined Sub 0 ≡ true) × (is_defined Or 0 ≡ true)
+defined_always = (refl, refl, refl)
+
 bits : (apply Or 0xF0F0 0x0FF0 ≡ 0xFFF0) × (apply And 0xF0F0 0x0FF0 ≡ 0x00F0)
 bits = (refl, refl)
 

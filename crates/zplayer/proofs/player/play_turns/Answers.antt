@@ -51,6 +51,12 @@ returns-in_err-stop-clause-finished g c =
           (subst (λ (m : Setting). Plays m c.turns.left c.turn.new.left (g.M.Machine.state c.turns.machine) (g.M.Machine.state c.turn.new.machine) (g.W.Sink.contents c.turns.writer) (g.W.Sink.contents c.turn.new.writer)) same (c.in_err-stop.ensures.finished (search rules))),
     )
 
+pub returns-in_err-stop-clause-wanted : goal.returns-in_err-stop-clause-wanted
+returns-in_err-stop-clause-wanted g c =
+    let same = g.met.M.Machine.same_setting _ _ c.turns.invariant.play in
+    let ff = c.from_residual.ensures in
+    λ e. subst (λ (m : Setting). g.M.Machine.Wants m (g.M.Machine.state c.turn.new.machine)) same (c.in_err-stop.ensures.wanted (search rules))
+
 pub returns-in-Some-clause-play : goal.returns-in-Some-clause-play
 returns-in-Some-clause-play g c = g.met.M.Machine.through _ _ _ c.turns.invariant.play c.in_ok-stop.ensures.play
 
