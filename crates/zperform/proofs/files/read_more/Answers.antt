@@ -1,4 +1,4 @@
-use Rattle.std.proofs.Common.{rules, arith}
+use Rattle.std.proofs.Common.{rules}
 use Rattle.zperform.proofs.FileLemmas.{beginning_more}
 use Rattle.zperform.proofs.files.read_more.Goals as goal
 

@@ -1,7 +1,7 @@
-use Rattle.std.proofs.Common.{◌≡◌, Err, ap, rules}
+use Rattle.std.proofs.Common.{◌≡◌, Err, ap}
 use Rattle.zplayer.specs.declared.end.PlayError.TheVariants as errors
 use Rattle.zperform.specs.Report.{problem_of_play}
-use Rattle.zperform.proofs.SessionLemmas.{as_write, broken, handed_on, played, unopened}
+use Rattle.zperform.proofs.SessionLemmas.{as_write, broken, handed_on}
 use Rattle.zperform.proofs.performing.play_accepted.Goals as goal
 
 pub returns-in_err-play_story-clause-comes : goal.returns-in_err-play_story-clause-comes
