@@ -1,5 +1,5 @@
 -- Values of the definitions, computed.
-use Rattle.std.proofs.Common.{◌≡◌, ℕ, List, [], ◌∷◌, ◌++◌, length, replicate, refl, arith, lit≤}
+use Rattle.std.proofs.Common.{◌≡◌, ℕ, List, [], ◌∷◌, length, replicate, refl, arith, lit≤}
 use Rattle.zframe.specs.Frames.{Frame, Chain, frames, first_frame, opening, with_local, pushed, popped, with_top, begun, entered, left}
 use Rattle.zframe.specs.Packed.{frame_at, callers_at, chain_at, spelled, Fits, IsHeld}
 
