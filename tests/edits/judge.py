@@ -170,17 +170,29 @@ def in_rounds(crate, edits, kept):
                 taken |= edit.places
         well, hidden = judge_round(crate, chosen, kept)
         refused += [edit for edit in chosen if edit.name in well]
-        if not well:
+        if len(hidden) == len(chosen):
             return refused, alone + left
         alone += [edit for edit in chosen if edit.name not in well | hidden]
         left = [edit for edit in left if edit not in chosen or edit.name in hidden]
     return refused, alone
 
 
-def judge_alone(crate, path, kept):
-    """An edit by itself, over the whole crate, by the kit's own rules: whether it is refused at a contract, and what is said."""
+def is_refused_alone(crate, edit, kept):
+    """Whether an edit by itself keeps its functions from being proved, by more than a name in a proof file."""
+    said = check(crate, planted(crate, [edit]), edit.places, kept)
+    told = re.findall(r"(?m)^(?:note: )?\S+:\d+:\d+: (?:error: |it is not proved)(.*)$", said)
+    lines = [line_of(place, said)[1] for place in edit.places]
+    is_unproved = any(line.startswith(("no proof: ", "not proved")) for line in lines)
+    return bool(re.search(r"(?m)^only=", said)) and is_unproved and any(not OF_NAMES.search(it) for it in told)
+
+
+def judge_alone(crate, edit, path, kept):
+    """An edit by itself, and where its functions are proved over the whole crate, by the kit's own rules: whether it is refused at a
+    contract, and what is said."""
+    if edit.is_within_functions() and is_refused_alone(crate, edit, kept):
+        return True, ""
     refused, text = RT.must_fail(crate, path, ["--jobs", "1"], kept)
-    return refused and "only because a proof file names" not in text, text
+    return refused and "only because a proof file names" not in text, f": {text}"
 
 
 def judge(crate, folder):
@@ -202,8 +214,8 @@ def judge(crate, folder):
         refused, alone = in_rounds(crate, [edit for edit in good if edit.is_within_functions()], kept)
         told += [(edit.name, True, "refused") for edit in refused]
         for edit in [*alone, *(it for it in good if not it.is_within_functions())]:
-            well, text = judge_alone(crate, f"{where}/{edit.name}.edit", kept)
-            told.append((edit.name, well, f"{'refused' if well else 'NOT REFUSED'}, alone: {text}"))
+            well, text = judge_alone(crate, edit, f"{where}/{edit.name}.edit", kept)
+            told.append((edit.name, well, f"{'refused' if well else 'NOT REFUSED'}, alone{text}"))
     return sorted(told)
 
 
