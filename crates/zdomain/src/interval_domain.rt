@@ -36,7 +36,8 @@ impl Domain for Interval {
     }
 
     fn member(self) -> u16 {
-        self.lo.cast_unsigned()
+        let least = self.lo;
+        least.cast_unsigned()
     }
 
     fn known(self) -> Option<u16> {
