@@ -1,0 +1,4 @@
+pub mod Position
+pub mod Deed
+pub mod View
+pub mod Table

@@ -1,0 +1,10 @@
+//! The session's board: a state on which steps are made without a test, over packed frames and decoded rows.
+#![tactic(auto)]
+
+mod board;
+mod giving;
+mod place;
+mod row;
+
+pub use board::Board;
+pub use row::{Action, Row, Slot};
