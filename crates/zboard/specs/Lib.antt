@@ -2,3 +2,4 @@ pub mod Position
 pub mod Deed
 pub mod View
 pub mod Table
+pub mod Met

@@ -2,9 +2,12 @@
 
 ghost use Rattle.std.specs.Prelude.{◌≡◌, ◌<◌, ◌++◌, IsOk, OnOk, OnErr, length, map};
 ghost use Rattle.zfault.specs.declared.item.Item.TheVariants.{Text};
-ghost use Rattle.ztext.specs.Output.{output_at};
+ghost use Rattle.std.specs.Fmt.{signed_decimal};
+ghost use Rattle.zword.specs.Binary.{signed};
+ghost use Rattle.ztext.specs.Output.{output_at, output_of_code};
 ghost use Rattle.zboard.specs.Deed.{bytes_in};
 
+use itoa::Buffer;
 use std::alloc::AllocError;
 use zfault::Item;
 use ztext::{TextError, decode_into};
@@ -40,4 +43,29 @@ pub(crate) fn give_text(items: &mut Vec<Item>, bytes: &[u8]) -> Result<(), Alloc
         items.push_reserved(Item::Text(*byte));
     }
     Ok(())
+}
+
+/// Gives out the character of a code.
+pub(crate) fn give_character(code: u16, items: &mut Vec<Item>) -> Result<(), AllocError>
+    ensures ok { OnOk result (items.new.items ≡ items.old.items ++ map Text (output_of_code code)) }
+    ensures err { OnErr result (0 < length (output_of_code code)) }
+    ensures kept { OnErr result (items.new.items ≡ items.old.items) }
+{
+    match code {
+        0 => Ok(()),
+        13 => give_text(items, b"\n"),
+        32..=126 => give_text(items, &[code as u8]),
+        _ => give_text(items, b"?"),
+    }
+}
+
+/// Gives out a word as a signed number in decimals.
+pub(crate) fn give_number(word: u16, items: &mut Vec<Item>) -> Result<(), AllocError>
+    ensures ok { OnOk result (items.new.items ≡ items.old.items ++ map Text (signed_decimal (signed word))) }
+    ensures err { OnErr result (0 < length (signed_decimal (signed word))) }
+    ensures kept { OnErr result (items.new.items ≡ items.old.items) }
+{
+    let mut buffer = Buffer::new();
+    let digits = buffer.format(word.cast_signed());
+    give_text(items, digits.as_bytes())
 }

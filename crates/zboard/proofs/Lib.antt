@@ -1,0 +1,4 @@
+pub mod SlotLemmas
+pub mod Landing
+pub mod StepLemmas
+pub mod Families
