@@ -2,3 +2,4 @@ pub mod SlotLemmas
 pub mod Landing
 pub mod StepLemmas
 pub mod Families
+pub mod Quiet
