@@ -3,3 +3,4 @@ pub mod Landing
 pub mod StepLemmas
 pub mod Families
 pub mod Quiet
+pub mod Stepped

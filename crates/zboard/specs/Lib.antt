@@ -3,3 +3,4 @@ pub mod Deed
 pub mod View
 pub mod Table
 pub mod Met
+pub mod Play
