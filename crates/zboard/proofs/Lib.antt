@@ -4,3 +4,5 @@ pub mod StepLemmas
 pub mod Families
 pub mod Quiet
 pub mod Stepped
+pub mod Inside
+pub mod Playing

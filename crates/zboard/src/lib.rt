@@ -5,6 +5,8 @@ mod board;
 mod giving;
 mod place;
 mod row;
+mod running;
 
 pub use board::Board;
 pub use row::{Action, Row, Slot};
+pub use running::{Played, play};
