@@ -6,6 +6,7 @@ mod giving;
 mod place;
 mod row;
 mod running;
+mod table;
 
 pub use board::Board;
 pub use row::{Action, Row, Slot};
