@@ -6,3 +6,4 @@ pub mod Quiet
 pub mod Stepped
 pub mod Inside
 pub mod Playing
+pub mod Rows

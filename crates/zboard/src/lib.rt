@@ -11,3 +11,4 @@ mod table;
 pub use board::Board;
 pub use row::{Action, Row, Slot};
 pub use running::{Played, play};
+pub use table::row_of;
