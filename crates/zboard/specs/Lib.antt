@@ -1,0 +1,6 @@
+pub mod Position
+pub mod Deed
+pub mod View
+pub mod Table
+pub mod Met
+pub mod Play

@@ -1,0 +1,71 @@
+//! What rows print.
+
+ghost use Rattle.std.specs.Prelude.{◌≡◌, ◌<◌, ◌++◌, IsOk, OnOk, OnErr, length, map};
+ghost use Rattle.zfault.specs.declared.item.Item.TheVariants.{Text};
+ghost use Rattle.std.specs.Fmt.{signed_decimal};
+ghost use Rattle.zword.specs.Binary.{signed};
+ghost use Rattle.ztext.specs.Output.{output_at, output_of_code};
+ghost use Rattle.zboard.specs.Deed.{bytes_in};
+
+use itoa::Buffer;
+use std::alloc::AllocError;
+use zfault::Item;
+use ztext::{TextError, decode_into};
+
+/// Gives out the text at a place, all or none. Only a text that prints something can be refused memory.
+pub(crate) fn give_decoded(
+    memory: &[u8],
+    at: usize,
+    text: &mut Vec<u8>,
+    items: &mut Vec<Item>,
+) -> Result<(), AllocError>
+    requires { IsOk (output_at memory.now at) }
+    ensures ok { OnOk result (items.new.items ≡ items.old.items ++ map Text (bytes_in (output_at memory.now at))) }
+    ensures err { OnErr result (0 < length (bytes_in (output_at memory.now at))) }
+    ensures kept { OnErr result (items.new.items ≡ items.old.items) }
+{
+    text.clear();
+    match decode_into(memory, at, text) {
+        Ok(_) => give_text(items, text.as_slice()),
+        Err(TextError::OutOfMemory) => Err(AllocError),
+        Err(_) => unreachable!(),
+    }
+}
+
+/// Gives out bytes of text, all or none.
+pub(crate) fn give_text(items: &mut Vec<Item>, bytes: &[u8]) -> Result<(), AllocError>
+    ensures ok { OnOk result (items.new.items ≡ items.old.items ++ map Text bytes.now) }
+    ensures err { OnErr result (0 < length bytes.now) }
+    ensures kept { OnErr result (items.new.items ≡ items.old.items) }
+{
+    items.reserve(bytes.len())?;
+    for byte in bytes {
+        items.push_reserved(Item::Text(*byte));
+    }
+    Ok(())
+}
+
+/// Gives out the character of a code.
+pub(crate) fn give_character(code: u16, items: &mut Vec<Item>) -> Result<(), AllocError>
+    ensures ok { OnOk result (items.new.items ≡ items.old.items ++ map Text (output_of_code code)) }
+    ensures err { OnErr result (0 < length (output_of_code code)) }
+    ensures kept { OnErr result (items.new.items ≡ items.old.items) }
+{
+    match code {
+        0 => Ok(()),
+        13 => give_text(items, b"\n"),
+        32..=126 => give_text(items, &[code as u8]),
+        _ => give_text(items, b"?"),
+    }
+}
+
+/// Gives out a word as a signed number in decimals.
+pub(crate) fn give_number(word: u16, items: &mut Vec<Item>) -> Result<(), AllocError>
+    ensures ok { OnOk result (items.new.items ≡ items.old.items ++ map Text (signed_decimal (signed word))) }
+    ensures err { OnErr result (0 < length (signed_decimal (signed word))) }
+    ensures kept { OnErr result (items.new.items ≡ items.old.items) }
+{
+    let mut buffer = Buffer::new();
+    let digits = buffer.format(word.cast_signed());
+    give_text(items, digits.as_bytes())
+}
