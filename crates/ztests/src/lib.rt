@@ -8,4 +8,6 @@ mod codes;
 #[cfg(test)]
 mod faults;
 #[cfg(test)]
+mod frames;
+#[cfg(test)]
 mod listings;
