@@ -5,7 +5,6 @@
 """
 import os
 import re
-import subprocess
 import sys
 
 TOP = os.path.join(os.path.dirname(os.path.abspath(__file__)), "..")
@@ -17,8 +16,12 @@ def text_of(path):
 
 
 def files(pattern):
-    listed = subprocess.run(["git", "ls-files", "--cached", "--others", "--exclude-standard"], cwd=TOP, capture_output=True, text=True, check=True)
-    return [it for it in listed.stdout.split("\n") if re.search(pattern, it) and os.path.exists(os.path.join(TOP, it))]
+    """The repository's files whose paths are of this form. What is made, in out/, isn't among them."""
+    found = []
+    for at, folders, names in os.walk(TOP):
+        folders[:] = sorted(it for it in folders if it not in ("out", ".git", "__pycache__"))
+        found += [os.path.relpath(os.path.join(at, name), TOP) for name in names]
+    return [it for it in found if re.search(pattern, it)]
 
 
 def sections(text, mark):
