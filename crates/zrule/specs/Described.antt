@@ -1,5 +1,5 @@
 -- When claims describe a state (own).
-use Rattle.std.specs.Prelude.{◌≡◌, ℕ, ◌-◌, ◌≤◌, true, List, [], ◌∷◌, length, Some, MatchOption, Result, Ok, Err, pos, slice_get, slice_set, ◌==◌, nat_lt}
+use Rattle.std.specs.Prelude.{◌≡◌, ℕ, ◌-◌, ◌<◌, ◌≤◌, true, List, [], ◌∷◌, length, Some, MatchOption, Result, Ok, Err, pos, slice_get, slice_set, ◌==◌, nat_lt}
 use Rattle.std.specs.Bool.{MatchBool}
 use Rattle.std.specs.List.{AllZip}
 use Rattle.zstory.specs.Bytes.{byte_at}
@@ -7,7 +7,7 @@ use Rattle.zstory.specs.LoadedStory.{LoadedStory}
 use Rattle.zdomain.specs.Domain.{SetOperations, In}
 use Rattle.zstate.specs.declared.halt.Halt.{Halt}
 use Rattle.zstate.specs.declared.halt.Halt.TheVariants as halts
-use Rattle.zstate.specs.State.{Frame, State, Scope, Setting, IsState, opening, scope_all, usual_limit}
+use Rattle.zstate.specs.State.{Frame, State, Scope, Setting, IsState, opening, scope_all}
 use Rattle.zstate.specs.Step.{Done, step}
 use Rattle.zstate.specs.Run.{run}
 use Rattle.zstate.specs.declared.halt.Stop.{Stop}
@@ -30,7 +30,7 @@ module _ {V : Type 0} (o : SetOperations V) (claims : Claims V) where
   FitsWith v x e g =
       MatchBool (v == 0) (Fits e g.locals (x ∷ g.stack))
       (MatchBool (nat_lt v 16) ((v ≤ length g.locals) × Fits e (slice_set g.locals (v - 1) x) g.stack)
-      (MatchOption (slice_get claims.globals (v - 16)) ⊥ (λ values. In o values x) × Fits e g.locals g.stack))
+      ((v < 256) × MatchOption (slice_get claims.globals (v - 16)) ⊥ (λ values. In o values x) × Fits e g.locals g.stack))
 
   -- each caller, whatever the routine above it may give; the main code alone was called by nothing
   abbrev pub Callers : ℕ → ℕ → ℕ → List Frame → Type 0
@@ -39,24 +39,30 @@ module _ {V : Type 0} (o : SetOperations V) (claims : Claims V) where
       (1 ≤ routine) × (e : Entry V) × (claims.entry return_place ≡ Some e)
       × ((x : ℕ) → In o (claims.result routine) x → FitsWith result x e.shape g) × Callers e.routine g.return_place g.result gs
 
-  pub record Described (story : LoadedStory) (s : State) : Type 0 where
-    pub is_state : IsState usual_limit story s
+  -- what is said of every memory of a play
+  pub record DescribedMemory (story : LoadedStory) (memory : List ℕ) : Type 0 where
+    pub long : length memory ≡ length story.memory
+    pub values : HasGlobals o claims story memory
+    pub fixed : (p : ℕ) → IsFixed story claims.is_frozen p → byte_at memory p ≡ byte_at story.memory p
+
+  -- a state with at most so many frames above the first
+  pub record Described (limit : ℕ) (story : LoadedStory) (s : State) : Type 0 where
+    pub is_state : IsState limit story s
     pub at : ℕ
     pub place : s.place ≡ pos at
     pub entry : Entry V
     pub listed : claims.entry at ≡ Some entry
     pub fits : Fits entry.shape s.frame.locals s.frame.stack
     pub callers : Callers entry.routine s.frame.return_place s.frame.result s.callers
-    pub values : HasGlobals o claims story s.memory
-    pub fixed : (p : ℕ) → IsFixed story claims.is_frozen p → byte_at s.memory p ≡ byte_at story.memory p
+    pub memory : DescribedMemory story s.memory
 
   -- no fault, and what comes next is described
-  abbrev pub IsSafe : LoadedStory → Result Done Halt → Type 0
-  IsSafe story (Ok d) = Described story d.state
-  IsSafe story (Err (halts.Fault f)) = ⊥
-  IsSafe story (Err (halts.Need n)) = Unit {0}
-  IsSafe story (Err halts.Quit) = Unit {0}
-  IsSafe story (Err halts.FrameLimit) = Unit {0}
+  abbrev pub IsSafe : ℕ → LoadedStory → Result Done Halt → Type 0
+  IsSafe limit story (Ok d) = Described limit story d.state
+  IsSafe limit story (Err (halts.Fault f)) = ⊥
+  IsSafe limit story (Err (halts.Need n)) = Unit {0}
+  IsSafe limit story (Err halts.Quit) = Unit {0}
+  IsSafe limit story (Err halts.FrameLimit) = Unit {0}
 
   -- every listed place may be played there
   abbrev pub IsListedIn : Scope → Type 0
@@ -75,18 +81,18 @@ pub record IsLoadedStory (story : LoadedStory) : Type 0 where
   pub counted : IsObjectCount story.memory story.objects
 
 module _ {V : Type 0} (o : SetOperations V) (claims : Claims V) where
-  -- the opening state is described
+  -- the opening state is described, however many frames there may be
   abbrev pub OpensDescribed : Type 0
-  OpensDescribed = (story : LoadedStory) → Supports o claims story → Described o claims story (opening story)
+  OpensDescribed = (story : LoadedStory) (limit : ℕ) → Supports o claims story → Described o claims limit story (opening story)
 
   -- a step from a described state is no fault, and leads to a described state
   abbrev pub StepsSafely : Type 0
-  StepsSafely = (m : Setting) (s : State) → IsLoadedStory m.story → Supports o claims m.story → IsListedIn o claims m.scope → Described o claims m.story s → IsSafe o claims m.story (step m s)
+  StepsSafely = (m : Setting) (s : State) → IsLoadedStory m.story → Supports o claims m.story → IsListedIn o claims m.scope → Described o claims m.limit m.story s → IsSafe o claims m.limit m.story (step m s)
 
   -- a run from a described state stops with no fault, in a described state, whatever the events and the number of steps
   abbrev pub RunsSafely : Type 0
-  RunsSafely = (m : Setting) (events : List Event) (n : ℕ) (s : State) → IsLoadedStory m.story → Supports o claims m.story → IsListedIn o claims m.scope → Described o claims m.story s → IsNoFault (run m events n s).stop × Described o claims m.story (run m events n s).state
+  RunsSafely = (m : Setting) (events : List Event) (n : ℕ) (s : State) → IsLoadedStory m.story → Supports o claims m.story → IsListedIn o claims m.scope → Described o claims m.limit m.story s → IsNoFault (run m events n s).stop × Described o claims m.limit m.story (run m events n s).state
 
-  -- a story of which the claims hold never faults, where every place of it may be played
+  -- a story of which the claims hold never faults, where every place of it may be played, however many frames there may be
   abbrev pub NeverFaults : Type 0
-  NeverFaults = (story : LoadedStory) (events : List Event) (n : ℕ) → IsLoadedStory story → Supports o claims story → IsNoFault (run (record { story = story; scope = scope_all story; limit = usual_limit }) events n (opening story)).stop
+  NeverFaults = (story : LoadedStory) (limit : ℕ) (events : List Event) (n : ℕ) → IsLoadedStory story → Supports o claims story → IsNoFault (run (record { story = story; scope = scope_all story; limit = limit }) events n (opening story)).stop

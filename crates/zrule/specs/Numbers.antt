@@ -6,5 +6,11 @@ use Rattle.zrule.specs.declared.rule.Rule.TheVariants as rules
 abbrev pub number_of : Rule → ℕ
 number_of rules.Decodes = 1
 number_of rules.Height = 2
+number_of rules.Local = 3
 number_of rules.Successor = 4
+number_of rules.Divisor = 8
 number_of rules.Text = 11
+number_of rules.Returned = 13
+number_of rules.Known = 15
+number_of rules.Stored = 16
+number_of rules.High = 17

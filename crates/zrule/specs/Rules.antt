@@ -1,17 +1,15 @@
 -- What a certificate must say of a story: sentences over its claims (own). A rule has the number that a refusal shows.
-use Rattle.std.specs.Prelude.{◌≡◌, ℕ, ◌+◌, ◌*◌, ◌<◌, ◌≤◌, Bool, true, false, List, [], length, drop, filter, Some, Ok, slice_get, ◌==◌}
-use Rattle.std.specs.Bool.{OnTrue}
-use Rattle.std.specs.List.{AllZip}
+use Rattle.std.specs.Prelude.{◌≡◌, ℕ, ◌+◌, ◌-◌, ◌*◌, ◌<◌, ◌≤◌, Bool, true, List, [], length, drop, take, Option, Some, None, IfSome, MatchOption, IsTrue, is_some, Ok, slice_get, ◌==◌, nat_lt, pos, ◌+ℤ◌}
+use Rattle.std.specs.Bool.{OnTrue, MatchBool}
+use Rattle.std.specs.List.{AllZip, AllByRecursion}
 use Rattle.zstory.specs.Bytes.{word_at}
 use Rattle.zstory.specs.LoadedStory.{LoadedStory, first_instruction, globals, object_table, static_base}
 use Rattle.ztext.specs.Words.{text_at}
 use Rattle.ztext.specs.Abbreviations.{IsPlainAbbreviation}
-use Rattle.zcode.specs.declared.opcode.Opcode.{Opcode}
-use Rattle.zcode.specs.declared.opcode.Opcode.TheVariants.{Quit}
-use Rattle.zcode.specs.Opcodes.{prints_text}
 use Rattle.zcode.specs.declared.instr.Operand.{Operand}
 use Rattle.zcode.specs.declared.instr.Operand.TheVariants.{Constant, Variable}
 use Rattle.zcode.specs.Instruction.{Instruction}
+use Rattle.zcode.specs.Operation.{operation_of, inputs, target}
 use Rattle.zcode.specs.Reading.{instruction_at}
 use Rattle.zdomain.specs.Domain.{SetOperations, In, Within}
 use Rattle.zrule.specs.declared.rule.Rule.{Rule}
@@ -19,6 +17,7 @@ use Rattle.zrule.specs.declared.rule.Rule.TheVariants as rules
 use Rattle.zrule.specs.Numbers.{number_of}
 use Rattle.zrule.specs.Claims.{Shape, Entry, Claims}
 use Rattle.zrule.specs.Bytes.{IsWithin, IsChanging, IsFixed, IsAbbreviation}
+use Rattle.zrule.specs.Transfer.{pops, below, operand_set, Demands, demands_if, Lead, ahead, returning, Outcome, Outcomes, leading, with_result, with_assigned, narrowed}
 
 -- ---- rules on the story
 
@@ -45,24 +44,6 @@ pub record IsThere (story : LoadedStory) (p : ℕ) (i : Instruction) : Type 0 wh
   pub static : static_base story ≤ p
   pub decodes : instruction_at (drop p story.memory) ≡ Ok i
 
--- reading the operand takes a word off the stack
-abbrev pub takes_slot : Operand → Bool
-takes_slot (Constant n) = false
-takes_slot (Variable v) = v == 0
-
--- how many words operands take off the stack
-abbrev pub pops : List Operand → ℕ
-pops operands = length (filter takes_slot operands)
-
--- the shape without its topmost slots
-abbrev pub below : {V : Type 0} → ℕ → Shape V → Shape V
-below n e = record { locals = e.locals; slots = drop n e.slots }
-
--- an instruction after which the next one comes
-abbrev pub goes_on : Opcode → Bool
-goes_on Quit = false
-goes_on _ = true
-
 -- a text is whole in memory, and no byte of it is ever changed
 pub record HasFixedText (story : LoadedStory) (is_frozen : ℕ → Bool) (at : ℕ) : Type 0 where
   pub text : List ℕ
@@ -87,6 +68,50 @@ module _ {V : Type 0} (o : SetOperations V) (claims : Claims V) where
   abbrev pub HasGlobals : LoadedStory → List ℕ → Type 0
   HasGlobals story memory = (k : ℕ) (values : V) → slice_get claims.globals k ≡ Some values → In o values (global_in story memory k)
 
+  -- ---- what is known after an instruction
+
+  -- the sets of what an instruction reads
+  abbrev pub read_set : Instruction → Shape V → ℕ → V
+  read_set i e = operand_set o claims (inputs i) e
+
+  -- what is known once that was read
+  abbrev pub mid_shape : Instruction → Shape V → Shape V
+  mid_shape i e = below (pops (inputs i)) e
+
+  abbrev pub demands_at : Instruction → Shape V → Demands V
+  demands_at i e = demands_if o (operation_of i.opcode) (read_set i e)
+
+  abbrev pub Comes : Instruction → Shape V → Outcome V → Type 0
+  Comes i e w = Outcomes o claims (operation_of i.opcode) (inputs i) (read_set i e) (mid_shape i e) w
+
+  -- what is known after the instruction came to this, before what a branch says of locals
+  abbrev pub changed_by : Outcome V → Instruction → Shape V → Shape V
+  changed_by w i e = with_result w.gives (target i) (with_assigned w.assigns (mid_shape i e))
+
+  -- ---- words of the rules
+
+  -- a variable exists
+  abbrev pub IsVariable : Shape V → ℕ → Type 0
+  IsVariable e v = MatchBool (v == 0) (Unit {0}) (MatchBool (nat_lt v 16) (v ≤ length e.locals) ((v < 256) × (v - 16 < length claims.globals)))
+
+  -- an operand is a word or names a variable that exists
+  abbrev pub IsNamed : Shape V → Operand → Type 0
+  IsNamed e (Constant n) = n < 65536
+  IsNamed e (Variable v) = IsVariable e v
+
+  -- the stack is used in place only where it has something
+  abbrev pub HasTop : Shape V → ℕ → Type 0
+  HasTop e v = MatchBool (v == 0) (0 < length e.slots) (Unit {0})
+
+  -- what is given to a global lies in its set
+  abbrev pub Takes : Option V → ℕ → Type 0
+  Takes None v = Unit {0}
+  Takes (Some x) v = MatchBool (nat_lt v 16) (Unit {0}) (MatchOption (slice_get claims.globals (v - 16)) ⊥ (Within o x))
+
+  abbrev pub TakesInPlace : Option (ℕ × V) → Type 0
+  TakesInPlace None = Unit {0}
+  TakesInPlace (Some p) = Takes (Some p.1) p.0
+
   -- an edge leads to a listed place of the same routine that covers what is known
   pub record Leads (routine : ℕ) (shape : Shape V) (to : ℕ) : Type 0 where
     pub entry : Entry V
@@ -94,16 +119,63 @@ module _ {V : Type 0} (o : SetOperations V) (claims : Claims V) where
     pub same : entry.routine ≡ routine
     pub covered : Covers o shape entry.shape
 
-  -- the rules on a listed place
+  -- what comes after leads on, in front of a place; a return leads to no place of its own
+  abbrev pub GoesOn : ℕ → Shape V → ℕ → Lead V → Type 0
+  GoesOn routine shape q (ahead d) = (to : ℕ) × (pos q +ℤ d ≡ pos to) × Leads routine shape to
+  GoesOn routine shape q (returning a) = Unit {0}
+
+  -- a routine returns what it may, and the main code nothing
+  abbrev pub Returns : ℕ → Lead V → Type 0
+  Returns routine (returning a) = (1 ≤ routine) × Within o a (claims.result routine)
+  Returns routine (ahead d) = Unit {0}
+
+  -- whatever may come of an instruction
+  abbrev pub Whatever : Instruction → Shape V → (Outcome V → Type 0) → Type 0
+  Whatever i e Rule = (w : Outcome V) → Comes i e w → Rule w
+
+  -- where locals can have what a branch says of them
+  abbrev pub OnEdge : Outcome V → Instruction → Shape V → (Shape V → Type 0) → Type 0
+  OnEdge w i e Rule = IfSome (narrowed o w.kept (changed_by w i e)) Rule
+
+  -- its stack stays low
+  abbrev pub IsLow : Instruction → Shape V → Outcome V → Type 0
+  IsLow i e w = OnEdge w i e (λ f. length f.slots ≤ 64)
+
+  -- the first operand has a value
+  abbrev pub FirstThere : Instruction → Shape V → Type 0
+  FirstThere i e = (pops (take 1 (inputs i)) ≤ length e.slots) × IfSome (slice_get (inputs i) 0) (IsNamed e)
+
+  -- a variable that an operand names is known
+  abbrev pub IsKnown : Instruction → Shape V → Type 0
+  IsKnown i e = OnTrue (demands_at i e).indirect (FirstThere i e → IsTrue (is_some (demands_at i e).variable))
+
+  -- nothing is divided by 0
+  abbrev pub Divides : Instruction → Shape V → Type 0
+  Divides i e = IfSome (demands_at i e).divisor (λ a. In o a 0 → ⊥)
+
+  -- ---- the rules on a listed place
+
   abbrev pub Keeps : LoadedStory → ℕ → Entry V → Rule → Type 0
   -- I1: an instruction is there
   Keeps story p e rules.Decodes = (i : Instruction) × IsThere story p i
-  -- I2: every pop finds a slot
-  Keeps story p e rules.Height = (i : Instruction) → IsThere story p i → pops i.operands ≤ length e.shape.slots
-  -- I4: each edge that can be taken leads on
-  Keeps story p e rules.Successor = (i : Instruction) → IsThere story p i → OnTrue (goes_on i.opcode) (Leads e.routine (below (pops i.operands) e.shape) (p + i.size))
+  -- I2: every pop and every use in place finds a slot
+  Keeps story p e rules.Height = (i : Instruction) → IsThere story p i → IsKnown i e.shape → (pops (inputs i) ≤ length e.shape.slots) × IfSome (demands_at i e.shape).variable (HasTop (mid_shape i e.shape))
+  -- I3: every variable that is named exists
+  Keeps story p e rules.Local = (i : Instruction) → IsThere story p i → IsKnown i e.shape → AllByRecursion (IsNamed e.shape) (inputs i) × IsVariable e.shape (target i) × IfSome (demands_at i e.shape).variable (IsVariable e.shape)
+  -- I4: each edge that can be taken leads on, and it is known how far a jump goes
+  Keeps story p e rules.Successor = (i : Instruction) → IsThere story p i → Divides i e.shape → IsTrue (demands_at i e.shape).certain × Whatever i e.shape (λ w. IsLow i e.shape w → OnEdge w i e.shape (λ f. GoesOn e.routine f (p + i.size) (leading o w i.branch)))
+  -- I8: nothing is divided by 0
+  Keeps story p e rules.Divisor = (i : Instruction) → IsThere story p i → Divides i e.shape
   -- I11: the text behind the opcode byte stays as it is
-  Keeps story p e rules.Text = (i : Instruction) → IsThere story p i → OnTrue (prints_text i.opcode) (HasFixedText story claims.is_frozen (p + 1))
+  Keeps story p e rules.Text = (i : Instruction) → IsThere story p i → OnTrue (demands_at i e.shape).has_text (HasFixedText story claims.is_frozen (p + 1))
+  -- I13: what is returned lies in the set of the routine
+  Keeps story p e rules.Returned = (i : Instruction) → IsThere story p i → Whatever i e.shape (λ w. OnEdge w i e.shape (λ f. Returns e.routine (leading o w i.branch)))
+  -- I15: a variable that an operand names is known
+  Keeps story p e rules.Known = (i : Instruction) → IsThere story p i → IsKnown i e.shape
+  -- I16: what is given to a global lies in its set
+  Keeps story p e rules.Stored = (i : Instruction) → IsThere story p i → Whatever i e.shape (λ w. Takes w.gives (target i) × TakesInPlace w.assigns)
+  -- I17: the stack stays low
+  Keeps story p e rules.High = (i : Instruction) → IsThere story p i → Whatever i e.shape (IsLow i e.shape)
 
   -- the rule is broken at a listed place, and none with a lower number is
   pub record IsLowestBroken (story : LoadedStory) (p : ℕ) (e : Entry V) (rule : Rule) : Type 0 where
@@ -114,6 +186,8 @@ module _ {V : Type 0} (o : SetOperations V) (claims : Claims V) where
   pub record Supports (story : LoadedStory) : Type 0 where
     pub first : HasFirstPlace story
     pub values : HasGlobals story story.memory
+    -- as the format says, no stack is above 64
+    pub low : (p : ℕ) (e : Entry V) → claims.entry p ≡ Some e → length e.shape.slots ≤ 64
     pub abbreviations : HasAbbreviations story
     pub tables : HasDisjointTables story claims.is_frozen
     pub each : (p : ℕ) (e : Entry V) → claims.entry p ≡ Some e → (rule : Rule) → Keeps story p e rule

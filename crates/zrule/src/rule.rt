@@ -5,13 +5,25 @@
 pub enum Rule {
     /// I1: it decodes, and begins at or above the base of static memory.
     Decodes,
-    /// I2: every pop finds an item.
+    /// I2: every pop, and every use of the stack in place, finds an item.
     Height,
+    /// I3: every local that is named exists.
+    Local,
     /// I4: each edge that can be taken leads to a listed place of the same routine, of equal height, whose sets contain
-    /// those after the instruction.
+    /// those after the instruction; a jump goes one known way.
     Successor,
+    /// I8: no value by which it divides is 0.
+    Divisor,
     /// I11: a text that it prints ends in memory, and no play changes a byte of it.
     Text,
+    /// I13: it returns from no main code, and what it returns lies in the set of its routine.
+    Returned,
+    /// I15: a variable that an operand names is one known variable.
+    Known,
+    /// I16: what it stores to a global lies in that global's set.
+    Stored,
+    /// I17: no edge has a stack higher than 64.
+    High,
 }
 
 impl Rule {
@@ -25,8 +37,14 @@ impl Rule {
         match self {
             Rule::Decodes => 1,
             Rule::Height => 2,
+            Rule::Local => 3,
             Rule::Successor => 4,
+            Rule::Divisor => 8,
             Rule::Text => 11,
+            Rule::Returned => 13,
+            Rule::Known => 15,
+            Rule::Stored => 16,
+            Rule::High => 17,
         }
     }
 }

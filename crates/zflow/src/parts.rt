@@ -1,0 +1,47 @@
+//! The parts of what may come of an instruction.
+
+/// What an operation asks for, once for an instruction.
+#[derive(Clone, Copy)]
+pub struct Demands<V> {
+    /// The first operand names a variable.
+    pub indirect: bool,
+    /// And this is it, where it is known.
+    pub variable: Option<u8>,
+    /// The values by which it divides.
+    pub divisor: Option<V>,
+    /// It is known how far it jumps, if it jumps.
+    pub certain: bool,
+    /// A text stands behind the opcode byte.
+    pub has_text: bool,
+}
+
+/// Where an instruction leads.
+#[derive(Clone, Copy)]
+pub enum Lead<V> {
+    /// So many bytes behind the next instruction.
+    Ahead(i32),
+    /// Back to the caller, with a value of the set.
+    Returning(V),
+}
+
+/// What a branch says of locals, by the numbers of their variables: of at most two.
+#[derive(Clone, Copy)]
+pub struct Kept<V> {
+    pub first: Option<(u8, V)>,
+    pub second: Option<(u8, V)>,
+}
+
+/// One of the things that may come of an operation: the parts of its effect, with a set for each value.
+#[derive(Clone, Copy)]
+pub struct Outcome<V> {
+    /// The values that go to the result variable.
+    pub gives: Option<V>,
+    /// The variable that is given a value in place, and the values.
+    pub assigns: Option<(u8, V)>,
+    /// The answer of the condition.
+    pub tests: Option<bool>,
+    /// What locals are, where that is the answer.
+    pub kept: Kept<V>,
+    /// Where it leads, unless a branch is taken.
+    pub leads: Lead<V>,
+}
