@@ -10,4 +10,4 @@ mod Tails
 mod Inline
 mod Standard
 mod Worked
-mod Operating
+pub mod Operating

@@ -1,12 +1,11 @@
 pub mod Below
 pub mod Unchanged
+mod Changing
+pub mod Sets
+mod Memory
+mod Fitting
+mod Settling
+mod Parts
 pub mod Stepping
 pub mod Safety
 pub mod Runs
-mod Changing
-mod Covering
-pub mod Ordered
-mod Order
-pub mod Listed
-mod Worked
-pub mod Instances

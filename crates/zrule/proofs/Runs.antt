@@ -2,17 +2,11 @@
 use Rattle.std.proofs.Common.{◌≡◌, ℕ, zero, suc, ◌+◌, ◌<◌, Bool, true, false, List, [], ◌∷◌, length, drop, Result, Ok, Err, ap, ◌∙◌, arith, if◌then◌else◌}
 use Rattle.std.proofs.lemmas.Bool.{lt-ltb}
 use Rattle.zfault.specs.declared.event.Event.{Event}
-use Rattle.std.proofs.Common.{length-append}
-use Rattle.std.proofs.lemmas.List.{length-drop}
-use Rattle.zcode.specs.Instruction.{Instruction}
-use Rattle.zcode.specs.Playable.{playable}
-use Rattle.zcode.proofs.Found.{found, well_formed}
-use Rattle.zcode.specs.Reading.{instruction_at}
 use Rattle.zstory.specs.LoadedStory.{LoadedStory}
-use Rattle.zdomain.specs.Domain.{SetOperations}
+use Rattle.zdomain.specs.Domain.{SetOperations, AreSound}
 use Rattle.zstate.specs.declared.halt.Halt.{Halt}
 use Rattle.zstate.specs.declared.halt.Halt.TheVariants as halts
-use Rattle.zstate.specs.State.{State, Setting, opening, scope_all, usual_limit, give}
+use Rattle.zstate.specs.State.{State, Setting, opening, scope_all, give}
 use Rattle.zstate.specs.Step.{Done, step}
 use Rattle.zstate.specs.Run.{Ending, ends, stop_of, by_step, until, is_answered, run}
 use Rattle.zrule.specs.declared.rule.Rule.TheVariants as rules
@@ -20,42 +14,42 @@ use Rattle.zrule.specs.Claims.{Claims}
 use Rattle.zrule.specs.Rules.{Supports}
 use Rattle.zrule.specs.Described.{Described, IsSafe, IsListedIn, IsNoFault, IsLoadedStory}
 use Rattle.zrule.proofs.Safety.{step_safe, opening_described}
+use Rattle.zrule.proofs.Stepping.{read_within}
 
-module _ {V : Type 0} (o : SetOperations V) (claims : Claims V) (m : Setting) (loaded : IsLoadedStory m.story) (supports : Supports o claims m.story) (listed : IsListedIn o claims m.scope) where
+-- an event changes nothing that is described
+pub described_given : {V : Type 0} (o : SetOperations V) (claims : Claims V) (limit : ℕ) (story : LoadedStory) (e : Event) (s : State) → Described o claims limit story s → Described o claims limit story (give e s)
+described_given o claims limit story e s d = record {
+  is_state = record { memory = d.is_state.memory; frames = d.is_state.frames; few = d.is_state.few; count = d.is_state.count };
+  at = d.at;
+  place = d.place;
+  entry = d.entry;
+  listed = d.listed;
+  fits = record { in_locals = d.fits.in_locals; in_slots = d.fits.in_slots };
+  callers = d.callers;
+  memory = d.memory;
+}
+
+module _ {V : Type 0} (o : SetOperations V) (lawful : AreSound o) (claims : Claims V) (m : Setting) (loaded : IsLoadedStory m.story) (supports : Supports o claims m.story) (listed : IsListedIn o claims m.scope) where
   -- it stopped with no fault, in a described state
   record Fine (e : Ending) : Type 0 where
     no_fault : IsNoFault e.stop
-    described : Described o claims m.story e.state
+    described : Described o claims m.limit m.story e.state
 
-  safe : (s : State) → Described o claims m.story s → IsSafe o claims m.story (step m s)
-  safe s d = step_safe o claims m loaded.sound loaded.counted supports listed s d
-
-  -- an event changes nothing that is described
-  given : (e : Event) (s : State) → Described o claims m.story s → Described o claims m.story (give e s)
-  given e s d = record {
-    is_state = record { memory = d.is_state.memory; frames = d.is_state.frames; few = d.is_state.few; count = d.is_state.count };
-    at = d.at;
-    place = d.place;
-    entry = d.entry;
-    listed = d.listed;
-    fits = record { in_locals = d.fits.in_locals; in_slots = d.fits.in_slots };
-    callers = d.callers;
-    values = d.values;
-    fixed = d.fixed;
-  }
+  safe : (s : State) → Described o claims m.limit m.story s → IsSafe o claims m.limit m.story (step m s)
+  safe s d = step_safe o lawful claims m s loaded supports listed d
 
   -- a machine that stands still
-  stands : (h : Halt) (s : State) → IsSafe o claims m.story (Err h) → Described o claims m.story s → Fine (ends (stop_of h s) s)
+  stands : (h : Halt) (s : State) → IsSafe o claims m.limit m.story (Err h) → Described o claims m.limit m.story s → Fine (ends (stop_of h s) s)
   stands (halts.Fault f) s safe d = absurd safe
   stands (halts.Need n) s safe d = record { no_fault = tt; described = d }
   stands halts.Quit s safe d = record { no_fault = tt; described = d }
   stands halts.FrameLimit s safe d = record { no_fault = tt; described = d }
 
-  by_step_fine : (r : Result Done Halt) (made : Done → Ending) (halted : Halt → Ending) → IsSafe o claims m.story r → ((d : Done) → Described o claims m.story d.state → Fine (made d)) → ((h : Halt) → IsSafe o claims m.story (Err h) → Fine (halted h)) → Fine (by_step r made halted)
+  by_step_fine : (r : Result Done Halt) (made : Done → Ending) (halted : Halt → Ending) → IsSafe o claims m.limit m.story r → ((d : Done) → Described o claims m.limit m.story d.state → Fine (made d)) → ((h : Halt) → IsSafe o claims m.limit m.story (Err h) → Fine (halted h)) → Fine (by_step r made halted)
   by_step_fine (Ok d) made halted safe next stop = next d safe
   by_step_fine (Err h) made halted safe next stop = stop h safe
 
-  until_fine : (f : Halt → ℕ → State → Ending) → ((h : Halt) (k : ℕ) (t : State) → IsSafe o claims m.story (Err h) → Described o claims m.story t → Fine (f h k t)) → (n : ℕ) (s : State) → Described o claims m.story s → Fine (until m f n s)
+  until_fine : (f : Halt → ℕ → State → Ending) → ((h : Halt) (k : ℕ) (t : State) → IsSafe o claims m.limit m.story (Err h) → Described o claims m.limit m.story t → Fine (f h k t)) → (n : ℕ) (s : State) → Described o claims m.limit m.story s → Fine (until m f n s)
   unfolding until
   until_fine f stop zero s d = by_step_fine (step m s) _ _ (safe s d) (λ x e. record { no_fault = tt; described = d }) (λ h e. stop h zero s e d)
   until_fine f stop (suc n) s d =
@@ -67,31 +61,21 @@ module _ {V : Type 0} (o : SetOperations V) (claims : Claims V) (m : Setting) (l
   chosen true one two f g = f
   chosen false one two f g = g
 
-  run_fine : (events : List Event) (n : ℕ) (s : State) → Described o claims m.story s → Fine (run m events n s)
+  run_fine : (events : List Event) (n : ℕ) (s : State) → Described o claims m.limit m.story s → Fine (run m events n s)
   unfolding run
   run_fine [] n s d = until_fine _ (λ h k t e u. stands h t e u) n s d
-  run_fine (x ∷ events) n s d = until_fine _ (λ h k t e u. chosen (is_answered h x) _ _ (run_fine events k (give x t) (given x t u)) (stands h t e u)) n s d
+  run_fine (x ∷ events) n s d = until_fine _ (λ h k t e u. chosen (is_answered h x) _ _ (run_fine events k (give x t) (described_given o claims m.limit m.story x t u)) (stands h t e u)) n s d
 
-  pub run_safe : (events : List Event) (n : ℕ) (s : State) → Described o claims m.story s → IsNoFault (run m events n s).stop × Described o claims m.story (run m events n s).state
+  pub run_safe : (events : List Event) (n : ℕ) (s : State) → Described o claims m.limit m.story s → IsNoFault (run m events n s).stop × Described o claims m.limit m.story (run m events n s).state
   run_safe events n s d = let fine = run_fine events n s d in (fine.no_fault, fine.described)
-
--- a place where an instruction is read lies in memory
-place_within : (memory : List ℕ) (p : ℕ) (i : Instruction) → instruction_at (drop p memory) ≡ Ok i → p < length memory
-place_within memory p i reads =
-    let is = found playable (drop p memory) i reads in
-    let size = (well_formed playable (drop p memory) i reads).size in
-    let front = is.spelled.0 in
-    let rest = is.spelled.1 in
-    let whole : length (drop p memory) ≡ length front + length rest = ap length is.spelled.2 ∙ length-append front rest in
-    omega (arith, whole, size, is.spelled.3.size_is, length-drop p memory)
 
 -- so every listed place may be played in the widest scope
 pub all_listed : {V : Type 0} (o : SetOperations V) (claims : Claims V) (story : LoadedStory) → Supports o claims story → IsListedIn o claims (scope_all story)
 all_listed o claims story supports p e listed =
     let found = supports.each p e listed rules.Decodes in
-    lt-ltb p (length story.memory) (place_within story.memory p found.0 found.1.decodes)
+    lt-ltb p (length story.memory) (read_within story.memory p found.0 found.1.decodes).1
 
-pub never_faults : {V : Type 0} (o : SetOperations V) (claims : Claims V) (story : LoadedStory) (events : List Event) (n : ℕ) → IsLoadedStory story → Supports o claims story → IsNoFault (run (record { story = story; scope = scope_all story; limit = usual_limit }) events n (opening story)).stop
-never_faults o claims story events n loaded supports =
-    let m : Setting = record { story = story; scope = scope_all story; limit = usual_limit } in
-    (run_safe o claims m loaded supports (all_listed o claims story supports) events n (opening story) (opening_described o claims story supports)).0
+pub never_faults : {V : Type 0} (o : SetOperations V) (lawful : AreSound o) (claims : Claims V) (story : LoadedStory) (limit : ℕ) (events : List Event) (n : ℕ) → IsLoadedStory story → Supports o claims story → IsNoFault (run (record { story = story; scope = scope_all story; limit = limit }) events n (opening story)).stop
+never_faults o lawful claims story limit events n loaded supports =
+    let m : Setting = record { story = story; scope = scope_all story; limit = limit } in
+    (run_safe o lawful claims m loaded supports (all_listed o claims story supports) events n (opening story) (opening_described o claims story limit supports)).0

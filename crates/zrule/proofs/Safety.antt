@@ -1,122 +1,652 @@
--- A step from a described state is safe, by kinds of effect.
-use Rattle.std.proofs.Common.{◌≡◌, ℕ, ◌+◌, ◌≤◌, Bool, true, List, [], ◌∷◌, drop, Some, Result, Ok, Err, refl, sym, ap, subst, ◌∙◌, arith}
-use Rattle.std.specs.Prelude.{ℤ, pos, ◌+ℤ◌, IsOk}
-use Rattle.std.specs.Bool.{OnTrue}
-use Rattle.std.specs.List.{AllZip}
-use Rattle.zstory.specs.LoadedStory.{LoadedStory, IsSound, static_base, first_instruction}
-use Rattle.zstory.specs.Objects.{IsObjectCount}
+-- A step from a described state is safe, by the parts of its effect.
+use Rattle.std.proofs.Common.{◌≡◌, ◌⊎◌, inl, inr, ℕ, zero, suc, ◌+◌, ◌-◌, ◌<◌, ◌≤◌, Bool, true, false, List, [], ◌∷◌, length, drop, take, Option, Some, None, Result, Ok, Err, refl, sym, ap, subst, ◌∙◌, arith, nat_lt, nat_le, slice_set, if◌then◌else◌}
+use Rattle.std.specs.Prelude.{ℤ, pos, ◌+ℤ◌, IsOk, IfSome, MatchOption, IsTrue, is_some, option_map, not, slice_get, slice_index, ◌==◌, ◌&&◌, ◌||◌}
+use Rattle.std.specs.Bool.{OnTrue, MatchBool}
+use Rattle.std.specs.List.{AllZip, AllByRecursion}
+use Rattle.std.proofs.lemmas.Bool.{ltb-false, ltb-true, lt-ltb, ne_eqb, eqb-true}
+use Rattle.std.proofs.lemmas.List.{get_or-set_same, length-set, length-drop}
+use Rattle.zword.specs.declared.binary.BinaryOp.{BinaryOp}
+use Rattle.zword.specs.declared.binary.BinaryOp.TheVariants.{Add, Sub, Mul, Div, Mod, Or, And}
+use Rattle.zword.specs.declared.question.Question.{Question}
+use Rattle.zword.specs.declared.count.CountOp.{CountOp}
+use Rattle.zword.specs.Binary.{is_defined}
+use Rattle.zword.specs.Question.{holds}
+use Rattle.zword.specs.Count.{counting as counts_by, counted}
+use Rattle.zstory.specs.LoadedStory.{LoadedStory, static_base, first_instruction, file_sum, checksum}
 use Rattle.ztext.specs.declared.error.TextError.{TextError}
 use Rattle.ztext.specs.Words.{text_at, front_text}
 use Rattle.ztext.specs.Output.{output_at}
 use Rattle.ztext.proofs.Printable.{output_at-ok}
-use Rattle.zcode.specs.declared.opcode.Opcode.{Opcode}
-use Rattle.zcode.specs.Opcodes.{prints_text}
-use Rattle.zcode.specs.Operation.{operation_of}
+use Rattle.zcode.specs.declared.instr.Operand.{Operand}
+use Rattle.zcode.specs.declared.instr.Operand.TheVariants.{Constant, Variable}
+use Rattle.zcode.specs.declared.instr.Destination.{Destination}
+use Rattle.zcode.specs.declared.instr.Destination.TheVariants.{ReturnFalse, ReturnTrue, Relative}
+use Rattle.zcode.specs.declared.operation.Operation.{Operation}
+use Rattle.zcode.specs.declared.operation.Operation.TheVariants.{Unary, Binary, Compare, Count, Store, Load, Jump, Verify, PrintChar, PrintNumber, Print, NewLine, Nop, Quit}
 use Rattle.zcode.specs.Instruction.{Instruction}
-use Rattle.zdomain.specs.Domain.{SetOperations, In, Within}
+use Rattle.zcode.specs.Operation.{operation_of, inputs, target}
+use Rattle.zcode.specs.Playable.{playable}
+use Rattle.zcode.specs.Reading.{instruction_at}
+use Rattle.zcode.proofs.Found.{found}
+use Rattle.zcode.proofs.Operating.{played_operate}
+use Rattle.zdomain.specs.Domain.{SetOperations, AreSound, In, Within}
 use Rattle.zstate.specs.declared.halt.Halt.{Halt}
+use Rattle.zstate.specs.declared.halt.Halt.TheVariants as halts
 use Rattle.zstate.specs.InTurn.{◌>>=◌}
-use Rattle.zstate.specs.State.{State, Setting, opening, at_place}
-use Rattle.zstate.specs.Step.{Done, printed, print_at, effect_of, effect_if, admits, pauses, changed, act, step}
+use Rattle.zstate.specs.State.{Frame, State, Setting, IsState, opening, at_place, popped, with_stack, with_locals, with_memory, write_word, global, has_room, exists, put_named, put_in_place, read_in_place}
+use Rattle.zstate.specs.Step.{Move, on, back, Effect, Done, way, arg, asked_of, giving, assigning, testing, counting, printing, jumping, fetch, printed, print_at, effect_of, effect_if, has_caller, is_taken, is_roomy, turned, course, admits, pauses, settle, stored, assigned, changed, left, moved, advance, act, step}
+use Rattle.zstate.proofs.Keeps.{put_aside, changed_aside, step_keeps}
+use Rattle.zflow.specs.declared.parts.Lead.{Lead}
+use Rattle.zflow.specs.declared.parts.Lead.TheVariants.{Ahead, Returning}
+use Rattle.zflow.specs.declared.parts.Kept.{Kept}
+use Rattle.zflow.specs.declared.parts.Outcome.{Outcome}
+use Rattle.zflow.specs.declared.parts.Demands.{Demands}
+use Rattle.zflow.specs.Transfer.{Shape, pops, variable_set, small, local_kept, operand_kept, both_kept, untold, compared_kept, counted_kept, counted_set, demands_of, demands_if, goes_on, gives_in, assigns_in, asks, counts_in, jumps, outcome_of, outcome_if, outcome_at, leading, turned_to, named_with, with_assigned, narrowed, read_set, mid_shape, changed_by, after}
 use Rattle.zrule.specs.declared.rule.Rule.TheVariants as rules
-use Rattle.zrule.specs.Claims.{Shape, Claims}
-use Rattle.zrule.specs.Rules.{pops, below, goes_on, Covers, Leads, IsThere, HasFixedText, Supports}
-use Rattle.zrule.specs.Described.{Callers, Described, IsSafe, IsListedIn}
-use Rattle.zrule.proofs.Stepping.{IsPlayed, print, new_line, nop, quit, done_by, Reads, reads_there}
+use Rattle.zrule.specs.Claims.{Claims}
+use Rattle.zrule.specs.Rules.{Leads, IsThere, HasFixedText, IsKnown, IsNamed, IsVariable, HasTop, Supports, Takes, TakesInPlace, GoesOn, Returns, OnEdge, Comes, demands_at}
+use Rattle.zrule.specs.Described.{Callers, Described, DescribedMemory, Fits, FitsWith, IsSafe, IsListedIn, IsLoadedStory}
+use Rattle.zrule.proofs.Sets.{pops_cons, ReadsAll, HasLocals, reads_all, fits_popped, zip_set, zip_length}
 use Rattle.zrule.proofs.Unchanged.{drop_same, abbreviation_same}
+use Rattle.zrule.proofs.Settling.{IsPause, PausesAtMost, pauses_fine, pauses_there, pauses_none, room_there, admits_is}
+use Rattle.zrule.proofs.Fitting.{IsIn, exists_in, named_in, length_with, covered, fits_there, Mid, put_mid, GivenIn, stored_mid}
+use Rattle.zrule.proofs.Memory.{global_put}
+use Rattle.zrule.proofs.Parts.{Hold, HoldsOne, narrowed_fits, variable_there, small_is}
+use Rattle.zrule.proofs.Stepping.{fetch_is, done_at, made_by, step_is}
 
-zip_within : {V : Type 0} (o : SetOperations V) (ps bs : List V) (xs : List ℕ) → AllZip (Within o) ps bs → AllZip (In o) ps xs → AllZip (In o) bs xs
-zip_within o [] [] xs w z = z
-zip_within o [] (b ∷ bs) xs w z = absurd w
-zip_within o (a ∷ rest) [] xs w z = absurd w
-zip_within o (a ∷ rest) (b ∷ bs) [] w z = absurd z
-zip_within o (a ∷ rest) (b ∷ bs) (x ∷ xs) w z = (w.0 x z.0, zip_within o rest bs xs w.1 z.1)
+on_true : (b : Bool) (A B : Type 0) → OnTrue b (A → B) → A → OnTrue b B
+on_true true A B f a = f a
+on_true false A B f a = tt
 
-add_nothing : (n : ℕ) → n + 0 ≡ n
-add_nothing n = omega arith
+first_there : {V : Type 0} (o : SetOperations V) (claims : Claims V) (xs : List Operand) (e : Shape V) → pops xs ≤ length e.slots → AllByRecursion (IsNamed o claims e) xs → (pops (take 1 xs) ≤ length e.slots) × IfSome (slice_get xs 0) (IsNamed o claims e)
+first_there o claims [] e few named = (few, tt)
+first_there o claims (x ∷ xs) e few named = (let count = pops_cons x xs in omega (arith, count, few), named.0)
 
--- the state at the next instruction
-abbrev pub onward : State → Instruction → State
-onward s i = at_place ((s.place +ℤ pos i.size) +ℤ pos 0) s
+-- a local that was given a value
+assigned_local : (story : LoadedStory) (v x : ℕ) (u : State) → 1 ≤ v → v < 16 → v ≤ length u.frame.locals → slice_index (put_in_place story v x u).frame.locals (v - 1) ≡ x
+unfolding put_in_place put_named
+assigned_local story v x u least few exists = let n = ne_eqb v 0 (λ e. omega (arith, e, least)) in let e = lt-ltb v 16 few in rw (n, e) (get_or-set_same u.frame.locals (v - 1) x 0 (omega (arith, least, exists)))
 
-module _ {V : Type 0} (o : SetOperations V) (claims : Claims V) (m : Setting) (sound : IsSound m.story.memory) (counted : IsObjectCount m.story.memory m.story.objects) (supports : Supports o claims m.story) (listed : IsListedIn o claims m.scope) (s : State) (d : Described o claims m.story s) where
-  -- every rule holds there, of the instruction that was judged
-  instruction : Instruction
-  instruction = (supports.each d.at d.entry d.listed rules.Decodes).0
+at_least_one : (v : ℕ) → nat_le 1 v ≡ true → 1 ≤ v
+at_least_one zero e = absurd cc
+at_least_one (suc v) e = omega arith
 
-  there : IsThere m.story d.at instruction
-  unfolding instruction
-  there = (supports.each d.at d.entry d.listed rules.Decodes).1
+length_assigned : {V : Type 0} (a : Option (ℕ × V)) (e : Shape V) → length (with_assigned a e).locals ≡ length e.locals
+length_assigned None e = refl
+length_assigned (Some p) e = by_kind (p.0 == 0) (nat_lt p.0 16)
+  where
+    by_kind : (b c : Bool) → length (if b then e.locals else (if c then slice_set e.locals (p.0 - 1) p.1 else e.locals)) ≡ length e.locals
+    by_kind true c = refl
+    by_kind false true = length-set e.locals (p.0 - 1) p.1
+    by_kind false false = refl
 
-  edges : OnTrue (goes_on instruction.opcode) (Leads o claims d.entry.routine (below (pops instruction.operands) d.entry.shape) (d.at + instruction.size))
-  edges = supports.each d.at d.entry d.listed rules.Successor instruction there
+edge_of : {A : Type 0} (r : Option A) (Q : A → Type 0) → MatchOption r ⊥ Q → (f : A) × (r ≡ Some f) × Q f
+edge_of None Q h = absurd h
+edge_of (Some f) Q h = (f, refl, h)
 
-  text : OnTrue (prints_text instruction.opcode) (HasFixedText m.story claims.is_frozen (d.at + 1))
-  text = supports.each d.at d.entry d.listed rules.Text instruction there
+-- what divides by a value that isn't 0 is defined
+defined_where : {V : Type 0} (o : SetOperations V) (op : BinaryOp) (a : V) (y : ℕ) → IfSome (demands_of o (Binary op) (λ k. a)).divisor (λ a. In o a 0 → ⊥) → In o a y → is_defined op y ≡ true
+unfolding demands_of
+defined_where o Add a y h member = refl
+defined_where o Sub a y h member = refl
+defined_where o Mul a y h member = refl
+defined_where o Or a y h member = refl
+defined_where o And a y h member = refl
+defined_where o Div a y h member = let n = ne_eqb y 0 (λ e. h (subst (λ (n : ℕ). In o a n) e member)) in rw n refl
+defined_where o Mod a y h member = let n = ne_eqb y 0 (λ e. h (subst (λ (n : ℕ). In o a n) e member)) in rw n refl
 
-  -- the instruction is the one that was judged
-  reads : Reads m s instruction
-  reads = reads_there o claims m s instruction sound counted listed d there
+module _ {V : Type 0} (o : SetOperations V) (lawful : AreSound o) where
+  kept_holds : (v : ℕ) (a : V) (locals : List ℕ) → (1 ≤ v → v < 16 → In o a (slice_index locals (v - 1))) → HoldsOne o lawful (local_kept v a) locals
+  kept_holds v a locals has = by_test (nat_le 1 v) (nat_lt v 16) refl refl
+    where
+      by_test : (b c : Bool) → nat_le 1 v ≡ b → nat_lt v 16 ≡ c → HoldsOne o lawful (if b && c then Some (v, a) else None) locals
+      by_test true true e f = has (at_least_one v e) (ltb-true v 16 f)
+      by_test true false e f = tt
+      by_test false c e f = tt
 
-  -- on to the next instruction, with what was known before
-  goes : Leads o claims d.entry.routine (below (pops instruction.operands) d.entry.shape) (d.at + instruction.size) → Described o claims m.story (onward s instruction)
-  goes leads =
-      let shape : below (pops instruction.operands) d.entry.shape ≡ d.entry.shape = ap (λ (n : ℕ). below n d.entry.shape) reads.pops_none in
-      let covered = subst (λ (e : Shape V). Covers o e leads.entry.shape) shape leads.covered in
+module _ {V : Type 0} (o : SetOperations V) (lawful : AreSound o) (claims : Claims V) (m : Setting) (loaded : IsLoadedStory m.story) (supports : Supports o claims m.story) (listed : IsListedIn o claims m.scope) (s : State) (d : Described o claims m.limit m.story s) (i : Instruction) (there : IsThere m.story d.at i) where
+  abbrev operands : List Operand
+  operands = inputs i
+
+  abbrev mid : Shape V
+  mid = mid_shape o claims.globals i d.entry.shape
+
+  abbrev args : ℕ → V
+  args = read_set o claims.globals i d.entry.shape
+
+  abbrev t : State
+  t = popped (pops operands) s
+
+  -- what may come of an operation there, where its condition is answered so
+  abbrev ComesOf : Option Operation → Outcome V → Type 0
+  ComesOf k w = (c : Bool) × (outcome_if o claims.globals k operands args mid c ≡ Some w)
+
+  -- a state in mid-instruction, of which this is known
+  abbrev Known_in : Shape V → State → Type 0
+  Known_in e u = Mid o claims m.story loaded.sound d.entry.routine e u
+
+  rule_known : IsKnown o claims i d.entry.shape
+  rule_known = supports.each d.at d.entry d.listed rules.Known i there
+
+  height : (pops operands ≤ length d.entry.shape.slots) × IfSome (demands_at o claims i d.entry.shape).variable (HasTop o claims mid)
+  height = supports.each d.at d.entry d.listed rules.Height i there rule_known
+
+  local : AllByRecursion (IsNamed o claims d.entry.shape) operands × IsVariable o claims d.entry.shape (target i) × IfSome (demands_at o claims i d.entry.shape).variable (IsVariable o claims d.entry.shape)
+  local = supports.each d.at d.entry d.listed rules.Local i there rule_known
+
+  pub all : ReadsAll o claims m.story operands d.entry.shape s
+  all = reads_all o lawful claims m.story operands d.entry.shape s d.fits d.memory.values height.0 local.0
+
+  mid_fits : Fits o claims mid t.frame.locals t.frame.stack
+  mid_fits = fits_popped o lawful claims m.story (pops operands) d.entry.shape s d.fits
+
+  read_known : Known_in mid t
+  read_known = record { memory = d.memory; fits = mid_fits; callers = d.callers }
+
+  same_count : length d.entry.shape.locals ≡ length s.frame.locals
+  same_count = zip_length (In o) d.entry.shape.locals s.frame.locals d.fits.in_locals
+
+  -- ---- what the rules say of what is asked for
+
+  record Asked (out : Demands V) : Type 0 where
+    top : IfSome out.variable (HasTop o claims mid)
+    exists : IfSome out.variable (IsVariable o claims d.entry.shape)
+    known : OnTrue out.indirect (IsTrue (is_some out.variable))
+    divides : IfSome out.divisor (λ a. In o a 0 → ⊥)
+    certain : IsTrue out.certain
+    text : OnTrue out.has_text (HasFixedText m.story claims.is_frozen (d.at + 1))
+
+  asked : Asked (demands_if o (operation_of i.opcode) args)
+  asked = record {
+    top = height.1;
+    exists = local.2;
+    known = on_true (demands_at o claims i d.entry.shape).indirect _ _ rule_known (first_there o claims operands d.entry.shape height.0 local.0);
+    divides = supports.each d.at d.entry d.listed rules.Divisor i there;
+    certain = (supports.each d.at d.entry d.listed rules.Successor i there (supports.each d.at d.entry d.listed rules.Divisor i there)).0;
+    text = supports.each d.at d.entry d.listed rules.Text i there;
+  }
+
+  -- ---- where a step leads, as the rules expect it
+
+  LeadsIn : Lead V → Move → Type 0
+  LeadsIn (Ahead a) (on b) = a ≡ b
+  LeadsIn (Returning a) (back x) = In o a x
+  LeadsIn (Ahead a) (back x) = ⊥
+  LeadsIn (Returning a) (on b) = ⊥
+
+  turned_in : (way : Option Destination) (lead : Lead V) (move : Move) → LeadsIn lead move → LeadsIn (turned_to o way lead) (turned way move)
+  unfolding LeadsIn
+  turned_in None lead move h = h
+  turned_in (Some (Relative x)) lead move h = refl
+  turned_in (Some ReturnFalse) lead move h = lawful.single 0 (omega arith)
+  turned_in (Some ReturnTrue) lead move h = lawful.single 1 (omega arith)
+
+  -- ---- by where it leads
+
+  -- to a place, where less is stated than is known
+  arrives : (e : Shape V) (u : State) (to : ℕ) → Known_in e u → u.place ≡ pos to → Leads o claims d.entry.routine e to → IsState m.limit m.story u → Described o claims m.limit m.story u
+  arrives e u to known place leads state = record {
+    is_state = state;
+    at = to;
+    place = place;
+    entry = leads.entry;
+    listed = leads.listed;
+    fits = covered o claims e leads.entry.shape u.frame.locals u.frame.stack leads.covered known.fits;
+    callers = subst (λ (r : ℕ). Callers o claims r u.frame.return_place u.frame.result u.callers) (sym leads.same) known.callers;
+    memory = known.memory;
+  }
+
+  -- back to the caller: the tie to it is used up
+  returned : (a : V) (x : ℕ) (u : State) (gs : List Frame) → In o a x → Returns o claims d.entry.routine (Returning a) → DescribedMemory o claims m.story u.memory → Callers o claims d.entry.routine u.frame.return_place u.frame.result gs → IsState m.limit m.story (left m.story x gs u) → Described o claims m.limit m.story (left m.story x gs u)
+  returned a x u [] member rule kept callers state = absurd (omega (arith, rule.0, callers))
+  returned a x u (g ∷ gs) member rule kept callers state =
+      let e = callers.1 in
+      let v = u.frame.result in
+      let caller : State = record u { frame = g; callers = gs; place = pos u.frame.return_place } in
+      let known = put_mid o claims m.story loaded.sound e.routine v x e.shape caller (callers.3 x (rule.1 x member)) kept callers.4 in
       record {
-        is_state = record { memory = d.is_state.memory; frames = d.is_state.frames; few = d.is_state.few; count = d.is_state.count };
-        at = d.at + instruction.size;
-        place = ap (λ (p : ℤ). (p +ℤ pos instruction.size) +ℤ pos 0) d.place ∙ ap (λ (n : ℕ). pos n) (add_nothing (d.at + instruction.size));
-        entry = leads.entry;
-        listed = leads.listed;
-        fits = record {
-          in_locals = zip_within o d.entry.shape.locals leads.entry.shape.locals s.frame.locals covered.locals d.fits.in_locals;
-          in_slots = zip_within o d.entry.shape.slots leads.entry.shape.slots s.frame.stack covered.slots d.fits.in_slots;
-        };
-        callers = subst (λ (r : ℕ). Callers o claims r s.frame.return_place s.frame.result s.callers) (sym leads.same) d.callers;
-        values = d.values;
-        fixed = d.fixed;
+        is_state = state;
+        at = u.frame.return_place;
+        place = (put_aside m.story v x caller).place;
+        entry = e;
+        listed = callers.2;
+        fits = known.fits;
+        callers = known.callers;
+        memory = known.memory;
       }
 
-  Goal : Opcode → Type 0
-  Goal op = IsSafe o claims m.story (effect_if m (operation_of op) reads.values s >>= done_by m s instruction)
+  -- whatever it is
+  lands : (lead : Lead V) (move : Move) (e : Shape V) (u : State) → LeadsIn lead move → u.place ≡ pos (d.at + i.size) → Known_in e u
+      → GoesOn o claims d.entry.routine e (d.at + i.size) lead → Returns o claims d.entry.routine lead
+      → IsState m.limit m.story (moved m.story move u) → Described o claims m.limit m.story (moved m.story move u)
+  unfolding LeadsIn
+  lands (Ahead a) (on b) e u is place known follows returns state =
+      let there : u.place +ℤ b ≡ pos follows.0 = ap (λ (p : ℤ). p +ℤ b) place ∙ ap (λ (x : ℤ). pos (d.at + i.size) +ℤ x) (sym is) ∙ follows.1 in
+      arrives e (at_place (u.place +ℤ b) u) follows.0 (record { memory = known.memory; fits = known.fits; callers = known.callers }) there follows.2 state
+  lands (Returning a) (back x) e u is place known follows returns state = returned a x u u.callers is returns known.memory known.callers state
+  lands (Ahead a) (back x) e u is place known follows returns state = absurd is
+  lands (Returning a) (on b) e u is place known follows returns state = absurd is
 
-  -- what prints bytes, or does nothing, and goes on
-  print_safe : (r : Result (List ℕ) TextError) → IsOk r → Described o claims m.story (onward s instruction) → IsSafe o claims m.story (printed r >>= done_by m s instruction)
-  unfolding admits pauses act changed
-  print_safe (Ok bytes) ok next = next
-  print_safe (Err e) ok next = absurd cc
+  -- ---- no fault in the judging
+
+  judged : (lead : Lead V) (move : Move) (v return_place : ℕ) (gs : List Frame) → LeadsIn lead move → Returns o claims d.entry.routine lead → Callers o claims d.entry.routine return_place v gs → (has_caller move gs ≡ true) × (is_taken move v gs ≡ true)
+  unfolding LeadsIn
+  judged lead (on b) v r gs is rule callers = (refl, refl)
+  judged (Ahead a) (back x) v r gs is rule callers = absurd is
+  judged (Returning a) (back x) v r [] is rule callers = absurd (omega (arith, rule.0, callers))
+  judged (Returning a) (back x) v r (g ∷ gs) is rule callers = (refl, exists_in v g (fits_there o claims v x callers.1.shape g (callers.3 x (rule.1 x is))))
+
+  -- ---- what an effect has to be for an outcome, part by part
+
+  AssignedIn : Option (ℕ × V) → Option (ℕ × ℕ) → Type 0
+  AssignedIn None None = Unit {0}
+  AssignedIn None (Some p) = ⊥
+  AssignedIn (Some a) None = ⊥
+  AssignedIn (Some a) (Some p) = (p.0 ≡ a.0) × In o a.1 p.1 × IsVariable o claims d.entry.shape a.0
+
+  -- an effect has the parts of an outcome
+  record Matches (w : Outcome V) (effect : Effect) : Type 0 where
+    gives : GivenIn o claims m.story loaded.sound w.gives effect.gives
+    assigns : AssignedIn w.assigns effect.assigns
+    tests : effect.tests ≡ w.tests
+    leads : LeadsIn w.leads effect.moves
+    kept : Hold o lawful w.kept (changed m.story i effect t).frame.locals
+    -- it needs no event, and the machine goes on
+    needs : effect.needs ≡ None
+    goes : effect.quits ≡ false
+
+  -- the machine stands still, whatever else
+  record Still (effect : Effect) : Type 0 where
+    tests : effect.tests ≡ None
+    moves : effect.moves ≡ on (pos 0)
+    still : effect.quits ≡ true
+    needs : effect.needs ≡ None
+
+  -- the effect is one that the rules expect, or the machine stands still
+  Expected : Option Operation → Result Effect Halt → Type 0
+  Expected k (Ok effect) = Still effect ⊎ ((w : Outcome V) × ComesOf k w × Matches w effect)
+  Expected k (Err h) = ⊥
+
+  -- ---- a variable that an operand names
+
+  record InPlace : Type 0 where
+    v : ℕ
+    named : arg all.values 0 ≡ v
+    variable : small (o.known (args 0)) ≡ Some v
+    old : ℕ
+    reads : read_in_place m.story (arg all.values 0) t ≡ Ok old
+    member : In o (variable_set o claims.globals v mid) old
+    exists : IsVariable o claims d.entry.shape v
+
+  in_place : IsTrue (is_some (small (o.known (args 0)))) → IfSome (small (o.known (args 0))) (HasTop o claims mid) → IfSome (small (o.known (args 0))) (IsVariable o claims d.entry.shape) → InPlace
+  in_place known top exists =
+      let k = small_is o lawful claims (o.known (args 0)) known in
+      let named : arg all.values 0 ≡ k.0 = lawful.known (args 0) k.0 (arg all.values 0) k.1 (all.members 0) in
+      let here : IsVariable o claims d.entry.shape k.0 = subst (λ (x : Option ℕ). IfSome x (IsVariable o claims d.entry.shape)) k.2 exists in
+      let above : HasTop o claims mid k.0 = subst (λ (x : Option ℕ). IfSome x (HasTop o claims mid)) k.2 top in
+      let r = variable_there o lawful claims m.story k.0 mid t k.3 mid_fits d.memory.values above here in
+      record { v = k.0; named = named; variable = k.2; old = r.0; reads = subst (λ (n : ℕ). read_in_place m.story n t ≡ Ok r.0) (sym named) r.1; member = r.2; exists = here }
+
+  -- ---- what a branch says
+
+  operand_holds : (k : ℕ) (a : V) → In o a (arg all.values k) → HoldsOne o lawful (operand_kept (slice_get operands k) a) s.frame.locals
+  operand_holds k a member = by_operand (slice_get operands k) refl
+    where
+      by_operand : (x : Option Operand) → slice_get operands k ≡ x → HoldsOne o lawful (operand_kept x a) s.frame.locals
+      by_operand None e = tt
+      by_operand (Some (Constant n)) e = tt
+      by_operand (Some (Variable v)) e = kept_holds o lawful v a s.frame.locals (λ least few. subst (λ (n : ℕ). In o a n) (all.locals k v e least few) member)
+
+  compared_holds : (q : Question) (c : Bool) → holds q (arg all.values 0) (arg all.values 1) ≡ c → MatchOption (o.narrow q c (args 0) (args 1)) ⊥ (λ p. Hold o lawful (both_kept operands p) s.frame.locals)
+  compared_holds q c is = by_narrowed (o.narrow q c (args 0) (args 1)) (lawful.narrow q c (args 0) (args 1) (arg all.values 0) (arg all.values 1) (all.members 0) (all.members 1) is)
+    where
+      by_narrowed : (p : Option (V × V)) → MatchOption p ⊥ (λ p. In o p.0 (arg all.values 0) × In o p.1 (arg all.values 1)) → MatchOption p ⊥ (λ p. Hold o lawful (both_kept operands p) s.frame.locals)
+      by_narrowed None h = absurd h
+      by_narrowed (Some p) h = (operand_holds 0 p.0 h.0, operand_holds 1 p.1 h.1)
+
+  -- the local that was counted
+  counted_local : (v new : ℕ) (a : V) (u : State) → length u.frame.locals ≡ length d.entry.shape.locals → IsVariable o claims d.entry.shape v → In o a new → HoldsOne o lawful (local_kept v a) (put_in_place m.story v new u).frame.locals
+  counted_local v new a u same exists member = kept_holds o lawful v a _ (λ least few. (
+      let here = by_kind least few (v == 0) (nat_lt v 16) refl refl exists in
+      subst (λ (n : ℕ). In o a n) (sym (assigned_local m.story v new u least few (rw same here))) member))
+    where
+      by_kind : 1 ≤ v → v < 16 → (b c : Bool) → (v == 0) ≡ b → nat_lt v 16 ≡ c → MatchBool b (Unit {0}) (MatchBool c (v ≤ length d.entry.shape.locals) ((v < 256) × (v - 16 < length claims.globals))) → v ≤ length d.entry.shape.locals
+      by_kind least few true true e f h = absurd (let z = eqb-true v 0 e in omega (arith, z, least))
+      by_kind least few false true e f h = h
+      by_kind least few b false e f h = absurd (let g = ltb-false v 16 f in omega (arith, g, few))
+
+  -- ---- by operations
+
+  -- what prints, or does nothing, and goes on
+  goes_expected : (k : Operation) (bytes : List ℕ) → ComesOf (Some k) goes_on → Expected (Some k) (Ok (printing bytes))
+  unfolding Expected LeadsIn AssignedIn changed
+  goes_expected k bytes comes = inr (goes_on, comes, record { gives = tt; assigns = tt; tests = refl; leads = refl; kept = (tt, tt); needs = refl; goes = refl })
+
+  gives_expected : (k : Operation) (a : V) (x : ℕ) → ComesOf (Some k) (gives_in a) → In o a x → Expected (Some k) (Ok (giving x))
+  unfolding Expected LeadsIn AssignedIn changed
+  gives_expected k a x comes member = inr (gives_in a, comes, record { gives = member; assigns = tt; tests = refl; leads = refl; kept = (tt, tt); needs = refl; goes = refl })
+
+  assigns_expected : (k : Operation) (v : ℕ) (a : V) (w x : ℕ) → ComesOf (Some k) (assigns_in v a) → w ≡ v → In o a x → IsVariable o claims d.entry.shape v → Expected (Some k) (Ok (assigning w x))
+  unfolding Expected LeadsIn AssignedIn changed
+  assigns_expected k v a w x comes same member exists = inr (assigns_in v a, comes, record { gives = tt; assigns = (same, member, exists); tests = refl; leads = refl; kept = (tt, tt); needs = refl; goes = refl })
+
+  asks_expected : (k : Operation) (c : Bool) (kept : Kept V) → ComesOf (Some k) (asks c kept) → Hold o lawful kept s.frame.locals → Expected (Some k) (Ok (testing c))
+  unfolding Expected LeadsIn AssignedIn changed
+  asks_expected k c kept comes hold = inr (asks c kept, comes, record { gives = tt; assigns = tt; tests = refl; leads = refl; kept = hold; needs = refl; goes = refl })
+
+  printed_expected : (r : Result (List ℕ) TextError) → IsOk r → ComesOf (Some Print) goes_on → Expected (Some Print) (printed r)
+  printed_expected (Ok bytes) ok comes = goes_expected Print bytes comes
+  printed_expected (Err e) ok comes = absurd cc
 
   -- the text behind the opcode byte prints something
-  prints : prints_text instruction.opcode ≡ true → IsOk (output_at s.memory (d.at + 1))
-  prints inline =
-      let rule = subst (λ (b : Bool). OnTrue b (HasFixedText m.story claims.is_frozen (d.at + 1))) inline text in
-      let above : static_base m.story ≤ d.at + 1 = omega (arith, there.static) in
-      let same : drop (d.at + 1) s.memory ≡ drop (d.at + 1) m.story.memory = drop_same m.story sound counted claims.is_frozen s.memory d.is_state.memory d.fixed (d.at + 1) above in
+  prints : HasFixedText m.story claims.is_frozen (d.at + 1) → IsOk (output_at s.memory (d.at + 1))
+  prints rule =
+      let above : static_base m.story ≤ d.at + 1 = let h = there.static in omega (arith, h) in
+      let same : drop (d.at + 1) s.memory ≡ drop (d.at + 1) m.story.memory = drop_same m.story loaded.sound loaded.counted claims.is_frozen s.memory d.memory.long d.memory.fixed (d.at + 1) above in
       let found : text_at s.memory (d.at + 1) ≡ Some rule.text = ap front_text same ∙ rule.found in
-      output_at-ok s.memory (d.at + 1) rule.text (λ n few. abbreviation_same m.story sound counted claims.is_frozen s.memory d.is_state.memory d.fixed supports.abbreviations n few) found
+      output_at-ok s.memory (d.at + 1) rule.text (λ n few. abbreviation_same m.story loaded.sound loaded.counted claims.is_frozen s.memory d.memory.long d.memory.fixed supports.abbreviations n few) found
 
-  next_of : goes_on instruction.opcode ≡ true → Described o claims m.story (onward s instruction)
-  next_of on = goes (subst (λ (b : Bool). OnTrue b (Leads o claims d.entry.routine (below (pops instruction.operands) d.entry.shape) (d.at + instruction.size))) on edges)
+  -- two operands that are compared, or more
+  two_asked : (q : Question) (values : List ℕ) → length values ≡ 2 → asked_of q values ≡ holds q (arg values 0) (arg values 1)
+  two_asked q [] e = absurd cc
+  two_asked q (x ∷ []) e = absurd cc
+  two_asked q (x ∷ y ∷ []) e = or_false (holds q x y)
+    where
+      or_false : (b : Bool) → (b || false) ≡ b
+      or_false true = refl
+      or_false false = refl
+  two_asked q (x ∷ y ∷ z ∷ values) e = absurd (omega (arith, e))
 
-  by_opcode : (op : Opcode) → IsPlayed op → op ≡ instruction.opcode → Goal op
-  unfolding Goal effect_of operation_of admits pauses act changed
-  by_opcode op print same =
+  compared_two : (q : Question) (c : Bool) (p : V × V) → (length operands == 2) ≡ true → o.narrow q c (args 0) (args 1) ≡ Some p → ComesOf (Some (Compare q)) (asks c (both_kept operands p))
+  unfolding outcome_of
+  compared_two q c p two narrows = (c, rw (two, narrows) refl)
+
+  counted_asked : (op : CountOp) (q : Question) (c : Bool) (v : ℕ) (p : V × V) → small (o.known (args 0)) ≡ Some v → o.narrow q c (counted_set o claims.globals op v mid) (args 1) ≡ Some p → ComesOf (Some (Count op (Some q))) (counts_in v (counted_set o claims.globals op v mid) c (record untold { first = local_kept v p.0 }))
+  unfolding outcome_of
+  counted_asked op q c v p known narrows = (c, rw (known, narrows) refl)
+
+  compares : (q : Question) → Expected (Some (Compare q)) (Ok (testing (asked_of q all.values)))
+  unfolding outcome_of
+  compares q = by_count (length operands == 2) refl
+    where
+      by_count : (b : Bool) → (length operands == 2) ≡ b → Expected (Some (Compare q)) (Ok (testing (asked_of q all.values)))
+      by_count false many = asks_expected (Compare q) (asked_of q all.values) untold (asked_of q all.values, rw many refl) (tt, tt)
+      by_count true two =
+          let c = asked_of q all.values in
+          let is : holds q (arg all.values 0) (arg all.values 1) ≡ c = sym (two_asked q all.values (all.count ∙ eqb-true (length operands) 2 two)) in
+          let p = edge_of (o.narrow q c (args 0) (args 1)) _ (compared_holds q c is) in
+          asks_expected (Compare q) c (both_kept operands p.0) (compared_two q c p.0 two p.1) p.2
+
+  counted_in : (op : CountOp) (p : InPlace) → In o (counted_set o claims.globals op p.v mid) (counted op p.old)
+  counted_in op p = lawful.binary (counts_by op) _ _ _ _ p.member (lawful.single 1 (omega arith))
+
+  counts : (op : CountOp) (question : Option Question) → (p : InPlace) → Expected (Some (Count op question)) (effect_of m (Count op question) all.values t)
+  unfolding Expected LeadsIn AssignedIn effect_of outcome_of changed
+  counts op None p =
+      let r = p.reads in
+      let known = p.variable in
+      rw r (assigns_expected (Count op None) p.v _ (arg all.values 0) (counted op p.old) (true, rw known refl) p.named (counted_in op p) p.exists)
+  counts op (Some q) p =
+      let r = p.reads in
+      let known = p.variable in
+      let new = counted op p.old in
+      let a = counted_set o claims.globals op p.v mid in
+      let c = holds q new (arg all.values 1) in
+      let n = edge_of (o.narrow q c a (args 1)) _ (lawful.narrow q c a (args 1) new (arg all.values 1) (counted_in op p) (all.members 1) refl) in
+      let kept : Kept V = record untold { first = local_kept p.v n.0.0 } in
+      let held : Hold o lawful kept (put_in_place m.story p.v new t).frame.locals = (counted_local p.v new n.0.0 t (sym same_count) p.exists n.2.0, tt) in
+      let named = p.named in
+      let comes = counted_asked op q c p.v n.0 p.variable n.1 in
+      rw r (inr (counts_in p.v a c kept, comes, record { gives = tt; assigns = (named, counted_in op p, p.exists); tests = refl; leads = refl; kept = rw named held; needs = refl; goes = refl }))
+
+  known_jump : IsTrue (is_some (o.known (args 0))) → (x : ℕ) × (o.known (args 0) ≡ Some x) × (arg all.values 0 ≡ x)
+  known_jump h = by_known (o.known (args 0)) refl h
+    where
+      by_known : (k : Option ℕ) → o.known (args 0) ≡ k → IsTrue (is_some k) → (x : ℕ) × (o.known (args 0) ≡ Some x) × (arg all.values 0 ≡ x)
+      by_known None e h = absurd cc
+      by_known (Some x) e h = (x, e, lawful.known (args 0) x (arg all.values 0) e (all.members 0))
+
+  jumps_expected : (x : ℕ) → o.known (args 0) ≡ Some x → arg all.values 0 ≡ x → Expected (Some Jump) (Ok (jumping (arg all.values 0)))
+  unfolding Expected LeadsIn AssignedIn outcome_of changed
+  jumps_expected x known is = inr (jumps x, (true, rw known refl), record { gives = tt; assigns = tt; tests = refl; leads = rw is refl; kept = (tt, tt); needs = refl; goes = refl })
+
+  by_operation : (k : Operation) → Asked (demands_of o k args) → Expected (Some k) (effect_of m k all.values t)
+  unfolding Expected demands_of outcome_of effect_of
+  by_operation (Unary op) rule = gives_expected (Unary op) _ _ (true, refl) (lawful.unary op _ _ (all.members 0))
+  by_operation (Binary op) rule =
+      let fine = defined_where o op (args 1) (arg all.values 1) rule.divides (all.members 1) in
+      rw fine (gives_expected (Binary op) _ _ (true, refl) (lawful.binary op _ _ _ _ (all.members 0) (all.members 1)))
+  by_operation (Compare q) rule = compares q
+  by_operation (Count op question) rule = counts op question (in_place rule.known rule.top rule.exists)
+  by_operation Store rule =
+      let p = in_place rule.known rule.top rule.exists in
+      let r = p.reads in
+      let known = p.variable in
+      rw r (assigns_expected Store p.v (args 1) (arg all.values 0) (arg all.values 1) (true, rw known refl) p.named (all.members 1) p.exists)
+  by_operation Load rule =
+      let p = in_place rule.known rule.top rule.exists in
+      let r = p.reads in
+      let known = p.variable in
+      rw r (gives_expected Load _ p.old (true, rw known refl) p.member)
+  by_operation Jump rule = let k = known_jump rule.certain in jumps_expected k.0 k.1 k.2
+  by_operation Verify rule = asks_expected Verify _ untold (_, refl) (tt, tt)
+  by_operation PrintChar rule = goes_expected PrintChar _ (true, refl)
+  by_operation PrintNumber rule = goes_expected PrintNumber _ (true, refl)
+  by_operation Print rule =
       let at : s.place +ℤ pos 1 ≡ pos (d.at + 1) = ap (λ (p : ℤ). p +ℤ pos 1) d.place in
-      let next = next_of (ap goes_on (sym same)) in
-      subst (λ (p : ℤ). IsSafe o claims m.story (print_at p s.memory >>= done_by m s instruction)) (sym at)
-      (print_safe (output_at s.memory (d.at + 1)) (prints (ap prints_text (sym same))) next)
-  by_opcode op new_line same = next_of (ap goes_on (sym same))
-  by_opcode op nop same = next_of (ap goes_on (sym same))
-  by_opcode op quit same = tt
+      subst (λ (p : ℤ). Expected (Some Print) (print_at p s.memory)) (sym at) (printed_expected (output_at s.memory (d.at + 1)) (prints rule.text) (true, refl))
+  by_operation NewLine rule = goes_expected NewLine _ (true, refl)
+  by_operation Nop rule = goes_expected Nop _ (true, refl)
+  by_operation Quit rule = inl (record { tests = refl; moves = refl; still = refl; needs = refl })
 
-  pub step_safe : IsSafe o claims m.story (step m s)
-  unfolding Goal
-  step_safe = subst (λ (r : Result Done Halt). IsSafe o claims m.story r) (sym reads.steps) (by_opcode instruction.opcode reads.played refl)
+  by_played : (k : Option Operation) → IsTrue (is_some k) → Asked (demands_if o k args) → Expected k (effect_if m k all.values t)
+  by_played None played rule = absurd cc
+  by_played (Some k) played rule = by_operation k rule
+
+  played : IsTrue (is_some (operation_of i.opcode))
+  played = played_operate i.opcode (found playable (drop d.at m.story.memory) i there.decodes).played
+
+  expected : Expected (operation_of i.opcode) (effect_if m (operation_of i.opcode) all.values t)
+  expected = by_played (operation_of i.opcode) played asked
+
+  -- ---- the parts, done
+
+  -- a local or a global is given a value
+  mid_named : (v x : ℕ) (a : V) (e : Shape V) (u : State) → MatchBool (nat_lt v 16) (v ≤ length d.entry.shape.locals) ((v < 256) × (v - 16 < length claims.globals)) → MatchBool (nat_lt v 16) (Unit {0}) (MatchOption (slice_get claims.globals (v - 16)) ⊥ (Within o a)) → In o a x → Known_in e u
+      → Known_in (record { locals = named_with v a e.locals; slots = e.slots }) (put_named m.story v x u)
+  unfolding put_named
+  mid_named v x a e u exists takes member known = by_kind (nat_lt v 16) refl exists takes
+    where
+      by_kind : (c : Bool) → nat_lt v 16 ≡ c → MatchBool c (v ≤ length d.entry.shape.locals) ((v < 256) × (v - 16 < length claims.globals)) → MatchBool c (Unit {0}) (MatchOption (slice_get claims.globals (v - 16)) ⊥ (Within o a))
+          → Known_in (record { locals = if c then slice_set e.locals (v - 1) a else e.locals; slots = e.slots }) (if c then with_locals (slice_set u.frame.locals (v - 1) x) u else with_memory (write_word u.memory (global m.story v) x) u)
+      by_kind true is exists takes = record { memory = known.memory; fits = record { in_locals = zip_set (In o) e.locals u.frame.locals known.fits.in_locals (v - 1) a x member; in_slots = known.fits.in_slots }; callers = known.callers }
+      by_kind false is exists takes = record { memory = global_put o claims m.story loaded.sound v x a u.memory known.memory.long (ltb-false v 16 is) exists.0 member takes known.memory; fits = record { in_locals = known.fits.in_locals; in_slots = known.fits.in_slots }; callers = known.callers }
+
+  -- what is given in place
+  mid_in_place : (v x : ℕ) (a : V) (e : Shape V) (u : State) → IsVariable o claims d.entry.shape v → MatchBool (nat_lt v 16) (Unit {0}) (MatchOption (slice_get claims.globals (v - 16)) ⊥ (Within o a)) → In o a x → Known_in e u → Known_in (with_assigned (Some (v, a)) e) (put_in_place m.story v x u)
+  unfolding put_in_place
+  mid_in_place v x a e u exists takes member known = by_stack (v == 0) exists
+    where
+      by_stack : (b : Bool) → MatchBool b (Unit {0}) (MatchBool (nat_lt v 16) (v ≤ length d.entry.shape.locals) ((v < 256) × (v - 16 < length claims.globals)))
+          → Known_in (record { locals = if b then e.locals else named_with v a e.locals; slots = if b then slice_set e.slots 0 a else e.slots }) (if b then with_stack (slice_set u.frame.stack 0 x) u else put_named m.story v x u)
+      by_stack true exists = record { memory = known.memory; fits = record { in_locals = known.fits.in_locals; in_slots = zip_set (In o) e.slots u.frame.stack known.fits.in_slots 0 a x member }; callers = known.callers }
+      by_stack false exists = mid_named v x a e u exists takes member known
+
+  mid_assigned : (given : Option (ℕ × V)) (assigns : Option (ℕ × ℕ)) (e : Shape V) (u : State) → AssignedIn given assigns → TakesInPlace o claims given → Known_in e u → Known_in (with_assigned given e) (assigned m.story assigns u)
+  unfolding AssignedIn
+  mid_assigned None None e u is takes known = known
+  mid_assigned None (Some p) e u is takes known = absurd is
+  mid_assigned (Some a) None e u is takes known = absurd is
+  mid_assigned (Some a) (Some p) e u is takes known =
+      subst (λ (n : ℕ). Known_in (with_assigned (Some a) e) (put_in_place m.story n p.1 u)) (sym is.0) (mid_in_place a.0 p.1 a.1 e u is.2 takes is.1 known)
+
+  -- the result variable is there all along
+  still_there : (e : Shape V) (u : State) → length e.locals ≡ length d.entry.shape.locals → Known_in e u → IsIn (target i) u.frame.locals
+  still_there e u same known = named_in o claims (target i) d.entry.shape u.frame.locals local.1 (sym same ∙ zip_length (In o) e.locals u.frame.locals known.fits.in_locals)
+
+  -- all parts, one after another
+  mid_changed : (w : Outcome V) (effect : Effect) → Matches w effect → Takes o claims w.gives (target i) → TakesInPlace o claims w.assigns → Known_in (changed_by o claims.globals i d.entry.shape w) (changed m.story i effect t)
+  unfolding changed
+  mid_changed w effect matches given in_place =
+      let u = assigned m.story effect.assigns t in
+      let known = mid_assigned w.assigns effect.assigns mid t matches.assigns in_place read_known in
+      stored_mid o claims m.story loaded.sound d.entry.routine (target i) w.gives effect.gives (with_assigned w.assigns mid) u matches.gives (still_there (with_assigned w.assigns mid) u (length_assigned w.assigns mid) known) given known
+
+  -- ---- the step
+
+  exists_read : exists (target i) t.frame ≡ true
+  exists_read = exists_in (target i) t.frame (named_in o claims (target i) d.entry.shape s.frame.locals local.1 same_count)
+
+  -- an effect with the parts of an outcome, of which every rule holds
+  module _ (w : Outcome V) (effect : Effect) (comes : ComesOf (operation_of i.opcode) w) (matches : Matches w effect) where
+    leads_in : LeadsIn (leading o w i.branch) (course effect i.branch)
+    leads_in = subst (λ (t : Option Bool). LeadsIn (leading o w i.branch) (turned (way t i.branch) effect.moves)) (sym matches.tests) (turned_in (way w.tests i.branch) w.leads effect.moves matches.leads)
+
+    abbrev shape : Shape V
+    shape = changed_by o claims.globals i d.entry.shape w
+
+    abbrev u : State
+    u = changed m.story i effect t
+
+    takes : Takes o claims w.gives (target i) × TakesInPlace o claims w.assigns
+    takes = supports.each d.at d.entry d.listed rules.Stored i there w comes
+
+    known_there : Known_in shape u
+    known_there = mid_changed w effect matches takes.0 takes.1
+
+    -- the edge can be taken
+    edge : (f : Shape V) × (after o claims.globals i d.entry.shape w ≡ Some f) × Fits o claims f u.frame.locals u.frame.stack
+    edge = edge_of (narrowed o w.kept shape) _ (narrowed_fits o lawful claims w.kept shape u.frame.locals u.frame.stack known_there.fits matches.kept)
+
+    by_edge : (Rule : Shape V → Type 0) → OnEdge o claims w i d.entry.shape Rule → Rule edge.0
+    by_edge Rule rule = subst (λ (r : Option (Shape V)). IfSome r Rule) edge.1 rule
+
+    returns : Returns o claims d.entry.routine (leading o w i.branch)
+    returns = by_edge (λ f. Returns o claims d.entry.routine (leading o w i.branch)) (supports.each d.at d.entry d.listed rules.Returned i there w comes)
+
+    admitted : admits (target i) effect (course effect i.branch) t ≡ Ok tt
+    admitted =
+        let fine = judged (leading o w i.branch) (course effect i.branch) s.frame.result s.frame.return_place s.callers leads_in returns d.callers in
+        admits_is (target i) effect (course effect i.branch) t exists_read fine.0 fine.1
+
+    acted : IsState m.limit m.story (act m.story i effect t) → Described o claims m.limit m.story (act m.story i effect t)
+    unfolding act
+    acted state =
+        let follows = (supports.each d.at d.entry d.listed rules.Successor i there (supports.each d.at d.entry d.listed rules.Divisor i there)).1 w comes (supports.each d.at d.entry d.listed rules.High i there w comes) in
+        let goes = by_edge (λ f. GoesOn o claims d.entry.routine f (d.at + i.size) (leading o w i.branch)) follows in
+        let place : u.place +ℤ pos i.size ≡ pos (d.at + i.size) = ap (λ (p : ℤ). p +ℤ pos i.size) ((changed_aside m.story i effect t).place ∙ d.place) in
+        lands (leading o w i.branch) (course effect i.branch) edge.0 (advance i u) leads_in place (record { memory = known_there.memory; fits = edge.2; callers = known_there.callers }) goes returns state
+
+  still_admitted : (effect : Effect) → Still effect → admits (target i) effect (course effect i.branch) t ≡ Ok tt
+  still_admitted effect still =
+      let on_is : course effect i.branch ≡ on (pos 0) = ap (λ (t : Option Bool). turned (way t i.branch) effect.moves) still.tests ∙ still.moves in
+      admits_is (target i) effect (course effect i.branch) t exists_read (ap (λ (c : Move). has_caller c s.callers) on_is) (ap (λ (c : Move). is_taken c s.frame.result s.callers) on_is)
+
+  -- the instruction that stands there now
+  reads : instruction_at (drop d.at s.memory) ≡ Ok i
+  reads = ap instruction_at (drop_same m.story loaded.sound loaded.counted claims.is_frozen s.memory d.memory.long d.memory.fixed d.at there.static) ∙ there.decodes
+
+  pub fetches : fetch m.scope s.place s.memory ≡ Ok i
+  fetches = fetch_is m.scope s.place d.at s.memory i d.place (listed d.at d.entry d.listed) reads
+
+  pub steps : step m s ≡ (effect_if m (operation_of i.opcode) all.values t >>= made_by m t i)
+  steps = step_is m s t i all.values fetches all.read
+
+  -- where its judging finds no fault, what is left is a pause, or the step
+  settled : (effect : Effect) → admits (target i) effect (course effect i.branch) t ≡ Ok tt → made_by m t i effect ≡ (pauses (target i) effect (course effect i.branch) t >>= λ _. Ok (done_at m t i effect))
+  settled effect ok = ap (λ (r : Result (Unit {0}) Halt). (r >>= λ _. pauses (target i) effect (course effect i.branch) t) >>= λ _. Ok (done_at m t i effect)) ok
+
+  paused : (effect : Effect) (r : Result (Unit {0}) Halt) → PausesAtMost r → (r ≡ Ok tt → Described o claims m.limit m.story (act m.story i effect t)) → IsSafe o claims m.limit m.story (r >>= λ _. Ok (done_at m t i effect))
+  paused effect (Ok x) fine made = made refl
+  paused effect (Err (halts.Fault f)) fine made = fine
+  paused effect (Err (halts.Need n)) fine made = tt
+  paused effect (Err halts.Quit) fine made = tt
+  paused effect (Err halts.FrameLimit) fine made = tt
+
+  -- an effect that nothing keeps from being done is what the step does
+  made_is : (effect : Effect) → effect_if m (operation_of i.opcode) all.values t ≡ Ok effect → admits (target i) effect (course effect i.branch) t ≡ Ok tt → pauses (target i) effect (course effect i.branch) t ≡ Ok tt → step m s ≡ Ok (done_at m t i effect)
+  made_is effect is admitted unpaused =
+      steps ∙ ap (λ (r : Result Effect Halt). r >>= made_by m t i) is ∙ settled effect admitted ∙ ap (λ (r : Result (Unit {0}) Halt). r >>= λ _. Ok (done_at m t i effect)) unpaused
+
+  finish : (r : Result Effect Halt) → effect_if m (operation_of i.opcode) all.values t ≡ r → Expected (operation_of i.opcode) r → IsSafe o claims m.limit m.story (r >>= made_by m t i)
+  unfolding Expected
+  finish (Ok effect) is (inl still) =
+      subst (IsSafe o claims m.limit m.story) (sym (settled effect (still_admitted effect still)))
+      (paused effect (pauses (target i) effect (course effect i.branch) t) (pauses_fine (target i) effect (course effect i.branch) t) (λ ok. absurd (pauses_there (target i) effect (course effect i.branch) t (inr still.still) ok)))
+  finish (Ok effect) is (inr (w, comes, matches)) =
+      let ok = admitted w effect comes matches in
+      subst (IsSafe o claims m.limit m.story) (sym (settled effect ok))
+      (paused effect (pauses (target i) effect (course effect i.branch) t) (pauses_fine (target i) effect (course effect i.branch) t)
+      (λ unpaused. acted w effect comes matches (step_keeps m s (done_at m t i effect) d.is_state (made_is effect is ok unpaused))))
+  finish (Err h) is expected = absurd expected
+
+  pub safe_there : IsSafe o claims m.limit m.story (step m s)
+  safe_there = subst (λ (r : Result Done Halt). IsSafe o claims m.limit m.story r) (sym steps) (finish (effect_if m (operation_of i.opcode) all.values t) refl expected)
+
+  -- ---- no opcode of this build waits, and low stacks have room
+
+  low : length s.frame.stack ≤ 64
+  low = let same = zip_length (In o) d.entry.shape.slots s.frame.stack d.fits.in_slots in let few = supports.low d.at d.entry d.listed in omega (arith, same, few)
+
+  low_read : length t.frame.stack ≤ 64
+  low_read = let e = length-drop (pops operands) s.frame.stack in let l = low in omega (arith, e, l)
+
+  -- a caller has room for what is returned
+  caller_room : (v x return_place : ℕ) (e : Shape V) (g : Frame) → length e.slots ≤ 64 → FitsWith o claims v x e g → has_room v g ≡ true
+  caller_room v x return_place e g few h = by_stack (v == 0) refl h
+    where
+      by_stack : (b : Bool) → (v == 0) ≡ b → MatchBool b (Fits o claims e g.locals (x ∷ g.stack)) (MatchBool (nat_lt v 16) ((v ≤ length g.locals) × Fits o claims e (slice_set g.locals (v - 1) x) g.stack) ((v < 256) × MatchOption (slice_get claims.globals (v - 16)) ⊥ (λ values. In o values x) × Fits o claims e g.locals g.stack)) → has_room v g ≡ true
+      by_stack true is fits = room_there v g (let same = zip_length (In o) e.slots (x ∷ g.stack) fits.in_slots in omega (arith, same, few))
+      by_stack false is h = rw is refl
+
+  roomy : (lead : Lead V) (move : Move) (v return_place : ℕ) (gs : List Frame) → LeadsIn lead move → Returns o claims d.entry.routine lead → Callers o claims d.entry.routine return_place v gs → is_roomy move v gs ≡ true
+  unfolding LeadsIn
+  roomy lead (on b) v r gs is rule callers = refl
+  roomy (Ahead a) (back x) v r gs is rule callers = absurd is
+  roomy (Returning a) (back x) v r [] is rule callers = refl
+  roomy (Returning a) (back x) v r (g ∷ gs) is rule callers = caller_room v x r callers.1.shape g (supports.low r callers.1 callers.2) (callers.3 x (rule.1 x is))
+
+  unpaused : (w : Outcome V) (effect : Effect) → ComesOf (operation_of i.opcode) w → Matches w effect → pauses (target i) effect (course effect i.branch) t ≡ Ok tt
+  unpaused w effect comes matches =
+      pauses_none (target i) effect (course effect i.branch) t matches.needs matches.goes (room_there (target i) t.frame low_read)
+      (roomy (leading o w i.branch) (course effect i.branch) s.frame.result s.frame.return_place s.callers (leads_in w effect comes matches) (returns w effect comes matches) d.callers)
+
+  -- it is made, or it is `quit`
+  IsAble : Result Done Halt → Type 0
+  IsAble r = ((x : Done) × (r ≡ Ok x)) ⊎ (r ≡ Err halts.Quit)
+
+  quits : (effect : Effect) → Still effect → made_by m t i effect ≡ Err halts.Quit
+  unfolding pauses
+  quits effect still =
+      let needs = still.needs in
+      let stands = still.still in
+      settled effect (still_admitted effect still) ∙ rw (needs, stands) refl
+
+  able_by : (r : Result Effect Halt) → Expected (operation_of i.opcode) r → IsAble (r >>= made_by m t i)
+  unfolding Expected IsAble
+  able_by (Ok effect) (inl still) = inr (quits effect still)
+  able_by (Ok effect) (inr (w, comes, matches)) = inl (done_at m t i effect, settled effect (admitted w effect comes matches) ∙ ap (λ (r : Result (Unit {0}) Halt). r >>= λ _. Ok (done_at m t i effect)) (unpaused w effect comes matches))
+  able_by (Err h) expected = absurd expected
+
+  pub able_there : ((x : Done) × (step m s ≡ Ok x)) ⊎ (step m s ≡ Err halts.Quit)
+  unfolding IsAble
+  able_there = subst IsAble (sym steps) (able_by (effect_if m (operation_of i.opcode) all.values t) expected)
+
+-- a step from a described state is no fault, and leads to a described state
+pub step_safe : {V : Type 0} (o : SetOperations V) (lawful : AreSound o) (claims : Claims V) (m : Setting) (s : State) → IsLoadedStory m.story → Supports o claims m.story → IsListedIn o claims m.scope → Described o claims m.limit m.story s → IsSafe o claims m.limit m.story (step m s)
+step_safe o lawful claims m s loaded supports listed d =
+    let found = supports.each d.at d.entry d.listed rules.Decodes in
+    safe_there o lawful claims m loaded supports listed s d found.0 found.1
+
+-- it is made, or it is `quit`: no opcode of this build waits for anything, and low stacks have room
+pub step_able : {V : Type 0} (o : SetOperations V) (lawful : AreSound o) (claims : Claims V) (m : Setting) (s : State) → IsLoadedStory m.story → Supports o claims m.story → IsListedIn o claims m.scope → Described o claims m.limit m.story s → ((x : Done) × (step m s ≡ Ok x)) ⊎ (step m s ≡ Err halts.Quit)
+step_able o lawful claims m s loaded supports listed d =
+    let found = supports.each d.at d.entry d.listed rules.Decodes in
+    able_there o lawful claims m loaded supports listed s d found.0 found.1
 
 -- the opening state
-pub opening_described : {V : Type 0} (o : SetOperations V) (claims : Claims V) (story : LoadedStory) → Supports o claims story → Described o claims story (opening story)
-opening_described o claims story supports =
+pub opening_described : {V : Type 0} (o : SetOperations V) (claims : Claims V) (story : LoadedStory) (limit : ℕ) → Supports o claims story → Described o claims limit story (opening story)
+opening_described o claims story limit supports =
     let first = supports.first in
     record {
       is_state = record {
@@ -134,6 +664,5 @@ opening_described o claims story supports =
         in_slots = subst (λ xs. AllZip (In o) xs []) (sym first.no_slots) tt;
       };
       callers = first.main;
-      values = supports.values;
-      fixed = λ p h. refl;
+      memory = record { long = refl; values = supports.values; fixed = λ p h. refl };
     }

@@ -6,11 +6,7 @@ use Rattle.zcert.specs.declared.parts.Range.{Range}
 use Rattle.zcert.specs.declared.parts.Routine.{Routine}
 use Rattle.zcert.specs.Certificate.{Instruction as Listed, Certificate}
 use Rattle.zcert.specs.Listed.{listed_at}
-
--- what is said of a frame: the values that each local may have, and each slot of the stack, the top first
-pub record Shape (V : Type 0) : Type 0 where
-  pub locals : List V
-  pub slots : List V
+use Rattle.zflow.specs.Transfer.{Shape}
 
 -- what is said of a listed place: its routine, numbered from 1, with 0 for the main code, and the newest frame before it
 pub record Entry (V : Type 0) : Type 0 where

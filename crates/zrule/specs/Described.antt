@@ -15,7 +15,8 @@ use Rattle.zstate.specs.declared.halt.Stop.TheVariants as stops
 use Rattle.zfault.specs.declared.event.Event.{Event}
 use Rattle.zstory.specs.LoadedStory.{IsSound}
 use Rattle.zstory.specs.Objects.{IsObjectCount}
-use Rattle.zrule.specs.Claims.{Shape, Entry, Claims}
+use Rattle.zflow.specs.Transfer.{Shape}
+use Rattle.zrule.specs.Claims.{Entry, Claims}
 use Rattle.zrule.specs.Bytes.{IsFixed}
 use Rattle.zrule.specs.Rules.{HasGlobals, Supports}
 

@@ -9,15 +9,19 @@ use Rattle.ztext.specs.Abbreviations.{IsPlainAbbreviation}
 use Rattle.zcode.specs.declared.instr.Operand.{Operand}
 use Rattle.zcode.specs.declared.instr.Operand.TheVariants.{Constant, Variable}
 use Rattle.zcode.specs.Instruction.{Instruction}
-use Rattle.zcode.specs.Operation.{operation_of, inputs, target}
+use Rattle.zcode.specs.Operation.{inputs, target}
 use Rattle.zcode.specs.Reading.{instruction_at}
 use Rattle.zdomain.specs.Domain.{SetOperations, In, Within}
 use Rattle.zrule.specs.declared.rule.Rule.{Rule}
 use Rattle.zrule.specs.declared.rule.Rule.TheVariants as rules
 use Rattle.zrule.specs.Numbers.{number_of}
-use Rattle.zrule.specs.Claims.{Shape, Entry, Claims}
+use Rattle.zrule.specs.Claims.{Entry, Claims}
 use Rattle.zrule.specs.Bytes.{IsWithin, IsChanging, IsFixed, IsAbbreviation}
-use Rattle.zrule.specs.Transfer.{pops, below, operand_set, Demands, demands_if, Lead, ahead, returning, Outcome, Outcomes, leading, with_result, with_assigned, narrowed}
+use Rattle.zflow.specs.declared.parts.Lead.{Lead}
+use Rattle.zflow.specs.declared.parts.Lead.TheVariants.{Ahead, Returning}
+use Rattle.zflow.specs.declared.parts.Demands.{Demands}
+use Rattle.zflow.specs.declared.parts.Outcome.{Outcome}
+use Rattle.zflow.specs.Transfer.{Shape, pops, leading, demands_at as asked_for, outcome_at, mid_shape, after}
 
 -- ---- rules on the story
 
@@ -68,27 +72,15 @@ module _ {V : Type 0} (o : SetOperations V) (claims : Claims V) where
   abbrev pub HasGlobals : LoadedStory → List ℕ → Type 0
   HasGlobals story memory = (k : ℕ) (values : V) → slice_get claims.globals k ≡ Some values → In o values (global_in story memory k)
 
-  -- ---- what is known after an instruction
-
-  -- the sets of what an instruction reads
-  abbrev pub read_set : Instruction → Shape V → ℕ → V
-  read_set i e = operand_set o claims (inputs i) e
-
-  -- what is known once that was read
-  abbrev pub mid_shape : Instruction → Shape V → Shape V
-  mid_shape i e = below (pops (inputs i)) e
-
-  abbrev pub demands_at : Instruction → Shape V → Demands V
-  demands_at i e = demands_if o (operation_of i.opcode) (read_set i e)
-
-  abbrev pub Comes : Instruction → Shape V → Outcome V → Type 0
-  Comes i e w = Outcomes o claims (operation_of i.opcode) (inputs i) (read_set i e) (mid_shape i e) w
-
-  -- what is known after the instruction came to this, before what a branch says of locals
-  abbrev pub changed_by : Outcome V → Instruction → Shape V → Shape V
-  changed_by w i e = with_result w.gives (target i) (with_assigned w.assigns (mid_shape i e))
-
   -- ---- words of the rules
+
+  -- what an instruction asks for
+  abbrev pub demands_at : Instruction → Shape V → Demands V
+  demands_at i e = asked_for o claims.globals i e
+
+  -- one of the things that may come of it
+  abbrev pub Comes : Instruction → Shape V → Outcome V → Type 0
+  Comes i e w = (c : Bool) × (outcome_at o claims.globals i e c ≡ Some w)
 
   -- a variable exists
   abbrev pub IsVariable : Shape V → ℕ → Type 0
@@ -121,13 +113,13 @@ module _ {V : Type 0} (o : SetOperations V) (claims : Claims V) where
 
   -- what comes after leads on, in front of a place; a return leads to no place of its own
   abbrev pub GoesOn : ℕ → Shape V → ℕ → Lead V → Type 0
-  GoesOn routine shape q (ahead d) = (to : ℕ) × (pos q +ℤ d ≡ pos to) × Leads routine shape to
-  GoesOn routine shape q (returning a) = Unit {0}
+  GoesOn routine shape q (Ahead d) = (to : ℕ) × (pos q +ℤ d ≡ pos to) × Leads routine shape to
+  GoesOn routine shape q (Returning a) = Unit {0}
 
   -- a routine returns what it may, and the main code nothing
   abbrev pub Returns : ℕ → Lead V → Type 0
-  Returns routine (returning a) = (1 ≤ routine) × Within o a (claims.result routine)
-  Returns routine (ahead d) = Unit {0}
+  Returns routine (Returning a) = (1 ≤ routine) × Within o a (claims.result routine)
+  Returns routine (Ahead d) = Unit {0}
 
   -- whatever may come of an instruction
   abbrev pub Whatever : Instruction → Shape V → (Outcome V → Type 0) → Type 0
@@ -135,7 +127,7 @@ module _ {V : Type 0} (o : SetOperations V) (claims : Claims V) where
 
   -- where locals can have what a branch says of them
   abbrev pub OnEdge : Outcome V → Instruction → Shape V → (Shape V → Type 0) → Type 0
-  OnEdge w i e Rule = IfSome (narrowed o w.kept (changed_by w i e)) Rule
+  OnEdge w i e Rule = IfSome (after o claims.globals i e w) Rule
 
   -- its stack stays low
   abbrev pub IsLow : Instruction → Shape V → Outcome V → Type 0
@@ -159,7 +151,7 @@ module _ {V : Type 0} (o : SetOperations V) (claims : Claims V) where
   -- I1: an instruction is there
   Keeps story p e rules.Decodes = (i : Instruction) × IsThere story p i
   -- I2: every pop and every use in place finds a slot
-  Keeps story p e rules.Height = (i : Instruction) → IsThere story p i → IsKnown i e.shape → (pops (inputs i) ≤ length e.shape.slots) × IfSome (demands_at i e.shape).variable (HasTop (mid_shape i e.shape))
+  Keeps story p e rules.Height = (i : Instruction) → IsThere story p i → IsKnown i e.shape → (pops (inputs i) ≤ length e.shape.slots) × IfSome (demands_at i e.shape).variable (HasTop (mid_shape o claims.globals i e.shape))
   -- I3: every variable that is named exists
   Keeps story p e rules.Local = (i : Instruction) → IsThere story p i → IsKnown i e.shape → AllByRecursion (IsNamed e.shape) (inputs i) × IsVariable e.shape (target i) × IfSome (demands_at i e.shape).variable (IsVariable e.shape)
   -- I4: each edge that can be taken leads on, and it is known how far a jump goes

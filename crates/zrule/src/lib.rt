@@ -2,12 +2,9 @@
 #![tactic(auto)]
 
 mod bytes;
-mod judging;
 mod laws;
 mod rule;
-mod shapes;
 
 pub use bytes::{is_changing, is_unchanging};
-pub use judging::{broken_rule, instruction_there, judge, rule_at};
 pub use laws::each_step_is_safe;
 pub use rule::Rule;

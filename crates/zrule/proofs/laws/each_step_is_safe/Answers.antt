@@ -6,10 +6,10 @@ pub returns-clause-opening : goal.returns-clause-opening
 returns-clause-opening g c = λ claims. opening_described g.V.Domain.operations claims
 
 pub returns-clause-step : goal.returns-clause-step
-returns-clause-step g c = λ claims m s loaded supports listed d. step_safe g.V.Domain.operations claims m loaded.sound loaded.counted supports listed s d
+returns-clause-step g c = λ claims m s loaded supports listed d. step_safe g.V.Domain.operations g.met.V.Domain.sound claims m s loaded supports listed d
 
 pub returns-clause-runs : goal.returns-clause-runs
-returns-clause-runs g c = λ claims m events n s loaded supports listed d. run_safe g.V.Domain.operations claims m loaded supports listed events n s d
+returns-clause-runs g c = λ claims m events n s loaded supports listed d. run_safe g.V.Domain.operations g.met.V.Domain.sound claims m loaded supports listed events n s d
 
 pub returns-clause-never_faults : goal.returns-clause-never_faults
-returns-clause-never_faults g c = λ claims story events n loaded supports. never_faults g.V.Domain.operations claims story events n loaded supports
+returns-clause-never_faults g c = λ claims story limit events n loaded supports. never_faults g.V.Domain.operations g.met.V.Domain.sound claims story limit events n loaded supports
