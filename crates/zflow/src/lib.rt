@@ -1,6 +1,14 @@
 //! What may come of an instruction, over sets of words: what it asks for, and what is known on each of its edges.
 #![tactic(auto)]
 
+mod asking;
+mod flow;
+mod known;
+mod outcomes;
 mod parts;
+mod row;
+mod view;
 
+pub use flow::{Edge, Flow, flow_of};
+pub use known::Known;
 pub use parts::{Demands, Kept, Lead, Outcome};

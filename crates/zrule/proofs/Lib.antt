@@ -1,6 +1,12 @@
 pub mod Below
 pub mod Unchanged
 mod Changing
+mod Covering
+pub mod Ordered
+mod Order
+pub mod Listed
+mod Whatever
+mod Asking
 pub mod Sets
 mod Memory
 mod Fitting

@@ -147,27 +147,32 @@ module _ {V : Type 0} (o : SetOperations V) (claims : Claims V) where
 
   -- ---- the rules on a listed place
 
+  -- what a rule asks of an instruction that is there
+  abbrev pub Asks : LoadedStory → ℕ → Entry V → Instruction → Rule → Type 0
+  Asks story p e i rules.Decodes = Unit {0}
+  -- I2: every pop and every use in place finds a slot
+  Asks story p e i rules.Height = IsKnown i e.shape → (pops (inputs i) ≤ length e.shape.slots) × IfSome (demands_at i e.shape).variable (HasTop (mid_shape o claims.globals i e.shape))
+  -- I3: every variable that is named exists
+  Asks story p e i rules.Local = IsKnown i e.shape → AllByRecursion (IsNamed e.shape) (inputs i) × IsVariable e.shape (target i) × IfSome (demands_at i e.shape).variable (IsVariable e.shape)
+  -- I4: each edge that can be taken leads on, and it is known how far a jump goes
+  Asks story p e i rules.Successor = Divides i e.shape → IsTrue (demands_at i e.shape).certain × Whatever i e.shape (λ w. IsLow i e.shape w → OnEdge w i e.shape (λ f. GoesOn e.routine f (p + i.size) (leading o w i.branch)))
+  -- I8: nothing is divided by 0
+  Asks story p e i rules.Divisor = Divides i e.shape
+  -- I11: the text behind the opcode byte stays as it is
+  Asks story p e i rules.Text = OnTrue (demands_at i e.shape).has_text (HasFixedText story claims.is_frozen (p + 1))
+  -- I13: what is returned lies in the set of the routine
+  Asks story p e i rules.Returned = Whatever i e.shape (λ w. OnEdge w i e.shape (λ f. Returns e.routine (leading o w i.branch)))
+  -- I15: a variable that an operand names is known
+  Asks story p e i rules.Known = IsKnown i e.shape
+  -- I16: what is given to a global lies in its set
+  Asks story p e i rules.Stored = Whatever i e.shape (λ w. Takes w.gives (target i) × TakesInPlace w.assigns)
+  -- I17: the stack stays low
+  Asks story p e i rules.High = Whatever i e.shape (IsLow i e.shape)
+
   abbrev pub Keeps : LoadedStory → ℕ → Entry V → Rule → Type 0
   -- I1: an instruction is there
   Keeps story p e rules.Decodes = (i : Instruction) × IsThere story p i
-  -- I2: every pop and every use in place finds a slot
-  Keeps story p e rules.Height = (i : Instruction) → IsThere story p i → IsKnown i e.shape → (pops (inputs i) ≤ length e.shape.slots) × IfSome (demands_at i e.shape).variable (HasTop (mid_shape o claims.globals i e.shape))
-  -- I3: every variable that is named exists
-  Keeps story p e rules.Local = (i : Instruction) → IsThere story p i → IsKnown i e.shape → AllByRecursion (IsNamed e.shape) (inputs i) × IsVariable e.shape (target i) × IfSome (demands_at i e.shape).variable (IsVariable e.shape)
-  -- I4: each edge that can be taken leads on, and it is known how far a jump goes
-  Keeps story p e rules.Successor = (i : Instruction) → IsThere story p i → Divides i e.shape → IsTrue (demands_at i e.shape).certain × Whatever i e.shape (λ w. IsLow i e.shape w → OnEdge w i e.shape (λ f. GoesOn e.routine f (p + i.size) (leading o w i.branch)))
-  -- I8: nothing is divided by 0
-  Keeps story p e rules.Divisor = (i : Instruction) → IsThere story p i → Divides i e.shape
-  -- I11: the text behind the opcode byte stays as it is
-  Keeps story p e rules.Text = (i : Instruction) → IsThere story p i → OnTrue (demands_at i e.shape).has_text (HasFixedText story claims.is_frozen (p + 1))
-  -- I13: what is returned lies in the set of the routine
-  Keeps story p e rules.Returned = (i : Instruction) → IsThere story p i → Whatever i e.shape (λ w. OnEdge w i e.shape (λ f. Returns e.routine (leading o w i.branch)))
-  -- I15: a variable that an operand names is known
-  Keeps story p e rules.Known = (i : Instruction) → IsThere story p i → IsKnown i e.shape
-  -- I16: what is given to a global lies in its set
-  Keeps story p e rules.Stored = (i : Instruction) → IsThere story p i → Whatever i e.shape (λ w. Takes w.gives (target i) × TakesInPlace w.assigns)
-  -- I17: the stack stays low
-  Keeps story p e rules.High = (i : Instruction) → IsThere story p i → Whatever i e.shape (IsLow i e.shape)
+  Keeps story p e rule = (i : Instruction) → IsThere story p i → Asks story p e i rule
 
   -- the rule is broken at a listed place, and none with a lower number is
   pub record IsLowestBroken (story : LoadedStory) (p : ℕ) (e : Entry V) (rule : Rule) : Type 0 where

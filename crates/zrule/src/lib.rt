@@ -2,9 +2,13 @@
 #![tactic(auto)]
 
 mod bytes;
+mod edges;
+mod judging;
 mod laws;
+mod operands;
 mod rule;
 
 pub use bytes::{is_changing, is_unchanging};
+pub use judging::{instruction_there, judge, rule_at};
 pub use laws::each_step_is_safe;
 pub use rule::Rule;

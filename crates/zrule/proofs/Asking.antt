@@ -1,0 +1,96 @@
+-- What a rule asks of a place, by the one instruction that is there.
+use Rattle.std.proofs.Common.{◌≡◌, ◌↔◌, ℕ, ◌+◌, Bool, true, false, refl, sym, ap, subst, ◌∙◌}
+use Rattle.std.specs.Prelude.{IsTrue, IfSome, not}
+use Rattle.std.specs.Bool.{OnTrue}
+use Rattle.zstory.specs.LoadedStory.{LoadedStory}
+use Rattle.zcode.specs.declared.opcode.Opcode.{Opcode}
+use Rattle.zcode.specs.declared.opcode.Opcode.TheVariants.{Print}
+use Rattle.zcode.specs.Opcodes.{prints_text}
+use Rattle.zcode.specs.Instruction.{Instruction}
+use Rattle.zcode.specs.Operation.{operation_of, target}
+use Rattle.zdomain.specs.Domain.{SetOperations, In}
+use Rattle.zflow.specs.declared.parts.Demands.{Demands}
+use Rattle.zflow.specs.declared.flow.Flow.{Flow}
+use Rattle.zflow.specs.Transfer.{demands_of, demands_if, read_set}
+use Rattle.zflow.specs.Flow.{IsFlow}
+use Rattle.zrule.specs.declared.rule.Rule.{Rule}
+use Rattle.zrule.specs.declared.rule.Rule.TheVariants.{Decodes, Height, Local, Successor, Divisor, Text, Returned, Known, Stored, High}
+use Rattle.zrule.specs.Claims.{Entry, Claims}
+use Rattle.zrule.specs.Rules.{IsThere, demands_at, IsKnown, Divides, HasFixedText, Asks, Keeps}
+use Rattle.zrule.specs.Edges.{EdgesKeep}
+use Rattle.zrule.proofs.Whatever.{leads_on, returned, stored, high}
+
+-- a place has one instruction
+one_there : (story : LoadedStory) (p : ℕ) (i j : Instruction) → IsThere story p i → IsThere story p j → i ≡ j
+one_there story p i j a b = let x = a.decodes in let y = b.decodes in cc
+
+-- what is asked of a text is asked of an opcode that prints one
+pub text_asked : {V : Type 0} (o : SetOperations V) (arg : ℕ → V) (op : Opcode) → (demands_if o (operation_of op) arg).has_text ≡ true → prints_text op ≡ true
+unfolding operation_of demands_of
+text_asked o arg Print h = refl
+text_asked o arg _ h = absurd cc
+
+pub on_true : (b c : Bool) (P : Type 0) → (b ≡ true → c ≡ true) → OnTrue c P → OnTrue b P
+on_true true true P follows h = h
+on_true true false P follows h = absurd (let f = follows refl in cc)
+on_true false c P follows h = tt
+
+module _ {V : Type 0} (o : SetOperations V) (claims : Claims V) (story : LoadedStory) (p : ℕ) (e : Entry V) (i : Instruction) (there : IsThere story p i) where
+  -- where a variable isn't known, nothing is asked of heights and locals
+  pub height_unknown : (rule : Rule) (b : Bool) → rule ≡ Height → (IsKnown o claims i e.shape → IsTrue b) → b ≡ false → IsTrue (not b) ↔ Asks o claims story p e i rule
+  height_unknown rule b is known unknown = rw (is, unknown) (λ t k. absurd (let f = known k in cc), λ a. refl)
+
+  pub local_unknown : (rule : Rule) (b : Bool) → rule ≡ Local → (IsKnown o claims i e.shape → IsTrue b) → b ≡ false → IsTrue (not b) ↔ Asks o claims story p e i rule
+  local_unknown rule b is known unknown = rw (is, unknown) (λ t k. absurd (let f = known k in cc), λ a. refl)
+
+  -- and what a text is asked is so of every opcode that prints one
+  pub text_fixed : (rule : Rule) → rule ≡ Text → OnTrue (prints_text i.opcode) (HasFixedText story claims.is_frozen (p + 1)) → Asks o claims story p e i rule
+  text_fixed rule is fixed = rw is (on_true _ _ _ (text_asked o (read_set o claims.globals i e.shape) i.opcode) fixed)
+
+  -- what is asked of edges
+  module _ (flow : Flow V) (are : IsFlow o claims.globals i e.shape flow) (rule : Rule) (b : Bool) (keep : IsTrue b ↔ EdgesKeep o claims e.routine (p + i.size) (target i) rule flow) where
+    as_is : (r : Rule) → rule ≡ r → IsTrue b ↔ EdgesKeep o claims e.routine (p + i.size) (target i) r flow
+    as_is r is = subst (λ (r : Rule). IsTrue b ↔ EdgesKeep o claims e.routine (p + i.size) (target i) r flow) is keep
+
+    pub successor_asked : rule ≡ Successor → (d : Bool) → (IsTrue d → IfSome flow.demands.divisor (λ a. In o a 0 → ⊥)) → d ≡ true → flow.demands.certain ≡ true → IsTrue b ↔ Asks o claims story p e i rule
+    successor_asked is d divides there certain =
+        let kept = as_is Successor is in
+        let edges = leads_on o claims i e.shape flow are e.routine (p + i.size) in
+        let known : demands_at o claims i e.shape ≡ flow.demands = sym are.demands in
+        let divided : Divides o claims i e.shape = subst (λ (x : Demands V). IfSome x.divisor (λ a. In o a 0 → ⊥)) are.demands (divides there) in
+        let sure : (demands_at o claims i e.shape).certain ≡ true = ap (λ (x : Demands V). x.certain) known ∙ certain in
+        subst (λ (r : Rule). IsTrue b ↔ Asks o claims story p e i r) (sym is) (λ t _. (sure, edges.0 (kept.0 t)), λ h. kept.1 (edges.1 (h divided).1))
+
+    pub returned_asked : rule ≡ Returned → IsTrue b ↔ Asks o claims story p e i rule
+    returned_asked is =
+        let kept = as_is Returned is in
+        let edges = returned o claims i e.shape flow are e.routine (p + i.size) in
+        subst (λ (r : Rule). IsTrue b ↔ Asks o claims story p e i r) (sym is) (λ t. edges.0 (kept.0 t), λ h. kept.1 (edges.1 h))
+
+    pub stored_asked : rule ≡ Stored → IsTrue b ↔ Asks o claims story p e i rule
+    stored_asked is =
+        let kept = as_is Stored is in
+        let edges = stored o claims i e.shape flow are e.routine (p + i.size) in
+        subst (λ (r : Rule). IsTrue b ↔ Asks o claims story p e i r) (sym is) (λ t. edges.0 (kept.0 t), λ h. kept.1 (edges.1 h))
+
+    pub high_asked : rule ≡ High → IsTrue b ↔ Asks o claims story p e i rule
+    high_asked is =
+        let kept = as_is High is in
+        let edges = high o claims i e.shape flow are e.routine (p + i.size) in
+        subst (λ (r : Rule). IsTrue b ↔ Asks o claims story p e i r) (sym is) (λ t. edges.0 (kept.0 t), λ h. kept.1 (edges.1 h))
+
+  -- what is asked of every instruction that is there is asked of this one
+  every : (P : Instruction → Type 0) → P i ↔ ((j : Instruction) → IsThere story p j → P j)
+  every P = (λ h j other. subst P (one_there story p i j there other) h, λ all. all i there)
+
+  pub asks_keeps : (rule : Rule) → Asks o claims story p e i rule ↔ Keeps o claims story p e rule
+  asks_keeps Decodes = (λ h. (i, there), λ k. tt)
+  asks_keeps Height = every (λ j. Asks o claims story p e j Height)
+  asks_keeps Local = every (λ j. Asks o claims story p e j Local)
+  asks_keeps Successor = every (λ j. Asks o claims story p e j Successor)
+  asks_keeps Divisor = every (λ j. Asks o claims story p e j Divisor)
+  asks_keeps Text = every (λ j. Asks o claims story p e j Text)
+  asks_keeps Returned = every (λ j. Asks o claims story p e j Returned)
+  asks_keeps Known = every (λ j. Asks o claims story p e j Known)
+  asks_keeps Stored = every (λ j. Asks o claims story p e j Stored)
+  asks_keeps High = every (λ j. Asks o claims story p e j High)

@@ -1,0 +1,57 @@
+-- The rules in their order.
+use Rattle.std.proofs.Common.{◌≡◌, ◌⊎◌, inl, inr, ℕ, suc, ◌+◌, ◌<◌, List, [], ◌∷◌, take, Some, refl, arith, sym, ap, subst}
+use Rattle.std.specs.Prelude.{slice_get}
+use Rattle.std.specs.List.{AllByRecursion}
+use Rattle.zrule.specs.declared.rule.Rule.{Rule}
+use Rattle.zrule.specs.declared.rule.Rule.TheVariants.{Decodes, Height, Local, Successor, Divisor, Text, Returned, Known, Stored, High}
+use Rattle.zrule.specs.Numbers.{number_of}
+use Rattle.zrule.proofs.Ordered.{IsAmong, Rises, among_above, among_kept, more_kept, lower_kept}
+
+-- those that are asked of an instruction that is there
+abbrev pub asked : List Rule
+asked = Height ∷ Local ∷ Successor ∷ Divisor ∷ Text ∷ Returned ∷ Known ∷ Stored ∷ High ∷ []
+
+-- every other rule is one of them
+others : (q : Rule) → (q ≡ Decodes) ⊎ IsAmong q asked
+others Decodes = inl refl
+others Height = inr (inl refl)
+others Local = inr (inr (inl refl))
+others Successor = inr (inr (inr (inl refl)))
+others Divisor = inr (inr (inr (inr (inl refl))))
+others Text = inr (inr (inr (inr (inr (inl refl)))))
+others Returned = inr (inr (inr (inr (inr (inr (inl refl))))))
+others Known = inr (inr (inr (inr (inr (inr (inr (inl refl)))))))
+others Stored = inr (inr (inr (inr (inr (inr (inr (inr (inl refl))))))))
+others High = inr (inr (inr (inr (inr (inr (inr (inr (inr (inl refl)))))))))
+
+-- and their numbers rise
+rising : Rises number_of (number_of Decodes) asked
+rising = (omega arith, (omega arith, (omega arith, (omega arith, (omega arith, (omega arith, (omega arith, (omega arith, (omega arith, tt)))))))))
+
+module _ (P : Rule → Type 0) where
+  pub kept_all : P Decodes → AllByRecursion P asked → (q : Rule) → P q
+  kept_all d a q = by_others (others q)
+    where
+      by_others : (q ≡ Decodes) ⊎ IsAmong q asked → P q
+      by_others (inl same) = subst P (sym same) d
+      by_others (inr among) = among_kept P asked q a among
+
+  pub kept_more : (k : ℕ) (rule : Rule) → slice_get asked k ≡ Some rule → P rule → AllByRecursion P (take k asked) → AllByRecursion P (take (k + 1) asked)
+  kept_more k rule e p a =
+      let next : suc k ≡ k + 1 = omega arith in
+      subst (λ (n : ℕ). AllByRecursion P (take n asked)) next (more_kept P asked k rule e p a)
+
+  pub kept_before : P Decodes → (k : ℕ) (rule : Rule) → slice_get asked k ≡ Some rule → AllByRecursion P (take k asked) → (q : Rule) → number_of q < number_of rule → P q
+  kept_before d k rule e a q l = by_others (others q)
+    where
+      by_others : (q ≡ Decodes) ⊎ IsAmong q asked → P q
+      by_others (inl same) = subst P (sym same) d
+      by_others (inr among) = lower_kept P number_of (number_of Decodes) asked k rule q rising e a among l
+
+  -- none is below the first of all
+  pub none_below : (q : Rule) → number_of q < number_of Decodes → P q
+  none_below q l = absurd (by_others (others q))
+    where
+      by_others : (q ≡ Decodes) ⊎ IsAmong q asked → ⊥
+      by_others (inl same) = let equal = ap number_of same in omega (arith, l, equal)
+      by_others (inr among) = let above = among_above number_of (number_of Decodes) asked q rising among in omega (arith, l, above)

@@ -1,0 +1,12 @@
+use Rattle.std.proofs.Common.{take}
+use Rattle.std.specs.List.{AllByRecursion}
+use Rattle.zcert.specs.Listed.{seen}
+use Rattle.zdomain.specs.Interval.{interval_operations}
+use Rattle.zrule.specs.Claims.{claims_of, entry_of}
+use Rattle.zrule.specs.Rules.{Keeps}
+use Rattle.zrule.proofs.Order.{asked}
+use Rattle.zrule.proofs.judging.judge.Given as goal
+
+abbrev pub invariant-loop-rule : goal.invariant-loop-rule
+invariant-loop-rule l =
+    AllByRecursion (Keeps interval_operations (claims_of interval_operations l.certificate) l.story l.listed.address (entry_of (seen l.listed))) (take l.rule-index asked)

@@ -1,0 +1,10 @@
+use Rattle.zcert.specs.Listed.{seen}
+use Rattle.zdomain.specs.Interval.{interval_operations}
+use Rattle.zrule.specs.Claims.{claims_of, entry_of}
+use Rattle.zrule.proofs.Asking.{asks_keeps}
+use Rattle.zrule.proofs.judging.keeps.Goals as goal
+
+pub returns : goal.returns
+returns c =
+    let told = asks_keeps interval_operations (claims_of interval_operations c.args.certificate.now) c.args.story.now c.args.listed.now.address (entry_of (seen c.args.listed.now)) c.args.instruction.now c.requires.there c.args.rule in
+    (λ t. told.0 (c.asks.ensures.0 t), λ k. c.asks.ensures.1 (told.1 k))

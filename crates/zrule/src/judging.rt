@@ -1,0 +1,253 @@
+//! Which rule an instruction breaks.
+
+ghost use Rattle.std.specs.Prelude.{◌≡◌, ◌↔◌, ◌+◌, ◌≤◌, ℕ, Bool, IsTrue, IfSome, IfNone, IfOk, IfErr, MatchOption, Some, length};
+ghost use Rattle.std.specs.Bool.{OnTrue};
+ghost use Rattle.zdomain.specs.Interval.{interval_operations};
+ghost use Rattle.zcert.specs.Listed.{listed_at, seen};
+ghost use Rattle.zcode.specs.Instruction.{Instruction as Spelled};
+ghost use Rattle.zcode.specs.Operation.{target};
+ghost use Rattle.zcode.specs.Opcodes.{prints_text};
+ghost use Rattle.zdomain.specs.Domain.{In};
+ghost use Rattle.zrule.specs.Edges.{EdgeKeeps, EdgesKeep};
+ghost use Rattle.zflow.specs.Flow.{IsFlow};
+ghost use Rattle.zrule.specs.declared.rule.Rule.{Rule as ARule};
+ghost use Rattle.zrule.specs.Claims.{claims_of, entry_of, Entry};
+ghost use Rattle.zrule.specs.Rules.{Asks, IsThere, HasFixedText, Keeps, IsLowestBroken};
+
+use crate::edges::{goes_on, is_low, returns, stores};
+use crate::operands::{has_height, has_locals, is_known};
+use crate::rule::Rule;
+use zcert::{Certificate, Instruction};
+use zcode::{Instr, decode_by, text_ends_instruction};
+use zdomain::{Domain, Interval};
+use zflow::{Demands, Edge, Flow, flow_of};
+use zstory::Story;
+use ztext::TextEnds;
+
+/// The rules that are asked of an instruction that is there, by their numbers.
+const RULES: [Rule; 9] = [
+    Rule::Height,
+    Rule::Local,
+    Rule::Successor,
+    Rule::Divisor,
+    Rule::Text,
+    Rule::Returned,
+    Rule::Known,
+    Rule::Stored,
+    Rule::High,
+];
+
+/// The instruction at an address, and `None` where none decodes there or the address lies below the base of static memory,
+/// since an instruction in dynamic memory might change (own).
+pub fn instruction_there(story: &Story, address: u32) -> Option<Instr>
+    ensures none { IfNone result ((i : Spelled) → IsThere story.now address i → ⊥) }
+    ensures some { IfSome result (λ i. IsThere story.now address i) }
+    ensures within { IfSome result (λ i. address + i.size ≤ 131072) }
+{
+    spelled_there(story, address, &mut TextEnds::new(story.memory()))
+}
+
+/// What `instruction_there` answers, by the ends of the texts of the story's memory.
+fn spelled_there(story: &Story, address: u32, ends: &mut TextEnds<'_>) -> Option<Instr>
+    requires { ends.old ≡ story.now.memory }
+    ensures memory { ends.new ≡ ends.old }
+    ensures none { IfNone result ((i : Spelled) → IsThere story.now address i → ⊥) }
+    ensures some { IfSome result (λ i. IsThere story.now address i) }
+    ensures within { IfSome result (λ i. address + i.size ≤ 131072) }
+{
+    let _length = story.length(); // at most 131,072
+    let place = address as usize;
+    if place < story.static_base() {
+        return None;
+    }
+    decode_by(ends, place).ok()
+}
+
+/// Whether nothing is divided by 0.
+fn divides(demands: &Demands<Interval>) -> bool
+    ensures { IsTrue result ↔ IfSome demands.now.divisor (λ a. In interval_operations a 0 → ⊥) }
+{
+    match demands.divisor {
+        Some(set) => !set.contains(0),
+        None => true,
+    }
+}
+
+/// Whether an edge keeps a rule. A listed instruction is looked for at the index `near` first.
+fn edge_keeps(
+    certificate: &Certificate,
+    listed: &Instruction<'_, Interval>,
+    instruction: &Instr,
+    edge: &Edge<Interval>,
+    near: usize,
+    rule: Rule,
+) -> bool
+    requires { listed.now.address + instruction.now.size ≤ 131072 }
+    ensures { IsTrue result ↔ EdgeKeeps interval_operations (claims_of interval_operations certificate.now) listed.now.routine (listed.now.address + instruction.now.size) (target instruction.now) rule edge.now }
+{
+    match rule {
+        Rule::Successor => {
+            let next = listed.address + instruction.length() as u32;
+            !is_low(edge) || goes_on(certificate, listed.routine, edge, next, near)
+        }
+        Rule::Returned => returns(certificate, listed.routine, edge),
+        Rule::Stored => stores(certificate, instruction.target(), edge),
+        Rule::High => is_low(edge),
+        _ => true,
+    }
+}
+
+/// Whether both edges do, where they can be taken.
+fn edges_keep(
+    certificate: &Certificate,
+    listed: &Instruction<'_, Interval>,
+    instruction: &Instr,
+    flow: &Flow<Interval>,
+    near: usize,
+    rule: Rule,
+) -> bool
+    requires { listed.now.address + instruction.now.size ≤ 131072 }
+    ensures { IsTrue result ↔ EdgesKeep interval_operations (claims_of interval_operations certificate.now) listed.now.routine (listed.now.address + instruction.now.size) (target instruction.now) rule flow.now }
+{
+    let held = match &flow.held {
+        Some(edge) => edge_keeps(certificate, listed, instruction, edge, near, rule),
+        None => true,
+    };
+    held
+        && match &flow.failed {
+            Some(edge) => edge_keeps(certificate, listed, instruction, edge, near, rule),
+            None => true,
+        }
+}
+
+/// The text behind the opcode byte of an instruction that is there ends in memory, since that was decoded, and no play changes a
+/// byte of it, since it's static.
+fn texts_are_fixed(story: &Story)
+    ensures { (is_frozen : ℕ → Bool) (p : ℕ) (i : Spelled) → IsThere story.now p i → OnTrue (prints_text i.opcode) (HasFixedText story.now is_frozen (p + 1)) }
+{
+    let _memory = story.memory(); // which is sound
+    text_ends_instruction();
+}
+
+/// Whether an instruction that is there does what a rule asks of it.
+fn asks(
+    story: &Story,
+    certificate: &Certificate,
+    listed: &Instruction<'_, Interval>,
+    instruction: &Instr,
+    flow: &Flow<Interval>,
+    near: usize,
+    rule: Rule,
+) -> bool
+    requires there { IsThere story.now listed.now.address instruction.now }
+    requires near { listed.now.address + instruction.now.size ≤ 131072 }
+    requires flow { IsFlow interval_operations certificate.now.globals instruction.now (entry_of (seen listed.now)).shape flow.now }
+    ensures { IsTrue result ↔ Asks interval_operations (claims_of interval_operations certificate.now) story.now listed.now.address (entry_of (seen listed.now)) instruction.now rule }
+{
+    let demands = &flow.demands;
+    match rule {
+        Rule::Decodes => true,
+        Rule::Height => {
+            !is_known(certificate, listed, instruction, demands)
+                || has_height(certificate, listed, instruction, flow.popped, demands)
+        }
+        Rule::Local => {
+            !is_known(certificate, listed, instruction, demands)
+                || has_locals(certificate, listed, instruction, demands)
+        }
+        Rule::Successor => {
+            !divides(demands)
+                || (demands.certain
+                    && edges_keep(certificate, listed, instruction, flow, near, rule))
+        }
+        Rule::Divisor => divides(demands),
+        Rule::Text => {
+            texts_are_fixed(story);
+            true
+        }
+        Rule::Known => is_known(certificate, listed, instruction, demands),
+        Rule::Returned => edges_keep(certificate, listed, instruction, flow, near, rule),
+        Rule::Stored => edges_keep(certificate, listed, instruction, flow, near, rule),
+        Rule::High => edges_keep(certificate, listed, instruction, flow, near, rule),
+    }
+}
+
+/// Whether a place where an instruction is keeps a rule.
+fn keeps(
+    story: &Story,
+    certificate: &Certificate,
+    listed: &Instruction<'_, Interval>,
+    instruction: &Instr,
+    flow: &Flow<Interval>,
+    near: usize,
+    rule: Rule,
+) -> bool
+    requires there { IsThere story.now listed.now.address instruction.now }
+    requires near { listed.now.address + instruction.now.size ≤ 131072 }
+    requires flow { IsFlow interval_operations certificate.now.globals instruction.now (entry_of (seen listed.now)).shape flow.now }
+    ensures { IsTrue result ↔ Keeps interval_operations (claims_of interval_operations certificate.now) story.now listed.now.address (entry_of (seen listed.now)) rule }
+{
+    asks(story, certificate, listed, instruction, flow, near, rule)
+}
+
+/// The lowest rule that a listed instruction breaks, and `None` where it keeps all (own). No other rule is asked of a
+/// place where no instruction is.
+fn broken_rule(
+    story: &Story,
+    certificate: &Certificate,
+    listed: &Instruction<'_, Interval>,
+) -> Option<Rule>
+    requires { listed_at certificate.now.instructions listed.now.address ≡ Some (seen listed.now) }
+    ensures { MatchOption result ((rule : ARule) → Keeps interval_operations (claims_of interval_operations certificate.now) story.now listed.now.address (entry_of (seen listed.now)) rule) (IsLowestBroken interval_operations (claims_of interval_operations certificate.now) story.now listed.now.address (entry_of (seen listed.now))) }
+{
+    let mut ends = TextEnds::new(story.memory());
+    match judge(
+        story,
+        certificate,
+        listed,
+        certificate.instruction_count(),
+        &mut ends,
+    ) {
+        Ok(_) => None,
+        Err(rule) => Some(rule),
+    }
+}
+
+/// A listed instruction as the story spells it, where it keeps all rules, and else the lowest rule that it breaks (own).
+/// `ends` are those of the texts of the story's memory. The instruction behind it is looked for at the index `near` first, and
+/// searched for where another is listed there.
+pub fn judge(
+    story: &Story,
+    certificate: &Certificate,
+    listed: &Instruction<'_, Interval>,
+    near: usize,
+    ends: &mut TextEnds<'_>,
+) -> Result<Instr, Rule>
+    requires listed { listed_at certificate.now.instructions listed.now.address ≡ Some (seen listed.now) }
+    requires ends { ends.old ≡ story.now.memory }
+    ensures memory { ends.new ≡ ends.old }
+    ensures there { IfOk result (λ i. IsThere story.now listed.now.address i) }
+    ensures kept { IfOk result (λ i. (rule : ARule) → Keeps interval_operations (claims_of interval_operations certificate.now) story.now listed.now.address (entry_of (seen listed.now)) rule) }
+    ensures broken { IfErr result (IsLowestBroken interval_operations (claims_of interval_operations certificate.now) story.now listed.now.address (entry_of (seen listed.now))) }
+{
+    let Some(instruction) = spelled_there(story, listed.address, ends) else {
+        return Err(Rule::Decodes);
+    };
+    let flow = flow_of(certificate.globals(), listed.locals, listed.slots, &instruction);
+    for rule in RULES {
+        if !keeps(story, certificate, listed, &instruction, &flow, near, rule) {
+            return Err(rule);
+        }
+    }
+    Ok(instruction)
+}
+
+/// The lowest rule that is broken at an address, where an instruction is listed there (own). `None` where all are kept,
+/// or nothing is listed.
+pub fn rule_at(story: &Story, certificate: &Certificate, address: u32) -> Option<Rule>
+    ensures kept { IfNone result ((entry : Entry Interval) → (claims_of interval_operations certificate.now).entry address ≡ Some entry → (rule : ARule) → Keeps interval_operations (claims_of interval_operations certificate.now) story.now address entry rule) }
+    ensures broken { IfSome result (λ rule. (entry : Entry Interval) × ((claims_of interval_operations certificate.now).entry address ≡ Some entry) × IsLowestBroken interval_operations (claims_of interval_operations certificate.now) story.now address entry rule) }
+{
+    let listed = certificate.instruction_at(address)?;
+    broken_rule(story, certificate, &listed)
+}
