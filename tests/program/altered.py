@@ -8,7 +8,7 @@ import re
 import sys
 
 from program import Count, Program, side_by_side
-from samples import HELLO, QUIT, certificate, story
+from samples import HELLO, NOP, QUIT, certificate, interval, story
 
 REFUSED = re.compile(rb"refused: [LKSI][0-9]{1,2}( at [0-9a-f]{5})?\n")
 PLAYED = re.compile(rb"(end: budget\n)?")
@@ -42,8 +42,10 @@ def what_is_wrong(program, files):
 def main():
     program = Program(sys.argv[1])
     count = Count("altered")
-    made = story(HELLO + QUIT)
-    listed = certificate(made, [0x324, 0x329])
+    # behind the first quit is what isn't reached, with two slots
+    slots = interval(1, 2) + interval(-1, 3)
+    made = story(HELLO + QUIT + NOP + QUIT)
+    listed = certificate(made, [0x324, 0x329, 0x32A, 0x32B], stacks={0x32A: slots, 0x32B: slots})
     cases = [(f"story, {name}", {"story": file, "certificate": listed}) for name, file in changes(made)]
     cases += [(f"certificate, {name}", {"story": made, "certificate": file}) for name, file in changes(listed)]
     for (name, _), wrong in zip(cases, side_by_side(lambda case: what_is_wrong(program, case[1]), cases)):

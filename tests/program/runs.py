@@ -10,7 +10,7 @@ import subprocess
 import sys
 
 from program import Answer, Count, Program
-from samples import CODE, HELLO, NEW_LINE, NOP, QUIT, certificate, changed, story, with_objects
+from samples import CODE, HELLO, NEW_LINE, NOP, QUIT, certificate, changed, interval, story, with_objects
 
 HERE = os.path.dirname(os.path.abspath(__file__))
 SAMPLE = story(HELLO + QUIT)
@@ -47,6 +47,14 @@ def coded(code, addresses):
     made = story(code)
     return files(made, certificate(made, addresses))
 
+
+def stacked(before, after):
+    """A story whose last two instructions, at 326 and 327, are never reached, listed with these slots."""
+    made = story(NEW_LINE + QUIT + NOP + QUIT)
+    return files(made, certificate(made, range(0x324, 0x328), stacks={0x326: before, 0x327: after}))
+
+
+ONE, TWO, WIDE = interval(1, 1), interval(2, 2), interval(-32768, 32767)
 
 # ---- words: name, words, answer
 
@@ -158,6 +166,8 @@ COMMANDS = [
     ("an interval with nothing in it", CHECK, files(listed=changed(ITS_CERTIFICATE, 22, 1)), refused("K6")),
     ("an address of 131,072", CHECK, files(listed=certificate(SAMPLE, [0x324, 0x20000])), refused("K7")),
     ("an address of 131,071", CHECK, files(listed=certificate(SAMPLE, [0x324, 0x329, 0x1FFFF])), refused("I1 at 1ffff")),
+    ("a stack of 65", CHECK, stacked(WIDE * 65, WIDE * 65), refused("K7")),
+    ("a slot with nothing in it", CHECK, stacked(ONE + interval(2, 1), ONE + TWO), refused("K6")),
     ("a story played by a bad certificate", PLAY_LISTED, files(listed=b"ZPCD"), refused("K1")),
     # rules that are broken
     ("another release", CHECK, files(listed=certificate(SAMPLE, LISTED, release=2)), refused("S1")),
@@ -169,6 +179,13 @@ COMMANDS = [
     ("a listed place with no instruction", CHECK, coded(b"\xeb\x7f\x00" + QUIT, [0x324, 0x327]), refused("I1 at 00324")),
     ("a text that has lost its end", CHECK, files(changed(SAMPLE, 0x327, 0x46)), refused("I1 at 00324")),
     ("a successor that isn't listed", CHECK, files(listed=certificate(SAMPLE, [0x324])), refused("I4 at 00324")),
+    ("stacks of two", CHECK, stacked(ONE + TWO, ONE + TWO), done(b"accepted\n")),
+    ("stacks of 64, each slot within a wider one", PLAY_LISTED, stacked(ONE * 64, WIDE * 64), done(b"\n")),
+    ("a slot that is wider than the one after it", CHECK, stacked(WIDE, ONE), refused("I4 at 00326")),
+    ("slots turned round", CHECK, stacked(ONE + TWO, TWO + ONE), refused("I4 at 00326")),
+    ("a slot that is lost", CHECK, stacked(ONE + TWO, ONE), refused("I4 at 00326")),
+    ("a slot that comes", CHECK, stacked(ONE, ONE + TWO), refused("I4 at 00326")),
+    ("a stack at the first place", CHECK, files(listed=certificate(SAMPLE, LISTED, stacks={0x324: ONE, 0x329: ONE})), refused("S2")),
     ("a quit that became a new_line", CHECK, files(changed(SAMPLE, 0x329, 0xBB)), refused("I4 at 00329")),
     ("the same, played", PLAY_LISTED, files(changed(SAMPLE, 0x329, 0xBB)), refused("I4 at 00329")),
 ]

@@ -50,15 +50,22 @@ def with_objects():
     return words.ljust(64, b"\0") + rest
 
 
-def certificate(made, addresses, values=(0, 0), release=RELEASE):
-    """A certificate of a story that lists these addresses, each in the main code with an empty stack, and says of each global that
-    it lies between these values."""
+def interval(lower, upper):
+    return struct.pack(">hh", lower, upper)
+
+
+def certificate(made, addresses, values=(0, 0), release=RELEASE, stacks=None):
+    """A certificate of a story that lists these addresses, each in the main code, and says of each global that it lies between these
+    values. The stack is empty, or has the intervals that are given for the address, the bottom one first."""
+    stacks = stacks or {}
     parts = [b"ZPCC\x01", struct.pack(">H6s2sI", release, SERIAL, made[0x1C:0x1E], len(made))]
     parts.append(word(0))  # no ranges
-    parts.append(struct.pack(">hh", *values) * 240)
+    parts.append(interval(*values) * 240)
     parts.append(word(0))  # no routines
     parts.append(struct.pack(">I", len(addresses)))
-    parts.extend(struct.pack(">IHB", address, 0, 0) for address in addresses)
+    for address in addresses:
+        slots = stacks.get(address, b"")
+        parts.append(struct.pack(">IHB", address, 0, len(slots) // 4) + slots)
     return b"".join(parts)
 
 

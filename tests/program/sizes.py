@@ -8,7 +8,7 @@ No clause says that a call succeeds where there is memory, so these runs do. Wha
 import sys
 
 from program import Answer, Count, Program
-from samples import CODE, DICTIONARY, NEW_LINE, NOP, QUIT, certificate, printed, story, text
+from samples import CODE, DICTIONARY, NEW_LINE, NOP, QUIT, certificate, interval, printed, story, text
 
 LONGEST = 131072
 WIDE = (-32768, 32767)
@@ -35,6 +35,19 @@ def longest(program, count):
         assert len(listed) > 900000
         see(program, count, f"the longest story of {name}s", made, listed, printed_each * (room - 1 - 100))
         see(program, count, f"the same, cut off by its budget", made, listed, printed_each * 70000, b"end: budget\n", 70000)
+
+
+def highest(program, count):
+    """The longest story with stacks of 64 at each place but its first two, which alone are reached: a certificate of 34,260,959
+    bytes."""
+    made = story(NEW_LINE + QUIT + NOP * (LONGEST - CODE - 3) + QUIT)
+    places = range(CODE, LONGEST)
+    stacks = dict.fromkeys(places[2:], interval(*WIDE) * 64)
+    listed = certificate(made, places, values=WIDE, stacks=stacks)
+    assert len(listed) == 987 + 7 * len(places) + 256 * len(places[2:]) == 34260959
+    see(program, count, "stacks of 64", made, listed, b"\n")
+    files = {"story": made, "certificate": listed + b"\0"}
+    count.is_answer("stacks of 64, and a byte behind", program.run(["check", "story", "certificate"], files), Answer(1, b"", b"refused: K4\n"))
 
 
 def long_certificates(program, count):
@@ -84,6 +97,7 @@ def main():
     program = Program(sys.argv[1])
     count = Count("sizes")
     longest(program, count)
+    highest(program, count)
     long_certificates(program, count)
     long_texts(program, count)
     long_names(program, count)

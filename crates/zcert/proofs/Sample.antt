@@ -1,8 +1,8 @@
 -- The sample certificate, computed.
-use Rattle.std.proofs.Common.{◌≡◌, ℕ, zero, suc, List, [], ◌∷◌, ◌++◌, replicate, drop, Result, Ok, Err, refl, arith, length}
+use Rattle.std.proofs.Common.{◌≡◌, ℕ, zero, suc, List, [], ◌∷◌, ◌++◌, replicate, take, drop, Result, Ok, Err, pos, negsuc, refl, arith, length}
 use Rattle.std.specs.List.{AllByRecursion}
 use Rattle.zdomain.specs.declared.interval.Interval.{Interval}
-use Rattle.zdomain.specs.Interval.{point}
+use Rattle.zdomain.specs.Interval.{point, in_order}
 use Rattle.zcert.specs.declared.error.CertError.{CertError}
 use Rattle.zcert.specs.declared.error.CertError.TheVariants as errors
 use Rattle.zcert.specs.Certificate.{Certificate}
@@ -105,3 +105,33 @@ empty_global = refl
 counts : (altered (front ++ 0 ∷ 0 ∷ 0 ∷ 0 ∷ []) (0 ∷ 0 ∷ 0 ∷ 0 ∷ 0 ∷ 1 ∷ drop 6 back) ≡ Err errors.Trailing) × (altered (front ++ 0 ∷ 0 ∷ 0 ∷ 0 ∷ []) (0 ∷ 0 ∷ 0 ∷ 0 ∷ 0 ∷ 3 ∷ drop 6 back) ≡ Err errors.Truncated) × (altered (front ++ 0 ∷ 0 ∷ 0 ∷ 0 ∷ []) (0 ∷ 0 ∷ 0 ∷ 2 ∷ 0 ∷ 1 ∷ drop 6 back) ≡ Err errors.Limit) × (altered (front ++ 0 ∷ 0 ∷ 0 ∷ 0 ∷ []) (0 ∷ 0 ∷ 0 ∷ 0 ∷ 0 ∷ 2 ∷ 0 ∷ 0 ∷ 3 ∷ 0x29 ∷ drop 10 back) ≡ Err errors.Order)
 unfolding altered front back reading heading_at magic_at version_at identity_at range_at ranges_at all_ranges_at values_at routine_at routines_at all_routines_at instruction_at instructions_at all_instructions_at at_end
 counts = (refl, refl, refl, refl)
+
+-- ---- one with stacks of none, one and two slots, the bottom one first
+
+stacked : Certificate Interval
+stacked = record certificate {
+  instructions = record { address = 0x324; routine = 0; locals = []; slots = [] }
+      ∷ record { address = 0x326; routine = 0; locals = []; slots = point 5 ∷ [] }
+      ∷ record { address = 0x329; routine = 0; locals = []; slots = point 5 ∷ record { lo = negsuc 0; hi = pos 3; ordered = in_order (negsuc 0) (pos 3) refl } ∷ [] }
+      ∷ [];
+}
+
+stacks : List ℕ
+stacks = 0 ∷ 0 ∷ 0 ∷ 0 ∷ 0 ∷ 3
+    ∷ 0 ∷ 0 ∷ 3 ∷ 0x24 ∷ 0 ∷ 0 ∷ 0
+    ∷ 0 ∷ 0 ∷ 3 ∷ 0x26 ∷ 0 ∷ 0 ∷ 1 ∷ 0 ∷ 5 ∷ 0 ∷ 5
+    ∷ 0 ∷ 0 ∷ 3 ∷ 0x29 ∷ 0 ∷ 0 ∷ 2 ∷ 0 ∷ 5 ∷ 0 ∷ 5 ∷ 0xFF ∷ 0xFF ∷ 0 ∷ 3
+    ∷ []
+
+stacks_spelled : spelling interval_format stacked ≡ front ++ replicate 960 0 ++ stacks
+unfolding stacked certificate front stacks
+stacks_spelled = refl
+
+stacks_read : reading interval_format (front ++ replicate 960 0 ++ stacks) ≡ Ok stacked
+unfolding stacked certificate front stacks reading heading_at magic_at version_at identity_at range_at ranges_at all_ranges_at values_at routine_at routines_at all_routines_at instruction_at instructions_at all_instructions_at at_end
+stacks_read = refl
+
+-- a slot less is there, and a slot more
+slots_counted : (reading interval_format (front ++ replicate 960 0 ++ take 38 stacks) ≡ Err errors.Truncated) × (reading interval_format (front ++ replicate 960 0 ++ stacks ++ 0 ∷ 1 ∷ 0 ∷ 1 ∷ []) ≡ Err errors.Trailing)
+unfolding front stacks reading heading_at magic_at version_at identity_at range_at ranges_at all_ranges_at values_at routine_at routines_at all_routines_at instruction_at instructions_at all_instructions_at at_end
+slots_counted = (refl, refl)

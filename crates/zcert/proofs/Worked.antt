@@ -1,5 +1,6 @@
 -- Values of the definitions, computed.
-use Rattle.std.proofs.Common.{◌≡◌, true, false, ℕ, List, [], ◌∷◌, ◌++◌, Some, None, Ok, Err, pos, negsuc, refl, arith}
+use Rattle.std.proofs.Common.{◌≡◌, true, false, ℕ, List, [], ◌∷◌, ◌++◌, length, replicate, zero, suc, Some, None, Ok, Err, pos, negsuc, refl, arith}
+use Rattle.std.specs.List.{AllByRecursion}
 use Rattle.zdomain.specs.declared.interval.Interval.{Interval}
 use Rattle.zdomain.specs.Interval.{point, all_words, interval_of, in_order}
 use Rattle.zstory.specs.declared.identity.Identity.{Identity}
@@ -28,8 +29,8 @@ use Rattle.zcert.specs.View.{Refuses, RefusesField}
 
 -- ---- limits
 
--- as long as a certificate can be: 27 bytes, the globals, and 67 bytes for each instruction
-limits : (MAGIC ≡ 0x5A504343) × (VERSION ≡ 1) × (GLOBALS ≡ 240) × (ADDRESS_LIMIT ≡ 131072) × (MAX_LOCALS ≡ 15) × (MAX_INSTRUCTIONS ≡ 131072) × (MAX_RANGES ≡ 0) × (MAX_ROUTINES ≡ 0) × (MAX_HEIGHT ≡ 0) × (LARGEST ≡ 8782811)
+-- as long as a certificate can be: 27 bytes, the globals, and 323 bytes for each instruction
+limits : (MAGIC ≡ 0x5A504343) × (VERSION ≡ 1) × (GLOBALS ≡ 240) × (ADDRESS_LIMIT ≡ 131072) × (MAX_LOCALS ≡ 15) × (MAX_INSTRUCTIONS ≡ 131072) × (MAX_RANGES ≡ 0) × (MAX_ROUTINES ≡ 0) × (MAX_HEIGHT ≡ 64) × (LARGEST ≡ 42337243)
 limits = (refl, refl, refl, refl, refl, refl, refl, refl, refl, refl)
 
 -- ---- numbers
@@ -67,6 +68,18 @@ instruction = record { address = 0x331; routine = 1; locals = point 0 ∷ []; sl
 
 main_instruction : Instruction Interval
 main_instruction = record { address = 0x324; routine = 0; locals = []; slots = [] }
+
+-- an instruction of the main code with two slots: the bottom one in [1, 2], the top one in [-1, 3]
+stacked : Instruction Interval
+stacked = record {
+  address = 0x326;
+  routine = 0;
+  locals = [];
+  slots = record { lo = pos 1; hi = pos 2; ordered = in_order (pos 1) (pos 2) refl } ∷ record { lo = negsuc 0; hi = pos 3; ordered = in_order (negsuc 0) (pos 3) refl } ∷ [];
+}
+
+stacked_text : List ℕ
+stacked_text = 0 ∷ 0 ∷ 3 ∷ 0x26 ∷ 0 ∷ 0 ∷ 2 ∷ 0 ∷ 1 ∷ 0 ∷ 2 ∷ 0xFF ∷ 0xFF ∷ 0 ∷ 3 ∷ []
 
 identity : Identity
 identity = record { release = 1; serial = 0x32 ∷ 0x36 ∷ 0x30 ∷ 0x31 ∷ 0x30 ∷ 0x31 ∷ []; checksum = 0x3A7A; length = 0x32A }
@@ -125,6 +138,11 @@ instructions_spelled : (instruction_bytes interval_format main_instruction ≡ 0
 unfolding main_instruction instruction
 instructions_spelled = (refl, refl)
 
+-- the bottom slot first
+stack_spelled : instruction_bytes interval_format stacked ≡ stacked_text
+unfolding stacked stacked_text
+stack_spelled = refl
+
 heading_spelled : heading interval_format ≡ 0x5A ∷ 0x50 ∷ 0x43 ∷ 0x43 ∷ 1 ∷ []
 heading_spelled = refl
 
@@ -150,9 +168,24 @@ is_identity = record {
   loaded_length = omega arith;
 }
 
-last_address : IsRoutine interval_format (record routine { address = 131071; locals = 15 }) × (IsInstruction interval_format [] (record main_instruction { address = 131072 }) → ⊥) × (IsInstruction interval_format [] (record main_instruction { slots = point 0 ∷ [] }) → ⊥)
+last_address : IsRoutine interval_format (record routine { address = 131071; locals = 15 }) × (IsInstruction interval_format [] (record main_instruction { address = 131072 }) → ⊥)
 unfolding routine main_instruction
-last_address = (record { address = omega arith; locals = omega arith; result = (omega arith, omega arith) }, λ i. omega (arith, i.address), λ i. omega (arith, i.height))
+last_address = (record { address = omega arith; locals = omega arith; result = (omega arith, omega arith) }, λ i. omega (arith, i.address))
+
+-- 64 slots are as many as there may be
+each_alike : (n : ℕ) (v : Interval) → interval_format.Has v → AllByRecursion interval_format.Has (replicate n v)
+each_alike zero v has = tt
+each_alike (suc n) v has = (has, each_alike n v has)
+
+high : Instruction Interval
+high = record { address = 0x324; routine = 0; locals = []; slots = replicate 64 (point 0) }
+
+heights : IsInstruction interval_format [] high × ((i : Instruction Interval) → length i.slots ≡ 65 → IsInstruction interval_format [] i → ⊥)
+unfolding high
+heights = (
+  record { address = omega arith; routine = omega arith; locals = refl; height = omega arith; local_values = tt; slot_values = each_alike 64 (point 0) (omega arith, omega arith) },
+  λ i e is. omega (arith, e, is.height),
+)
 
 is_routine : IsRoutine interval_format routine × (IsRoutine interval_format (record routine { locals = 16 }) → ⊥) × (IsRoutine interval_format (record routine { address = 131072 }) → ⊥)
 unfolding routine
@@ -234,10 +267,20 @@ counted_instructions : (all_instructions_at interval_format [] (0 ∷ 0 ∷ 0 �
 unfolding all_instructions_at instructions_at instruction_at
 counted_instructions = (refl, refl, refl)
 
--- none of these may be counted, nor be on the stack, in this build
-none_counted : (all_ranges_at (0 ∷ 1 ∷ []) ≡ Err errors.Limit) × (all_routines_at interval_format (0 ∷ 1 ∷ []) ≡ Err errors.Limit) × (instruction_at interval_format [] 0 (0 ∷ 0 ∷ 3 ∷ 0x24 ∷ 0 ∷ 0 ∷ 1 ∷ []) ≡ Err errors.Limit)
-unfolding all_ranges_at all_routines_at instruction_at
-none_counted = (refl, refl, refl)
+-- none of these may be counted in this build
+none_counted : (all_ranges_at (0 ∷ 1 ∷ []) ≡ Err errors.Limit) × (all_routines_at interval_format (0 ∷ 1 ∷ []) ≡ Err errors.Limit)
+unfolding all_ranges_at all_routines_at
+none_counted = (refl, refl)
+
+-- a stack of 64 is let pass, and then a slot is missing; a stack of 65 isn't, whatever follows
+stacks_read : (instruction_at interval_format [] 0 (stacked_text ++ 6 ∷ []) ≡ Ok (stacked, 6 ∷ [])) × (instruction_at interval_format [] 0 (0 ∷ 0 ∷ 3 ∷ 0x24 ∷ 0 ∷ 0 ∷ 64 ∷ replicate 256 0) ≡ Ok (high, [])) × (instruction_at interval_format [] 0 (0 ∷ 0 ∷ 3 ∷ 0x24 ∷ 0 ∷ 0 ∷ 64 ∷ replicate 255 0) ≡ Err errors.Truncated) × (instruction_at interval_format [] 0 (0 ∷ 0 ∷ 3 ∷ 0x24 ∷ 0 ∷ 0 ∷ 65 ∷ []) ≡ Err errors.Limit) × (instruction_at interval_format [] 0 (0 ∷ 0 ∷ 3 ∷ 0x24 ∷ 0 ∷ 0 ∷ []) ≡ Err errors.Truncated)
+unfolding instruction_at values_at stacked stacked_text high
+stacks_read = (refl, refl, refl, refl, refl)
+
+-- after a local of its routine a slot, and the local is read first
+local_and_slot : instruction_at interval_format routines 0 (0 ∷ 0 ∷ 3 ∷ 0x31 ∷ 0 ∷ 1 ∷ 1 ∷ 0 ∷ 0 ∷ 0 ∷ 0 ∷ 0 ∷ 7 ∷ 0 ∷ 7 ∷ []) ≡ Ok (instruction, [])
+unfolding instruction_at values_at instruction routines routine
+local_and_slot = refl
 
 -- ---- field by field
 
@@ -274,9 +317,13 @@ unfolding at_turn start range
 range_ended = refl
 
 -- a number at its limit is taken, and the next isn't
-at_limits : (taken (at_turn turns.RangeCount 7) (fields.RangeCount 1) ≡ Err errors.Limit) × (taken (at_turn turns.RoutineCount 7) (fields.RoutineCount 0) ≡ Ok (at_turn turns.InstructionCount 0)) × (taken (at_turn turns.RoutineCount 7) (fields.RoutineCount 1) ≡ Err errors.Limit) × (taken (at_turn (turns.LocalCount 1 0x32E) 0) (fields.LocalCount 15) ≡ Ok (at_turn (turns.RoutineResult 1 0x32E 15) 0)) × (taken (at_turn turns.InstructionCount 7) (fields.InstructionCount 131072) ≡ Ok (at_turn (turns.InstructionAddress 131071) 0)) × (taken (at_turn (turns.Height 1 0x324 0) 0) (fields.Height 1) ≡ Err errors.Limit)
+at_limits : (taken (at_turn turns.RangeCount 7) (fields.RangeCount 1) ≡ Err errors.Limit) × (taken (at_turn turns.RoutineCount 7) (fields.RoutineCount 0) ≡ Ok (at_turn turns.InstructionCount 0)) × (taken (at_turn turns.RoutineCount 7) (fields.RoutineCount 1) ≡ Err errors.Limit) × (taken (at_turn (turns.LocalCount 1 0x32E) 0) (fields.LocalCount 15) ≡ Ok (at_turn (turns.RoutineResult 1 0x32E 15) 0)) × (taken (at_turn turns.InstructionCount 7) (fields.InstructionCount 131072) ≡ Ok (at_turn (turns.InstructionAddress 131071) 0))
 unfolding at_turn
-at_limits = (refl, refl, refl, refl, refl, refl)
+at_limits = (refl, refl, refl, refl, refl)
+
+heights_taken : (taken (at_turn (turns.Height 1 0x324 0) 0) (fields.Height 64) ≡ Ok (at_turn (turns.Value 1 (record { address = 0x324; routine = 0; locals = 0; height = 64 }) 63) 0)) × (taken (at_turn (turns.Height 1 0x324 0) 0) (fields.Height 65) ≡ Err errors.Limit)
+unfolding at_turn
+heights_taken = (refl, refl)
 
 -- an address rises and is below its limit
 addresses_taken : (taken (at_turn (turns.RoutineAddress 0) 5) (fields.RoutineAddress 4) ≡ Err errors.Order) × (taken (at_turn (turns.RoutineAddress 0) 5) (fields.RoutineAddress 131072) ≡ Err errors.Limit) × (taken (at_turn (turns.InstructionAddress 0) 5) (fields.InstructionAddress 4) ≡ Err errors.Order) × (taken (at_turn (turns.InstructionAddress 0) 5) (fields.InstructionAddress 131071) ≡ Ok (at_turn (turns.RoutineNumber 0 131071) 5))

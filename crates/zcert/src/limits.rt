@@ -25,7 +25,7 @@ pub const MAX_RANGES: u16 = 0;
 pub const MAX_ROUTINES: u16 = 0;
 
 /// The greatest height of the stack before an instruction.
-pub const MAX_HEIGHT: u8 = 0;
+pub const MAX_HEIGHT: u8 = 64;
 
 /// The bytes of magic, version and identity, and of the three counts.
 pub const FIXED_BYTES: usize = 27;

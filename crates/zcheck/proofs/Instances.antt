@@ -25,6 +25,7 @@ keeps_story : (rule : StoryRule) → KeepsStory interval_operations story (certi
 unfolding all_listed certificate_at claims claims_at
 keeps_story rules.Identity = refl
 keeps_story rules.FirstPlace = supports.first
+keeps_story rules.RoutineHeads = tt
 keeps_story rules.FirstGlobals = supports.values
 keeps_story rules.Abbreviations = supports.abbreviations
 keeps_story rules.Tables = supports.tables
@@ -72,6 +73,7 @@ lowest = record { broken = no_first_place; before = before }
     before : (other : StoryRule) → number_of other < 2 → KeepsStory interval_operations story (certificate_at (803 ∷ [])) other
     before rules.Identity less = refl
     before rules.FirstPlace less = absurd (omega (arith, less))
+    before rules.RoutineHeads less = absurd (omega (arith, less))
     before rules.FirstGlobals less = absurd (omega (arith, less))
     before rules.Abbreviations less = absurd (omega (arith, less))
     before rules.Tables less = absurd (omega (arith, less))
@@ -88,6 +90,7 @@ keeps_alone : (rule : StoryRule) → KeepsStory interval_operations story (certi
 unfolding claims claims_at certificate_at at_bare story memory
 keeps_alone rules.Identity = refl
 keeps_alone rules.FirstPlace = record { entry = record { routine = 0; shape = record { locals = []; slots = [] } }; listed = refl; main = refl; no_locals = refl; no_slots = refl }
+keeps_alone rules.RoutineHeads = tt
 keeps_alone rules.FirstGlobals = supports.values
 keeps_alone rules.Abbreviations = supports.abbreviations
 keeps_alone rules.Tables = supports.tables

@@ -1,14 +1,16 @@
 -- Values of the definitions, computed.
-use Rattle.std.proofs.Common.{◌≡◌, ℕ, ◌<◌, ◌≤◌, List, ◌∷◌, ◌++◌, replicate, inl, inr, refl, arith}
+use Rattle.std.proofs.Common.{◌≡◌, ℕ, ◌<◌, ◌≤◌, List, [], ◌∷◌, ◌++◌, replicate, inl, inr, refl, arith}
 use Rattle.zstory.specs.Header as header
 use Rattle.zstory.specs.LoadedStory.{LoadedStory}
 use Rattle.zrule.specs.Bytes.{IsChanging}
-use Rattle.zcheck.specs.declared.refusal.StoryRule.TheVariants.{Identity, FirstPlace, FirstGlobals, Abbreviations, Tables}
+use Rattle.zcheck.specs.declared.refusal.StoryRule.TheVariants.{Identity, FirstPlace, RoutineHeads, FirstGlobals, Abbreviations, Tables}
 use Rattle.zcheck.specs.Numbers.{number_of}
+use Rattle.zcheck.specs.Passes.{HasHead}
 use Rattle.zcheck.specs.Tables.{AreApart, IsFrozenApart}
+use Rattle.zcert.specs.declared.parts.Routine.{Routine}
 
-numbers : (number_of Identity ≡ 1) × (number_of FirstPlace ≡ 2) × (number_of FirstGlobals ≡ 4) × (number_of Abbreviations ≡ 7) × (number_of Tables ≡ 8)
-numbers = (refl, refl, refl, refl, refl)
+numbers : (number_of Identity ≡ 1) × (number_of FirstPlace ≡ 2) × (number_of RoutineHeads ≡ 3) × (number_of FirstGlobals ≡ 4) × (number_of Abbreviations ≡ 7) × (number_of Tables ≡ 8)
+numbers = (refl, refl, refl, refl, refl, refl)
 
 -- an object table below 256, globals from 160 to 639, static memory from 656 on
 memory : ℕ → List ℕ
@@ -56,3 +58,23 @@ unfit : (IsFrozenApart (story 98 0) (record { first = 63; last = 64 }) → ⊥) 
 unfit =
     let at = places 98 in
     (λ apart. omega (arith, apart.above), λ apart. apart.unchanging.still 160 (omega arith, omega arith) (inr (inl (omega (arith, at.1), omega (arith, at.1)))), λ apart. omega (arith, at.2, apart.below))
+
+-- static memory from 656 on, with a head of one local there, and at 659 of two and at 660 of one, of which the end is missing
+headed : List ℕ → LoadedStory
+headed end = record { memory = replicate 10 0 ++ 0 ∷ 98 ∷ 0 ∷ 160 ∷ 2 ∷ 144 ∷ replicate 640 0 ++ 1 ∷ 0 ∷ 0 ∷ 2 ∷ 1 ∷ end; objects = 0 }
+
+routine : ℕ → ℕ → Routine ℕ
+routine address locals = record { address = address; locals = locals; result = 0 }
+
+-- at the base of static memory, and up to the last byte
+heads : HasHead (headed (0 ∷ [])) (routine 656 1) × HasHead (headed (0 ∷ 0 ∷ [])) (routine 660 1)
+unfolding headed routine
+heads = (
+  record { even = refl; static = omega arith; counted = refl; within = omega arith },
+  record { even = refl; static = omega arith; counted = refl; within = omega arith },
+)
+
+-- not with another count, at an odd place, below static memory, or one byte beyond
+no_heads : (HasHead (headed (0 ∷ [])) (routine 656 2) → ⊥) × (HasHead (headed (replicate 9 0)) (routine 659 2) → ⊥) × (HasHead (headed (0 ∷ [])) (routine 654 0) → ⊥) × (HasHead (headed (0 ∷ [])) (routine 660 1) → ⊥)
+unfolding headed routine
+no_heads = (λ h. omega (arith, h.counted), λ h. omega (arith, h.even), λ h. omega (arith, h.static), λ h. omega (arith, h.within))

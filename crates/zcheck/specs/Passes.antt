@@ -1,7 +1,10 @@
 -- When a certificate passes for a story, and what is wrong first where it doesn't (own).
-use Rattle.std.specs.Prelude.{◌≡◌, ℕ, ◌<◌, Some}
-use Rattle.zstory.specs.LoadedStory.{LoadedStory, identity_of}
+use Rattle.std.specs.Prelude.{◌≡◌, ℕ, ◌+◌, ◌*◌, ◌%◌, ◌<◌, ◌≤◌, length, Some}
+use Rattle.std.specs.List.{AllByRecursion}
+use Rattle.zstory.specs.Bytes.{byte_at}
+use Rattle.zstory.specs.LoadedStory.{LoadedStory, identity_of, static_base}
 use Rattle.zdomain.specs.Domain.{SetOperations}
+use Rattle.zcert.specs.declared.parts.Routine.{Routine}
 use Rattle.zcert.specs.Certificate.{Certificate}
 use Rattle.zrule.specs.declared.rule.Rule.{Rule}
 use Rattle.zrule.specs.Claims.{Entry, claims_of}
@@ -12,6 +15,14 @@ use Rattle.zcheck.specs.declared.refusal.Refusal.{Refusal}
 use Rattle.zcheck.specs.declared.refusal.Refusal.TheVariants as refusals
 use Rattle.zcheck.specs.Numbers.{number_of}
 
+-- a routine begins at an even place of static memory, with the count of locals that is stated, and their words lie in memory
+-- (Z 5.1, 5.2)
+pub record HasHead {V : Type 0} (story : LoadedStory) (r : Routine V) : Type 0 where
+  pub even : r.address % 2 ≡ 0
+  pub static : static_base story ≤ r.address
+  pub counted : byte_at story.memory r.address ≡ r.locals
+  pub within : r.address + 1 + 2 * r.locals ≤ length story.memory
+
 module _ {V : Type 0} (o : SetOperations V) (story : LoadedStory) (c : Certificate V) where
   -- the rules on the story
   abbrev pub KeepsStory : StoryRule → Type 0
@@ -19,6 +30,8 @@ module _ {V : Type 0} (o : SetOperations V) (story : LoadedStory) (c : Certifica
   KeepsStory rules.Identity = c.identity ≡ identity_of story
   -- S2: the first place is listed, in the main code, with an empty stack
   KeepsStory rules.FirstPlace = HasFirstPlace o (claims_of o c) story
+  -- S3: each routine's head is there
+  KeepsStory rules.RoutineHeads = AllByRecursion (HasHead story) c.routines
   -- S4: each global is in its set as it is loaded
   KeepsStory rules.FirstGlobals = HasGlobals o (claims_of o c) story story.memory
   -- S7: abbreviations are whole, plain, and stay as they are

@@ -14,6 +14,8 @@ pub enum StoryRule {
     Identity,
     /// S2: the first place is listed, in the main code, with an empty stack.
     FirstPlace,
+    /// S3: each routine begins at an even place of static memory, with the stated count of locals, and its head is whole there.
+    RoutineHeads,
     /// S4: the loaded value of each global lies in its set.
     FirstGlobals,
     /// S7: the 96 abbreviations are whole in memory, none uses another, and no instruction changes a byte of them.
@@ -33,6 +35,7 @@ impl StoryRule {
         match self {
             StoryRule::Identity => 1,
             StoryRule::FirstPlace => 2,
+            StoryRule::RoutineHeads => 3,
             StoryRule::FirstGlobals => 4,
             StoryRule::Abbreviations => 7,
             StoryRule::Tables => 8,

@@ -1,23 +1,25 @@
 //! The rules on a story and its tables.
 
 ghost use Rattle.std.specs.Prelude.{◌≡◌, ◌↔◌, [], IsTrue, MatchOption};
+ghost use Rattle.std.specs.List.{AllByRecursion};
 ghost use Rattle.zstory.specs.LoadedStory.{first_instruction};
 ghost use Rattle.zdomain.specs.Interval.{interval_operations};
 ghost use Rattle.zrule.specs.Claims.{claims_of};
 ghost use Rattle.zrule.specs.Rules.{HasFirstPlace};
 ghost use Rattle.zcheck.specs.declared.refusal.StoryRule.{StoryRule as ARule};
-ghost use Rattle.zcheck.specs.Passes.{KeepsStory, IsLowestStoryRule};
+ghost use Rattle.zcheck.specs.Passes.{HasHead, KeepsStory, IsLowestStoryRule};
 
 use crate::refusal::StoryRule;
 use crate::tables::{has_abbreviations, has_disjoint_tables, has_globals};
-use zcert::{Certificate, Instruction};
+use zcert::{Certificate, Instruction, Routine};
 use zdomain::Interval;
 use zstory::Story;
 
 /// The rules by their numbers.
-const RULES: [StoryRule; 5] = [
+const RULES: [StoryRule; 6] = [
     StoryRule::Identity,
     StoryRule::FirstPlace,
+    StoryRule::RoutineHeads,
     StoryRule::FirstGlobals,
     StoryRule::Abbreviations,
     StoryRule::Tables,
@@ -42,6 +44,7 @@ fn keeps(story: &Story, certificate: &Certificate, rule: StoryRule) -> bool
     match rule {
         StoryRule::Identity => certificate.identity() == story.identity(),
         StoryRule::FirstPlace => has_first_place(story, certificate),
+        StoryRule::RoutineHeads => has_heads(story, certificate),
         StoryRule::FirstGlobals => has_globals(story, certificate),
         StoryRule::Abbreviations => has_abbreviations(story),
         StoryRule::Tables => has_disjoint_tables(story, certificate),
@@ -71,4 +74,27 @@ fn is_bare(listed: &Instruction<'_, Interval>) -> bool
     ensures { IsTrue result ↔ ((listed.now.routine ≡ 0) × (listed.now.locals.now ≡ []) × (listed.now.slots.now ≡ [])) }
 {
     listed.routine == 0 && listed.locals.is_empty() && listed.slots.is_empty()
+}
+
+/// Whether each routine's head is where it is stated.
+fn has_heads(story: &Story, certificate: &Certificate) -> bool
+    ensures { IsTrue result ↔ AllByRecursion (HasHead story.now) certificate.now.routines }
+{
+    certificate
+        .routines()
+        .iter()
+        .all(|routine| has_head(story, *routine))
+}
+
+/// Whether a routine's head lies at an even place of static memory, whole and with the stated count of locals.
+fn has_head(story: &Story, routine: Routine<Interval>) -> bool
+    ensures { IsTrue result ↔ HasHead story.now routine }
+{
+    let memory = story.memory();
+    let place = routine.address as usize;
+    if place < story.static_base() || place >= memory.len() {
+        return false;
+    }
+    let words = 2 * usize::from(routine.locals);
+    place % 2 == 0 && memory[place] == routine.locals && words < memory.len() - place
 }
