@@ -1,33 +1,45 @@
 -- A story that is accepted never faults.
-use Rattle.std.proofs.Common.{◌≡◌, ◌⊎◌, inl, inr, ℕ, Bool, true, false, List, [], ◌∷◌, Some, refl, ◌∙◌, ap}
+use Rattle.std.proofs.Common.{◌≡◌, ◌⊎◌, inl, inr, ℕ, Bool, true, false, List, [], ◌∷◌, Some, ◌≤◌, length, arith, refl, ◌∙◌, ap, subst}
 use Rattle.std.specs.Prelude.{◌==◌, ◌||◌, if◌then◌else◌}
 use Rattle.std.specs.List.{AllZip, list_any}
+use Rattle.std.proofs.lemmas.List.{length-reverse}
 use Rattle.zstory.specs.LoadedStory.{LoadedStory}
-use Rattle.zdomain.specs.Domain.{SetOperations}
+use Rattle.zdomain.specs.Domain.{SetOperations, AreSound}
 use Rattle.zlist.specs.declared.record.Record.{Record}
 use Rattle.zlist.specs.Listing.{ListedCode}
 use Rattle.zcert.specs.Certificate.{Instruction, Certificate}
 use Rattle.zcert.specs.Listed.{listed_at}
+use Rattle.zcert.specs.Format.{Format}
+use Rattle.zcert.specs.Spelling.{HasSpelling}
 use Rattle.zfault.specs.declared.event.Event.{Event}
 use Rattle.zstate.specs.State.{Scope, Setting, opening, scope_all, scope_only, usual_limit}
 use Rattle.zstate.specs.Run.{run}
-use Rattle.zrule.specs.Claims.{claims_of}
+use Rattle.zrule.specs.Claims.{Entry, claims_of}
 use Rattle.zrule.specs.Rules.{Supports}
 use Rattle.zrule.specs.Bytes.{IsFixed, frozen}
 use Rattle.zrule.specs.Described.{Described, IsListedIn, IsLoadedStory, IsNoFault}
-use Rattle.zrule.proofs.Listed.{entry_listed}
+use Rattle.zrule.proofs.Listed.{entry_listed, few_there}
 use Rattle.zrule.proofs.Runs.{all_listed, run_safe}
 use Rattle.zrule.proofs.Safety.{opening_described}
 use Rattle.zcheck.specs.declared.refusal.StoryRule.TheVariants as rules
 use Rattle.zcheck.specs.Acceptance.{IsRecordOf, IsListingOf, RunsWithoutFault, RunsWithoutChange}
 use Rattle.zcheck.specs.Passes.{Passes}
 
-module _ {V : Type 0} (o : SetOperations V) (story : LoadedStory) (c : Certificate V) where
+module _ {V : Type 0} (o : SetOperations V) (lawful : AreSound o) (format : Format V) (story : LoadedStory) (c : Certificate V) (spelling : HasSpelling format c) where
+  -- as its format says, it states no stack above 64
+  low : (p : ℕ) (e : Entry V) → (claims_of o c).entry p ≡ Some e → length e.shape.slots ≤ 64
+  low p e claimed =
+      let listed = entry_listed (listed_at c.instructions p) e claimed in
+      let few = (few_there format c p listed.0 spelling listed.1).1 in
+      let long = length-reverse listed.0.slots in
+      subst (λ (f : Entry V). length f.shape.slots ≤ 64) listed.2 (omega (arith, few, long))
+
   -- a certificate that passes supports its story
   pub supports_where : Passes o story c → Supports o (claims_of o c) story
   supports_where passes = record {
     first = passes.story_rules rules.FirstPlace;
     values = passes.story_rules rules.FirstGlobals;
+    low = low;
     abbreviations = passes.story_rules rules.Abbreviations;
     tables = passes.story_rules rules.Tables;
     each = passes.each;
@@ -58,11 +70,11 @@ module _ {V : Type 0} (o : SetOperations V) (story : LoadedStory) (c : Certifica
     setting : Setting
     setting = record { story = story; scope = scope; limit = usual_limit }
 
-    runs : (events : List Event) (n : ℕ) → IsNoFault (run setting events n (opening story)).stop × Described o (claims_of o c) story (run setting events n (opening story)).state
+    runs : (events : List Event) (n : ℕ) → IsNoFault (run setting events n (opening story)).stop × Described o (claims_of o c) usual_limit story (run setting events n (opening story)).state
     unfolding setting
     runs events n =
         let supports = supports_where passes in
-        run_safe o (claims_of o c) setting loaded supports listed events n (opening story) (opening_described o (claims_of o c) story supports)
+        run_safe o lawful (claims_of o c) setting loaded supports listed events n (opening story) (opening_described o (claims_of o c) story usual_limit supports)
 
     safe_in : RunsWithoutFault story scope
     unfolding setting
@@ -75,7 +87,7 @@ module _ {V : Type 0} (o : SetOperations V) (story : LoadedStory) (c : Certifica
 
     same_in : RunsWithoutChange story (claims_of o c).is_frozen scope
     unfolding setting
-    same_in events n p stays = (runs events n).1.fixed p (fixed_where p stays)
+    same_in events n p stays = (runs events n).1.memory.fixed p (fixed_where p stays)
 
   pub never_faults : (listing : ListedCode) → IsLoadedStory story → Passes o story c → IsListingOf story c listing → RunsWithoutFault story (scope_only listing) × RunsWithoutFault story (scope_all story)
   never_faults listing loaded passes lists =

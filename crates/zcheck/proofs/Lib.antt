@@ -4,5 +4,3 @@ mod First
 mod Places
 mod Lists
 pub mod Headline
-mod Worked
-pub mod Instances

@@ -2,6 +2,8 @@
 
 ghost use Rattle.std.specs.Prelude.{◌≡◌, IfOk, IfErr};
 ghost use Rattle.zdomain.specs.Interval.{interval_operations};
+ghost use Rattle.zcert.specs.Format.{interval_format};
+ghost use Rattle.zcert.specs.Spelling.{HasSpelling};
 ghost use Rattle.zrule.specs.Described.{IsLoadedStory};
 ghost use Rattle.zcheck.specs.Acceptance.{IsListingOf, NeverChanges, NeverFaults};
 ghost use Rattle.zcheck.specs.Passes.{IsRefused, Passes};
@@ -29,6 +31,7 @@ pub fn check(alloc: Global, story: Story, certificate: Certificate) -> Result<Ac
 {
     let listing = judged_listing(alloc, &story, &certificate)?;
     loaded_soundly(&story);
+    well_spelled(&certificate);
     Ok(Accepted::new(story, certificate, listing))
 }
 
@@ -37,4 +40,11 @@ fn loaded_soundly(story: &Story)
     ensures { IsLoadedStory story.now }
 {
     let _memory = story.memory();
+}
+
+/// Every certificate has a spelling.
+fn well_spelled(certificate: &Certificate)
+    ensures { HasSpelling interval_format certificate.now }
+{
+    let _ranges = certificate.ranges();
 }
