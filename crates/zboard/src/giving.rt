@@ -10,7 +10,7 @@ ghost use Rattle.zboard.specs.Deed.{bytes_in};
 use itoa::Buffer;
 use std::alloc::AllocError;
 use zfault::Item;
-use ztext::{TextError, decode_into};
+use ztext::{TextError, decode_into, output_byte};
 
 /// Gives out the text at a place, all or none. Only a text that prints something can be refused memory.
 pub(crate) fn give_decoded(
@@ -51,11 +51,9 @@ pub(crate) fn give_character(code: u16, items: &mut Vec<Item>) -> Result<(), All
     ensures err { OnErr result (0 < length (output_of_code code)) }
     ensures kept { OnErr result (items.new.items ≡ items.old.items) }
 {
-    match code {
-        0 => Ok(()),
-        13 => give_text(items, b"\n"),
-        32..=126 => give_text(items, &[code as u8]),
-        _ => give_text(items, b"?"),
+    match output_byte(code) {
+        Some(byte) => give_text(items, &[byte]),
+        None => Ok(()),
     }
 }
 
