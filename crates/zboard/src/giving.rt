@@ -9,7 +9,7 @@ ghost use Rattle.zboard.specs.Deed.{bytes_in};
 
 use itoa::Buffer;
 use std::alloc::AllocError;
-use zfault::Item;
+use zfault::{Item, give_text};
 use ztext::{TextError, decode_into, output_byte};
 
 /// Gives out the text at a place, all or none. Only a text that prints something can be refused memory.
@@ -30,19 +30,6 @@ pub(crate) fn give_decoded(
         Err(TextError::OutOfMemory) => Err(AllocError),
         Err(_) => unreachable!(),
     }
-}
-
-/// Gives out bytes of text, all or none.
-pub(crate) fn give_text(items: &mut Vec<Item>, bytes: &[u8]) -> Result<(), AllocError>
-    ensures ok { OnOk result (items.new.items ≡ items.old.items ++ map Text bytes.now) }
-    ensures err { OnErr result (0 < length bytes.now) }
-    ensures kept { OnErr result (items.new.items ≡ items.old.items) }
-{
-    items.reserve(bytes.len())?;
-    for byte in bytes {
-        items.push_reserved(Item::Text(*byte));
-    }
-    Ok(())
 }
 
 /// Gives out the character of a code.
