@@ -9,8 +9,8 @@ ghost use Rattle.zboard.specs.Deed.{bytes_in};
 
 use itoa::Buffer;
 use std::alloc::AllocError;
-use zfault::Item;
-use ztext::{TextError, decode_into};
+use zfault::{Item, give_text};
+use ztext::{TextError, decode_into, output_byte};
 
 /// Gives out the text at a place, all or none. Only a text that prints something can be refused memory.
 pub(crate) fn give_decoded(
@@ -32,30 +32,15 @@ pub(crate) fn give_decoded(
     }
 }
 
-/// Gives out bytes of text, all or none.
-pub(crate) fn give_text(items: &mut Vec<Item>, bytes: &[u8]) -> Result<(), AllocError>
-    ensures ok { OnOk result (items.new.items ≡ items.old.items ++ map Text bytes.now) }
-    ensures err { OnErr result (0 < length bytes.now) }
-    ensures kept { OnErr result (items.new.items ≡ items.old.items) }
-{
-    items.reserve(bytes.len())?;
-    for byte in bytes {
-        items.push_reserved(Item::Text(*byte));
-    }
-    Ok(())
-}
-
 /// Gives out the character of a code.
 pub(crate) fn give_character(code: u16, items: &mut Vec<Item>) -> Result<(), AllocError>
     ensures ok { OnOk result (items.new.items ≡ items.old.items ++ map Text (output_of_code code)) }
     ensures err { OnErr result (0 < length (output_of_code code)) }
     ensures kept { OnErr result (items.new.items ≡ items.old.items) }
 {
-    match code {
-        0 => Ok(()),
-        13 => give_text(items, b"\n"),
-        32..=126 => give_text(items, &[code as u8]),
-        _ => give_text(items, b"?"),
+    match output_byte(code) {
+        Some(byte) => give_text(items, &[byte]),
+        None => Ok(()),
     }
 }
 

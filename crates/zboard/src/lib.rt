@@ -3,6 +3,7 @@
 
 mod board;
 mod giving;
+mod in_place;
 mod place;
 mod row;
 mod running;

@@ -15,7 +15,7 @@ pub use adapters::{FromRead, ToWrite};
 pub use devices::{Failed, Sink, Source};
 pub use event::Event;
 pub use fault::Fault;
-pub use item::{Item, Name, Status};
+pub use item::{Item, Name, Status, give_text};
 pub use line::{LINE_LIMIT, Line};
 pub use pause::{Need, Pause};
 pub use writing::write_whole;

@@ -1,7 +1,7 @@
 use Rattle.std.proofs.Common.{◌≡◌, ◌≤◌, ◌+◌, ◌-◌, ◌++◌, length, map, take, vec_len}
 use Rattle.std.specs.Vec.{vec_capacity}
 use Rattle.zfault.specs.declared.item.Item.TheVariants.{Text}
-use Rattle.zboard.proofs.giving.give_text.Given as goal
+use Rattle.zfault.proofs.item.give_text.Given as goal
 
 abbrev pub invariant-loop-byte : goal.invariant-loop-byte
 invariant-loop-byte l = record {
