@@ -1,2 +1,4 @@
 mod Slots
 mod Operands
+mod Answering
+mod Worked

@@ -1,33 +1,29 @@
 //! What may come of an instruction, on each of its edges.
 
-ghost use Rattle.std.specs.Prelude.{◌≡◌, ◌≤◌, ◌<◌, ◌<◌, Option, length, reverse, option_map, IfSome};
-ghost use Rattle.zcode.specs.Operation.{target};
-ghost use Rattle.zflow.specs.Transfer.{leading, narrowed, with_assigned, with_result, pops};
+ghost use Rattle.std.specs.Prelude.{◌≡◌, ◌≤◌, List, length, option_map, IfSome};
+ghost use Rattle.zflow.specs.Transfer.{after, leading};
 ghost use Rattle.zflow.specs.Kept.{shape_of};
-ghost use Rattle.zflow.specs.View.{seen};
 ghost use Rattle.zflow.specs.Flow.{IsFlow};
 
-use crate::asking::{demands_of, nothing};
+use crate::asking::demands_if;
 use crate::known::Known;
-use crate::outcomes::outcomes_of;
+use crate::outcomes::outcomes_if;
 use crate::parts::{Demands, Lead, Outcome};
-use crate::view::{View, pops};
+use crate::view::{View, below, pops};
 use zcode::{Branch, Destination, Instr};
 use zdomain::Domain;
 
-/// What comes of an instruction that a condition is answered so.
-#[derive(Drop)]
+/// What comes of an instruction where its condition is answered so.
+#[derive(Clone, Copy)]
 pub struct Edge<V> {
     /// What it does.
     pub outcome: Outcome<V>,
-    /// What is known after it; `None` where what a branch says leaves a local no value.
-    pub after: Option<Known<V>>,
     /// Where it leads.
     pub lead: Lead<V>,
 }
 
-/// All that may come of an instruction.
-#[derive(Drop)]
+/// All that may come of an instruction. What is known of the frame on an edge, `known_after` tells.
+#[derive(Clone, Copy)]
 pub struct Flow<V> {
     /// How many slots it takes off the stack.
     pub popped: usize,
@@ -39,34 +35,65 @@ pub struct Flow<V> {
     pub failed: Option<Edge<V>>,
 }
 
-/// What may come of an instruction before which this is known: sets of the globals, of the frame's locals and of its slots, the
-/// top slot last. No memory is taken.
+/// What may come of an instruction before which this is known: sets of the globals, of the frame's locals and of its slots,
+/// the top slot last. Each set is computed once.
 pub fn flow_of<V: Domain>(
     globals: &[V],
     locals: &[V],
     slots: &[V],
     instruction: &Instr,
 ) -> Flow<V>
-    requires locals { length locals.now ≤ 15 }
-    requires slots { length slots.now ≤ 64 }
-    requires wip { length locals.now < 0 }
     ensures { IsFlow V.operations globals.now instruction.now (shape_of locals.now slots.now) result }
 {
-    unreachable!()
+    let before = View {
+        globals,
+        locals,
+        slots,
+    };
+    let inputs = instruction.inputs();
+    let operands = inputs.as_slice();
+    let popped = pops(operands);
+    let operation = instruction.opcode().operation();
+    let (first, second) = before.read(operands);
+    let outcomes = outcomes_if(operation, operands, first, second, before.below(popped));
+    let branch = instruction.branch();
+    Flow {
+        popped,
+        demands: demands_if(operation, first, second),
+        held: edge_of(outcomes.held, branch),
+        failed: edge_of(outcomes.failed, branch),
+    }
 }
 
-/// What is known of a frame after an outcome, where a local that a branch tells of has a value left. `target` is the variable
-/// that takes what is given, and `view` what is known once the operands were read.
-fn after<V: Domain>(outcome: &Outcome<V>, target: u8, view: View<'_, V>) -> Option<Known<V>>
-    requires locals { length view.locals.now ≤ 15 }
-    requires slots { length view.slots.now ≤ 64 }
-    ensures { result ≡ narrowed V.operations outcome.now.kept (with_result outcome.now.gives target (with_assigned outcome.now.assigns (seen view.entry))) }
+/// What is known of a frame after an outcome of an instruction, where each local that a branch tells of has a value left. Before
+/// the instruction this is known: sets of the frame's locals and of its slots, the top slot last.
+pub fn known_after<V: Domain>(
+    locals: &[V],
+    slots: &[V],
+    instruction: &Instr,
+    outcome: &Outcome<V>,
+) -> Option<Known<V>>
+    requires locals { length locals.now ≤ 15 }
+    requires slots { length slots.now ≤ 64 }
+    ensures { (globals : List V) → result ≡ after V.operations globals instruction.now (shape_of locals.now slots.now) outcome.now }
 {
-    let mut known = Known::of(view.locals, view.slots);
+    let popped = pops(instruction.inputs().as_slice());
+    let mut known = Known::of(locals, below(popped, slots));
     known.assign(outcome.assigns);
-    known.give(outcome.gives, target);
-    known.narrow(outcome.kept)?;
-    Some(known)
+    known.give(outcome.gives, instruction.target());
+    known.narrowed(outcome.kept)
+}
+
+/// The edge on which an outcome comes, if it may come.
+fn edge_of<V: Domain>(outcome: Option<Outcome<V>>, branch: Option<Branch>) -> Option<Edge<V>>
+    ensures outcome { option_map (λ x. x.outcome) result ≡ outcome }
+    ensures lead { IfSome result (λ x. x.lead ≡ leading V.operations x.outcome branch) }
+{
+    let outcome = outcome?;
+    Some(Edge {
+        outcome,
+        lead: leading(&outcome, branch),
+    })
 }
 
 /// Where an outcome leads: along the branch, where that is taken.
@@ -84,24 +111,4 @@ fn leading<V: Domain>(outcome: &Outcome<V>, branch: Option<Branch>) -> Lead<V>
         Destination::ReturnFalse => Lead::Returning(V::single(0)),
         Destination::ReturnTrue => Lead::Returning(V::single(1)),
     }
-}
-
-/// The edge on which an outcome comes, if it may come.
-fn edge_of<V: Domain>(
-    outcome: Option<Outcome<V>>,
-    instruction: &Instr,
-    view: View<'_, V>,
-) -> Option<Edge<V>>
-    requires locals { length view.locals.now ≤ 15 }
-    requires slots { length view.slots.now ≤ 64 }
-    ensures outcome { option_map (λ x. x.outcome) result ≡ outcome }
-    ensures after { IfSome result (λ x. x.after ≡ narrowed V.operations x.outcome.kept (with_result x.outcome.gives (target instruction.now) (with_assigned x.outcome.assigns (seen view.entry)))) }
-    ensures lead { IfSome result (λ x. x.lead ≡ leading V.operations x.outcome instruction.now.branch) }
-{
-    let outcome = outcome?;
-    Some(Edge {
-        after: after(&outcome, instruction.target(), view),
-        lead: leading(&outcome, instruction.branch()),
-        outcome,
-    })
 }

@@ -11,13 +11,14 @@ ghost use Rattle.zrule.specs.Rules.{Covers, GoesOn, Leads, Returns, Takes, Takes
 
 use zcert::{Certificate, Instruction};
 use zdomain::{Domain, Interval};
-use zflow::{Edge, Known, Lead};
+use crate::exits::Exit;
+use zflow::{Known, Lead};
 
 /// The greatest height of a stack behind an edge.
 const MAX_HEIGHT: usize = 64;
 
 /// Whether the stack stays low on an edge, if that can be taken.
-pub(crate) fn is_low(edge: &Edge<Interval>) -> bool
+pub(crate) fn is_low(edge: &Exit<Interval>) -> bool
     ensures { IsTrue result ↔ IfSome edge.now.after (λ f. length f.slots ≤ 64) }
 {
     match &edge.after {
@@ -31,7 +32,7 @@ pub(crate) fn is_low(edge: &Edge<Interval>) -> bool
 pub(crate) fn goes_on(
     certificate: &Certificate,
     routine: u16,
-    edge: &Edge<Interval>,
+    edge: &Exit<Interval>,
     next: u32,
     near: usize,
 ) -> bool
@@ -116,7 +117,7 @@ fn each_within<V: Domain>(from: &[V], to: &[V]) -> bool
 }
 
 /// Whether what an edge returns, if it can be taken, lies in what the routine may give; the main code gives nothing.
-pub(crate) fn returns(certificate: &Certificate, routine: u16, edge: &Edge<Interval>) -> bool
+pub(crate) fn returns(certificate: &Certificate, routine: u16, edge: &Exit<Interval>) -> bool
     ensures { IsTrue result ↔ IfSome edge.now.after (λ f. Returns interval_operations (claims_of interval_operations certificate.now) routine edge.now.lead) }
 {
     match (&edge.after, edge.lead) {
@@ -140,7 +141,7 @@ fn may_return(certificate: &Certificate, routine: u16, set: Interval) -> bool
 }
 
 /// Whether what an edge stores to globals lies in their sets. `target` is the variable that takes the result.
-pub(crate) fn stores(certificate: &Certificate, target: u8, edge: &Edge<Interval>) -> bool
+pub(crate) fn stores(certificate: &Certificate, target: u8, edge: &Exit<Interval>) -> bool
     ensures { IsTrue result ↔ (Takes interval_operations (claims_of interval_operations certificate.now) edge.now.outcome.gives target × TakesInPlace interval_operations (claims_of interval_operations certificate.now) edge.now.outcome.assigns) }
 {
     takes(certificate, edge.outcome.gives, target)

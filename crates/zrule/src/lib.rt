@@ -3,6 +3,7 @@
 
 mod bytes;
 mod edges;
+mod exits;
 mod judging;
 mod laws;
 mod operands;
