@@ -42,10 +42,14 @@ def what_is_wrong(program, files):
 def main():
     program = Program(sys.argv[1])
     count = Count("altered")
-    # behind the first quit is what isn't reached, with two slots
+    # behind the first quit is a routine of one local, which isn't reached, with two slots
     slots = interval(1, 2) + interval(-1, 3)
-    made = story(HELLO + QUIT + NOP + QUIT)
-    listed = certificate(made, [0x324, 0x329, 0x32A, 0x32B], stacks={0x32A: slots, 0x32B: slots})
+    inside = (1, interval(0, 5))
+    made = story(HELLO + QUIT + b"\x01\0\0" + NOP + QUIT)
+    listed = certificate(
+        made, [0x324, 0x329, 0x32D, 0x32E], stacks={0x32D: slots, 0x32E: slots}, ranges=[(0x230, 0x231), (0x240, 0x240)],
+        routines=[(0x32A, 1)], inside={0x32D: inside, 0x32E: inside},
+    )
     cases = [(f"story, {name}", {"story": file, "certificate": listed}) for name, file in changes(made)]
     cases += [(f"certificate, {name}", {"story": made, "certificate": file}) for name, file in changes(listed)]
     for (name, _), wrong in zip(cases, side_by_side(lambda case: what_is_wrong(program, case[1]), cases)):

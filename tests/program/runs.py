@@ -54,6 +54,16 @@ def stacked(before, after):
     return files(made, certificate(made, range(0x324, 0x328), stacks={0x326: before, 0x327: after}))
 
 
+def with_routines(*routines, head=b"\x01\0\0", inside=None):
+    """A story with this at 326, which a quit follows at 329, listed with these routines. All but the quit at 325 is never reached."""
+    made = story(NEW_LINE + QUIT + head + QUIT)
+    return files(made, certificate(made, [0x324, 0x325, 0x329], routines=routines, inside={0x329: inside or (1, ONE)}))
+
+
+def frozen(*ranges):
+    return files(listed=certificate(SAMPLE, LISTED, ranges=ranges))
+
+
 ONE, TWO, WIDE = interval(1, 1), interval(2, 2), interval(-32768, 32767)
 
 # ---- words: name, words, answer
@@ -168,6 +178,12 @@ COMMANDS = [
     ("an address of 131,071", CHECK, files(listed=certificate(SAMPLE, [0x324, 0x329, 0x1FFFF])), refused("I1 at 1ffff")),
     ("a stack of 65", CHECK, stacked(WIDE * 65, WIDE * 65), refused("K7")),
     ("a slot with nothing in it", CHECK, stacked(ONE + interval(2, 1), ONE + TWO), refused("K6")),
+    ("a range that ends before its first byte", CHECK, frozen((0x221, 0x220)), refused("K5")),
+    ("ranges that touch", CHECK, frozen((0x220, 0x221), (0x222, 0x222)), refused("K5")),
+    ("a routine of 16 locals", CHECK, with_routines((0x326, 16)), refused("K7")),
+    ("a routine at 131,072", CHECK, with_routines((0x20000, 1)), refused("K7")),
+    ("routines that are equal", CHECK, with_routines((0x326, 1), (0x326, 1)), refused("K5")),
+    ("a routine that isn't counted", CHECK, with_routines((0x326, 1), inside=(2, ONE)), refused("K7")),
     ("a story played by a bad certificate", PLAY_LISTED, files(listed=b"ZPCD"), refused("K1")),
     # rules that are broken
     ("another release", CHECK, files(listed=certificate(SAMPLE, LISTED, release=2)), refused("S1")),
@@ -179,6 +195,16 @@ COMMANDS = [
     ("a listed place with no instruction", CHECK, coded(b"\xeb\x7f\x00" + QUIT, [0x324, 0x327]), refused("I1 at 00324")),
     ("a text that has lost its end", CHECK, files(changed(SAMPLE, 0x327, 0x46)), refused("I1 at 00324")),
     ("a successor that isn't listed", CHECK, files(listed=certificate(SAMPLE, [0x324])), refused("I4 at 00324")),
+    ("a routine of one local", PLAY_LISTED, with_routines((0x326, 1)), done(b"\n")),
+    ("a routine with another count", CHECK, with_routines((0x326, 0), inside=(1, b"")), refused("S3")),
+    ("a routine at an odd place", CHECK, with_routines((0x327, 1), head=b"\0\x01\0"), refused("S3")),
+    ("a routine in dynamic memory", CHECK, with_routines((0x220, 0), (0x326, 1), inside=(2, ONE)), refused("S3")),
+    ("a routine whose locals are cut off", CHECK, with_routines((0x328, 2), head=b"\0\0\0\0\x02", inside=(1, ONE * 2)), refused("S3")),
+    ("a routine behind memory", CHECK, with_routines((0x1FFFE, 1)), refused("S3")),
+    ("frozen property defaults", PLAY_LISTED, frozen((0x220, 0x221), (0x223, 0x25D)), done(b"hello")),
+    ("a frozen header", CHECK, frozen((0x3F, 0x3F)), refused("S8")),
+    ("a frozen global", CHECK, frozen((0x21F, 0x220)), refused("S8")),
+    ("a frozen byte of static memory", CHECK, frozen((0x25D, 0x25E)), refused("S8")),
     ("stacks of two", CHECK, stacked(ONE + TWO, ONE + TWO), done(b"accepted\n")),
     ("stacks of 64, each slot within a wider one", PLAY_LISTED, stacked(ONE * 64, WIDE * 64), done(b"\n")),
     ("a slot that is wider than the one after it", CHECK, stacked(WIDE, ONE), refused("I4 at 00326")),

@@ -54,18 +54,23 @@ def interval(lower, upper):
     return struct.pack(">hh", lower, upper)
 
 
-def certificate(made, addresses, values=(0, 0), release=RELEASE, stacks=None):
-    """A certificate of a story that lists these addresses, each in the main code, and says of each global that it lies between these
-    values. The stack is empty, or has the intervals that are given for the address, the bottom one first."""
-    stacks = stacks or {}
+def certificate(made, addresses, values=(0, 0), release=RELEASE, stacks=None, ranges=(), routines=(), inside=None):
+    """A certificate of a story that lists these addresses, and says of each global that it lies between these values. The stack is
+    empty, or has the intervals that are given for the address, the bottom one first. An instruction is in the main code, or in the
+    routine whose number is given for the address, with its locals. A frozen range is its first and its last place, a routine its
+    address and its count of locals, and it may give any word."""
+    stacks, inside = stacks or {}, inside or {}
     parts = [b"ZPCC\x01", struct.pack(">H6s2sI", release, SERIAL, made[0x1C:0x1E], len(made))]
-    parts.append(word(0))  # no ranges
+    parts.append(word(len(ranges)))
+    parts.extend(struct.pack(">HH", *it) for it in ranges)
     parts.append(interval(*values) * 240)
-    parts.append(word(0))  # no routines
+    parts.append(word(len(routines)))
+    parts.extend(struct.pack(">IB", *it) + interval(-32768, 32767) for it in routines)
     parts.append(struct.pack(">I", len(addresses)))
     for address in addresses:
         slots = stacks.get(address, b"")
-        parts.append(struct.pack(">IHB", address, 0, len(slots) // 4) + slots)
+        routine, local_values = inside.get(address, (0, b""))
+        parts.append(struct.pack(">IHB", address, routine, len(slots) // 4) + local_values + slots)
     return b"".join(parts)
 
 

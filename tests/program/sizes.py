@@ -50,6 +50,32 @@ def highest(program, count):
     count.is_answer("stacks of 64, and a byte behind", program.run(["check", "story", "certificate"], files), Answer(1, b"", b"refused: K4\n"))
 
 
+def most_routines(program, count):
+    """A routine at each even place behind the first two instructions, in the longest story; and one with as many locals and slots
+    as can be at each instruction."""
+    made = story(NEW_LINE + QUIT + bytes(LONGEST - CODE - 2))
+    routines = [(place, 0) for place in range(CODE + 2, LONGEST, 2)]
+    assert len(routines) == 65133
+    see(program, count, "65,133 routines", made, certificate(made, [CODE, CODE + 1], routines=routines), b"\n")
+    wide = interval(*WIDE)
+    made = story(NEW_LINE + QUIT + b"\x0f" + bytes(30) + NOP * (LONGEST - CODE - 34) + QUIT)
+    places = range(CODE + 33, LONGEST)
+    inside = dict.fromkeys(places, (1, wide * 15))
+    listed = certificate(made, [CODE, CODE + 1, *places], routines=[(CODE + 2, 15)], inside=inside, stacks=dict.fromkeys(places, wide * 64))
+    assert len(listed) == 987 + 9 + 14 + 323 * len(places)
+    see(program, count, "15 locals and stacks of 64", made, listed, b"\n")
+
+
+def most_ranges(program, count):
+    """As many frozen ranges as two bytes can place, of which the first isn't behind the header; and as many as property defaults
+    have room for."""
+    made = story(NEW_LINE + QUIT)
+    ranges = [(place, place) for place in range(0, 65536, 2)]
+    files = {"story": made, "certificate": certificate(made, [CODE, CODE + 1], ranges=ranges)}
+    count.is_answer("32,768 ranges", program.run(["check", "story", "certificate"], files), Answer(1, b"", b"refused: S8\n"))
+    see(program, count, "31 ranges", made, certificate(made, [CODE, CODE + 1], ranges=ranges[0x220 // 2 : 0x25E // 2]), b"\n")
+
+
 def long_certificates(program, count):
     """Certificates above 64 KiB, and at the edges of 4,096 instructions."""
     for instructions in (4095, 4096, 4097, 10000):
@@ -98,6 +124,8 @@ def main():
     count = Count("sizes")
     longest(program, count)
     highest(program, count)
+    most_routines(program, count)
+    most_ranges(program, count)
     long_certificates(program, count)
     long_texts(program, count)
     long_names(program, count)

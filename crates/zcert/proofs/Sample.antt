@@ -74,8 +74,8 @@ has = record {
 -- a part more than may be counted, or a global too few
 none_has :
     ((c : Certificate Interval) → length c.instructions ≡ 131073 → HasSpelling interval_format c → ⊥)
-    × ((c : Certificate Interval) → length c.ranges ≡ 1 → HasSpelling interval_format c → ⊥)
-    × ((c : Certificate Interval) → length c.routines ≡ 1 → HasSpelling interval_format c → ⊥)
+    × ((c : Certificate Interval) → length c.ranges ≡ 65536 → HasSpelling interval_format c → ⊥)
+    × ((c : Certificate Interval) → length c.routines ≡ 65536 → HasSpelling interval_format c → ⊥)
     × ((c : Certificate Interval) → length c.globals ≡ 239 → HasSpelling interval_format c → ⊥)
 none_has = (
   λ c e h. omega (arith, e, h.few_instructions),
@@ -135,3 +135,32 @@ stacks_read = refl
 slots_counted : (reading interval_format (front ++ replicate 960 0 ++ take 38 stacks) ≡ Err errors.Truncated) × (reading interval_format (front ++ replicate 960 0 ++ stacks ++ 0 ∷ 1 ∷ 0 ∷ 1 ∷ []) ≡ Err errors.Trailing)
 unfolding front stacks reading heading_at magic_at version_at identity_at range_at ranges_at all_ranges_at values_at routine_at routines_at all_routines_at instruction_at instructions_at all_instructions_at at_end
 slots_counted = (refl, refl)
+
+-- ---- one with a frozen range, a routine of two locals, and an instruction of it with a slot
+
+whole : Certificate Interval
+whole = record certificate {
+  ranges = record { first = 64; last = 66 } ∷ [];
+  routines = record { address = 0x32A; locals = 2; result = point 1 } ∷ [];
+  instructions = record { address = 0x324; routine = 0; locals = []; slots = [] }
+      ∷ record { address = 0x32F; routine = 1; locals = point 2 ∷ point 3 ∷ []; slots = point 4 ∷ [] }
+      ∷ [];
+}
+
+before_globals : List ℕ
+before_globals = take 19 front ++ 0 ∷ 1 ∷ 0 ∷ 64 ∷ 0 ∷ 66 ∷ []
+
+after_globals : List ℕ
+after_globals = 0 ∷ 1 ∷ 0 ∷ 0 ∷ 3 ∷ 0x2A ∷ 2 ∷ 0 ∷ 1 ∷ 0 ∷ 1
+    ∷ 0 ∷ 0 ∷ 0 ∷ 2
+    ∷ 0 ∷ 0 ∷ 3 ∷ 0x24 ∷ 0 ∷ 0 ∷ 0
+    ∷ 0 ∷ 0 ∷ 3 ∷ 0x2F ∷ 0 ∷ 1 ∷ 1 ∷ 0 ∷ 2 ∷ 0 ∷ 2 ∷ 0 ∷ 3 ∷ 0 ∷ 3 ∷ 0 ∷ 4 ∷ 0 ∷ 4
+    ∷ []
+
+whole_spelled : spelling interval_format whole ≡ before_globals ++ replicate 960 0 ++ after_globals
+unfolding whole certificate before_globals after_globals front
+whole_spelled = refl
+
+whole_read : reading interval_format (before_globals ++ replicate 960 0 ++ after_globals) ≡ Ok whole
+unfolding whole certificate before_globals after_globals front reading heading_at magic_at version_at identity_at range_at ranges_at all_ranges_at values_at routine_at routines_at all_routines_at instruction_at instructions_at all_instructions_at at_end
+whole_read = refl

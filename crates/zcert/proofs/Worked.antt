@@ -29,8 +29,9 @@ use Rattle.zcert.specs.View.{Refuses, RefusesField}
 
 -- ---- limits
 
--- as long as a certificate can be: 27 bytes, the globals, and 323 bytes for each instruction
-limits : (MAGIC ≡ 0x5A504343) × (VERSION ≡ 1) × (GLOBALS ≡ 240) × (ADDRESS_LIMIT ≡ 131072) × (MAX_LOCALS ≡ 15) × (MAX_INSTRUCTIONS ≡ 131072) × (MAX_RANGES ≡ 0) × (MAX_ROUTINES ≡ 0) × (MAX_HEIGHT ≡ 64) × (LARGEST ≡ 42337243)
+-- as long as a certificate can be: 27 bytes, 4 for each of 240 globals and 65,535 ranges, 9 for each of 65,535 routines, and 323
+-- for each of 131,072 instructions
+limits : (MAGIC ≡ 0x5A504343) × (VERSION ≡ 1) × (GLOBALS ≡ 240) × (ADDRESS_LIMIT ≡ 131072) × (MAX_LOCALS ≡ 15) × (MAX_INSTRUCTIONS ≡ 131072) × (MAX_RANGES ≡ 65535) × (MAX_ROUTINES ≡ 65535) × (MAX_HEIGHT ≡ 64) × (LARGEST ≡ 43189198)
 limits = (refl, refl, refl, refl, refl, refl, refl, refl, refl, refl)
 
 -- ---- numbers
@@ -229,9 +230,9 @@ several_ranges : (ranges_at 2 0 (0 ∷ 64 ∷ 0 ∷ 66 ∷ 0 ∷ 68 ∷ 0 ∷ 68
 unfolding ranges_at range_at range
 several_ranges = (refl, refl, refl)
 
-counted_ranges : (all_ranges_at (0 ∷ 0 ∷ 4 ∷ []) ≡ Ok ([], 4 ∷ [])) × (all_ranges_at (0 ∷ []) ≡ Err errors.Truncated)
-unfolding all_ranges_at ranges_at
-counted_ranges = (refl, refl)
+counted_ranges : (all_ranges_at (0 ∷ 0 ∷ 4 ∷ []) ≡ Ok ([], 4 ∷ [])) × (all_ranges_at (0 ∷ 1 ∷ 0 ∷ 64 ∷ 0 ∷ 66 ∷ 9 ∷ []) ≡ Ok (range ∷ [], 9 ∷ [])) × (all_ranges_at (0 ∷ []) ≡ Err errors.Truncated)
+unfolding all_ranges_at ranges_at range_at range
+counted_ranges = (refl, refl, refl)
 
 -- the order is judged before the limit
 addresses : (address_fits 0 131071 ≡ Ok tt) × (address_fits 0 131072 ≡ Err errors.Limit) × (address_fits 131073 131072 ≡ Err errors.Order) × (address_fits 5 4 ≡ Err errors.Order) × (address_fits 5 5 ≡ Ok tt)
@@ -249,9 +250,9 @@ two_routines : (routines_at interval_format 2 0 (0 ∷ 0 ∷ 3 ∷ 0x2E ∷ 1 �
 unfolding routines_at routine_at routines routine
 two_routines = (refl, refl)
 
-counted_routines : (all_routines_at interval_format (0 ∷ 0 ∷ 4 ∷ []) ≡ Ok ([], 4 ∷ [])) × (all_routines_at interval_format (0 ∷ []) ≡ Err errors.Truncated)
-unfolding all_routines_at routines_at
-counted_routines = (refl, refl)
+counted_routines : (all_routines_at interval_format (0 ∷ 0 ∷ 4 ∷ []) ≡ Ok ([], 4 ∷ [])) × (all_routines_at interval_format (0 ∷ 1 ∷ 0 ∷ 0 ∷ 3 ∷ 0x2E ∷ 1 ∷ 0 ∷ 1 ∷ 0 ∷ 1 ∷ 9 ∷ []) ≡ Ok (routine ∷ [], 9 ∷ [])) × (all_routines_at interval_format (0 ∷ []) ≡ Err errors.Truncated)
+unfolding all_routines_at routines_at routine_at routine
+counted_routines = (refl, refl, refl)
 
 -- a set for each local of its routine; a routine that isn't there is refused before the height is read
 instructions_read : (instruction_at interval_format [] 0 (0 ∷ 0 ∷ 3 ∷ 0x24 ∷ 0 ∷ 0 ∷ 0 ∷ 2 ∷ []) ≡ Ok (main_instruction, 2 ∷ [])) × (instruction_at interval_format routines 0 (0 ∷ 0 ∷ 3 ∷ 0x31 ∷ 0 ∷ 1 ∷ 0 ∷ 0 ∷ 0 ∷ 0 ∷ 0 ∷ []) ≡ Ok (record instruction { slots = [] }, [])) × (instruction_at interval_format routines 0 (0 ∷ 0 ∷ 3 ∷ 0x31 ∷ 0 ∷ 3 ∷ []) ≡ Err errors.Limit)
@@ -267,10 +268,10 @@ counted_instructions : (all_instructions_at interval_format [] (0 ∷ 0 ∷ 0 �
 unfolding all_instructions_at instructions_at instruction_at
 counted_instructions = (refl, refl, refl)
 
--- none of these may be counted in this build
-none_counted : (all_ranges_at (0 ∷ 1 ∷ []) ≡ Err errors.Limit) × (all_routines_at interval_format (0 ∷ 1 ∷ []) ≡ Err errors.Limit)
-unfolding all_ranges_at all_routines_at
-none_counted = (refl, refl)
+-- any count of two bytes is let pass, and then the first is missing
+most_counted : (all_ranges_at (255 ∷ 255 ∷ []) ≡ Err errors.Truncated) × (all_routines_at interval_format (255 ∷ 255 ∷ []) ≡ Err errors.Truncated)
+unfolding all_ranges_at ranges_at range_at all_routines_at routines_at routine_at
+most_counted = (refl, refl)
 
 -- a stack of 64 is let pass, and then a slot is missing; a stack of 65 isn't, whatever follows
 stacks_read : (instruction_at interval_format [] 0 (stacked_text ++ 6 ∷ []) ≡ Ok (stacked, 6 ∷ [])) × (instruction_at interval_format [] 0 (0 ∷ 0 ∷ 3 ∷ 0x24 ∷ 0 ∷ 0 ∷ 64 ∷ replicate 256 0) ≡ Ok (high, [])) × (instruction_at interval_format [] 0 (0 ∷ 0 ∷ 3 ∷ 0x24 ∷ 0 ∷ 0 ∷ 64 ∷ replicate 255 0) ≡ Err errors.Truncated) × (instruction_at interval_format [] 0 (0 ∷ 0 ∷ 3 ∷ 0x24 ∷ 0 ∷ 0 ∷ 65 ∷ []) ≡ Err errors.Limit) × (instruction_at interval_format [] 0 (0 ∷ 0 ∷ 3 ∷ 0x24 ∷ 0 ∷ 0 ∷ []) ≡ Err errors.Truncated)
@@ -317,9 +318,9 @@ unfolding at_turn start range
 range_ended = refl
 
 -- a number at its limit is taken, and the next isn't
-at_limits : (taken (at_turn turns.RangeCount 7) (fields.RangeCount 1) ≡ Err errors.Limit) × (taken (at_turn turns.RoutineCount 7) (fields.RoutineCount 0) ≡ Ok (at_turn turns.InstructionCount 0)) × (taken (at_turn turns.RoutineCount 7) (fields.RoutineCount 1) ≡ Err errors.Limit) × (taken (at_turn (turns.LocalCount 1 0x32E) 0) (fields.LocalCount 15) ≡ Ok (at_turn (turns.RoutineResult 1 0x32E 15) 0)) × (taken (at_turn turns.InstructionCount 7) (fields.InstructionCount 131072) ≡ Ok (at_turn (turns.InstructionAddress 131071) 0))
+at_limits : (taken (at_turn turns.RangeCount 7) (fields.RangeCount 65535) ≡ Ok (at_turn (turns.RangeFirst 65534) 0)) × (taken (at_turn turns.RangeCount 7) (fields.RangeCount 65536) ≡ Err errors.Limit) × (taken (at_turn turns.RoutineCount 7) (fields.RoutineCount 0) ≡ Ok (at_turn turns.InstructionCount 0)) × (taken (at_turn turns.RoutineCount 7) (fields.RoutineCount 65535) ≡ Ok (at_turn (turns.RoutineAddress 65534) 0)) × (taken (at_turn turns.RoutineCount 7) (fields.RoutineCount 65536) ≡ Err errors.Limit) × (taken (at_turn (turns.LocalCount 1 0x32E) 0) (fields.LocalCount 15) ≡ Ok (at_turn (turns.RoutineResult 1 0x32E 15) 0)) × (taken (at_turn turns.InstructionCount 7) (fields.InstructionCount 131072) ≡ Ok (at_turn (turns.InstructionAddress 131071) 0))
 unfolding at_turn
-at_limits = (refl, refl, refl, refl, refl)
+at_limits = (refl, refl, refl, refl, refl, refl, refl)
 
 heights_taken : (taken (at_turn (turns.Height 1 0x324 0) 0) (fields.Height 64) ≡ Ok (at_turn (turns.Value 1 (record { address = 0x324; routine = 0; locals = 0; height = 64 }) 63) 0)) × (taken (at_turn (turns.Height 1 0x324 0) 0) (fields.Height 65) ≡ Err errors.Limit)
 unfolding at_turn

@@ -5,9 +5,7 @@ ghost use Rattle.std.specs.Prelude.{◌≤◌, length};
 use crate::contents::{Contents, Stored};
 use crate::error::CertError;
 use crate::field::{Field, Header, Turn};
-use crate::limits::{
-    ADDRESS_LIMIT, MAX_HEIGHT, MAX_INSTRUCTIONS, MAX_LOCALS, MAX_RANGES, MAX_ROUTINES,
-};
+use crate::limits::{ADDRESS_LIMIT, MAX_HEIGHT, MAX_INSTRUCTIONS, MAX_LOCALS};
 use crate::parts::{Range, Routine};
 use crate::turns::{before_globals, before_instructions, before_ranges, before_routines};
 use std::alloc::Global;
@@ -113,9 +111,6 @@ impl Building {
         let Turn::RangeCount = self.turn else {
             return Err(CertError::Order);
         };
-        if count > MAX_RANGES {
-            return Err(CertError::Limit);
-        }
         self.floor = 0;
         self.turn = before_ranges(count);
         Ok(())
@@ -168,9 +163,6 @@ impl Building {
         let Turn::RoutineCount = self.turn else {
             return Err(CertError::Order);
         };
-        if count > MAX_ROUTINES {
-            return Err(CertError::Limit);
-        }
         self.floor = 0;
         self.turn = before_routines(count);
         Ok(())

@@ -18,11 +18,11 @@ pub const MAX_LOCALS: u8 = 15;
 /// The greatest number of instructions that are listed.
 pub const MAX_INSTRUCTIONS: u32 = 131_072;
 
-/// The greatest number of frozen ranges.
-pub const MAX_RANGES: u16 = 0;
+/// The greatest number of frozen ranges, which is any of two bytes.
+pub const MAX_RANGES: u16 = 65_535;
 
-/// The greatest number of routines.
-pub const MAX_ROUTINES: u16 = 0;
+/// The greatest number of routines, which is any of two bytes.
+pub const MAX_ROUTINES: u16 = 65_535;
 
 /// The greatest height of the stack before an instruction.
 pub const MAX_HEIGHT: u8 = 64;

@@ -1,7 +1,7 @@
 //! The rules on a story and its tables.
 
 ghost use Rattle.std.specs.Prelude.{◌≡◌, ◌↔◌, [], IsTrue, MatchOption};
-ghost use Rattle.std.specs.List.{AllByRecursion};
+ghost use Rattle.std.specs.List.{All, AllByRecursion};
 ghost use Rattle.zstory.specs.LoadedStory.{first_instruction};
 ghost use Rattle.zdomain.specs.Interval.{interval_operations};
 ghost use Rattle.zrule.specs.Claims.{claims_of};
@@ -80,10 +80,14 @@ fn is_bare(listed: &Instruction<'_, Interval>) -> bool
 fn has_heads(story: &Story, certificate: &Certificate) -> bool
     ensures { IsTrue result ↔ AllByRecursion (HasHead story.now) certificate.now.routines }
 {
-    certificate
-        .routines()
-        .iter()
-        .all(|routine| has_head(story, *routine))
+    has_each_head(story, certificate.routines())
+}
+
+/// Whether each of these routines has its head.
+fn has_each_head(story: &Story, routines: &[Routine<Interval>]) -> bool
+    ensures { IsTrue result ↔ All (HasHead story.now) routines.now }
+{
+    routines.iter().all(|routine| has_head(story, *routine))
 }
 
 /// Whether a routine's head lies at an even place of static memory, whole and with the stated count of locals.

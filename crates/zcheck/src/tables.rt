@@ -1,6 +1,7 @@
 //! What rules on a story ask of its globals, its abbreviations and its tables.
 
 ghost use Rattle.std.specs.Prelude.{◌≡◌, ◌↔◌, ◌+◌, ◌*◌, ◌≤◌, ◌<◌, IsTrue};
+ghost use Rattle.std.specs.List.{All};
 ghost use Rattle.zdomain.specs.Interval.{interval_operations};
 ghost use Rattle.zrule.specs.Claims.{claims_of};
 ghost use Rattle.zstory.specs.LoadedStory.{abbreviations};
@@ -81,11 +82,14 @@ fn is_entry_unchanging(story: &Story, number: u8) -> bool
 pub(crate) fn has_disjoint_tables(story: &Story, certificate: &Certificate) -> bool
     ensures { IsTrue result ↔ HasDisjointTables story.now (claims_of interval_operations certificate.now).is_frozen }
 {
-    are_tables_apart(story)
-        && certificate
-            .ranges()
-            .iter()
-            .all(|range| is_frozen_apart(story, *range))
+    are_tables_apart(story) && are_frozen_apart(story, certificate.ranges())
+}
+
+/// Whether each of these ranges lies where it may be frozen.
+fn are_frozen_apart(story: &Story, ranges: &[Range]) -> bool
+    ensures { IsTrue result ↔ All (IsFrozenApart story.now) ranges.now }
+{
+    ranges.iter().all(|range| is_frozen_apart(story, *range))
 }
 
 /// Whether the globals, and the object table with its entries, share no byte.

@@ -89,7 +89,7 @@ failures_are_4 failure = refl
 
 -- ---- how far files are read
 
-limits : (STORY_LIMIT ≡ 131073) × (CERTIFICATE_LIMIT ≡ 42337244)
+limits : (STORY_LIMIT ≡ 131073) × (CERTIFICATE_LIMIT ≡ 43189199)
 limits = (refl, refl)
 
 -- A file of 131,073 bytes or more is refused as too long, or it isn't read at all. It holds no story.
