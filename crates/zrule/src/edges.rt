@@ -1,6 +1,6 @@
 //! What rules ask of an edge of an instruction.
 
-ghost use Rattle.std.specs.Prelude.{◌≡◌, ◌↔◌, ◌≤◌, IfSome, IsTrue, length, option_map, slice_get, reverse};
+ghost use Rattle.std.specs.Prelude.{◌≡◌, ◌↔◌, ◌<◌, ◌≤◌, IfSome, IsTrue, length, option_map, slice_get, reverse};
 ghost use Rattle.std.specs.List.{AllZip};
 ghost use Rattle.zdomain.specs.Domain.{Within};
 ghost use Rattle.zdomain.specs.Interval.{interval_operations};
@@ -130,14 +130,19 @@ pub(crate) fn returns(certificate: &Certificate, routine: u16, edge: &Exit<Inter
 fn may_return(certificate: &Certificate, routine: u16, set: Interval) -> bool
     ensures { IsTrue result ↔ Returns interval_operations (claims_of interval_operations certificate.now) routine (Returning set) }
 {
-    if routine == 0 {
-        return false;
-    }
-    let result = match certificate.routines().get(usize::from(routine) - 1) {
+    routine > 0 && set.is_within(result_of(certificate, routine))
+}
+
+/// The values that a routine may give, by its number from 1 on: any, where there is none of the number.
+fn result_of(certificate: &Certificate, routine: u16) -> Interval
+    requires { 0 < routine }
+    ensures { result ≡ (claims_of interval_operations certificate.now).result routine }
+{
+    let index = usize::from(routine) - 1;
+    match certificate.routines().get(index) {
         Some(listed) => listed.result,
         None => Interval::any(),
-    };
-    set.is_within(result)
+    }
 }
 
 /// Whether what an edge stores to globals lies in their sets. `target` is the variable that takes the result.
