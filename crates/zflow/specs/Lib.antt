@@ -1,1 +1,4 @@
 pub mod Transfer
+pub mod Kept
+pub mod View
+pub mod Flow

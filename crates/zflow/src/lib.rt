@@ -1,6 +1,12 @@
 //! What may come of an instruction, over sets of words: what it asks for, and what is known on each of its edges.
 #![tactic(auto)]
 
+mod flow;
+mod known;
 mod parts;
+mod row;
+mod view;
 
+pub use flow::{Edge, Flow};
+pub use known::Known;
 pub use parts::{Demands, Kept, Lead, Outcome};

@@ -1,0 +1,84 @@
+//! What is known before an instruction, and what of it is read.
+
+ghost use Rattle.std.specs.Prelude.{◌≡◌};
+ghost use Rattle.zflow.specs.Transfer.{below, operand_set, pops, values_of, variable_set};
+ghost use Rattle.zflow.specs.View.{seen};
+
+use zcode::Operand;
+use zdomain::Domain;
+
+/// What is known before an instruction, lent.
+#[derive(Clone, Copy)]
+pub(crate) struct View<'a, V> {
+    /// The sets of the globals.
+    pub(crate) globals: &'a [V],
+    /// The sets of the locals.
+    pub(crate) locals: &'a [V],
+    /// The sets of the slots, the top last.
+    pub(crate) slots: &'a [V],
+}
+
+/// How many words operands take off the stack.
+pub(crate) fn pops(operands: &[Operand]) -> usize
+    ensures { result ≡ pops operands.now }
+{
+    operands
+        .iter()
+        .filter(|operand| matches!(operand, Operand::Variable(0)))
+        .count()
+}
+
+impl<'a, V: Domain> View<'a, V> {
+    /// What is known once so many slots were taken.
+    pub(crate) fn below(self, count: usize) -> View<'a, V>
+        ensures globals { result.globals.now ≡ self.entry.globals.now }
+        ensures shape { seen result ≡ below count (seen self.entry) }
+    {
+        View {
+            globals: self.globals,
+            locals: self.locals,
+            slots: &self.slots[..self.slots.len().saturating_sub(count)],
+        }
+    }
+
+    /// The values of a variable; one that isn't there may have any.
+    pub(crate) fn variable_set(self, variable: u8) -> V
+        ensures { result ≡ variable_set V.operations self.entry.globals.now variable (seen self.entry) }
+    {
+        let found = match variable {
+            0 => self.slots.last(),
+            1..16 => self.locals.get(usize::from(variable) - 1),
+            _ => self.globals.get(usize::from(variable) - 16),
+        };
+        match found {
+            Some(set) => *set,
+            None => V::any(),
+        }
+    }
+
+    /// The values of an operand.
+    fn values_of(self, operand: Operand) -> V
+        ensures { result ≡ values_of V.operations self.entry.globals.now operand (seen self.entry) }
+    {
+        match operand {
+            Operand::Constant(word) => V::single(word),
+            Operand::Variable(variable) => self.variable_set(variable),
+        }
+    }
+
+    /// The sets of the first two operands: 0, where there is none.
+    pub(crate) fn read(self, operands: &[Operand]) -> (V, V)
+        ensures first { result.0 ≡ operand_set V.operations self.entry.globals.now operands.now (seen self.entry) 0 }
+        ensures second { result.1 ≡ operand_set V.operations self.entry.globals.now operands.now (seen self.entry) 1 }
+    {
+        let nothing = V::single(0);
+        match operands {
+            [] => (nothing, nothing),
+            [first] => (self.values_of(*first), nothing),
+            [first, second, ..] => {
+                let after = self.below(pops(&[*first]));
+                (self.values_of(*first), after.values_of(*second))
+            }
+        }
+    }
+}
