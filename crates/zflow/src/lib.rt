@@ -1,8 +1,10 @@
 //! What may come of an instruction, over sets of words: what it asks for, and what is known on each of its edges.
 #![tactic(auto)]
 
+mod asking;
 mod flow;
 mod known;
+mod outcomes;
 mod parts;
 mod row;
 mod view;

@@ -1,0 +1,77 @@
+//! What an operation asks for, once for an instruction.
+
+ghost use Rattle.std.specs.Prelude.{◌≡◌};
+ghost use Rattle.zflow.specs.Transfer.{demands_of, divisor_of, naming, nothing, small};
+ghost use Rattle.zflow.specs.Kept.{both};
+
+use crate::parts::Demands;
+use zcode::Operation;
+use zdomain::Domain;
+use zword::BinaryOp;
+
+/// What an operation asks for, by the sets of its first two operands.
+#[tactic(auto, unfolding(crate::specs::Transfer::demands_of))]
+pub(crate) fn demands_of<V: Domain>(operation: Operation, first: V, second: V) -> Demands<V>
+    ensures { result ≡ demands_of V.operations operation (both first second) }
+{
+    let mut demands = nothing();
+    match operation {
+        Operation::Binary(op) => demands.divisor = divisor_of(op, second),
+        Operation::Count(..) | Operation::Store | Operation::Load => return naming(named(first)),
+        Operation::Jump => demands.certain = first.known().is_some(),
+        Operation::Print => demands.has_text = true,
+        Operation::Unary(_)
+        | Operation::Compare(_)
+        | Operation::Verify
+        | Operation::PrintChar
+        | Operation::PrintNumber
+        | Operation::NewLine
+        | Operation::Nop
+        | Operation::Quit => {}
+    }
+    demands
+}
+
+/// The variable that a value of the set names, where that is known.
+pub(crate) fn named<V: Domain>(set: V) -> Option<u8>
+    ensures { result ≡ small (V.operations.known set) }
+{
+    match set.known() {
+        Some(number) if number < 256 => Some(number as u8),
+        _ => None,
+    }
+}
+
+/// Nothing is asked for.
+fn nothing<V: Domain>() -> Demands<V>
+    ensures { result ≡ nothing }
+{
+    Demands {
+        indirect: false,
+        variable: None,
+        divisor: None,
+        certain: true,
+        has_text: false,
+    }
+}
+
+/// The first operand names a variable.
+fn naming<V: Domain>(variable: Option<u8>) -> Demands<V>
+    ensures { result ≡ naming variable }
+{
+    Demands {
+        indirect: true,
+        variable,
+        ..nothing()
+    }
+}
+
+/// The values by which an operation divides, if it does.
+fn divisor_of<V: Domain>(operation: BinaryOp, second: V) -> Option<V>
+    ensures { result ≡ divisor_of operation second }
+{
+    match operation {
+        BinaryOp::Div | BinaryOp::Mod => Some(second),
+        BinaryOp::Add | BinaryOp::Sub | BinaryOp::Mul | BinaryOp::Or | BinaryOp::And => None,
+    }
+}

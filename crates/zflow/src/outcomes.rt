@@ -1,0 +1,286 @@
+//! What may come of an operation, by families.
+
+ghost use Rattle.std.specs.Prelude.{◌≡◌, List, [], Some, None, true, false, option_map};
+ghost use Rattle.zcode.specs.declared.instr.Operand.{Operand as AnOperand};
+ghost use Rattle.zcode.specs.declared.operation.Operation.TheVariants.{Count};
+ghost use Rattle.zflow.specs.Transfer.{asks, assigns_in, compared_kept, counted_kept, counts_in, gives_in, goes_on, jumps, local_kept, once_known, operand_kept, outcome_of, small, untold, variable_set};
+ghost use Rattle.zflow.specs.Kept.{both};
+ghost use Rattle.zflow.specs.View.{seen};
+
+use crate::asking::named;
+use crate::parts::{Kept, Lead, Outcome};
+use crate::view::View;
+use zcode::{Operand, Operation};
+use zdomain::Domain;
+use zword::{CountOp, Question};
+
+/// What may come of an operation, by the answers of its condition.
+#[derive(Clone, Copy)]
+pub(crate) struct Outcomes<V> {
+    /// Where it holds, or where there is none.
+    pub(crate) held: Option<Outcome<V>>,
+    /// Where it doesn't hold.
+    pub(crate) failed: Option<Outcome<V>>,
+}
+
+/// What may come of an operation on operands whose first two have these sets. `view` is what is known once they were read.
+#[tactic(auto, unfolding(crate::specs::Transfer::outcome_of))]
+pub(crate) fn outcomes_of<V: Domain>(
+    operation: Operation,
+    operands: &[Operand],
+    first: V,
+    second: V,
+    view: View<'_, V>,
+) -> Outcomes<V>
+    ensures held { result.held ≡ outcome_of V.operations view.entry.globals.now operation operands.now (both first second) (seen view.entry) true }
+    ensures failed { result.failed ≡ outcome_of V.operations view.entry.globals.now operation operands.now (both first second) (seen view.entry) false }
+{
+    match operation {
+        Operation::Unary(op) => once(gives_in(V::unary(op, first))),
+        Operation::Binary(op) => once(gives_in(V::binary(op, first, second))),
+        Operation::Compare(question) => compared(question, operands, first, second),
+        Operation::Count(op, question) => counted(op, question, first, second, view),
+        Operation::Store => stored(first, second),
+        Operation::Load => loaded(first, view),
+        Operation::Jump => jumped(first),
+        Operation::Verify => verified(),
+        Operation::PrintChar
+        | Operation::PrintNumber
+        | Operation::Print
+        | Operation::NewLine
+        | Operation::Nop => once(goes_on()),
+        Operation::Quit => never(),
+    }
+}
+
+/// What asks nothing has one outcome.
+fn once<V: Domain>(outcome: Outcome<V>) -> Outcomes<V>
+    ensures held { result.held ≡ Some outcome }
+    ensures failed { result.failed ≡ None }
+{
+    Outcomes {
+        held: Some(outcome),
+        failed: None,
+    }
+}
+
+/// There is no outcome.
+fn never<V: Domain>() -> Outcomes<V>
+    ensures held { result.held ≡ None }
+    ensures failed { result.failed ≡ None }
+{
+    Outcomes {
+        held: None,
+        failed: None,
+    }
+}
+
+/// A branch says nothing of locals.
+fn untold<V: Domain>() -> Kept<V>
+    ensures { result ≡ untold }
+{
+    Kept {
+        first: None,
+        second: None,
+    }
+}
+
+/// Nothing but that the next instruction comes.
+fn goes_on<V: Domain>() -> Outcome<V>
+    ensures { result ≡ goes_on }
+{
+    Outcome {
+        gives: None,
+        assigns: None,
+        tests: None,
+        kept: untold(),
+        leads: Lead::Ahead(0),
+    }
+}
+
+/// A value goes to the result variable.
+fn gives_in<V: Domain>(set: V) -> Outcome<V>
+    ensures { result ≡ gives_in set }
+{
+    Outcome {
+        gives: Some(set),
+        ..goes_on()
+    }
+}
+
+/// A variable is given a value in place.
+fn assigns_in<V: Domain>(variable: u8, set: V) -> Outcome<V>
+    ensures { result ≡ assigns_in variable set }
+{
+    Outcome {
+        assigns: Some((variable, set)),
+        ..goes_on()
+    }
+}
+
+/// The branch data asks for a condition.
+fn asks<V: Domain>(answer: bool, kept: Kept<V>) -> Outcome<V>
+    ensures { result ≡ asks answer kept }
+{
+    Outcome {
+        tests: Some(answer),
+        kept,
+        ..goes_on()
+    }
+}
+
+/// A question on the first operand and one of the others.
+#[tactic(auto, unfolding(crate::specs::Transfer::outcome_of))]
+fn compared<V: Domain>(
+    question: Question,
+    operands: &[Operand],
+    first: V,
+    second: V,
+) -> Outcomes<V>
+    ensures held { result.held ≡ option_map (asks true) (compared_kept V.operations [] question true operands.now (both first second)) }
+    ensures failed { result.failed ≡ option_map (asks false) (compared_kept V.operations [] question false operands.now (both first second)) }
+{
+    Outcomes {
+        held: compared_edge(question, true, operands, first, second),
+        failed: compared_edge(question, false, operands, first, second),
+    }
+}
+
+/// Where that is answered so.
+fn compared_edge<V: Domain>(
+    question: Question,
+    answer: bool,
+    operands: &[Operand],
+    first: V,
+    second: V,
+) -> Option<Outcome<V>>
+    ensures { result ≡ option_map (asks answer) (compared_kept V.operations [] question answer operands.now (both first second)) }
+{
+    match operands {
+        [a, b] => {
+            let (of_first, of_second) = V::narrow(question, answer, first, second)?;
+            let kept = Kept {
+                first: operand_kept(*a, of_first),
+                second: operand_kept(*b, of_second),
+            };
+            Some(asks(answer, kept))
+        }
+        _ => Some(asks(answer, untold())),
+    }
+}
+
+/// An operand that is a local keeps what a branch says of it.
+fn operand_kept<V: Domain>(operand: Operand, set: V) -> Option<(u8, V)>
+    ensures { result ≡ operand_kept (Some operand) set }
+{
+    match operand {
+        Operand::Constant(_) => None,
+        Operand::Variable(variable) => local_kept(variable, set),
+    }
+}
+
+/// A variable that is a local keeps what a branch says of it.
+fn local_kept<V: Domain>(variable: u8, set: V) -> Option<(u8, V)>
+    ensures { result ≡ local_kept variable set }
+{
+    if 1 <= variable && variable < 16 {
+        Some((variable, set))
+    } else {
+        None
+    }
+}
+
+/// The variable that the first operand names is counted, and its new value asked against the second, if at all.
+#[tactic(auto, unfolding(crate::specs::Transfer::outcome_of))]
+fn counted<V: Domain>(
+    op: CountOp,
+    question: Option<Question>,
+    first: V,
+    second: V,
+    view: View<'_, V>,
+) -> Outcomes<V>
+    ensures held { (operands : List AnOperand) → result.held ≡ outcome_of V.operations view.entry.globals.now (Count op question) operands (both first second) (seen view.entry) true }
+    ensures failed { (operands : List AnOperand) → result.failed ≡ outcome_of V.operations view.entry.globals.now (Count op question) operands (both first second) (seen view.entry) false }
+{
+    let Some(variable) = named(first) else {
+        return never();
+    };
+    let new = V::binary(op.operation(), view.variable_set(variable), V::single(1));
+    match question {
+        None => once(assigns_in(variable, new)),
+        Some(question) => Outcomes {
+            held: counted_edge(question, true, variable, new, second),
+            failed: counted_edge(question, false, variable, new, second),
+        },
+    }
+}
+
+/// Where its new value answers so.
+fn counted_edge<V: Domain>(
+    question: Question,
+    answer: bool,
+    variable: u8,
+    new: V,
+    second: V,
+) -> Option<Outcome<V>>
+    ensures { result ≡ option_map (counts_in variable new answer) (counted_kept V.operations [] question answer variable new second) }
+{
+    let (of_new, _) = V::narrow(question, answer, new, second)?;
+    Some(Outcome {
+        assigns: Some((variable, new)),
+        tests: Some(answer),
+        kept: Kept {
+            first: local_kept(variable, of_new),
+            second: None,
+        },
+        ..goes_on()
+    })
+}
+
+/// The variable that the first operand names is given the second.
+#[tactic(auto, unfolding(crate::specs::Transfer::outcome_of))]
+fn stored<V: Domain>(first: V, second: V) -> Outcomes<V>
+    ensures held { result.held ≡ once_known true (small (V.operations.known first)) (λ v. assigns_in v second) }
+    ensures failed { result.failed ≡ None }
+{
+    match named(first) {
+        None => never(),
+        Some(variable) => once(assigns_in(variable, second)),
+    }
+}
+
+/// The variable that the first operand names gives its value.
+fn loaded<V: Domain>(first: V, view: View<'_, V>) -> Outcomes<V>
+    ensures held { result.held ≡ once_known true (small (V.operations.known first)) (λ v. gives_in (variable_set V.operations view.entry.globals.now v (seen view.entry))) }
+    ensures failed { result.failed ≡ None }
+{
+    match named(first) {
+        None => never(),
+        Some(variable) => once(gives_in(view.variable_set(variable))),
+    }
+}
+
+/// The next instruction is as far away as the value says.
+fn jumped<V: Domain>(first: V) -> Outcomes<V>
+    ensures held { result.held ≡ once_known true (V.operations.known first) jumps }
+    ensures failed { result.failed ≡ None }
+{
+    match first.known() {
+        None => never(),
+        Some(word) => once(Outcome {
+            leads: Lead::Ahead(i32::from(word.cast_signed()) - 2),
+            ..goes_on()
+        }),
+    }
+}
+
+/// Of the sum of a file it isn't known whether it is that of its header.
+fn verified<V: Domain>() -> Outcomes<V>
+    ensures held { result.held ≡ Some (asks true untold) }
+    ensures failed { result.failed ≡ Some (asks false untold) }
+{
+    Outcomes {
+        held: Some(asks(true, untold())),
+        failed: Some(asks(false, untold())),
+    }
+}
