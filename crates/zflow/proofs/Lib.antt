@@ -1,1 +1,3 @@
 mod Slots
+mod Operands
+mod Answering

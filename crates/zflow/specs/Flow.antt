@@ -3,16 +3,14 @@ use Rattle.std.specs.Prelude.{◌≡◌, Bool, true, false, List, Option, option
 use Rattle.zcode.specs.Instruction.{Instruction}
 use Rattle.zcode.specs.Operation.{inputs}
 use Rattle.zdomain.specs.Domain.{SetOperations}
-use Rattle.zflow.specs.declared.parts.Outcome.{Outcome}
 use Rattle.zflow.specs.declared.flow.Edge.{Edge}
 use Rattle.zflow.specs.declared.flow.Flow.{Flow}
-use Rattle.zflow.specs.Transfer.{Shape, pops, demands_at, outcome_at, after, leading}
+use Rattle.zflow.specs.Transfer.{Shape, pops, demands_at, outcome_at, leading}
 
 module _ {V : Type 0} (o : SetOperations V) (globals : List V) (i : Instruction) (e : Shape V) where
   -- the edge where the condition is answered so, if it can be taken
   pub record IsEdge (c : Bool) (edge : Option (Edge V)) : Type 0 where
     pub outcome : option_map (λ x. x.outcome) edge ≡ outcome_at o globals i e c
-    pub after : IfSome edge (λ x. x.after ≡ after o globals i e x.outcome)
     pub lead : IfSome edge (λ x. x.lead ≡ leading o x.outcome i.branch)
 
   -- all that may come of an instruction

@@ -105,12 +105,14 @@ impl<V: Domain> Known<V> {
         }
     }
 
-    /// Leaves both locals of which a branch says something what it says, and answers whether that leaves them a value.
-    pub(crate) fn narrow(&mut self, kept: Kept<V>) -> Option<()>
-        ensures { option_map (λ _. self.new) result ≡ narrowed V.operations kept self.old }
+    /// It, with what a branch says of locals, where each has a value left.
+    pub(crate) fn narrowed(self, kept: Kept<V>) -> Option<Known<V>>
+        ensures { result ≡ narrowed V.operations kept self }
     {
-        self.narrow_by(kept.first)?;
-        self.narrow_by(kept.second)
+        let mut known = self;
+        known.narrow_by(kept.first)?;
+        known.narrow_by(kept.second)?;
+        Some(known)
     }
 
     /// Leaves a local what a branch says of it, and answers whether that leaves it a value.

@@ -1,6 +1,6 @@
 //! What is known before an instruction, and what of it is read.
 
-ghost use Rattle.std.specs.Prelude.{◌≡◌};
+ghost use Rattle.std.specs.Prelude.{◌≡◌, ◌≤◌, drop, length, reverse};
 ghost use Rattle.zflow.specs.Transfer.{below, operand_set, pops, values_of, variable_set};
 ghost use Rattle.zflow.specs.View.{seen};
 
@@ -28,6 +28,14 @@ pub(crate) fn pops(operands: &[Operand]) -> usize
         .count()
 }
 
+/// The slots without so many of the topmost.
+pub(crate) fn below<V>(count: usize, slots: &[V]) -> &[V]
+    ensures lasting { reverse result.now ≡ drop count (reverse slots.now) }
+    ensures fits { length result.now ≤ length slots.now }
+{
+    &slots[..slots.len().saturating_sub(count)]
+}
+
 impl<'a, V: Domain> View<'a, V> {
     /// What is known once so many slots were taken.
     pub(crate) fn below(self, count: usize) -> View<'a, V>
@@ -37,7 +45,7 @@ impl<'a, V: Domain> View<'a, V> {
         View {
             globals: self.globals,
             locals: self.locals,
-            slots: &self.slots[..self.slots.len().saturating_sub(count)],
+            slots: below(count, self.slots),
         }
     }
 
