@@ -1,3 +1,4 @@
 mod Slots
 mod Operands
 mod Answering
+mod Worked

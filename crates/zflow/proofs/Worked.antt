@@ -1,0 +1,245 @@
+-- Values of the definitions, computed over intervals.
+use Rattle.std.proofs.Common.{◌≡◌, ℕ, ◌-◌, ℤ, pos, negsuc, int_le, Bool, true, false, List, [], ◌∷◌, map, Option, Some, None, option_map, refl}
+use Rattle.std.specs.Option.{option_and_then}
+use Rattle.zcode.specs.declared.opcode.Opcode.{Opcode}
+use Rattle.zcode.specs.declared.opcode.Opcode.TheVariants as opcodes
+use Rattle.zcode.specs.declared.instr.Operand.{Operand}
+use Rattle.zcode.specs.declared.instr.Operand.TheVariants.{Constant, Variable}
+use Rattle.zcode.specs.declared.instr.Branch.{Branch}
+use Rattle.zcode.specs.Instruction.{Instruction}
+use Rattle.zcode.specs.Operation.{operation_of, inputs}
+use Rattle.zdomain.specs.declared.interval.Interval.{Interval}
+use Rattle.zdomain.specs.Interval.{in_order, interval_operations}
+use Rattle.zflow.specs.declared.parts.Demands.{Demands}
+use Rattle.zflow.specs.declared.parts.Lead.{Lead}
+use Rattle.zflow.specs.declared.parts.Lead.TheVariants.{Ahead, Returning}
+use Rattle.zflow.specs.declared.parts.Outcome.{Outcome}
+use Rattle.zflow.specs.Transfer.{Shape, pops, below, operand_set, demands_of, demands_at, outcome_of, outcome_at, after, leading}
+use Rattle.zflow.specs.Kept.{both, shape_of}
+
+-- ---- what is known, and what is looked at
+
+abbrev from : (lo hi : ℤ) → int_le lo hi ≡ true → Interval
+from lo hi e = record { lo = lo; hi = hi; ordered = in_order lo hi e }
+
+abbrev Ends : Type 0
+Ends = ℤ × ℤ
+
+abbrev ends : Interval → Ends
+ends a = (a.lo, a.hi)
+
+-- from a number up to another, and one alone
+abbrev span : ℕ → ℕ → Ends
+span a b = (pos a, pos b)
+
+abbrev only : ℕ → Ends
+only a = (pos a, pos a)
+
+abbrev any : Ends
+any = (negsuc 32767, pos 32767)
+
+-- globals 16 and 17: [100, 110] and [3, 3]
+globals : List Interval
+globals = from (pos 100) (pos 110) refl ∷ from (pos 3) (pos 3) refl ∷ []
+
+-- locals [0, 9], [1, 1] and [0, 1]; on the stack [7, 7], and [20, 30] below
+shape : Shape Interval
+shape = record { locals = from (pos 0) (pos 9) refl ∷ from (pos 1) (pos 1) refl ∷ from (pos 0) (pos 1) refl ∷ []; slots = from (pos 7) (pos 7) refl ∷ from (pos 20) (pos 30) refl ∷ [] }
+
+-- an instruction that stores in a variable, or branches where its condition holds
+abbrev plain : Opcode → List Operand → Instruction
+plain opcode operands = record { opcode = opcode; operands = operands; store = None; branch = None; size = 3 }
+
+abbrev storing : Opcode → List Operand → ℕ → Instruction
+storing opcode operands v = record (plain opcode operands) { store = Some v }
+
+abbrev branching : Opcode → List Operand → ℤ → Instruction
+branching opcode operands offset = record (plain opcode operands) { branch = Some (record { sense = true; offset = offset }) }
+
+abbrev outcome_on : Instruction → Bool → Option (Outcome Interval)
+outcome_on i c = outcome_at interval_operations globals i shape c
+
+abbrev after_on : Instruction → Bool → Option (Shape Interval)
+after_on i c = option_and_then (after interval_operations globals i shape) (outcome_on i c)
+
+abbrev locals_on : Instruction → Bool → Option (List Ends)
+locals_on i c = option_map (λ e. map ends e.locals) (after_on i c)
+
+abbrev slots_on : Instruction → Bool → Option (List Ends)
+slots_on i c = option_map (λ e. map ends e.slots) (after_on i c)
+
+-- how far it leads, and what it returns
+abbrev distance : Lead Interval → Option ℤ
+distance (Ahead d) = Some d
+distance (Returning a) = None
+
+abbrev returned : Lead Interval → Option Ends
+returned (Ahead d) = None
+returned (Returning a) = Some (ends a)
+
+abbrev lead_on : Instruction → Bool → Option (Lead Interval)
+lead_on i c = option_map (λ w. leading interval_operations w i.branch) (outcome_on i c)
+
+abbrev distance_on : Instruction → Bool → Option ℤ
+distance_on i c = option_and_then distance (lead_on i c)
+
+abbrev returned_on : Instruction → Bool → Option Ends
+returned_on i c = option_and_then returned (lead_on i c)
+
+abbrev demands_on : Instruction → Demands Interval
+demands_on i = demands_at interval_operations globals i shape
+
+-- ---- what is read
+
+abbrev operands_of : List Operand → ℕ → Ends
+operands_of operands k = ends (operand_set interval_operations globals operands shape k)
+
+-- a word is taken off the stack before the next operand is read; where there is none, it is 0
+reads : (operands_of (Variable 0 ∷ Variable 0 ∷ []) 0 ≡ only 7) × (operands_of (Variable 0 ∷ Variable 0 ∷ []) 1 ≡ span 20 30) × (operands_of (Variable 1 ∷ Variable 0 ∷ []) 1 ≡ only 7) × (operands_of (Variable 16 ∷ Constant 5 ∷ []) 0 ≡ span 100 110) × (operands_of (Variable 16 ∷ Constant 5 ∷ []) 1 ≡ only 5) × (operands_of (Variable 1 ∷ []) 1 ≡ only 0)
+unfolding shape globals
+reads = (refl, refl, refl, refl, refl, refl)
+
+-- a variable that isn't there may have any value
+absent : (operands_of (Variable 4 ∷ []) 0 ≡ any) × (operands_of (Variable 18 ∷ []) 0 ≡ any) × (operands_of (Variable 0 ∷ Variable 0 ∷ Variable 0 ∷ []) 2 ≡ any)
+unfolding shape globals
+absent = (refl, refl, refl)
+
+taken : (pops (Variable 0 ∷ Constant 0 ∷ Variable 1 ∷ Variable 0 ∷ []) ≡ 2) × (pops (inputs (plain opcodes.Pull (Constant 1 ∷ []))) ≡ 1) × (map ends (below 1 shape).slots ≡ span 20 30 ∷ []) × ((below 3 shape).slots ≡ [])
+unfolding shape
+taken = (refl, refl, refl, refl)
+
+-- ---- branches
+
+jl : Instruction
+jl = branching opcodes.Jl (Variable 1 ∷ Constant 5 ∷ []) (pos 10)
+
+less : (locals_on jl true ≡ Some (span 0 4 ∷ only 1 ∷ span 0 1 ∷ [])) × (locals_on jl false ≡ Some (span 5 9 ∷ only 1 ∷ span 0 1 ∷ [])) × (distance_on jl true ≡ Some (pos 8)) × (distance_on jl false ≡ Some (pos 0))
+unfolding operation_of outcome_of shape globals jl
+less = (refl, refl, refl, refl)
+
+-- the second operand is narrowed too; a local that is named twice takes both
+seconds : (locals_on (branching opcodes.Jl (Constant 5 ∷ Variable 1 ∷ []) (pos 10)) true ≡ Some (span 6 9 ∷ only 1 ∷ span 0 1 ∷ [])) × (locals_on (branching opcodes.Jl (Variable 1 ∷ Variable 1 ∷ []) (pos 10)) true ≡ Some (span 1 8 ∷ only 1 ∷ span 0 1 ∷ []))
+unfolding operation_of outcome_of shape globals
+seconds = (refl, refl)
+
+abbrev nothing : Option (Outcome Interval)
+nothing = None
+
+-- an edge that can't be taken; and one whose outcome leaves a local nothing
+closed : (outcome_on (branching opcodes.Jg (Variable 1 ∷ Constant 9 ∷ []) (pos 10)) true ≡ nothing) × (outcome_on (branching opcodes.Jz (Variable 2 ∷ []) (pos 10)) true ≡ nothing) × (locals_on (branching opcodes.Jl (Variable 3 ∷ Variable 3 ∷ []) (pos 10)) true ≡ None)
+unfolding operation_of outcome_of shape globals
+closed = (refl, refl, refl)
+
+je : List Operand → Instruction
+je operands = branching opcodes.Je operands (pos 10)
+
+-- of two an equal is known, of three nothing
+equal : (locals_on (je (Variable 1 ∷ Constant 5 ∷ [])) true ≡ Some (only 5 ∷ only 1 ∷ span 0 1 ∷ [])) × (locals_on (je (Variable 1 ∷ Constant 9 ∷ [])) false ≡ Some (span 0 8 ∷ only 1 ∷ span 0 1 ∷ [])) × (locals_on (je (Variable 1 ∷ Constant 5 ∷ Constant 6 ∷ [])) true ≡ Some (span 0 9 ∷ only 1 ∷ span 0 1 ∷ [])) × (locals_on (je (Variable 1 ∷ Constant 9 ∷ Constant 9 ∷ [])) false ≡ Some (span 0 9 ∷ only 1 ∷ span 0 1 ∷ [])) × (locals_on (je (Variable 1 ∷ [])) true ≡ Some (span 0 9 ∷ only 1 ∷ span 0 1 ∷ []))
+unfolding operation_of outcome_of shape globals je
+equal = (refl, refl, refl, refl, refl)
+
+-- a branch with the offset 1 returns 1, where it is taken
+returns : (returned_on (branching opcodes.Jl (Variable 1 ∷ Constant 5 ∷ []) (pos 1)) true ≡ Some (only 1)) × (distance_on (branching opcodes.Jl (Variable 1 ∷ Constant 5 ∷ []) (pos 1)) false ≡ Some (pos 0)) × (returned_on (branching opcodes.Jl (Variable 1 ∷ Constant 5 ∷ []) (pos 0)) true ≡ Some (only 0))
+unfolding operation_of outcome_of shape globals
+returns = (refl, refl, refl)
+
+-- whether a file's sum is right isn't known
+verifies : (locals_on (branching opcodes.Verify [] (pos 10)) true ≡ Some (span 0 9 ∷ only 1 ∷ span 0 1 ∷ [])) × (distance_on (branching opcodes.Verify [] (pos 10)) true ≡ Some (pos 8)) × (distance_on (branching opcodes.Verify [] (pos 10)) false ≡ Some (pos 0))
+unfolding operation_of outcome_of shape globals
+verifies = (refl, refl, refl)
+
+-- ---- counts
+
+-- local 1 is counted to [1, 10], and what is asked is asked of that
+inc_chk : Operand → Operand → Instruction
+inc_chk named against = branching opcodes.IncChk (named ∷ against ∷ []) (pos 10)
+
+counts : (locals_on (inc_chk (Constant 1) (Constant 5)) true ≡ Some (span 6 10 ∷ only 1 ∷ span 0 1 ∷ [])) × (locals_on (inc_chk (Constant 1) (Constant 5)) false ≡ Some (span 1 5 ∷ only 1 ∷ span 0 1 ∷ [])) × (outcome_on (inc_chk (Constant 1) (Constant 10)) true ≡ nothing)
+unfolding operation_of outcome_of shape globals inc_chk
+counts = (refl, refl, refl)
+
+-- the local that names it and the one that it is asked against stay as they are
+others : (locals_on (inc_chk (Variable 2) (Constant 5)) true ≡ Some (span 6 10 ∷ only 1 ∷ span 0 1 ∷ [])) × (locals_on (inc_chk (Constant 1) (Variable 3)) true ≡ Some (span 1 10 ∷ only 1 ∷ span 0 1 ∷ [])) × (locals_on (inc_chk (Constant 1) (Variable 3)) false ≡ Some (only 1 ∷ only 1 ∷ span 0 1 ∷ []))
+unfolding operation_of outcome_of shape globals inc_chk
+others = (refl, refl, refl)
+
+-- a plain count has one edge; the top of the stack is counted in place
+plainly : (locals_on (plain opcodes.Dec (Constant 1 ∷ [])) true ≡ Some ((negsuc 0, pos 8) ∷ only 1 ∷ span 0 1 ∷ [])) × (outcome_on (plain opcodes.Dec (Constant 1 ∷ [])) false ≡ nothing) × (slots_on (plain opcodes.Inc (Constant 0 ∷ [])) true ≡ Some (only 8 ∷ span 20 30 ∷ []))
+unfolding operation_of outcome_of shape globals
+plainly = (refl, refl, refl)
+
+-- ---- variables that a value names
+
+-- the top is read where it is after what the operand took, and pushed or put in a local
+loads : (locals_on (storing opcodes.Load (Constant 0 ∷ []) 1) true ≡ Some (only 7 ∷ only 1 ∷ span 0 1 ∷ [])) × (slots_on (storing opcodes.Load (Constant 16 ∷ []) 0) true ≡ Some (span 100 110 ∷ only 7 ∷ span 20 30 ∷ [])) × (outcome_on (storing opcodes.Load (Variable 1 ∷ []) 1) true ≡ nothing) × (outcome_on (storing opcodes.Load (Constant 256 ∷ []) 1) true ≡ nothing)
+unfolding operation_of outcome_of shape globals
+loads = (refl, refl, refl, refl)
+
+-- with 0 on top of the stack, `load` of it reads the slot below
+abbrev zero_above : Shape Interval
+zero_above = record shape { slots = from (pos 0) (pos 0) refl ∷ shape.slots }
+
+loads_below : option_map (λ e. map ends e.slots) (option_and_then (after interval_operations globals (storing opcodes.Load (Variable 0 ∷ []) 0) zero_above) (outcome_at interval_operations globals (storing opcodes.Load (Variable 0 ∷ []) 0) zero_above true)) ≡ Some (only 7 ∷ only 7 ∷ span 20 30 ∷ [])
+unfolding operation_of outcome_of shape globals
+loads_below = refl
+
+-- pull takes the top; a store to the stack replaces it; a global keeps its set, and so does what isn't there
+stores : (locals_on (plain opcodes.Pull (Constant 1 ∷ [])) true ≡ Some (only 7 ∷ only 1 ∷ span 0 1 ∷ [])) × (slots_on (plain opcodes.Pull (Constant 1 ∷ [])) true ≡ Some (span 20 30 ∷ [])) × (slots_on (plain opcodes.Store (Constant 0 ∷ Constant 4 ∷ [])) true ≡ Some (only 4 ∷ span 20 30 ∷ [])) × (locals_on (plain opcodes.Store (Constant 16 ∷ Constant 4 ∷ [])) true ≡ Some (span 0 9 ∷ only 1 ∷ span 0 1 ∷ [])) × (locals_on (plain opcodes.Store (Constant 4 ∷ Constant 4 ∷ [])) true ≡ Some (span 0 9 ∷ only 1 ∷ span 0 1 ∷ []))
+unfolding operation_of outcome_of shape globals
+stores = (refl, refl, refl, refl, refl)
+
+named : ((demands_on (plain opcodes.Store (Constant 16 ∷ Constant 4 ∷ []))).variable ≡ Some 16) × ((demands_on (plain opcodes.Store (Constant 16 ∷ Constant 4 ∷ []))).indirect ≡ true) × ((demands_on (plain opcodes.Inc (Variable 1 ∷ []))).variable ≡ None) × ((demands_on (storing opcodes.Load (Constant 256 ∷ []) 1)).variable ≡ None) × ((demands_on (storing opcodes.Load (Constant 255 ∷ []) 1)).variable ≡ Some 255) × ((demands_on jl).indirect ≡ false)
+unfolding operation_of demands_of shape globals jl
+named = (refl, refl, refl, refl, refl, refl)
+
+-- ---- values
+
+-- a result goes on the stack once both operands were taken off it; push has no result variable
+results : (slots_on (storing opcodes.Add (Variable 0 ∷ Variable 0 ∷ []) 0) true ≡ Some (span 27 37 ∷ [])) × (locals_on (storing opcodes.Sub (Constant 10 ∷ Variable 1 ∷ []) 3) true ≡ Some (span 0 9 ∷ only 1 ∷ span 1 10 ∷ [])) × (slots_on (storing opcodes.Sub (Constant 10 ∷ Variable 1 ∷ []) 3) true ≡ Some (only 7 ∷ span 20 30 ∷ [])) × (locals_on (storing opcodes.Not (Variable 2 ∷ []) 1) true ≡ Some ((negsuc 1, negsuc 1) ∷ only 1 ∷ span 0 1 ∷ [])) × (slots_on (plain opcodes.Push (Variable 1 ∷ [])) true ≡ Some (span 0 9 ∷ only 7 ∷ span 20 30 ∷ [])) × (outcome_on (plain opcodes.Push (Variable 1 ∷ [])) false ≡ nothing)
+unfolding operation_of outcome_of shape globals
+results = (refl, refl, refl, refl, refl, refl)
+
+divisors : (option_map ends (demands_on (storing opcodes.Div (Constant 10 ∷ Variable 1 ∷ []) 3)).divisor ≡ Some (span 0 9)) × (option_map ends (demands_on (storing opcodes.Mod (Constant 10 ∷ Variable 2 ∷ []) 3)).divisor ≡ Some (only 1)) × (option_map ends (demands_on (storing opcodes.Mul (Constant 10 ∷ Variable 2 ∷ []) 3)).divisor ≡ None)
+unfolding operation_of demands_of shape globals
+divisors = (refl, refl, refl)
+
+-- ---- jumps
+
+-- from the byte behind the instruction, less 2; of two values nothing comes
+jump : Operand → Instruction
+jump operand = plain opcodes.Jump (operand ∷ [])
+
+jumps : (distance_on (jump (Constant 10)) true ≡ Some (pos 8)) × (distance_on (jump (Constant 0xFFFE)) true ≡ Some (negsuc 3)) × (distance_on (jump (Variable 2)) true ≡ Some (negsuc 0)) × (outcome_on (jump (Constant 10)) false ≡ nothing) × (outcome_on (jump (Variable 3)) true ≡ nothing)
+unfolding operation_of outcome_of shape globals jump
+jumps = (refl, refl, refl, refl, refl)
+
+certain : ((demands_on (jump (Variable 2))).certain ≡ true) × ((demands_on (jump (Variable 3))).certain ≡ false) × ((demands_on jl).certain ≡ true)
+unfolding operation_of demands_of shape globals jump jl
+certain = (refl, refl, refl)
+
+-- ---- what prints or does nothing
+
+texts : ((demands_on (plain opcodes.Print [])).has_text ≡ true) × ((demands_on (plain opcodes.NewLine [])).has_text ≡ false)
+unfolding operation_of demands_of shape globals
+texts = (refl, refl)
+
+abbrev stays : Option (List Ends)
+stays = Some (only 7 ∷ span 20 30 ∷ [])
+
+proceeds : (slots_on (plain opcodes.Print []) true ≡ stays) × (slots_on (plain opcodes.NewLine []) true ≡ stays) × (slots_on (plain opcodes.PrintChar (Constant 65 ∷ [])) true ≡ stays) × (slots_on (plain opcodes.PrintNum (Variable 0 ∷ [])) true ≡ Some (span 20 30 ∷ [])) × (slots_on (plain opcodes.Nop []) true ≡ stays) × (slots_on (plain opcodes.Pop []) true ≡ Some (span 20 30 ∷ [])) × (outcome_on (plain opcodes.Nop []) false ≡ nothing)
+unfolding operation_of outcome_of shape globals
+proceeds = (refl, refl, refl, refl, refl, refl, refl)
+
+-- nothing comes of quit, and of an opcode of which nothing is said
+ends_there : (outcome_on (plain opcodes.Quit []) true ≡ nothing) × (outcome_on (plain opcodes.Quit []) false ≡ nothing) × (outcome_on (plain opcodes.Restart []) true ≡ nothing)
+unfolding operation_of outcome_of shape globals
+ends_there = (refl, refl, refl)
+
+-- ---- how the code keeps it
+
+row : List ℕ
+row = 3 ∷ 4 ∷ []
+
+kept : ((shape_of row row).locals ≡ 3 ∷ 4 ∷ []) × ((shape_of row row).slots ≡ 4 ∷ 3 ∷ []) × (both {V = ℕ} 5 6 0 ≡ 5) × (both {V = ℕ} 5 6 1 ≡ 6)
+unfolding row
+kept = (refl, refl, refl, refl)
