@@ -37,12 +37,7 @@ pub struct Flow<V> {
 
 /// What may come of an instruction before which this is known: sets of the globals, of the frame's locals and of its slots,
 /// the top slot last. Each set is computed once.
-pub fn flow_of<V: Domain>(
-    globals: &[V],
-    locals: &[V],
-    slots: &[V],
-    instruction: &Instr,
-) -> Flow<V>
+pub fn flow_of<V: Domain>(globals: &[V], locals: &[V], slots: &[V], instruction: &Instr) -> Flow<V>
     ensures { IsFlow V.operations globals.now instruction.now (shape_of locals.now slots.now) result }
 {
     let before = View {
