@@ -10,7 +10,8 @@ ghost use Rattle.zrule.specs.Described.{IsNoFault};
 ghost use Rattle.zplay.specs.Accepted.{IsAccepted};
 ghost use Rattle.zboard.specs.Play.{state_in};
 ghost use Rattle.zboard.specs.View.{position_of};
-ghost use Rattle.zplay.specs.Session.{game_of, setting};
+ghost use Rattle.zboard.specs.declared.row.Row.{Row as ARow};
+ghost use Rattle.zplay.specs.Session.{game_of, setting, IsInPlay};
 
 use crate::rows::rows_of;
 use std::alloc::{AllocError, Global};
@@ -79,7 +80,8 @@ impl<'a> Session<'a> {
 
     /// What steps move.
     fn board(&self) -> &Board
-        ensures { self.now.state ≡ state_in (game_of self.now.accepted) (position_of result.now) }
+        ensures state { self.now.state ≡ state_in (game_of self.now.accepted) (position_of result.now) }
+        ensures play { (rows : List ARow) × IsInPlay self.now.accepted rows (position_of result.now) }
     {
         match &self.board {
             Some(board) => board,
@@ -106,7 +108,7 @@ impl<'a> Session<'a> {
     pub fn awaits(&self) -> Option<Need>
         ensures { result ≡ awaited (setting self.now) self.now.state }
     {
-        each_step_is_safe::<Interval>();
+        let _board = self.board();
         None // for no event
     }
 
@@ -115,7 +117,7 @@ impl<'a> Session<'a> {
         requires { (need : Need) × (awaited (setting self.old) self.old.state ≡ Some need) × IsTrue (answers need event) }
         ensures { self.new ≡ record self.old { state = give event self.old.state } }
     {
-        let _event = event;
+        let (_event, _board) = (event, self.board());
         unreachable!()
     }
 
