@@ -1,4 +1,5 @@
 mod Doing
+mod Keeping
 mod Needless
 pub mod Running
 mod Plain
