@@ -1,4 +1,5 @@
 mod Doing
+mod Fixed
 mod Keeping
 mod Needless
 pub mod Running
