@@ -20,6 +20,7 @@ use zstory::Story;
 
 /// Does what was planned, and gives out its items: all of them or, with nothing changed, none. Memory is wanted only where
 /// something is given out, or a stack gets longer.
+#[inline(always)]
 #[tactic(auto, using(crate::proofs::Doing::acting))]
 pub(crate) fn act_on(
     story: &Story,
@@ -56,6 +57,7 @@ fn globals_are_dynamic(story: &Story)
 }
 
 /// Does all but giving out.
+#[inline(always)]
 fn go(story: &Story, state: &mut State, row: &Row, plan: Plan) -> Result<(), AllocError>
     requires memory { length state.old.memory ≡ length story.now.memory }
     requires reached { state.old.frame.return_place < 2 ^ 24 }
@@ -78,6 +80,7 @@ fn go(story: &Story, state: &mut State, row: &Row, plan: Plan) -> Result<(), All
 }
 
 /// Changes variables, and goes on so far behind the next instruction.
+#[inline(always)]
 #[tactic(auto, using(crate::proofs::Doing::doing))]
 fn go_on(
     story: &Story,
@@ -107,6 +110,7 @@ fn go_on(
 }
 
 /// Takes the words of the operands off the stack, and gives a variable its value.
+#[inline(always)]
 #[tactic(auto, using(crate::proofs::Doing::doing))]
 fn change(story: &Story, state: &mut State, effect: Effect, popped: usize)
     requires memory { length state.old.memory ≡ length story.now.memory }
@@ -121,6 +125,7 @@ fn change(story: &Story, state: &mut State, effect: Effect, popped: usize)
 }
 
 /// Changes variables, leaves the frame, and puts a value on the caller's stack.
+#[inline(never)]
 #[tactic(auto, using(crate::proofs::Doing::doing))]
 fn push_back(story: &Story, state: &mut State, plan: Plan, word: u16) -> Result<(), AllocError>
     requires memory { length state.old.memory ≡ length story.now.memory }
@@ -140,6 +145,7 @@ fn push_back(story: &Story, state: &mut State, plan: Plan, word: u16) -> Result<
 }
 
 /// Changes variables, leaves the frame, and gives the caller's variable a value.
+#[inline(never)]
 #[tactic(auto, using(crate::proofs::Doing::doing))]
 fn put_back(story: &Story, state: &mut State, plan: Plan, variable: u8, word: u16)
     requires memory { length state.old.memory ≡ length story.now.memory }
@@ -157,6 +163,7 @@ fn put_back(story: &Story, state: &mut State, plan: Plan, variable: u8, word: u1
 }
 
 /// Gives out bytes of text, for which there is room.
+#[inline(always)]
 fn give_text(items: &mut Vec<Item>, bytes: &[u8])
     requires { vec_len items.old + length bytes.now ≤ vec_capacity items.old }
     ensures { items.new.items ≡ items.old.items ++ map Text bytes.now }

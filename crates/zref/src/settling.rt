@@ -14,6 +14,7 @@ use zfault::Fault;
 use zstate::{Halt, State};
 
 /// Judges an effect, where so many words were taken off the stack before, and says where the step leads.
+#[inline(always)]
 pub(crate) fn settle(
     row: &Row,
     effect: Effect,
@@ -35,6 +36,7 @@ pub(crate) fn settle(
 }
 
 /// Where a step leads: along its branch, where that is taken.
+#[inline(always)]
 #[tactic(auto, using(crate::proofs::Short::short))]
 fn course_of(effect: Effect, branch: Option<Branch>) -> Course
     ensures value { (text : List ℕ) → move_of result ≡ course (effect_with effect text) branch }
@@ -59,6 +61,7 @@ fn course_of(effect: Effect, branch: Option<Branch>) -> Course
 }
 
 /// The faults: of the result variable, of a return from the first frame, and of the caller's result variable.
+#[inline(always)]
 #[tactic(auto, unfolding(zstate::specs::Step::admits))]
 fn admit(target: u8, effect: Effect, course: Course, state: &State) -> Result<(), Halt>
     requires { IsShortWay course }
@@ -80,6 +83,7 @@ fn admit(target: u8, effect: Effect, course: Course, state: &State) -> Result<()
 }
 
 /// The pauses: `quit`, and a stack with no room for a word.
+#[inline(always)]
 #[tactic(auto, unfolding(zstate::specs::Step::pauses))]
 fn pause(
     target: u8,
