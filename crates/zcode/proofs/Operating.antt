@@ -1,19 +1,15 @@
 -- What is played does something.
-use Rattle.std.proofs.Common.{◌≡◌, ◌≤◌, ◌+◌, ℕ, length, true, refl, arith}
+use Rattle.std.proofs.Common.{◌≡◌, ◌≤◌, ◌+◌, ℕ, length, true, arith}
 use Rattle.std.specs.Prelude.{is_some}
 use Rattle.zcode.specs.declared.opcode.Opcode.{Opcode}
-use Rattle.zcode.specs.declared.opcode.Opcode.TheVariants.{Je, Print, Nop, Quit, NewLine}
+use Rattle.zcode.specs.declared.opcode.Opcode.TheVariants.{Je}
 use Rattle.zcode.specs.Playable.{playable}
 use Rattle.zcode.specs.Opcodes.{TakesOperands}
 use Rattle.zcode.specs.Operation.{operation_of, implied}
 
 pub played_operate : (opcode : Opcode) → playable opcode ≡ true → is_some (operation_of opcode) ≡ true
-unfolding playable operation_of
-played_operate Print h = refl
-played_operate Nop h = refl
-played_operate Quit h = refl
-played_operate NewLine h = refl
-played_operate _ h = absurd cc
+unfolding playable
+played_operate opcode h = h
 
 -- what is implied stands behind at most one operand
 pub few_inputs : (opcode : Opcode) (n : ℕ) → TakesOperands opcode n → n + length (implied opcode) ≤ 4

@@ -2,7 +2,7 @@
 use Rattle.std.proofs.Common.{◌≡◌, ℕ, ◌+◌, ◌<◌, zero, suc, Bool, true, false, [], ◌∷◌, length, Some, None, Ok, Err, pos, negsuc, refl, arith, lit<, lit≤}
 use Rattle.zstory.specs.Bytes.{byte_at}
 use Rattle.zcode.specs.declared.opcode.Opcode.{Opcode}
-use Rattle.zcode.specs.declared.opcode.Opcode.TheVariants.{Je, IncChk, Dec, Or, Mul, Mod, Jz, GetChild, Jump, Not, Rtrue, Print, PrintRet, Nop, Quit, NewLine, Verify, Call, Storew, Sread, Load, Push, Pull, Pop}
+use Rattle.zcode.specs.declared.opcode.Opcode.TheVariants.{Je, IncChk, Dec, Or, Mul, Mod, Jz, GetChild, Jump, Not, Rtrue, Print, PrintRet, Quit, NewLine, Verify, Call, Storew, Sread, Load, Push, Pull, Pop}
 use Rattle.zcode.specs.declared.opcode.Excluded.TheVariants.{SplitWindow, SetWindow, OutputStream, SoundEffect}
 use Rattle.zcode.specs.declared.error.DecodeError.TheVariants.{Truncated, NoSuchOpcode, NotInProfile, Operands, Text}
 use Rattle.zcode.specs.declared.error.Unsupported.TheVariants.{Excluded, Unplayed}
@@ -51,10 +51,10 @@ taken = ((lit≤ tt, lit≤ tt), (lit≤ tt, lit≤ tt), (λ t. omega (arith, t.
 followed : (stores Or ≡ true) × (stores Call ≡ true) × (stores IncChk ≡ false) × (branches IncChk ≡ true) × (branches GetChild ≡ true) × (branches Call ≡ false) × (prints_text PrintRet ≡ true) × (prints_text NewLine ≡ false)
 followed = (refl, refl, refl, refl, refl, refl, refl, refl)
 
--- what this build plays for certain
-played : (playable Print ≡ true) × (playable NewLine ≡ true) × (playable Nop ≡ true) × (playable Quit ≡ true)
-unfolding playable
-played = (refl, refl, refl, refl)
+-- what this build plays is what it has an operation for
+played : (playable Print ≡ true) × (playable Je ≡ true) × (playable Pull ≡ true) × (playable Quit ≡ true) × (playable Sread ≡ false)
+unfolding playable operation_of
+played = (refl, refl, refl, refl, refl)
 
 -- ---- names, as codes of letters
 

@@ -1,12 +1,14 @@
--- Which opcodes this build plays (own). Nothing else of this crate may depend on which these are, so that turning one on
--- is here an edit of this table and of its twin in src/playable.rt alone.
-use Rattle.std.specs.Prelude.{Bool, true, false}
+-- Which opcodes this build plays (own): those of which the table of operations says something. Reading takes the set of played
+-- opcodes as a parameter, so that nothing else of this crate depends on which these are.
+use Rattle.std.specs.Prelude.{◌≡◌, Bool, true, is_some}
 use Rattle.zcode.specs.declared.opcode.Opcode.{Opcode}
-use Rattle.zcode.specs.declared.opcode.Opcode.TheVariants.{Print, Nop, Quit, NewLine}
+use Rattle.zcode.specs.Operation.{operation_of}
 
 unfoldable pub playable : Opcode → Bool
-playable Print = true
-playable Nop = true
-playable Quit = true
-playable NewLine = true
-playable _ = false
+playable opcode = is_some (operation_of opcode)
+
+-- ---- law
+
+-- each opcode that this build plays does something
+abbrev pub PlayedOperate : Type 0
+PlayedOperate = (opcode : Opcode) → playable opcode ≡ true → is_some (operation_of opcode) ≡ true

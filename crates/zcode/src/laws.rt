@@ -4,10 +4,9 @@ ghost use Rattle.std.specs.Prelude.{◌≡◌, ◌↔◌, ◌++◌, ◌+◌, ◌
 ghost use Rattle.ztext.specs.Words.{length_at};
 ghost use Rattle.zcode.specs.Opcodes.{prints_text};
 ghost use Rattle.zcode.specs.Instruction.{Instruction, IsWellFormed};
-ghost use Rattle.zcode.specs.Playable.{playable};
+ghost use Rattle.zcode.specs.Playable.{PlayedOperate, playable};
 ghost use Rattle.zcode.specs.Reading.{Agree, instruction_at};
 ghost use Rattle.zcode.specs.Spelling.{IsAtFront, Spells};
-ghost use Rattle.zcode.specs.Operation.{PlayedOperate};
 
 use ztext::text_is_at_front;
 

@@ -1,5 +1,5 @@
 -- What is known, part by part, is what the definitions say of an instruction.
-use Rattle.std.proofs.Common.{◌≡◌, ℕ, Bool, List, drop, Option, Some, None, refl, sym, ◌∙◌}
+use Rattle.std.proofs.Common.{◌≡◌, ℕ, Bool, List, drop, Option, Some, None, refl, sym}
 use Rattle.std.specs.Prelude.{reverse}
 use Rattle.zcode.specs.declared.opcode.Opcode.{Opcode}
 use Rattle.zcode.specs.declared.instr.Operand.{Operand}

@@ -1,11 +1,10 @@
 -- Values of the definitions, computed over intervals.
-use Rattle.std.proofs.Common.{◌≡◌, ℕ, ◌-◌, ℤ, pos, negsuc, int_le, Bool, true, false, List, [], ◌∷◌, map, Option, Some, None, option_map, refl}
+use Rattle.std.proofs.Common.{◌≡◌, ℕ, ℤ, pos, negsuc, int_le, Bool, true, false, List, [], ◌∷◌, map, Option, Some, None, option_map, refl}
 use Rattle.std.specs.Option.{option_and_then}
 use Rattle.zcode.specs.declared.opcode.Opcode.{Opcode}
 use Rattle.zcode.specs.declared.opcode.Opcode.TheVariants as opcodes
 use Rattle.zcode.specs.declared.instr.Operand.{Operand}
 use Rattle.zcode.specs.declared.instr.Operand.TheVariants.{Constant, Variable}
-use Rattle.zcode.specs.declared.instr.Branch.{Branch}
 use Rattle.zcode.specs.Instruction.{Instruction}
 use Rattle.zcode.specs.Operation.{operation_of, inputs}
 use Rattle.zdomain.specs.declared.interval.Interval.{Interval}

@@ -1,5 +1,5 @@
 -- What is known after an instruction, from what is known before it: the step again, over sets in place of words (own).
-use Rattle.std.specs.Prelude.{◌≡◌, ℕ, ◌-◌, ◌==◌, nat_le, nat_lt, Bool, true, false, ◌&&◌, is_some, if◌then◌else◌, List, [], ◌∷◌, length, take, drop, filter, Option, Some, None, option_map, slice_get, slice_set, slice_index_or, IfSome, pos, ◌-ℤ◌}
+use Rattle.std.specs.Prelude.{ℕ, ◌-◌, ◌==◌, nat_le, nat_lt, Bool, true, false, ◌&&◌, is_some, if◌then◌else◌, List, ◌∷◌, length, take, drop, filter, Option, Some, None, option_map, slice_get, slice_set, slice_index_or, pos, ◌-ℤ◌}
 use Rattle.std.specs.Option.{option_and_then}
 use Rattle.zword.specs.declared.binary.BinaryOp.{BinaryOp}
 use Rattle.zword.specs.declared.binary.BinaryOp.TheVariants.{Div, Mod}

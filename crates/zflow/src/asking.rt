@@ -33,11 +33,7 @@ fn demands_of<V: Domain>(operation: Operation, first: V, second: V) -> Demands<V
 }
 
 /// What an instruction asks for; of one that does nothing, nothing.
-pub(crate) fn demands_if<V: Domain>(
-    operation: Option<Operation>,
-    first: V,
-    second: V,
-) -> Demands<V>
+pub(crate) fn demands_if<V: Domain>(operation: Option<Operation>, first: V, second: V) -> Demands<V>
     ensures { result ≡ demands_if V.operations operation (both first second) }
 {
     match operation {

@@ -1,7 +1,7 @@
 //! What may come of an instruction, on each of its edges.
 
 ghost use Rattle.std.specs.Prelude.{◌≡◌, ◌≤◌, List, length, option_map, IfSome};
-ghost use Rattle.zflow.specs.Transfer.{after, leading};
+ghost use Rattle.zflow.specs.Transfer.{after, leading, read_set};
 ghost use Rattle.zflow.specs.Kept.{shape_of};
 ghost use Rattle.zflow.specs.Flow.{IsFlow};
 
@@ -37,12 +37,7 @@ pub struct Flow<V> {
 
 /// What may come of an instruction before which this is known: sets of the globals, of the frame's locals and of its slots,
 /// the top slot last. Each set is computed once.
-pub fn flow_of<V: Domain>(
-    globals: &[V],
-    locals: &[V],
-    slots: &[V],
-    instruction: &Instr,
-) -> Flow<V>
+pub fn flow_of<V: Domain>(globals: &[V], locals: &[V], slots: &[V], instruction: &Instr) -> Flow<V>
     ensures { IsFlow V.operations globals.now instruction.now (shape_of locals.now slots.now) result }
 {
     let before = View {
@@ -63,6 +58,26 @@ pub fn flow_of<V: Domain>(
         held: edge_of(outcomes.held, branch),
         failed: edge_of(outcomes.failed, branch),
     }
+}
+
+/// The word that an instruction reads first, where what is known leaves it but one: sets of the globals, of the frame's locals
+/// and of its slots, the top slot last.
+pub fn first_known<V: Domain>(
+    globals: &[V],
+    locals: &[V],
+    slots: &[V],
+    instruction: &Instr,
+) -> Option<u16>
+    ensures { result ≡ V.operations.known (read_set V.operations globals.now instruction.now (shape_of locals.now slots.now) 0) }
+{
+    let before = View {
+        globals,
+        locals,
+        slots,
+    };
+    let inputs = instruction.inputs();
+    let (first, _second) = before.read(inputs.as_slice());
+    first.known()
 }
 
 /// What is known of a frame after an outcome of an instruction, where each local that a branch tells of has a value left. Before

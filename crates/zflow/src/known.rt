@@ -63,10 +63,9 @@ impl<V: Domain> Known<V> {
         let Some((variable, set)) = assigns else {
             return;
         };
-        if variable == 0 {
-            self.set_top(set);
-        } else {
-            self.set_named(variable, set);
+        match variable {
+            0 => self.set_top(set),
+            _ => self.set_named(variable, set),
         }
     }
 
@@ -98,10 +97,9 @@ impl<V: Domain> Known<V> {
         let Some(set) = gives else {
             return;
         };
-        if variable == 0 {
-            self.slots.push(set);
-        } else {
-            self.set_named(variable, set);
+        match variable {
+            0 => self.slots.push(set),
+            _ => self.set_named(variable, set),
         }
     }
 

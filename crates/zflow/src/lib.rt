@@ -9,6 +9,6 @@ mod parts;
 mod row;
 mod view;
 
-pub use flow::{Edge, Flow, flow_of, known_after};
+pub use flow::{Edge, Flow, first_known, flow_of, known_after};
 pub use known::Known;
 pub use parts::{Demands, Kept, Lead, Outcome};

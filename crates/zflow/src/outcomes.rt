@@ -148,12 +148,7 @@ fn asks<V: Domain>(answer: bool, kept: Kept<V>) -> Outcome<V>
 
 /// A question on the first operand and one of the others.
 #[tactic(auto, unfolding(crate::specs::Transfer::outcome_of))]
-fn compared<V: Domain>(
-    question: Question,
-    operands: &[Operand],
-    first: V,
-    second: V,
-) -> Outcomes<V>
+fn compared<V: Domain>(question: Question, operands: &[Operand], first: V, second: V) -> Outcomes<V>
     ensures held { result.held ≡ option_map (asks true) (compared_kept V.operations [] question true operands.now (both first second)) }
     ensures failed { result.failed ≡ option_map (asks false) (compared_kept V.operations [] question false operands.now (both first second)) }
 {

@@ -9,6 +9,8 @@ use Rattle.zcert.specs.Certificate.{Instruction, Certificate}
 use Rattle.zcert.specs.Listed.{listed_at}
 use Rattle.zdomain.specs.Domain.{SetOperations}
 use Rattle.zdomain.specs.Interval.{interval_operations}
+use Rattle.zdomain.specs.IntervalLaw.{interval_sound}
+use Rattle.zcert.specs.Format.{interval_format}
 use Rattle.zstate.specs.State.{scope_only}
 use Rattle.zrule.specs.Described.{IsListedIn}
 use Rattle.zrule.specs.Claims.{claims_of, entry_of}
@@ -59,7 +61,7 @@ module _ (a : Acceptance) (accepted : IsAccepted a) where
 
   -- and each place of which something is said is listed
   pub listed_each : IsListedIn interval_operations (claims a) (scope_only a.listing)
-  listed_each = lists_where interval_operations a.story a.certificate a.listing accepted.lists
+  listed_each = lists_where interval_operations interval_sound interval_format a.story a.certificate accepted.spelling a.listing accepted.lists
 
   pub supported : Supports interval_operations (claims a) a.story
-  supported = supports_where interval_operations a.story a.certificate accepted.passes
+  supported = supports_where interval_operations interval_sound interval_format a.story a.certificate accepted.spelling accepted.passes

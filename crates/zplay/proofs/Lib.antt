@@ -1,6 +1,2 @@
-mod Accepting
-mod Stepping
-mod InPlay
-mod Starting
-mod Running
-mod Worked
+pub mod Accepting
+pub mod Playing

@@ -5,6 +5,8 @@ use Rattle.zdomain.specs.Interval.{interval_operations}
 use Rattle.zstory.specs.LoadedStory.{LoadedStory}
 use Rattle.zcode.specs.Reading.{instruction_at}
 use Rattle.zlist.specs.declared.record.Record.{Record}
+use Rattle.zcert.specs.Format.{interval_format}
+use Rattle.zcert.specs.Spelling.{HasSpelling}
 use Rattle.zrule.specs.Claims.{Claims, Entry, claims_of}
 use Rattle.zrule.specs.Described.{IsLoadedStory}
 use Rattle.zcheck.specs.Acceptance.{Acceptance, IsListingOf}
@@ -15,6 +17,7 @@ claims a = claims_of interval_operations a.certificate
 
 pub record IsAccepted (a : Acceptance) : Type 0 where
   pub loaded : IsLoadedStory a.story
+  pub spelling : HasSpelling interval_format a.certificate
   pub passes : Passes interval_operations a.story a.certificate
   pub lists : IsListingOf a.story a.certificate a.listing
 

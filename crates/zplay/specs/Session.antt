@@ -1,22 +1,28 @@
 -- The session, as contracts see it.
-use Rattle.std.specs.Prelude.{◌≡◌, ℕ, ◌<◌, List, ◌++◌, Option, Some, None, Ok, Err, length, map, pos, slice_index}
-use Rattle.zfault.specs.declared.item.Item.{Item}
+use Rattle.std.specs.Prelude.{◌≡◌, ℕ, List, [], Option, Some, None, Result, Ok, drop}
 use Rattle.zfault.specs.declared.pause.Pause.{Pause}
 use Rattle.zfault.specs.declared.pause.Pause.TheVariants as pauses
-use Rattle.zfault.specs.declared.pause.Need.{Need}
-use Rattle.zfault.specs.declared.pause.Need.TheVariants as needs
-use Rattle.zlist.specs.Listing.{ListedCode, addresses_of}
+use Rattle.zcode.specs.declared.error.DecodeError.{DecodeError}
+use Rattle.zcode.specs.declared.operation.Operation.{Operation}
+use Rattle.zcode.specs.declared.operation.Operation.TheVariants.{Jump}
+use Rattle.zcode.specs.Instruction.{Instruction}
+use Rattle.zcode.specs.Operation.{operation_of}
+use Rattle.zcode.specs.Reading.{instruction_at}
+use Rattle.zcert.specs.Certificate.{Instruction as Listed}
+use Rattle.zcert.specs.Listed.{listed_at}
+use Rattle.zdomain.specs.declared.interval.Interval.{Interval}
 use Rattle.zdomain.specs.Interval.{interval_operations}
-use Rattle.zstate.specs.declared.halt.Halt.{Halt}
-use Rattle.zstate.specs.declared.halt.Stop.TheVariants.{Paused}
-use Rattle.zstate.specs.State.{State, Setting, at_place, scope_only, usual_limit}
-use Rattle.zstate.specs.Step.{Done, step}
-use Rattle.zstate.specs.Run.{stop_of}
+use Rattle.zflow.specs.Transfer.{read_set}
+use Rattle.zstate.specs.State.{State, Setting, opening, scope_only, usual_limit}
+use Rattle.zboard.specs.declared.row.Row.{Row}
+use Rattle.zboard.specs.declared.board.Board.{Board}
+use Rattle.zboard.specs.Position.{Position}
+use Rattle.zboard.specs.Play.{Game, IsPlayable, state_in}
+use Rattle.zboard.specs.View.{position_of}
+use Rattle.zrule.specs.Claims.{entry_of}
 use Rattle.zrule.specs.Described.{Described}
-use Rattle.zplay.specs.declared.decoded.Decoded.{Decoded}
 use Rattle.zcheck.specs.Acceptance.{Acceptance}
 use Rattle.zplay.specs.Accepted.{IsAccepted, claims}
-use Rattle.zplay.specs.Decoded.{decoded_of}
 
 -- a session: what was accepted, and the state that it is in
 pub record Playing : Type 0 where
@@ -30,39 +36,37 @@ setting_of a = record { story = a.story; scope = scope_only a.listing; limit = u
 abbrev pub setting : Playing → Setting
 setting p = setting_of p.accepted
 
--- the state, whose place is kept as an index of the listing
-abbrev pub state_at : ListedCode → ℕ → State → State
-state_at listing index s = at_place (pos (slice_index (addresses_of listing.records) index)) s
+-- ---- the board that it is played on
 
--- what a session keeps
-pub record IsInPlay (a : Acceptance) (records : List Decoded) (index : ℕ) (s : State) : Type 0 where
+-- the word that an instruction reads first, where that is a jump and its certificate leaves it but one
+abbrev pub first_of : Acceptance → Listed Interval → Instruction → Option Operation → Option ℕ
+first_of a l i (Some Jump) = interval_operations.known (read_set interval_operations a.certificate.globals i (entry_of l).shape 0)
+first_of a l i _ = None
+
+abbrev pub first_there : Acceptance → Option (Listed Interval) → Result Instruction DecodeError → Option ℕ
+first_there a (Some l) (Ok i) = first_of a l i (operation_of i.opcode)
+first_there a _ _ = None
+
+-- by the place of the instruction
+abbrev pub first_at : Acceptance → ℕ → Option ℕ
+first_at a p = first_there a (listed_at a.certificate.instructions p) (instruction_at (drop p a.story.memory))
+
+-- what no board changes is as it opens: no opcode of this build waits for an event, or draws
+abbrev pub game_of : Acceptance → Game
+game_of a = record { setting = setting_of a; listing = a.listing; first = first_at a; other = opening a.story }
+
+-- the state in which a session stands, by where its board does
+abbrev pub stands_in : Acceptance → Option Board → State
+stands_in a None = opening a.story
+stands_in a (Some b) = state_in (game_of a) (position_of b)
+
+-- what a session keeps: no step from here needs a test
+pub record IsInPlay (a : Acceptance) (rows : List Row) (p : Position) : Type 0 where
   pub accepted : IsAccepted a
-  pub decoded : records ≡ map (decoded_of a.listing) a.listing.records
-  pub within : index < length a.listing.records
-  pub described : Described interval_operations (claims a) a.story (state_at a.listing index s)
+  pub playable : IsPlayable (game_of a) rows p
+  pub described : Described interval_operations (claims a) usual_limit a.story (state_in (game_of a) p)
+  pub alone : (state_in (game_of a) p).callers ≡ []
 
--- the machine stands still, and the pause says why
-pub record Pauses (m : Setting) (pause : Pause) (s : State) : Type 0 where
-  pub halt : Halt
-  pub stuck : step m s ≡ Err halt
-  pub why : stop_of halt s ≡ Paused pause
-
--- a step was made, or the machine stands still
-abbrev pub Steps : Setting → Option Pause → State → State → List Item → List Item → Type 0
-Steps m None old new before items = (d : Done) × (step m old ≡ Ok d) × (new ≡ d.state) × (items ≡ before ++ d.items)
-Steps m (Some pause) old new before items = Pauses m pause old × (new ≡ old) × (items ≡ before)
-
--- whether a step can be made
-abbrev pub PausesBy : Option Pause → Setting → State → Type 0
-PausesBy None m s = (d : Done) × (step m s ≡ Ok d)
-PausesBy (Some pause) m s = Pauses m pause s
-
--- what is waited for at a pause
-abbrev pub need_of : Pause → Option Need
-need_of pauses.NeedLine = Some needs.Line
-need_of pauses.NeedRandom = Some needs.Random
-need_of pauses.NeedSave = Some needs.Saved
-need_of pauses.NeedRestore = Some needs.Restore
-need_of pauses.Budget = None
-need_of pauses.Quit = None
-need_of pauses.FrameLimit = None
+abbrev pub IsPlayed : Acceptance → List Row → Option Board → Type 0
+IsPlayed a rows None = ⊥
+IsPlayed a rows (Some b) = IsInPlay a rows (position_of b)

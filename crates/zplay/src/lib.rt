@@ -1,8 +1,7 @@
 //! The session: it plays an accepted story, and makes no test for a fault.
 #![tactic(auto)]
 
-mod decoded;
-mod giving;
+mod rows;
 mod session;
 
 pub use session::Session;

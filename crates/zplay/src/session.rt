@@ -8,17 +8,23 @@ ghost use Rattle.zstate.specs.Run.{awaited, run, Ends, GivesOut, Makes, Stands};
 ghost use Rattle.zfault.specs.declared.event.Event.{Event as AnEvent};
 ghost use Rattle.zrule.specs.Described.{IsNoFault};
 ghost use Rattle.zplay.specs.Accepted.{IsAccepted};
-ghost use Rattle.zplay.specs.Session.{setting, need_of, Steps, PausesBy};
+ghost use Rattle.zboard.specs.Play.{state_in};
+ghost use Rattle.zboard.specs.View.{position_of};
+ghost use Rattle.zboard.specs.declared.row.Row.{Row as ARow};
+ghost use Rattle.zplay.specs.Session.{game_of, setting, IsInPlay};
 
-use crate::decoded::{Action, Decoded, decode_listing};
-use crate::giving::give_out;
+use crate::rows::rows_of;
 use std::alloc::{AllocError, Global};
 use std::marker::Model;
+use zboard::{Board, Row, play};
 use zcheck::Accepted;
 use zdomain::Interval;
 use zfault::{Event, Item, Need, Pause};
+use zframe::Frames;
 use zrule::each_step_is_safe;
-use zstate::State;
+
+/// How many frames may stand above the first (own).
+const FRAME_LIMIT: u16 = 1024;
 
 /// A play of an accepted story. It makes no test for a fault, since none can come, and moves as the checked machine whose
 /// scope is the listing.
@@ -28,77 +34,91 @@ use zstate::State;
 #[derive(Drop)]
 pub struct Session<'a> {
     accepted: &'a Accepted,
-    /// The listed instructions, decoded.
-    records: Vec<Decoded>,
-    /// The index of the instruction that comes next.
-    index: usize,
-    /// The state but for its place, which the index tells.
-    state: State,
+    /// The listed instructions, as they are played.
+    rows: Vec<Row>,
+    /// What steps move. It is there between calls.
+    board: Option<Board>,
     /// A text that is about to be printed.
     text: Vec<u8>,
 }
 
 impl<'a> Model for Session<'a> {
-    ghost use Rattle.zplay.specs.Session.{Playing, IsInPlay, state_at};
+    ghost use Rattle.zplay.specs.Session.{Playing, IsPlayed, stands_in};
 
     ghost Value = { Playing };
 
-    ghost view = { λ p. record { accepted = p.accepted.now; state = state_at p.accepted.now.listing p.index p.state } };
+    ghost view = { λ p. record { accepted = p.accepted.now; state = stands_in p.accepted.now p.board } };
 
-    ghost invariant = { λ p. IsInPlay p.accepted.now p.records.items p.index p.state };
+    ghost invariant = { λ p. IsPlayed p.accepted.now p.rows.items p.board };
 }
 
 impl<'a> Session<'a> {
-    /// The session that stands where the story opens (Z 6.1.3). Want of memory is the only error.
+    /// The session that stands where the story opens (Z 6.1.3). All its frames are reserved here. Want of memory is the only
+    /// error.
     pub fn start(alloc: Global, accepted: &'a Accepted) -> Result<Session<'a>, AllocError>
         ensures { IfOk result (λ p. p ≡ record { accepted = accepted.now; state = opening accepted.now.story }) }
     {
         each_step_is_safe::<Interval>();
         known_of(accepted);
         let story = accepted.story();
-        let listing = accepted.listing();
-        let Some(index) = listing.index_of(story.first_instruction()) else {
+        let Some(index) = accepted.listing().index_of(story.first_instruction()) else {
             unreachable!()
+        };
+        let rows = rows_of(alloc, accepted)?;
+        let board = Board {
+            frames: Frames::new(alloc, FRAME_LIMIT)?,
+            memory: story.memory().to_vec(alloc)?,
+            at: index,
         };
         Ok(Session {
             accepted,
-            records: decode_listing(alloc, listing)?,
-            index,
-            state: State::opening(alloc, story)?,
+            rows,
+            board: Some(board),
             text: Vec::new(alloc),
         })
+    }
+
+    /// What steps move.
+    fn board(&self) -> &Board
+        ensures state { self.now.state ≡ state_in (game_of self.now.accepted) (position_of result.now) }
+        ensures play { (rows : List ARow) × IsInPlay self.now.accepted rows (position_of result.now) }
+    {
+        match &self.board {
+            Some(board) => board,
+            None => unreachable!(),
+        }
     }
 
     /// The address of the instruction that comes next.
     pub fn place(&self) -> i32
         ensures { result ≡ self.now.state.place }
     {
-        self.accepted.listing().records()[self.index].address as i32
+        let at = self.board().at;
+        self.accepted.listing().records()[at].address as i32
     }
 
     /// Memory as it is now, as long as the loaded story.
     pub fn memory(&self) -> &[u8]
         ensures { result.now ≡ self.now.state.memory }
     {
-        self.state.memory()
+        self.board().memory.as_slice()
     }
 
     /// What the instruction at the place waits for, if nothing was given for it yet. No opcode of this build waits.
     pub fn awaits(&self) -> Option<Need>
         ensures { result ≡ awaited (setting self.now) self.now.state }
     {
-        if self.state.is_given() {
-            return None;
-        }
-        need_of(self.pause()?)
+        let _board = self.board();
+        None // for no event
     }
 
-    /// Hands in an event of the kind that is awaited.
+    /// Hands in an event of the kind that is awaited. None is in this build.
     pub fn give(&mut self, event: Event)
         requires { (need : Need) × (awaited (setting self.old) self.old.state ≡ Some need) × IsTrue (answers need event) }
         ensures { self.new ≡ record self.old { state = give event self.old.state } }
     {
-        self.state.give(event);
+        let (_event, _board) = (event, self.board());
+        unreachable!()
     }
 
     /// Makes at most `budget` steps, with no event but one that was given, and appends what they give out to `items`.
@@ -126,16 +146,13 @@ impl<'a> Session<'a> {
         ensures spent { result ≡ Ok Pause.Budget → left.new ≡ 0 }
         ensures err { OnErr result (GivesOut (setting self.old) self.new.state) }
     {
-        while *left > 0 {
-            if let Some(pause) = self.step(items)? {
-                return Ok(pause);
-            }
-            *left -= 1;
-        }
-        match self.pause() {
-            Some(pause) => Ok(pause),
-            None => Ok(Pause::Budget),
-        }
+        let Some(board) = self.board.take() else {
+            unreachable!()
+        };
+        let played = play(board, self.rows.as_slice(), *left, &mut self.text, items);
+        self.board = Some(played.board);
+        *left = played.left;
+        played.outcome
     }
 
     /// The law of sessions: no run from here meets a fault, whatever the events and however many the steps.
@@ -143,49 +160,7 @@ impl<'a> Session<'a> {
         ensures { (events : List AnEvent) (n : ℕ) → IsNoFault (run (setting self.now) events n self.now.state).stop }
     {
         each_step_is_safe::<Interval>();
-        let _index = self.index;
-    }
-
-    /// Makes one step, or says why the session stands still.
-    fn step(&mut self, items: &mut Vec<Item>) -> Result<Option<Pause>, AllocError>
-        ensures play { self.new.accepted ≡ self.old.accepted }
-        ensures ok { IfOk result (λ pause. Steps (setting self.old) pause self.old.state self.new.state items.old.items items.new.items) }
-        ensures err { OnErr result (GivesOut (setting self.old) self.old.state) }
-        ensures same { OnErr result (self.new.state ≡ self.old.state) }
-        ensures kept { OnErr result (items.new.items ≡ items.old.items) }
-    {
-        each_step_is_safe::<Interval>();
-        let decoded = self.records[self.index];
-        if let Action::Quit = decoded.action {
-            return Ok(Some(Pause::Quit));
-        }
-        give_out(decoded, self.state.memory(), &mut self.text, items)?;
-        self.index = decoded.next as usize;
-        Ok(None)
-    }
-
-    /// Why the session stands still, if it does.
-    fn pause(&self) -> Option<Pause>
-        ensures { PausesBy result (setting self.now) self.now.state }
-    {
-        each_step_is_safe::<Interval>();
-        match self.records[self.index].action {
-            Action::Quit => Some(Pause::Quit),
-            _ => None,
-        }
-    }
-}
-
-/// What is waited for where the session stands still.
-fn need_of(pause: Pause) -> Option<Need>
-    ensures { result ≡ need_of pause }
-{
-    match pause {
-        Pause::NeedLine => Some(Need::Line),
-        Pause::NeedRandom => Some(Need::Random),
-        Pause::NeedSave => Some(Need::Saved),
-        Pause::NeedRestore => Some(Need::Restore),
-        Pause::Budget | Pause::Quit | Pause::FrameLimit => None,
+        let _board = self.board();
     }
 }
 
@@ -195,4 +170,5 @@ fn known_of(accepted: &Accepted)
 {
     let _memory = accepted.story().memory();
     let _listing = accepted.listing();
+    let _globals = accepted.certificate().globals();
 }

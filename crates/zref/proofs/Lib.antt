@@ -1,4 +1,6 @@
 mod Doing
+mod Fixed
+mod Keeping
 mod Needless
 pub mod Running
 mod Plain

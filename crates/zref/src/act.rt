@@ -1,16 +1,18 @@
 //! The effect of a step, which only want of memory can keep from being done.
 
-ghost use Rattle.std.specs.Prelude.{◌≡◌, ◌<◌, ◌≤◌, ◌+◌, ◌^◌, ◌++◌, ◌+ℤ◌, ℕ, Option, None, [], true, pos, length, map, is_some, vec_len, OnOk, OnErr};
+ghost use Rattle.std.specs.Prelude.{◌≡◌, ◌<◌, ◌≤◌, ◌+◌, ◌^◌, ◌++◌, ◌+ℤ◌, ℕ, Option, None, [], true, drop, pos, length, map, is_some, vec_len, OnOk, OnErr};
 ghost use Rattle.std.specs.Vec.{vec_capacity};
 ghost use Rattle.zfault.specs.declared.item.Item.TheVariants.{Text};
-ghost use Rattle.zcode.specs.Operation.{target};
+ghost use Rattle.zstory.specs.LoadedStory.{globals, static_base};
 ghost use Rattle.zstate.specs.Run.{IsLonger};
 ghost use Rattle.zstate.specs.State.{exists, popped, popped as taken};
 ghost use Rattle.zstate.specs.Step.{act, assigned, course, stored};
+ghost use Rattle.zref.specs.Row.{shape_of};
 ghost use Rattle.zref.specs.Plan.{EndsBy, IsAssignable, IsOpenWay, IsReady, IsShort, effect_with, move_of, on_from, returned, went};
 
 use crate::effect::{Course, Effect};
 use crate::plan::Plan;
+use crate::row::Row;
 use std::alloc::AllocError;
 use zfault::Item;
 use zstate::State;
@@ -18,43 +20,55 @@ use zstory::Story;
 
 /// Does what was planned, and gives out its items: all of them or, with nothing changed, none. Memory is wanted only where
 /// something is given out, or a stack gets longer.
+#[inline(always)]
 #[tactic(auto, using(crate::proofs::Doing::acting))]
 pub(crate) fn act_on(
     story: &Story,
     state: &mut State,
-    plan: &Plan,
+    row: &Row,
+    plan: Plan,
     text: &[u8],
     items: &mut Vec<Item>,
 ) -> Result<(), AllocError>
     requires memory { length state.old.memory ≡ length story.now.memory }
     requires reached { state.old.frame.return_place < 2 ^ 24 }
-    requires near { EndsBy 131072 plan.now.instruction.size state.old.place }
-    requires course { move_of plan.now.course ≡ course (effect_with plan.now.effect []) plan.now.instruction.branch }
-    requires ready { IsReady (target plan.now.instruction) plan.now.effect plan.now.course plan.now.popped state.old }
-    ensures ok { OnOk result (state.new ≡ act story.now plan.now.instruction (effect_with plan.now.effect text.now) (popped plan.now.popped state.old)) }
+    requires near { EndsBy 131072 row.now.size state.old.place }
+    requires course { move_of plan.course ≡ course (effect_with plan.effect []) row.now.branch }
+    requires ready { IsReady row.now.target plan.effect plan.course plan.popped state.old }
+    ensures ok { OnOk result (state.new ≡ act story.now (shape_of row.now) (effect_with plan.effect text.now) (popped plan.popped state.old)) }
+    ensures fixed { drop (static_base story.now) state.new.memory ≡ drop (static_base story.now) state.old.memory }
     ensures given { OnOk result (items.new.items ≡ items.old.items ++ map Text text.now) }
     ensures err { OnErr result (state.new ≡ state.old) }
     ensures kept { OnErr result (items.new.items ≡ items.old.items) }
-    ensures wants { OnErr result (length text.now ≡ 0 → IsLonger state.old (act story.now plan.now.instruction (effect_with plan.now.effect text.now) (popped plan.now.popped state.old))) }
+    ensures wants { OnErr result (length text.now ≡ 0 → IsLonger state.old (act story.now (shape_of row.now) (effect_with plan.effect text.now) (popped plan.popped state.old))) }
 {
+    globals_are_dynamic(story);
     items.reserve(text.len())?;
-    go(story, state, plan)?;
+    go(story, state, row, plan)?;
     give_text(items, text);
     Ok(())
 }
 
+/// No global lies in static memory.
+fn globals_are_dynamic(story: &Story)
+    ensures { globals story.now + 480 ≤ static_base story.now }
+{
+    story.globals();
+}
+
 /// Does all but giving out.
-fn go(story: &Story, state: &mut State, plan: &Plan) -> Result<(), AllocError>
+#[inline(always)]
+fn go(story: &Story, state: &mut State, row: &Row, plan: Plan) -> Result<(), AllocError>
     requires memory { length state.old.memory ≡ length story.now.memory }
     requires reached { state.old.frame.return_place < 2 ^ 24 }
-    requires near { EndsBy 131072 plan.now.instruction.size state.old.place }
-    requires ready { IsReady (target plan.now.instruction) plan.now.effect plan.now.course plan.now.popped state.old }
-    ensures ok { OnOk result (state.new ≡ went story.now plan.now.instruction plan.now.effect plan.now.course (popped plan.now.popped state.old)) }
+    requires near { EndsBy 131072 row.now.size state.old.place }
+    requires ready { IsReady row.now.target plan.effect plan.course plan.popped state.old }
+    ensures ok { OnOk result (state.new ≡ went story.now (shape_of row.now) plan.effect plan.course (popped plan.popped state.old)) }
     ensures err { OnErr result (state.new ≡ state.old) }
-    ensures wants { OnErr result (IsLonger state.old (went story.now plan.now.instruction plan.now.effect plan.now.course (popped plan.now.popped state.old))) }
+    ensures wants { OnErr result (IsLonger state.old (went story.now (shape_of row.now) plan.effect plan.course (popped plan.popped state.old))) }
 {
     match plan.course {
-        Course::On(distance) => go_on(story, state, plan, distance),
+        Course::On(distance) => go_on(story, state, row, plan, distance),
         Course::Back(word) => match state.frame().result() {
             0 => push_back(story, state, plan, word),
             variable => {
@@ -66,29 +80,37 @@ fn go(story: &Story, state: &mut State, plan: &Plan) -> Result<(), AllocError>
 }
 
 /// Changes variables, and goes on so far behind the next instruction.
+#[inline(always)]
 #[tactic(auto, using(crate::proofs::Doing::doing))]
-fn go_on(story: &Story, state: &mut State, plan: &Plan, distance: i32) -> Result<(), AllocError>
+fn go_on(
+    story: &Story,
+    state: &mut State,
+    row: &Row,
+    plan: Plan,
+    distance: i32,
+) -> Result<(), AllocError>
     requires memory { length state.old.memory ≡ length story.now.memory }
-    requires near { EndsBy 131072 plan.now.instruction.size state.old.place }
+    requires near { EndsBy 131072 row.now.size state.old.place }
     requires short { IsShort distance }
-    requires within { plan.now.popped ≤ length state.old.frame.stack }
-    requires assigns { IsAssignable plan.now.effect.assigns plan.now.popped state.old }
-    requires there { is_some plan.now.effect.gives ≡ true → exists (target plan.now.instruction) state.old.frame ≡ true }
-    requires apart { is_some plan.now.effect.gives ≡ true → plan.now.effect.assigns ≡ None }
-    ensures ok { OnOk result (state.new ≡ on_from plan.now.instruction distance (stored story.now plan.now.effect.gives (target plan.now.instruction) (assigned story.now plan.now.effect.assigns (popped plan.now.popped state.old)))) }
+    requires within { plan.popped ≤ length state.old.frame.stack }
+    requires assigns { IsAssignable plan.effect.assigns plan.popped state.old }
+    requires there { is_some plan.effect.gives ≡ true → exists row.now.target state.old.frame ≡ true }
+    requires apart { is_some plan.effect.gives ≡ true → plan.effect.assigns ≡ None }
+    ensures ok { OnOk result (state.new ≡ on_from (shape_of row.now) distance (stored story.now plan.effect.gives row.now.target (assigned story.now plan.effect.assigns (popped plan.popped state.old)))) }
     ensures err { OnErr result (state.new ≡ state.old) }
-    ensures wants { OnErr result (IsLonger state.old (on_from plan.now.instruction distance (stored story.now plan.now.effect.gives (target plan.now.instruction) (assigned story.now plan.now.effect.assigns (popped plan.now.popped state.old))))) }
+    ensures wants { OnErr result (IsLonger state.old (on_from (shape_of row.now) distance (stored story.now plan.effect.gives row.now.target (assigned story.now plan.effect.assigns (popped plan.popped state.old))))) }
 {
     match plan.effect.gives {
-        Some(word) => state.put(story, plan.instruction.target(), plan.popped, word)?,
+        Some(word) => state.put(story, row.target, plan.popped, word)?,
         None => change(story, state, plan.effect, plan.popped),
     }
-    state.advance(plan.instruction.length());
+    state.advance(row.size as usize);
     state.go(distance);
     Ok(())
 }
 
 /// Takes the words of the operands off the stack, and gives a variable its value.
+#[inline(always)]
 #[tactic(auto, using(crate::proofs::Doing::doing))]
 fn change(story: &Story, state: &mut State, effect: Effect, popped: usize)
     requires memory { length state.old.memory ≡ length story.now.memory }
@@ -103,17 +125,18 @@ fn change(story: &Story, state: &mut State, effect: Effect, popped: usize)
 }
 
 /// Changes variables, leaves the frame, and puts a value on the caller's stack.
+#[inline(never)]
 #[tactic(auto, using(crate::proofs::Doing::doing))]
-fn push_back(story: &Story, state: &mut State, plan: &Plan, word: u16) -> Result<(), AllocError>
+fn push_back(story: &Story, state: &mut State, plan: Plan, word: u16) -> Result<(), AllocError>
     requires memory { length state.old.memory ≡ length story.now.memory }
     requires reached { state.old.frame.return_place < 2 ^ 24 }
     requires way { IsOpenWay (Course.Back word) state.old }
     requires stack { state.old.frame.result ≡ 0 }
-    requires within { plan.now.popped ≤ length state.old.frame.stack }
-    requires assigns { IsAssignable plan.now.effect.assigns plan.now.popped state.old }
-    ensures ok { OnOk result (state.new ≡ returned story.now word (assigned story.now plan.now.effect.assigns (popped plan.now.popped state.old))) }
+    requires within { plan.popped ≤ length state.old.frame.stack }
+    requires assigns { IsAssignable plan.effect.assigns plan.popped state.old }
+    ensures ok { OnOk result (state.new ≡ returned story.now word (assigned story.now plan.effect.assigns (popped plan.popped state.old))) }
     ensures err { OnErr result (state.new ≡ state.old) }
-    ensures wants { OnErr result (IsLonger state.old (returned story.now word (assigned story.now plan.now.effect.assigns (popped plan.now.popped state.old)))) }
+    ensures wants { OnErr result (IsLonger state.old (returned story.now word (assigned story.now plan.effect.assigns (popped plan.popped state.old)))) }
 {
     state.push_to_caller(word)?;
     change(story, state, plan.effect, plan.popped);
@@ -122,16 +145,17 @@ fn push_back(story: &Story, state: &mut State, plan: &Plan, word: u16) -> Result
 }
 
 /// Changes variables, leaves the frame, and gives the caller's variable a value.
+#[inline(never)]
 #[tactic(auto, using(crate::proofs::Doing::doing))]
-fn put_back(story: &Story, state: &mut State, plan: &Plan, variable: u8, word: u16)
+fn put_back(story: &Story, state: &mut State, plan: Plan, variable: u8, word: u16)
     requires memory { length state.old.memory ≡ length story.now.memory }
     requires reached { state.old.frame.return_place < 2 ^ 24 }
     requires way { IsOpenWay (Course.Back word) state.old }
     requires result { state.old.frame.result ≡ variable }
     requires named { 0 < variable }
-    requires within { plan.now.popped ≤ length state.old.frame.stack }
-    requires assigns { IsAssignable plan.now.effect.assigns plan.now.popped state.old }
-    ensures { state.new ≡ returned story.now word (assigned story.now plan.now.effect.assigns (popped plan.now.popped state.old)) }
+    requires within { plan.popped ≤ length state.old.frame.stack }
+    requires assigns { IsAssignable plan.effect.assigns plan.popped state.old }
+    ensures { state.new ≡ returned story.now word (assigned story.now plan.effect.assigns (popped plan.popped state.old)) }
 {
     change(story, state, plan.effect, plan.popped);
     state.leave();
@@ -139,6 +163,7 @@ fn put_back(story: &Story, state: &mut State, plan: &Plan, variable: u8, word: u
 }
 
 /// Gives out bytes of text, for which there is room.
+#[inline(always)]
 fn give_text(items: &mut Vec<Item>, bytes: &[u8])
     requires { vec_len items.old + length bytes.now ≤ vec_capacity items.old }
     ensures { items.new.items ≡ items.old.items ++ map Text bytes.now }

@@ -2,10 +2,12 @@
 #![tactic(auto)]
 
 mod act;
+mod cache;
 mod effect;
 mod families;
 mod machine;
 mod plan;
+mod row;
 mod scope;
 mod settling;
 mod step;

@@ -1,40 +1,42 @@
 //! What is judged of every kind of step before it is made.
 
 ghost use Rattle.std.specs.Prelude.{◌≡◌, ◌≤◌, ℕ, List, [], Option, None, true, length, is_some, IfOk};
-ghost use Rattle.zcode.specs.Operation.{target};
 ghost use Rattle.zstate.specs.Gives.{Gives};
 ghost use Rattle.zstate.specs.State.{exists, popped};
 ghost use Rattle.zstate.specs.Step.{admits, course, pauses, settle};
+ghost use Rattle.zref.specs.Row.{shape_of};
 ghost use Rattle.zref.specs.Plan.{IsApart, IsOn, IsOpenWay, IsShortWay, effect_with, move_of};
 
 use crate::effect::{Course, Effect};
-use zcode::{Branch, Destination, Instr};
+use crate::row::Row;
+use zcode::{Branch, Destination};
 use zfault::Fault;
 use zstate::{Halt, State};
 
 /// Judges an effect, where so many words were taken off the stack before, and says where the step leads.
+#[inline(always)]
 pub(crate) fn settle(
-    instruction: &Instr,
+    row: &Row,
     effect: Effect,
     state: &State,
     before: usize,
 ) -> Result<Course, Halt>
     requires within { before ≤ length state.now.frame.stack }
     requires apart { IsApart effect }
-    ensures value { (text : List ℕ) → Gives (λ _. tt) result (settle instruction.now (effect_with effect text) (popped before state.now)) }
-    ensures course { IfOk result (λ c. move_of c ≡ course (effect_with effect []) instruction.now.branch) }
+    ensures value { (text : List ℕ) → Gives (λ _. tt) result (settle (shape_of row.now) (effect_with effect text) (popped before state.now)) }
+    ensures course { IfOk result (λ c. move_of c ≡ course (effect_with effect []) row.now.branch) }
     ensures way { IfOk result (λ c. IsOpenWay c state.now) }
-    ensures there { IfOk result (λ _. is_some effect.gives ≡ true → exists (target instruction.now) state.now.frame ≡ true) }
+    ensures there { IfOk result (λ _. is_some effect.gives ≡ true → exists row.now.target state.now.frame ≡ true) }
     ensures goes_on { IfOk result (λ c. effect.tests ≡ None → IsOn c) }
 {
-    let target = instruction.target();
-    let course = course_of(effect, instruction.branch());
-    admit(target, effect, course, state)?;
-    pause(target, effect, course, state, before)?;
+    let course = course_of(effect, row.branch);
+    admit(row.target, effect, course, state)?;
+    pause(row.target, effect, course, state, before)?;
     Ok(course)
 }
 
 /// Where a step leads: along its branch, where that is taken.
+#[inline(always)]
 #[tactic(auto, using(crate::proofs::Short::short))]
 fn course_of(effect: Effect, branch: Option<Branch>) -> Course
     ensures value { (text : List ℕ) → move_of result ≡ course (effect_with effect text) branch }
@@ -59,6 +61,7 @@ fn course_of(effect: Effect, branch: Option<Branch>) -> Course
 }
 
 /// The faults: of the result variable, of a return from the first frame, and of the caller's result variable.
+#[inline(always)]
 #[tactic(auto, unfolding(zstate::specs::Step::admits))]
 fn admit(target: u8, effect: Effect, course: Course, state: &State) -> Result<(), Halt>
     requires { IsShortWay course }
@@ -80,6 +83,7 @@ fn admit(target: u8, effect: Effect, course: Course, state: &State) -> Result<()
 }
 
 /// The pauses: `quit`, and a stack with no room for a word.
+#[inline(always)]
 #[tactic(auto, unfolding(zstate::specs::Step::pauses))]
 fn pause(
     target: u8,

@@ -33,9 +33,9 @@ use Rattle.zdomain.specs.Domain.{SetOperations, AreSound, In, Within}
 use Rattle.zstate.specs.declared.halt.Halt.{Halt}
 use Rattle.zstate.specs.declared.halt.Halt.TheVariants as halts
 use Rattle.zstate.specs.InTurn.{◌>>=◌}
-use Rattle.zstate.specs.State.{Frame, State, Setting, IsState, opening, at_place, popped, with_stack, with_locals, with_memory, write_word, global, has_room, exists, put_named, put_in_place, read_in_place}
+use Rattle.zstate.specs.State.{Frame, State, Setting, IsState, opening, at_place, popped, with_stack, with_locals, with_memory, write_word, global, has_room, exists, put_named, put_in_place, read_in_place, read_operands}
 use Rattle.zstate.specs.Step.{Move, on, back, Effect, Done, way, arg, asked_of, giving, assigning, testing, counting, printing, jumping, fetch, printed, print_at, effect_of, effect_if, has_caller, is_taken, is_roomy, turned, course, admits, pauses, settle, stored, assigned, changed, left, moved, advance, act, step}
-use Rattle.zstate.proofs.Keeps.{put_aside, changed_aside, step_keeps}
+use Rattle.zstate.proofs.Keeps.{bind_ok, put_aside, changed_aside, step_keeps}
 use Rattle.zflow.specs.declared.parts.Lead.{Lead}
 use Rattle.zflow.specs.declared.parts.Lead.TheVariants.{Ahead, Returning}
 use Rattle.zflow.specs.declared.parts.Kept.{Kept}
@@ -94,6 +94,12 @@ defined_where o Or a y h member = refl
 defined_where o And a y h member = refl
 defined_where o Div a y h member = let n = ne_eqb y 0 (λ e. h (subst (λ (n : ℕ). In o a n) e member)) in rw n refl
 defined_where o Mod a y h member = let n = ne_eqb y 0 (λ e. h (subst (λ (n : ℕ). In o a n) e member)) in rw n refl
+
+same_read : (x y : List ℕ × State) → ◌≡◌ {A = Result (List ℕ × State) Halt} (Ok x) (Ok y) → x ≡ y
+same_read x y e = cc
+
+same_done : (x y : Done) → ◌≡◌ {A = Result Done Halt} (Ok x) (Ok y) → x ≡ y
+same_done x y e = cc
 
 module _ {V : Type 0} (o : SetOperations V) (lawful : AreSound o) where
   kept_holds : (v : ℕ) (a : V) (locals : List ℕ) → (1 ≤ v → v < 16 → In o a (slice_index locals (v - 1))) → HoldsOne o lawful (local_kept v a) locals
@@ -632,6 +638,42 @@ module _ {V : Type 0} (o : SetOperations V) (lawful : AreSound o) (claims : Clai
   unfolding IsAble
   able_there = subst IsAble (sym steps) (able_by (effect_if m (operation_of i.opcode) all.values t) expected)
 
+  -- ---- more that sessions rely on
+
+  -- where a first operand can have but one value, it has that
+  first_read : (values : List ℕ) (u : State) (x : ℕ) → o.known (args 0) ≡ Some x → read_operands m.story operands s ≡ Ok (values, u) → arg values 0 ≡ x
+  first_read values u x known read =
+      let same : values ≡ all.values = ap (λ (p : List ℕ × State). p.0) (same_read (values, u) (all.values, t) (sym read ∙ all.read)) in
+      ap (λ (ys : List ℕ). arg ys 0) same ∙ lawful.known (args 0) x (arg all.values 0) known (all.members 0)
+
+  known_for : IsTrue (demands_if o (Some Jump) args).certain → (x : ℕ) × (o.known (args 0) ≡ Some x)
+  unfolding demands_of
+  known_for sure = let k = known_jump sure in (k.0, k.1)
+
+  jumps_as_known : operation_of i.opcode ≡ Some Jump → (values : List ℕ) (u : State) → read_operands m.story operands s ≡ Ok (values, u) → o.known (args 0) ≡ Some (arg values 0)
+  jumps_as_known jump values u read =
+      let sure : IsTrue (demands_if o (Some Jump) args).certain = subst (λ (k : Option Operation). IsTrue (demands_if o k args).certain) jump asked.certain in
+      let k = known_for sure in
+      k.1 ∙ ap (λ (n : ℕ). Some n) (sym (first_read values u k.0 k.1 read))
+
+  -- a step from the first frame leads to the first frame
+  moved_alone : (move : Move) (u : State) (gs : List Frame) → u.callers ≡ gs → gs ≡ [] → (moved m.story move u).callers ≡ []
+  moved_alone (on d) u gs is none = is ∙ none
+  moved_alone (back x) u gs is none = subst (λ (l : List Frame). (left m.story x l u).callers ≡ []) (sym (is ∙ none)) (is ∙ none)
+
+  done_alone : (effect : Effect) → s.callers ≡ [] → (done_at m t i effect).state.callers ≡ []
+  unfolding act
+  done_alone effect none = moved_alone (course effect i.branch) (advance i (changed m.story i effect t)) _ refl ((changed_aside m.story i effect t).callers ∙ none)
+
+  alone_by : (r : Result Effect Halt) → s.callers ≡ [] → (x : Done) → (r >>= made_by m t i) ≡ Ok x → x.state.callers ≡ []
+  alone_by (Ok effect) none x e =
+      let b = bind_ok (settle i effect t) (λ _. Ok (done_at m t i effect)) x e in
+      subst (λ (y : Done). y.state.callers ≡ []) (same_done (done_at m t i effect) x b.2) (done_alone effect none)
+  alone_by (Err h) none x e = absurd cc
+
+  pub alone_there : s.callers ≡ [] → (x : Done) → step m s ≡ Ok x → x.state.callers ≡ []
+  alone_there none x e = alone_by (effect_if m (operation_of i.opcode) all.values t) none x (sym steps ∙ e)
+
 -- a step from a described state is no fault, and leads to a described state
 pub step_safe : {V : Type 0} (o : SetOperations V) (lawful : AreSound o) (claims : Claims V) (m : Setting) (s : State) → IsLoadedStory m.story → Supports o claims m.story → IsListedIn o claims m.scope → Described o claims m.limit m.story s → IsSafe o claims m.limit m.story (step m s)
 step_safe o lawful claims m s loaded supports listed d =
@@ -643,6 +685,28 @@ pub step_able : {V : Type 0} (o : SetOperations V) (lawful : AreSound o) (claims
 step_able o lawful claims m s loaded supports listed d =
     let found = supports.each d.at d.entry d.listed rules.Decodes in
     able_there o lawful claims m loaded supports listed s d found.0 found.1
+
+-- ---- what a session relies on, where it stands
+
+module _ {V : Type 0} (o : SetOperations V) (lawful : AreSound o) (claims : Claims V) (m : Setting) (s : State) (loaded : IsLoadedStory m.story) (supports : Supports o claims m.story) (listed : IsListedIn o claims m.scope) (d : Described o claims m.limit m.story s) (i : Instruction) (reads : instruction_at (drop d.at m.story.memory) ≡ Ok i) where
+  there : IsThere m.story d.at i
+  there = record { static = (supports.each d.at d.entry d.listed rules.Decodes).1.static; decodes = reads }
+
+  -- the instruction that is listed there is read there
+  pub reads_it : fetch m.scope s.place s.memory ≡ Ok i
+  reads_it = fetches o lawful claims m loaded supports listed s d i there
+
+  -- a jump goes as far as is known
+  pub jumps_known : operation_of i.opcode ≡ Some Jump → (values : List ℕ) (u : State) → read_operands m.story (inputs i) s ≡ Ok (values, u) → o.known (read_set o claims.globals i d.entry.shape 0) ≡ Some (arg values 0)
+  jumps_known = jumps_as_known o lawful claims m loaded supports listed s d i there
+
+  -- its stack is low
+  pub stack_low : length s.frame.stack ≤ 64
+  stack_low = low o lawful claims m loaded supports listed s d i there
+
+  -- and with no caller, none comes
+  pub step_alone : s.callers ≡ [] → (x : Done) → step m s ≡ Ok x → x.state.callers ≡ []
+  step_alone = alone_there o lawful claims m loaded supports listed s d i there
 
 -- the opening state
 pub opening_described : {V : Type 0} (o : SetOperations V) (claims : Claims V) (story : LoadedStory) (limit : ℕ) → Supports o claims story → Described o claims limit story (opening story)

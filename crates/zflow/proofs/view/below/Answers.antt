@@ -1,4 +1,4 @@
-use Rattle.std.proofs.Common.{sym, ap, ◌∙◌, refl}
+use Rattle.std.proofs.Common.{refl}
 use Rattle.zflow.proofs.Slots.{reverse-take}
 use Rattle.zflow.proofs.view.below.Goals as goal
 

@@ -1,4 +1,4 @@
-use Rattle.std.proofs.Common.{◌≡◌, ◌≤◌, ◌-◌, length, refl, arith}
+use Rattle.std.proofs.Common.{◌≤◌, length, refl, arith}
 use Rattle.zflow.proofs.Slots.{reverse-set_top}
 use Rattle.zflow.proofs.known.Known.set_top.Goals as goal
 

@@ -1,9 +1,12 @@
-use Rattle.std.proofs.Common.{refl}
-use Rattle.zplay.proofs.Starting.{in_play_given}
+use Rattle.std.proofs.Common.{◌≡◌, ap, ◌∙◌}
+use Rattle.zstate.specs.State.{State}
+use Rattle.zstate.specs.Run.{awaited}
+use Rattle.zplay.specs.Session.{setting}
+use Rattle.zplay.proofs.Playing.{none_waited, none_is_some}
 use Rattle.zplay.proofs.session.Session.give.Goals as goal
 
-pub invariant_of-self : goal.invariant_of-self
-invariant_of-self c = rw c.give.ensures (in_play_given _ _ _ _ _ c.self.invariant)
-
-pub returns : goal.returns
-returns c = rw (← c.self.view_is, c.give.ensures) refl
+pub unreachable-requires : goal.unreachable-requires
+unreachable-requires c =
+    none_is_some _ c.requires.0
+    (ap (λ (s : State). awaited (setting c.args.self.now) s) c.board-board.ensures.state ∙ none_waited c.args.self.now.accepted c.board-board.ensures.play.0 _ c.board-board.ensures.play.1)
+    c.requires.1

@@ -1,13 +1,20 @@
-use Rattle.zplay.proofs.Starting.{place_read}
+use Rattle.std.proofs.Common.{◌≡◌, ap}
+use Rattle.zcheck.specs.Acceptance.{Acceptance}
+use Rattle.zplay.specs.Session.{Playing}
+use Rattle.zplay.proofs.Playing.{place_read, within_listing}
 use Rattle.zplay.proofs.session.Session.place.Goals as goal
+
+pub bounds-records-at : goal.bounds-records-at
+bounds-records-at c =
+    let same = ap (λ (p : Playing). p.accepted) c.self.view_is in
+    rw (c.records.ensures.value, c.listing.ensures.value, same) (within_listing _ _ _ c.board.ensures.play.1)
+
+pub bounds-records-at-2 : goal.bounds-records-at-2
+bounds-records-at-2 c =
+    let same = ap (λ (p : Playing). p.accepted) c.self.view_is in
+    rw (c.records.ensures.value, c.listing.ensures.value, same) (within_listing _ _ _ c.board.ensures.play.1)
 
 pub returns : goal.returns
 returns c =
-    rw (← c.self.view_is, c.records.ensures.value, c.listing.ensures.value)
-    (place_read c.self.inside.accepted.now.listing c.self.inside.index c.index-records-self.result (rw c.listing.ensures.value at c.records.ensures.order) c.self.invariant.within)
-
-pub bounds-records-self-inside : goal.bounds-records-self-inside
-bounds-records-self-inside c = rw (c.records.ensures.value, c.listing.ensures.value) c.self.invariant.within
-
-pub bounds-records-self-inside-2 : goal.bounds-records-self-inside-2
-bounds-records-self-inside-2 c = rw (c.records.ensures.value, c.listing.ensures.value) c.self.invariant.within
+    let same = ap (λ (p : Playing). p.accepted) c.self.view_is in
+    rw (c.board.ensures.state, c.records.ensures.value, c.listing.ensures.value, same) (place_read c.args.self.now.accepted.listing _ _ (rw (c.listing.ensures.value, same) at c.records.ensures.order) (within_listing _ _ _ c.board.ensures.play.1))

@@ -1,26 +1,63 @@
-use Rattle.std.proofs.Common.{◌≡◌, List, [], refl, sym, subst, arith}
-use Rattle.zfault.specs.declared.item.Item.{Item}
+use Rattle.std.proofs.Common.{◌≡◌, Some, List, sym, ap, subst, ◌∙◌}
+use Rattle.zboard.specs.declared.row.Row.{Row}
+use Rattle.zboard.specs.Play.{IsPlayable, SoFar, state_in}
+use Rattle.zboard.specs.View.{position_of}
+use Rattle.std.specs.Prelude.{IfOk}
 use Rattle.zstate.specs.declared.halt.Stop.TheVariants.{Paused}
-use Rattle.zstate.specs.Run.{Ends, run}
-use Rattle.zplay.specs.Session.{setting}
-use Rattle.zplay.proofs.Running.{goes_on, halts_at, spends}
+use Rattle.zstate.specs.Run.{Stands}
+use Rattle.zcheck.specs.Acceptance.{Acceptance}
+use Rattle.zplay.specs.Session.{IsInPlay, Playing, game_of, setting_of}
+use Rattle.zplay.proofs.Playing.{state_told, played_there, in_play_after, ends_if}
 use Rattle.zplay.proofs.session.Session.run_down.Goals as goal
 
-pub loop-left-preserved : goal.loop-left-preserved
-loop-left-preserved c =
-    goes_on _ _ _ _ _ _ c.loop-left.invariant c.step.new.self c.step.new.items.items c.loop-left-test.true c.in_ok-pause.ensures.play
-    (rw c.in_default.is at c.in_ok-pause.ensures.ok)
+pub invariant_of-self : goal.invariant_of-self
+invariant_of-self c =
+    let a = c.self.inside.accepted.now in
+    let there : c.self.inside.board ≡ Some c.in-Some.board = sym c.take.ensures.value ∙ c.in-Some.is in
+    let play : IsInPlay a c.self.inside.rows.items (position_of c.in-Some.board) = played_there a c.self.inside.rows.items c.self.inside.board c.in-Some.board c.self.invariant there in
+    let same : c.as_slice.result.now ≡ c.self.inside.rows.items = c.as_slice.ensures.value in
+    let playable : IsPlayable (game_of a) c.as_slice.result.now (position_of c.in-Some.board) = subst (λ (rows : List Row). IsPlayable (game_of a) rows (position_of c.in-Some.board)) (sym same) play.playable in
+    let f : SoFar (game_of a) c.self.inside.rows.items c.args.left.now c.play-played.result.left (position_of c.in-Some.board) (position_of c.play-played.result.board) c.args.items.now.items c.play-played.new.items.items = subst (λ (rows : List Row). SoFar (game_of a) rows c.args.left.now c.play-played.result.left (position_of c.in-Some.board) (position_of c.play-played.result.board) c.args.items.now.items c.play-played.new.items.items) same (c.play-played.ensures.run (game_of a) playable) in
+    in_play_after a c.self.inside.rows.items _ _ play _ _ _ _ f
 
-pub returns-in-Some-clause-ok : goal.returns-in-Some-clause-ok
-returns-in-Some-clause-ok c =
-    let stuck = rw c.in-Some.is at c.in_ok-pause.ensures.ok in
-    let ends = halts_at _ _ _ _ _ _ c.loop-left.invariant c.step.new.self.state c.in-Some.pause stuck.0 stuck.1 in
-    subst (λ (items : List Item). Ends (Paused c.in-Some.pause) c.step.new.self.state c.args.items.now.items items (run (setting c.args.self.now) [] c.args.left.now c.args.self.now.state)) (sym stuck.2) ends
+pub returns-clause-ok : goal.returns-clause-ok
+returns-clause-ok c =
+    let a = c.self.inside.accepted.now in
+    let there : c.self.inside.board ≡ Some c.in-Some.board = sym c.take.ensures.value ∙ c.in-Some.is in
+    let play : IsInPlay a c.self.inside.rows.items (position_of c.in-Some.board) = played_there a c.self.inside.rows.items c.self.inside.board c.in-Some.board c.self.invariant there in
+    let same : c.as_slice.result.now ≡ c.self.inside.rows.items = c.as_slice.ensures.value in
+    let playable : IsPlayable (game_of a) c.as_slice.result.now (position_of c.in-Some.board) = subst (λ (rows : List Row). IsPlayable (game_of a) rows (position_of c.in-Some.board)) (sym same) play.playable in
+    let f : SoFar (game_of a) c.self.inside.rows.items c.args.left.now c.play-played.result.left (position_of c.in-Some.board) (position_of c.play-played.result.board) c.args.items.now.items c.play-played.new.items.items = subst (λ (rows : List Row). SoFar (game_of a) rows c.args.left.now c.play-played.result.left (position_of c.in-Some.board) (position_of c.play-played.result.board) c.args.items.now.items c.play-played.new.items.items) same (c.play-played.ensures.run (game_of a) playable) in
+    let told = ends_if a c.self.inside.rows.items _ _ play _ _ _ _ f c.play-played.result.outcome (c.play-played.ensures.stands (game_of a) playable) c.play-played.ensures.spent in
+    rw (← c.self.view_is, there) told
 
-pub returns-in-Some-pause-clause-ok : goal.returns-in-Some-pause-clause-ok
-returns-in-Some-pause-clause-ok c = halts_at _ _ _ _ _ _ c.loop-left.invariant c.loop-left.self.state c.in-Some-pause.pause c.in-Some-pause.ensures refl
+pub returns-clause-made : goal.returns-clause-made
+returns-clause-made c =
+    let a = c.self.inside.accepted.now in
+    let there : c.self.inside.board ≡ Some c.in-Some.board = sym c.take.ensures.value ∙ c.in-Some.is in
+    let play : IsInPlay a c.self.inside.rows.items (position_of c.in-Some.board) = played_there a c.self.inside.rows.items c.self.inside.board c.in-Some.board c.self.invariant there in
+    let same : c.as_slice.result.now ≡ c.self.inside.rows.items = c.as_slice.ensures.value in
+    let playable : IsPlayable (game_of a) c.as_slice.result.now (position_of c.in-Some.board) = subst (λ (rows : List Row). IsPlayable (game_of a) rows (position_of c.in-Some.board)) (sym same) play.playable in
+    let f : SoFar (game_of a) c.self.inside.rows.items c.args.left.now c.play-played.result.left (position_of c.in-Some.board) (position_of c.play-played.result.board) c.args.items.now.items c.play-played.new.items.items = subst (λ (rows : List Row). SoFar (game_of a) rows c.args.left.now c.play-played.result.left (position_of c.in-Some.board) (position_of c.play-played.result.board) c.args.items.now.items c.play-played.new.items.items) same (c.play-played.ensures.run (game_of a) playable) in
+    rw (← c.self.view_is, there) (f.steps, f.all, f.made)
 
-pub returns-in-None-clause-ok : goal.returns-in-None-clause-ok
-returns-in-None-clause-ok c =
-    let none : c.loop-left.left ≡ 0 = omega (arith, c.loop-left-test.false) in
-    spends _ _ _ _ _ _ c.loop-left.invariant c.loop-left.self.state c.in-None.ensures.0 none c.in-None.ensures.1 refl
+pub returns-clause-stands : goal.returns-clause-stands
+returns-clause-stands c =
+    let a = c.self.inside.accepted.now in
+    let there : c.self.inside.board ≡ Some c.in-Some.board = sym c.take.ensures.value ∙ c.in-Some.is in
+    let play : IsInPlay a c.self.inside.rows.items (position_of c.in-Some.board) = played_there a c.self.inside.rows.items c.self.inside.board c.in-Some.board c.self.invariant there in
+    let same : c.as_slice.result.now ≡ c.self.inside.rows.items = c.as_slice.ensures.value in
+    let playable : IsPlayable (game_of a) c.as_slice.result.now (position_of c.in-Some.board) = subst (λ (rows : List Row). IsPlayable (game_of a) rows (position_of c.in-Some.board)) (sym same) play.playable in
+    let f : SoFar (game_of a) c.self.inside.rows.items c.args.left.now c.play-played.result.left (position_of c.in-Some.board) (position_of c.play-played.result.board) c.args.items.now.items c.play-played.new.items.items = subst (λ (rows : List Row). SoFar (game_of a) rows c.args.left.now c.play-played.result.left (position_of c.in-Some.board) (position_of c.play-played.result.board) c.args.items.now.items c.play-played.new.items.items) same (c.play-played.ensures.run (game_of a) playable) in
+    let accepted = ap (λ (p : Playing). p.accepted) c.self.view_is in
+    subst (λ (x : Acceptance). IfOk c.play-played.result.outcome (λ pause. Stands (setting_of x) (Paused pause) (state_in (game_of a) (position_of c.play-played.result.board)))) accepted (c.play-played.ensures.stands (game_of a) playable)
+
+pub returns-clause-err : goal.returns-clause-err
+returns-clause-err c =
+    let a = c.self.inside.accepted.now in
+    let there : c.self.inside.board ≡ Some c.in-Some.board = sym c.take.ensures.value ∙ c.in-Some.is in
+    let play : IsInPlay a c.self.inside.rows.items (position_of c.in-Some.board) = played_there a c.self.inside.rows.items c.self.inside.board c.in-Some.board c.self.invariant there in
+    let same : c.as_slice.result.now ≡ c.self.inside.rows.items = c.as_slice.ensures.value in
+    let playable : IsPlayable (game_of a) c.as_slice.result.now (position_of c.in-Some.board) = subst (λ (rows : List Row). IsPlayable (game_of a) rows (position_of c.in-Some.board)) (sym same) play.playable in
+    let f : SoFar (game_of a) c.self.inside.rows.items c.args.left.now c.play-played.result.left (position_of c.in-Some.board) (position_of c.play-played.result.board) c.args.items.now.items c.play-played.new.items.items = subst (λ (rows : List Row). SoFar (game_of a) rows c.args.left.now c.play-played.result.left (position_of c.in-Some.board) (position_of c.play-played.result.board) c.args.items.now.items c.play-played.new.items.items) same (c.play-played.ensures.run (game_of a) playable) in
+    rw (← c.self.view_is) (c.play-played.ensures.err (game_of a) playable)

@@ -1,0 +1,9 @@
+use Rattle.std.proofs.Common.{◌≡◌, None, sym, ap, ◌∙◌}
+use Rattle.zstate.specs.State.{State}
+use Rattle.zstate.specs.Run.{awaited}
+use Rattle.zplay.specs.Session.{setting}
+use Rattle.zplay.proofs.Playing.{none_waited}
+use Rattle.zplay.proofs.session.Session.awaits.Goals as goal
+
+pub returns : goal.returns
+returns c = sym (ap (λ (s : State). awaited (setting c.args.self.now) s) c.board-board.ensures.state ∙ none_waited c.args.self.now.accepted c.board-board.ensures.play.0 _ c.board-board.ensures.play.1)
