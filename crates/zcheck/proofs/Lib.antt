@@ -4,3 +4,5 @@ mod First
 mod Places
 mod Lists
 pub mod Headline
+mod Worked
+pub mod Instances

@@ -15,3 +15,5 @@ mod Parts
 pub mod Stepping
 pub mod Safety
 pub mod Runs
+mod Worked
+pub mod Instances

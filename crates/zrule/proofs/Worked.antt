@@ -1,0 +1,498 @@
+-- Values of the definitions, computed.
+use Rattle.std.proofs.Common.{◌≡◌, ℤ, pos, negsuc, int_le, Option,  ◌↔◌, ◌⊎◌, inl, inr, ℕ, zero, suc, ◌+◌, ◌*◌, ◌<◌, ◌≤◌, ◌∙◌, Bool, true, false, List, [], ◌∷◌, ◌++◌, replicate, Some, None, refl, sym, ap, subst, arith, nat_lt, if◌then◌else◌}
+use Rattle.std.specs.Prelude.{◌≢◌, ◌==◌, ◌||◌, ◌+ℤ◌}
+use Rattle.std.proofs.lemmas.Bool.{cases_lt, le-ltb}
+use Rattle.std.proofs.lemmas.Option.{same_Some}
+use Rattle.std.proofs.lemmas.Int.{ints}
+use Rattle.zstory.specs.Bytes.{byte_at, word_at}
+use Rattle.zstory.specs.Objects.{object_place, property_table}
+use Rattle.zstory.specs.Header as headers
+use Rattle.zstory.specs.LoadedStory.{LoadedStory, abbreviations}
+use Rattle.ztext.specs.Abbreviations.{readable_word}
+use Rattle.zcode.specs.declared.opcode.Opcode.{Opcode}
+use Rattle.zcode.specs.declared.opcode.Opcode.TheVariants as opcodes
+use Rattle.zcode.specs.declared.instr.Operand.{Operand}
+use Rattle.zcode.specs.declared.instr.Operand.TheVariants.{Constant, Variable}
+use Rattle.zcode.specs.Instruction.{Instruction}
+use Rattle.zcode.specs.Operation.{operation_of}
+use Rattle.zdomain.specs.declared.interval.Interval.{Interval}
+use Rattle.zdomain.specs.Domain.{In, Within}
+use Rattle.zdomain.specs.Interval.{point, all_words, in_order, interval_operations}
+use Rattle.zdomain.specs.IntervalLaw.{interval_sound}
+use Rattle.zflow.specs.declared.parts.Lead.TheVariants.{Ahead}
+use Rattle.zflow.specs.Transfer.{Shape, demands_of, outcome_of, outcome_at}
+use Rattle.zstate.specs.State.{Frame}
+use Rattle.zcert.specs.declared.parts.Range.{Range}
+use Rattle.zcert.specs.Certificate.{Certificate}
+use Rattle.zrule.specs.declared.rule.Rule.{Rule}
+use Rattle.zrule.specs.declared.rule.Rule.TheVariants.{Decodes, Height, Local, Successor, Divisor, Text, Returned, Known, Stored, High}
+use Rattle.zrule.specs.Numbers.{number_of}
+use Rattle.zrule.specs.Claims.{Entry, Claims, is_inside, claims_of}
+use Rattle.zrule.specs.Bytes.{IsWithin, IsChanging, IsSizePlace, IsTableFrame, read_length, IsOpen, IsClosed, header, a_global, a_default, an_entry, a_property, an_abbreviation, frozen, static, first, next, data_length}
+use Rattle.zrule.specs.Described.{Fits, FitsWith}
+use Rattle.zrule.specs.Rules.{global_in, Covers, Leads, GoesOn, Asks}
+use Rattle.zrule.proofs.Instances.{by_answers}
+
+-- ---- numbers of rules
+
+numbers : (number_of Decodes ≡ 1) × (number_of Height ≡ 2) × (number_of Local ≡ 3) × (number_of Successor ≡ 4) × (number_of Divisor ≡ 8) × (number_of Text ≡ 11) × (number_of Returned ≡ 13) × (number_of Known ≡ 15) × (number_of Stored ≡ 16) × (number_of High ≡ 17)
+numbers = (refl, refl, refl, refl, refl, refl, refl, refl, refl, refl)
+
+-- ---- claims
+
+range : Range
+range = record { first = 64; last = 66 }
+
+-- both ends are inside
+insides : (is_inside 63 range ≡ false) × (is_inside 64 range ≡ true) × (is_inside 66 range ≡ true) × (is_inside 67 range ≡ false)
+unfolding range
+insides = (refl, refl, refl, refl)
+
+-- a routine with one local, of which two instructions are listed; the second has two slots, of which 7 is the topmost
+certificate : Certificate Interval
+certificate = record {
+  identity = record { release = 1; serial = 0 ∷ 0 ∷ 0 ∷ 0 ∷ 0 ∷ 0 ∷ []; checksum = 0; length = 1024 };
+  ranges = range ∷ record { first = 70; last = 70 } ∷ [];
+  globals = replicate 240 (point 3);
+  routines = record { address = 0x300; locals = 1; result = point 5 } ∷ [];
+  instructions = record { address = 0x302; routine = 1; locals = point 4 ∷ []; slots = [] } ∷ record { address = 0x305; routine = 1; locals = point 4 ∷ []; slots = point 6 ∷ point 7 ∷ [] } ∷ [];
+}
+
+shape : Shape Interval
+shape = record { locals = point 4 ∷ []; slots = point 7 ∷ point 6 ∷ [] }
+
+-- what is listed is claimed with the top slot first, and nothing is claimed of another place
+entries : ((claims_of interval_operations certificate).entry 0x305 ≡ Some (record { routine = 1; shape = shape })) × ((claims_of interval_operations certificate).entry 0x302 ≡ Some (record { routine = 1; shape = record { locals = point 4 ∷ []; slots = [] } })) × ((claims_of interval_operations certificate).entry 0x303 ≡ None)
+unfolding certificate shape
+entries = (refl, refl, refl)
+
+stays : ((claims_of interval_operations certificate).is_frozen 64 ≡ true) × ((claims_of interval_operations certificate).is_frozen 67 ≡ false) × ((claims_of interval_operations certificate).is_frozen 70 ≡ true)
+unfolding certificate range
+stays = (refl, refl, refl)
+
+-- the main code, and a routine that isn't there, may give any word
+results : ((claims_of interval_operations certificate).result 0 ≡ all_words) × ((claims_of interval_operations certificate).result 1 ≡ point 5) × ((claims_of interval_operations certificate).result 2 ≡ all_words)
+unfolding certificate
+results = (refl, refl, refl)
+
+-- ---- what the rules ask
+
+-- an interval, and its ends
+abbrev from : (lo hi : ℤ) → int_le lo hi ≡ true → Interval
+from lo hi e = record { lo = lo; hi = hi; ordered = in_order lo hi e }
+
+abbrev before : List Interval → List Interval → Shape Interval
+before locals slots = record { locals = locals; slots = slots }
+
+-- Global 16 is one of [0, 5], and there is no other. Of routine 1, which gives 0, three places are listed: 8, 13 and 21, with
+-- nothing on the stack and one local, of [1, 5] at 13 and of any value at the others.
+abbrev of_one : Interval → Entry Interval
+of_one a = record { routine = 1; shape = before (a ∷ []) [] }
+
+abbrev listed_at_place : ℕ → Option (Entry Interval)
+listed_at_place p = if p == 13 then Some (of_one (from (pos 1) (pos 5) refl)) else (if p == 8 || p == 21 then Some (of_one all_words) else None)
+
+small : Claims Interval
+small = record { is_frozen = λ p. false; globals = from (pos 0) (pos 5) refl ∷ []; entry = listed_at_place; result = λ r. point 0 }
+
+-- the instructions stand at 10, and are of three bytes
+abbrev plain : Opcode → List Operand → Instruction
+plain opcode operands = record { opcode = opcode; operands = operands; store = None; branch = None; size = 3 }
+
+abbrev storing : Opcode → List Operand → ℕ → Instruction
+storing opcode operands v = record (plain opcode operands) { store = Some v }
+
+abbrev branching : Opcode → List Operand → ℤ → Instruction
+branching opcode operands offset = record (plain opcode operands) { branch = Some (record { sense = true; offset = offset }) }
+
+abbrev nowhere : LoadedStory
+nowhere = record { memory = []; objects = 0 }
+
+-- what a rule asks of an instruction of a routine, by what locals and slots there are, the top first
+abbrev of_routine : ℕ → Rule → List Interval → List Interval → Instruction → Type 0
+of_routine routine rule locals slots i = Asks interval_operations small nowhere 10 (record { routine = routine; shape = before locals slots }) i rule
+
+abbrev asks : Rule → List Interval → List Interval → Instruction → Type 0
+asks = of_routine 1
+
+-- a pop finds a slot
+add_top : Instruction
+add_top = storing opcodes.Add (Variable 0 ∷ Constant 1 ∷ []) 1
+
+heights : asks Height [] (point 7 ∷ []) add_top × (asks Height [] [] add_top → ⊥)
+unfolding add_top operation_of demands_of small
+heights = (λ known. (omega arith, tt), λ h. omega (arith, (h tt).0))
+
+-- what is stored in the top's place is popped before
+store_top : Instruction
+store_top = plain opcodes.Store (Constant 0 ∷ Variable 0 ∷ [])
+
+in_place : asks Height [] (point 7 ∷ point 8 ∷ []) store_top × (asks Height [] (point 7 ∷ []) store_top → ⊥)
+unfolding store_top operation_of demands_of small
+in_place = (λ known. (omega arith, omega arith), λ h. omega (arith, (h (λ there. refl)).1))
+
+-- where it isn't known which variable is named, nothing is asked of heights
+store_any : Instruction
+store_any = plain opcodes.Store (Variable 1 ∷ Variable 0 ∷ [])
+
+unknown_height : asks Height (all_words ∷ []) [] store_any
+unfolding store_any operation_of demands_of small
+unknown_height = λ known. absurd (let none = known (omega arith, omega arith) in cc)
+
+-- of two locals the second is there and the third isn't: read, given a result, or named
+two : List Interval
+two = point 4 ∷ point 4 ∷ []
+
+abbrev reads_local : ℕ → Instruction
+reads_local v = storing opcodes.Add (Constant 1 ∷ Variable v ∷ []) 1
+
+abbrev gives_local : ℕ → Instruction
+gives_local v = storing opcodes.Add (Constant 1 ∷ Constant 1 ∷ []) v
+
+abbrev names_local : ℕ → Instruction
+names_local v = plain opcodes.Inc (Constant v ∷ [])
+
+locals : asks Local two [] (reads_local 2) × asks Local two [] (gives_local 2) × asks Local two [] (names_local 2)
+unfolding two operation_of demands_of small
+locals = (λ known. ((omega arith, (omega arith, tt)), omega arith, tt), λ known. ((omega arith, (omega arith, tt)), omega arith, tt), λ known. ((omega arith, tt), tt, omega arith))
+
+no_locals : (asks Local two [] (reads_local 3) → ⊥) × (asks Local two [] (gives_local 3) → ⊥) × (asks Local two [] (names_local 3) → ⊥)
+unfolding two operation_of demands_of small
+no_locals = (λ l. omega (arith, (l tt).0.1.0), λ l. omega (arith, (l tt).1), λ l. omega (arith, (l (λ there. refl)).2))
+
+-- the one global is there, and the next isn't
+a_global_named : asks Local [] [] (names_local 16) × (asks Local [] [] (names_local 17) → ⊥)
+unfolding operation_of demands_of small
+a_global_named = (λ known. ((omega arith, tt), tt, (omega arith, omega arith)), λ l. omega (arith, (l (λ there. refl)).2.1))
+
+-- a divisor may be anything but 0
+divide : Instruction
+divide = storing opcodes.Div (Constant 7 ∷ Variable 1 ∷ []) 1
+
+divisors : asks Divisor (from (pos 1) (pos 5) refl ∷ []) [] divide × asks Divisor (from (negsuc 4) (negsuc 0) refl ∷ []) [] divide × (asks Divisor (from (pos 0) (pos 5) refl ∷ []) [] divide → ⊥)
+unfolding divide operation_of demands_of small
+divisors = (λ zero. zero.member.0.le, λ zero. zero.member.1.le, λ d. d (record { word = omega arith; member = (record { le = tt }, record { le = tt }) }))
+
+-- routine 1 may return 0 and not 1, and the main code nothing
+jz_returning : ℤ → Instruction
+jz_returning offset = branching opcodes.Jz (Variable 1 ∷ []) offset
+
+any_local : List Interval
+any_local = all_words ∷ []
+
+low_local : List Interval
+low_local = from (pos 1) (pos 5) refl ∷ []
+
+returns_zero : asks Returned any_local [] (jz_returning (pos 0))
+unfolding jz_returning any_local operation_of outcome_of small
+returns_zero = by_answers small (jz_returning (pos 0)) (before any_local []) _ (omega arith, λ x inside. inside) tt
+
+other_returns : (asks Returned any_local [] (jz_returning (pos 1)) → ⊥) × (of_routine 0 Returned any_local [] (jz_returning (pos 0)) → ⊥)
+unfolding jz_returning any_local operation_of outcome_of small
+other_returns = (λ r. ((r _ (true, refl)).1 1 (interval_sound.single 1 (omega arith))).member.1.le, λ r. omega (arith, (r _ (true, refl)).0))
+
+-- a branch that is never taken returns nothing
+never_returns : of_routine 0 Returned low_local [] (jz_returning (pos 0))
+unfolding jz_returning low_local operation_of outcome_of small
+never_returns = by_answers small (jz_returning (pos 0)) (before low_local []) _ tt tt
+
+-- a variable that is named by one value is known, up to 255
+store_named : Instruction
+store_named = plain opcodes.Store (Variable 1 ∷ Constant 5 ∷ [])
+
+known : asks Known (point 255 ∷ []) [] store_named × (asks Known (point 256 ∷ []) [] store_named → ⊥) × (asks Known (from (pos 1) (pos 2) refl ∷ []) [] store_named → ⊥)
+unfolding store_named operation_of demands_of small
+known = (λ there. refl, λ k. let none = k (omega arith, omega arith) in cc, λ k. let none = k (omega arith, omega arith) in cc)
+
+-- nothing is asked of it where it isn't there
+not_there : asks Known [] [] store_named
+unfolding store_named operation_of demands_of small
+not_there = λ there. absurd (omega (arith, there.1))
+
+-- global 16 takes 5 and not 6, as a result and in place
+abbrev gives_global : ℕ → Instruction
+gives_global x = storing opcodes.Or (Constant x ∷ Constant x ∷ []) 16
+
+abbrev stores_global : ℕ → Instruction
+stores_global x = plain opcodes.Store (Constant 16 ∷ Constant x ∷ [])
+
+upper : Within interval_operations (point 5) (from (pos 0) (pos 5) refl)
+upper x inside = let above = inside.member.0 in record { word = inside.word; member = (omega (arith, ints), inside.member.1) }
+
+stores_five : asks Stored [] [] (gives_global 5) × asks Stored [] [] (stores_global 5)
+unfolding operation_of outcome_of small
+stores_five = (by_answers small (gives_global 5) (before [] []) _ (upper, tt) tt, by_answers small (stores_global 5) (before [] []) _ (tt, upper) tt)
+
+not_six : (asks Stored [] [] (gives_global 6) → ⊥) × (asks Stored [] [] (stores_global 6) → ⊥)
+unfolding operation_of outcome_of small
+not_six = (λ s. ((s _ (true, refl)).0 6 (interval_sound.single 6 (omega arith))).member.1.le, λ s. ((s _ (true, refl)).1 6 (interval_sound.single 6 (omega arith))).member.1.le)
+
+-- nor is it counted beyond its set
+not_counted : asks Stored [] [] (plain opcodes.Inc (Constant 16 ∷ [])) → ⊥
+unfolding operation_of outcome_of small
+not_counted s = ((s _ (true, refl)).1 6 (record { word = omega arith; member = (record { le = tt }, record { le = tt }) })).member.1.le
+
+-- a stack may have 64 slots, and no more
+push : Instruction
+push = plain opcodes.Push (Constant 7 ∷ [])
+
+high : asks High [] (replicate 63 (point 7)) push × (asks High [] (replicate 64 (point 7)) push → ⊥)
+unfolding push operation_of outcome_of small
+high = (by_answers small push (before [] (replicate 63 (point 7))) _ (omega arith) tt, λ h. omega (arith, h _ (true, refl)))
+
+-- ---- edges
+
+-- an edge leads to the one place that is so far behind another
+leads_there : (f : Shape Interval) (q : ℕ) (d : ℤ) (p : ℕ) → (pos q +ℤ d) ≡ pos p → GoesOn interval_operations small 1 f q (Ahead d) → Leads interval_operations small 1 f p
+leads_there f q d p same (to, at, leads) = subst (Leads interval_operations small 1 f) (same_place to p (sym at ∙ same)) leads
+  where
+    same_place : (m n : ℕ) → pos m ≡ pos n → m ≡ n
+    same_place m n e = cc
+
+-- not where none is listed
+unlisted : (f : Shape Interval) (q : ℕ) (d : ℤ) (p : ℕ) → (pos q +ℤ d) ≡ pos p → small.entry p ≡ None → GoesOn interval_operations small 1 f q (Ahead d) → ⊥
+unlisted f q d p same none goes = let leads = leads_there f q d p same goes in let listed = leads.listed in cc
+
+-- nor where fewer values are
+uncovered : (a b : Interval) (q : ℕ) (d : ℤ) (p x : ℕ) → (pos q +ℤ d) ≡ pos p → small.entry p ≡ Some (of_one b) → In interval_operations a x → (In interval_operations b x → ⊥) → GoesOn interval_operations small 1 (before (a ∷ []) []) q (Ahead d) → ⊥
+uncovered a b q d p x same listed inside outside goes =
+    let leads = leads_there (before (a ∷ []) []) q d p same goes in
+    let is : leads.entry ≡ of_one b = same_Some leads.entry (of_one b) (sym leads.listed ∙ listed) in
+    outside ((subst (λ (e : Entry Interval). Covers interval_operations (before (a ∷ []) []) e.shape) is leads.covered).locals.0 x inside)
+
+covered : (a b : Interval) (p : ℕ) → small.entry p ≡ Some (of_one b) → Within interval_operations a b → Leads interval_operations small 1 (before (a ∷ []) []) p
+covered a b p listed within = record { entry = of_one b; listed = listed; same = refl; covered = record { locals = (within, tt); slots = tt } }
+
+-- of a branch that is never taken only what follows has to be listed, and else where it leads too
+jz : ℤ → Instruction
+jz offset = branching opcodes.Jz (Variable 1 ∷ []) offset
+
+one_edge : asks Successor low_local [] (jz (pos 500))
+unfolding jz low_local operation_of demands_of outcome_of small
+one_edge = λ divides. (refl, by_answers small (jz (pos 500)) (before low_local []) _ tt (λ low. (13, refl, covered (from (pos 1) (pos 5) refl) (from (pos 1) (pos 5) refl) 13 refl (λ x inside. inside))))
+
+both_edges : asks Successor any_local [] (jz (pos 500)) → ⊥
+unfolding jz any_local operation_of demands_of outcome_of small
+both_edges s = unlisted _ 13 (pos 498) 511 refl refl ((s tt).1 _ (true, refl) (omega arith))
+
+-- what follows has to be listed where the branch may not be taken
+abbrev longer : Instruction → Instruction
+longer i = record i { size = 5 }
+
+not_taken : asks Successor any_local [] (longer (jz (pos 8))) → ⊥
+unfolding jz any_local operation_of demands_of outcome_of small
+not_taken s = unlisted _ 15 (pos 0) 15 refl refl ((s tt).1 _ (false, refl) (omega arith))
+
+-- with all that the branch leaves of a local: [0, 5] without 0, and not [0, 6]
+narrowed : asks Successor (from (pos 0) (pos 5) refl ∷ []) [] (jz (pos 10))
+unfolding jz operation_of demands_of outcome_of small
+narrowed = λ divides. (refl, by_answers small (jz (pos 10)) (before (from (pos 0) (pos 5) refl ∷ []) []) _ (λ low. (21, refl, covered (point 0) all_words 21 refl (λ x inside. interval_sound.any x inside.word))) (λ low. (13, refl, covered (from (pos 1) (pos 5) refl) (from (pos 1) (pos 5) refl) 13 refl (λ x inside. inside))))
+
+not_narrowed : asks Successor (from (pos 0) (pos 6) refl ∷ []) [] (jz (pos 10)) → ⊥
+unfolding jz operation_of demands_of outcome_of small
+not_narrowed s =
+    uncovered (from (pos 1) (pos 6) refl) (from (pos 1) (pos 5) refl) 13 (pos 0) 13 6 refl refl (record { word = omega arith; member = (record { le = tt }, record { le = tt }) }) (λ inside. inside.member.1.le)
+    ((s tt).1 _ (false, refl) (omega arith))
+
+-- a jump goes one known way: back to 8, but not before the first byte, and of two values nowhere
+jump : Operand → Instruction
+jump operand = plain opcodes.Jump (operand ∷ [])
+
+goes_back : asks Successor any_local [] (jump (Constant 0xFFFD))
+unfolding jump any_local operation_of demands_of outcome_of small
+goes_back = λ divides. (refl, by_answers small (jump (Constant 0xFFFD)) (before any_local []) _ (λ low. (8, refl, covered all_words all_words 8 refl (λ x inside. inside))) tt)
+
+goes_nowhere : (asks Successor any_local [] (jump (Constant 0xFFF3)) → ⊥) × (asks Successor (from (pos 1) (pos 2) refl ∷ []) [] (jump (Variable 1)) → ⊥)
+unfolding jump any_local operation_of demands_of outcome_of small
+goes_nowhere = (λ s. let place = ((s tt).1 _ (true, refl) (omega arith)).1 in cc, λ s. let certain = (s tt).0 in cc)
+
+-- nothing has to follow `quit`, what may divide by 0, or what makes the stack too high: other rules refuse the last two
+nothing_follows : asks Successor [] [] (longer (plain opcodes.Quit [])) × asks Successor (from (pos 0) (pos 5) refl ∷ []) [] (longer divide) × asks Successor [] (replicate 64 (point 7)) (longer push)
+unfolding divide push operation_of demands_of outcome_of small
+nothing_follows = (
+  λ divides. (refl, by_answers small (longer (plain opcodes.Quit [])) (before [] []) _ tt tt),
+  λ divides. absurd (divides (record { word = omega arith; member = (record { le = tt }, record { le = tt }) })),
+  λ divides. (refl, by_answers small (longer push) (before [] (replicate 64 (point 7))) _ (λ low. absurd (omega (arith, low))) tt),
+)
+
+-- ---- values that are stored
+
+frame : Frame
+frame = record { return_place = 0; result = 0; supplied = 0; locals = 4 ∷ []; stack = 8 ∷ [] }
+
+-- a value goes on the stack as its top, into a local, or into a global whose set has it; nothing else takes one
+stored : (FitsWith interval_operations (claims_of interval_operations certificate) 0 9 shape frame → Fits interval_operations (claims_of interval_operations certificate) shape (4 ∷ []) (9 ∷ 8 ∷ [])) × (FitsWith interval_operations (claims_of interval_operations certificate) 1 9 shape frame → Fits interval_operations (claims_of interval_operations certificate) shape (9 ∷ []) (8 ∷ [])) × (FitsWith interval_operations (claims_of interval_operations certificate) 255 9 shape frame → In interval_operations (point 3) 9)
+unfolding certificate frame
+stored = (λ fits. fits, λ fits. fits.1, λ fits. fits.1)
+
+not_stored : (FitsWith interval_operations (claims_of interval_operations certificate) 2 9 shape frame → ⊥) × (FitsWith interval_operations (claims_of interval_operations certificate) 256 9 shape frame → ⊥)
+unfolding certificate frame
+not_stored = (λ fits. omega (arith, fits.0), λ fits. omega (arith, fits.0))
+
+-- ---- bytes
+
+-- a name of one word, a property of one byte, a property of two, and the end
+table : List ℕ
+table = 0x01 ∷ 0x98 ∷ 0xA5 ∷ 0x05 ∷ 0x07 ∷ 0x23 ∷ 0x12 ∷ 0x34 ∷ 0x00 ∷ []
+
+-- The object table is at 64, the globals are at 160, and static memory begins at 656. Both objects have the property table
+-- at 144, and there are no abbreviations.
+memory : List ℕ
+memory = replicate 10 0 ++ 0 ∷ 64 ∷ 0 ∷ 160 ∷ 2 ∷ 144 ∷ replicate 8 0 ++ 255 ∷ 255 ∷ replicate 107 0 ++ 0 ∷ 144 ∷ replicate 7 0 ++ 0 ∷ 144 ∷ table ++ replicate 7 0 ++ 1 ∷ 2 ∷ 3 ∷ 4 ∷ replicate 596 0
+
+-- two objects, whose entries begin at 126 and at 135
+story : LoadedStory
+story = record { memory = memory; objects = 2 }
+
+places : (headers.object_table memory ≡ 64) × (headers.globals memory ≡ 160) × (headers.static_base memory ≡ 656) × (headers.abbreviations memory ≡ 65535) × (object_place memory 1 ≡ 126) × (object_place memory 2 ≡ 135)
+unfolding memory table
+places = (refl, refl, refl, refl, refl, refl)
+
+loaded_values : (global_in story memory 0 ≡ 0x102) × (global_in story memory 1 ≡ 0x304)
+unfolding story memory table
+loaded_values = (refl, refl)
+
+-- what holds of both objects
+of_two : (P : ℕ → Type 0) → P 1 → P 2 → (object : ℕ) → 1 ≤ object → object ≤ 2 → P object
+of_two P one two zero some few = absurd (omega (arith, some))
+of_two P one two (suc zero) some few = one
+of_two P one two (suc (suc zero)) some few = two
+of_two P one two (suc (suc (suc k))) some few = absurd (omega (arith, few))
+
+-- what instructions change: Flags 2, the first seven of the nine bytes of each entry, and the globals
+changing : (p : ℕ) → IsChanging story p ↔ (IsWithin 16 2 p ⊎ (IsWithin 126 7 p ⊎ (IsWithin 135 7 p ⊎ IsWithin 160 480 p)))
+unfolding story memory table
+changing p = (there, back)
+  where
+    of_object : (object : ℕ) → 1 ≤ object → object ≤ 2 → IsWithin (object_place memory object) 7 p → IsWithin 126 7 p ⊎ IsWithin 135 7 p
+    of_object = of_two (λ k. IsWithin (object_place memory k) 7 p → IsWithin 126 7 p ⊎ IsWithin 135 7 p) inl inr
+
+    of_either : IsWithin 126 7 p ⊎ IsWithin 135 7 p → IsWithin 16 2 p ⊎ (IsWithin 126 7 p ⊎ (IsWithin 135 7 p ⊎ IsWithin 160 480 p))
+    of_either (inl one) = inr (inl one)
+    of_either (inr two) = inr (inr (inl two))
+
+    there : IsChanging story p → IsWithin 16 2 p ⊎ (IsWithin 126 7 p ⊎ (IsWithin 135 7 p ⊎ IsWithin 160 480 p))
+    there (inl flags) = inl flags
+    there (inr (inl within)) = inr (inr (inr within))
+    there (inr (inr state)) = of_either (of_object state.object state.first state.last state.inside)
+
+    back : IsWithin 16 2 p ⊎ (IsWithin 126 7 p ⊎ (IsWithin 135 7 p ⊎ IsWithin 160 480 p)) → IsChanging story p
+    back (inl flags) = inl flags
+    back (inr (inl one)) = inr (inr (record { object = 1; first = omega arith; last = omega arith; inside = one }))
+    back (inr (inr (inl two))) = inr (inr (record { object = 2; first = omega arith; last = omega arith; inside = two }))
+    back (inr (inr (inr within))) = inr (inl within)
+
+-- ---- property tables
+
+lengths : (data_length 0x05 ≡ 1) × (data_length 0x23 ≡ 2) × (data_length 0xFF ≡ 8)
+lengths = (refl, refl, refl)
+
+size_places : IsSizePlace memory 144 147 × IsSizePlace memory 144 149 × IsSizePlace memory 144 152
+unfolding memory table
+size_places =
+    let one : IsSizePlace memory 144 147 = first 147 refl (omega arith) in
+    let two : IsSizePlace memory 144 149 = next 149 147 one (λ e. absurd cc) refl (omega arith) in
+    (one, two, next 152 149 two (λ e. absurd cc) refl (omega arith))
+
+-- there is no other
+no_others : (p : ℕ) → IsSizePlace memory 144 p → (p ≡ 147) ⊎ ((p ≡ 149) ⊎ (p ≡ 152))
+unfolding memory table
+no_others p (first _ is inside) = inl is
+no_others p (next _ q before some is inside) = by_place (no_others q before)
+  where
+    by_place : (q ≡ 147) ⊎ ((q ≡ 149) ⊎ (q ≡ 152)) → (p ≡ 147) ⊎ ((p ≡ 149) ⊎ (p ≡ 152))
+    by_place (inl e) = inr (inl (subst (λ (k : ℕ). p ≡ k + 1 + data_length (byte_at memory k)) e is))
+    by_place (inr (inl e)) = inr (inr (subst (λ (k : ℕ). p ≡ k + 1 + data_length (byte_at memory k)) e is))
+    by_place (inr (inr e)) = absurd (subst (λ (k : ℕ). byte_at memory k ≢ 0) e some refl)
+
+-- the name, the size bytes and the end are its frame, and the data isn't
+framed : (p : ℕ) → IsTableFrame memory 144 p ↔ (IsWithin 144 4 p ⊎ ((p ≡ 149) ⊎ (p ≡ 152)))
+unfolding memory table
+framed p = (there, back)
+  where
+    there : IsTableFrame memory 144 p → IsWithin 144 4 p ⊎ ((p ≡ 149) ⊎ (p ≡ 152))
+    there (inl name) = inl (name.0, omega (arith, name.1))
+    there (inr size) = by_place (no_others p size)
+      where
+        by_place : (p ≡ 147) ⊎ ((p ≡ 149) ⊎ (p ≡ 152)) → IsWithin 144 4 p ⊎ ((p ≡ 149) ⊎ (p ≡ 152))
+        by_place (inl e) = inl (omega (arith, e), omega (arith, e))
+        by_place (inr later) = inr later
+
+    back : IsWithin 144 4 p ⊎ ((p ≡ 149) ⊎ (p ≡ 152)) → IsTableFrame memory 144 p
+    back (inl name) = by_order (cases_lt p 147)
+      where
+        by_order : (p < 147) ⊎ (147 ≤ p) → IsTableFrame memory 144 p
+        by_order (inl low) = inl (name.0, omega (arith, low))
+        by_order (inr high) = let same : 147 ≡ p = omega (arith, high, name.1) in inr (subst (IsSizePlace memory 144) same size_places.0)
+    back (inr (inl e)) = inr (subst (IsSizePlace memory 144) (sym e) size_places.1)
+    back (inr (inr e)) = inr (subst (IsSizePlace memory 144) (sym e) size_places.2)
+
+-- nothing is behind a property that memory cuts off
+cut : List ℕ
+cut = 0x00 ∷ 0x45 ∷ 0x07 ∷ []
+
+cut_places : (p : ℕ) → IsSizePlace cut 0 p → p ≡ 1
+unfolding cut
+cut_places p (first _ is inside) = is
+cut_places p (next _ q before some is inside) = absurd (let behind : p ≡ 5 = subst (λ (k : ℕ). p ≡ k + 1 + data_length (byte_at cut k)) (cut_places q before) is in omega (arith, behind, inside))
+
+-- ---- what stores may write
+
+no_word : (n : ℕ) → readable_word memory (65535 + 2 * n) ≡ None
+unfolding memory table
+no_word n =
+    let outside : nat_lt (65535 + 2 * n + 1) 760 ≡ false = le-ltb (65535 + 2 * n + 1) 760 (omega arith) in
+    ap (λ (b : Bool). if b then Some (word_at memory (65535 + 2 * n)) else None) outside
+
+same_table : (object : ℕ) → 1 ≤ object → object ≤ 2 → property_table memory object ≡ 144
+unfolding memory table
+same_table = of_two (λ k. property_table memory k ≡ 144) refl refl
+
+-- in the property table, the data and nothing else
+writable : (p : ℕ) → IsWithin 144 9 p → IsOpen story (λ q. false) p ↔ ((p ≡ 148) ⊎ IsWithin 150 2 p)
+unfolding story
+writable p within = (there, back)
+  where
+    by_part : (IsWithin 144 4 p ⊎ ((p ≡ 149) ⊎ (p ≡ 152))) ⊎ ((p ≡ 148) ⊎ IsWithin 150 2 p)
+    by_part = by_order (cases_lt p 148) (cases_lt p 149) (cases_lt p 150) (cases_lt p 152)
+      where
+        by_order : (p < 148) ⊎ (148 ≤ p) → (p < 149) ⊎ (149 ≤ p) → (p < 150) ⊎ (150 ≤ p) → (p < 152) ⊎ (152 ≤ p) → (IsWithin 144 4 p ⊎ ((p ≡ 149) ⊎ (p ≡ 152))) ⊎ ((p ≡ 148) ⊎ IsWithin 150 2 p)
+        by_order (inl a) b c d = inl (inl (within.0, omega (arith, a)))
+        by_order (inr a) (inl b) c d = inr (inl (omega (arith, a, b)))
+        by_order (inr a) (inr b) (inl c) d = inl (inr (inl (omega (arith, b, c))))
+        by_order (inr a) (inr b) (inr c) (inl d) = inr (inr (c, omega (arith, d)))
+        by_order (inr a) (inr b) (inr c) (inr d) = inl (inr (inr (omega (arith, d, within.1))))
+
+    there : IsOpen story (λ q. false) p → (p ≡ 148) ⊎ IsWithin 150 2 p
+    there free = by_case by_part
+      where
+        by_case : (IsWithin 144 4 p ⊎ ((p ≡ 149) ⊎ (p ≡ 152))) ⊎ ((p ≡ 148) ⊎ IsWithin 150 2 p) → (p ≡ 148) ⊎ IsWithin 150 2 p
+        by_case (inl frame) =
+            let inside = subst (λ (t : ℕ). IsTableFrame memory t p) (sym (same_table 1 (omega arith) (omega arith))) ((framed p).1 frame) in
+            absurd (free (a_property (record { object = 1; first = omega arith; last = omega arith; inside = inside })))
+        by_case (inr its_data) = its_data
+
+    unframed : (p ≡ 148) ⊎ IsWithin 150 2 p → IsWithin 144 4 p ⊎ ((p ≡ 149) ⊎ (p ≡ 152)) → ⊥
+    unframed (inl e) (inl low) = omega (arith, e, low.1)
+    unframed (inl e) (inr (inl f)) = omega (arith, e, f)
+    unframed (inl e) (inr (inr f)) = omega (arith, e, f)
+    unframed (inr w) (inl low) = omega (arith, w.0, low.1)
+    unframed (inr w) (inr (inl f)) = omega (arith, w.0, f)
+    unframed (inr w) (inr (inr f)) = omega (arith, w.1, f)
+
+    back : (p ≡ 148) ⊎ IsWithin 150 2 p → IsOpen story (λ q. false) p
+    back its_data closed = by_cause closed
+      where
+        by_cause : IsClosed story (λ q. false) p → ⊥
+        by_cause (header low) = omega (arith, low.0, within.0)
+        by_cause (a_global inside) = let at = places.1 in omega (arith, at, inside.0, within.1)
+        by_cause (a_default inside) = let at = places.0 in omega (arith, at, inside.1, within.0)
+        by_cause (an_entry entry) = let at = places.0 in omega (arith, at, entry.last, entry.inside.1, within.0)
+        by_cause (a_property frame) = unframed its_data ((framed p).0 (subst (λ (t : ℕ). IsTableFrame memory t p) (same_table frame.object frame.first frame.last) frame.inside))
+        by_cause (an_abbreviation part) = by_half part.number part.inside
+          where
+            by_half : (n : ℕ) → IsWithin (abbreviations story + 2 * n) 2 p ⊎ ((word : ℕ) × (readable_word memory (abbreviations story + 2 * n) ≡ Some word) × IsWithin (2 * word) (read_length memory (2 * word)) p) → ⊥
+            by_half n (inl word) = let at = places.3 in omega (arith, at, word.0, within.1)
+            by_half n (inr (word, found, inside)) = let none = subst (λ (table : ℕ). readable_word memory (table + 2 * n) ≡ None) (sym places.3) (no_word n) in absurd cc
+        by_cause (frozen e) = absurd cc
+        by_cause (static above) = let at = places.2 in omega (arith, at, above, within.1)
