@@ -206,7 +206,7 @@ unfoldable pub stop : Instruction
 stop = record { opcode = Quit; operands = []; store = None; branch = None; size = 1 }
 
 pub reads : (instruction_at (drop 798 memory) ≡ Ok hello) × (instruction_at (drop 803 memory) ≡ Ok line) × (instruction_at (drop 804 memory) ≡ Ok stop)
-unfolding memory hello line stop playable instruction_by head_at short_head played_opcode checked_head operands_at store_if branch_if text_if
+unfolding memory hello line stop playable instruction_by head_at short_head played_opcode checked_head operands_at store_if branch_if text_if operation_of
 reads = (refl, refl, refl)
 
 same_ok : {A E : Type 0} (x y : A) → ◌≡◌ {A = Result A E} (Ok x) (Ok y) → x ≡ y
