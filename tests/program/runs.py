@@ -9,6 +9,7 @@ import os
 import subprocess
 import sys
 
+from plays import see_plays
 from program import Answer, Count, Program
 from samples import CODE, HELLO, NEW_LINE, NOP, QUIT, certificate, changed, interval, story, with_objects
 
@@ -258,6 +259,7 @@ def main():
         count.is_answer(f"{name}, by its certificate", program.run(PLAY_LISTED, files(made, listed)), done(wanted))
     for name, words, given, wanted in COMMANDS:
         count.is_answer(name, program.run(words, given), wanted)
+    see_plays(program, count)
     see_streams(program, count)
     count.end()
 

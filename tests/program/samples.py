@@ -54,16 +54,17 @@ def interval(lower, upper):
     return struct.pack(">hh", lower, upper)
 
 
-def certificate(made, addresses, values=(0, 0), release=RELEASE, stacks=None, ranges=(), routines=(), inside=None):
-    """A certificate of a story that lists these addresses, and says of each global that it lies between these values. The stack is
+def certificate(made, addresses, values=(0, 0), release=RELEASE, stacks=None, ranges=(), routines=(), inside=None, own=None):
+    """A certificate of a story that lists these addresses, and says of each global that it lies between these values, or between its
+    own, which are given for the number of its variable. The stack is
     empty, or has the intervals that are given for the address, the bottom one first. An instruction is in the main code, or in the
     routine whose number is given for the address, with its locals. A frozen range is its first and its last place, a routine its
     address and its count of locals, and it may give any word."""
-    stacks, inside = stacks or {}, inside or {}
+    stacks, inside, own = stacks or {}, inside or {}, own or {}
     parts = [b"ZPCC\x01", struct.pack(">H6s2sI", release, SERIAL, made[0x1C:0x1E], len(made))]
     parts.append(word(len(ranges)))
     parts.extend(struct.pack(">HH", *it) for it in ranges)
-    parts.append(interval(*values) * 240)
+    parts.extend(interval(*own.get(number, values)) for number in range(16, 256))
     parts.append(word(len(routines)))
     parts.extend(struct.pack(">IB", *it) + interval(-32768, 32767) for it in routines)
     parts.append(struct.pack(">I", len(addresses)))
