@@ -1,4 +1,4 @@
-use Rattle.std.proofs.Common.{◌≡◌, None, sym, ap, ◌∙◌}
+use Rattle.std.proofs.Common.{sym, ap, ◌∙◌}
 use Rattle.zstate.specs.State.{State}
 use Rattle.zstate.specs.Run.{awaited}
 use Rattle.zplay.specs.Session.{setting}

@@ -1,4 +1,4 @@
-use Rattle.std.proofs.Common.{◌≡◌, ap, ◌∙◌}
+use Rattle.std.proofs.Common.{ap, ◌∙◌}
 use Rattle.zstate.specs.State.{State}
 use Rattle.zstate.specs.Run.{awaited}
 use Rattle.zplay.specs.Session.{setting}

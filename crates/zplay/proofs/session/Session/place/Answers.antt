@@ -1,5 +1,4 @@
-use Rattle.std.proofs.Common.{◌≡◌, ap}
-use Rattle.zcheck.specs.Acceptance.{Acceptance}
+use Rattle.std.proofs.Common.{ap}
 use Rattle.zplay.specs.Session.{Playing}
 use Rattle.zplay.proofs.Playing.{place_read, within_listing}
 use Rattle.zplay.proofs.session.Session.place.Goals as goal

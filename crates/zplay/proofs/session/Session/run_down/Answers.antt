@@ -7,7 +7,7 @@ use Rattle.zstate.specs.declared.halt.Stop.TheVariants.{Paused}
 use Rattle.zstate.specs.Run.{Stands}
 use Rattle.zcheck.specs.Acceptance.{Acceptance}
 use Rattle.zplay.specs.Session.{IsInPlay, Playing, game_of, setting_of}
-use Rattle.zplay.proofs.Playing.{state_told, played_there, in_play_after, ends_if}
+use Rattle.zplay.proofs.Playing.{played_there, in_play_after, ends_if}
 use Rattle.zplay.proofs.session.Session.run_down.Goals as goal
 
 pub invariant_of-self : goal.invariant_of-self

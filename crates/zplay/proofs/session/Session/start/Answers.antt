@@ -1,4 +1,4 @@
-use Rattle.std.proofs.Common.{rules, ◌≡◌, Some, sym, ap, ◌∙◌, subst}
+use Rattle.std.proofs.Common.{rules, ◌≡◌, Some, sym, ap, ◌∙◌}
 use Rattle.zstory.specs.LoadedStory.{first_instruction}
 use Rattle.zlist.specs.Listing.{index_of}
 use Rattle.zstate.specs.State.{State}
