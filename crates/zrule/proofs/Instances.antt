@@ -4,7 +4,6 @@ use Rattle.std.specs.Prelude.{map, pos, option_map, IfSome, ◌==◌, slice_get}
 use Rattle.std.specs.List.{AllByRecursion}
 use Rattle.std.proofs.lemmas.Bool.{eqb-true, lt-ltb}
 use Rattle.std.proofs.lemmas.Option.{same_Some, slice_get_within}
-use Rattle.std.specs.Bool.{OnTrue}
 use Rattle.std.specs.Option.{option_and_then, IsSomeAnd}
 use Rattle.zstory.specs.Bytes.{byte_at, word_at}
 use Rattle.zstory.specs.Header as headers

@@ -95,4 +95,3 @@ module _ {V : Type 0} (o : SetOperations V) (lawful : AreSound o) where
         by_test : (b : Bool) → nat_lt v 256 ≡ b → IsTrue (is_some (if b then Some v else None)) → (w : ℕ) × (Some v ≡ Some w) × ((if nat_lt v 256 then Some v else None) ≡ Some w) × (nat_lt w 256 ≡ true)
         by_test true e h = (v, refl, rw e refl, e)
         by_test false e h = absurd cc
-

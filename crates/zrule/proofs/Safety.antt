@@ -1,6 +1,6 @@
 -- A step from a described state is safe, by the parts of its effect.
 use Rattle.std.proofs.Common.{◌≡◌, ◌⊎◌, inl, inr, ℕ, zero, suc, ◌+◌, ◌-◌, ◌<◌, ◌≤◌, Bool, true, false, List, [], ◌∷◌, length, drop, take, Option, Some, None, Result, Ok, Err, refl, sym, ap, subst, ◌∙◌, arith, nat_lt, nat_le, slice_set, if◌then◌else◌}
-use Rattle.std.specs.Prelude.{ℤ, pos, ◌+ℤ◌, IsOk, IfSome, MatchOption, IsTrue, is_some, option_map, not, slice_get, slice_index, ◌==◌, ◌&&◌, ◌||◌}
+use Rattle.std.specs.Prelude.{ℤ, pos, ◌+ℤ◌, IsOk, IfSome, MatchOption, IsTrue, is_some, slice_get, slice_index, ◌==◌, ◌&&◌, ◌||◌}
 use Rattle.std.specs.Bool.{OnTrue, MatchBool}
 use Rattle.std.specs.List.{AllZip, AllByRecursion}
 use Rattle.std.proofs.lemmas.Bool.{ltb-false, ltb-true, lt-ltb, ne_eqb, eqb-true}
@@ -12,7 +12,7 @@ use Rattle.zword.specs.declared.count.CountOp.{CountOp}
 use Rattle.zword.specs.Binary.{is_defined}
 use Rattle.zword.specs.Question.{holds}
 use Rattle.zword.specs.Count.{counting as counts_by, counted}
-use Rattle.zstory.specs.LoadedStory.{LoadedStory, static_base, first_instruction, file_sum, checksum}
+use Rattle.zstory.specs.LoadedStory.{LoadedStory, static_base, first_instruction}
 use Rattle.ztext.specs.declared.error.TextError.{TextError}
 use Rattle.ztext.specs.Words.{text_at, front_text}
 use Rattle.ztext.specs.Output.{output_at}
@@ -34,22 +34,22 @@ use Rattle.zstate.specs.declared.halt.Halt.{Halt}
 use Rattle.zstate.specs.declared.halt.Halt.TheVariants as halts
 use Rattle.zstate.specs.InTurn.{◌>>=◌}
 use Rattle.zstate.specs.State.{Frame, State, Setting, IsState, opening, at_place, popped, with_stack, with_locals, with_memory, write_word, global, has_room, exists, put_named, put_in_place, read_in_place, read_operands}
-use Rattle.zstate.specs.Step.{Move, on, back, Effect, Done, way, arg, asked_of, giving, assigning, testing, counting, printing, jumping, fetch, printed, print_at, effect_of, effect_if, has_caller, is_taken, is_roomy, turned, course, admits, pauses, settle, stored, assigned, changed, left, moved, advance, act, step}
+use Rattle.zstate.specs.Step.{Move, on, back, Effect, Done, way, arg, asked_of, giving, assigning, testing, printing, jumping, fetch, printed, print_at, effect_of, effect_if, has_caller, is_taken, is_roomy, turned, course, admits, pauses, settle, assigned, changed, left, moved, advance, act, step}
 use Rattle.zstate.proofs.Keeps.{bind_ok, put_aside, changed_aside, step_keeps}
 use Rattle.zflow.specs.declared.parts.Lead.{Lead}
 use Rattle.zflow.specs.declared.parts.Lead.TheVariants.{Ahead, Returning}
 use Rattle.zflow.specs.declared.parts.Kept.{Kept}
 use Rattle.zflow.specs.declared.parts.Outcome.{Outcome}
 use Rattle.zflow.specs.declared.parts.Demands.{Demands}
-use Rattle.zflow.specs.Transfer.{Shape, pops, variable_set, small, local_kept, operand_kept, both_kept, untold, compared_kept, counted_kept, counted_set, demands_of, demands_if, goes_on, gives_in, assigns_in, asks, counts_in, jumps, outcome_of, outcome_if, outcome_at, leading, turned_to, named_with, with_assigned, narrowed, read_set, mid_shape, changed_by, after}
+use Rattle.zflow.specs.Transfer.{Shape, pops, variable_set, small, local_kept, operand_kept, both_kept, untold, counted_set, demands_of, demands_if, goes_on, gives_in, assigns_in, asks, counts_in, jumps, outcome_of, outcome_if, leading, turned_to, named_with, with_assigned, narrowed, read_set, mid_shape, changed_by, after}
 use Rattle.zrule.specs.declared.rule.Rule.TheVariants as rules
 use Rattle.zrule.specs.Claims.{Claims}
-use Rattle.zrule.specs.Rules.{Leads, IsThere, HasFixedText, IsKnown, IsNamed, IsVariable, HasTop, Supports, Takes, TakesInPlace, GoesOn, Returns, OnEdge, Comes, demands_at}
+use Rattle.zrule.specs.Rules.{Leads, IsThere, HasFixedText, IsKnown, IsNamed, IsVariable, HasTop, Supports, Takes, TakesInPlace, GoesOn, Returns, OnEdge, demands_at}
 use Rattle.zrule.specs.Described.{Callers, Described, DescribedMemory, Fits, FitsWith, IsSafe, IsListedIn, IsLoadedStory}
-use Rattle.zrule.proofs.Sets.{pops_cons, ReadsAll, HasLocals, reads_all, fits_popped, zip_set, zip_length}
+use Rattle.zrule.proofs.Sets.{pops_cons, ReadsAll, reads_all, fits_popped, zip_set, zip_length}
 use Rattle.zrule.proofs.Unchanged.{drop_same, abbreviation_same}
-use Rattle.zrule.proofs.Settling.{IsPause, PausesAtMost, pauses_fine, pauses_there, pauses_none, room_there, admits_is}
-use Rattle.zrule.proofs.Fitting.{IsIn, exists_in, named_in, length_with, covered, fits_there, Mid, put_mid, GivenIn, stored_mid}
+use Rattle.zrule.proofs.Settling.{PausesAtMost, pauses_fine, pauses_there, pauses_none, room_there, admits_is}
+use Rattle.zrule.proofs.Fitting.{IsIn, exists_in, named_in, covered, fits_there, Mid, put_mid, GivenIn, stored_mid}
 use Rattle.zrule.proofs.Memory.{global_put}
 use Rattle.zrule.proofs.Parts.{Hold, HoldsOne, narrowed_fits, variable_there, small_is}
 use Rattle.zrule.proofs.Stepping.{fetch_is, done_at, made_by, step_is}

@@ -1,6 +1,6 @@
 -- What holds of both edges of an instruction holds of whatever may come of it.
-use Rattle.std.proofs.Common.{◌≡◌, ◌↔◌, ℕ, ◌+◌, ◌<◌, ◌≤◌, arith, Bool, true, false, List, Option, Some, None, refl, sym, ap, subst, ◌∙◌, length}
-use Rattle.std.specs.Prelude.{IfSome, option_map, slice_get, slice_index_or, nat_lt, ◌-◌}
+use Rattle.std.proofs.Common.{◌≡◌, ◌↔◌, ℕ, ◌<◌, ◌≤◌, arith, Bool, true, false, List, Option, Some, None, sym, ap, subst, ◌∙◌, length}
+use Rattle.std.specs.Prelude.{IfSome, slice_get, slice_index_or, nat_lt, ◌-◌}
 use Rattle.std.proofs.lemmas.Option.{same_Some, get_or_from_slice_get}
 use Rattle.std.proofs.lemmas.Bool.{le-ltb}
 use Rattle.zcode.specs.Instruction.{Instruction}

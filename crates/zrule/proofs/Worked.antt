@@ -1,5 +1,5 @@
 -- Values of the definitions, computed.
-use Rattle.std.proofs.Common.{◌≡◌, ℤ, pos, negsuc, int_le, Option,  ◌↔◌, ◌⊎◌, inl, inr, ℕ, zero, suc, ◌+◌, ◌*◌, ◌<◌, ◌≤◌, ◌∙◌, Bool, true, false, List, [], ◌∷◌, ◌++◌, replicate, Some, None, refl, sym, ap, subst, arith, nat_lt, if◌then◌else◌}
+use Rattle.std.proofs.Common.{◌≡◌, ℤ, pos, negsuc, int_le, Option, ◌↔◌, ◌⊎◌, inl, inr, ℕ, zero, suc, ◌+◌, ◌*◌, ◌<◌, ◌≤◌, ◌∙◌, Bool, true, false, List, [], ◌∷◌, ◌++◌, replicate, Some, None, refl, sym, ap, subst, arith, nat_lt, if◌then◌else◌}
 use Rattle.std.specs.Prelude.{◌≢◌, ◌==◌, ◌||◌, ◌+ℤ◌}
 use Rattle.std.proofs.lemmas.Bool.{cases_lt, le-ltb}
 use Rattle.std.proofs.lemmas.Option.{same_Some}
@@ -20,7 +20,7 @@ use Rattle.zdomain.specs.Domain.{In, Within}
 use Rattle.zdomain.specs.Interval.{point, all_words, in_order, interval_operations}
 use Rattle.zdomain.specs.IntervalLaw.{interval_sound}
 use Rattle.zflow.specs.declared.parts.Lead.TheVariants.{Ahead}
-use Rattle.zflow.specs.Transfer.{Shape, demands_of, outcome_of, outcome_at}
+use Rattle.zflow.specs.Transfer.{Shape, demands_of, outcome_of}
 use Rattle.zstate.specs.State.{Frame}
 use Rattle.zcert.specs.declared.parts.Range.{Range}
 use Rattle.zcert.specs.Certificate.{Certificate}
@@ -30,7 +30,7 @@ use Rattle.zrule.specs.Numbers.{number_of}
 use Rattle.zrule.specs.Claims.{Entry, Claims, is_inside, claims_of}
 use Rattle.zrule.specs.Bytes.{IsWithin, IsChanging, IsSizePlace, IsTableFrame, read_length, IsOpen, IsClosed, header, a_global, a_default, an_entry, a_property, an_abbreviation, frozen, static, first, next, data_length}
 use Rattle.zrule.specs.Described.{Fits, FitsWith}
-use Rattle.zrule.specs.Rules.{global_in, Covers, Leads, GoesOn, Asks}
+use Rattle.zrule.specs.Rules.{global_in, IsNamed, Covers, Leads, GoesOn, Asks}
 use Rattle.zrule.proofs.Instances.{by_answers}
 
 -- ---- numbers of rules
@@ -139,6 +139,14 @@ unknown_height : asks Height (all_words ∷ []) [] store_any
 unfolding store_any operation_of demands_of small
 unknown_height = λ known. absurd (let none = known (omega arith, omega arith) in cc)
 
+-- nor of locals
+store_third : Instruction
+store_third = plain opcodes.Store (Variable 1 ∷ Variable 3 ∷ [])
+
+unknown_local : asks Local (all_words ∷ []) [] store_third × (asks Local (point 1 ∷ []) [] store_third → ⊥)
+unfolding store_third operation_of demands_of small
+unknown_local = (λ known. absurd (let none = known (omega arith, omega arith) in cc), λ l. omega (arith, (l (λ there. refl)).0.1.0))
+
 -- of two locals the second is there and the third isn't: read, given a result, or named
 two : List Interval
 two = point 4 ∷ point 4 ∷ []
@@ -165,6 +173,14 @@ a_global_named : asks Local [] [] (names_local 16) × (asks Local [] [] (names_l
 unfolding operation_of demands_of small
 a_global_named = (λ known. ((omega arith, tt), tt, (omega arith, omega arith)), λ l. omega (arith, (l (λ there. refl)).2.1))
 
+-- a constant is a word, and a variable a byte
+many : Claims Interval
+many = record small { globals = replicate 241 (point 0) }
+
+numbered : IsNamed interval_operations many (before [] []) (Constant 65535) × (IsNamed interval_operations many (before [] []) (Constant 65536) → ⊥) × IsNamed interval_operations many (before [] []) (Variable 255) × (IsNamed interval_operations many (before [] []) (Variable 256) → ⊥)
+unfolding many
+numbered = (omega arith, λ n. omega (arith, n), (omega arith, omega arith), λ n. omega (arith, n.0))
+
 -- a divisor may be anything but 0
 divide : Instruction
 divide = storing opcodes.Div (Constant 7 ∷ Variable 1 ∷ []) 1
@@ -174,8 +190,8 @@ unfolding divide operation_of demands_of small
 divisors = (λ zero. zero.member.0.le, λ zero. zero.member.1.le, λ d. d (record { word = omega arith; member = (record { le = tt }, record { le = tt }) }))
 
 -- routine 1 may return 0 and not 1, and the main code nothing
-jz_returning : ℤ → Instruction
-jz_returning offset = branching opcodes.Jz (Variable 1 ∷ []) offset
+jz : ℤ → Instruction
+jz offset = branching opcodes.Jz (Variable 1 ∷ []) offset
 
 any_local : List Interval
 any_local = all_words ∷ []
@@ -183,18 +199,28 @@ any_local = all_words ∷ []
 low_local : List Interval
 low_local = from (pos 1) (pos 5) refl ∷ []
 
-returns_zero : asks Returned any_local [] (jz_returning (pos 0))
-unfolding jz_returning any_local operation_of outcome_of small
-returns_zero = by_answers small (jz_returning (pos 0)) (before any_local []) _ (omega arith, λ x inside. inside) tt
+returns_zero : asks Returned any_local [] (jz (pos 0))
+unfolding jz any_local operation_of outcome_of small
+returns_zero = by_answers small (jz (pos 0)) (before any_local []) _ (omega arith, λ x inside. inside) tt
 
-other_returns : (asks Returned any_local [] (jz_returning (pos 1)) → ⊥) × (of_routine 0 Returned any_local [] (jz_returning (pos 0)) → ⊥)
-unfolding jz_returning any_local operation_of outcome_of small
+other_returns : (asks Returned any_local [] (jz (pos 1)) → ⊥) × (of_routine 0 Returned any_local [] (jz (pos 0)) → ⊥)
+unfolding jz any_local operation_of outcome_of small
 other_returns = (λ r. ((r _ (true, refl)).1 1 (interval_sound.single 1 (omega arith))).member.1.le, λ r. omega (arith, (r _ (true, refl)).0))
 
 -- a branch that is never taken returns nothing
-never_returns : of_routine 0 Returned low_local [] (jz_returning (pos 0))
-unfolding jz_returning low_local operation_of outcome_of small
-never_returns = by_answers small (jz_returning (pos 0)) (before low_local []) _ tt tt
+never_returns : of_routine 0 Returned low_local [] (jz (pos 0))
+unfolding jz low_local operation_of outcome_of small
+never_returns = by_answers small (jz (pos 0)) (before low_local []) _ tt tt
+
+-- nor does one that leaves a local no value
+narrowed_out : of_routine 0 Returned (from (pos 0) (pos 1) refl ∷ []) [] (branching opcodes.Jl (Variable 1 ∷ Variable 1 ∷ []) (pos 0))
+unfolding operation_of outcome_of small
+narrowed_out = by_answers small (branching opcodes.Jl (Variable 1 ∷ Variable 1 ∷ []) (pos 0)) (before (from (pos 0) (pos 1) refl ∷ []) []) _ tt tt
+
+-- a text has an end
+no_text : asks Text [] [] (plain opcodes.Print []) → ⊥
+unfolding operation_of demands_of
+no_text t = let found = t.found in cc
 
 -- a variable that is named by one value is known, up to 255
 store_named : Instruction
@@ -243,20 +269,20 @@ high = (by_answers small push (before [] (replicate 63 (point 7))) _ (omega arit
 -- ---- edges
 
 -- an edge leads to the one place that is so far behind another
-leads_there : (f : Shape Interval) (q : ℕ) (d : ℤ) (p : ℕ) → (pos q +ℤ d) ≡ pos p → GoesOn interval_operations small 1 f q (Ahead d) → Leads interval_operations small 1 f p
-leads_there f q d p same (to, at, leads) = subst (Leads interval_operations small 1 f) (same_place to p (sym at ∙ same)) leads
+leads_there : (r : ℕ) (f : Shape Interval) (q : ℕ) (d : ℤ) (p : ℕ) → (pos q +ℤ d) ≡ pos p → GoesOn interval_operations small r f q (Ahead d) → Leads interval_operations small r f p
+leads_there r f q d p same (to, at, leads) = subst (Leads interval_operations small r f) (same_place to p (sym at ∙ same)) leads
   where
     same_place : (m n : ℕ) → pos m ≡ pos n → m ≡ n
     same_place m n e = cc
 
 -- not where none is listed
 unlisted : (f : Shape Interval) (q : ℕ) (d : ℤ) (p : ℕ) → (pos q +ℤ d) ≡ pos p → small.entry p ≡ None → GoesOn interval_operations small 1 f q (Ahead d) → ⊥
-unlisted f q d p same none goes = let leads = leads_there f q d p same goes in let listed = leads.listed in cc
+unlisted f q d p same none goes = let leads = leads_there 1 f q d p same goes in let listed = leads.listed in cc
 
 -- nor where fewer values are
 uncovered : (a b : Interval) (q : ℕ) (d : ℤ) (p x : ℕ) → (pos q +ℤ d) ≡ pos p → small.entry p ≡ Some (of_one b) → In interval_operations a x → (In interval_operations b x → ⊥) → GoesOn interval_operations small 1 (before (a ∷ []) []) q (Ahead d) → ⊥
 uncovered a b q d p x same listed inside outside goes =
-    let leads = leads_there (before (a ∷ []) []) q d p same goes in
+    let leads = leads_there 1 (before (a ∷ []) []) q d p same goes in
     let is : leads.entry ≡ of_one b = same_Some leads.entry (of_one b) (sym leads.listed ∙ listed) in
     outside ((subst (λ (e : Entry Interval). Covers interval_operations (before (a ∷ []) []) e.shape) is leads.covered).locals.0 x inside)
 
@@ -264,9 +290,6 @@ covered : (a b : Interval) (p : ℕ) → small.entry p ≡ Some (of_one b) → W
 covered a b p listed within = record { entry = of_one b; listed = listed; same = refl; covered = record { locals = (within, tt); slots = tt } }
 
 -- of a branch that is never taken only what follows has to be listed, and else where it leads too
-jz : ℤ → Instruction
-jz offset = branching opcodes.Jz (Variable 1 ∷ []) offset
-
 one_edge : asks Successor low_local [] (jz (pos 500))
 unfolding jz low_local operation_of demands_of outcome_of small
 one_edge = λ divides. (refl, by_answers small (jz (pos 500)) (before low_local []) _ tt (λ low. (13, refl, covered (from (pos 1) (pos 5) refl) (from (pos 1) (pos 5) refl) 13 refl (λ x inside. inside))))
@@ -274,6 +297,14 @@ one_edge = λ divides. (refl, by_answers small (jz (pos 500)) (before low_local 
 both_edges : asks Successor any_local [] (jz (pos 500)) → ⊥
 unfolding jz any_local operation_of demands_of outcome_of small
 both_edges s = unlisted _ 13 (pos 498) 511 refl refl ((s tt).1 _ (true, refl) (omega arith))
+
+-- what is listed for one routine isn't for another
+elsewhere : of_routine 2 Successor low_local [] (jz (pos 500)) → ⊥
+unfolding jz low_local operation_of demands_of outcome_of small
+elsewhere s =
+    let leads = leads_there 2 _ 13 (pos 0) 13 refl ((s tt).1 _ (false, refl) (omega arith)) in
+    let is : leads.entry ≡ of_one (from (pos 1) (pos 5) refl) = same_Some leads.entry (of_one (from (pos 1) (pos 5) refl)) (sym leads.listed) in
+    omega (arith, ap (λ (e : Entry Interval). e.routine) is, leads.same)
 
 -- what follows has to be listed where the branch may not be taken
 abbrev longer : Instruction → Instruction

@@ -1,5 +1,5 @@
 -- What rules ask of each edge of an instruction (own).
-use Rattle.std.specs.Prelude.{ℕ, ◌≤◌, Option, IfSome, length}
+use Rattle.std.specs.Prelude.{ℕ, ◌≤◌, IfSome, length}
 use Rattle.zdomain.specs.Domain.{SetOperations}
 use Rattle.zrule.specs.declared.exits.Exit.{Exit}
 use Rattle.zrule.specs.declared.exits.Exits.{Exits}

@@ -9,9 +9,9 @@ ghost use Rattle.zcert.specs.Listed.{listed_at, seen};
 ghost use Rattle.zrule.specs.Claims.{claims_of, entry_of};
 ghost use Rattle.zrule.specs.Rules.{Covers, GoesOn, Leads, Returns, Takes, TakesInPlace};
 
+use crate::exits::Exit;
 use zcert::{Certificate, Instruction};
 use zdomain::{Domain, Interval};
-use crate::exits::Exit;
 use zflow::{Known, Lead};
 
 /// The greatest height of a stack behind an edge.

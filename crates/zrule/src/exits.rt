@@ -45,7 +45,12 @@ pub(crate) fn exits_of(
     requires { listed_at certificate.now.instructions listed.now.address ≡ Some (seen listed.now) }
     ensures { IsExits interval_operations certificate.now.globals instruction.now (entry_of (seen listed.now)).shape result }
 {
-    let flow = flow_of(certificate.globals(), listed.locals, listed.slots, instruction);
+    let flow = flow_of(
+        certificate.globals(),
+        listed.locals,
+        listed.slots,
+        instruction,
+    );
     Exits {
         popped: flow.popped,
         demands: flow.demands,

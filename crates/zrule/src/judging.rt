@@ -14,8 +14,8 @@ ghost use Rattle.zrule.specs.declared.rule.Rule.{Rule as ARule};
 ghost use Rattle.zrule.specs.Claims.{claims_of, entry_of, Entry};
 ghost use Rattle.zrule.specs.Rules.{Asks, IsThere, HasFixedText, Keeps, IsLowestBroken};
 
-use crate::exits::{Exit, Exits, exits_of};
 use crate::edges::{goes_on, is_low, returns, stores};
+use crate::exits::{Exit, Exits, exits_of};
 use crate::operands::{has_height, has_locals, is_known};
 use crate::rule::Rule;
 use zcert::{Certificate, Instruction};
@@ -114,11 +114,10 @@ fn edges_keep(
         Some(edge) => edge_keeps(certificate, listed, instruction, edge, near, rule),
         None => true,
     };
-    held
-        && match &exits.failed {
-            Some(edge) => edge_keeps(certificate, listed, instruction, edge, near, rule),
-            None => true,
-        }
+    held && match &exits.failed {
+        Some(edge) => edge_keeps(certificate, listed, instruction, edge, near, rule),
+        None => true,
+    }
 }
 
 /// The text behind the opcode byte of an instruction that is there ends in memory, since that was decoded, and no play changes a
