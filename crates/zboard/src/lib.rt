@@ -5,11 +5,12 @@ mod board;
 mod giving;
 mod in_place;
 mod place;
+mod quick;
 mod row;
 mod running;
 mod table;
 
 pub use board::Board;
-pub use row::{Action, Row, Slot};
+pub use row::{Action, Global, Row, Slot};
 pub use running::{Played, play};
 pub use table::row_of;
