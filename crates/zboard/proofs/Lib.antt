@@ -1,6 +1,7 @@
 pub mod SlotLemmas
 pub mod Landing
 pub mod StepLemmas
+pub mod Reading
 pub mod Families
 pub mod Quiet
 pub mod Stepped
