@@ -8,3 +8,4 @@ pub mod Stepped
 pub mod Inside
 pub mod Playing
 pub mod Rows
+mod Worked
