@@ -1,0 +1,47 @@
+-- Values of the definitions, computed.
+use Rattle.std.proofs.Common.{◌≡◌, ℕ, false, List, [], ◌∷◌, ◌++◌, replicate, Some, None, refl, arith}
+use Rattle.std.specs.Prelude.{pos}
+use Rattle.zstory.specs.LoadedStory.{LoadedStory}
+use Rattle.zcode.specs.Reading.{instruction_by, head_at, short_head, played_opcode, checked_head, operand_at, operands_at, store_if, branch_if, text_if}
+use Rattle.zcode.specs.Playable.{playable}
+use Rattle.zcode.specs.Operation.{operation_of}
+use Rattle.zcert.specs.Certificate.{Certificate}
+use Rattle.zdomain.specs.declared.interval.Interval.{Interval}
+use Rattle.zdomain.specs.Interval.{point}
+use Rattle.zstate.specs.State.{opening}
+use Rattle.zcheck.specs.Acceptance.{Acceptance}
+use Rattle.zplay.specs.Session.{first_at, game_of, stands_in}
+
+-- a jump by the word on the stack at 64, 66 and 68, and `nop` at 70, where the story begins; its globals would begin at 71
+memory : List ℕ
+memory = replicate 7 0 ++ 70 ∷ replicate 5 0 ++ 71 ∷ replicate 50 0 ++ 0xAC ∷ 0 ∷ 0xAC ∷ 0 ∷ 0xAC ∷ 0 ∷ 0xB4 ∷ []
+
+story : LoadedStory
+story = record { memory = memory; objects = 0 }
+
+-- 3 or 4
+either : Interval
+either = record { lo = pos 3; hi = pos 4; ordered = omega arith }
+
+-- 5 is the topmost of two slots at 64, one of two words at 66, and 68 isn't listed
+certificate : Certificate Interval
+certificate = record {
+  identity = record { release = 0; serial = replicate 6 0; checksum = 0; length = 71 };
+  ranges = [];
+  globals = replicate 240 (point 3);
+  routines = [];
+  instructions = record { address = 64; routine = 0; locals = []; slots = point 4 ∷ point 5 ∷ [] } ∷ record { address = 66; routine = 0; locals = []; slots = either ∷ [] } ∷ record { address = 70; routine = 0; locals = []; slots = point 6 ∷ [] } ∷ [];
+}
+
+a : Acceptance
+a = record { story = story; certificate = certificate; listing = record { records = []; routines = [] } }
+
+-- a jump whose certificate leaves it one word, one of two, one that isn't listed, and what is no jump
+firsts : (first_at a 64 ≡ Some 5) × (first_at a 66 ≡ None) × (first_at a 68 ≡ None) × (first_at a 70 ≡ None)
+unfolding a certificate either story memory operation_of playable instruction_by head_at short_head played_opcode checked_head operand_at operands_at store_if branch_if text_if
+firsts = (refl, refl, refl, refl)
+
+-- it is played as it opens, where only what is listed is played, with the usual limit of frames
+games : ((game_of a).other ≡ opening story) × ((game_of a).setting.limit ≡ 1024) × ((game_of a).setting.scope.instructions 70 ≡ false) × ((game_of a).first 64 ≡ first_at a 64) × (stands_in a None ≡ opening story)
+unfolding a
+games = (refl, refl, refl, refl, refl)
