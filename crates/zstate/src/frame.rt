@@ -68,6 +68,7 @@ impl Frame {
     }
 
     /// The locals, the first one first.
+    #[inline(always)]
     pub fn locals(&self) -> &[u16]
         ensures { result.now ≡ self.now.locals }
     {
@@ -82,6 +83,7 @@ impl Frame {
     }
 
     /// How many words lie on the stack.
+    #[inline(always)]
     pub fn height(&self) -> usize
         ensures { result ≡ length self.now.stack }
     {
@@ -89,6 +91,7 @@ impl Frame {
     }
 
     /// The word with so many above it on the stack.
+    #[inline(always)]
     pub(crate) fn slot(&self, above: usize) -> u16
         requires { above < length self.now.stack }
         ensures { result ≡ slice_index self.now.stack above }
@@ -97,14 +100,18 @@ impl Frame {
     }
 
     /// Takes so many words off the stack.
+    #[inline(always)]
     pub(crate) fn pop(&mut self, count: usize)
         requires { count ≤ length self.old.stack }
         ensures { self.new ≡ record self.old { stack = drop count self.old.stack } }
     {
-        self.stack.truncate(self.stack.len() - count);
+        if count > 0 {
+            self.stack.truncate(self.stack.len() - count);
+        }
     }
 
     /// Whether it has a variable: the stack and each global are there, and a local below its count (Z 6.4.2).
+    #[inline(always)]
     pub fn has(&self, variable: u8) -> bool
         ensures { result ≡ exists variable self.now }
     {
@@ -113,6 +120,7 @@ impl Frame {
 
     /// Whether a variable takes one word more, where so many were taken off the stack before: the stack takes no more than
     /// 65,535 words (own).
+    #[inline(always)]
     pub fn has_room(&self, variable: u8, before: usize) -> bool
         requires { before ≤ length self.now.stack }
         ensures { result ≡ has_room variable (record self.now { stack = drop before self.now.stack }) }
@@ -122,6 +130,7 @@ impl Frame {
 
     /// Takes so many words off the stack, and puts one on it. Memory is wanted only where none is taken off; an error
     /// changes nothing.
+    #[inline(always)]
     pub(crate) fn exchange(&mut self, count: usize, word: u16) -> Result<(), AllocError>
         requires { count ≤ length self.old.stack }
         ensures ok { OnOk result (self.new ≡ record self.old { stack = word ∷ drop count self.old.stack }) }
@@ -138,6 +147,7 @@ impl Frame {
     }
 
     /// Writes the top of the stack in place.
+    #[inline(always)]
     pub(crate) fn set_top(&mut self, word: u16)
         requires { 0 < length self.old.stack }
         ensures { self.new ≡ record self.old { stack = slice_set self.old.stack 0 word } }
@@ -147,6 +157,7 @@ impl Frame {
     }
 
     /// Writes a local.
+    #[inline(always)]
     pub(crate) fn set_local(&mut self, index: usize, word: u16)
         requires { index < length self.old.locals }
         ensures { self.new ≡ record self.old { locals = slice_set self.old.locals index word } }

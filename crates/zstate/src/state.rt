@@ -161,6 +161,7 @@ impl State {
     }
 
     /// Takes so many words off the stack.
+    #[inline(always)]
     pub fn pop(&mut self, count: usize)
         requires { count ≤ length self.old.frame.stack }
         ensures { self.new ≡ popped count self.old }
@@ -169,6 +170,7 @@ impl State {
     }
 
     /// A global, by its variable's number.
+    #[inline(always)]
     fn global(&self, story: &Story, variable: u8) -> u16
         requires memory { length self.now.memory ≡ length story.now.memory }
         requires named { 16 ≤ variable }
@@ -179,6 +181,7 @@ impl State {
         BigEndian::read_u16(&memory[at..])
     }
 
+    #[inline(always)]
     #[tactic(auto, unfolding(crate::specs::State::read_named), using(crate::proofs::Reading::existing))]
     fn read_named(&self, story: &Story, variable: u8) -> Result<u16, Halt>
         requires memory { length self.now.memory ≡ length story.now.memory }
@@ -196,6 +199,7 @@ impl State {
     }
 
     /// A variable's value, where so many words were taken off the stack before, and how many are taken with it.
+    #[inline(always)]
     #[tactic(auto, unfolding(crate::specs::State::read_variable), using(crate::proofs::Reading::reading))]
     fn read_variable(
         &self,
@@ -218,6 +222,7 @@ impl State {
         }
     }
 
+    #[inline(always)]
     #[tactic(auto, unfolding(crate::specs::State::read_operand))]
     fn read_operand(
         &self,
@@ -237,6 +242,7 @@ impl State {
     }
 
     /// The values of an instruction's operands, read from left to right (Z 4.2).
+    #[inline(always)]
     pub fn read_operands(&self, story: &Story, operands: &[Operand]) -> Result<Values, Halt>
         requires memory { length self.now.memory ≡ length story.now.memory }
         requires few { length operands.now ≤ 4 }
@@ -255,6 +261,7 @@ impl State {
 
     /// The value of the variable of a number, where so many words were taken off the stack before. The top of the stack is
     /// read in place (Z 6.3.4).
+    #[inline(always)]
     #[tactic(auto, unfolding(crate::specs::State::read_in_place), using(crate::proofs::Reading::reading, crate::proofs::Reading::existing))]
     pub fn read_in_place(&self, story: &Story, number: u16, before: usize) -> Result<u16, Halt>
         requires memory { length self.now.memory ≡ length story.now.memory }
@@ -277,6 +284,7 @@ impl State {
     }
 
     /// Writes a global.
+    #[inline(always)]
     fn set_global(&mut self, story: &Story, variable: u8, word: u16)
         requires memory { length self.old.memory ≡ length story.now.memory }
         requires named { 16 ≤ variable }
@@ -289,6 +297,7 @@ impl State {
     }
 
     /// Writes a local that is there, or a global.
+    #[inline(always)]
     #[tactic(auto, unfolding(crate::specs::State::put_named))]
     pub fn put_named(&mut self, story: &Story, variable: u8, word: u16)
         requires memory { length self.old.memory ≡ length story.now.memory }
@@ -304,6 +313,7 @@ impl State {
     }
 
     /// Writes a variable that is there; the top of the stack is written in place (Z 6.3.4).
+    #[inline(always)]
     #[tactic(auto, unfolding(crate::specs::State::put_in_place))]
     pub fn put_in_place(&mut self, story: &Story, variable: u8, word: u16)
         requires memory { length self.old.memory ≡ length story.now.memory }
@@ -320,6 +330,7 @@ impl State {
 
     /// Takes so many words off the stack, and puts one into a variable that is there. The stack is pushed. Memory is wanted
     /// only where it gets longer; an error changes nothing.
+    #[inline(always)]
     #[tactic(auto, unfolding(crate::specs::State::put))]
     pub fn put(
         &mut self,

@@ -20,18 +20,21 @@ pub struct Story {
     memory: Vec<u8>,
     objects: u8,
     verify_sum: u16,
+    /// Where the globals begin: a word of the header, which each access to a global would read.
+    globals: usize,
 }
 
 impl Model for Story {
     ghost use Rattle.std.specs.Prelude.{◌≡◌, ◌%◌, sum, drop};
     ghost use Rattle.zstory.specs.LoadedStory.{LoadedStory, IsSound};
     ghost use Rattle.zstory.specs.Objects.{IsObjectCount};
+    ghost use Rattle.zstory.specs.Header.{globals as place_of_globals};
 
     ghost Value = { LoadedStory };
 
     ghost view = { λ s. record { memory = s.memory.items; objects = s.objects } };
 
-    ghost invariant = { λ s. IsSound s.memory.items × IsObjectCount s.memory.items s.objects × (s.verify_sum ≡ sum (drop 0x40 s.memory.items) % 65536) };
+    ghost invariant = { λ s. IsSound s.memory.items × IsObjectCount s.memory.items s.objects × (s.verify_sum ≡ sum (drop 0x40 s.memory.items) % 65536) × (s.globals ≡ place_of_globals s.memory.items) };
 }
 
 impl Story {
@@ -145,7 +148,7 @@ impl Story {
         ensures within { result + 480 ≤ static_base self.now }
         ensures inside { result + 480 ≤ length self.now.memory }
     {
-        self.word(header::GLOBALS)
+        self.globals
     }
 
     /// The byte address of the abbreviations table, wherever it is (Z 3.3).
@@ -189,10 +192,12 @@ impl Story {
         let (memory, verify_sum) = copied(alloc, part)?;
         let memory = with_flags_cleared(memory);
         let objects = object_count(&memory);
+        let globals = usize::from(word_at(&memory, header::GLOBALS));
         Ok(Story {
             memory,
             objects,
             verify_sum,
+            globals,
         })
     }
 
