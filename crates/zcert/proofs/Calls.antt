@@ -15,7 +15,7 @@ use Rattle.zcert.specs.Reading.{address_fits}
 use Rattle.zcert.specs.Building.{Progress, opening, before_ranges, before_globals, before_routines, before_instructions, before_values, taken, all_taken, IsDue, after_release, after_serial, after_checksum, after_loaded_length, after_range_count, after_range_first, after_range_last, after_global, after_routine_count, after_routine_address, after_local_count, after_routine_result, after_instruction_count, after_instruction_address, after_routine_number, after_height, after_value}
 use Rattle.zcert.specs.Fields.{IsField, IsReached}
 use Rattle.zcert.specs.View.{Takes}
-use Rattle.zcert.proofs.Stepping.{bind_ok, need_ok, ok_is}
+use Rattle.zcert.specs.FormatLaw.Stepping.{bind_ok, need_ok, ok_is}
 use Rattle.zcert.proofs.Found.{address_is}
 
 -- ---- a part that is unfinished is as it should be

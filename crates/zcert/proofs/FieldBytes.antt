@@ -14,8 +14,8 @@ use Rattle.zcert.specs.Steps.{number_at, serial_at}
 use Rattle.zcert.specs.Format.{Format}
 use Rattle.zcert.specs.Building.{Progress, InTurn, taken, all_taken, after_release, after_serial, after_checksum, after_loaded_length, after_range_count, after_range_first, after_range_last, after_global, after_routine_count, after_routine_address, after_local_count, after_routine_result, after_instruction_count, after_instruction_address, after_routine_number, after_height, after_value}
 use Rattle.zcert.specs.Fields.{field_bytes, IsField, as_field, field_at}
-use Rattle.zcert.proofs.Stepping.{IsBytes, IsBytes-append, IsBytes-number, by_place, width_some, Takes, bind_ok, ok_is, number_takes, number_again, serial_takes, serial_again}
-use Rattle.zcert.proofs.Formats.{IsFormat}
+use Rattle.zcert.specs.FormatLaw.Stepping.{IsBytes-append, IsBytes-number, by_place, width_some, bind_ok, ok_is, number_takes, number_again, serial_takes, serial_again}
+use Rattle.zcert.specs.FormatLaw.{IsBytes, Takes, IsFormat}
 use Rattle.zcert.proofs.Found.{each_below}
 use Rattle.zcert.proofs.Rest.{rest_of, HasMore, reads_on}
 

@@ -17,8 +17,8 @@ use Rattle.zcert.specs.Steps.{need, number_at, serial_at}
 use Rattle.zcert.specs.Format.{Format}
 use Rattle.zcert.specs.Spelling.{identity_bytes, range_bytes, values_bytes, routine_bytes, instruction_bytes, counted, heading, spelling, IsIdentity, IsRange, AreApart, Rise, IsRoutine, IsInstruction, HasSpelling}
 use Rattle.zcert.specs.Reading.{magic_at, version_at, heading_at, identity_at, range_at, ranges_at, all_ranges_at, address_fits, values_at, routine_at, routines_at, all_routines_at, instruction_at, instructions_at, all_instructions_at, at_end, reading}
-use Rattle.zcert.proofs.Stepping.{IsBytes, Takes, Takes-then, bind_ok, need_ok, ok_is, number_takes, serial_takes}
-use Rattle.zcert.proofs.Formats.{IsFormat}
+use Rattle.zcert.specs.FormatLaw.Stepping.{Takes-then, bind_ok, need_ok, ok_is, number_takes, serial_takes}
+use Rattle.zcert.specs.FormatLaw.{IsBytes, Takes, IsFormat}
 
 -- what was taken is all
 all_taken : (bytes text rest : List ℕ) → Takes bytes text rest → rest ≡ [] → bytes ≡ text

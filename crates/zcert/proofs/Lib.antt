@@ -1,7 +1,6 @@
 mod Sample
 mod Worked
-pub mod Stepping
-pub mod Formats
+pub mod Bare
 pub mod Found
 pub mod Only
 pub mod Rest

@@ -21,8 +21,8 @@ use Rattle.zcert.specs.Format.{nonempty, interval_format}
 use Rattle.zcert.specs.Reading.{magic_at, version_at, heading_at, identity_at, range_at, ranges_at, all_ranges_at, address_fits, values_at, routine_at, routines_at, all_routines_at, instruction_at, instructions_at, all_instructions_at, at_end, reading}
 use Rattle.zcert.specs.Spelling.{spelling, HasSpelling}
 use Rattle.zcert.specs.Longest.{IsDecidedBy, NoneIsLonger}
-use Rattle.zcert.proofs.Stepping.{IsBytes-append, by_place}
-use Rattle.zcert.proofs.Formats.{interval_is_format}
+use Rattle.zcert.specs.FormatLaw.Stepping.{IsBytes-append, by_place}
+use Rattle.zcert.specs.FormatLaw.Intervals.{interval_is_format}
 use Rattle.zcert.proofs.Found.{found}
 use Rattle.zcert.proofs.Only.{only}
 use Rattle.zcert.proofs.Makes.{IsBytes-spelling}

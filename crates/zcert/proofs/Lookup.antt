@@ -11,7 +11,6 @@ use Rattle.std.proofs.lemmas.Bool.{cases_lt, false≢true}
 use Rattle.std.specs.declared.cmp.Ordering.TheVariants.{Less, Equal, Greater}
 use Rattle.std.proofs.lemmas.Bool.Decides.{nat_tests}
 use Rattle.std.proofs.lemmas.Option.{get_or_from_slice_get, slice_get_within, slice_get-map}
-use Rattle.zdomain.specs.declared.interval.Interval.{Interval}
 use Rattle.zcert.specs.declared.contents.Stored.{Stored}
 use Rattle.zcert.specs.Certificate.{Instruction}
 use Rattle.zcert.specs.Contents.{stored_instruction}
@@ -22,10 +21,10 @@ use Rattle.zcert.proofs.Rising.{some_is, none_there, above}
 abbrev address : Stored → ℕ
 address s = s.address
 
-abbrev instructions : List Interval → List Stored → List (Instruction Interval)
+abbrev instructions : {V : Type 0} → List V → List Stored → List (Instruction V)
 instructions values ss = map (stored_instruction values) ss
 
-pub rise_stored : (values : List Interval) (floor : ℕ) (ss : List Stored) → Rise (λ (i : Instruction Interval). i.address) floor (instructions values ss) → Rise address floor ss
+pub rise_stored : {V : Type 0} (values : List V) (floor : ℕ) (ss : List Stored) → Rise (λ (i : Instruction V). i.address) floor (instructions values ss) → Rise address floor ss
 rise_stored values floor [] rise = tt
 rise_stored values floor (s ∷ ss) rise = (rise.0, rise_stored values (s.address + 1) ss rise.1)
 
@@ -39,7 +38,7 @@ listed {V} floor (x ∷ is) (suc k) i rise e =
     rw other (listed (x.address + 1) is k i rise.1 e)
 
 -- where none has the address, none is listed there
-not_listed : (values : List Interval) (ss : List Stored) (at : ℕ) → ((k : ℕ) (s : Stored) → slice_get ss k ≡ Some s → s.address ≢ at) → listed_at (instructions values ss) at ≡ None
+not_listed : {V : Type 0} (values : List V) (ss : List Stored) (at : ℕ) → ((k : ℕ) (s : Stored) → slice_get ss k ≡ Some s → s.address ≢ at) → listed_at (instructions values ss) at ≡ None
 not_listed values [] at none = refl
 not_listed values (x ∷ ss) at none =
     let differs : x.address ≢ at = none 0 x refl in
@@ -80,7 +79,7 @@ less_differs x y e = grind (arith, nat_tests)
 greater_differs : (x y : ℕ) → nat_cmp x y ≡ Greater → x ≢ y
 greater_differs x y e = grind (arith, nat_tests)
 
-no_index : (values : List Interval) (ss : List Stored) (at i : ℕ) → IsPartitionPoint (λ s. nat_cmp s.address at ≡ Less) (λ s. nat_cmp s.address at ≡ Greater) ss i → listed_at (instructions values ss) at ≡ None
+no_index : {V : Type 0} (values : List V) (ss : List Stored) (at i : ℕ) → IsPartitionPoint (λ s. nat_cmp s.address at ≡ Less) (λ s. nat_cmp s.address at ≡ Greater) ss i → listed_at (instructions values ss) at ≡ None
 no_index values ss at i point =
     not_listed values ss at (λ k s e.
     let within = slice_get_within ss k s e in
@@ -90,7 +89,7 @@ no_index values ss at i point =
       | inr le ↦ greater_differs s.address at (subst (λ (x : Stored). nat_cmp x.address at ≡ Greater) same (point.1 k s le within))
     ])
 
-this_index : (values : List Interval) (ss : List Stored) (at k : ℕ) → Rise (λ (i : Instruction Interval). i.address) 0 (instructions values ss) → k < length ss → HoldsAt (λ s. nat_cmp s.address at ≡ Equal) ss k → (o : Option Stored) → slice_get ss k ≡ o → listed_at (instructions values ss) at ≡ slice_get (instructions values ss) k
+this_index : {V : Type 0} (values : List V) (ss : List Stored) (at k : ℕ) → Rise (λ (i : Instruction V). i.address) 0 (instructions values ss) → k < length ss → HoldsAt (λ s. nat_cmp s.address at ≡ Equal) ss k → (o : Option Stored) → slice_get ss k ≡ o → listed_at (instructions values ss) at ≡ slice_get (instructions values ss) k
 this_index values ss at k rise lt holds None e = absurd (false≢true (rw e at (slice_get_is_some ss k lt)))
 this_index values ss at k rise lt holds (Some s) e =
     let same : get_or ss k s ≡ s = get_or_from_slice_get ss k s s e in
@@ -99,6 +98,6 @@ this_index values ss at k rise lt holds (Some s) e =
     ap (listed_at (instructions values ss)) (sym here) ∙ listed 0 (instructions values ss) k (stored_instruction values s) rise there ∙ sym there
 
 -- what a binary search answers is the index of what is listed
-pub searched : (values : List Interval) (ss : List Stored) (at : ℕ) (r : Result ℕ ℕ) → Rise (λ (i : Instruction Interval). i.address) 0 (instructions values ss) → IsSearchInRange r (length ss) → IsBinarySearchResult (λ s. nat_cmp s.address at) ss r → Finds (instructions values ss) at (result_ok r)
+pub searched : {V : Type 0} (values : List V) (ss : List Stored) (at : ℕ) (r : Result ℕ ℕ) → Rise (λ (i : Instruction V). i.address) 0 (instructions values ss) → IsSearchInRange r (length ss) → IsBinarySearchResult (λ s. nat_cmp s.address at) ss r → Finds (instructions values ss) at (result_ok r)
 searched values ss at (Ok k) rise range position = (rw (length-map ss (stored_instruction values)) range, this_index values ss at k rise range position (slice_get ss k) refl)
 searched values ss at (Err i) rise range position = no_index values ss at i (position (not_decreasing ss at (rise_stored values 0 ss rise)))

@@ -19,8 +19,8 @@ use Rattle.zcert.specs.Spelling.{identity_bytes, range_bytes, counted, values_by
 use Rattle.zcert.specs.Reading.{reading}
 use Rattle.zcert.specs.Building.{Progress, opening, taken, all_taken}
 use Rattle.zcert.specs.Fields.{field_bytes, IsField, field_at, IsReached, Makes}
-use Rattle.zcert.proofs.Stepping.{IsBytes, IsBytes-append, IsBytes-number, bind_ok, ok_is}
-use Rattle.zcert.proofs.Formats.{IsFormat}
+use Rattle.zcert.specs.FormatLaw.Stepping.{IsBytes-append, IsBytes-number, bind_ok, ok_is}
+use Rattle.zcert.specs.FormatLaw.{IsBytes, IsFormat}
 use Rattle.zcert.proofs.Found.{found}
 use Rattle.zcert.proofs.Only.{heading_again, both_each, only}
 use Rattle.zcert.proofs.Rest.{rest_of, HasMore, reads_on, completes, opens}

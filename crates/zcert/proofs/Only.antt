@@ -15,8 +15,8 @@ use Rattle.zcert.specs.Certificate.{Instruction, Certificate, locals_of}
 use Rattle.zcert.specs.Format.{Format}
 use Rattle.zcert.specs.Spelling.{identity_bytes, range_bytes, values_bytes, routine_bytes, instruction_bytes, counted, heading, spelling, IsIdentity, IsRange, AreApart, Rise, IsRoutine, IsInstruction, HasSpelling}
 use Rattle.zcert.specs.Reading.{magic_at, version_at, heading_at, identity_at, range_at, ranges_at, all_ranges_at, address_fits, values_at, routine_at, routines_at, all_routines_at, instruction_at, instructions_at, all_instructions_at, at_end, reading}
-use Rattle.zcert.proofs.Stepping.{number_again, serial_again}
-use Rattle.zcert.proofs.Formats.{IsFormat}
+use Rattle.zcert.specs.FormatLaw.Stepping.{number_again, serial_again}
+use Rattle.zcert.specs.FormatLaw.{IsFormat}
 
 -- parts one after another, before what follows
 two : (a b rest : List ℕ) → (a ++ b) ++ rest ≡ a ++ (b ++ rest)

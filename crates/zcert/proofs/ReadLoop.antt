@@ -14,8 +14,8 @@ use Rattle.zcert.specs.Reading.{heading_at, reading}
 use Rattle.zcert.specs.Building.{Progress, opening, taken}
 use Rattle.zcert.specs.Fields.{field_at, next_at}
 use Rattle.zcert.specs.View.{Refuses, Answers}
-use Rattle.zcert.proofs.Stepping.{IsBytes, bind_ok, ok_is}
-use Rattle.zcert.proofs.Formats.{IsFormat}
+use Rattle.zcert.specs.FormatLaw.Stepping.{bind_ok, ok_is}
+use Rattle.zcert.specs.FormatLaw.{IsBytes, IsFormat}
 use Rattle.zcert.proofs.Found.{found}
 use Rattle.zcert.proofs.Only.{only}
 use Rattle.zcert.proofs.Rest.{rest_of, read_on, HasMore, reads_on, completes, opens}

@@ -6,11 +6,11 @@ use Rattle.zcert.specs.declared.error.CertError.TheVariants as errors
 use Rattle.zcert.specs.declared.field.Field.{Field}
 use Rattle.zcert.specs.declared.field.Turn.{Turn}
 use Rattle.zcert.specs.declared.field.Turn.TheVariants as turns
-use Rattle.zcert.specs.Format.{Format, interval_format}
+use Rattle.zcert.specs.Format.{Format}
 use Rattle.zcert.specs.Building.{opening}
 use Rattle.zcert.specs.Fields.{field_bytes, IsField, field_at}
 use Rattle.zcert.specs.Refusal.{RefuseInTurn, RefuseAtEnd, RefuseOutOfTurn}
-use Rattle.zcert.proofs.Formats.{IsFormat}
+use Rattle.zcert.specs.FormatLaw.{IsFormat}
 use Rattle.zcert.proofs.Rest.{rest_of, HasMore, reads_on}
 use Rattle.zcert.proofs.FieldBytes.{in_turn_or, again_at, has_more, fields_again}
 use Rattle.zcert.proofs.Makes.{after_heading}
@@ -18,13 +18,6 @@ use Rattle.zcert.proofs.Room.{one_text_more}
 
 pub out_of_turn : {V : Type 0} → RefuseOutOfTurn V
 out_of_turn p f out = elim (in_turn_or f p) [ inl due ↦ absurd (out due) | inr order ↦ order ]
-
--- no bytes are a set
-abbrev pub IsCut : {V : Type 0} → Format V → Type 0
-IsCut format = format.value_at [] ≡ Err errors.Truncated
-
-pub interval_is_cut : IsCut interval_format
-interval_is_cut = refl
 
 module _ {V : Type 0} (format : Format V) (law : IsFormat format) where
   before_last : (fs : List (Field V)) (f : Field V) → AllByRecursion (IsField format) (fs ++ f ∷ []) → AllByRecursion (IsField format) fs × IsField format f
@@ -47,18 +40,18 @@ module _ {V : Type 0} (format : Format V) (law : IsFormat format) where
   more_due turns.Complete due = due refl
   more_due _ due = tt
 
-  cut_at : IsCut format → (t : Turn) → t ≢ turns.Complete → field_at format t [] ≡ Err errors.Truncated
-  cut_at cut (turns.Global more) due = rw cut refl
-  cut_at cut (turns.RoutineResult more address locals) due = rw cut refl
-  cut_at cut (turns.Value more h left) due = rw cut refl
-  cut_at cut turns.Complete due = absurd (due refl)
-  cut_at cut _ due = refl
+  cut_at : (t : Turn) → t ≢ turns.Complete → field_at format t [] ≡ Err errors.Truncated
+  cut_at (turns.Global more) due = rw law.cut refl
+  cut_at (turns.RoutineResult more address locals) due = rw law.cut refl
+  cut_at (turns.Value more h left) due = rw law.cut refl
+  cut_at turns.Complete due = absurd (due refl)
+  cut_at _ due = refl
 
-  pub at_end : IsCut format → RefuseAtEnd format
-  at_end cut fs p each led due =
+  pub at_end : RefuseAtEnd format
+  at_end fs p each led due =
       let bytes = flat_map (field_bytes format) fs in
       after_heading format law bytes
       ∙ ap (rest_of format opening) (sym (append-nil bytes))
       ∙ fields_again format law fs opening p [] each led
       ∙ reads_on format p [] (more_due p.turn due)
-      ∙ rw (cut_at cut p.turn due) refl
+      ∙ rw (cut_at p.turn due) refl

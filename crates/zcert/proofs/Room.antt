@@ -1,12 +1,8 @@
 -- Memory is wanted only for a part that the bytes have.
-use Rattle.std.proofs.Common.{◌≡◌, ◌≢◌, ℕ, Bool, true, false, cond, ltb, List, [], ◌∷◌, ◌++◌, length, take, drop, Option, Some, None, Result, Ok, Err, refl, sym, ap, subst, ◌∙◌, append_assoc}
+use Rattle.std.proofs.Common.{◌≡◌, ◌≢◌, ℕ, List, [], ◌∷◌, ◌++◌, Result, Ok, Err, refl, sym, ap, subst, ◌∙◌, append_assoc}
 use Rattle.std.specs.Prelude.{IsOk, ◌==◌}
-use Rattle.std.specs.Int.{w16, cast_signed}
 use Rattle.std.specs.List.{flat_map, AllByRecursion}
 use Rattle.std.proofs.lemmas.List.{append-nil}
-use Rattle.byteorder.specs.Endian.{big_number}
-use Rattle.zdomain.specs.declared.interval.Interval.{Interval}
-use Rattle.zdomain.specs.Interval.{interval_of}
 use Rattle.zcert.specs.declared.error.CertError.{CertError}
 use Rattle.zcert.specs.declared.error.CertError.TheVariants as errors
 use Rattle.zcert.specs.declared.field.Field.{Field}
@@ -16,45 +12,21 @@ use Rattle.zcert.specs.declared.field.Turn.TheVariants as turns
 use Rattle.zcert.specs.declared.limits.TheConstants.{MAGIC}
 use Rattle.zcert.specs.Numbers.{Number}
 use Rattle.zcert.specs.Numbers as numbers
-use Rattle.zcert.specs.Steps.{◌>>=◌, need, sized_at, number_at, serial_at}
-use Rattle.zcert.specs.Format.{Format, nonempty, interval_format}
+use Rattle.zcert.specs.Steps.{◌>>=◌, need, number_at}
+use Rattle.zcert.specs.Format.{Format}
 use Rattle.zcert.specs.Spelling.{heading}
 use Rattle.zcert.specs.Reading.{magic_at, version_at, heading_at, reading}
 use Rattle.zcert.specs.Building.{Progress, opening, taken, all_taken, Adds}
 use Rattle.zcert.specs.Fields.{field_bytes, IsField, as_field, field_at, next_at, NextAdds, LeadsToPart}
 use Rattle.zcert.specs.View.{RefusesField}
-use Rattle.zcert.proofs.Stepping.{IsBytes, bind_ok, ok_is}
-use Rattle.zcert.proofs.Formats.{IsFormat}
+use Rattle.zcert.specs.FormatLaw.Stepping.{bind_ok, ok_is, plain_then, plain_ok, plain_need, plain_sized, plain_serial}
+use Rattle.zcert.specs.FormatLaw.{IsBytes, IsPlain, IsFormat}
 use Rattle.zcert.proofs.Found.{heading_takes}
 use Rattle.zcert.proofs.Calls.{one_more, each_more}
 use Rattle.zcert.proofs.Rest.{rest_of}
 use Rattle.zcert.proofs.FieldBytes.{field_takes}
 
 -- ---- no step of reading wants memory
-
-abbrev IsPlain : {A : Type 0} → Result A CertError → Type 0
-IsPlain r = r ≢ Err errors.OutOfMemory
-
-plain_then : {A B : Type 0} (r : Result A CertError) (f : A → Result B CertError) → IsPlain r → ((x : A) → IsPlain (f x)) → IsPlain (r >>= f)
-plain_then (Ok x) f p q e = q x e
-plain_then (Err d) f p q e = p (let same : d ≡ errors.OutOfMemory = cc in ap (λ (x : CertError). Err x) same)
-
-plain_ok : {A : Type 0} (x : A) → IsPlain {A = A} (Ok x)
-plain_ok x e = absurd cc
-
-plain_need : (b : Bool) (d : CertError) → d ≢ errors.OutOfMemory → IsPlain (need b d)
-plain_need true d p e = absurd cc
-plain_need false d p e = p cc
-
-plain_guard : {A : Type 0} (b : Bool) (x : A) → IsPlain {A = A} (cond b (Err errors.Truncated) (Ok x))
-plain_guard true x e = absurd cc
-plain_guard false x e = absurd cc
-
-plain_sized : (n : ℕ) (bytes : List ℕ) → IsPlain (sized_at n bytes)
-plain_sized n bytes = plain_guard (ltb (length bytes) n) (big_number n bytes, drop n bytes)
-
-plain_serial : (bytes : List ℕ) → IsPlain (serial_at bytes)
-plain_serial bytes = plain_guard (ltb (length bytes) 6) (take 6 bytes, drop 6 bytes)
 
 plain_magic : (bytes : List ℕ) → IsPlain (magic_at bytes)
 unfolding magic_at
@@ -64,29 +36,15 @@ plain_version : (version : ℕ) (bytes : List ℕ) → IsPlain (version_at versi
 unfolding version_at
 plain_version version bytes = plain_then (number_at numbers.Version bytes) _ (plain_sized 1 bytes) (λ x. plain_then (need (x.0 == version) errors.Version) _ (plain_need (x.0 == version) errors.Version (λ e. absurd cc)) (λ u. plain_ok x.1))
 
-pub plain_heading : (version : ℕ) (bytes : List ℕ) → IsPlain (heading_at version bytes)
+plain_heading : (version : ℕ) (bytes : List ℕ) → IsPlain (heading_at version bytes)
 unfolding heading_at
 plain_heading version bytes = plain_then (magic_at bytes) _ (plain_magic bytes) (λ rest. plain_version version rest)
 
-plain_nonempty : (o : Option Interval) → IsPlain (nonempty o)
-plain_nonempty (Some i) e = absurd cc
-plain_nonempty None e = absurd cc
-
--- nor does reading a set
-abbrev pub IsPlainFormat : {V : Type 0} → Format V → Type 0
-IsPlainFormat format = (bytes : List ℕ) → IsPlain (format.value_at bytes)
-
-pub interval_is_plain : IsPlainFormat interval_format
-interval_is_plain bytes =
-    plain_then (number_at numbers.End bytes) _ (plain_sized 2 bytes) (λ lo.
-    plain_then (number_at numbers.End lo.1) _ (plain_sized 2 lo.1) (λ hi.
-    plain_then (nonempty (interval_of (cast_signed w16 lo.0) (cast_signed w16 hi.0))) _ (plain_nonempty (interval_of (cast_signed w16 lo.0) (cast_signed w16 hi.0))) (λ i. plain_ok (i, hi.1))))
-
-module _ {V : Type 0} (format : Format V) (plain : IsPlainFormat format) where
+module _ {V : Type 0} (format : Format V) (law : IsFormat format) where
   plain_field : {X : Type 0} (make : X → Field V) (read : Result (X × List ℕ) CertError) → IsPlain read → IsPlain (as_field format make read)
   plain_field make read p = plain_then read _ p (λ x. plain_ok (make x.0, x.1))
 
-  pub plain_field_at : (t : Turn) (bytes : List ℕ) → IsPlain (field_at format t bytes)
+  plain_field_at : (t : Turn) (bytes : List ℕ) → IsPlain (field_at format t bytes)
   plain_field_at turns.Release bytes = plain_field fields.Release _ (plain_sized 2 bytes)
   plain_field_at turns.Serial bytes = plain_field fields.Serial _ (plain_serial bytes)
   plain_field_at turns.Checksum bytes = plain_field fields.Checksum _ (plain_sized 2 bytes)
@@ -94,17 +52,21 @@ module _ {V : Type 0} (format : Format V) (plain : IsPlainFormat format) where
   plain_field_at turns.RangeCount bytes = plain_field fields.RangeCount _ (plain_sized 2 bytes)
   plain_field_at (turns.RangeFirst more) bytes = plain_field fields.RangeFirst _ (plain_sized 2 bytes)
   plain_field_at (turns.RangeLast more first) bytes = plain_field fields.RangeLast _ (plain_sized 2 bytes)
-  plain_field_at (turns.Global more) bytes = plain_field fields.Global _ (plain bytes)
+  plain_field_at (turns.Global more) bytes = plain_field fields.Global _ (law.plain bytes)
   plain_field_at turns.RoutineCount bytes = plain_field fields.RoutineCount _ (plain_sized 2 bytes)
   plain_field_at (turns.RoutineAddress more) bytes = plain_field fields.RoutineAddress _ (plain_sized 4 bytes)
   plain_field_at (turns.LocalCount more address) bytes = plain_field fields.LocalCount _ (plain_sized 1 bytes)
-  plain_field_at (turns.RoutineResult more address locals) bytes = plain_field fields.RoutineResult _ (plain bytes)
+  plain_field_at (turns.RoutineResult more address locals) bytes = plain_field fields.RoutineResult _ (law.plain bytes)
   plain_field_at turns.InstructionCount bytes = plain_field fields.InstructionCount _ (plain_sized 4 bytes)
   plain_field_at (turns.InstructionAddress more) bytes = plain_field fields.InstructionAddress _ (plain_sized 4 bytes)
   plain_field_at (turns.RoutineNumber more address) bytes = plain_field fields.RoutineNumber _ (plain_sized 2 bytes)
   plain_field_at (turns.Height more address routine) bytes = plain_field fields.Height _ (plain_sized 1 bytes)
-  plain_field_at (turns.Value more h left) bytes = plain_field fields.Value _ (plain bytes)
+  plain_field_at (turns.Value more h left) bytes = plain_field fields.Value _ (law.plain bytes)
   plain_field_at turns.Complete bytes = λ e. absurd cc
+
+  -- a field that is refused wants no memory
+  pub field_wants_none : (t : Turn) (bytes : List ℕ) (e : CertError) → field_at format t bytes ≡ Err e → e ≢ errors.OutOfMemory
+  field_wants_none t bytes e h d = plain_field_at t bytes (h ∙ ap (λ (x : CertError). Err x) d)
 
 -- ---- what has been read
 

@@ -1,6 +1,5 @@
 -- The sample certificate, computed.
-use Rattle.std.proofs.Common.{◌≡◌, ℕ, zero, suc, List, [], ◌∷◌, ◌++◌, replicate, take, drop, Result, Ok, Err, pos, negsuc, refl, arith, length}
-use Rattle.std.specs.List.{AllByRecursion}
+use Rattle.std.proofs.Common.{◌≡◌, ℕ, List, [], ◌∷◌, ◌++◌, replicate, take, drop, Result, Ok, Err, pos, negsuc, refl, arith, length}
 use Rattle.zdomain.specs.declared.interval.Interval.{Interval}
 use Rattle.zdomain.specs.Interval.{point, in_order}
 use Rattle.zcert.specs.declared.error.CertError.{CertError}
@@ -8,7 +7,8 @@ use Rattle.zcert.specs.declared.error.CertError.TheVariants as errors
 use Rattle.zcert.specs.Certificate.{Certificate}
 use Rattle.zcert.specs.Format.{interval_format}
 use Rattle.zcert.specs.Reading.{reading, heading_at, magic_at, version_at, identity_at, range_at, ranges_at, all_ranges_at, values_at, routine_at, routines_at, all_routines_at, instruction_at, instructions_at, all_instructions_at, at_end}
-use Rattle.zcert.specs.Spelling.{spelling, HasSpelling}
+use Rattle.zcert.specs.Spelling.{spelling, IsIdentity, HasSpelling}
+use Rattle.zcert.proofs.Bare.{has_spelling}
 
 front : List ℕ
 front = 0x5A ∷ 0x50 ∷ 0x43 ∷ 0x43 ∷ 1 ∷ 0x00 ∷ 0x01 ∷ 0x32 ∷ 0x36 ∷ 0x30 ∷ 0x31 ∷ 0x30 ∷ 0x31 ∷ 0x3A ∷ 0x7A ∷ 0x00 ∷ 0x00 ∷ 0x03 ∷ 0x2A ∷ 0 ∷ 0 ∷ []
@@ -43,33 +43,16 @@ read = refl
 -- what it says has a spelling
 has : HasSpelling interval_format certificate
 unfolding certificate
-has = record {
-  identity = record {
-    release = omega arith;
-    serial = refl;
-    serial_bytes = (omega arith, (omega arith, (omega arith, (omega arith, (omega arith, (omega arith, tt))))));
-    checksum = omega arith;
-    loaded_length = omega arith;
-  };
-  few_ranges = omega arith;
-  ranges = tt;
-  ranges_apart = tt;
-  globals = refl;
-  global_values = each_alike 240 (point 0) (omega arith, omega arith);
-  few_routines = omega arith;
-  routines = tt;
-  routines_rise = tt;
-  few_instructions = omega arith;
-  instructions = (
-    record { address = omega arith; routine = omega arith; locals = refl; height = omega arith; local_values = tt; slot_values = tt },
-    (record { address = omega arith; routine = omega arith; locals = refl; height = omega arith; local_values = tt; slot_values = tt }, tt),
-  );
-  instructions_rise = (omega arith, (omega arith, tt));
-}
+has = has_spelling interval_format _ (point 0) (0x324 ∷ 0x329 ∷ []) identity (omega arith, omega arith) (omega arith) (omega arith, (omega arith, tt)) (omega arith, (omega arith, tt))
   where
-    each_alike : (n : ℕ) (v : Interval) → interval_format.Has v → AllByRecursion interval_format.Has (replicate n v)
-    each_alike zero v has = tt
-    each_alike (suc n) v has = (has, each_alike n v has)
+    identity : IsIdentity certificate.identity
+    identity = record {
+      release = omega arith;
+      serial = refl;
+      serial_bytes = (omega arith, (omega arith, (omega arith, (omega arith, (omega arith, (omega arith, tt))))));
+      checksum = omega arith;
+      loaded_length = omega arith;
+    }
 
 -- a part more than may be counted, or a global too few
 none_has :

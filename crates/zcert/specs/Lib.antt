@@ -2,6 +2,7 @@ pub mod Numbers
 pub mod Certificate
 pub mod Steps
 pub mod Format
+pub mod FormatLaw
 pub mod Spelling
 pub mod Reading
 pub mod Building

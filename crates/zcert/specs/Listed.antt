@@ -1,6 +1,5 @@
 -- What a certificate says at an address.
 use Rattle.std.specs.Prelude.{◌≡◌, ℕ, ◌<◌, List, [], ◌∷◌, length, slice_get, Option, Some, None, MatchOption, ◌==◌, if◌then◌else◌}
-use Rattle.zdomain.specs.declared.interval.Interval.{Interval}
 use Rattle.zcert.specs.declared.parts.Instruction.{Instruction as Borrowed}
 use Rattle.zcert.specs.Certificate.{Instruction}
 
@@ -14,5 +13,5 @@ abbrev pub Finds : {V : Type 0} → List (Instruction V) → ℕ → Option ℕ 
 Finds is address answer = MatchOption answer (listed_at is address ≡ None) (λ k. (k < length is) × (listed_at is address ≡ slice_get is k))
 
 -- an instruction that is lent, as what it says
-abbrev pub seen : Borrowed Interval → Instruction Interval
+abbrev pub seen : {V : Type 0} → Borrowed V → Instruction V
 seen i = record { address = i.address; routine = i.routine; locals = i.locals.now; slots = i.slots.now }

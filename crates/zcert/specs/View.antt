@@ -1,6 +1,5 @@
 -- What the code's certificates and builders say.
 use Rattle.std.specs.Prelude.{◌≡◌, map, drop, Result, Ok, Err, IsOk}
-use Rattle.zdomain.specs.declared.interval.Interval.{Interval}
 use Rattle.zcert.specs.declared.error.CertError.{CertError}
 use Rattle.zcert.specs.declared.error.CertError.TheVariants.{OutOfMemory}
 use Rattle.zcert.specs.declared.contents.Contents.{Contents}
@@ -9,7 +8,7 @@ use Rattle.zcert.specs.Certificate.{Certificate}
 use Rattle.zcert.specs.Contents.{stored_instruction}
 use Rattle.zcert.specs.Building.{Progress}
 
-abbrev pub content_of : Contents → Certificate Interval
+abbrev pub content_of : {V : Type 0} → Contents V → Certificate V
 content_of c = record {
   identity = c.identity;
   ranges = c.ranges.items;
@@ -18,7 +17,7 @@ content_of c = record {
   instructions = map (stored_instruction c.values.items) c.stored.items;
 }
 
-abbrev pub progress_of : Building → Progress Interval
+abbrev pub progress_of : {V : Type 0} → Building V → Progress V
 progress_of b = record { content = content_of b.contents; values = drop b.start b.contents.values.items; floor = b.floor; turn = b.turn }
 
 -- What a step answered, seen by view, is what it has to.

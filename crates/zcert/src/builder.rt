@@ -8,6 +8,7 @@ use crate::building::Building;
 use crate::certificate::Certificate;
 use crate::error::CertError;
 use crate::field::{Field, Turn};
+use crate::spelled::Spelled;
 use std::alloc::Global;
 use std::marker::Model;
 use zdomain::Interval;
@@ -15,27 +16,25 @@ use zdomain::Interval;
 /// Takes the fields of a certificate in the order of the file, and refuses what a reader of the file would. A field out of turn
 /// is out of order. Clauses see how far it has come.
 #[derive(Drop)]
-pub struct CertBuilder {
-    building: Building,
+pub struct CertBuilder<V: Spelled = Interval> {
+    building: Building<V>,
 }
 
-impl Model for CertBuilder {
-    ghost use Rattle.zdomain.specs.declared.interval.Interval.{Interval};
-    ghost use Rattle.zcert.specs.Format.{interval_format};
+impl<V: Spelled> Model for CertBuilder<V> {
     ghost use Rattle.zcert.specs.Building.{Progress};
     ghost use Rattle.zcert.specs.Fields.{IsReached};
     ghost use Rattle.zcert.specs.View.{progress_of};
 
-    ghost Value = { Progress Interval };
+    ghost Value = { Progress V };
 
     ghost view = { λ b. progress_of b.building };
 
-    ghost invariant = { λ b. IsReached interval_format (progress_of b.building) };
+    ghost invariant = { λ b. IsReached V.format (progress_of b.building) };
 }
 
-impl CertBuilder {
+impl<V: Spelled> CertBuilder<V> {
     /// A builder before the first field.
-    pub fn new(alloc: Global) -> CertBuilder
+    pub fn new(alloc: Global) -> CertBuilder<V>
         ensures { result ≡ opening }
     {
         CertBuilder {
@@ -60,7 +59,7 @@ impl CertBuilder {
     /// Takes the next field. An error changes nothing, and is the first of these that holds: `Order`, where the field is out of turn,
     /// an address or a range doesn't rise, or a range ends before its first byte; `Limit`, where a number is above its limit;
     /// `OutOfMemory`, where a growth was refused.
-    pub fn take(&mut self, field: Field<Interval>) -> Result<(), CertError>
+    pub fn take(&mut self, field: Field<V>) -> Result<(), CertError>
         ensures ok { OnOk result (taken self.old field ≡ Ok self.new) }
 
         // What is refused is refused for what is wrong with it, and changes nothing. Memory is wanted only for a field that would be
@@ -73,7 +72,7 @@ impl CertBuilder {
     }
 
     /// The certificate, where all fields have come; else it is cut off.
-    pub fn finish(self) -> Result<Certificate, CertError>
+    pub fn finish(self) -> Result<Certificate<V>, CertError>
         ensures whole { IfOk result (λ certificate. (self.turn ≡ Turn.Complete) × (certificate ≡ self.content)) }
         ensures cut { IfErr result (λ e. (self.turn ≢ Turn.Complete) × (e ≡ CertError.Truncated)) }
     {

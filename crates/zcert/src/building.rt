@@ -7,15 +7,15 @@ use crate::error::CertError;
 use crate::field::{Field, Header, Turn};
 use crate::limits::{ADDRESS_LIMIT, MAX_HEIGHT, MAX_INSTRUCTIONS, MAX_LOCALS};
 use crate::parts::{Range, Routine};
+use crate::spelled::Spelled;
 use crate::turns::{before_globals, before_instructions, before_ranges, before_routines};
 use std::alloc::Global;
-use zdomain::Interval;
 use zstory::Identity;
 
 /// What has come so far. The values of the newest instruction begin at `start`.
 #[derive(Drop)]
-pub struct Building {
-    pub contents: Contents,
+pub struct Building<V> {
+    pub contents: Contents<V>,
     pub start: usize,
     pub floor: u32,
     pub turn: Turn,
@@ -23,17 +23,16 @@ pub struct Building {
 }
 
 // Each takes one kind of field. Out of turn it is out of order; a field that is refused changes nothing.
-impl Building {
+impl<V: Spelled> Building<V> {
     ghost use Rattle.std.specs.Prelude.{◌≡◌, ◌≢◌, ◌+◌, ◌<◌, Err, vec_len, vec_capacity};
     ghost use Rattle.zcert.specs.View.{progress_of, Takes};
     ghost use Rattle.zcert.specs.Reading.{address_fits};
     ghost use Rattle.zcert.specs.Certificate.{locals_of};
-    ghost use Rattle.zcert.specs.Format.{interval_format};
     ghost use Rattle.zcert.specs.Fields.{IsField};
     ghost use Rattle.zcert.specs.Building.{opening, before_values, taken, Adds, IsDue, after_release, after_serial, after_checksum, after_loaded_length, after_range_count, after_range_first, after_range_last, after_global, after_routine_count, after_routine_address, after_local_count, after_routine_result, after_instruction_count, after_instruction_address, after_routine_number, after_height, after_value};
 
     /// Nothing yet.
-    pub fn new(alloc: Global) -> Building
+    pub fn new(alloc: Global) -> Building<V>
         ensures { progress_of result ≡ opening }
     {
         Building {
@@ -145,7 +144,7 @@ impl Building {
         Ok(())
     }
 
-    fn global(&mut self, values: Interval) -> Result<(), CertError>
+    fn global(&mut self, values: V) -> Result<(), CertError>
         ensures { Takes (progress_of self.old) (progress_of self.new) result (after_global values self.old.turn (progress_of self.old)) }
     {
         let Turn::Global { more } = self.turn else {
@@ -212,7 +211,7 @@ impl Building {
         Ok(())
     }
 
-    fn routine_result(&mut self, values: Interval) -> Result<(), CertError>
+    fn routine_result(&mut self, values: V) -> Result<(), CertError>
         requires { IsDue self.old.turn (progress_of self.old).values }
         ensures { Takes (progress_of self.old) (progress_of self.new) result (after_routine_result values self.old.turn (progress_of self.old)) }
     {
@@ -349,7 +348,7 @@ impl Building {
         Ok(())
     }
 
-    fn value(&mut self, values: Interval) -> Result<(), CertError>
+    fn value(&mut self, values: V) -> Result<(), CertError>
         requires { IsDue self.old.turn (progress_of self.old).values }
         ensures { Takes (progress_of self.old) (progress_of self.new) result (after_value values self.old.turn (progress_of self.old)) }
     {
@@ -365,10 +364,10 @@ impl Building {
     }
 
     /// Takes the field whose turn it is.
-    pub fn take(&mut self, field: Field<Interval>) -> Result<(), CertError>
+    pub fn take(&mut self, field: Field<V>) -> Result<(), CertError>
         requires { IsDue self.old.turn (progress_of self.old).values }
         ensures takes { Takes (progress_of self.old) (progress_of self.new) result (taken (progress_of self.old) field) }
-        ensures fits { IsField interval_format field }
+        ensures fits { IsField V.format field }
         ensures memory { result ≡ Err CertError.OutOfMemory → Adds field }
     {
         match field {
@@ -379,16 +378,25 @@ impl Building {
             Field::RangeCount(count) => self.range_count(count),
             Field::RangeFirst(first) => self.range_first(first),
             Field::RangeLast(last) => self.range_last(last),
-            Field::Global(values) => self.global(values),
+            Field::Global(values) => {
+                values.has_spelling();
+                self.global(values)
+            }
             Field::RoutineCount(count) => self.routine_count(count),
             Field::RoutineAddress(address) => self.routine_address(address),
             Field::LocalCount(locals) => self.local_count(locals),
-            Field::RoutineResult(values) => self.routine_result(values),
+            Field::RoutineResult(values) => {
+                values.has_spelling();
+                self.routine_result(values)
+            }
             Field::InstructionCount(count) => self.instruction_count(count),
             Field::InstructionAddress(address) => self.instruction_address(address),
             Field::RoutineNumber(routine) => self.routine_number(routine),
             Field::Height(height) => self.height(height),
-            Field::Value(values) => self.value(values),
+            Field::Value(values) => {
+                values.has_spelling();
+                self.value(values)
+            }
         }
     }
 }

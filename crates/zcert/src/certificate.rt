@@ -2,51 +2,49 @@
 
 ghost use Rattle.std.specs.Prelude.{◌≡◌, ◌<◌, length, slice_get, Some};
 ghost use Rattle.std.specs.Option.{option_map};
-ghost use Rattle.zcert.specs.Format.{interval_format};
 ghost use Rattle.zcert.specs.Spelling.{HasSpelling};
 ghost use Rattle.zcert.specs.Listed.{listed_at, seen};
 
 use crate::contents::Contents;
 use crate::parts::{Instruction, Range, Routine};
+use crate::spelled::Spelled;
 use std::marker::Model;
 use zdomain::Interval;
 use zstory::Identity;
 
 /// A certificate, which keeps the order and the limits of its format. Clauses see it as a record of lists.
 #[derive(Drop)]
-pub struct Certificate {
-    contents: Contents,
+pub struct Certificate<V: Spelled = Interval> {
+    contents: Contents<V>,
 }
 
-impl Model for Certificate {
-    ghost use Rattle.zdomain.specs.declared.interval.Interval.{Interval};
+impl<V: Spelled> Model for Certificate<V> {
     ghost use Rattle.zcert.specs.Certificate.{Certificate as Content};
-    ghost use Rattle.zcert.specs.Format.{interval_format};
     ghost use Rattle.zcert.specs.Spelling.{HasSpelling};
     ghost use Rattle.zcert.specs.View.{content_of};
 
-    ghost Value = { Content Interval };
+    ghost Value = { Content V };
 
     ghost view = { λ c. content_of c.contents };
 
-    ghost invariant = { λ c. HasSpelling interval_format (content_of c.contents) };
+    ghost invariant = { λ c. HasSpelling V.format (content_of c.contents) };
 }
 
-impl Certificate {
+impl<V: Spelled> Certificate<V> {
     ghost use Rattle.zcert.specs.View.{content_of};
 
     /// The certificate that has these contents.
-    pub(crate) fn new(contents: Contents) -> Certificate
-        requires { HasSpelling interval_format (content_of contents) }
+    pub(crate) fn new(contents: Contents<V>) -> Certificate<V>
+        requires { HasSpelling V.format (content_of contents) }
         ensures { result ≡ content_of contents }
     {
         Certificate { contents }
     }
 
     /// How it is kept.
-    pub(crate) fn contents(&self) -> &Contents
+    pub(crate) fn contents(&self) -> &Contents<V>
         ensures content { content_of result.now ≡ self.now }
-        ensures keeps { HasSpelling interval_format self.now }
+        ensures keeps { HasSpelling V.format self.now }
     {
         &self.contents
     }
@@ -54,7 +52,7 @@ impl Certificate {
     /// The story that it speaks of.
     pub fn identity(&self) -> Identity
         ensures value { result ≡ self.now.identity }
-        ensures keeps { HasSpelling interval_format self.now }
+        ensures keeps { HasSpelling V.format self.now }
     {
         self.contents.identity
     }
@@ -62,24 +60,24 @@ impl Certificate {
     /// The ranges of bytes that it states to stay as they are, in their order.
     pub fn ranges(&self) -> &[Range]
         ensures value { result.now ≡ self.now.ranges }
-        ensures keeps { HasSpelling interval_format self.now }
+        ensures keeps { HasSpelling V.format self.now }
     {
         self.contents.ranges.as_slice()
     }
 
     /// The values of each global, from variable 16 on.
-    pub fn globals(&self) -> &[Interval]
+    pub fn globals(&self) -> &[V]
         ensures value { result.now ≡ self.now.globals }
         ensures count { length result.now ≡ 240 }
-        ensures keeps { HasSpelling interval_format self.now }
+        ensures keeps { HasSpelling V.format self.now }
     {
         self.contents.globals.as_slice()
     }
 
     /// The routines by their addresses. The first has number 1.
-    pub fn routines(&self) -> &[Routine<Interval>]
+    pub fn routines(&self) -> &[Routine<V>]
         ensures value { result.now ≡ self.now.routines }
-        ensures keeps { HasSpelling interval_format self.now }
+        ensures keeps { HasSpelling V.format self.now }
     {
         self.contents.routines.as_slice()
     }
@@ -87,28 +85,28 @@ impl Certificate {
     /// How many instructions are listed.
     pub fn instruction_count(&self) -> usize
         ensures value { result ≡ length self.now.instructions }
-        ensures keeps { HasSpelling interval_format self.now }
+        ensures keeps { HasSpelling V.format self.now }
     {
         self.contents.stored.len()
     }
 
     /// The listed instruction of an index, in the order of their addresses.
-    pub fn instruction(&self, index: usize) -> Instruction<'_, Interval>
+    pub fn instruction(&self, index: usize) -> Instruction<'_, V>
         requires { index < length self.now.instructions }
         ensures value { slice_get self.now.instructions index ≡ Some (seen result) }
 
         // No other is listed at its address.
         ensures listed { listed_at self.now.instructions result.address ≡ Some (seen result) }
-        ensures keeps { HasSpelling interval_format self.now }
+        ensures keeps { HasSpelling V.format self.now }
     {
         self.contents.instruction_of(index)
     }
 
     /// The instruction that is listed at an address, if one is. The search takes as many steps as the count of instructions has
     /// binary digits.
-    pub fn instruction_at(&self, address: u32) -> Option<Instruction<'_, Interval>>
+    pub fn instruction_at(&self, address: u32) -> Option<Instruction<'_, V>>
         ensures value { option_map seen result ≡ listed_at self.now.instructions address }
-        ensures keeps { HasSpelling interval_format self.now }
+        ensures keeps { HasSpelling V.format self.now }
     {
         let index = self.contents.index_of(address)?;
         Some(self.instruction(index))

@@ -4,7 +4,6 @@ ghost use Rattle.zcert.specs.Contents.{AllLieIn};
 
 use crate::parts::{Instruction, Range, Routine};
 use std::alloc::AllocError;
-use zdomain::Interval;
 use zstory::Identity;
 
 /// What is said of an instruction. Its values begin at `start` of the list of all values: its locals, and then its slots.
@@ -19,17 +18,17 @@ pub struct Stored {
 
 /// A certificate, or as much of one as has come.
 #[derive(Drop)]
-pub struct Contents {
+pub struct Contents<V> {
     pub identity: Identity,
     pub ranges: Vec<Range>,
-    pub globals: Vec<Interval>,
-    pub routines: Vec<Routine<Interval>>,
+    pub globals: Vec<V>,
+    pub routines: Vec<Routine<V>>,
     pub stored: Vec<Stored>,
-    pub values: Vec<Interval>,
+    pub values: Vec<V>,
     pub ghost inside: { AllLieIn values.items stored.items },
 }
 
-impl Contents {
+impl<V: Drop> Contents<V> {
     ghost use Rattle.std.specs.Prelude.{◌≡◌, ◌<◌, ◌++◌, ◌∷◌, [], OnOk, OnErr, Some, slice_get, vec_len, vec_capacity};
     ghost use Rattle.zcert.specs.Contents.{LiesIn, stored_instruction};
     ghost use Rattle.zcert.specs.Building.{with_instruction};
@@ -38,7 +37,7 @@ impl Contents {
     ghost use Rattle.zcert.specs.Spelling.{InstructionsRise};
 
     /// Adds a value of the newest instruction.
-    pub fn push_value(&mut self, value: Interval) -> Result<(), AllocError>
+    pub fn push_value(&mut self, value: V) -> Result<(), AllocError>
         ensures values { OnOk result (self.new.values.items ≡ self.old.values.items ++ value ∷ []) }
         ensures content { content_of self.new ≡ content_of self.old }
         ensures room { vec_capacity self.new.stored ≡ vec_capacity self.old.stored }
@@ -60,7 +59,7 @@ impl Contents {
     }
 
     /// An instruction, as it is stored, with its values.
-    pub fn instruction(&self, stored: Stored) -> Instruction<'_, Interval>
+    pub fn instruction(&self, stored: Stored) -> Instruction<'_, V>
         requires { LiesIn self.now.values.items stored }
         ensures { seen result ≡ stored_instruction self.now.values.items stored }
     {
@@ -76,7 +75,7 @@ impl Contents {
     }
 
     /// The instruction of an index.
-    pub fn instruction_of(&self, index: usize) -> Instruction<'_, Interval>
+    pub fn instruction_of(&self, index: usize) -> Instruction<'_, V>
         requires { index < vec_len self.now.stored }
         ensures { slice_get (content_of self.now).instructions index ≡ Some (seen result) }
     {

@@ -7,10 +7,13 @@ mod certificate;
 mod contents;
 mod error;
 mod field;
+mod interval_spelled;
 mod laws;
 mod limits;
 mod parts;
 mod reading;
+mod spelled;
+mod steps;
 mod turns;
 mod writing;
 
@@ -24,4 +27,5 @@ pub use laws::{
 pub use limits::LARGEST;
 pub use parts::{Instruction, Range, Routine};
 pub use reading::read;
+pub use spelled::Spelled;
 pub use writing::write;

@@ -5,24 +5,21 @@ ghost use Rattle.std.specs.List.{flat_map};
 ghost use Rattle.zcert.specs.Numbers as numbers;
 ghost use Rattle.zcert.specs.Contents.{stored_instruction, LiesIn};
 ghost use Rattle.zcert.specs.View.{content_of};
-ghost use Rattle.zcert.specs.Format.{interval_format};
 ghost use Rattle.zcert.specs.Spelling.{identity_bytes, range_bytes, values_bytes, routine_bytes, instruction_bytes, counted, heading, spelling, HasSpelling};
 
 use crate::certificate::Certificate;
 use crate::contents::{Contents, Stored};
-use crate::limits::{
-    FIXED_BYTES, HEADER_BYTES, MAGIC, RANGE_BYTES, ROUTINE_BYTES, VALUE_BYTES, VERSION,
-};
+use crate::limits::{FIXED_BYTES, HEADER_BYTES, MAGIC, RANGE_BYTES, ROUTINE_BYTES};
 use crate::parts::{Range, Routine};
+use crate::spelled::Spelled;
 use std::alloc::{AllocError, Global};
-use zdomain::Interval;
 use zstory::Identity;
 
-fn put_heading(out: &mut Vec<u8>) -> Result<(), AllocError>
-    ensures { OnOk result (out.new.items ≡ out.old.items ++ heading interval_format) }
+fn put_heading<V: Spelled>(out: &mut Vec<u8>) -> Result<(), AllocError>
+    ensures { OnOk result (out.new.items ≡ out.old.items ++ heading V.format) }
 {
     out.extend_from_slice(&MAGIC.to_be_bytes())?;
-    out.extend_from_slice(&[VERSION])
+    out.extend_from_slice(&[V::version()])
 }
 
 fn put_identity(out: &mut Vec<u8>, identity: &Identity) -> Result<(), AllocError>
@@ -41,18 +38,11 @@ fn put_range(out: &mut Vec<u8>, range: Range) -> Result<(), AllocError>
     out.extend_from_slice(&range.last.to_be_bytes())
 }
 
-fn put_value(out: &mut Vec<u8>, values: Interval) -> Result<(), AllocError>
-    ensures { OnOk result (out.new.items ≡ out.old.items ++ interval_format.spelled values) }
-{
-    out.extend_from_slice(&values.lo.to_be_bytes())?;
-    out.extend_from_slice(&values.hi.to_be_bytes())
-}
-
-fn put_values(out: &mut Vec<u8>, values: &[Interval]) -> Result<(), AllocError>
-    ensures { OnOk result (out.new.items ≡ out.old.items ++ values_bytes interval_format values.now) }
+fn put_values<V: Spelled>(out: &mut Vec<u8>, values: &[V]) -> Result<(), AllocError>
+    ensures { OnOk result (out.new.items ≡ out.old.items ++ values_bytes V.format values.now) }
 {
     for value in values {
-        put_value(out, *value)?;
+        value.write_to(out)?;
     }
     Ok(())
 }
@@ -68,17 +58,17 @@ fn put_ranges(out: &mut Vec<u8>, ranges: &[Range]) -> Result<(), AllocError>
     Ok(())
 }
 
-fn put_routine(out: &mut Vec<u8>, routine: Routine<Interval>) -> Result<(), AllocError>
-    ensures { OnOk result (out.new.items ≡ out.old.items ++ routine_bytes interval_format routine) }
+fn put_routine<V: Spelled>(out: &mut Vec<u8>, routine: Routine<V>) -> Result<(), AllocError>
+    ensures { OnOk result (out.new.items ≡ out.old.items ++ routine_bytes V.format routine) }
 {
     out.extend_from_slice(&routine.address.to_be_bytes())?;
     out.push(routine.locals)?;
-    put_value(out, routine.result)
+    routine.result.write_to(out)
 }
 
-fn put_routines(out: &mut Vec<u8>, routines: &[Routine<Interval>]) -> Result<(), AllocError>
+fn put_routines<V: Spelled>(out: &mut Vec<u8>, routines: &[Routine<V>]) -> Result<(), AllocError>
     requires { length routines.now ≤ 65535 }
-    ensures { OnOk result (out.new.items ≡ out.old.items ++ counted numbers.RoutineCount (routine_bytes interval_format) routines.now) }
+    ensures { OnOk result (out.new.items ≡ out.old.items ++ counted numbers.RoutineCount (routine_bytes V.format) routines.now) }
 {
     out.extend_from_slice(&(routines.len() as u16).to_be_bytes())?;
     for routine in routines {
@@ -87,9 +77,13 @@ fn put_routines(out: &mut Vec<u8>, routines: &[Routine<Interval>]) -> Result<(),
     Ok(())
 }
 
-fn put_instruction(out: &mut Vec<u8>, contents: &Contents, stored: Stored) -> Result<(), AllocError>
+fn put_instruction<V: Spelled>(
+    out: &mut Vec<u8>,
+    contents: &Contents<V>,
+    stored: Stored,
+) -> Result<(), AllocError>
     requires { LiesIn contents.now.values.items stored }
-    ensures { OnOk result (out.new.items ≡ out.old.items ++ instruction_bytes interval_format (stored_instruction contents.now.values.items stored)) }
+    ensures { OnOk result (out.new.items ≡ out.old.items ++ instruction_bytes V.format (stored_instruction contents.now.values.items stored)) }
 {
     let said = contents.instruction(stored);
     out.extend_from_slice(&said.address.to_be_bytes())?;
@@ -99,9 +93,9 @@ fn put_instruction(out: &mut Vec<u8>, contents: &Contents, stored: Stored) -> Re
     put_values(out, said.slots)
 }
 
-fn put_instructions(out: &mut Vec<u8>, contents: &Contents) -> Result<(), AllocError>
+fn put_instructions<V: Spelled>(out: &mut Vec<u8>, contents: &Contents<V>) -> Result<(), AllocError>
     requires { length contents.now.stored.items ≤ 131072 }
-    ensures { OnOk result (out.new.items ≡ out.old.items ++ counted numbers.InstructionCount (instruction_bytes interval_format) (content_of contents.now).instructions) }
+    ensures { OnOk result (out.new.items ≡ out.old.items ++ counted numbers.InstructionCount (instruction_bytes V.format) (content_of contents.now).instructions) }
 {
     out.extend_from_slice(&(contents.stored.len() as u32).to_be_bytes())?;
     for stored in &contents.stored {
@@ -111,13 +105,13 @@ fn put_instructions(out: &mut Vec<u8>, contents: &Contents) -> Result<(), AllocE
 }
 
 // How many bytes a certificate takes, so that they are taken at once.
-fn room_for(contents: &Contents) -> usize {
+fn room_for<V: Spelled>(contents: &Contents<V>) -> usize {
     let parts = [
         (contents.ranges.len(), RANGE_BYTES),
-        (contents.globals.len(), VALUE_BYTES),
+        (contents.globals.len(), V::most_bytes()),
         (contents.routines.len(), ROUTINE_BYTES),
         (contents.stored.len(), HEADER_BYTES),
-        (contents.values.len(), VALUE_BYTES),
+        (contents.values.len(), V::most_bytes()),
     ];
     parts.iter().fold(FIXED_BYTES, |sum: usize, (count, size)| {
         sum.saturating_add(count.saturating_mul(*size))
@@ -125,14 +119,14 @@ fn room_for(contents: &Contents) -> usize {
 }
 
 /// The one spelling of a certificate. It always has bytes, so whichever certificate it is, the growth for them may be refused.
-pub fn write(alloc: Global, certificate: &Certificate) -> Result<Vec<u8>, AllocError>
-    ensures spelled { IfOk result (λ bytes. bytes.items ≡ spelling interval_format certificate.now) }
+pub fn write<V: Spelled>(alloc: Global, certificate: &Certificate<V>) -> Result<Vec<u8>, AllocError>
+    ensures spelled { IfOk result (λ bytes. bytes.items ≡ spelling V.format certificate.now) }
     // So that reading it gives the certificate again.
-    ensures keeps { HasSpelling interval_format certificate.now }
+    ensures keeps { HasSpelling V.format certificate.now }
 {
     let contents = certificate.contents();
     let mut out = Vec::with_capacity(alloc, room_for(contents))?;
-    put_heading(&mut out)?;
+    put_heading::<V>(&mut out)?;
     put_identity(&mut out, &contents.identity)?;
     put_ranges(&mut out, &contents.ranges)?;
     put_values(&mut out, &contents.globals)?;

@@ -1,12 +1,11 @@
 -- A small story that passes with a certificate, and what is wrong first with others.
-use Rattle.std.proofs.Common.{ℕ, zero, suc, ◌<◌, List, [], ◌∷◌, replicate, refl, arith}
-use Rattle.std.specs.List.{AllByRecursion}
+use Rattle.std.proofs.Common.{ℕ, ◌<◌, List, [], ◌∷◌, refl, arith}
 use Rattle.zstate.specs.State.{scope_all}
-use Rattle.zdomain.specs.declared.interval.Interval.{Interval}
 use Rattle.zdomain.specs.Interval.{point, interval_operations}
 use Rattle.zdomain.specs.IntervalLaw.{interval_sound}
 use Rattle.zcert.specs.Format.{interval_format}
-use Rattle.zcert.specs.Spelling.{IsInstruction, HasSpelling}
+use Rattle.zcert.specs.Spelling.{IsIdentity, HasSpelling}
+use Rattle.zcert.proofs.Bare.{has_spelling}
 use Rattle.zlist.specs.declared.record.Record.{Record}
 use Rattle.zrule.specs.declared.rule.Rule.{Rule}
 use Rattle.zrule.specs.declared.rule.Rule.TheVariants as instruction_rules
@@ -65,35 +64,18 @@ lists = record {
 }
 
 -- the certificate can be spelled
-each_alike : (n : ℕ) (v : Interval) → interval_format.Has v → AllByRecursion interval_format.Has (replicate n v)
-each_alike zero v has = tt
-each_alike (suc n) v has = (has, each_alike n v has)
-
 spelled : HasSpelling interval_format (certificate_at all_listed)
 unfolding all_listed certificate_at at_bare story memory
-spelled = record {
-  identity = record {
-    release = omega arith;
-    serial = refl;
-    serial_bytes = (omega arith, (omega arith, (omega arith, (omega arith, (omega arith, (omega arith, tt))))));
-    checksum = omega arith;
-    loaded_length = omega arith;
-  };
-  few_ranges = omega arith;
-  ranges = tt;
-  ranges_apart = tt;
-  globals = refl;
-  global_values = each_alike 240 (point 0) (omega arith, omega arith);
-  few_routines = omega arith;
-  routines = tt;
-  routines_rise = tt;
-  few_instructions = omega arith;
-  instructions = (bare_spelled 798 (omega arith), (bare_spelled 803 (omega arith), (bare_spelled 804 (omega arith), tt)));
-  instructions_rise = (omega arith, (omega arith, (omega arith, tt)));
-}
+spelled = has_spelling interval_format _ (point 0) (798 ∷ 803 ∷ 804 ∷ []) identity (omega arith, omega arith) (omega arith) (omega arith, (omega arith, (omega arith, tt))) (omega arith, (omega arith, (omega arith, tt)))
   where
-    bare_spelled : (p : ℕ) → p < 131072 → IsInstruction interval_format [] (at_bare p)
-    bare_spelled p inside = record { address = omega (arith, inside); routine = omega arith; locals = refl; height = omega arith; local_values = tt; slot_values = tt }
+    identity : IsIdentity (certificate_at all_listed).identity
+    identity = record {
+      release = omega arith;
+      serial = refl;
+      serial_bytes = (omega arith, (omega arith, (omega arith, (omega arith, (omega arith, (omega arith, tt))))));
+      checksum = omega arith;
+      loaded_length = omega arith;
+    }
 
 -- so no run of it meets a fault
 runs : RunsWithoutFault story (scope_all story)

@@ -2,7 +2,7 @@
 
 use std::alloc::{AllocError, Global};
 use std::test::Fail;
-use zcert::{CertBuilder, CertError, Field, read, write};
+use zcert::{CertBuilder, CertError, Certificate, Field, read, write};
 use zdomain::Interval;
 
 static HEAD: [u8; 21] = [
@@ -30,7 +30,7 @@ fn sample_certificate(alloc: Global) -> Result<Vec<u8>, AllocError> {
 fn the_sample_is_read_and_written_back(rt: HostRuntime) -> Result<(), Fail> {
     let bytes = sample_certificate(rt.alloc())?;
     assert_eq!(rt; bytes.len(), 1_001);
-    let certificate = read(rt.alloc(), bytes.as_slice())?;
+    let certificate: Certificate = read(rt.alloc(), bytes.as_slice())?;
     let identity = certificate.identity();
     assert_eq!(rt; identity.release, 1);
     assert_eq!(rt; identity.serial.as_slice(), b"260101".as_slice());

@@ -1,5 +1,5 @@
 -- Single steps of reading: what a step took is spelled so, and what is spelled so is read again.
-use Rattle.std.proofs.Common.{◌≡◌, ℕ, zero, suc, ◌+◌, ◌/◌, ◌^◌, ◌<◌, ◌≤◌, Bool, true, false, cond, ltb, List, [], ◌∷◌, ◌++◌, length, get_or, take, drop, Result, Ok, Err, refl, sym, ap, ◌∙◌, append_assoc, arith, inl, inr}
+use Rattle.std.proofs.Common.{◌≡◌, ◌≢◌, ℕ, zero, suc, ◌+◌, ◌/◌, ◌^◌, ◌<◌, ◌≤◌, Bool, true, false, cond, ltb, List, [], ◌∷◌, ◌++◌, length, get_or, take, drop, Result, Ok, Err, refl, sym, ap, ◌∙◌, append_assoc, arith, inl, inr}
 use Rattle.std.specs.Int.{byte_at}
 use Rattle.std.proofs.lemmas.Bool.{cases_lt, ltb-false, le-ltb}
 use Rattle.std.proofs.lemmas.List.{take_at, drop_at, take-append-drop, length-append, length-take, get_or-drop, get_or-take, get_or_past}
@@ -7,12 +7,10 @@ use Rattle.std.proofs.lemmas.Nat.{be_bytes_2, be_bytes_4, mod_below}
 use Rattle.byteorder.specs.Endian.{big_bytes, big_number}
 use Rattle.byteorder.specs.Numbers.{big_from-take, big_from-lt, big_number-reads_back, length-bytes_high_first}
 use Rattle.zcert.specs.declared.error.CertError.{CertError}
-use Rattle.zcert.specs.declared.error.CertError.TheVariants.{Truncated}
+use Rattle.zcert.specs.declared.error.CertError.TheVariants.{Truncated, OutOfMemory}
 use Rattle.zcert.specs.Numbers.{Number, Magic, Version, Release, Checksum, LoadedLength, RangeCount, RangeFirst, RangeLast, RoutineCount, RoutineAddress, LocalCount, InstructionCount, InstructionAddress, RoutineNumber, Height, End, width, number, HasRoom}
-use Rattle.zcert.specs.Steps.{◌>>=◌, need, number_at, serial_at}
-
-abbrev pub IsBytes : List ℕ → Type 0
-IsBytes bytes = (i : ℕ) → get_or bytes i 0 < 256
+use Rattle.zcert.specs.Steps.{◌>>=◌, need, sized_at, number_at, serial_at}
+use Rattle.zcert.specs.FormatLaw.{IsBytes, Takes, IsPlain}
 
 pub IsBytes-drop : (n : ℕ) (bytes : List ℕ) → IsBytes bytes → IsBytes (drop n bytes)
 IsBytes-drop n bytes h i = rw get_or-drop (h (n + i))
@@ -52,11 +50,6 @@ ok_is x y e = cc
 pub guard_ok : {A : Type 0} (b : Bool) (d : CertError) (x y : A) → cond b (Err d) (Ok x) ≡ Ok y → (b ≡ false) × (x ≡ y)
 guard_ok true d x y e = absurd cc
 guard_ok false d x y e = (refl, cc)
-
--- what a step took from the front
-pub record Takes (bytes text rest : List ℕ) : Type 0 where
-  pub parts : bytes ≡ text ++ rest
-  pub rest_fits : IsBytes rest
 
 pub Takes-then : (a x b y c : List ℕ) → Takes a x b → Takes b y c → Takes a (x ++ y) c
 Takes-then a x b y c p q = record { parts = p.parts ∙ ap (λ (t : List ℕ). x ++ t) q.parts ∙ sym (append_assoc x y c); rest_fits = q.rest_fits }
@@ -144,3 +137,26 @@ pub width_some : (kind : Number) → 0 < width kind
 width_some Magic = omega arith
 width_some Version = omega arith
 width_some _ = omega arith
+
+-- ---- no step wants memory
+
+pub plain_then : {A B : Type 0} (r : Result A CertError) (f : A → Result B CertError) → IsPlain r → ((x : A) → IsPlain (f x)) → IsPlain (r >>= f)
+plain_then (Ok x) f p q e = q x e
+plain_then (Err d) f p q e = p (let same : d ≡ OutOfMemory = cc in ap (λ (x : CertError). Err x) same)
+
+pub plain_ok : {A : Type 0} (x : A) → IsPlain {A = A} (Ok x)
+plain_ok x e = absurd cc
+
+pub plain_need : (b : Bool) (d : CertError) → d ≢ OutOfMemory → IsPlain (need b d)
+plain_need true d p e = absurd cc
+plain_need false d p e = p cc
+
+pub plain_guard : {A : Type 0} (b : Bool) (x : A) → IsPlain {A = A} (cond b (Err Truncated) (Ok x))
+plain_guard true x e = absurd cc
+plain_guard false x e = absurd cc
+
+pub plain_sized : (n : ℕ) (bytes : List ℕ) → IsPlain (sized_at n bytes)
+plain_sized n bytes = plain_guard (ltb (length bytes) n) (big_number n bytes, drop n bytes)
+
+pub plain_serial : (bytes : List ℕ) → IsPlain (serial_at bytes)
+plain_serial bytes = plain_guard (ltb (length bytes) 6) (take 6 bytes, drop 6 bytes)

@@ -1,22 +1,15 @@
--- What a format owes, and that intervals meet it.
-use Rattle.std.proofs.Common.{◌≡◌, ℕ, ◌<◌, List, ◌++◌, length, Option, Some, None, Ok, ℤ, FitsSigned, refl, sym, ap, subst, ◌∙◌, append_assoc, arith}
+-- A proof of the law: intervals meet it.
+use Rattle.std.proofs.Common.{◌≡◌, ℕ, List, ◌++◌, Option, Some, None, Ok, ℤ, FitsSigned, refl, sym, ap, subst, ◌∙◌, append_assoc, arith}
 use Rattle.std.specs.Int.{w16, cast_signed, cast_unsigned}
 use Rattle.std.proofs.lemmas.Int.{ints, to_z-of_z, of_z-to_z}
 use Rattle.zdomain.specs.declared.interval.Interval.{Interval}
 use Rattle.zdomain.specs.Interval.{interval_of}
 use Rattle.zdomain.proofs.Ends.{from_ends, ends_of}
-use Rattle.zcert.specs.Numbers.{Version, End, number, HasRoom}
+use Rattle.zcert.specs.Numbers.{End, number, HasRoom}
 use Rattle.zcert.specs.Steps.{◌>>=◌, number_at}
-use Rattle.zcert.specs.Format.{Format, nonempty, interval_format}
-use Rattle.zcert.proofs.Stepping.{IsBytes, IsBytes-append, IsBytes-number, Takes, Takes-then, bind_ok, ok_is, number_takes, number_again}
-
--- what is read is spelled so, and what has a spelling is read again
-pub record IsFormat {V : Type 0} (format : Format V) : Type 0 where
-  pub version : HasRoom Version format.version
-  pub takes : (bytes : List ℕ) (v : V) (rest : List ℕ) → IsBytes bytes → format.value_at bytes ≡ Ok (v, rest) → Takes bytes (format.spelled v) rest × format.Has v
-  pub bytes : (v : V) → format.Has v → IsBytes (format.spelled v)
-  pub long : (v : V) → 0 < length (format.spelled v)
-  pub again : (v : V) (rest : List ℕ) → format.Has v → format.value_at (format.spelled v ++ rest) ≡ Ok (v, rest)
+use Rattle.zcert.specs.Format.{nonempty, interval_format}
+use Rattle.zcert.specs.FormatLaw.{IsBytes, Takes, IsPlain, IsFormat}
+use Rattle.zcert.specs.FormatLaw.Stepping.{IsBytes-append, IsBytes-number, Takes-then, bind_ok, ok_is, number_takes, number_again, plain_then, plain_ok, plain_sized}
 
 nonempty_is : (o : Option Interval) (i : Interval) → nonempty o ≡ Ok i → o ≡ Some i
 nonempty_is None i e = absurd cc
@@ -70,5 +63,15 @@ interval_again i rest has =
       from_ends i,
     ) refl
 
+plain_nonempty : (o : Option Interval) → IsPlain (nonempty o)
+plain_nonempty (Some i) e = absurd cc
+plain_nonempty None e = absurd cc
+
+interval_is_plain : (bytes : List ℕ) → IsPlain (interval_format.value_at bytes)
+interval_is_plain bytes =
+    plain_then (number_at End bytes) _ (plain_sized 2 bytes) (λ lo.
+    plain_then (number_at End lo.1) _ (plain_sized 2 lo.1) (λ hi.
+    plain_then (nonempty (interval_of (cast_signed w16 lo.0) (cast_signed w16 hi.0))) _ (plain_nonempty (interval_of (cast_signed w16 lo.0) (cast_signed w16 hi.0))) (λ i. plain_ok (i, hi.1))))
+
 pub interval_is_format : IsFormat interval_format
-interval_is_format = record { version = omega arith; takes = interval_takes; bytes = λ i has. IsBytes-append (number End (cast_unsigned w16 i.lo)) (number End (cast_unsigned w16 i.hi)) (IsBytes-number End (cast_unsigned w16 i.lo)) (IsBytes-number End (cast_unsigned w16 i.hi)); long = λ i. omega arith; again = interval_again }
+interval_is_format = record { version = omega arith; takes = interval_takes; bytes = λ i has. IsBytes-append (number End (cast_unsigned w16 i.lo)) (number End (cast_unsigned w16 i.hi)) (IsBytes-number End (cast_unsigned w16 i.lo)) (IsBytes-number End (cast_unsigned w16 i.hi)); long = λ i. omega arith; again = interval_again; cut = refl; plain = interval_is_plain }

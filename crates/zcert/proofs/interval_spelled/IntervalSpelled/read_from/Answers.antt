@@ -1,8 +1,8 @@
 use Rattle.std.proofs.Common.{rules}
 use Rattle.zdomain.proofs.Ends.{with_ends}
 use Rattle.zcert.specs.Numbers.{HasRoom, End}
-use Rattle.zcert.proofs.Formats.{ends_read, passed_end}
-use Rattle.zcert.proofs.reading.values_of.Goals as goal
+use Rattle.zcert.specs.FormatLaw.Intervals.{ends_read, passed_end}
+use Rattle.zcert.proofs.interval_spelled.IntervalSpelled.read_from.Goals as goal
 
 pub returns-in-Some : goal.returns-in-Some
 returns-in-Some c =

@@ -1,0 +1,36 @@
+-- What a format owes: what is read is spelled so, and what has a spelling is read again. The modules below are the proof that
+-- intervals meet it, and nothing to believe.
+pub mod Stepping
+pub mod Intervals
+use Rattle.std.specs.Prelude.{◌≡◌, ◌≢◌, ℕ, ◌<◌, List, [], ◌++◌, length, Result, Ok, Err}
+use Rattle.std.proofs.Common.{get_or}
+use Rattle.zcert.specs.declared.error.CertError.{CertError}
+use Rattle.zcert.specs.declared.error.CertError.TheVariants.{Truncated, OutOfMemory}
+use Rattle.zcert.specs.Numbers.{Version, HasRoom}
+use Rattle.zcert.specs.Format.{Format}
+
+abbrev pub IsBytes : List ℕ → Type 0
+IsBytes bytes = (i : ℕ) → get_or bytes i 0 < 256
+
+-- what a step took from the front
+pub record Takes (bytes text rest : List ℕ) : Type 0 where
+  pub parts : bytes ≡ text ++ rest
+  pub rest_fits : IsBytes rest
+
+-- reading wanted no memory
+abbrev pub IsPlain : {A : Type 0} → Result A CertError → Type 0
+IsPlain r = r ≢ Err OutOfMemory
+
+pub record IsFormat {V : Type 0} (format : Format V) : Type 0 where
+  pub version : HasRoom Version format.version
+  -- a set that is read is spelled by the bytes that it took
+  pub takes : (bytes : List ℕ) (v : V) (rest : List ℕ) → IsBytes bytes → format.value_at bytes ≡ Ok (v, rest) → Takes bytes (format.spelled v) rest × format.Has v
+  -- a spelling has bytes, at least one
+  pub bytes : (v : V) → format.Has v → IsBytes (format.spelled v)
+  pub long : (v : V) → 0 < length (format.spelled v)
+  -- and is read again, whatever follows it
+  pub again : (v : V) (rest : List ℕ) → format.Has v → format.value_at (format.spelled v ++ rest) ≡ Ok (v, rest)
+  -- no bytes are a set
+  pub cut : format.value_at [] ≡ Err Truncated
+  -- reading a set wants no memory
+  pub plain : (bytes : List ℕ) → IsPlain (format.value_at bytes)
