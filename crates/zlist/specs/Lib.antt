@@ -1,2 +1,4 @@
 pub mod Listing
 pub mod Numbering
+pub mod Listed
+pub mod Labels

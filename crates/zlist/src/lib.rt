@@ -1,12 +1,20 @@
 //! Listings: the instructions of a story that may be played, and its routines.
 //!
-//! A `Listing` is made from parts in order, and tells of an address what is listed there without a search.
+//! A `Listing` is made from parts in order, and tells of an address what is listed there without a search. `list_story` makes the
+//! one of all that play may reach.
 #![tactic(auto)]
 
+mod leading;
+mod list_error;
+mod lister;
 mod listing;
 mod numbers;
 mod order;
+mod owner;
 mod record;
+mod walk;
 
+pub use list_error::ListError;
+pub use lister::list_story;
 pub use listing::Listing;
 pub use record::Record;

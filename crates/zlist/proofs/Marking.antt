@@ -1,0 +1,281 @@
+-- What marking a place changes.
+use Rattle.std.proofs.Common.{inl, inr, ◌≡◌, ℕ, zero, suc, ◌<◌, ◌≤◌, ◌==◌, Bool, true, false, List, [], ◌∷◌, ◌++◌, length, get_or, IsTrue, refl, sym, ap, ◌∙◌, subst, arith, cond, eq-eqb}
+use Rattle.std.specs.Prelude.{◌≢◌, ◌⊎◌, ℤ, pos, Ok, IfSome, slice_index_or, slice_set}
+use Rattle.std.specs.List.{AllByRecursion, Contains}
+use Rattle.std.proofs.lemmas.Bool.{eqb-true, false≢true}
+use Rattle.std.proofs.lemmas.List.{get_or-set_same, get_or-set_other, length_push}
+use Rattle.std.proofs.lemmas.List.Sums.{sum_by-set}
+use Rattle.std.proofs.lemmas.List.Elements.{Contains-push, Contains-push_cases, Contains-append_left}
+use Rattle.std.proofs.lemmas.Option.{IfSome_then}
+use Rattle.zstory.specs.LoadedStory.{LoadedStory}
+use Rattle.zcode.specs.Instruction.{Instruction}
+use Rattle.zlist.specs.declared.owner.Owner.{Owner}
+use Rattle.zlist.specs.declared.owner.Owner.TheVariants.{Main, Routine}
+use Rattle.zlist.specs.declared.owner.Label.{Label}
+use Rattle.zlist.specs.declared.owner.Label.TheVariants.{Nobody, One, Several}
+use Rattle.zlist.specs.Listed.{IsCalled, aside_place, callee, next_place, spelled}
+use Rattle.zlist.specs.Labels.{same, joined, has, Covers, left, place, IsSo, Found, label_at, Grows, Has, IsEntered, IsComplete, IsFollowed, IsSound, with_waiting}
+
+-- ---- labels
+
+pub same_is : (x y : Owner) → same x y ≡ true → x ≡ y
+same_is Main Main h = refl
+same_is Main (Routine b) h = absurd (false≢true h)
+same_is (Routine a) Main h = absurd (false≢true h)
+same_is (Routine a) (Routine b) h = ap (λ n. Routine n) (eqb-true a b h)
+
+pub same_itself : (x : Owner) → same x x ≡ true
+same_itself Main = refl
+same_itself (Routine a) = eq-eqb a a refl
+
+differ : (x y : Owner) → same x y ≡ false → x ≢ y
+differ x y h e = false≢true (sym h ∙ ap (λ z. same x z) (sym e) ∙ same_itself x)
+
+pub covers_left : (a b : Label) → Covers (joined a b) a
+covers_left Nobody b x h = absurd (false≢true h)
+covers_left (One y) Nobody x h = h
+covers_left (One y) (One z) x h =
+    elim (same y z) as (λ c. IsTrue (has (cond c (One y) Several) x)) [ true ↦ h | false ↦ refl ]
+covers_left (One y) Several x h = refl
+covers_left Several Nobody x h = refl
+covers_left Several (One z) x h = refl
+covers_left Several Several x h = refl
+
+pub covers_right : (a b : Label) → Covers (joined a b) b
+covers_right Nobody b x h = h
+covers_right (One y) Nobody x h = absurd (false≢true h)
+covers_right (One y) (One z) x h =
+    (elim (same y z) as (λ c. same y z ≡ c → IsTrue (has (cond c (One y) Several) x)) [
+      | true ↦ λ e. subst (λ w. IsTrue (same w x)) (sym (same_is y z e)) h
+      | false ↦ λ e. refl
+    ]) refl
+covers_right (One y) Several x h = refl
+covers_right Several Nobody x h = refl
+covers_right Several (One z) x h = refl
+covers_right Several Several x h = refl
+
+-- a label that tells more has less left to tell
+pub tells_more : (a b : Label) → joined a b ≢ a → left (joined a b) < left a
+tells_more Nobody Nobody h = absurd (h refl)
+tells_more Nobody (One z) h = omega arith
+tells_more Nobody Several h = omega arith
+tells_more (One y) Nobody h = absurd (h refl)
+tells_more (One y) (One z) h =
+    (elim (same y z) as (λ c. cond c (One y) Several ≢ One y → left (cond c (One y) Several) < 1) [
+      | true ↦ λ g. absurd (g refl)
+      | false ↦ λ g. omega arith
+    ]) h
+tells_more (One y) Several h = omega arith
+tells_more Several Nobody h = absurd (h refl)
+tells_more Several (One z) h = absurd (h refl)
+tells_more Several Several h = absurd (h refl)
+
+at_most : (a : Label) → left a ≤ 2
+at_most Nobody = omega arith
+at_most (One x) = omega arith
+at_most Several = omega arith
+
+-- what two labels say of a place is so, and what they say together
+pub joined_so : (story : LoadedStory) (a b : Label) (p : ℤ) → IsSo story a p → IsSo story b p → IsSo story (joined a b) p
+joined_so story Nobody b p f g = g
+joined_so story (One y) Nobody p f g = f
+joined_so story (One y) (One z) p f g =
+    (elim (same y z) as (λ c. same y z ≡ c → IsSo story (cond c (One y) Several) p) [
+      | true ↦ λ e. f
+      | false ↦ λ e. (y, z, differ y z e, f, g)
+    ]) refl
+joined_so story (One y) Several p f g = g
+joined_so story Several Nobody p f g = f
+joined_so story Several (One z) p f g = f
+joined_so story Several Several p f g = f
+
+-- ---- marks
+
+-- the label of one slot is another
+abbrev pub with_label : Found → ℕ → Label → Found
+with_label f slot label = record { labels = slice_set f.labels slot label; called = f.called; waiting = f.waiting ++ slot ∷ [] }
+
+same_slot : (f : Found) (slot : ℕ) (label : Label) → slot < length f.labels → label_at (with_label f slot label) slot ≡ label
+same_slot f slot label l = get_or-set_same f.labels slot label Nobody l
+
+other_slot : (f : Found) (slot k : ℕ) (label : Label) → k ≢ slot → label_at (with_label f slot label) k ≡ label_at f k
+other_slot f slot k label n = get_or-set_other f.labels slot k label Nobody n
+
+pub grows_by_mark : (f : Found) (slot : ℕ) (label : Label) → slot < length f.labels → joined (label_at f slot) label ≢ label_at f slot → Grows f (with_label f slot (joined (label_at f slot) label))
+grows_by_mark f slot label l new =
+    let more = joined (label_at f slot) label in
+    let total = sum_by-set left f.labels slot more Nobody l in
+    let less = tells_more (label_at f slot) label new in record {
+      covers = λ k. (elim (k == slot) as (λ c. (k == slot) ≡ c → Covers (label_at (with_label f slot more) k) (label_at f k)) [
+        | true ↦ λ e. subst (λ (j : ℕ). Covers (label_at (with_label f slot more) j) (label_at f j)) (sym (eqb-true k slot e)) (subst (λ (m : Label). Covers m (label_at f slot)) (sym (same_slot f slot more l)) (covers_left (label_at f slot) label))
+        | false ↦ λ e. subst (λ (m : Label). Covers m (label_at f k)) (sym (other_slot f slot k more (λ q. false≢true (sym e ∙ eq-eqb k slot q)))) (λ x h. h)
+      ]) refl;
+      changed = λ k out. other_slot f slot k more (λ q. out (subst (λ (j : ℕ). Contains (f.waiting ++ slot ∷ []) j) (sym q) (Contains-push f.waiting slot)));
+      waiting = λ k in_old. Contains-append_left f.waiting (slot ∷ []) k in_old;
+      called = λ a h. h;
+      work = omega (arith, total, less, length_push f.waiting slot);
+    }
+
+-- a label that tells more tells something
+tells : (a b : Label) → joined a b ≢ a → joined a b ≢ Nobody
+tells a b new e = omega (arith, tells_more a b new, ap left e, at_most a)
+
+still_known : (f : Found) (slot k : ℕ) (label : Label) → slot < length f.labels → label ≢ Nobody → label_at f k ≢ Nobody → label_at (with_label f slot label) k ≢ Nobody
+still_known f slot k label l here there =
+    (elim (k == slot) as (λ c. (k == slot) ≡ c → label_at (with_label f slot label) k ≢ Nobody) [
+      | true ↦ λ e. subst (λ (m : Label). m ≢ Nobody) (sym (ap (λ j. label_at (with_label f slot label) j) (eqb-true k slot e) ∙ same_slot f slot label l)) here
+      | false ↦ λ e. subst (λ (m : Label). m ≢ Nobody) (sym (other_slot f slot k label (λ q. false≢true (sym e ∙ eq-eqb k slot q)))) there
+    ]) refl
+
+pub sound_by_mark : (story : LoadedStory) (f : Found) (slot : ℕ) (label : Label) → slot < length f.labels → joined (label_at f slot) label ≢ label_at f slot → IsSo story label (place slot) → IsSound story f → IsSound story (with_label f slot (joined (label_at f slot) label))
+sound_by_mark story f slot label l new so sound =
+    let more = joined (label_at f slot) label in
+    let some = tells (label_at f slot) label new in
+    let here : IsSo story more (place slot) = joined_so story (label_at f slot) label (place slot) (sound.labels slot) so in record {
+      labels = λ k. (elim (k == slot) as (λ c. (k == slot) ≡ c → IsSo story (label_at (with_label f slot more) k) (place k)) [
+        | true ↦ λ e. subst (λ (j : ℕ). IsSo story (label_at (with_label f slot more) j) (place j)) (sym (eqb-true k slot e)) (subst (λ (m : Label). IsSo story m (place slot)) (sym (same_slot f slot more l)) here)
+        | false ↦ λ e. subst (λ (m : Label). IsSo story m (place k)) (sym (other_slot f slot k more (λ q. false≢true (sym e ∙ eq-eqb k slot q)))) (sound.labels k)
+      ]) refl;
+      called = sound.called;
+      waiting = λ k w. elim (Contains-push_cases f.waiting slot k w) [
+        | inl old ↦ still_known f slot k more l some (sound.waiting k old)
+        | inr is ↦ subst (λ (j : ℕ). label_at (with_label f slot more) j ≢ Nobody) is (subst (λ (m : Label). m ≢ Nobody) (sym (same_slot f slot more l)) some)
+      ];
+    }
+
+pub grows_itself : (f : Found) → Grows f f
+grows_itself f = record {
+  covers = λ k x h. h;
+  changed = λ k out. refl;
+  waiting = λ k h. h;
+  called = λ a h. h;
+  work = omega arith;
+}
+
+-- ---- as the code has them
+
+pub marked_grows : (f : Found) (ls : List Label) (cs : List Bool) (ws : List ℕ) (slot : ℕ) (before label more : Label) → slot < length f.labels → before ≡ label_at f slot → more ≡ joined before label → (more ≡ before → ⊥) → ls ≡ slice_set f.labels slot more → cs ≡ f.called → ws ≡ f.waiting ++ slot ∷ [] → Grows f (record { labels = ls; called = cs; waiting = ws })
+marked_grows f ls cs ws slot before label more l was joins new e1 e2 e3 =
+    let known : more ≡ joined (label_at f slot) label = joins ∙ ap (λ b. joined b label) was in
+    rw (e1, e2, e3, known) (grows_by_mark f slot label l (λ q. new (known ∙ q ∙ sym was)))
+
+pub marked_sound : (story : LoadedStory) (f : Found) (ls : List Label) (cs : List Bool) (ws : List ℕ) (slot : ℕ) (p : ℤ) (before label more : Label) → slot < length f.labels → place slot ≡ p → before ≡ label_at f slot → more ≡ joined before label → (more ≡ before → ⊥) → ls ≡ slice_set f.labels slot more → cs ≡ f.called → ws ≡ f.waiting ++ slot ∷ [] → IsSo story label p → IsSound story f → IsSound story (record { labels = ls; called = cs; waiting = ws })
+marked_sound story f ls cs ws slot p before label more l at was joins new e1 e2 e3 so sound =
+    let known : more ≡ joined (label_at f slot) label = joins ∙ ap (λ b. joined b label) was in
+    rw (e1, e2, e3, known) (sound_by_mark story f slot label l (λ q. new (known ∙ q ∙ sym was)) (subst (λ q. IsSo story label q) (sym at) so) sound)
+
+-- ---- calls
+
+called_more : (cs : List Bool) (a k : ℕ) → a < length cs → IsTrue (slice_index_or cs k false) → IsTrue (slice_index_or (slice_set cs a true) k false)
+called_more cs a k l h =
+    (elim (k == a) as (λ c. (k == a) ≡ c → IsTrue (slice_index_or (slice_set cs a true) k false)) [
+      | true ↦ λ e. ap (λ j. get_or (slice_set cs a true) j false) (eqb-true k a e) ∙ get_or-set_same cs a true false l
+      | false ↦ λ e. get_or-set_other cs a k true false (λ q. false≢true (sym e ∙ eq-eqb k a q)) ∙ h
+    ]) refl
+
+called_only : (cs : List Bool) (a k : ℕ) → a < length cs → IsTrue (slice_index_or (slice_set cs a true) k false) → (k ≢ a) → IsTrue (slice_index_or cs k false)
+called_only cs a k l h n = sym (get_or-set_other cs a k true false n) ∙ h
+
+pub grows_by_call : (ls : List Label) (cs : List Bool) (ws : List ℕ) (a : ℕ) → a < length cs → Grows (record { labels = ls; called = cs; waiting = ws }) (record { labels = ls; called = slice_set cs a true; waiting = ws })
+grows_by_call ls cs ws a l = record {
+  covers = λ k x h. h;
+  changed = λ k out. refl;
+  waiting = λ k h. h;
+  called = λ k h. called_more cs a k l h;
+  work = omega arith;
+}
+
+pub sound_by_call : (ls : List Label) (cs : List Bool) (ws : List ℕ) (a : ℕ) (story : LoadedStory) → a < length cs → IsCalled story a → IsSound story (record { labels = ls; called = cs; waiting = ws }) → IsSound story (record { labels = ls; called = slice_set cs a true; waiting = ws })
+sound_by_call ls cs ws a story l it sound = record {
+  labels = sound.labels;
+  called = λ k h. (elim (k == a) as (λ c. (k == a) ≡ c → IsCalled story k) [
+    | true ↦ λ e. subst (λ (j : ℕ). IsCalled story j) (sym (eqb-true k a e)) it
+    | false ↦ λ e. sound.called k (called_only cs a k l h (λ q. false≢true (sym e ∙ eq-eqb k a q)))
+  ]) refl;
+  waiting = sound.waiting;
+}
+
+-- ---- one after another
+
+pub grows_on : (f g h : Found) → Grows f g → Grows g h → Grows f h
+grows_on f g h one two = record {
+  covers = λ k x has_it. two.covers k x (one.covers k x has_it);
+  changed = λ k out. two.changed k out ∙ one.changed k (λ w. out (two.waiting k w));
+  waiting = λ k w. two.waiting k (one.waiting k w);
+  called = λ a c. two.called a (one.called a c);
+  work = omega (arith, one.work, two.work);
+}
+
+pub has_on : (f g : Found) (label : Label) (p : ℤ) → Grows f g → Has f label p → Has g label p
+has_on f g label p grows it = (it.0, it.1, it.2, λ x h. grows.covers it.0 x (it.3 x h))
+
+pub entered_on : (memory : List ℕ) (f g : Found) (a : ℕ) → Grows f g → IsEntered memory f a → IsEntered memory g a
+entered_on memory f g a grows it = record { called = grows.called a it.called; begun = λ q at. has_on f g (One (Routine a)) (pos q) grows (it.begun q at) }
+
+pub followed : (memory : List ℕ) (f g h : Found) (label : Label) (p : ℤ) (i : Instruction) → IfSome (next_place p i) (Has f label) → Grows f g → IfSome (aside_place p i) (Has g label) → Grows g h → IfSome (callee i.opcode i.operands) (IsEntered memory h) → IsFollowed memory h label p i
+followed memory f g h label p i one to_g two to_h three = record {
+  next = IfSome_then (next_place p i) one (λ q it. has_on f h label q (grows_on f g h to_g to_h) it);
+  aside = IfSome_then (aside_place p i) two (λ q it. has_on g h label q to_h it);
+  calls = three;
+}
+
+-- ---- from slot to slot
+
+followed_on : (memory : List ℕ) (f g : Found) (label : Label) (p : ℤ) (i : Instruction) → Grows f g → IsFollowed memory f label p i → IsFollowed memory g label p i
+followed_on memory f g label p i grows it = record {
+  next = IfSome_then (next_place p i) it.next (λ q h. has_on f g label q grows h);
+  aside = IfSome_then (aside_place p i) it.aside (λ q h. has_on f g label q grows h);
+  calls = IfSome_then (callee i.opcode i.operands) it.calls (λ a h. entered_on memory f g a grows h);
+}
+
+without_waiting : (memory : List ℕ) (f : Found) (slot : ℕ) (label : Label) (p : ℤ) (i : Instruction) → IsFollowed memory (with_waiting f slot) label p i → IsFollowed memory f label p i
+without_waiting memory f slot label p i it = record {
+  next = it.next;
+  aside = it.aside;
+  calls = IfSome_then (callee i.opcode i.operands) it.calls (λ a h. record { called = h.called; begun = h.begun });
+}
+
+pub complete_on : (memory : List ℕ) (f g : Found) (slot : ℕ) → IsComplete memory (with_waiting f slot) → Grows f g → ((i : Instruction) → spelled memory (place slot) ≡ Ok i → IsFollowed memory g (label_at f slot) (place slot) i) → IsComplete memory g
+complete_on memory f g slot before grows visited k i out some here =
+    let same = grows.changed k out in
+    let still : label_at f k ≢ Nobody = subst (λ (m : Label). m ≢ Nobody) same some in
+    subst (λ (m : Label). IsFollowed memory g m (place k) i) (sym same)
+    ((elim (k == slot) as (λ c. (k == slot) ≡ c → IsFollowed memory g (label_at f k) (place k) i) [
+      | true ↦ λ e. subst (λ (j : ℕ). spelled memory (place j) ≡ Ok i → IsFollowed memory g (label_at f j) (place j) i) (sym (eqb-true k slot e)) (visited i) here
+      | false ↦ λ e. followed_on memory f g (label_at f k) (place k) i grows (without_waiting memory f slot (label_at f k) (place k) i (before k i (λ w. elim (Contains-push_cases f.waiting slot k w) [
+        | inl old ↦ out (grows.waiting k old)
+        | inr is ↦ false≢true (sym e ∙ eq-eqb k slot (sym is))
+      ]) still here))
+    ]) refl)
+
+pub sound_without : (story : LoadedStory) (f : Found) (slot : ℕ) → IsSound story (with_waiting f slot) → IsSound story f
+sound_without story f slot sound = record {
+  labels = sound.labels;
+  called = sound.called;
+  waiting = λ k w. sound.waiting k (Contains-append_left f.waiting (slot ∷ []) k w);
+}
+
+-- ---- at first
+
+none_in : (slot : ℕ) → Contains [] slot → ⊥
+none_in slot (k, l, e) = absurd (omega (arith, l))
+
+blank_at : {X : Type 0} (x : X) (xs : List X) → AllByRecursion (λ y. (y ≡ x) ⊎ (y ≡ x)) xs → (k : ℕ) → slice_index_or xs k x ≡ x
+blank_at x [] all k = refl
+blank_at x (y ∷ ys) all zero = elim all.0 [ inl e ↦ e | inr e ↦ e ]
+blank_at x (y ∷ ys) all (suc k) = blank_at x ys all.1 k
+
+pub blank_is : (ls : List Label) (cs : List Bool) (ws : List ℕ) (story : LoadedStory) → AllByRecursion (λ y. (y ≡ Nobody) ⊎ (y ≡ Nobody)) ls → AllByRecursion (λ y. (y ≡ false) ⊎ (y ≡ false)) cs → ws ≡ [] → IsSound story (record { labels = ls; called = cs; waiting = ws }) × (ws ≡ []) × ((slot : ℕ) → label_at (record { labels = ls; called = cs; waiting = ws }) slot ≡ Nobody)
+blank_is ls cs ws story e1 e2 e3 =
+    let nobody = blank_at Nobody ls e1 in (
+      record {
+        labels = λ slot. subst (λ (m : Label). IsSo story m (place slot)) (sym (nobody slot)) tt;
+        called = λ a h. absurd (false≢true (sym (blank_at false cs e2 a) ∙ h));
+        waiting = λ slot w. absurd (none_in slot (subst (λ (l : List ℕ). Contains l slot) e3 w));
+      },
+      e3,
+      nobody,
+    )
+
+pub complete_begun : (memory : List ℕ) (f g : Found) → ((slot : ℕ) → label_at f slot ≡ Nobody) → Grows f g → IsComplete memory g
+complete_begun memory f g blank grows k i out some here = absurd (some (grows.changed k out ∙ blank k))

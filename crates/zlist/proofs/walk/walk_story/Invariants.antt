@@ -1,0 +1,12 @@
+use Rattle.std.proofs.Common.{◌≡◌}
+use Rattle.zlist.specs.Labels.{IsOnWay, work}
+use Rattle.zlist.proofs.walk.walk_story.Given as goal
+
+abbrev pub invariant-loop-slot : goal.invariant-loop-slot
+invariant-loop-slot l = record {
+  way : IsOnWay l.story l.walk;
+  same : l.ends ≡ l.story.memory;
+}
+
+abbrev pub decreases-loop-slot : goal.decreases-loop-slot
+decreases-loop-slot l = work l.walk

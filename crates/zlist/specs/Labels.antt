@@ -1,0 +1,170 @@
+-- Whose code places are found to be, and how far that was followed (own).
+use Rattle.std.specs.Prelude.{◌≡◌, ℕ, suc, All, ◌+◌, ◌*◌, ◌<◌, ◌≤◌, ◌==◌, ℤ, pos, negsuc, ◌≤ℤ◌, ◌<ℤ◌, ◌-ℤ◌, Bool, true, false, IsTrue, List, [], ◌∷◌, ◌++◌, length, IfSome, Ok, if◌then◌else◌, slice_index, slice_index_or, ◌≢◌, sum_by}
+use Rattle.std.specs.List.{Contains, list_any}
+use Rattle.std.specs.List.Sorted.{IsStrictlyIncreasing}
+use Rattle.zstory.specs.LoadedStory.{LoadedStory, first_instruction}
+use Rattle.zcode.specs.Instruction.{Instruction}
+use Rattle.zlist.specs.declared.record.Record.{Record}
+use Rattle.zlist.specs.Listing.{addresses_of}
+use Rattle.zlist.specs.declared.owner.Owner.{Owner}
+use Rattle.zlist.specs.declared.owner.Owner.TheVariants.{Main, Routine}
+use Rattle.zlist.specs.declared.owner.Label.{Label}
+use Rattle.zlist.specs.declared.owner.Label.TheVariants.{Nobody, One, Several}
+use Rattle.zlist.specs.Listed.{Belongs, IsCalled, IsListed, aside_place, begins, behind, callee, next_place, spelled}
+
+-- ---- labels
+
+abbrev pub same : Owner → Owner → Bool
+same Main Main = true
+same (Routine a) (Routine b) = a == b
+same _ _ = false
+
+-- whose code places are of which each of two labels tells
+abbrev pub joined : Label → Label → Label
+joined Nobody label = label
+joined (One x) Nobody = One x
+joined Several Nobody = Several
+joined (One x) (One y) = if same x y then One x else Several
+joined _ _ = Several
+
+-- whether the code may be that owner's
+abbrev pub has : Label → Owner → Bool
+has Nobody _ = false
+has (One x) y = same x y
+has Several _ = true
+
+-- a label tells of all that another tells of
+abbrev pub Covers : Label → Label → Type 0
+Covers one other = (x : Owner) → IsTrue (has other x) → IsTrue (has one x)
+
+-- how much a label may still tell
+abbrev pub left : Label → ℕ
+left Nobody = 2
+left (One _) = 1
+left Several = 0
+
+-- what a label says of a place is so
+abbrev pub IsSo : LoadedStory → Label → ℤ → Type 0
+IsSo story Nobody p = Unit {0}
+IsSo story (One x) p = Belongs story x p
+IsSo story Several p = (x y : Owner) × (x ≢ y) × Belongs story x p × Belongs story y p
+
+-- ---- places
+
+-- Each place to which an instruction may lead has a slot: of its bytes the last lies below 131,072, and it leads less than 65,536
+-- away from there.
+abbrev pub slots : ℕ
+slots = 262144
+
+abbrev pub place : ℕ → ℤ
+place slot = pos slot -ℤ pos 65536
+
+-- the place has a slot
+pub record HasSlot (p : ℤ) : Type 0 where
+  pub above : negsuc 65535 ≤ℤ p
+  pub below : p <ℤ pos 196608
+
+-- the instruction lies in a memory of at most 131,072 bytes
+pub record IsInside (p : ℤ) (i : Instruction) : Type 0 where
+  pub above : pos 0 ≤ℤ p
+  pub below : behind p i ≤ℤ pos 131072
+
+-- no more than 16 bits away
+pub record IsNear (distance : ℤ) : Type 0 where
+  pub above : negsuc 32769 ≤ℤ distance
+  pub below : distance <ℤ pos 32768
+
+-- ---- a walk
+
+-- what a walk has found so far: whose code each slot's place is, which addresses are called, and which slots are to be followed
+pub record Found : Type 0 where
+  pub labels : List Label
+  pub called : List Bool
+  pub waiting : List ℕ
+
+abbrev pub label_at : Found → ℕ → Label
+label_at found slot = slice_index_or found.labels slot Nobody
+
+abbrev pub is_called : Found → ℕ → Bool
+is_called found a = slice_index_or found.called a false
+
+-- how much there may still be to do
+abbrev pub work : Found → ℕ
+work found = 2 * sum_by left found.labels + length found.waiting
+
+-- the place has a slot, with at least this label
+abbrev pub Has : Found → Label → ℤ → Type 0
+Has found label p = (slot : ℕ) × (slot < slots) × (p ≡ place slot) × Covers (label_at found slot) label
+
+-- all that was found is so
+pub record IsSound (story : LoadedStory) (found : Found) : Type 0 where
+  pub labels : (slot : ℕ) → IsSo story (label_at found slot) (place slot)
+  pub called : (a : ℕ) → IsTrue (is_called found a) → IsCalled story a
+  pub waiting : (slot : ℕ) → Contains found.waiting slot → label_at found slot ≢ Nobody
+
+-- what is called is known, and where it begins
+pub record IsEntered (memory : List ℕ) (found : Found) (a : ℕ) : Type 0 where
+  pub called : IsTrue (is_called found a)
+  pub begun : (q : ℕ) → begins memory a ≡ Ok q → Has found (One (Routine a)) (pos q)
+
+-- where an instruction leads has this label, and what it calls is entered
+pub record IsFollowed (memory : List ℕ) (found : Found) (label : Label) (p : ℤ) (i : Instruction) : Type 0 where
+  pub next : IfSome (next_place p i) (Has found label)
+  pub aside : IfSome (aside_place p i) (Has found label)
+  pub calls : IfSome (callee i.opcode i.operands) (IsEntered memory found)
+
+-- each slot with a label was followed, but those that wait
+abbrev pub IsComplete : List ℕ → Found → Type 0
+IsComplete memory found = (slot : ℕ) (i : Instruction) → (Contains found.waiting slot → ⊥) → label_at found slot ≢ Nobody → spelled memory (place slot) ≡ Ok i → IsFollowed memory found (label_at found slot) (place slot) i
+
+-- Labels tell of more, and where one does its slot waits; and there is no more to do than before.
+pub record Grows (old new : Found) : Type 0 where
+  pub covers : (slot : ℕ) → Covers (label_at new slot) (label_at old slot)
+  pub changed : (slot : ℕ) → (Contains new.waiting slot → ⊥) → label_at new slot ≡ label_at old slot
+  pub waiting : (slot : ℕ) → Contains old.waiting slot → Contains new.waiting slot
+  pub called : (a : ℕ) → IsTrue (is_called old a) → IsTrue (is_called new a)
+  pub work : work new ≤ work old
+
+-- and a slot waits before all others
+abbrev pub with_waiting : Found → ℕ → Found
+with_waiting found slot = record { labels = found.labels; called = found.called; waiting = found.waiting ++ slot ∷ [] }
+
+-- a walk on its way from the first instruction
+pub record IsOnWay (story : LoadedStory) (found : Found) : Type 0 where
+  pub sound : IsSound story found
+  pub begun : Has found (One Main) (pos (first_instruction story))
+  pub complete : IsComplete story.memory found
+
+-- a walk that is at its end
+pub record IsWalked (story : LoadedStory) (found : Found) : Type 0 where
+  pub labels : length found.labels ≡ slots
+  pub calls : length found.called ≡ 131072
+  pub way : IsOnWay story found
+  pub done : found.waiting ≡ []
+
+-- the routines that are called, of those with a packed address below a number (Z 1.2.3)
+pub record AreFound (story : LoadedStory) (found : Found) (packed : ℕ) (xs : List ℕ) : Type 0 where
+  pub rising : IsStrictlyIncreasing xs
+  pub below : All (λ a. a < 2 * packed) xs
+  pub few : length xs < packed
+  pub has : (m : ℕ) → suc m < packed → IsTrue (is_called found (2 * suc m)) → Contains xs (2 * suc m)
+  pub only : (a : ℕ) → Contains xs a → IsCalled story a
+
+-- the number of an owner, by a table of the routines' numbers
+abbrev pub number_in : List ℕ → Owner → ℕ
+number_in numbers Main = 0
+number_in numbers (Routine a) = slice_index numbers a
+
+-- the record is of a listed instruction, with the number of its owner
+pub record IsNumbered (story : LoadedStory) (numbers : List ℕ) (r : Record) : Type 0 where
+  pub spelled : spelled story.memory (pos r.address) ≡ Ok r.instruction
+  pub owner : Owner
+  pub number : r.routine ≡ number_in numbers owner
+  pub belongs : Belongs story owner (pos r.address)
+
+-- the records of all that is listed below an address
+pub record AreListed (story : LoadedStory) (numbers : List ℕ) (end : ℕ) (records : List Record) : Type 0 where
+  pub rising : IsStrictlyIncreasing (addresses_of records)
+  pub below : All (λ r. r.address < end) records
+  pub each : All (IsNumbered story numbers) records
+  pub all : (a : ℕ) → a < end → IsListed story (pos a) → IsTrue (list_any (λ r. r.address == a) records)
