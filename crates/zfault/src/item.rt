@@ -86,16 +86,3 @@ pub enum Item {
     /// What the status line is to show from here on.
     Status(Status),
 }
-
-/// Gives out bytes of text, all or none. Memory can be refused only where there is a byte.
-pub fn give_text(items: &mut Vec<Item>, bytes: &[u8]) -> Result<(), AllocError>
-    ensures ok { OnOk result (items.new.items ≡ items.old.items ++ map Text bytes.now) }
-    ensures err { OnErr result (0 < length bytes.now) }
-    ensures kept { OnErr result (items.new.items ≡ items.old.items) }
-{
-    items.reserve(bytes.len())?;
-    for byte in bytes {
-        items.push_reserved(Item::Text(*byte));
-    }
-    Ok(())
-}
