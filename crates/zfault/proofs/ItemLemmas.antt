@@ -35,6 +35,13 @@ text_of-items text (mark ∷ older) =
     text_of-append (items_of (take mark.place text) older) (Status mark.status ∷ map Text (drop mark.place text))
     ∙ rw (text_of-items (take mark.place text) older, text_of-map (drop mark.place text)) (take-append-drop mark.place text)
 
+-- so the items give back their text, and with it where the status lines stand
+pub items_of-text : (text : List ℕ) (marks : List Mark) (items : List Item) → items_of text marks ≡ items → items ≡ items_of (text_of items) marks
+items_of-text text marks items is = rw (← is, text_of-items text marks) refl
+
+pub StandWithin-text : (text : List ℕ) (marks : List Mark) (items : List Item) → items_of text marks ≡ items → StandWithin (length text) marks → StandWithin (length (text_of items)) marks
+StandWithin-text text marks items is stands = rw (← is, text_of-items text marks) stands
+
 -- text that was to be appended: the status lines stand within what is there now
 pub StandWithin-grown : {A E : Type 0} (appended : Result A E) (text new bytes : List ℕ) (marks : List Mark) → StandWithin (length text) marks → new ≡ (if is_ok appended then text ++ bytes else text) → StandWithin (length new) marks
 StandWithin-grown (Ok value) text new bytes marks stands now = rw now (StandWithin-more (length text) (length (text ++ bytes)) marks stands (rw length-append (omega arith)))

@@ -1,8 +1,8 @@
 //! What a machine gave out, kept as a run of bytes with status lines in it.
 
-ghost use Rattle.std.specs.Prelude.{◌≡◌, ◌<◌, ◌≤◌, ◌+◌, ◌++◌, ◌∷◌, [], OnErr, OnOk, length, map};
+ghost use Rattle.std.specs.Prelude.{◌≡◌, ◌<◌, ◌≤◌, ◌++◌, ◌∷◌, [], OnErr, OnOk, length, map, reverse};
 ghost use Rattle.zfault.specs.declared.item.Item.TheVariants.{Status as Line, Text};
-ghost use Rattle.zfault.specs.Items.{text_of};
+ghost use Rattle.zfault.specs.Items.{StandWithin, items_of, text_of};
 
 use crate::item::Status;
 use std::alloc::{AllocError, Global};
@@ -10,10 +10,11 @@ use std::marker::Model;
 
 /// A status line among text.
 #[derive(Drop)]
-struct Mark {
+pub struct Mark {
     /// How many bytes of text were given out before it.
-    place: usize,
-    status: Status,
+    pub place: usize,
+    /// What it shows.
+    pub status: Status,
 }
 
 /// The [`Item`](crate::Item)s that were given out, in order. A byte of text takes a byte.
@@ -52,6 +53,14 @@ impl Items {
         ensures { result.now ≡ text_of self.now.items }
     {
         self.text.as_slice()
+    }
+
+    /// The status lines, the oldest first, each with its place in the text.
+    pub fn marks(&self) -> &[Mark]
+        ensures items { self.now.items ≡ items_of (text_of self.now.items) (reverse result.now) }
+        ensures order { StandWithin (length (text_of self.now.items)) (reverse result.now) }
+    {
+        self.marks.as_slice()
     }
 
     /// Takes all items out. The memory stays.

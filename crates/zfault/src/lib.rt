@@ -17,7 +17,7 @@ pub use devices::{Failed, Sink, Source};
 pub use event::Event;
 pub use fault::Fault;
 pub use item::{Item, Name, Status};
-pub use items::Items;
+pub use items::{Items, Mark};
 pub use line::{LINE_LIMIT, Line};
 pub use pause::{Need, Pause};
 pub use writing::write_whole;
