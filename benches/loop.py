@@ -3,8 +3,8 @@
 
     loop.py KIND STORY CERTIFICATE
 
-KIND is the name of one instruction, played again and again, or mix: thirteen of them in turn. All but the jump at the end work on globals,
-constants and the stack. Its certificate lists each instruction, and says that a global may be any word.
+KIND is the name of one instruction, played again and again, or sentence, a print of 114 bytes, or mix: thirteen of them in turn. All but
+the prints and the jump at the end work on globals, constants and the stack. Its certificate lists each instruction, and says that a global may be any word.
 """
 import struct
 import sys
@@ -37,6 +37,8 @@ KINDS = {
     "jl": [JL],
     "inc": [INC],
     "push": [PUSH, PULL],
+    "print": [straight.KINDS["print"]],
+    "sentence": [straight.KINDS["sentence"]],
     "mix": [ADD, SUB, JE, STORE_GLOBAL, INC, JL, AND, JZ, STORE, INC_CHK, ADD_CONSTANT, PUSH, PULL],
 }
 ROUNDS = 20

@@ -140,10 +140,11 @@ def line_of(place, said):
 def is_refused_here(place, said):
     """Whether it is said of a function itself that it isn't proved, and not because of another one, or of a name in a proof file."""
     folder, line = line_of(place, said)
-    if OF_OTHERS.search(line):
-        return False
+    # A goal of its own takes the contracts of what it calls as given, so it counts whatever else isn't proved.
     if line.startswith("no proof: ") and "`search` did not prove" in line:
         return True
+    if OF_OTHERS.search(line):
+        return False
     errors = re.findall(rf"(?m)^\./proofs/{re.escape(str(folder))}/\S+: error: (.*)$", said)
     return line.startswith("not proved") and any(not OF_NAMES.search(it) for it in errors)
 

@@ -9,7 +9,7 @@ ghost use Rattle.zboard.specs.Deed.{bytes_in};
 
 use itoa::Buffer;
 use std::alloc::AllocError;
-use zfault::{Item, give_text};
+use zfault::Items;
 use ztext::{TextError, decode_into, output_byte};
 
 /// Gives out the text at a place, all or none. Only a text that prints something can be refused memory.
@@ -17,7 +17,7 @@ pub(crate) fn give_decoded(
     memory: &[u8],
     at: usize,
     text: &mut Vec<u8>,
-    items: &mut Vec<Item>,
+    items: &mut Items,
 ) -> Result<(), AllocError>
     requires { IsOk (output_at memory.now at) }
     ensures ok { OnOk result (items.new.items ≡ items.old.items ++ map Text (bytes_in (output_at memory.now at))) }
@@ -26,31 +26,31 @@ pub(crate) fn give_decoded(
 {
     text.clear();
     match decode_into(memory, at, text) {
-        Ok(_) => give_text(items, text.as_slice()),
+        Ok(_) => items.give_text(text.as_slice()),
         Err(TextError::OutOfMemory) => Err(AllocError),
         Err(_) => unreachable!(),
     }
 }
 
 /// Gives out the character of a code.
-pub(crate) fn give_character(code: u16, items: &mut Vec<Item>) -> Result<(), AllocError>
+pub(crate) fn give_character(code: u16, items: &mut Items) -> Result<(), AllocError>
     ensures ok { OnOk result (items.new.items ≡ items.old.items ++ map Text (output_of_code code)) }
     ensures err { OnErr result (0 < length (output_of_code code)) }
     ensures kept { OnErr result (items.new.items ≡ items.old.items) }
 {
     match output_byte(code) {
-        Some(byte) => give_text(items, &[byte]),
+        Some(byte) => items.give_text(&[byte]),
         None => Ok(()),
     }
 }
 
 /// Gives out a word as a signed number in decimals.
-pub(crate) fn give_number(word: u16, items: &mut Vec<Item>) -> Result<(), AllocError>
+pub(crate) fn give_number(word: u16, items: &mut Items) -> Result<(), AllocError>
     ensures ok { OnOk result (items.new.items ≡ items.old.items ++ map Text (signed_decimal (signed word))) }
     ensures err { OnErr result (0 < length (signed_decimal (signed word))) }
     ensures kept { OnErr result (items.new.items ≡ items.old.items) }
 {
     let mut buffer = Buffer::new();
     let digits = buffer.format(word.cast_signed());
-    give_text(items, digits.as_bytes())
+    items.give_text(digits.as_bytes())
 }

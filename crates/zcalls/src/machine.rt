@@ -2,7 +2,7 @@
 
 use crate::outside::{Nothing, Page};
 use std::alloc::{AllocError, Global};
-use zfault::{FromRead, Item};
+use zfault::{FromRead, Items};
 use zplay::Session;
 use zplayer::{End, Options, PlayError, play_checked, play_story};
 use zref::CheckedMachine;
@@ -17,10 +17,10 @@ pub trait Machine {
     fn memory(&self) -> &[u8];
 
     /// Makes at most so many steps.
-    fn run(&mut self, budget: u32, items: &mut Vec<Item>) -> Result<Stop, AllocError>;
+    fn run(&mut self, budget: u32, items: &mut Items) -> Result<Stop, AllocError>;
 
     /// The same, where each step takes one off.
-    fn run_down(&mut self, left: &mut u32, items: &mut Vec<Item>) -> Result<Stop, AllocError>;
+    fn run_down(&mut self, left: &mut u32, items: &mut Items) -> Result<Stop, AllocError>;
 
     /// Makes at most so many steps, and writes what they give out.
     fn play(&mut self, alloc: Global, page: &mut Page, budget: u32) -> Result<End, PlayError>;
@@ -43,11 +43,11 @@ impl<'a> Machine for Session<'a> {
         Session::memory(self)
     }
 
-    fn run(&mut self, budget: u32, items: &mut Vec<Item>) -> Result<Stop, AllocError> {
+    fn run(&mut self, budget: u32, items: &mut Items) -> Result<Stop, AllocError> {
         Ok(Stop::Paused(Session::run(self, budget, items)?))
     }
 
-    fn run_down(&mut self, left: &mut u32, items: &mut Vec<Item>) -> Result<Stop, AllocError> {
+    fn run_down(&mut self, left: &mut u32, items: &mut Items) -> Result<Stop, AllocError> {
         Ok(Stop::Paused(Session::run_down(self, left, items)?))
     }
 
@@ -75,11 +75,11 @@ impl<'a> Machine for CheckedMachine<'a> {
         self.state().memory()
     }
 
-    fn run(&mut self, budget: u32, items: &mut Vec<Item>) -> Result<Stop, AllocError> {
+    fn run(&mut self, budget: u32, items: &mut Items) -> Result<Stop, AllocError> {
         CheckedMachine::run(self, budget, items)
     }
 
-    fn run_down(&mut self, left: &mut u32, items: &mut Vec<Item>) -> Result<Stop, AllocError> {
+    fn run_down(&mut self, left: &mut u32, items: &mut Items) -> Result<Stop, AllocError> {
         CheckedMachine::run_down(self, left, items)
     }
 

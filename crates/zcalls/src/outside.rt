@@ -3,7 +3,7 @@
 ghost use Rattle.std.specs.Prelude.{Some, zero};
 
 use arrayvec::ArrayVec;
-use zfault::{Failed, Item, Sink};
+use zfault::{Failed, Items, Sink};
 use zplayer::{SaveStore, Words};
 
 /// How many bytes a page has room for.
@@ -28,12 +28,10 @@ impl Page {
     }
 
     /// A page with the text of these items, as far as it has room.
-    pub fn of(items: &[Item]) -> Page {
+    pub fn of(items: &Items) -> Page {
         let mut page = Page::new();
-        for item in items {
-            if let Item::Text(byte) = item {
-                let _ = page.bytes.try_push(*byte);
-            }
+        for byte in items.text() {
+            let _ = page.bytes.try_push(*byte);
         }
         page
     }

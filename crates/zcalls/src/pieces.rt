@@ -4,7 +4,7 @@
 use crate::machine::Machine;
 use crate::outside::Page;
 use std::{io, str};
-use zfault::Pause;
+use zfault::{Items, Pause};
 use zplayer::{End, PlayError};
 use zstate::Stop;
 
@@ -33,7 +33,7 @@ pub fn go<M: Machine>(rt: &HostRuntime, machine: &mut M, way: Way) -> io::Result
 
 /// Steps one by one, and says where each leads.
 fn step<M: Machine>(rt: &HostRuntime, machine: &mut M) -> io::Result<()> {
-    let mut items = Vec::new(rt.alloc());
+    let mut items = Items::new(rt.alloc());
     say(rt, "opening", machine, &Page::new())?;
     for _ in 0..MOST {
         let ran = machine.run(1, &mut items);
@@ -49,7 +49,7 @@ fn step<M: Machine>(rt: &HostRuntime, machine: &mut M) -> io::Result<()> {
 
 /// Makes all steps at once.
 fn run<M: Machine>(rt: &HostRuntime, machine: &mut M) -> io::Result<()> {
-    let mut items = Vec::new(rt.alloc());
+    let mut items = Items::new(rt.alloc());
     let mut left = MOST;
     for _ in 0..MOST {
         let ran = machine.run_down(&mut left, &mut items);

@@ -1,3 +1,4 @@
 mod Worked
 pub mod DeviceLemmas
+pub mod ItemLemmas
 mod LineLemmas

@@ -1,6 +1,6 @@
 -- Values of the definitions, computed.
 use Rattle.std.proofs.Common.{◌≡◌, ℕ, zero, suc, ◌^◌, ◌-◌, Bool, true, false, [], ◌∷◌, replicate, Some, None, Result, Ok, Err, refl, arith}
-use Rattle.std.specs.Prelude.{take}
+use Rattle.std.specs.Prelude.{pos, take}
 use Rattle.std.specs.Io.KnownBytes.{Appends}
 use Rattle.zfault.specs.declared.adapters.FromRead.{FromRead}
 use Rattle.zfault.specs.declared.adapters.ToWrite.{ToWrite}
@@ -12,6 +12,10 @@ use Rattle.zfault.specs.Adapters.{reader_of, read_failures, unflushed, writer_of
 use Rattle.zfault.specs.Answers.{pause_for, answers}
 use Rattle.zfault.specs.Devices.{AppendsBeginning, ChangesFront, CountsFailure, HandsOn, LetsWait, RisesByOne, waits_after}
 use Rattle.zfault.specs.Fault.{number_of}
+use Rattle.zfault.specs.declared.item.Item.TheVariants.{Status, Text}
+use Rattle.zfault.specs.declared.item.Status.{Status as AStatus}
+use Rattle.zfault.specs.declared.items.Mark.{Mark}
+use Rattle.zfault.specs.Items.{items_of, StandWithin, text_of}
 use Rattle.zfault.specs.Line.{padded, IsPadded}
 
 -- ---- faults, pauses and events
@@ -94,3 +98,36 @@ lines = (refl, refl, refl)
 -- what a line doesn't count is zeros
 kept : IsPadded (padded (108 ∷ 111 ∷ [])) 2 × IsPadded (padded (108 ∷ 0 ∷ [])) 2 × (IsPadded (padded (108 ∷ 111 ∷ [])) 1 → ⊥) × (IsPadded (108 ∷ []) 1 → ⊥)
 kept = (record { whole = refl; limit = omega arith; zeros = refl }, record { whole = refl; limit = omega arith; zeros = refl }, λ p. absurd cc, λ p. omega (arith, p.whole))
+
+-- ---- items
+
+one : AStatus
+one = record { name = 65 ∷ []; first = pos 1; second = pos 2; time = false }
+
+two : AStatus
+two = record { name = []; first = pos 3; second = pos 4; time = true }
+
+mark : ℕ → AStatus → Mark
+mark place status = record { place = place; status = status }
+
+-- text alone, and nothing
+text_alone : (items_of (104 ∷ 105 ∷ []) [] ≡ Text 104 ∷ Text 105 ∷ []) × (items_of [] [] ≡ [])
+text_alone = (refl, refl)
+
+-- a status line before the text, in it, and behind it; the newest is named first
+one_line : (items_of (104 ∷ 105 ∷ []) (mark 0 one ∷ []) ≡ Status one ∷ Text 104 ∷ Text 105 ∷ []) × (items_of (104 ∷ 105 ∷ []) (mark 1 one ∷ []) ≡ Text 104 ∷ Status one ∷ Text 105 ∷ []) × (items_of (104 ∷ 105 ∷ []) (mark 2 one ∷ []) ≡ Text 104 ∷ Text 105 ∷ Status one ∷ [])
+unfolding mark
+one_line = (refl, refl, refl)
+
+-- two at one place, two with text between them, and one with no text
+two_lines : (items_of (104 ∷ 105 ∷ []) (mark 1 two ∷ mark 1 one ∷ []) ≡ Text 104 ∷ Status one ∷ Status two ∷ Text 105 ∷ []) × (items_of (104 ∷ 105 ∷ []) (mark 2 two ∷ mark 0 one ∷ []) ≡ Status one ∷ Text 104 ∷ Text 105 ∷ Status two ∷ []) × (items_of [] (mark 0 one ∷ []) ≡ Status one ∷ [])
+unfolding mark
+two_lines = (refl, refl, refl)
+
+-- lines in the text, in order
+standing : StandWithin 2 (mark 2 two ∷ mark 0 one ∷ []) × StandWithin 0 (mark 0 two ∷ mark 0 one ∷ []) × (StandWithin 2 (mark 3 one ∷ []) → ⊥) × (StandWithin 2 (mark 1 two ∷ mark 2 one ∷ []) → ⊥)
+unfolding mark
+standing = ((omega arith, (omega arith, tt)), (omega arith, (omega arith, tt)), λ s. omega (arith, s.0), λ s. omega (arith, s.1.0))
+
+text_among : (text_of (Text 104 ∷ Status one ∷ Text 105 ∷ Status two ∷ []) ≡ 104 ∷ 105 ∷ []) × (text_of (Status one ∷ []) ≡ [])
+text_among = (refl, refl)

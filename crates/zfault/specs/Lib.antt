@@ -2,4 +2,5 @@ pub mod Adapters
 pub mod Answers
 pub mod Devices
 pub mod Fault
+pub mod Items
 pub mod Line

@@ -1,9 +1,8 @@
 //! What a machine gives out: bytes of text and status lines.
 
-ghost use Rattle.std.specs.Prelude.{◌≡◌, ◌<◌, ◌≤◌, ◌++◌, [], IfOk, IsOk, OnErr, OnOk, length, map, nat_eq};
+ghost use Rattle.std.specs.Prelude.{◌≡◌, ◌≤◌, [], IfOk, IsOk, length, nat_eq};
 ghost use Rattle.std.specs.Cmp.{partial_equiv_from_equiv};
 ghost use Rattle.std.specs.Cmp.Lexicographic.{nat_list_eq_equiv, pointwise};
-ghost use Rattle.zfault.specs.declared.item.Item.TheVariants.{Text};
 
 use smallvec::SmallVec;
 use std::alloc::{AllocError, Global};
@@ -78,24 +77,11 @@ pub struct Status {
     pub time: bool,
 }
 
-/// One thing given out, in the order of the transcript.
-#[derive(Debug, Drop, PartialEq, Eq)]
+/// One thing given out, in the order of the transcript. What was given out is kept as [`Items`](crate::Items).
+#[derive(Drop)]
 pub enum Item {
     /// A byte of text, as it is to be written; 10 ends a line.
     Text(u8),
     /// What the status line is to show from here on.
     Status(Status),
-}
-
-/// Gives out bytes of text, all or none. Memory can be refused only where there is a byte.
-pub fn give_text(items: &mut Vec<Item>, bytes: &[u8]) -> Result<(), AllocError>
-    ensures ok { OnOk result (items.new.items ≡ items.old.items ++ map Text bytes.now) }
-    ensures err { OnErr result (0 < length bytes.now) }
-    ensures kept { OnErr result (items.new.items ≡ items.old.items) }
-{
-    items.reserve(bytes.len())?;
-    for byte in bytes {
-        items.push_reserved(Item::Text(*byte));
-    }
-    Ok(())
 }

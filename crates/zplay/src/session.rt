@@ -19,7 +19,7 @@ use std::marker::Model;
 use zboard::{Board, Row, play};
 use zcheck::Accepted;
 use zdomain::Interval;
-use zfault::{Event, Item, Need, Pause};
+use zfault::{Event, Items, Need, Pause};
 use zframe::Frames;
 use zrule::each_step_is_safe;
 
@@ -125,7 +125,7 @@ impl<'a> Session<'a> {
     ///
     /// A pause leaves the state before its instruction; so does want of memory, which comes only where the next
     /// instruction gives something out, with the items of the steps that were made.
-    pub fn run(&mut self, budget: u32, items: &mut Vec<Item>) -> Result<Pause, AllocError>
+    pub fn run(&mut self, budget: u32, items: &mut Items) -> Result<Pause, AllocError>
         ensures play { self.new.accepted ≡ self.old.accepted }
         ensures ok { IfOk result (λ pause. Ends (Paused pause) self.new.state items.old.items items.new.items (run (setting self.old) [] budget self.old.state)) }
         ensures made { (n : ℕ) × (n ≤ budget) × Makes (setting self.old) n self.old.state self.new.state items.old.items items.new.items }
@@ -138,7 +138,7 @@ impl<'a> Session<'a> {
     }
 
     /// As `run`, with a budget that each step takes one off.
-    pub fn run_down(&mut self, left: &mut u32, items: &mut Vec<Item>) -> Result<Pause, AllocError>
+    pub fn run_down(&mut self, left: &mut u32, items: &mut Items) -> Result<Pause, AllocError>
         ensures play { self.new.accepted ≡ self.old.accepted }
         ensures ok { IfOk result (λ pause. Ends (Paused pause) self.new.state items.old.items items.new.items (run (setting self.old) [] left.old self.old.state)) }
         ensures made { (n : ℕ) × (n + left.new ≡ left.old) × Makes (setting self.old) n self.old.state self.new.state items.old.items items.new.items }

@@ -5,7 +5,7 @@ ghost use Rattle.zstate.specs.State.{Setting, State};
 ghost use Rattle.zstate.specs.Run.{run, Ends, GivesOut, Makes, Stands, WantsMemory};
 
 use std::alloc::AllocError;
-use zfault::{Item, Pause};
+use zfault::{Items, Pause};
 use zplay::Session;
 use zref::CheckedMachine;
 use zstate::Stop;
@@ -29,7 +29,7 @@ pub(crate) trait Machine {
     ///
     /// A pause or a fault leaves the state before its instruction; so does want of memory, with the items of the steps
     /// that were made. Memory is wanted only for the next step.
-    fn run_down(&mut self, left: &mut u32, items: &mut Vec<Item>) -> Result<Stop, AllocError>
+    fn run_down(&mut self, left: &mut u32, items: &mut Items) -> Result<Stop, AllocError>
         ensures play { IsSamePlay self.old self.new }
         ensures ok { IfOk result (λ stop. Ends stop (state self.new) items.old.items items.new.items (run (setting self.old) [] left.old (state self.old))) }
         ensures made { (n : ℕ) × (n + left.new ≡ left.old) × Makes (setting self.old) n (state self.old) (state self.new) items.old.items items.new.items }
@@ -61,7 +61,7 @@ impl<'a> Machine for CheckedMachine<'a> {
 
     ghost IsSamePlay = { SamePlay };
 
-    fn run_down(&mut self, left: &mut u32, items: &mut Vec<Item>) -> Result<Stop, AllocError> {
+    fn run_down(&mut self, left: &mut u32, items: &mut Items) -> Result<Stop, AllocError> {
         CheckedMachine::run_down(self, left, items)
     }
 
@@ -85,7 +85,7 @@ impl<'a> Machine for Session<'a> {
 
     ghost IsSamePlay = { λ old new. new.accepted ≡ old.accepted };
 
-    fn run_down(&mut self, left: &mut u32, items: &mut Vec<Item>) -> Result<Stop, AllocError> {
+    fn run_down(&mut self, left: &mut u32, items: &mut Items) -> Result<Stop, AllocError> {
         Ok(Stop::Paused(Session::run_down(self, left, items)?))
     }
 

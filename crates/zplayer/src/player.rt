@@ -15,7 +15,7 @@ use crate::machine::Machine;
 use crate::outside::{SaveStore, Words};
 use crate::screen::write_items;
 use std::alloc::Global;
-use zfault::{Failed, Item, Pause, Sink, Source};
+use zfault::{Failed, Items, Pause, Sink, Source};
 use zplay::Session;
 use zref::CheckedMachine;
 use zstate::Stop;
@@ -148,7 +148,7 @@ fn play_turns<M: Machine, W: Sink>(
     ensures wanted { IsErrOf result PlayError.OutOfMemory → M.Wants (M.setting machine.old) (M.state machine.new) }
     ensures in_part { IsErrOf result PlayError.Write → PlaysInPart (M.setting machine.old) budget (M.state machine.old) (M.state machine.new) (W.contents writer.old) (W.contents writer.new) }
 {
-    let mut items = Vec::new(alloc);
+    let mut items = Items::new(alloc);
     let mut left = budget;
     'turns: loop {
         if let Some(stop) = turn(machine, writer, &mut left, &mut items)? {
@@ -174,7 +174,7 @@ fn turn<M: Machine, W: Sink>(
     machine: &mut M,
     writer: &mut W,
     left: &mut u32,
-    items: &mut Vec<Item>,
+    items: &mut Items,
 ) -> Result<Option<Stop>, PlayError>
     ensures play { M.IsSamePlay machine.old machine.new }
     ensures stands { IfOk result (λ still. IfSome still (λ stop. Stands (M.setting machine.old) stop (M.state machine.new) × (stop ≡ Stop.Paused Pause.Budget → left.new ≡ 0))) }

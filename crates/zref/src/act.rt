@@ -1,7 +1,6 @@
 //! The effect of a step, which only want of memory can keep from being done.
 
-ghost use Rattle.std.specs.Prelude.{◌≡◌, ◌<◌, ◌≤◌, ◌+◌, ◌^◌, ◌++◌, ◌+ℤ◌, ℕ, Option, None, [], true, drop, pos, length, map, is_some, vec_len, OnOk, OnErr};
-ghost use Rattle.std.specs.Vec.{vec_capacity};
+ghost use Rattle.std.specs.Prelude.{◌≡◌, ◌<◌, ◌≤◌, ◌+◌, ◌^◌, ◌++◌, ◌+ℤ◌, ℕ, Option, None, [], true, drop, pos, length, map, is_some, OnOk, OnErr};
 ghost use Rattle.zfault.specs.declared.item.Item.TheVariants.{Text};
 ghost use Rattle.zstory.specs.LoadedStory.{globals, static_base};
 ghost use Rattle.zstate.specs.Run.{IsLonger};
@@ -14,7 +13,7 @@ use crate::effect::{Course, Effect};
 use crate::plan::Plan;
 use crate::row::Row;
 use std::alloc::AllocError;
-use zfault::Item;
+use zfault::Items;
 use zstate::State;
 use zstory::Story;
 
@@ -28,7 +27,7 @@ pub(crate) fn act_on(
     row: &Row,
     plan: Plan,
     text: &[u8],
-    items: &mut Vec<Item>,
+    items: &mut Items,
 ) -> Result<(), AllocError>
     requires memory { length state.old.memory ≡ length story.now.memory }
     requires reached { state.old.frame.return_place < 2 ^ 24 }
@@ -43,9 +42,9 @@ pub(crate) fn act_on(
     ensures wants { OnErr result (length text.now ≡ 0 → IsLonger state.old (act story.now (shape_of row.now) (effect_with plan.effect text.now) (popped plan.popped state.old))) }
 {
     globals_are_dynamic(story);
-    items.reserve(text.len())?;
+    items.reserve_text(text.len())?;
     go(story, state, row, plan)?;
-    give_text(items, text);
+    items.give_reserved(text);
     Ok(())
 }
 
@@ -160,15 +159,4 @@ fn put_back(story: &Story, state: &mut State, plan: Plan, variable: u8, word: u1
     change(story, state, plan.effect, plan.popped);
     state.leave();
     state.put_named(story, variable, word);
-}
-
-/// Gives out bytes of text, for which there is room.
-#[inline(always)]
-fn give_text(items: &mut Vec<Item>, bytes: &[u8])
-    requires { vec_len items.old + length bytes.now ≤ vec_capacity items.old }
-    ensures { items.new.items ≡ items.old.items ++ map Text bytes.now }
-{
-    for byte in bytes {
-        items.push_reserved(Item::Text(*byte));
-    }
 }

@@ -1,14 +1,13 @@
-use Rattle.std.proofs.Common.{rules}
-use Rattle.zplayer.proofs.Writes.{at_error, begun_more, written_more}
+use Rattle.std.proofs.Common.{List, ℕ, OnErr, OnOk, subst, ◌∙◌}
+use Rattle.std.specs.Io.KnownBytes.{Appends}
+use Rattle.zfault.specs.Devices.{AppendsBeginning}
+use Rattle.zplayer.proofs.Writes.{renders_text}
 use Rattle.zplayer.proofs.screen.write_items.Goals as goal
 
-pub returns-in_err-write_piece-clause-begun : goal.returns-in_err-write_piece-clause-begun
-returns-in_err-write_piece-clause-begun g c =
-    at_error c.from_residual.result _ (begun_more c.args.items.now c.loop-at.at c.min.result _ _ _ c.loop-at.invariant.written c.in_err-write_piece.ensures.begun)
+pub returns-clause-ok : goal.returns-clause-ok
+returns-clause-ok g c =
+    subst (λ (bytes : List ℕ). OnOk c.write_whole.result (Appends (g.W.Sink.contents c.args.sink.now) (g.W.Sink.contents c.write_whole.new.sink) bytes)) (c.text.ensures ∙ renders_text c.args.items.now.items) c.write_whole.ensures.ok
 
-pub loop-at-preserved : goal.loop-at-preserved
-loop-at-preserved g c = record {
-  within = search rules;
-  written = written_more c.args.items.now c.loop-at.at c.min.result _ _ _ c.loop-at.invariant.written c.in_ok-write_piece.ensures.ok;
-  quiet = search rules;
-}
+pub returns-clause-begun : goal.returns-clause-begun
+returns-clause-begun g c =
+    subst (λ (bytes : List ℕ). OnErr c.write_whole.result (AppendsBeginning (g.W.Sink.contents c.args.sink.now) (g.W.Sink.contents c.write_whole.new.sink) bytes)) (c.text.ensures ∙ renders_text c.args.items.now.items) c.write_whole.ensures.begun
