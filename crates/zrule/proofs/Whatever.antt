@@ -57,9 +57,9 @@ module _ {V : Type 0} (o : SetOperations V) (claims : Claims V) (i : Instruction
     unfolding Asked Holds
     returned = whatever (λ f lead w. IfSome f (λ f. Returns o claims routine lead))
 
-    pub stored : EdgesKeep o claims routine next (target i) rules.Stored flow ↔ Whatever o claims i e (λ w. Takes o claims w.gives (target i) × TakesInPlace o claims w.assigns)
+    pub stored : EdgesKeep o claims routine next (target i) rules.Stored flow ↔ Whatever o claims i e (λ w. OnEdge o claims w i e (λ f. Takes o claims w.gives (target i) × TakesInPlace o claims w.assigns))
     unfolding Asked Holds
-    stored = whatever (λ f lead w. Takes o claims w.gives (target i) × TakesInPlace o claims w.assigns)
+    stored = whatever (λ f lead w. IfSome f (λ f. Takes o claims w.gives (target i) × TakesInPlace o claims w.assigns))
 
     pub high : EdgesKeep o claims routine next (target i) rules.High flow ↔ Whatever o claims i e (IsLow o claims i e)
     unfolding Asked Holds

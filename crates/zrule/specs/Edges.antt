@@ -13,7 +13,7 @@ module _ {V : Type 0} (o : SetOperations V) (claims : Claims V) (routine next ta
   abbrev pub EdgeKeeps : Rule → Edge V → Type 0
   EdgeKeeps rules.Successor edge = IfSome edge.after (λ f. length f.slots ≤ 64) → IfSome edge.after (λ f. GoesOn o claims routine f next edge.lead)
   EdgeKeeps rules.Returned edge = IfSome edge.after (λ f. Returns o claims routine edge.lead)
-  EdgeKeeps rules.Stored edge = Takes o claims edge.outcome.gives target × TakesInPlace o claims edge.outcome.assigns
+  EdgeKeeps rules.Stored edge = IfSome edge.after (λ f. Takes o claims edge.outcome.gives target × TakesInPlace o claims edge.outcome.assigns)
   EdgeKeeps rules.High edge = IfSome edge.after (λ f. length f.slots ≤ 64)
   EdgeKeeps rule edge = Unit {0}
 

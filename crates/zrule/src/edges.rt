@@ -131,12 +131,13 @@ fn result_of(certificate: &Certificate, routine: u16) -> Interval
     }
 }
 
-/// Whether what an edge stores to globals lies in their sets. `target` is the variable that takes the result.
+/// Whether what an edge stores to globals lies in their sets, if it can be taken. `target` is the variable that takes the result.
 pub(crate) fn stores(certificate: &Certificate, target: u8, edge: &Edge<'_, Interval>) -> bool
-    ensures { IsTrue result ↔ (Takes interval_operations (claims_of interval_operations certificate.now) edge.now.outcome.gives target × TakesInPlace interval_operations (claims_of interval_operations certificate.now) edge.now.outcome.assigns) }
+    ensures { IsTrue result ↔ IfSome edge.now.after (λ f. Takes interval_operations (claims_of interval_operations certificate.now) edge.now.outcome.gives target × TakesInPlace interval_operations (claims_of interval_operations certificate.now) edge.now.outcome.assigns) }
 {
-    takes(certificate, edge.outcome.gives, target)
-        && takes_in_place(certificate, edge.outcome.assigns)
+    edge.after.is_none()
+        || (takes(certificate, edge.outcome.gives, target)
+            && takes_in_place(certificate, edge.outcome.assigns))
 }
 
 /// Whether what is given to a variable lies in its set, if that is a global.
