@@ -12,7 +12,7 @@ use zdomain::Domain;
 
 /// The sets of locals, with at most four in the place of those that are lent. Each is kept with the index of its local; of two for one
 /// local, that of the later field counts.
-#[derive(Clone, Copy)]
+#[derive(Drop)]
 pub(crate) struct LocalSets<'a, V> {
     lent: &'a [V],
     assigned: Option<(u8, V)>,

@@ -11,7 +11,7 @@ use crate::parts::Outcome;
 use zdomain::Domain;
 
 /// The sets of slots: those that are lent, the top last, and at most two above them.
-#[derive(Clone, Copy)]
+#[derive(Drop)]
 pub(crate) struct SlotSets<'a, V> {
     lent: &'a [V],
     /// In the place of the top slot, which is then not lent.

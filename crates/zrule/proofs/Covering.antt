@@ -1,13 +1,9 @@
 -- An edge to a listed place.
-use Rattle.std.proofs.Common.{◌≡◌, ◌↔◌, ℕ, List, [], ◌∷◌, ◌++◌, reverse, Some, None, sym, ◌∙◌, subst}
-use Rattle.std.specs.List.{AllZip}
+use Rattle.std.proofs.Common.{◌≡◌, ◌↔◌, ℕ, Some, None, sym, ◌∙◌, subst}
 use Rattle.std.proofs.lemmas.Option.{same_Some}
-use Rattle.std.proofs.lemmas.List.{reverse-append, reverse-reverse}
-use Rattle.std.proofs.lemmas.Slice.Zip.{all_zipped_more}
-use Rattle.zdomain.specs.Domain.{SetOperations, Within}
-use Rattle.zcert.specs.Certificate.{Instruction}
+use Rattle.zdomain.specs.Domain.{SetOperations}
 use Rattle.zflow.specs.Transfer.{Shape}
-use Rattle.zrule.specs.Claims.{Entry, Claims, entry_of}
+use Rattle.zrule.specs.Claims.{Entry, Claims}
 use Rattle.zrule.specs.Rules.{Covers, Leads}
 
 -- an edge to a place where this is listed

@@ -1,5 +1,5 @@
 -- A frame of which a variable is given a value of a set, whatever a global takes.
-use Rattle.std.proofs.Common.{◌≡◌, ℕ, ◌-◌, Bool, true, false, ◌∷◌, Option, Some, None, nat_lt, slice_set, if◌then◌else◌}
+use Rattle.std.proofs.Common.{ℕ, ◌-◌, Bool, true, false, ◌∷◌, Some, nat_lt, slice_set, if◌then◌else◌}
 use Rattle.std.specs.Prelude.{◌==◌}
 use Rattle.zstory.specs.LoadedStory.{LoadedStory}
 use Rattle.zdomain.specs.Domain.{SetOperations, In}

@@ -1,7 +1,7 @@
-use Rattle.std.proofs.Common.{◌≡◌, Some, None, refl, sym, ◌∙◌, slice_get}
+use Rattle.std.proofs.Common.{refl, sym, ◌∙◌}
 use Rattle.zdomain.specs.Domain.{Within}
 use Rattle.zflow.specs.Lent.{locals_seen}
-use Rattle.zflow.proofs.Changes.{zip_ended, zip_too_few, zip_too_many, zip_from}
+use Rattle.zflow.proofs.Changes.{zip_ended, zip_from}
 use Rattle.zflow.proofs.local_sets.LocalSets.+are_within_from.Goals as goal
 
 pub returns-in-None-empty : goal.returns-in-None-empty
