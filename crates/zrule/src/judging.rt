@@ -3,7 +3,7 @@
 ghost use Rattle.std.specs.Prelude.{◌≡◌, ◌↔◌, ◌+◌, ◌≤◌, ℕ, Bool, IsTrue, IfSome, IfNone, IfOk, IfErr, MatchOption, Some, length};
 ghost use Rattle.std.specs.Bool.{OnTrue};
 ghost use Rattle.zdomain.specs.Interval.{interval_operations};
-ghost use Rattle.zcert.specs.Listed.{listed_at, seen};
+ghost use Rattle.zcert.specs.Listed.{seen};
 ghost use Rattle.zcode.specs.Instruction.{Instruction as Spelled};
 ghost use Rattle.zcode.specs.Operation.{target};
 ghost use Rattle.zcode.specs.Opcodes.{prints_text};
@@ -196,7 +196,6 @@ fn broken_rule(
     certificate: &Certificate,
     listed: &Instruction<'_, Interval>,
 ) -> Option<Rule>
-    requires { listed_at certificate.now.instructions listed.now.address ≡ Some (seen listed.now) }
     ensures { MatchOption result ((rule : ARule) → Keeps interval_operations (claims_of interval_operations certificate.now) story.now listed.now.address (entry_of (seen listed.now)) rule) (IsLowestBroken interval_operations (claims_of interval_operations certificate.now) story.now listed.now.address (entry_of (seen listed.now))) }
 {
     let mut ends = TextEnds::new(story.memory());
@@ -222,7 +221,6 @@ pub fn judge(
     near: usize,
     ends: &mut TextEnds<'_>,
 ) -> Result<Instr, Rule>
-    requires listed { listed_at certificate.now.instructions listed.now.address ≡ Some (seen listed.now) }
     requires ends { ends.old ≡ story.now.memory }
     ensures memory { ends.new ≡ ends.old }
     ensures there { IfOk result (λ i. IsThere story.now listed.now.address i) }
