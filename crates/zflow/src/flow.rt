@@ -63,8 +63,8 @@ pub fn flow_of<'a, V: Domain>(
     Flow {
         popped,
         demands: demands_if(operation, first, second),
-        held: edge_if(locals, left, instruction, outcomes.held),
-        failed: edge_if(locals, left, instruction, outcomes.failed),
+        held: edge_of(locals, left, instruction, outcomes.held),
+        failed: edge_of(locals, left, instruction, outcomes.failed),
     }
 }
 
@@ -89,7 +89,7 @@ pub fn first_known<V: Domain>(
 }
 
 /// The edge on which an outcome comes, if it may come. The locals and the slots, the top last, are those that the operands left.
-fn edge_if<'a, V: Domain>(
+fn edge_of<'a, V: Domain>(
     locals: &'a [V],
     slots: &'a [V],
     instruction: &Instr,
@@ -99,28 +99,12 @@ fn edge_if<'a, V: Domain>(
     ensures lead { IfSome result (λ x. x.lead ≡ leading V.operations x.outcome instruction.now.branch) }
     ensures after { IfSome result (λ x. x.after ≡ narrowed V.operations x.outcome.kept (with_result x.outcome.gives (target instruction.now) (with_assigned x.outcome.assigns (shape_of locals.now slots.now)))) }
 {
-    match outcome {
-        Some(outcome) => Some(edge_of(locals, slots, instruction, &outcome)),
-        None => None,
-    }
-}
-
-/// The edge on which this outcome comes.
-fn edge_of<'a, V: Domain>(
-    locals: &'a [V],
-    slots: &'a [V],
-    instruction: &Instr,
-    outcome: &Outcome<V>,
-) -> Edge<'a, V>
-    ensures outcome { result.outcome ≡ outcome.now }
-    ensures lead { result.lead ≡ leading V.operations outcome.now instruction.now.branch }
-    ensures after { result.after ≡ narrowed V.operations outcome.now.kept (with_result outcome.now.gives (target instruction.now) (with_assigned outcome.now.assigns (shape_of locals.now slots.now))) }
-{
-    Edge {
-        outcome: *outcome,
-        lead: leading(outcome, instruction.branch()),
-        after: Known::after(locals, slots, outcome, instruction.target()),
-    }
+    let outcome = outcome?;
+    Some(Edge {
+        outcome,
+        lead: leading(&outcome, instruction.branch()),
+        after: Known::after(locals, slots, &outcome, instruction.target()),
+    })
 }
 
 /// Where an outcome leads: along the branch, where that is taken.

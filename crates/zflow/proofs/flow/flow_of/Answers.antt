@@ -14,8 +14,8 @@ returns g c =
     let read = c.read-first.ensures in
     let outcomes = c.outcomes_if-outcomes.ensures in
     let mid = mid_is o globals i c.args.locals.now c.args.slots.now c.below-left.result.now _ _ operands popped c.below-left.ensures.lasting in
-    let held = c.edge_if.ensures in
-    let failed = c.edge_if-2.ensures in
+    let held = c.edge_of.ensures in
+    let failed = c.edge_of-2.ensures in
     record {
       popped = rw (← operands) popped;
       demands = demands_are o globals i e _ _ _ _ _ _ c.opcode.ensures c.operation-operation.ensures operands read.first read.second c.demands_if.ensures;
