@@ -1,15 +1,16 @@
 -- What is known, part by part, is what the definitions say of an instruction.
-use Rattle.std.proofs.Common.{◌≡◌, ℕ, Bool, List, drop, Option, Some, None, refl, sym}
-use Rattle.std.specs.Prelude.{reverse}
+use Rattle.std.proofs.Common.{◌≡◌, ℕ, Bool, List, drop, Option, Some, None, refl, sym, subst}
+use Rattle.std.specs.Prelude.{reverse, IfSome}
 use Rattle.zcode.specs.declared.opcode.Opcode.{Opcode}
 use Rattle.zcode.specs.declared.instr.Operand.{Operand}
 use Rattle.zcode.specs.declared.operation.Operation.{Operation}
 use Rattle.zcode.specs.Instruction.{Instruction}
 use Rattle.zcode.specs.Operation.{operation_of, inputs, target}
 use Rattle.zdomain.specs.Domain.{SetOperations}
+use Rattle.zflow.specs.declared.flow.Edge.{Edge}
 use Rattle.zflow.specs.declared.parts.Demands.{Demands}
 use Rattle.zflow.specs.declared.parts.Outcome.{Outcome}
-use Rattle.zflow.specs.Transfer.{Shape, pops, below, operand_set, demands_if, demands_at, outcome_if, outcome_at, after, narrowed, with_result, with_assigned}
+use Rattle.zflow.specs.Transfer.{Shape, pops, below, operand_set, demands_if, demands_at, outcome_if, outcome_at, mid_shape, after, narrowed, with_result, with_assigned}
 use Rattle.zflow.specs.Kept.{both, shape_of}
 use Rattle.zflow.proofs.Operands.{demands_read, outcome_read}
 
@@ -30,6 +31,9 @@ module _ {V : Type 0} (o : SetOperations V) where
   outcome_is globals i e opcode operation operands first second seen_globals popped m c w same_opcode same_operation same_operands is_first is_second same_globals is_popped is_mid is =
       rw (is, is_mid, is_popped, same_globals, is_first, is_second, same_operation, same_opcode, same_operands) (outcome_if_read globals (operation_of i.opcode) (inputs i) (operand_set o globals (inputs i) e) (below (pops (inputs i)) e) c)
 
-  pub after_is : (globals : List V) (i : Instruction) (locals slots rest : List V) (w : Outcome V) (operands : List Operand) (popped t : ℕ) (x y z : Shape V) (r : Option (Shape V)) → operands ≡ inputs i → popped ≡ pops operands → t ≡ target i → reverse rest ≡ drop popped (reverse slots) → x ≡ shape_of locals rest → y ≡ with_assigned w.assigns x → z ≡ with_result w.gives t y → r ≡ narrowed o w.kept z → r ≡ after o globals i (shape_of locals slots) w
-  after_is globals i locals slots rest w operands popped t x y z r same_operands is_popped is_target is_rest is_shape is_assigned is_given is =
-      rw (is, is_given, is_assigned, is_shape, is_rest, is_popped, same_operands, is_target) refl
+  pub mid_is : (globals : List V) (i : Instruction) (locals slots rest : List V) (operands : List Operand) (popped : ℕ) → operands ≡ inputs i → popped ≡ pops operands → reverse rest ≡ drop popped (reverse slots) → shape_of locals rest ≡ mid_shape o globals i (shape_of locals slots)
+  mid_is globals i locals slots rest operands popped same_operands is_popped is_rest = rw (is_rest, is_popped, same_operands) refl
+
+  -- what is known behind an edge, by what the operands left
+  pub behind_is : (globals : List V) (i : Instruction) (e m : Shape V) (edge : Option (Edge V)) → m ≡ mid_shape o globals i e → IfSome edge (λ x. x.after ≡ narrowed o x.outcome.kept (with_result x.outcome.gives (target i) (with_assigned x.outcome.assigns m))) → IfSome edge (λ x. x.after ≡ after o globals i e x.outcome)
+  behind_is globals i e m edge mid is = subst (λ (f : Shape V). IfSome edge (λ x. x.after ≡ narrowed o x.outcome.kept (with_result x.outcome.gives (target i) (with_assigned x.outcome.assigns f)))) mid is

@@ -1,4 +1,5 @@
 mod Slots
+mod Changes
 mod Operands
 mod Answering
 mod Worked

@@ -1,4 +1,5 @@
 pub mod Transfer
 pub mod Kept
 pub mod View
+pub mod Lent
 pub mod Flow

@@ -1,7 +1,8 @@
 //! What may come of an instruction, on each of its edges.
 
-ghost use Rattle.std.specs.Prelude.{◌≡◌, ◌≤◌, List, length, option_map, IfSome};
-ghost use Rattle.zflow.specs.Transfer.{after, leading, read_set};
+ghost use Rattle.std.specs.Prelude.{◌≡◌, option_map, IfSome};
+ghost use Rattle.zflow.specs.Transfer.{leading, narrowed, read_set, with_assigned, with_result};
+ghost use Rattle.zcode.specs.Operation.{target};
 ghost use Rattle.zflow.specs.Kept.{shape_of};
 ghost use Rattle.zflow.specs.Flow.{IsFlow};
 
@@ -14,30 +15,37 @@ use zcode::{Branch, Destination, Instr};
 use zdomain::Domain;
 
 /// What comes of an instruction where its condition is answered so.
-#[derive(Clone, Copy)]
-pub struct Edge<V> {
+#[derive(Drop)]
+pub struct Edge<'a, V> {
     /// What it does.
     pub outcome: Outcome<V>,
     /// Where it leads.
     pub lead: Lead<V>,
+    /// What is known of the frame behind it; `None` where what a branch says leaves a local no value, so that it can't be taken.
+    pub after: Option<Known<'a, V>>,
 }
 
-/// All that may come of an instruction. What is known of the frame on an edge, `known_after` tells.
-#[derive(Clone, Copy)]
-pub struct Flow<V> {
+/// All that may come of an instruction.
+#[derive(Drop)]
+pub struct Flow<'a, V> {
     /// How many slots it takes off the stack.
     pub popped: usize,
     /// What it asks for.
     pub demands: Demands<V>,
     /// Where its condition holds, or where it asks for none.
-    pub held: Option<Edge<V>>,
+    pub held: Option<Edge<'a, V>>,
     /// Where its condition doesn't hold.
-    pub failed: Option<Edge<V>>,
+    pub failed: Option<Edge<'a, V>>,
 }
 
 /// What may come of an instruction before which this is known: sets of the globals, of the frame's locals and of its slots,
 /// the top slot last. Each set is computed once.
-pub fn flow_of<V: Domain>(globals: &[V], locals: &[V], slots: &[V], instruction: &Instr) -> Flow<V>
+pub fn flow_of<'a, V: Domain>(
+    globals: &[V],
+    locals: &'a [V],
+    slots: &'a [V],
+    instruction: &Instr,
+) -> Flow<'a, V>
     ensures { IsFlow V.operations globals.now instruction.now (shape_of locals.now slots.now) result }
 {
     let before = View {
@@ -51,12 +59,12 @@ pub fn flow_of<V: Domain>(globals: &[V], locals: &[V], slots: &[V], instruction:
     let operation = instruction.opcode().operation();
     let (first, second) = before.read(operands);
     let outcomes = outcomes_if(operation, operands, first, second, before.below(popped));
-    let branch = instruction.branch();
+    let left = below(popped, slots);
     Flow {
         popped,
         demands: demands_if(operation, first, second),
-        held: edge_of(outcomes.held, branch),
-        failed: edge_of(outcomes.failed, branch),
+        held: edge_of(locals, left, instruction, outcomes.held),
+        failed: edge_of(locals, left, instruction, outcomes.failed),
     }
 }
 
@@ -80,34 +88,22 @@ pub fn first_known<V: Domain>(
     first.known()
 }
 
-/// What is known of a frame after an outcome of an instruction, where each local that a branch tells of has a value left. Before
-/// the instruction this is known: sets of the frame's locals and of its slots, the top slot last.
-pub fn known_after<V: Domain>(
-    locals: &[V],
-    slots: &[V],
+/// The edge on which an outcome comes, if it may come. The locals and the slots, the top last, are those that the operands left.
+fn edge_of<'a, V: Domain>(
+    locals: &'a [V],
+    slots: &'a [V],
     instruction: &Instr,
-    outcome: &Outcome<V>,
-) -> Option<Known<V>>
-    requires locals { length locals.now ≤ 15 }
-    requires slots { length slots.now ≤ 64 }
-    ensures { (globals : List V) → result ≡ after V.operations globals instruction.now (shape_of locals.now slots.now) outcome.now }
-{
-    let popped = pops(instruction.inputs().as_slice());
-    let mut known = Known::of(locals, below(popped, slots));
-    known.assign(outcome.assigns);
-    known.give(outcome.gives, instruction.target());
-    known.narrowed(outcome.kept)
-}
-
-/// The edge on which an outcome comes, if it may come.
-fn edge_of<V: Domain>(outcome: Option<Outcome<V>>, branch: Option<Branch>) -> Option<Edge<V>>
+    outcome: Option<Outcome<V>>,
+) -> Option<Edge<'a, V>>
     ensures outcome { option_map (λ x. x.outcome) result ≡ outcome }
-    ensures lead { IfSome result (λ x. x.lead ≡ leading V.operations x.outcome branch) }
+    ensures lead { IfSome result (λ x. x.lead ≡ leading V.operations x.outcome instruction.now.branch) }
+    ensures after { IfSome result (λ x. x.after ≡ narrowed V.operations x.outcome.kept (with_result x.outcome.gives (target instruction.now) (with_assigned x.outcome.assigns (shape_of locals.now slots.now)))) }
 {
     let outcome = outcome?;
     Some(Edge {
         outcome,
-        lead: leading(&outcome, branch),
+        lead: leading(&outcome, instruction.branch()),
+        after: Known::after(locals, slots, &outcome, instruction.target()),
     })
 }
 

@@ -4,11 +4,12 @@
 mod asking;
 mod flow;
 mod known;
+mod local_sets;
 mod outcomes;
 mod parts;
-mod row;
+mod slot_sets;
 mod view;
 
-pub use flow::{Edge, Flow, first_known, flow_of, known_after};
+pub use flow::{Edge, Flow, first_known, flow_of};
 pub use known::Known;
 pub use parts::{Demands, Kept, Lead, Outcome};

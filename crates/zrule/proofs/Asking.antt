@@ -10,9 +10,9 @@ use Rattle.zcode.specs.Instruction.{Instruction}
 use Rattle.zcode.specs.Operation.{operation_of, target}
 use Rattle.zdomain.specs.Domain.{SetOperations, In}
 use Rattle.zflow.specs.declared.parts.Demands.{Demands}
-use Rattle.zrule.specs.declared.exits.Exits.{Exits}
+use Rattle.zflow.specs.declared.flow.Flow.{Flow}
 use Rattle.zflow.specs.Transfer.{demands_of, demands_if, read_set}
-use Rattle.zrule.specs.Exits.{IsExits}
+use Rattle.zflow.specs.Flow.{IsFlow}
 use Rattle.zrule.specs.declared.rule.Rule.{Rule}
 use Rattle.zrule.specs.declared.rule.Rule.TheVariants.{Decodes, Height, Local, Successor, Divisor, Text, Returned, Known, Stored, High}
 use Rattle.zrule.specs.Claims.{Entry, Claims}
@@ -48,15 +48,15 @@ module _ {V : Type 0} (o : SetOperations V) (claims : Claims V) (story : LoadedS
   text_fixed rule is fixed = rw is (on_true _ _ _ (text_asked o (read_set o claims.globals i e.shape) i.opcode) fixed)
 
   -- what is asked of edges
-  module _ (exits : Exits V) (are : IsExits o claims.globals i e.shape exits) (rule : Rule) (b : Bool) (keep : IsTrue b ↔ EdgesKeep o claims e.routine (p + i.size) (target i) rule exits) where
-    as_is : (r : Rule) → rule ≡ r → IsTrue b ↔ EdgesKeep o claims e.routine (p + i.size) (target i) r exits
-    as_is r is = subst (λ (r : Rule). IsTrue b ↔ EdgesKeep o claims e.routine (p + i.size) (target i) r exits) is keep
+  module _ (flow : Flow V) (are : IsFlow o claims.globals i e.shape flow) (rule : Rule) (b : Bool) (keep : IsTrue b ↔ EdgesKeep o claims e.routine (p + i.size) (target i) rule flow) where
+    as_is : (r : Rule) → rule ≡ r → IsTrue b ↔ EdgesKeep o claims e.routine (p + i.size) (target i) r flow
+    as_is r is = subst (λ (r : Rule). IsTrue b ↔ EdgesKeep o claims e.routine (p + i.size) (target i) r flow) is keep
 
-    pub successor_asked : rule ≡ Successor → (d : Bool) → (IsTrue d → IfSome exits.demands.divisor (λ a. In o a 0 → ⊥)) → d ≡ true → exits.demands.certain ≡ true → IsTrue b ↔ Asks o claims story p e i rule
+    pub successor_asked : rule ≡ Successor → (d : Bool) → (IsTrue d → IfSome flow.demands.divisor (λ a. In o a 0 → ⊥)) → d ≡ true → flow.demands.certain ≡ true → IsTrue b ↔ Asks o claims story p e i rule
     successor_asked is d divides there certain =
         let kept = as_is Successor is in
-        let edges = leads_on o claims i e.shape exits are e.routine (p + i.size) in
-        let known : demands_at o claims i e.shape ≡ exits.demands = sym are.demands in
+        let edges = leads_on o claims i e.shape flow are e.routine (p + i.size) in
+        let known : demands_at o claims i e.shape ≡ flow.demands = sym are.demands in
         let divided : Divides o claims i e.shape = subst (λ (x : Demands V). IfSome x.divisor (λ a. In o a 0 → ⊥)) are.demands (divides there) in
         let sure : (demands_at o claims i e.shape).certain ≡ true = ap (λ (x : Demands V). x.certain) known ∙ certain in
         subst (λ (r : Rule). IsTrue b ↔ Asks o claims story p e i r) (sym is) (λ t _. (sure, edges.0 (kept.0 t)), λ h. kept.1 (edges.1 (h divided).1))
@@ -64,19 +64,19 @@ module _ {V : Type 0} (o : SetOperations V) (claims : Claims V) (story : LoadedS
     pub returned_asked : rule ≡ Returned → IsTrue b ↔ Asks o claims story p e i rule
     returned_asked is =
         let kept = as_is Returned is in
-        let edges = returned o claims i e.shape exits are e.routine (p + i.size) in
+        let edges = returned o claims i e.shape flow are e.routine (p + i.size) in
         subst (λ (r : Rule). IsTrue b ↔ Asks o claims story p e i r) (sym is) (λ t. edges.0 (kept.0 t), λ h. kept.1 (edges.1 h))
 
     pub stored_asked : rule ≡ Stored → IsTrue b ↔ Asks o claims story p e i rule
     stored_asked is =
         let kept = as_is Stored is in
-        let edges = stored o claims i e.shape exits are e.routine (p + i.size) in
+        let edges = stored o claims i e.shape flow are e.routine (p + i.size) in
         subst (λ (r : Rule). IsTrue b ↔ Asks o claims story p e i r) (sym is) (λ t. edges.0 (kept.0 t), λ h. kept.1 (edges.1 h))
 
     pub high_asked : rule ≡ High → IsTrue b ↔ Asks o claims story p e i rule
     high_asked is =
         let kept = as_is High is in
-        let edges = high o claims i e.shape exits are e.routine (p + i.size) in
+        let edges = high o claims i e.shape flow are e.routine (p + i.size) in
         subst (λ (r : Rule). IsTrue b ↔ Asks o claims story p e i r) (sym is) (λ t. edges.0 (kept.0 t), λ h. kept.1 (edges.1 h))
 
   -- what is asked of every instruction that is there is asked of this one

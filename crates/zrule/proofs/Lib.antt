@@ -10,6 +10,7 @@ mod Asking
 pub mod Sets
 mod Memory
 mod Fitting
+mod Framed
 mod Settling
 mod Parts
 pub mod Stepping

@@ -34,14 +34,14 @@ use Rattle.zstate.specs.declared.halt.Halt.{Halt}
 use Rattle.zstate.specs.declared.halt.Halt.TheVariants as halts
 use Rattle.zstate.specs.InTurn.{◌>>=◌}
 use Rattle.zstate.specs.State.{Frame, State, Setting, IsState, opening, at_place, popped, with_stack, with_locals, with_memory, write_word, global, has_room, exists, put_named, put_in_place, read_in_place, read_operands}
-use Rattle.zstate.specs.Step.{Move, on, back, Effect, Done, way, arg, asked_of, giving, assigning, testing, printing, jumping, fetch, printed, print_at, effect_of, effect_if, has_caller, is_taken, is_roomy, turned, course, admits, pauses, settle, assigned, changed, left, moved, advance, act, step}
+use Rattle.zstate.specs.Step.{Move, on, back, Effect, Done, way, arg, asked_of, giving, assigning, testing, printing, jumping, fetch, printed, print_at, effect_of, effect_if, has_caller, is_taken, is_roomy, turned, course, admits, pauses, settle, assigned, changed, stored, left, moved, advance, act, step}
 use Rattle.zstate.proofs.Keeps.{bind_ok, put_aside, changed_aside, step_keeps}
 use Rattle.zflow.specs.declared.parts.Lead.{Lead}
 use Rattle.zflow.specs.declared.parts.Lead.TheVariants.{Ahead, Returning}
 use Rattle.zflow.specs.declared.parts.Kept.{Kept}
 use Rattle.zflow.specs.declared.parts.Outcome.{Outcome}
 use Rattle.zflow.specs.declared.parts.Demands.{Demands}
-use Rattle.zflow.specs.Transfer.{Shape, pops, variable_set, small, local_kept, operand_kept, both_kept, untold, counted_set, demands_of, demands_if, goes_on, gives_in, assigns_in, asks, counts_in, jumps, outcome_of, outcome_if, leading, turned_to, named_with, with_assigned, narrowed, read_set, mid_shape, changed_by, after}
+use Rattle.zflow.specs.Transfer.{Shape, pops, variable_set, small, local_kept, operand_kept, both_kept, untold, counted_set, demands_of, demands_if, goes_on, gives_in, assigns_in, asks, counts_in, jumps, outcome_of, outcome_if, leading, turned_to, named_with, with_result, with_assigned, narrowed, read_set, mid_shape, changed_by, after}
 use Rattle.zrule.specs.declared.rule.Rule.TheVariants as rules
 use Rattle.zrule.specs.Claims.{Claims}
 use Rattle.zrule.specs.Rules.{Leads, IsThere, HasFixedText, IsKnown, IsNamed, IsVariable, HasTop, Supports, Takes, TakesInPlace, GoesOn, Returns, OnEdge, demands_at}
@@ -49,6 +49,7 @@ use Rattle.zrule.specs.Described.{Callers, Described, DescribedMemory, Fits, Fit
 use Rattle.zrule.proofs.Sets.{pops_cons, ReadsAll, reads_all, fits_popped, zip_set, zip_length}
 use Rattle.zrule.proofs.Unchanged.{drop_same, abbreviation_same}
 use Rattle.zrule.proofs.Settling.{PausesAtMost, pauses_fine, pauses_there, pauses_none, room_there, admits_is}
+use Rattle.zrule.proofs.Framed.{FitsFrame, in_place_fits, result_fits}
 use Rattle.zrule.proofs.Fitting.{IsIn, exists_in, named_in, covered, fits_there, Mid, put_mid, GivenIn, stored_mid}
 use Rattle.zrule.proofs.Memory.{global_put}
 use Rattle.zrule.proofs.Parts.{Hold, HoldsOne, narrowed_fits, variable_there, small_is}
@@ -498,6 +499,25 @@ module _ {V : Type 0} (o : SetOperations V) (lawful : AreSound o) (claims : Clai
       let known = mid_assigned w.assigns effect.assigns mid t matches.assigns in_place read_known in
       stored_mid o claims m.story loaded.sound d.entry.routine (target i) w.gives effect.gives (with_assigned w.assigns mid) u matches.gives (still_there (with_assigned w.assigns mid) u (length_assigned w.assigns mid) known) given known
 
+  -- and the frame with all parts, whatever globals take
+  fits_assigned : (given : Option (ℕ × V)) (assigns : Option (ℕ × ℕ)) (e : Shape V) (u : State) → AssignedIn given assigns → FitsFrame o claims m.story e u → FitsFrame o claims m.story (with_assigned given e) (assigned m.story assigns u)
+  unfolding AssignedIn
+  fits_assigned None None e u is fits = fits
+  fits_assigned None (Some p) e u is fits = absurd is
+  fits_assigned (Some a) None e u is fits = absurd is
+  fits_assigned (Some a) (Some p) e u is fits =
+      subst (λ (n : ℕ). FitsFrame o claims m.story (with_assigned (Some a) e) (put_in_place m.story n p.1 u)) (sym is.0) (in_place_fits o claims m.story a.0 p.1 a.1 e u is.1 fits)
+
+  fits_given : (given : Option V) (gives : Option ℕ) (e : Shape V) (u : State) → GivenIn o claims m.story loaded.sound given gives → FitsFrame o claims m.story e u → FitsFrame o claims m.story (with_result given (target i) e) (stored m.story gives (target i) u)
+  fits_given None None e u is fits = fits
+  fits_given None (Some x) e u is fits = absurd is
+  fits_given (Some a) None e u is fits = absurd is
+  fits_given (Some a) (Some x) e u is fits = result_fits o claims m.story (target i) x a e u is fits
+
+  fits_changed : (w : Outcome V) (effect : Effect) → Matches w effect → FitsFrame o claims m.story (changed_by o claims.globals i d.entry.shape w) (changed m.story i effect t)
+  unfolding changed
+  fits_changed w effect matches = fits_given w.gives effect.gives (with_assigned w.assigns mid) (assigned m.story effect.assigns t) matches.gives (fits_assigned w.assigns effect.assigns mid t matches.assigns mid_fits)
+
   -- ---- the step
 
   exists_read : exists (target i) t.frame ≡ true
@@ -514,18 +534,18 @@ module _ {V : Type 0} (o : SetOperations V) (lawful : AreSound o) (claims : Clai
     abbrev u : State
     u = changed m.story i effect t
 
-    takes : Takes o claims w.gives (target i) × TakesInPlace o claims w.assigns
-    takes = supports.each d.at d.entry d.listed rules.Stored i there w comes
-
-    known_there : Known_in shape u
-    known_there = mid_changed w effect matches takes.0 takes.1
-
     -- the edge can be taken
     edge : (f : Shape V) × (after o claims.globals i d.entry.shape w ≡ Some f) × Fits o claims f u.frame.locals u.frame.stack
-    edge = edge_of (narrowed o w.kept shape) _ (narrowed_fits o lawful claims w.kept shape u.frame.locals u.frame.stack known_there.fits matches.kept)
+    edge = edge_of (narrowed o w.kept shape) _ (narrowed_fits o lawful claims w.kept shape u.frame.locals u.frame.stack (fits_changed w effect matches) matches.kept)
 
     by_edge : (Rule : Shape V → Type 0) → OnEdge o claims w i d.entry.shape Rule → Rule edge.0
     by_edge Rule rule = subst (λ (r : Option (Shape V)). IfSome r Rule) edge.1 rule
+
+    takes : Takes o claims w.gives (target i) × TakesInPlace o claims w.assigns
+    takes = by_edge (λ f. Takes o claims w.gives (target i) × TakesInPlace o claims w.assigns) (supports.each d.at d.entry d.listed rules.Stored i there w comes)
+
+    known_there : Known_in shape u
+    known_there = mid_changed w effect matches takes.0 takes.1
 
     returns : Returns o claims d.entry.routine (leading o w i.branch)
     returns = by_edge (λ f. Returns o claims d.entry.routine (leading o w i.branch)) (supports.each d.at d.entry d.listed rules.Returned i there w comes)

@@ -8,60 +8,60 @@ use Rattle.zcode.specs.Operation.{target}
 use Rattle.zdomain.specs.Domain.{SetOperations, Within}
 use Rattle.zflow.specs.declared.parts.Lead.{Lead}
 use Rattle.zflow.specs.declared.parts.Outcome.{Outcome}
-use Rattle.zrule.specs.declared.exits.Exit.{Exit}
-use Rattle.zrule.specs.declared.exits.Exits.{Exits}
+use Rattle.zflow.specs.declared.flow.Edge.{Edge}
+use Rattle.zflow.specs.declared.flow.Flow.{Flow}
 use Rattle.zflow.specs.Transfer.{Shape, outcome_at, after, leading}
-use Rattle.zrule.specs.Exits.{IsExit, IsExits}
+use Rattle.zflow.specs.Flow.{IsEdge, IsFlow}
 use Rattle.zrule.specs.declared.rule.Rule.TheVariants as rules
 use Rattle.zrule.specs.Claims.{Claims}
 use Rattle.zrule.specs.Rules.{GoesOn, Returns, Takes, TakesInPlace, Whatever, OnEdge, IsLow}
 use Rattle.zrule.specs.Edges.{EdgesKeep}
 use Rattle.zrule.proofs.Sets.{some_at}
 
-module _ {V : Type 0} (o : SetOperations V) (claims : Claims V) (i : Instruction) (e : Shape V) (exits : Exits V) (is : IsExits o claims.globals i e exits) where
+module _ {V : Type 0} (o : SetOperations V) (claims : Claims V) (i : Instruction) (e : Shape V) (flow : Flow V) (is : IsFlow o claims.globals i e flow) where
   -- something that is asked of what is known after an edge, of where it leads, and of what came to it
   module _ (P : Option (Shape V) → Lead V → Outcome V → Type 0) where
-    Asked : Option (Exit V) → Type 0
+    Asked : Option (Edge V) → Type 0
     Asked edge = IfSome edge (λ x. P x.after x.lead x.outcome)
 
     Holds : Outcome V → Type 0
     Holds w = P (after o claims.globals i e w) (leading o w i.branch) w
 
-    same : (x : Exit V) → x.after ≡ after o claims.globals i e x.outcome → x.lead ≡ leading o x.outcome i.branch → P x.after x.lead x.outcome ↔ Holds x.outcome
+    same : (x : Edge V) → x.after ≡ after o claims.globals i e x.outcome → x.lead ≡ leading o x.outcome i.branch → P x.after x.lead x.outcome ↔ Holds x.outcome
     unfolding Holds
     same x a l = (λ p. subst (λ (k : Lead V). P (after o claims.globals i e x.outcome) k x.outcome) l (subst (λ (f : Option (Shape V)). P f x.lead x.outcome) a p), λ h. subst (λ (f : Option (Shape V)). P f x.lead x.outcome) (sym a) (subst (λ (k : Lead V). P (after o claims.globals i e x.outcome) k x.outcome) (sym l) h))
 
-    there : (c : Bool) (edge : Option (Exit V)) → IsExit o claims.globals i e c edge → Asked edge → (w : Outcome V) → outcome_at o claims.globals i e c ≡ Some w → Holds w
+    there : (c : Bool) (edge : Option (Edge V)) → IsEdge o claims.globals i e c edge → Asked edge → (w : Outcome V) → outcome_at o claims.globals i e c ≡ Some w → Holds w
     unfolding Asked
     there c None is asked w comes = absurd (let none = is.outcome ∙ comes in cc)
     there c (Some x) is asked w comes = subst Holds (same_Some x.outcome w (is.outcome ∙ comes)) ((same x is.behind is.lead).0 asked)
 
-    back : (c : Bool) (edge : Option (Exit V)) → IsExit o claims.globals i e c edge → ((w : Outcome V) → outcome_at o claims.globals i e c ≡ Some w → Holds w) → Asked edge
+    back : (c : Bool) (edge : Option (Edge V)) → IsEdge o claims.globals i e c edge → ((w : Outcome V) → outcome_at o claims.globals i e c ≡ Some w → Holds w) → Asked edge
     unfolding Asked
     back c None is all = tt
     back c (Some x) is all = (same x is.behind is.lead).1 (all x.outcome (sym is.outcome))
 
-    whatever : (Asked exits.held × Asked exits.failed) ↔ Whatever o claims i e Holds
-    whatever = (all, λ h. (back true exits.held is.held (λ w comes. h w (true, comes)), back false exits.failed is.failed (λ w comes. h w (false, comes))))
+    whatever : (Asked flow.held × Asked flow.failed) ↔ Whatever o claims i e Holds
+    whatever = (all, λ h. (back true flow.held is.held (λ w comes. h w (true, comes)), back false flow.failed is.failed (λ w comes. h w (false, comes))))
       where
-        all : Asked exits.held × Asked exits.failed → Whatever o claims i e Holds
-        all asked w (true, comes) = there true exits.held is.held asked.0 w comes
-        all asked w (false, comes) = there false exits.failed is.failed asked.1 w comes
+        all : Asked flow.held × Asked flow.failed → Whatever o claims i e Holds
+        all asked w (true, comes) = there true flow.held is.held asked.0 w comes
+        all asked w (false, comes) = there false flow.failed is.failed asked.1 w comes
 
   module _ (routine next : ℕ) where
-    pub leads_on : EdgesKeep o claims routine next (target i) rules.Successor exits ↔ Whatever o claims i e (λ w. IsLow o claims i e w → OnEdge o claims w i e (λ f. GoesOn o claims routine f next (leading o w i.branch)))
+    pub leads_on : EdgesKeep o claims routine next (target i) rules.Successor flow ↔ Whatever o claims i e (λ w. IsLow o claims i e w → OnEdge o claims w i e (λ f. GoesOn o claims routine f next (leading o w i.branch)))
     unfolding Asked Holds
     leads_on = whatever (λ f lead w. IfSome f (λ f. length f.slots ≤ 64) → IfSome f (λ f. GoesOn o claims routine f next lead))
 
-    pub returned : EdgesKeep o claims routine next (target i) rules.Returned exits ↔ Whatever o claims i e (λ w. OnEdge o claims w i e (λ f. Returns o claims routine (leading o w i.branch)))
+    pub returned : EdgesKeep o claims routine next (target i) rules.Returned flow ↔ Whatever o claims i e (λ w. OnEdge o claims w i e (λ f. Returns o claims routine (leading o w i.branch)))
     unfolding Asked Holds
     returned = whatever (λ f lead w. IfSome f (λ f. Returns o claims routine lead))
 
-    pub stored : EdgesKeep o claims routine next (target i) rules.Stored exits ↔ Whatever o claims i e (λ w. Takes o claims w.gives (target i) × TakesInPlace o claims w.assigns)
+    pub stored : EdgesKeep o claims routine next (target i) rules.Stored flow ↔ Whatever o claims i e (λ w. OnEdge o claims w i e (λ f. Takes o claims w.gives (target i) × TakesInPlace o claims w.assigns))
     unfolding Asked Holds
-    stored = whatever (λ f lead w. Takes o claims w.gives (target i) × TakesInPlace o claims w.assigns)
+    stored = whatever (λ f lead w. IfSome f (λ f. Takes o claims w.gives (target i) × TakesInPlace o claims w.assigns))
 
-    pub high : EdgesKeep o claims routine next (target i) rules.High exits ↔ Whatever o claims i e (IsLow o claims i e)
+    pub high : EdgesKeep o claims routine next (target i) rules.High flow ↔ Whatever o claims i e (IsLow o claims i e)
     unfolding Asked Holds
     high = whatever (λ f lead w. IfSome f (λ f. length f.slots ≤ 64))
 

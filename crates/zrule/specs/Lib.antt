@@ -3,6 +3,5 @@ pub mod Bytes
 pub mod Apart
 pub mod Numbers
 pub mod Rules
-pub mod Exits
 pub mod Edges
 pub mod Described

@@ -165,7 +165,7 @@ module _ {V : Type 0} (o : SetOperations V) (claims : Claims V) where
   -- I15: a variable that an operand names is known
   Asks story p e i rules.Known = IsKnown i e.shape
   -- I16: what is given to a global lies in its set
-  Asks story p e i rules.Stored = Whatever i e.shape (λ w. Takes w.gives (target i) × TakesInPlace w.assigns)
+  Asks story p e i rules.Stored = Whatever i e.shape (λ w. OnEdge w i e.shape (λ f. Takes w.gives (target i) × TakesInPlace w.assigns))
   -- I17: the stack stays low
   Asks story p e i rules.High = Whatever i e.shape (IsLow i e.shape)
 

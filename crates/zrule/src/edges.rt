@@ -1,28 +1,25 @@
 //! What rules ask of an edge of an instruction.
 
-ghost use Rattle.std.specs.Prelude.{◌≡◌, ◌↔◌, ◌<◌, ◌≤◌, IfSome, IsTrue, length, option_map, slice_get, reverse};
-ghost use Rattle.std.specs.List.{AllZip};
-ghost use Rattle.zdomain.specs.Domain.{Within};
+ghost use Rattle.std.specs.Prelude.{◌≡◌, ◌↔◌, ◌<◌, ◌≤◌, IfSome, IsTrue, length, option_map};
 ghost use Rattle.zdomain.specs.Interval.{interval_operations};
 ghost use Rattle.zflow.specs.declared.parts.Lead.TheVariants.{Ahead, Returning};
 ghost use Rattle.zcert.specs.Listed.{listed_at, seen};
 ghost use Rattle.zrule.specs.Claims.{claims_of, entry_of};
 ghost use Rattle.zrule.specs.Rules.{Covers, GoesOn, Leads, Returns, Takes, TakesInPlace};
 
-use crate::exits::Exit;
 use zcert::{Certificate, Instruction};
 use zdomain::{Domain, Interval};
-use zflow::{Known, Lead};
+use zflow::{Edge, Known, Lead};
 
 /// The greatest height of a stack behind an edge.
 const MAX_HEIGHT: usize = 64;
 
 /// Whether the stack stays low on an edge, if that can be taken.
-pub(crate) fn is_low(edge: &Exit<Interval>) -> bool
+pub(crate) fn is_low(edge: &Edge<'_, Interval>) -> bool
     ensures { IsTrue result ↔ IfSome edge.now.after (λ f. length f.slots ≤ 64) }
 {
     match &edge.after {
-        Some(after) => after.slots().len() <= MAX_HEIGHT,
+        Some(after) => after.is_at_most(MAX_HEIGHT),
         None => true,
     }
 }
@@ -32,7 +29,7 @@ pub(crate) fn is_low(edge: &Exit<Interval>) -> bool
 pub(crate) fn goes_on(
     certificate: &Certificate,
     routine: u16,
-    edge: &Exit<Interval>,
+    edge: &Edge<'_, Interval>,
     next: u32,
     near: usize,
 ) -> bool
@@ -51,7 +48,7 @@ pub(crate) fn goes_on(
 fn leads_ahead(
     certificate: &Certificate,
     routine: u16,
-    after: &Known<Interval>,
+    after: &Known<'_, Interval>,
     next: u32,
     distance: i32,
     near: usize,
@@ -69,7 +66,7 @@ fn leads_ahead(
 fn leads(
     certificate: &Certificate,
     routine: u16,
-    after: &Known<Interval>,
+    after: &Known<'_, Interval>,
     to: u32,
     near: usize,
 ) -> bool
@@ -99,25 +96,14 @@ fn listed_near(
 }
 
 /// Whether the sets of a place contain what is known.
-fn covers(after: &Known<Interval>, to: &Instruction<'_, Interval>) -> bool
+fn covers(after: &Known<'_, Interval>, to: &Instruction<'_, Interval>) -> bool
     ensures { IsTrue result ↔ Covers interval_operations after.now (entry_of (seen to.now)).shape }
 {
-    each_within(after.locals(), to.locals) && each_within(after.slots(), to.slots)
-}
-
-/// Whether each set is within the one in the same place.
-fn each_within<V: Domain>(from: &[V], to: &[V]) -> bool
-    ensures { IsTrue result ↔ AllZip (Within V.operations) from.now to.now }
-{
-    match (from, to) {
-        ([], []) => true,
-        ([inner, from @ ..], [outer, to @ ..]) => inner.is_within(*outer) && each_within(from, to),
-        _ => false,
-    }
+    after.is_within(to.locals, to.slots)
 }
 
 /// Whether what an edge returns, if it can be taken, lies in what the routine may give; the main code gives nothing.
-pub(crate) fn returns(certificate: &Certificate, routine: u16, edge: &Exit<Interval>) -> bool
+pub(crate) fn returns(certificate: &Certificate, routine: u16, edge: &Edge<'_, Interval>) -> bool
     ensures { IsTrue result ↔ IfSome edge.now.after (λ f. Returns interval_operations (claims_of interval_operations certificate.now) routine edge.now.lead) }
 {
     match (&edge.after, edge.lead) {
@@ -145,12 +131,13 @@ fn result_of(certificate: &Certificate, routine: u16) -> Interval
     }
 }
 
-/// Whether what an edge stores to globals lies in their sets. `target` is the variable that takes the result.
-pub(crate) fn stores(certificate: &Certificate, target: u8, edge: &Exit<Interval>) -> bool
-    ensures { IsTrue result ↔ (Takes interval_operations (claims_of interval_operations certificate.now) edge.now.outcome.gives target × TakesInPlace interval_operations (claims_of interval_operations certificate.now) edge.now.outcome.assigns) }
+/// Whether what an edge stores to globals lies in their sets, if it can be taken. `target` is the variable that takes the result.
+pub(crate) fn stores(certificate: &Certificate, target: u8, edge: &Edge<'_, Interval>) -> bool
+    ensures { IsTrue result ↔ IfSome edge.now.after (λ f. Takes interval_operations (claims_of interval_operations certificate.now) edge.now.outcome.gives target × TakesInPlace interval_operations (claims_of interval_operations certificate.now) edge.now.outcome.assigns) }
 {
-    takes(certificate, edge.outcome.gives, target)
-        && takes_in_place(certificate, edge.outcome.assigns)
+    edge.after.is_none()
+        || (takes(certificate, edge.outcome.gives, target)
+            && takes_in_place(certificate, edge.outcome.assigns))
 }
 
 /// Whether what is given to a variable lies in its set, if that is a global.

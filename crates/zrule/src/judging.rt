@@ -3,25 +3,24 @@
 ghost use Rattle.std.specs.Prelude.{◌≡◌, ◌↔◌, ◌+◌, ◌≤◌, ℕ, Bool, IsTrue, IfSome, IfNone, IfOk, IfErr, MatchOption, Some, length};
 ghost use Rattle.std.specs.Bool.{OnTrue};
 ghost use Rattle.zdomain.specs.Interval.{interval_operations};
-ghost use Rattle.zcert.specs.Listed.{listed_at, seen};
+ghost use Rattle.zcert.specs.Listed.{seen};
 ghost use Rattle.zcode.specs.Instruction.{Instruction as Spelled};
 ghost use Rattle.zcode.specs.Operation.{target};
 ghost use Rattle.zcode.specs.Opcodes.{prints_text};
 ghost use Rattle.zdomain.specs.Domain.{In};
 ghost use Rattle.zrule.specs.Edges.{EdgeKeeps, EdgesKeep};
-ghost use Rattle.zrule.specs.Exits.{IsExits};
+ghost use Rattle.zflow.specs.Flow.{IsFlow};
 ghost use Rattle.zrule.specs.declared.rule.Rule.{Rule as ARule};
 ghost use Rattle.zrule.specs.Claims.{claims_of, entry_of, Entry};
 ghost use Rattle.zrule.specs.Rules.{Asks, IsThere, HasFixedText, Keeps, IsLowestBroken};
 
 use crate::edges::{goes_on, is_low, returns, stores};
-use crate::exits::{Exit, Exits, exits_of};
 use crate::operands::{has_height, has_locals, is_known};
 use crate::rule::Rule;
 use zcert::{Certificate, Instruction};
 use zcode::{Instr, decode_by, text_ends_instruction};
 use zdomain::{Domain, Interval};
-use zflow::Demands;
+use zflow::{Demands, Edge, Flow, flow_of};
 use zstory::Story;
 use ztext::TextEnds;
 
@@ -79,7 +78,7 @@ fn edge_keeps(
     certificate: &Certificate,
     listed: &Instruction<'_, Interval>,
     instruction: &Instr,
-    edge: &Exit<Interval>,
+    edge: &Edge<'_, Interval>,
     near: usize,
     rule: Rule,
 ) -> bool
@@ -103,18 +102,18 @@ fn edges_keep(
     certificate: &Certificate,
     listed: &Instruction<'_, Interval>,
     instruction: &Instr,
-    exits: &Exits<Interval>,
+    flow: &Flow<'_, Interval>,
     near: usize,
     rule: Rule,
 ) -> bool
     requires { listed.now.address + instruction.now.size ≤ 131072 }
-    ensures { IsTrue result ↔ EdgesKeep interval_operations (claims_of interval_operations certificate.now) listed.now.routine (listed.now.address + instruction.now.size) (target instruction.now) rule exits.now }
+    ensures { IsTrue result ↔ EdgesKeep interval_operations (claims_of interval_operations certificate.now) listed.now.routine (listed.now.address + instruction.now.size) (target instruction.now) rule flow.now }
 {
-    let held = match &exits.held {
+    let held = match &flow.held {
         Some(edge) => edge_keeps(certificate, listed, instruction, edge, near, rule),
         None => true,
     };
-    held && match &exits.failed {
+    held && match &flow.failed {
         Some(edge) => edge_keeps(certificate, listed, instruction, edge, near, rule),
         None => true,
     }
@@ -135,21 +134,21 @@ fn asks(
     certificate: &Certificate,
     listed: &Instruction<'_, Interval>,
     instruction: &Instr,
-    exits: &Exits<Interval>,
+    flow: &Flow<'_, Interval>,
     near: usize,
     rule: Rule,
 ) -> bool
     requires there { IsThere story.now listed.now.address instruction.now }
     requires near { listed.now.address + instruction.now.size ≤ 131072 }
-    requires exits { IsExits interval_operations certificate.now.globals instruction.now (entry_of (seen listed.now)).shape exits.now }
+    requires flow { IsFlow interval_operations certificate.now.globals instruction.now (entry_of (seen listed.now)).shape flow.now }
     ensures { IsTrue result ↔ Asks interval_operations (claims_of interval_operations certificate.now) story.now listed.now.address (entry_of (seen listed.now)) instruction.now rule }
 {
-    let demands = &exits.demands;
+    let demands = &flow.demands;
     match rule {
         Rule::Decodes => true,
         Rule::Height => {
             !is_known(certificate, listed, instruction, demands)
-                || has_height(certificate, listed, instruction, exits.popped, demands)
+                || has_height(certificate, listed, instruction, flow.popped, demands)
         }
         Rule::Local => {
             !is_known(certificate, listed, instruction, demands)
@@ -158,7 +157,7 @@ fn asks(
         Rule::Successor => {
             !divides(demands)
                 || (demands.certain
-                    && edges_keep(certificate, listed, instruction, exits, near, rule))
+                    && edges_keep(certificate, listed, instruction, flow, near, rule))
         }
         Rule::Divisor => divides(demands),
         Rule::Text => {
@@ -166,9 +165,9 @@ fn asks(
             true
         }
         Rule::Known => is_known(certificate, listed, instruction, demands),
-        Rule::Returned => edges_keep(certificate, listed, instruction, exits, near, rule),
-        Rule::Stored => edges_keep(certificate, listed, instruction, exits, near, rule),
-        Rule::High => edges_keep(certificate, listed, instruction, exits, near, rule),
+        Rule::Returned => edges_keep(certificate, listed, instruction, flow, near, rule),
+        Rule::Stored => edges_keep(certificate, listed, instruction, flow, near, rule),
+        Rule::High => edges_keep(certificate, listed, instruction, flow, near, rule),
     }
 }
 
@@ -178,16 +177,16 @@ fn keeps(
     certificate: &Certificate,
     listed: &Instruction<'_, Interval>,
     instruction: &Instr,
-    exits: &Exits<Interval>,
+    flow: &Flow<'_, Interval>,
     near: usize,
     rule: Rule,
 ) -> bool
     requires there { IsThere story.now listed.now.address instruction.now }
     requires near { listed.now.address + instruction.now.size ≤ 131072 }
-    requires exits { IsExits interval_operations certificate.now.globals instruction.now (entry_of (seen listed.now)).shape exits.now }
+    requires flow { IsFlow interval_operations certificate.now.globals instruction.now (entry_of (seen listed.now)).shape flow.now }
     ensures { IsTrue result ↔ Keeps interval_operations (claims_of interval_operations certificate.now) story.now listed.now.address (entry_of (seen listed.now)) rule }
 {
-    asks(story, certificate, listed, instruction, exits, near, rule)
+    asks(story, certificate, listed, instruction, flow, near, rule)
 }
 
 /// The lowest rule that a listed instruction breaks, and `None` where it keeps all (own). No other rule is asked of a
@@ -197,7 +196,6 @@ fn broken_rule(
     certificate: &Certificate,
     listed: &Instruction<'_, Interval>,
 ) -> Option<Rule>
-    requires { listed_at certificate.now.instructions listed.now.address ≡ Some (seen listed.now) }
     ensures { MatchOption result ((rule : ARule) → Keeps interval_operations (claims_of interval_operations certificate.now) story.now listed.now.address (entry_of (seen listed.now)) rule) (IsLowestBroken interval_operations (claims_of interval_operations certificate.now) story.now listed.now.address (entry_of (seen listed.now))) }
 {
     let mut ends = TextEnds::new(story.memory());
@@ -223,7 +221,6 @@ pub fn judge(
     near: usize,
     ends: &mut TextEnds<'_>,
 ) -> Result<Instr, Rule>
-    requires listed { listed_at certificate.now.instructions listed.now.address ≡ Some (seen listed.now) }
     requires ends { ends.old ≡ story.now.memory }
     ensures memory { ends.new ≡ ends.old }
     ensures there { IfOk result (λ i. IsThere story.now listed.now.address i) }
@@ -233,9 +230,14 @@ pub fn judge(
     let Some(instruction) = spelled_there(story, listed.address, ends) else {
         return Err(Rule::Decodes);
     };
-    let exits = exits_of(certificate, listed, &instruction);
+    let flow = flow_of(
+        certificate.globals(),
+        listed.locals,
+        listed.slots,
+        &instruction,
+    );
     for rule in RULES {
-        if !keeps(story, certificate, listed, &instruction, &exits, near, rule) {
+        if !keeps(story, certificate, listed, &instruction, &flow, near, rule) {
             return Err(rule);
         }
     }

@@ -3,7 +3,6 @@
 
 mod bytes;
 mod edges;
-mod exits;
 mod judging;
 mod laws;
 mod operands;

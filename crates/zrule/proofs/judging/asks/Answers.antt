@@ -13,7 +13,7 @@ returns-then-not-is_known-2 c = local_unknown interval_operations (claims_of int
 
 pub returns-then-demands : goal.returns-then-demands
 returns-then-demands c =
-    successor_asked interval_operations (claims_of interval_operations c.args.certificate.now) c.args.story.now c.args.listed.now.address (entry_of (seen c.args.listed.now)) c.args.instruction.now c.requires.there c.args.exits.now c.requires.exits c.args.rule c.edges_keep.result c.edges_keep.ensures c.in-Successor.is c.divides.result c.divides.ensures.0 c.if-not-divides.false c.if-demands.true
+    successor_asked interval_operations (claims_of interval_operations c.args.certificate.now) c.args.story.now c.args.listed.now.address (entry_of (seen c.args.listed.now)) c.args.instruction.now c.requires.there c.args.flow.now c.requires.flow c.args.rule c.edges_keep.result c.edges_keep.ensures c.in-Successor.is c.divides.result c.divides.ensures.0 c.if-not-divides.false c.if-demands.true
 
 pub returns-in-Text : goal.returns-in-Text
 returns-in-Text c =
@@ -21,10 +21,10 @@ returns-in-Text c =
     (λ t. told, λ a. refl)
 
 pub returns-in-Returned : goal.returns-in-Returned
-returns-in-Returned c = returned_asked interval_operations (claims_of interval_operations c.args.certificate.now) c.args.story.now c.args.listed.now.address (entry_of (seen c.args.listed.now)) c.args.instruction.now c.requires.there c.args.exits.now c.requires.exits c.args.rule c.edges_keep-in-Returned.result c.edges_keep-in-Returned.ensures c.in-Returned.is
+returns-in-Returned c = returned_asked interval_operations (claims_of interval_operations c.args.certificate.now) c.args.story.now c.args.listed.now.address (entry_of (seen c.args.listed.now)) c.args.instruction.now c.requires.there c.args.flow.now c.requires.flow c.args.rule c.edges_keep-in-Returned.result c.edges_keep-in-Returned.ensures c.in-Returned.is
 
 pub returns-in-Stored : goal.returns-in-Stored
-returns-in-Stored c = stored_asked interval_operations (claims_of interval_operations c.args.certificate.now) c.args.story.now c.args.listed.now.address (entry_of (seen c.args.listed.now)) c.args.instruction.now c.requires.there c.args.exits.now c.requires.exits c.args.rule c.edges_keep-in-Stored.result c.edges_keep-in-Stored.ensures c.in-Stored.is
+returns-in-Stored c = stored_asked interval_operations (claims_of interval_operations c.args.certificate.now) c.args.story.now c.args.listed.now.address (entry_of (seen c.args.listed.now)) c.args.instruction.now c.requires.there c.args.flow.now c.requires.flow c.args.rule c.edges_keep-in-Stored.result c.edges_keep-in-Stored.ensures c.in-Stored.is
 
 pub returns-in-High : goal.returns-in-High
-returns-in-High c = high_asked interval_operations (claims_of interval_operations c.args.certificate.now) c.args.story.now c.args.listed.now.address (entry_of (seen c.args.listed.now)) c.args.instruction.now c.requires.there c.args.exits.now c.requires.exits c.args.rule c.edges_keep-in-High.result c.edges_keep-in-High.ensures c.in-High.is
+returns-in-High c = high_asked interval_operations (claims_of interval_operations c.args.certificate.now) c.args.story.now c.args.listed.now.address (entry_of (seen c.args.listed.now)) c.args.instruction.now c.requires.there c.args.flow.now c.requires.flow c.args.rule c.edges_keep-in-High.result c.edges_keep-in-High.ensures c.in-High.is
