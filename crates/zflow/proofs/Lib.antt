@@ -1,3 +1,4 @@
+mod Counted
 mod Slots
 mod Changes
 mod Operands

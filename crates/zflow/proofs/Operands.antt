@@ -2,7 +2,7 @@
 use Rattle.std.proofs.Common.{◌≡◌, ℕ, Bool, List, Some, None, refl}
 use Rattle.zcode.specs.declared.instr.Operand.{Operand}
 use Rattle.zcode.specs.declared.operation.Operation.{Operation}
-use Rattle.zcode.specs.declared.operation.Operation.TheVariants.{Unary, Binary, Compare, Count, Store, Load, Jump, Verify, PrintChar, PrintNumber, Print, NewLine, Nop, Quit}
+use Rattle.zcode.specs.declared.operation.Operation.TheVariants.{Unary, Binary, Compare, Count, Store, Load, Jump, Verify, PrintChar, PrintNumber, Print, NewLine, Nop, Quit, Return, PrintReturn, Call}
 use Rattle.zdomain.specs.Domain.{SetOperations}
 use Rattle.zflow.specs.Transfer.{Shape, demands_of, outcome_of}
 use Rattle.zflow.specs.Kept.{both}
@@ -24,6 +24,9 @@ module _ {V : Type 0} (o : SetOperations V) where
   demands_read NewLine arg = refl
   demands_read Nop arg = refl
   demands_read Quit arg = refl
+  demands_read Return arg = refl
+  demands_read PrintReturn arg = refl
+  demands_read Call arg = refl
 
   pub outcome_read : (globals : List V) (operation : Operation) (operands : List Operand) (arg : ℕ → V) (e : Shape V) (c : Bool) → outcome_of o globals operation operands arg e c ≡ outcome_of o globals operation operands (both (arg 0) (arg 1)) e c
   unfolding outcome_of
@@ -42,3 +45,6 @@ module _ {V : Type 0} (o : SetOperations V) where
   outcome_read globals NewLine operands arg e c = refl
   outcome_read globals Nop operands arg e c = refl
   outcome_read globals Quit operands arg e c = refl
+  outcome_read globals Return operands arg e c = refl
+  outcome_read globals PrintReturn operands arg e c = refl
+  outcome_read globals Call operands arg e c = refl

@@ -3,6 +3,7 @@ use Rattle.std.proofs.Common.{◌≡◌, ℕ, ℤ, pos, negsuc, int_le, Bool, tr
 use Rattle.std.specs.Option.{option_and_then}
 use Rattle.zcode.specs.declared.opcode.Opcode.{Opcode}
 use Rattle.zcode.specs.declared.opcode.Opcode.TheVariants as opcodes
+use Rattle.zcode.specs.declared.operation.Operation.TheVariants as operations
 use Rattle.zcode.specs.declared.instr.Operand.{Operand}
 use Rattle.zcode.specs.declared.instr.Operand.TheVariants.{Constant, Variable}
 use Rattle.zcode.specs.Instruction.{Instruction}
@@ -11,9 +12,9 @@ use Rattle.zdomain.specs.declared.interval.Interval.{Interval}
 use Rattle.zdomain.specs.Interval.{in_order, interval_operations}
 use Rattle.zflow.specs.declared.parts.Demands.{Demands}
 use Rattle.zflow.specs.declared.parts.Lead.{Lead}
-use Rattle.zflow.specs.declared.parts.Lead.TheVariants.{Ahead, Returning}
+use Rattle.zflow.specs.declared.parts.Lead.TheVariants.{Ahead, Returning, Entering}
 use Rattle.zflow.specs.declared.parts.Outcome.{Outcome}
-use Rattle.zflow.specs.Transfer.{Shape, pops, below, operand_set, demands_of, demands_at, outcome_of, outcome_at, after, leading}
+use Rattle.zflow.specs.Transfer.{Shape, sets, argument_sets, pops, below, operand_set, demands_of, demands_at, outcome_of, outcome_at, after, leading}
 use Rattle.zflow.specs.Kept.{both, shape_of}
 
 -- ---- what is known, and what is looked at
@@ -71,10 +72,17 @@ slots_on i c = option_map (λ e. map ends e.slots) (after_on i c)
 abbrev distance : Lead Interval → Option ℤ
 distance (Ahead d) = Some d
 distance (Returning a) = None
+distance (Entering a) = None
 
 abbrev returned : Lead Interval → Option Ends
 returned (Ahead d) = None
 returned (Returning a) = Some (ends a)
+returned (Entering a) = None
+
+abbrev entered : Lead Interval → Option Ends
+entered (Ahead d) = None
+entered (Returning a) = None
+entered (Entering a) = Some (ends a)
 
 abbrev lead_on : Instruction → Bool → Option (Lead Interval)
 lead_on i c = option_map (λ w. leading interval_operations w i.branch) (outcome_on i c)
@@ -106,6 +114,30 @@ absent = (refl, refl, refl)
 taken : (pops (Variable 0 ∷ Constant 0 ∷ Variable 1 ∷ Variable 0 ∷ []) ≡ 2) × (pops (inputs (plain opcodes.Pull (Constant 1 ∷ []))) ≡ 1) × (map ends (below 1 shape).slots ≡ span 20 30 ∷ []) × ((below 3 shape).slots ≡ [])
 unfolding shape
 taken = (refl, refl, refl, refl)
+
+-- ---- calls
+
+abbrev of_call : Interval → Bool → Option (Outcome Interval)
+of_call a c = outcome_of interval_operations globals operations.Call [] (λ k. a) shape c
+
+abbrev entered_by : Interval → Option Ends
+entered_by a = option_and_then (λ w. entered w.leads) (of_call a true)
+
+abbrev given_by : Interval → Option Ends
+given_by a = option_and_then (λ w. option_map ends w.gives) (of_call a false)
+
+-- a routine where the address isn't 0, which is cut off at an end; and 0 where it is
+calls : (entered_by (from (pos 0) (pos 9) refl) ≡ Some (span 1 9)) × (given_by (from (pos 0) (pos 9) refl) ≡ Some (only 0)) × (entered_by (from (pos 7) (pos 7) refl) ≡ Some (only 7)) × (given_by (from (pos 7) (pos 7) refl) ≡ None) × (entered_by (from (pos 0) (pos 0) refl) ≡ None) × (entered_by (from (negsuc 0) (pos 3) refl) ≡ Some (negsuc 0, pos 3))
+unfolding outcome_of globals shape
+calls = (refl, refl, refl, refl, refl, refl)
+
+-- what is read behind the address, at most three
+abbrev supplied : List Operand → List Ends
+supplied operands = map ends (argument_sets interval_operations globals (plain opcodes.Call operands) shape)
+
+supplies : (supplied (Constant 9 ∷ []) ≡ []) × (supplied (Variable 0 ∷ Variable 0 ∷ Variable 16 ∷ Constant 5 ∷ []) ≡ span 20 30 ∷ span 100 110 ∷ only 5 ∷ [])
+unfolding sets globals shape
+supplies = (refl, refl)
 
 -- ---- branches
 

@@ -1,9 +1,10 @@
 -- What is known after an instruction, from what is known before it: the step again, over sets in place of words (own).
-use Rattle.std.specs.Prelude.{ℕ, ◌-◌, ◌==◌, nat_le, nat_lt, Bool, true, false, ◌&&◌, is_some, if◌then◌else◌, List, ◌∷◌, length, take, drop, filter, Option, Some, None, option_map, slice_get, slice_set, slice_index_or, pos, ◌-ℤ◌}
+use Rattle.std.specs.Prelude.{ℕ, zero, suc, ◌-◌, ◌==◌, nat_le, nat_lt, Bool, true, false, ◌&&◌, is_some, if◌then◌else◌, List, [], ◌∷◌, length, take, drop, filter, Option, Some, None, option_map, slice_get, slice_set, slice_index_or, pos, ◌-ℤ◌}
 use Rattle.std.specs.Option.{option_and_then}
 use Rattle.zword.specs.declared.binary.BinaryOp.{BinaryOp}
 use Rattle.zword.specs.declared.binary.BinaryOp.TheVariants.{Div, Mod}
 use Rattle.zword.specs.declared.question.Question.{Question}
+use Rattle.zword.specs.declared.question.Question.TheVariants.{Equal}
 use Rattle.zword.specs.declared.count.CountOp.{CountOp}
 use Rattle.zword.specs.Binary.{signed}
 use Rattle.zword.specs.Count.{counting}
@@ -13,14 +14,14 @@ use Rattle.zcode.specs.declared.instr.Branch.{Branch}
 use Rattle.zcode.specs.declared.instr.Destination.{Destination}
 use Rattle.zcode.specs.declared.instr.Destination.TheVariants.{ReturnFalse, ReturnTrue, Relative}
 use Rattle.zcode.specs.declared.operation.Operation.{Operation}
-use Rattle.zcode.specs.declared.operation.Operation.TheVariants.{Unary, Binary, Compare, Count, Store, Load, Jump, Verify, PrintChar, PrintNumber, Print, NewLine, Nop, Quit}
+use Rattle.zcode.specs.declared.operation.Operation.TheVariants.{Unary, Binary, Compare, Count, Store, Load, Jump, Verify, PrintChar, PrintNumber, Print, NewLine, Nop, Quit, Return, PrintReturn, Call}
 use Rattle.zcode.specs.Instruction.{Instruction}
 use Rattle.zcode.specs.Operation.{operation_of, inputs, target}
 use Rattle.zdomain.specs.Domain.{SetOperations}
-use Rattle.zstate.specs.Step.{way}
+use Rattle.zstate.specs.Step.{way, arguments}
 use Rattle.zflow.specs.declared.parts.Demands.{Demands}
 use Rattle.zflow.specs.declared.parts.Lead.{Lead}
-use Rattle.zflow.specs.declared.parts.Lead.TheVariants.{Ahead, Returning}
+use Rattle.zflow.specs.declared.parts.Lead.TheVariants.{Ahead, Returning, Entering}
 use Rattle.zflow.specs.declared.parts.Kept.{Kept}
 use Rattle.zflow.specs.declared.parts.Outcome.{Outcome}
 
@@ -99,6 +100,9 @@ module _ {V : Type 0} (o : SetOperations V) where
   demands_of NewLine arg = nothing
   demands_of Nop arg = nothing
   demands_of Quit arg = nothing
+  demands_of Return arg = nothing
+  demands_of PrintReturn arg = record nothing { has_text = true }
+  demands_of Call arg = nothing
 
   abbrev pub demands_if : Option Operation → (ℕ → V) → Demands V
   demands_if None arg = nothing
@@ -126,6 +130,12 @@ counts_in v a c kept = record goes_on { assigns = Some (v, a); tests = Some c; k
 
 abbrev pub jumps : {V : Type 0} → ℕ → Outcome V
 jumps x = record goes_on { leads = Ahead (signed x -ℤ pos 2) }
+
+abbrev pub returns_in : {V : Type 0} → V → Outcome V
+returns_in a = record goes_on { leads = Returning a }
+
+abbrev pub enters_in : {V : Type 0} → V → Outcome V
+enters_in a = record goes_on { leads = Entering a }
 
 -- a variable that is a local keeps what a branch says of it
 abbrev pub local_kept : {V : Type 0} → ℕ → V → Option (ℕ × V)
@@ -166,6 +176,11 @@ module _ {V : Type 0} (o : SetOperations V) (globals : List V) where
   counted_outcome op q c None x e = None
   counted_outcome op q c (Some v) x e = option_map (counts_in v (counted_set op v e) c) (counted_kept q c v (counted_set op v e) x)
 
+  -- what comes of a call: of a routine where the address isn't 0, and 0 where it is
+  abbrev pub called_outcome : Bool → V → Option (Outcome V)
+  called_outcome true a = option_map (λ p. enters_in p.0) (o.narrow Equal false a (o.single 0))
+  called_outcome false a = option_map (λ p. gives_in (o.single 0)) (o.narrow Equal true a (o.single 0))
+
   -- What may come of an operation where its condition is answered so, from the sets of what it reads; e is what is known
   -- once that was read. None comes of an edge that can't be taken, and of `quit`.
   unfoldable pub outcome_of : Operation → List Operand → (ℕ → V) → Shape V → Bool → Option (Outcome V)
@@ -184,6 +199,9 @@ module _ {V : Type 0} (o : SetOperations V) (globals : List V) where
   outcome_of NewLine operands arg e c = once c goes_on
   outcome_of Nop operands arg e c = once c goes_on
   outcome_of Quit operands arg e c = None
+  outcome_of Return operands arg e c = once c (returns_in (arg 0))
+  outcome_of PrintReturn operands arg e c = once c (returns_in (o.single 1))
+  outcome_of Call operands arg e c = called_outcome c (arg 0)
 
   abbrev pub outcome_if : Option Operation → List Operand → (ℕ → V) → Shape V → Bool → Option (Outcome V)
   outcome_if None operands arg e c = None
@@ -237,6 +255,11 @@ module _ {V : Type 0} (o : SetOperations V) where
   abbrev pub leading : Outcome V → Option Branch → Lead V
   leading w branch = turned_to (way w.tests branch) w.leads
 
+-- so many sets in a list
+unfoldable pub sets : {V : Type 0} → (ℕ → V) → ℕ → List V
+sets arg zero = []
+sets arg (suc n) = arg 0 ∷ sets (λ k. arg (suc k)) n
+
 -- ---- of an instruction, where e is known before it
 
 module _ {V : Type 0} (o : SetOperations V) (globals : List V) (i : Instruction) (e : Shape V) where
@@ -247,6 +270,10 @@ module _ {V : Type 0} (o : SetOperations V) (globals : List V) (i : Instruction)
   -- what is known once that was read
   abbrev pub mid_shape : Shape V
   mid_shape = below (pops (inputs i)) e
+
+  -- the sets of the arguments of a call
+  abbrev pub argument_sets : List V
+  argument_sets = arguments (sets read_set (length (inputs i)))
 
   abbrev pub demands_at : Demands V
   demands_at = demands_if o (operation_of i.opcode) read_set

@@ -19,7 +19,7 @@ fn demands_of<V: Domain>(operation: Operation, first: V, second: V) -> Demands<V
         Operation::Binary(op) => demands.divisor = divisor_of(op, second),
         Operation::Count(..) | Operation::Store | Operation::Load => return naming(named(first)),
         Operation::Jump => demands.certain = first.known().is_some(),
-        Operation::Print => demands.has_text = true,
+        Operation::Print | Operation::PrintReturn => demands.has_text = true,
         Operation::Unary(_)
         | Operation::Compare(_)
         | Operation::Verify
@@ -27,7 +27,9 @@ fn demands_of<V: Domain>(operation: Operation, first: V, second: V) -> Demands<V
         | Operation::PrintNumber
         | Operation::NewLine
         | Operation::Nop
-        | Operation::Quit => {}
+        | Operation::Quit
+        | Operation::Return
+        | Operation::Call => {}
     }
     demands
 }

@@ -1,6 +1,7 @@
 //! What may come of an instruction, over sets of words: what it asks for, and what is known on each of its edges.
 #![tactic(auto)]
 
+mod arguments;
 mod asking;
 mod flow;
 mod known;
@@ -10,6 +11,7 @@ mod parts;
 mod slot_sets;
 mod view;
 
+pub use arguments::ArgumentSets;
 pub use flow::{Edge, Flow, first_known, flow_of};
 pub use known::Known;
 pub use parts::{Demands, Kept, Lead, Outcome};

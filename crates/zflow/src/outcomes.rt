@@ -3,7 +3,7 @@
 ghost use Rattle.std.specs.Prelude.{◌≡◌, List, [], Some, None, true, false, option_map};
 ghost use Rattle.zcode.specs.declared.instr.Operand.{Operand as AnOperand};
 ghost use Rattle.zcode.specs.declared.operation.Operation.TheVariants.{Count};
-ghost use Rattle.zflow.specs.Transfer.{asks, assigns_in, compared_kept, counted_kept, counts_in, gives_in, goes_on, jumps, local_kept, once_known, operand_kept, outcome_if, outcome_of, small, untold, variable_set};
+ghost use Rattle.zflow.specs.Transfer.{asks, assigns_in, called_outcome, compared_kept, counted_kept, counts_in, gives_in, goes_on, jumps, local_kept, once_known, operand_kept, outcome_if, outcome_of, returns_in, small, untold, variable_set};
 ghost use Rattle.zflow.specs.Kept.{both};
 ghost use Rattle.zflow.specs.View.{seen};
 
@@ -67,6 +67,9 @@ fn outcomes_of<V: Domain>(
         | Operation::NewLine
         | Operation::Nop => once(goes_on()),
         Operation::Quit => never(),
+        Operation::Return => once(returns_in(first)),
+        Operation::PrintReturn => once(returns_in(V::single(1))),
+        Operation::Call => called(first),
     }
 }
 
@@ -131,6 +134,16 @@ fn assigns_in<V: Domain>(variable: u8, set: V) -> Outcome<V>
 {
     Outcome {
         assigns: Some((variable, set)),
+        ..goes_on()
+    }
+}
+
+/// A value of the set is returned.
+fn returns_in<V: Domain>(set: V) -> Outcome<V>
+    ensures { result ≡ returns_in set }
+{
+    Outcome {
+        leads: Lead::Returning(set),
         ..goes_on()
     }
 }
@@ -284,6 +297,36 @@ fn jumped<V: Domain>(first: V) -> Outcomes<V>
             ..goes_on()
         }),
     }
+}
+
+/// A routine is called where the address isn't 0; a call of 0 gives 0.
+fn called<V: Domain>(first: V) -> Outcomes<V>
+    ensures held { result.held ≡ called_outcome V.operations [] true first }
+    ensures failed { result.failed ≡ called_outcome V.operations [] false first }
+{
+    Outcomes {
+        held: entered(first),
+        failed: missed(first),
+    }
+}
+
+/// The routine at an address of the set that isn't 0.
+fn entered<V: Domain>(first: V) -> Option<Outcome<V>>
+    ensures { result ≡ called_outcome V.operations [] true first }
+{
+    let (routine, _) = V::narrow(Question::Equal, false, first, V::single(0))?;
+    Some(Outcome {
+        leads: Lead::Entering(routine),
+        ..goes_on()
+    })
+}
+
+/// What a call gives whose address may be 0.
+fn missed<V: Domain>(first: V) -> Option<Outcome<V>>
+    ensures { result ≡ called_outcome V.operations [] false first }
+{
+    let (nothing, _) = V::narrow(Question::Equal, true, first, V::single(0))?;
+    Some(gives_in(V::single(0)))
 }
 
 /// Of the sum of a file it isn't known whether it is that of its header.

@@ -22,6 +22,8 @@ pub enum Lead<V> {
     Ahead(i32),
     /// Back to the caller, with a value of the set.
     Returning(V),
+    /// Into the routine at a packed address of the set, of which 0 is none.
+    Entering(V),
 }
 
 /// What a branch says of locals, by the numbers of their variables: of at most two.

@@ -74,6 +74,18 @@ impl<'a, V: Domain> View<'a, V> {
         }
     }
 
+    /// The values of an operand, by its place among them: 0, where it isn't there.
+    pub(crate) fn set_at(self, operands: &[Operand], index: usize) -> V
+        ensures { result ≡ operand_set V.operations self.entry.globals.now operands.now (seen self.entry) index }
+    {
+        match operands.get(index) {
+            Some(operand) => self
+                .below(pops(&operands[..index]))
+                .values_of(*operand),
+            None => V::single(0),
+        }
+    }
+
     /// The sets of the first two operands: 0, where there is none.
     pub(crate) fn read(self, operands: &[Operand]) -> (V, V)
         ensures first { result.0 ≡ operand_set V.operations self.entry.globals.now operands.now (seen self.entry) 0 }
