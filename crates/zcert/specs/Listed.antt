@@ -1,12 +1,18 @@
 -- What a certificate says at an address.
-use Rattle.std.specs.Prelude.{◌≡◌, ℕ, ◌<◌, List, [], ◌∷◌, length, slice_get, Option, Some, None, MatchOption, ◌==◌, if◌then◌else◌}
+use Rattle.std.specs.Prelude.{◌≡◌, ℕ, suc, ◌<◌, List, [], ◌∷◌, length, slice_get, Option, Some, None, option_map, MatchOption, ◌==◌, if◌then◌else◌}
 use Rattle.zcert.specs.declared.parts.Instruction.{Instruction as Borrowed}
+use Rattle.zcert.specs.declared.parts.Routine.{Routine}
 use Rattle.zcert.specs.Certificate.{Instruction}
 
 -- the instruction that is listed at an address, if one is
 abbrev pub listed_at : {V : Type 0} → List (Instruction V) → ℕ → Option (Instruction V)
 listed_at [] address = None
 listed_at (i ∷ is) address = if i.address == address then Some i else listed_at is address
+
+-- the index of the routine at an address, if there is one
+abbrev pub routine_at : {V : Type 0} → List (Routine V) → ℕ → Option ℕ
+routine_at [] address = None
+routine_at (r ∷ rs) address = if r.address == address then Some 0 else option_map (λ k. suc k) (routine_at rs address)
 
 -- the answer is the index of the instruction that is listed there
 abbrev pub Finds : {V : Type 0} → List (Instruction V) → ℕ → Option ℕ → Type 0

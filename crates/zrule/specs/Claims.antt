@@ -5,7 +5,7 @@ use Rattle.zdomain.specs.Domain.{SetOperations}
 use Rattle.zcert.specs.declared.parts.Range.{Range}
 use Rattle.zcert.specs.declared.parts.Routine.{Routine}
 use Rattle.zcert.specs.Certificate.{Instruction as Listed, Certificate}
-use Rattle.zcert.specs.Listed.{listed_at}
+use Rattle.zcert.specs.Listed.{listed_at, routine_at}
 use Rattle.zflow.specs.Transfer.{Shape}
 
 -- what is said of a listed place: its routine, numbered from 1, with 0 for the main code, and the newest frame before it
@@ -22,6 +22,8 @@ pub record Claims (V : Type 0) : Type 0 where
   pub entry : ℕ → Option (Entry V)
   -- the values that a routine may give, by its number
   pub result : ℕ → V
+  -- the index of the routine that begins at a place, if one does; its number is one more
+  pub routine_at : ℕ → Option ℕ
 
 -- ---- the claims of a certificate
 
@@ -48,4 +50,5 @@ claims_of o c = record {
   globals = c.globals;
   entry = λ p. option_map entry_of (listed_at c.instructions p);
   result = result_of o.any c.routines;
+  routine_at = routine_at c.routines;
 }

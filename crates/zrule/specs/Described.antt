@@ -65,9 +65,10 @@ module _ {V : Type 0} (o : SetOperations V) (claims : Claims V) where
   IsSafe limit story (Err halts.Quit) = Unit {0}
   IsSafe limit story (Err halts.FrameLimit) = Unit {0}
 
-  -- every listed place may be played there
-  abbrev pub IsListedIn : Scope → Type 0
-  IsListedIn scope = (p : ℕ) (e : Entry V) → claims.entry p ≡ Some e → scope.instructions p ≡ true
+  -- every listed place may be played there, and every routine called
+  pub record IsListedIn (scope : Scope) : Type 0 where
+    pub places : (p : ℕ) (e : Entry V) → claims.entry p ≡ Some e → scope.instructions p ≡ true
+    pub routines : (p k : ℕ) → claims.routine_at p ≡ Some k → scope.routines p ≡ true
 
 -- ---- the laws
 

@@ -10,6 +10,7 @@ number_of rules.Local = 3
 number_of rules.Successor = 4
 number_of rules.Divisor = 8
 number_of rules.Text = 11
+number_of rules.Called = 12
 number_of rules.Returned = 13
 number_of rules.Known = 15
 number_of rules.Stored = 16

@@ -1,5 +1,5 @@
 -- What a certificate must say of a story: sentences over its claims (own). A rule has the number that a refusal shows.
-use Rattle.std.specs.Prelude.{◌≡◌, ℕ, ◌+◌, ◌-◌, ◌*◌, ◌<◌, ◌≤◌, Bool, true, List, [], length, drop, take, Option, Some, None, IfSome, MatchOption, IsTrue, is_some, Ok, slice_get, ◌==◌, nat_lt, pos, ◌+ℤ◌}
+use Rattle.std.specs.Prelude.{◌≡◌, ℕ, suc, ◌∷◌, ◌+◌, ◌-◌, ◌*◌, ◌<◌, ◌≤◌, Bool, true, List, [], length, drop, take, Option, Some, None, IfSome, MatchOption, IsTrue, is_some, Ok, slice_get, ◌==◌, nat_lt, pos, ◌+ℤ◌}
 use Rattle.std.specs.Bool.{OnTrue, MatchBool}
 use Rattle.std.specs.List.{AllZip, AllByRecursion}
 use Rattle.zstory.specs.Bytes.{word_at}
@@ -12,16 +12,18 @@ use Rattle.zcode.specs.Instruction.{Instruction}
 use Rattle.zcode.specs.Operation.{inputs, target}
 use Rattle.zcode.specs.Reading.{instruction_at}
 use Rattle.zdomain.specs.Domain.{SetOperations, In, Within}
+use Rattle.zstate.specs.State.{has_head}
+use Rattle.zstate.specs.Step.{initial, behind_head, unpacked}
 use Rattle.zrule.specs.declared.rule.Rule.{Rule}
 use Rattle.zrule.specs.declared.rule.Rule.TheVariants as rules
 use Rattle.zrule.specs.Numbers.{number_of}
 use Rattle.zrule.specs.Claims.{Entry, Claims}
 use Rattle.zrule.specs.Bytes.{IsWithin, IsChanging, IsFixed, IsAbbreviation}
 use Rattle.zflow.specs.declared.parts.Lead.{Lead}
-use Rattle.zflow.specs.declared.parts.Lead.TheVariants.{Ahead, Returning}
+use Rattle.zflow.specs.declared.parts.Lead.TheVariants.{Ahead, Returning, Entering}
 use Rattle.zflow.specs.declared.parts.Demands.{Demands}
 use Rattle.zflow.specs.declared.parts.Outcome.{Outcome}
-use Rattle.zflow.specs.Transfer.{Shape, pops, leading, demands_at as asked_for, outcome_at, mid_shape, after}
+use Rattle.zflow.specs.Transfer.{Shape, pops, leading, slots_with, with_result, demands_at as asked_for, outcome_at, argument_sets, mid_shape, after}
 
 -- ---- rules on the story
 
@@ -68,6 +70,11 @@ module _ {V : Type 0} (o : SetOperations V) (claims : Claims V) where
     pub no_locals : entry.shape.locals ≡ []
     pub no_slots : entry.shape.slots ≡ []
 
+  -- S3: each routine has its head in static memory
+  pub record HasHeads (story : LoadedStory) : Type 0 where
+    pub static : (p k : ℕ) → claims.routine_at p ≡ Some k → static_base story ≤ p
+    pub there : (p k : ℕ) → claims.routine_at p ≡ Some k → has_head story.memory p ≡ true
+
   -- S4, and of every memory of a play: each global is in its set
   abbrev pub HasGlobals : LoadedStory → List ℕ → Type 0
   HasGlobals story memory = (k : ℕ) (values : V) → slice_get claims.globals k ≡ Some values → In o values (global_in story memory k)
@@ -111,15 +118,67 @@ module _ {V : Type 0} (o : SetOperations V) (claims : Claims V) where
     pub same : entry.routine ≡ routine
     pub covered : Covers o shape entry.shape
 
-  -- what comes after leads on, in front of a place; a return leads to no place of its own
-  abbrev pub GoesOn : ℕ → Shape V → ℕ → Lead V → Type 0
-  GoesOn routine shape q (Ahead d) = (to : ℕ) × (pos q +ℤ d ≡ pos to) × Leads routine shape to
-  GoesOn routine shape q (Returning a) = Unit {0}
+  -- ---- calls
+
+  -- each routine that may be called, by its place; 0 is none (Z 6.4.3)
+  abbrev pub EachCallee : V → (ℕ → Type 0) → Type 0
+  EachCallee a Rule = (x : ℕ) → In o a x → (x ≡ 0 → ⊥) → Rule (unpacked x)
+
+  abbrev pub result_if : Option ℕ → V
+  result_if None = o.any
+  result_if (Some k) = claims.result (suc k)
+
+  -- the values that the routine at a place may give; any, where none begins there
+  abbrev pub result_at : ℕ → V
+  result_at p = result_if (claims.routine_at p)
+
+  -- a routine's first locals lie in the sets stated: the arguments, and initial words where none is supplied (Z 6.4.4)
+  abbrev pub Starts : List V → List ℕ → List V → Type 0
+  Starts args [] [] = Unit {0}
+  Starts args [] (b ∷ bs) = ⊥
+  Starts args (x ∷ xs) [] = ⊥
+  Starts [] (x ∷ xs) (b ∷ bs) = In o b x × Starts [] xs bs
+  Starts (a ∷ args) (x ∷ xs) (b ∷ bs) = Within o a b × Starts args xs bs
+
+  -- a routine begins at a place, and its first instruction is listed in it, with an empty stack
+  pub record Begins (story : LoadedStory) (args : List V) (p : ℕ) : Type 0 where
+    pub index : ℕ
+    pub routine : claims.routine_at p ≡ Some index
+    pub entry : Entry V
+    pub listed : claims.entry (behind_head story.memory p) ≡ Some entry
+    pub same : entry.routine ≡ suc index
+    pub empty : entry.shape.slots ≡ []
+    pub starts : Starts args (initial story.memory p) entry.shape.locals
+
+  -- what is called begins as is said
+  abbrev pub Enters : LoadedStory → List V → Lead V → Type 0
+  Enters story args (Ahead d) = Unit {0}
+  Enters story args (Returning a) = Unit {0}
+  Enters story args (Entering a) = EachCallee a (Begins story args)
+
+  -- what comes after leads on, in front of a place, where `v` takes what a routine gives; a return leads to no place of its own
+  abbrev pub GoesOn : ℕ → ℕ → Shape V → ℕ → Lead V → Type 0
+  GoesOn routine v shape q (Ahead d) = (to : ℕ) × (pos q +ℤ d ≡ pos to) × Leads routine shape to
+  GoesOn routine v shape q (Returning a) = Unit {0}
+  GoesOn routine v shape q (Entering a) = EachCallee a (λ p. Leads routine (with_result (Some (result_at p)) v shape) q)
+
+  -- a global takes what a routine gives
+  abbrev pub TakesBack : ℕ → Lead V → Type 0
+  TakesBack v (Ahead d) = Unit {0}
+  TakesBack v (Returning a) = Unit {0}
+  TakesBack v (Entering a) = EachCallee a (λ p. Takes (Some (result_at p)) v)
+
+  -- a routine gives a word, before the next instruction
+  abbrev pub comes_back : Lead V → Option V
+  comes_back (Ahead d) = None
+  comes_back (Returning a) = None
+  comes_back (Entering a) = Some o.any
 
   -- a routine returns what it may, and the main code nothing
   abbrev pub Returns : ℕ → Lead V → Type 0
   Returns routine (Returning a) = (1 ≤ routine) × Within o a (claims.result routine)
   Returns routine (Ahead d) = Unit {0}
+  Returns routine (Entering a) = Unit {0}
 
   -- whatever may come of an instruction
   abbrev pub Whatever : Instruction → Shape V → (Outcome V → Type 0) → Type 0
@@ -129,9 +188,13 @@ module _ {V : Type 0} (o : SetOperations V) (claims : Claims V) where
   abbrev pub OnEdge : Outcome V → Instruction → Shape V → (Shape V → Type 0) → Type 0
   OnEdge w i e Rule = IfSome (after o claims.globals i e w) Rule
 
-  -- its stack stays low
+  -- its stack stays low, with what comes back of a call
   abbrev pub IsLow : Instruction → Shape V → Outcome V → Type 0
-  IsLow i e w = OnEdge w i e (λ f. length f.slots ≤ 64)
+  IsLow i e w = OnEdge w i e (λ f. length (slots_with (comes_back (leading o w i.branch)) (target i) f.slots) ≤ 64)
+
+  -- every routine that it calls begins as is said
+  abbrev pub CallsBegin : LoadedStory → Instruction → Shape V → Type 0
+  CallsBegin story i e = Whatever i e (λ w. OnEdge w i e (λ f. Enters story (argument_sets o claims.globals i e) (leading o w i.branch)))
 
   -- the first operand has a value
   abbrev pub FirstThere : Instruction → Shape V → Type 0
@@ -155,17 +218,19 @@ module _ {V : Type 0} (o : SetOperations V) (claims : Claims V) where
   -- I3: every variable that is named exists
   Asks story p e i rules.Local = IsKnown i e.shape → AllByRecursion (IsNamed e.shape) (inputs i) × IsVariable e.shape (target i) × IfSome (demands_at i e.shape).variable (IsVariable e.shape)
   -- I4: each edge that can be taken leads on, and it is known how far a jump goes
-  Asks story p e i rules.Successor = Divides i e.shape → IsTrue (demands_at i e.shape).certain × Whatever i e.shape (λ w. IsLow i e.shape w → OnEdge w i e.shape (λ f. GoesOn e.routine f (p + i.size) (leading o w i.branch)))
+  Asks story p e i rules.Successor = Divides i e.shape → CallsBegin story i e.shape → IsTrue (demands_at i e.shape).certain × Whatever i e.shape (λ w. IsLow i e.shape w → OnEdge w i e.shape (λ f. GoesOn e.routine (target i) f (p + i.size) (leading o w i.branch)))
   -- I8: nothing is divided by 0
   Asks story p e i rules.Divisor = Divides i e.shape
   -- I11: the text behind the opcode byte stays as it is
   Asks story p e i rules.Text = OnTrue (demands_at i e.shape).has_text (HasFixedText story claims.is_frozen (p + 1))
+  -- I12: what is called begins as is said
+  Asks story p e i rules.Called = CallsBegin story i e.shape
   -- I13: what is returned lies in the set of the routine
   Asks story p e i rules.Returned = Whatever i e.shape (λ w. OnEdge w i e.shape (λ f. Returns e.routine (leading o w i.branch)))
   -- I15: a variable that an operand names is known
   Asks story p e i rules.Known = IsKnown i e.shape
-  -- I16: what is given to a global lies in its set
-  Asks story p e i rules.Stored = Whatever i e.shape (λ w. OnEdge w i e.shape (λ f. Takes w.gives (target i) × TakesInPlace w.assigns))
+  -- I16: what is given to a global, at once or by a routine that is called, lies in its set
+  Asks story p e i rules.Stored = Whatever i e.shape (λ w. OnEdge w i e.shape (λ f. Takes w.gives (target i) × TakesInPlace w.assigns × TakesBack (target i) (leading o w i.branch)))
   -- I17: the stack stays low
   Asks story p e i rules.High = Whatever i e.shape (IsLow i e.shape)
 
@@ -182,6 +247,7 @@ module _ {V : Type 0} (o : SetOperations V) (claims : Claims V) where
   -- the claims hold of a story
   pub record Supports (story : LoadedStory) : Type 0 where
     pub first : HasFirstPlace story
+    pub heads : HasHeads story
     pub values : HasGlobals story story.memory
     -- as the format says, no stack is above 64
     pub low : (p : ℕ) (e : Entry V) → claims.entry p ≡ Some e → length e.shape.slots ≤ 64

@@ -16,6 +16,9 @@ pub enum Rule {
     Divisor,
     /// I11: a text that it prints ends in memory, and no play changes a byte of it.
     Text,
+    /// I12: each word that it may call is 0 or the packed address of a listed routine, whose first instruction is listed in it
+    /// with an empty stack and sets that contain the arguments and initial words.
+    Called,
     /// I13: it returns from no main code, and what it returns lies in the set of its routine.
     Returned,
     /// I15: a variable that an operand names is one known variable.
@@ -41,6 +44,7 @@ impl Rule {
             Rule::Successor => 4,
             Rule::Divisor => 8,
             Rule::Text => 11,
+            Rule::Called => 12,
             Rule::Returned => 13,
             Rule::Known => 15,
             Rule::Stored => 16,
