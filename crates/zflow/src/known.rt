@@ -1,14 +1,14 @@
 //! What is known of a frame.
 
-ghost use Rattle.std.specs.Prelude.{◌≡◌, ◌↔◌, ◌≤◌, IsTrue, length, reverse};
+ghost use Rattle.std.specs.Prelude.{◌≡◌, ◌↔◌, ◌≤◌, IsTrue, Some, length, reverse};
 ghost use Rattle.std.specs.List.{AllZip};
 ghost use Rattle.zdomain.specs.Domain.{Within};
 ghost use Rattle.zflow.specs.Transfer.{narrowed, with_assigned, with_result};
 ghost use Rattle.zflow.specs.Kept.{shape_of};
 
-use crate::local_sets::LocalSets;
+use crate::local_sets::{LocalSets, change_of};
 use crate::parts::Outcome;
-use crate::slot_sets::SlotSets;
+use crate::slot_sets::{SlotSets, pushed_by};
 use std::marker::Model;
 use zdomain::Domain;
 
@@ -57,6 +57,14 @@ impl<'a, V: Domain> Known<'a, V> {
     pub fn is_within(&self, locals: &[V], slots: &[V]) -> bool
         ensures { IsTrue result ↔ (AllZip (Within V.operations) self.now.locals locals.now × AllZip (Within V.operations) self.now.slots (reverse slots.now)) }
     {
-        self.locals.are_within(locals) && self.slots.are_within(slots)
+        self.locals.are_within(None, locals) && self.slots.are_within(None, slots)
+    }
+
+    /// Whether they say no more than this does once the variable `target` is given a value of a set.
+    pub fn is_within_given(&self, set: V, target: u8, locals: &[V], slots: &[V]) -> bool
+        ensures { IsTrue result ↔ (AllZip (Within V.operations) (with_result (Some set) target self.now).locals locals.now × AllZip (Within V.operations) (with_result (Some set) target self.now).slots (reverse slots.now)) }
+    {
+        self.locals.are_within(change_of(target, set), locals)
+            && self.slots.are_within(pushed_by(Some(set), target), slots)
     }
 }

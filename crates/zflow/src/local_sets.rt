@@ -93,22 +93,30 @@ impl<'a, V: Domain> LocalSets<'a, V> {
         Some(at_or(self.second_kept, index, first_kept))
     }
 
-    /// Whether each set is within the one in the same place.
-    pub(crate) fn are_within(&self, to: &[V]) -> bool
-        ensures { IsTrue result ↔ AllZip (Within V.operations) (locals_seen self.now) to.now }
+    /// The set of a local, by its index, with one more change.
+    fn at_with(&self, change: Option<(u8, V)>, index: usize) -> Option<V>
+        ensures { result ≡ slice_get (put change (locals_seen self.now)) index }
     {
-        self.are_within_from(0, to)
+        let set = self.at(index)?;
+        Some(at_or(change, index, set))
     }
 
-    /// Whether each set from an index on is within the one in the same place.
-    fn are_within_from(&self, index: usize, to: &[V]) -> bool
-        ensures { IsTrue result ↔ AllZip (Within V.operations) (drop index (locals_seen self.now)) to.now }
+    /// Whether each set, with one more change, is within the one in the same place.
+    pub(crate) fn are_within(&self, change: Option<(u8, V)>, to: &[V]) -> bool
+        ensures { IsTrue result ↔ AllZip (Within V.operations) (put change (locals_seen self.now)) to.now }
+    {
+        self.are_within_from(change, 0, to)
+    }
+
+    /// Whether each of them from an index on is within the one in the same place.
+    fn are_within_from(&self, change: Option<(u8, V)>, index: usize, to: &[V]) -> bool
+        ensures { IsTrue result ↔ AllZip (Within V.operations) (drop index (put change (locals_seen self.now))) to.now }
     {
         let _count = self.lent.len();
-        match (self.at(index), to) {
+        match (self.at_with(change, index), to) {
             (None, []) => true,
             (Some(inner), [outer, to @ ..]) => {
-                inner.is_within(*outer) && self.are_within_from(index + 1, to)
+                inner.is_within(*outer) && self.are_within_from(change, index + 1, to)
             }
             _ => false,
         }
@@ -116,7 +124,7 @@ impl<'a, V: Domain> LocalSets<'a, V> {
 }
 
 /// A local that a variable's number names, by its index, with its set. A global and the stack are no locals.
-fn change_of<V: Domain>(variable: u8, set: V) -> Option<(u8, V)>
+pub(crate) fn change_of<V: Domain>(variable: u8, set: V) -> Option<(u8, V)>
     ensures { (locals : List V) → put result locals ≡ locals_with (Some set) variable locals }
 {
     if 1 <= variable && variable < 16 {

@@ -75,11 +75,14 @@ impl<'a, V: Domain> SlotSets<'a, V> {
         }
     }
 
-    /// Whether each set is within the one in the same place, where the top is the last.
-    pub(crate) fn are_within(&self, to: &[V]) -> bool
-        ensures { IsTrue result ↔ AllZip (Within V.operations) (slots_seen self.now) (reverse to.now) }
+    /// Whether each set, with one more on top, is within the one in the same place, where the top is the last.
+    pub(crate) fn are_within(&self, top: Option<V>, to: &[V]) -> bool
+        ensures { IsTrue result ↔ AllZip (Within V.operations) (on_top top (slots_seen self.now)) (reverse to.now) }
     {
-        let Some(below_pushed) = below(self.pushed, to) else {
+        let Some(below_top) = below(top, to) else {
+            return false;
+        };
+        let Some(below_pushed) = below(self.pushed, below_top) else {
             return false;
         };
         let Some(below_replaced) = below(self.replaced, below_pushed) else {
@@ -90,7 +93,7 @@ impl<'a, V: Domain> SlotSets<'a, V> {
 }
 
 /// What is pushed, where a result goes to the stack.
-fn pushed_by<V: Domain>(gives: Option<V>, target: u8) -> Option<V>
+pub(crate) fn pushed_by<V: Domain>(gives: Option<V>, target: u8) -> Option<V>
     ensures { (slots : List V) → on_top result slots ≡ slots_with gives target slots }
 {
     match gives {

@@ -1,18 +1,21 @@
 -- A step from a described state is safe, by the parts of its effect.
-use Rattle.std.proofs.Common.{◌≡◌, ◌⊎◌, inl, inr, ℕ, zero, suc, ◌+◌, ◌-◌, ◌<◌, ◌≤◌, Bool, true, false, List, [], ◌∷◌, length, drop, take, Option, Some, None, Result, Ok, Err, refl, sym, ap, subst, ◌∙◌, arith, nat_lt, nat_le, slice_set, if◌then◌else◌}
-use Rattle.std.specs.Prelude.{ℤ, pos, ◌+ℤ◌, IsOk, IfSome, MatchOption, IsTrue, is_some, slice_get, slice_index, ◌==◌, ◌&&◌, ◌||◌}
+use Rattle.std.proofs.Common.{◌≡◌, ◌⊎◌, inl, inr, ℕ, zero, suc, ◌+◌, ◌-◌, ◌<◌, ◌≤◌, Bool, true, false, List, [], ◌∷◌, ◌++◌, length, drop, take, Option, Some, None, Result, Ok, Err, refl, sym, ap, subst, ◌∙◌, arith, nat_lt, nat_le, slice_set, if◌then◌else◌}
+use Rattle.std.specs.Prelude.{ℤ, pos, ◌+ℤ◌, IsOk, IfSome, MatchOption, IsTrue, is_some, slice_get, slice_index, ◌==◌, ◌&&◌, ◌||◌, ◌^◌}
 use Rattle.std.specs.Bool.{OnTrue, MatchBool}
 use Rattle.std.specs.List.{AllZip, AllByRecursion}
-use Rattle.std.proofs.lemmas.Bool.{ltb-false, ltb-true, lt-ltb, ne_eqb, eqb-true}
+use Rattle.std.proofs.lemmas.Bool.{ltb-false, ltb-true, lt-ltb, ne_eqb, eqb-true, eqb-refl}
 use Rattle.std.proofs.lemmas.List.{get_or-set_same, length-set, length-drop}
 use Rattle.zword.specs.declared.binary.BinaryOp.{BinaryOp}
 use Rattle.zword.specs.declared.binary.BinaryOp.TheVariants.{Add, Sub, Mul, Div, Mod, Or, And}
 use Rattle.zword.specs.declared.question.Question.{Question}
+use Rattle.zword.specs.declared.question.Question.TheVariants.{Equal}
 use Rattle.zword.specs.declared.count.CountOp.{CountOp}
 use Rattle.zword.specs.Binary.{is_defined}
 use Rattle.zword.specs.Question.{holds}
 use Rattle.zword.specs.Count.{counting as counts_by, counted}
+use Rattle.zstory.specs.Bytes.{byte_at}
 use Rattle.zstory.specs.LoadedStory.{LoadedStory, static_base, first_instruction}
+use Rattle.zfault.specs.declared.fault.Fault.TheVariants.{UnlistedCall}
 use Rattle.ztext.specs.declared.error.TextError.{TextError}
 use Rattle.ztext.specs.Words.{text_at, front_text}
 use Rattle.ztext.specs.Output.{output_at}
@@ -22,7 +25,7 @@ use Rattle.zcode.specs.declared.instr.Operand.TheVariants.{Constant, Variable}
 use Rattle.zcode.specs.declared.instr.Destination.{Destination}
 use Rattle.zcode.specs.declared.instr.Destination.TheVariants.{ReturnFalse, ReturnTrue, Relative}
 use Rattle.zcode.specs.declared.operation.Operation.{Operation}
-use Rattle.zcode.specs.declared.operation.Operation.TheVariants.{Unary, Binary, Compare, Count, Store, Load, Jump, Verify, PrintChar, PrintNumber, Print, NewLine, Nop, Quit}
+use Rattle.zcode.specs.declared.operation.Operation.TheVariants.{Unary, Binary, Compare, Count, Store, Load, Jump, Verify, PrintChar, PrintNumber, Print, NewLine, Nop, Quit, Return, PrintReturn, Call}
 use Rattle.zcode.specs.Instruction.{Instruction}
 use Rattle.zcode.specs.Operation.{operation_of, inputs, target}
 use Rattle.zcode.specs.Playable.{playable}
@@ -33,27 +36,32 @@ use Rattle.zdomain.specs.Domain.{SetOperations, AreSound, In, Within}
 use Rattle.zstate.specs.declared.halt.Halt.{Halt}
 use Rattle.zstate.specs.declared.halt.Halt.TheVariants as halts
 use Rattle.zstate.specs.InTurn.{◌>>=◌}
-use Rattle.zstate.specs.State.{Frame, State, Setting, IsState, opening, at_place, popped, with_stack, with_locals, with_memory, write_word, global, has_room, exists, put_named, put_in_place, read_in_place, read_operands}
-use Rattle.zstate.specs.Step.{Move, on, back, Effect, Done, way, arg, asked_of, giving, assigning, testing, printing, jumping, fetch, printed, print_at, effect_of, effect_if, has_caller, is_taken, is_roomy, turned, course, admits, pauses, settle, assigned, changed, stored, left, moved, advance, act, step}
+use Rattle.zstate.specs.State.{Frame, State, Setting, IsState, opening, at_place, popped, with_stack, with_locals, with_memory, write_word, global, has_room, exists, put_named, put_in_place, read_in_place, read_operands, has_head, fault}
+use Rattle.zstate.specs.Step.{Called, Move, on, back, into, returning, calling, closing, called_at, call_of, unpacked, arguments, initial, behind_head, place_of, entered, Effect, Done, way, arg, asked_of, giving, assigning, testing, printing, jumping, fetch, printed, print_at, effect_of, effect_if, has_caller, is_taken, is_roomy, turned, course, admits, pauses, settle, assigned, changed, stored, left, moved, advance, act, step}
 use Rattle.zstate.proofs.Keeps.{bind_ok, put_aside, changed_aside, step_keeps}
 use Rattle.zflow.specs.declared.parts.Lead.{Lead}
-use Rattle.zflow.specs.declared.parts.Lead.TheVariants.{Ahead, Returning}
+use Rattle.zflow.specs.declared.parts.Lead.TheVariants.{Ahead, Returning, Entering}
 use Rattle.zflow.specs.declared.parts.Kept.{Kept}
 use Rattle.zflow.specs.declared.parts.Outcome.{Outcome}
 use Rattle.zflow.specs.declared.parts.Demands.{Demands}
-use Rattle.zflow.specs.Transfer.{Shape, pops, variable_set, small, local_kept, operand_kept, both_kept, untold, counted_set, demands_of, demands_if, goes_on, gives_in, assigns_in, asks, counts_in, jumps, outcome_of, outcome_if, leading, turned_to, named_with, with_result, with_assigned, narrowed, read_set, mid_shape, changed_by, after}
+use Rattle.zflow.specs.Transfer.{Shape, pops, variable_set, small, local_kept, operand_kept, both_kept, untold, counted_set, demands_of, demands_if, goes_on, gives_in, assigns_in, asks, counts_in, returns_in, enters_in, argument_sets, locals_with, jumps, outcome_of, outcome_if, leading, turned_to, named_with, with_result, with_assigned, narrowed, read_set, mid_shape, changed_by, after}
 use Rattle.zrule.specs.declared.rule.Rule.TheVariants as rules
 use Rattle.zrule.specs.Claims.{Claims}
-use Rattle.zrule.specs.Rules.{Leads, IsThere, HasFixedText, IsKnown, IsNamed, IsVariable, HasTop, Supports, Takes, TakesInPlace, GoesOn, Returns, OnEdge, demands_at}
+use Rattle.zrule.specs.Rules.{Begins, Enters, CallsBegin, TakesBack, result_if, result_at, Leads, IsThere, HasFixedText, IsKnown, IsNamed, IsVariable, HasTop, Supports, Takes, TakesInPlace, GoesOn, Returns, OnEdge, demands_at}
 use Rattle.zrule.specs.Described.{Callers, Described, DescribedMemory, Fits, FitsWith, IsSafe, IsListedIn, IsLoadedStory}
 use Rattle.zrule.proofs.Sets.{pops_cons, ReadsAll, reads_all, fits_popped, zip_set, zip_length}
-use Rattle.zrule.proofs.Unchanged.{drop_same, abbreviation_same}
-use Rattle.zrule.proofs.Settling.{PausesAtMost, pauses_fine, pauses_there, pauses_none, room_there, admits_is}
+use Rattle.zrule.proofs.Unchanged.{static_fixed, drop_same, abbreviation_same}
+use Rattle.zrule.proofs.Callees.{starts_in, called_same, head_same, arguments_in}
+use Rattle.zrule.proofs.Settling.{PausesAtMost, pauses_fine, pauses_there, pauses_none, pauses_full, room_there, admits_is}
 use Rattle.zrule.proofs.Framed.{FitsFrame, in_place_fits, result_fits}
-use Rattle.zrule.proofs.Fitting.{IsIn, exists_in, named_in, covered, fits_there, Mid, put_mid, GivenIn, stored_mid}
+use Rattle.zrule.proofs.Fitting.{IsIn, exists_in, named_in, length_with, given_fits, covered, covered_with, fits_there, Mid, put_mid, GivenIn, stored_mid}
 use Rattle.zrule.proofs.Memory.{global_put}
 use Rattle.zrule.proofs.Parts.{Hold, HoldsOne, narrowed_fits, variable_there, small_is}
 use Rattle.zrule.proofs.Stepping.{fetch_is, done_at, made_by, step_is}
+
+not_both : (b : Bool) → b ≡ true → b ≡ false → ⊥
+not_both true e f = cc
+not_both false e f = cc
 
 on_true : (b : Bool) (A B : Type 0) → OnTrue b (A → B) → A → OnTrue b B
 on_true true A B f a = f a
@@ -169,17 +177,28 @@ module _ {V : Type 0} (o : SetOperations V) (lawful : AreSound o) (claims : Clai
     exists = local.2;
     known = on_true (demands_at o claims i d.entry.shape).indirect _ _ rule_known (first_there o claims operands d.entry.shape height.0 local.0);
     divides = supports.each d.at d.entry d.listed rules.Divisor i there;
-    certain = (supports.each d.at d.entry d.listed rules.Successor i there (supports.each d.at d.entry d.listed rules.Divisor i there)).0;
+    certain = (supports.each d.at d.entry d.listed rules.Successor i there (supports.each d.at d.entry d.listed rules.Divisor i there) (supports.each d.at d.entry d.listed rules.Called i there)).0;
     text = supports.each d.at d.entry d.listed rules.Text i there;
   }
 
   -- ---- where a step leads, as the rules expect it
 
+  abbrev given_args : List V
+  given_args = argument_sets o claims.globals i d.entry.shape
+
+  IsCall : ℕ → Called → Type 0
+  IsCall p called = (xs : List ℕ) × AllZip (In o) given_args xs × (called ≡ called_at m.story.memory p xs)
+
   LeadsIn : Lead V → Move → Type 0
   LeadsIn (Ahead a) (on b) = a ≡ b
   LeadsIn (Returning a) (back x) = In o a x
+  LeadsIn (Entering a) (into called) = (x : ℕ) × In o a x × (x ≡ 0 → ⊥) × IsCall (unpacked x) called
   LeadsIn (Ahead a) (back x) = ⊥
+  LeadsIn (Ahead a) (into called) = ⊥
   LeadsIn (Returning a) (on b) = ⊥
+  LeadsIn (Returning a) (into called) = ⊥
+  LeadsIn (Entering a) (on b) = ⊥
+  LeadsIn (Entering a) (back x) = ⊥
 
   turned_in : (way : Option Destination) (lead : Lead V) (move : Move) → LeadsIn lead move → LeadsIn (turned_to o way lead) (turned way move)
   unfolding LeadsIn
@@ -222,24 +241,59 @@ module _ {V : Type 0} (o : SetOperations V) (lawful : AreSound o) (claims : Clai
         memory = known.memory;
       }
 
+  -- into a routine: one tie more
+  enters : (p : ℕ) (called : Called) (e : Shape V) (u : State) → IsCall p called → u.place ≡ pos (d.at + i.size) → Known_in e u → IsIn (target i) u.frame.locals → Begins o claims m.story given_args p
+      → Leads o claims d.entry.routine (with_result (Some (result_at o claims p)) (target i) e) (d.at + i.size) → Takes o claims (Some (result_at o claims p)) (target i) → IsState m.limit m.story (entered called (target i) u) → Described o claims m.limit m.story (entered called (target i) u)
+  unfolding IsCall
+  enters p called e u (xs, zip, is) place known exists begins leads takes state =
+      let v = target i in
+      let q = d.at + i.size in
+      let result : result_at o claims p ≡ claims.result (suc begins.index) = ap (result_if o claims) begins.routine in
+      let tie : (x : ℕ) → In o (claims.result (suc begins.index)) x → FitsWith o claims v x leads.entry.shape u.frame = λ x member.
+      covered_with o claims v x _ leads.entry.shape u.frame leads.covered (given_fits o claims v x (result_at o claims p) e u.frame (subst (λ (a : V). In o a x) (sym result) member) exists takes known.fits) in
+      let rest : Callers o claims leads.entry.routine u.frame.return_place u.frame.result u.callers = subst (λ (r : ℕ). Callers o claims r u.frame.return_place u.frame.result u.callers) (sym leads.same) known.callers in
+      let back : Callers o claims (suc begins.index) q v (u.frame ∷ u.callers) = (omega arith, leads.entry, leads.listed, tie, rest) in
+      let at : (z : ℤ) → z ≡ pos q → Callers o claims (suc begins.index) (place_of z) v (u.frame ∷ u.callers) = λ z same. subst (λ (y : ℤ). Callers o claims (suc begins.index) (place_of y) v (u.frame ∷ u.callers)) (sym same) back in
+      record {
+        is_state = state;
+        at = behind_head m.story.memory p;
+        place = ap (λ (k : Called). pos k.place) is;
+        entry = begins.entry;
+        listed = begins.listed;
+        fits = record {
+          in_locals = subst (λ (k : Called). AllZip (In o) begins.entry.shape.locals k.locals) (sym is) (starts_in o claims given_args (initial m.story.memory p) begins.entry.shape.locals xs begins.starts zip);
+          in_slots = subst (λ (slots : List V). AllZip (In o) slots []) (sym begins.empty) tt;
+        };
+        callers = subst (λ (r : ℕ). Callers o claims r (place_of u.place) v (u.frame ∷ u.callers)) (sym begins.same) (at u.place place);
+        memory = known.memory;
+      }
+
   -- whatever it is
-  lands : (lead : Lead V) (move : Move) (e : Shape V) (u : State) → LeadsIn lead move → u.place ≡ pos (d.at + i.size) → Known_in e u
-      → GoesOn o claims d.entry.routine e (d.at + i.size) lead → Returns o claims d.entry.routine lead
-      → IsState m.limit m.story (moved m.story move u) → Described o claims m.limit m.story (moved m.story move u)
+  lands : (lead : Lead V) (move : Move) (e : Shape V) (u : State) → LeadsIn lead move → u.place ≡ pos (d.at + i.size) → Known_in e u → IsIn (target i) u.frame.locals
+      → GoesOn o claims d.entry.routine (target i) e (d.at + i.size) lead → Enters o claims m.story given_args lead → Returns o claims d.entry.routine lead → TakesBack o claims (target i) lead
+      → IsState m.limit m.story (moved m.story (target i) move u) → Described o claims m.limit m.story (moved m.story (target i) move u)
   unfolding LeadsIn
-  lands (Ahead a) (on b) e u is place known follows returns state =
+  lands (Ahead a) (on b) e u is place known exists follows begins returns takes state =
       let there : u.place +ℤ b ≡ pos follows.0 = ap (λ (p : ℤ). p +ℤ b) place ∙ ap (λ (x : ℤ). pos (d.at + i.size) +ℤ x) (sym is) ∙ follows.1 in
       arrives e (at_place (u.place +ℤ b) u) follows.0 (record { memory = known.memory; fits = known.fits; callers = known.callers }) there follows.2 state
-  lands (Returning a) (back x) e u is place known follows returns state = returned a x u u.callers is returns known.memory known.callers state
-  lands (Ahead a) (back x) e u is place known follows returns state = absurd is
-  lands (Returning a) (on b) e u is place known follows returns state = absurd is
+  lands (Returning a) (back x) e u is place known exists follows begins returns takes state = returned a x u u.callers is returns known.memory known.callers state
+  lands (Entering a) (into called) e u (x, member, some, call) place known exists follows begins returns takes state =
+      enters (unpacked x) called e u call place known exists (begins x member some) (follows x member some) (takes x member some) state
+  lands (Ahead a) (back x) e u is place known exists follows begins returns takes state = absurd is
+  lands (Ahead a) (into called) e u is place known exists follows begins returns takes state = absurd is
+  lands (Returning a) (on b) e u is place known exists follows begins returns takes state = absurd is
+  lands (Returning a) (into called) e u is place known exists follows begins returns takes state = absurd is
+  lands (Entering a) (on b) e u is place known exists follows begins returns takes state = absurd is
+  lands (Entering a) (back x) e u is place known exists follows begins returns takes state = absurd is
 
   -- ---- no fault in the judging
 
   judged : (lead : Lead V) (move : Move) (v return_place : ℕ) (gs : List Frame) → LeadsIn lead move → Returns o claims d.entry.routine lead → Callers o claims d.entry.routine return_place v gs → (has_caller move gs ≡ true) × (is_taken move v gs ≡ true)
   unfolding LeadsIn
   judged lead (on b) v r gs is rule callers = (refl, refl)
+  judged lead (into called) v r gs is rule callers = (refl, refl)
   judged (Ahead a) (back x) v r gs is rule callers = absurd is
+  judged (Entering a) (back x) v r gs is rule callers = absurd is
   judged (Returning a) (back x) v r [] is rule callers = absurd (omega (arith, rule.0, callers))
   judged (Returning a) (back x) v r (g ∷ gs) is rule callers = (refl, exists_in v g (fits_there o claims v x callers.1.shape g (callers.3 x (rule.1 x is))))
 
@@ -417,44 +471,112 @@ module _ {V : Type 0} (o : SetOperations V) (lawful : AreSound o) (claims : Clai
   unfolding Expected LeadsIn AssignedIn outcome_of changed
   jumps_expected x known is = inr (jumps x, (true, rw known refl), record { gives = tt; assigns = tt; tests = refl; leads = rw is refl; kept = (tt, tt); needs = refl; goes = refl })
 
-  by_operation : (k : Operation) → Asked (demands_of o k args) → Expected (Some k) (effect_of m k all.values t)
+  -- ---- returns and calls
+
+  returns_expected : (k : Operation) (bytes : List ℕ) (a : V) (x : ℕ) → ComesOf (Some k) (returns_in a) → In o a x → Expected (Some k) (Ok (record (printing bytes) { moves = back x }))
+  unfolding Expected LeadsIn AssignedIn changed
+  returns_expected k bytes a x comes member = inr (returns_in a, comes, record { gives = tt; assigns = tt; tests = refl; leads = member; kept = (tt, tt); needs = refl; goes = refl })
+
+  closes_expected : (r : Result (List ℕ) TextError) → IsOk r → ComesOf (Some PrintReturn) (returns_in (o.single 1)) → Expected (Some PrintReturn) (printed r >>= λ effect. Ok (closing effect))
+  closes_expected (Ok bytes) ok comes = returns_expected PrintReturn (bytes ++ 10 ∷ []) (o.single 1) 1 comes (lawful.single 1 (omega arith))
+  closes_expected (Err e) ok comes = absurd cc
+
+  -- whatever is called begins as is said
+  CallsOf : Option Operation → Type 0
+  CallsOf k = (w : Outcome V) → ComesOf k w → OnEdge o claims w i d.entry.shape (λ f. Enters o claims m.story given_args (leading o w i.branch))
+
+  -- a routine that begins so can be called
+  can_be_called : (p : ℕ) → Begins o claims m.story given_args p → (m.scope.routines p ≡ true) × (has_head s.memory p ≡ true) × (called_at s.memory p (arguments all.values) ≡ called_at m.story.memory p (arguments all.values))
+  can_be_called p begins =
+      let static = supports.heads.static p begins.index begins.routine in
+      let same : (q : ℕ) → p ≤ q → byte_at s.memory q ≡ byte_at m.story.memory q = λ q above. d.memory.fixed q (static_fixed m.story loaded.sound loaded.counted claims.is_frozen q (omega (arith, static, above))) in
+      (listed.routines p begins.index begins.routine, head_same s.memory m.story.memory p d.memory.long (same p (omega arith)) (supports.heads.there p begins.index begins.routine), called_same s.memory m.story.memory p (arguments all.values) same)
+
+  -- the edge on which a routine is called
+  record Entry_edge : Type 0 where
+    a : V
+    comes : ComesOf (Some Call) (enters_in a)
+    member : In o a (arg all.values 0)
+
+  entry_edge : (arg all.values 0 == 0) ≡ false → Entry_edge
+  unfolding outcome_of
+  entry_edge e =
+      let n = edge_of (o.narrow Equal false (args 0) (o.single 0)) _ (lawful.narrow Equal false (args 0) (o.single 0) (arg all.values 0) 0 (all.members 0) (lawful.single 0 (omega arith)) e) in
+      record { a = n.0.0; comes = (true, (let r = n.1 in rw r refl)); member = n.2.0 }
+
+  missed : (arg all.values 0 == 0) ≡ true → ComesOf (Some Call) (gives_in (o.single 0))
+  unfolding outcome_of
+  missed e =
+      let n = edge_of (o.narrow Equal true (args 0) (o.single 0)) _ (lawful.narrow Equal true (args 0) (o.single 0) (arg all.values 0) 0 (all.members 0) (lawful.single 0 (omega arith)) e) in
+      (false, (let r = n.1 in rw r refl))
+
+  not_zero : (x : ℕ) → (x == 0) ≡ false → x ≡ 0 → ⊥
+  not_zero zero e is = absurd cc
+  not_zero (suc x) e is = absurd cc
+
+  calls : CallsOf (Some Call) → Expected (Some Call) (call_of m.scope s.memory all.values)
+  unfolding Expected LeadsIn IsCall AssignedIn CallsOf changed
+  calls rule = by_zero (arg all.values 0 == 0) refl
+    where
+      by_zero : (b : Bool) → (arg all.values 0 == 0) ≡ b → Expected (Some Call) (if b then Ok (giving 0) else (if m.scope.routines (unpacked (arg all.values 0)) && has_head s.memory (unpacked (arg all.values 0)) then Ok (calling (called_at s.memory (unpacked (arg all.values 0)) (arguments all.values))) else fault UnlistedCall))
+      by_zero true e = gives_expected Call (o.single 0) 0 (missed e) (lawful.single 0 (omega arith))
+      by_zero false e =
+          let x = arg all.values 0 in
+          let some = not_zero x e in
+          let on_edge = entry_edge e in
+          let begins : Begins o claims m.story given_args (unpacked x) = rule (enters_in on_edge.a) on_edge.comes x on_edge.member some in
+          let can = can_be_called (unpacked x) begins in
+          let routine = can.0 in
+          let head = can.1 in
+          rw (routine, head) (inr (enters_in on_edge.a, on_edge.comes, record { gives = tt; assigns = tt; tests = refl; leads = (x, on_edge.member, some, (arguments all.values, arguments_in o args (length operands) all.values all.count all.members, can.2)); kept = (tt, tt); needs = refl; goes = refl }))
+
+  by_operation : (k : Operation) → Asked (demands_of o k args) → CallsOf (Some k) → Expected (Some k) (effect_of m k all.values t)
   unfolding Expected demands_of outcome_of effect_of
-  by_operation (Unary op) rule = gives_expected (Unary op) _ _ (true, refl) (lawful.unary op _ _ (all.members 0))
-  by_operation (Binary op) rule =
+  by_operation (Unary op) rule begins = gives_expected (Unary op) _ _ (true, refl) (lawful.unary op _ _ (all.members 0))
+  by_operation (Binary op) rule begins =
       let fine = defined_where o op (args 1) (arg all.values 1) rule.divides (all.members 1) in
       rw fine (gives_expected (Binary op) _ _ (true, refl) (lawful.binary op _ _ _ _ (all.members 0) (all.members 1)))
-  by_operation (Compare q) rule = compares q
-  by_operation (Count op question) rule = counts op question (in_place rule.known rule.top rule.exists)
-  by_operation Store rule =
+  by_operation (Compare q) rule begins = compares q
+  by_operation (Count op question) rule begins = counts op question (in_place rule.known rule.top rule.exists)
+  by_operation Store rule begins =
       let p = in_place rule.known rule.top rule.exists in
       let r = p.reads in
       let known = p.variable in
       rw r (assigns_expected Store p.v (args 1) (arg all.values 0) (arg all.values 1) (true, rw known refl) p.named (all.members 1) p.exists)
-  by_operation Load rule =
+  by_operation Load rule begins =
       let p = in_place rule.known rule.top rule.exists in
       let r = p.reads in
       let known = p.variable in
       rw r (gives_expected Load _ p.old (true, rw known refl) p.member)
-  by_operation Jump rule = let k = known_jump rule.certain in jumps_expected k.0 k.1 k.2
-  by_operation Verify rule = asks_expected Verify _ untold (_, refl) (tt, tt)
-  by_operation PrintChar rule = goes_expected PrintChar _ (true, refl)
-  by_operation PrintNumber rule = goes_expected PrintNumber _ (true, refl)
-  by_operation Print rule =
+  by_operation Jump rule begins = let k = known_jump rule.certain in jumps_expected k.0 k.1 k.2
+  by_operation Verify rule begins = asks_expected Verify _ untold (_, refl) (tt, tt)
+  by_operation PrintChar rule begins = goes_expected PrintChar _ (true, refl)
+  by_operation PrintNumber rule begins = goes_expected PrintNumber _ (true, refl)
+  by_operation Print rule begins =
       let at : s.place +ℤ pos 1 ≡ pos (d.at + 1) = ap (λ (p : ℤ). p +ℤ pos 1) d.place in
       subst (λ (p : ℤ). Expected (Some Print) (print_at p s.memory)) (sym at) (printed_expected (output_at s.memory (d.at + 1)) (prints rule.text) (true, refl))
-  by_operation NewLine rule = goes_expected NewLine _ (true, refl)
-  by_operation Nop rule = goes_expected Nop _ (true, refl)
-  by_operation Quit rule = inl (record { tests = refl; moves = refl; still = refl; needs = refl })
+  by_operation NewLine rule begins = goes_expected NewLine _ (true, refl)
+  by_operation Nop rule begins = goes_expected Nop _ (true, refl)
+  by_operation Quit rule begins = inl (record { tests = refl; moves = refl; still = refl; needs = refl })
+  by_operation Return rule begins = returns_expected Return [] _ _ (true, refl) (all.members 0)
+  by_operation PrintReturn rule begins =
+      let at : s.place +ℤ pos 1 ≡ pos (d.at + 1) = ap (λ (p : ℤ). p +ℤ pos 1) d.place in
+      subst (λ (p : ℤ). Expected (Some PrintReturn) (print_at p s.memory >>= λ effect. Ok (closing effect))) (sym at) (closes_expected (output_at s.memory (d.at + 1)) (prints rule.text) (true, refl))
+  by_operation Call rule begins = calls begins
 
-  by_played : (k : Option Operation) → IsTrue (is_some k) → Asked (demands_if o k args) → Expected k (effect_if m k all.values t)
-  by_played None played rule = absurd cc
-  by_played (Some k) played rule = by_operation k rule
+  by_played : (k : Option Operation) → IsTrue (is_some k) → Asked (demands_if o k args) → CallsOf k → Expected k (effect_if m k all.values t)
+  by_played None played rule begins = absurd cc
+  by_played (Some k) played rule begins = by_operation k rule begins
 
   played : IsTrue (is_some (operation_of i.opcode))
   played = played_operate i.opcode (found playable (drop d.at m.story.memory) i there.decodes).played
 
+  begins_said : CallsOf (operation_of i.opcode)
+  unfolding CallsOf
+  begins_said = supports.each d.at d.entry d.listed rules.Called i there
+
   expected : Expected (operation_of i.opcode) (effect_if m (operation_of i.opcode) all.values t)
-  expected = by_played (operation_of i.opcode) played asked
+  expected = by_played (operation_of i.opcode) played asked begins_said
 
   -- ---- the parts, done
 
@@ -541,14 +663,17 @@ module _ {V : Type 0} (o : SetOperations V) (lawful : AreSound o) (claims : Clai
     by_edge : (Rule : Shape V → Type 0) → OnEdge o claims w i d.entry.shape Rule → Rule edge.0
     by_edge Rule rule = subst (λ (r : Option (Shape V)). IfSome r Rule) edge.1 rule
 
-    takes : Takes o claims w.gives (target i) × TakesInPlace o claims w.assigns
-    takes = by_edge (λ f. Takes o claims w.gives (target i) × TakesInPlace o claims w.assigns) (supports.each d.at d.entry d.listed rules.Stored i there w comes)
+    takes : Takes o claims w.gives (target i) × TakesInPlace o claims w.assigns × TakesBack o claims (target i) (leading o w i.branch)
+    takes = by_edge (λ f. Takes o claims w.gives (target i) × TakesInPlace o claims w.assigns × TakesBack o claims (target i) (leading o w i.branch)) (supports.each d.at d.entry d.listed rules.Stored i there w comes)
 
     known_there : Known_in shape u
     known_there = mid_changed w effect matches takes.0 takes.1
 
     returns : Returns o claims d.entry.routine (leading o w i.branch)
     returns = by_edge (λ f. Returns o claims d.entry.routine (leading o w i.branch)) (supports.each d.at d.entry d.listed rules.Returned i there w comes)
+
+    begins_there : Enters o claims m.story given_args (leading o w i.branch)
+    begins_there = by_edge (λ f. Enters o claims m.story given_args (leading o w i.branch)) (supports.each d.at d.entry d.listed rules.Called i there w comes)
 
     admitted : admits (target i) effect (course effect i.branch) t ≡ Ok tt
     admitted =
@@ -558,10 +683,11 @@ module _ {V : Type 0} (o : SetOperations V) (lawful : AreSound o) (claims : Clai
     acted : IsState m.limit m.story (act m.story i effect t) → Described o claims m.limit m.story (act m.story i effect t)
     unfolding act
     acted state =
-        let follows = (supports.each d.at d.entry d.listed rules.Successor i there (supports.each d.at d.entry d.listed rules.Divisor i there)).1 w comes (supports.each d.at d.entry d.listed rules.High i there w comes) in
-        let goes = by_edge (λ f. GoesOn o claims d.entry.routine f (d.at + i.size) (leading o w i.branch)) follows in
+        let follows = (supports.each d.at d.entry d.listed rules.Successor i there (supports.each d.at d.entry d.listed rules.Divisor i there) (supports.each d.at d.entry d.listed rules.Called i there)).1 w comes (supports.each d.at d.entry d.listed rules.High i there w comes) in
+        let exists = still_there shape u (length_with o claims w.gives (target i) (with_assigned w.assigns mid).locals ∙ length_assigned w.assigns mid) known_there in
+        let goes = by_edge (λ f. GoesOn o claims d.entry.routine (target i) f (d.at + i.size) (leading o w i.branch)) follows in
         let place : u.place +ℤ pos i.size ≡ pos (d.at + i.size) = ap (λ (p : ℤ). p +ℤ pos i.size) ((changed_aside m.story i effect t).place ∙ d.place) in
-        lands (leading o w i.branch) (course effect i.branch) edge.0 (advance i u) leads_in place (record { memory = known_there.memory; fits = edge.2; callers = known_there.callers }) goes returns state
+        lands (leading o w i.branch) (course effect i.branch) edge.0 (advance i u) leads_in place (record { memory = known_there.memory; fits = edge.2; callers = known_there.callers }) exists goes begins_there returns takes.2 state
 
   still_admitted : (effect : Effect) → Still effect → admits (target i) effect (course effect i.branch) t ≡ Ok tt
   still_admitted effect still =
@@ -573,14 +699,14 @@ module _ {V : Type 0} (o : SetOperations V) (lawful : AreSound o) (claims : Clai
   reads = ap instruction_at (drop_same m.story loaded.sound loaded.counted claims.is_frozen s.memory d.memory.long d.memory.fixed d.at there.static) ∙ there.decodes
 
   pub fetches : fetch m.scope s.place s.memory ≡ Ok i
-  fetches = fetch_is m.scope s.place d.at s.memory i d.place (listed d.at d.entry d.listed) reads
+  fetches = fetch_is m.scope s.place d.at s.memory i d.place (listed.places d.at d.entry d.listed) reads
 
   pub steps : step m s ≡ (effect_if m (operation_of i.opcode) all.values t >>= made_by m t i)
   steps = step_is m s t i all.values fetches all.read
 
   -- where its judging finds no fault, what is left is a pause, or the step
-  settled : (effect : Effect) → admits (target i) effect (course effect i.branch) t ≡ Ok tt → made_by m t i effect ≡ (pauses (target i) effect (course effect i.branch) t >>= λ _. Ok (done_at m t i effect))
-  settled effect ok = ap (λ (r : Result (Unit {0}) Halt). (r >>= λ _. pauses (target i) effect (course effect i.branch) t) >>= λ _. Ok (done_at m t i effect)) ok
+  settled : (effect : Effect) → admits (target i) effect (course effect i.branch) t ≡ Ok tt → made_by m t i effect ≡ (pauses m.limit (target i) effect (course effect i.branch) t >>= λ _. Ok (done_at m t i effect))
+  settled effect ok = ap (λ (r : Result (Unit {0}) Halt). (r >>= λ _. pauses m.limit (target i) effect (course effect i.branch) t) >>= λ _. Ok (done_at m t i effect)) ok
 
   paused : (effect : Effect) (r : Result (Unit {0}) Halt) → PausesAtMost r → (r ≡ Ok tt → Described o claims m.limit m.story (act m.story i effect t)) → IsSafe o claims m.limit m.story (r >>= λ _. Ok (done_at m t i effect))
   paused effect (Ok x) fine made = made refl
@@ -590,7 +716,7 @@ module _ {V : Type 0} (o : SetOperations V) (lawful : AreSound o) (claims : Clai
   paused effect (Err halts.FrameLimit) fine made = tt
 
   -- an effect that nothing keeps from being done is what the step does
-  made_is : (effect : Effect) → effect_if m (operation_of i.opcode) all.values t ≡ Ok effect → admits (target i) effect (course effect i.branch) t ≡ Ok tt → pauses (target i) effect (course effect i.branch) t ≡ Ok tt → step m s ≡ Ok (done_at m t i effect)
+  made_is : (effect : Effect) → effect_if m (operation_of i.opcode) all.values t ≡ Ok effect → admits (target i) effect (course effect i.branch) t ≡ Ok tt → pauses m.limit (target i) effect (course effect i.branch) t ≡ Ok tt → step m s ≡ Ok (done_at m t i effect)
   made_is effect is admitted unpaused =
       steps ∙ ap (λ (r : Result Effect Halt). r >>= made_by m t i) is ∙ settled effect admitted ∙ ap (λ (r : Result (Unit {0}) Halt). r >>= λ _. Ok (done_at m t i effect)) unpaused
 
@@ -598,12 +724,12 @@ module _ {V : Type 0} (o : SetOperations V) (lawful : AreSound o) (claims : Clai
   unfolding Expected
   finish (Ok effect) is (inl still) =
       subst (IsSafe o claims m.limit m.story) (sym (settled effect (still_admitted effect still)))
-      (paused effect (pauses (target i) effect (course effect i.branch) t) (pauses_fine (target i) effect (course effect i.branch) t) (λ ok. absurd (pauses_there (target i) effect (course effect i.branch) t (inr still.still) ok)))
+      (paused effect (pauses m.limit (target i) effect (course effect i.branch) t) (pauses_fine m.limit (target i) effect (course effect i.branch) t) (λ ok. absurd (pauses_there m.limit (target i) effect (course effect i.branch) t (inr still.still) ok)))
   finish (Ok effect) is (inr (w, comes, matches)) =
       let ok = admitted w effect comes matches in
       subst (IsSafe o claims m.limit m.story) (sym (settled effect ok))
-      (paused effect (pauses (target i) effect (course effect i.branch) t) (pauses_fine (target i) effect (course effect i.branch) t)
-      (λ unpaused. acted w effect comes matches (step_keeps m s (done_at m t i effect) d.is_state (made_is effect is ok unpaused))))
+      (paused effect (pauses m.limit (target i) effect (course effect i.branch) t) (pauses_fine m.limit (target i) effect (course effect i.branch) t)
+      (λ unpaused. acted w effect comes matches (step_keeps m s (done_at m t i effect) loaded.sound d.is_state (made_is effect is ok unpaused))))
   finish (Err h) is expected = absurd expected
 
   pub safe_there : IsSafe o claims m.limit m.story (step m s)
@@ -625,21 +751,34 @@ module _ {V : Type 0} (o : SetOperations V) (lawful : AreSound o) (claims : Clai
       by_stack true is fits = room_there v g (let same = zip_length (In o) e.slots (x ∷ g.stack) fits.in_slots in omega (arith, same, few))
       by_stack false is h = rw is refl
 
-  roomy : (lead : Lead V) (move : Move) (v return_place : ℕ) (gs : List Frame) → LeadsIn lead move → Returns o claims d.entry.routine lead → Callers o claims d.entry.routine return_place v gs → is_roomy move v gs ≡ true
+  -- so a return has room, and a call where the frames are fewer than there may be
+  roomy : (lead : Lead V) (move : Move) (v return_place : ℕ) (gs : List Frame) → LeadsIn lead move → Returns o claims d.entry.routine lead → Callers o claims d.entry.routine return_place v gs → is_roomy m.limit move v gs ≡ false → m.limit ≤ length gs
   unfolding LeadsIn
-  roomy lead (on b) v r gs is rule callers = refl
-  roomy (Ahead a) (back x) v r gs is rule callers = absurd is
-  roomy (Returning a) (back x) v r [] is rule callers = refl
-  roomy (Returning a) (back x) v r (g ∷ gs) is rule callers = caller_room v x r callers.1.shape g (supports.low r callers.1 callers.2) (callers.3 x (rule.1 x is))
+  roomy lead (on b) v r gs is rule callers e = absurd cc
+  roomy (Ahead a) (back x) v r gs is rule callers e = absurd is
+  roomy (Entering a) (back x) v r gs is rule callers e = absurd is
+  roomy (Returning a) (back x) v r [] is rule callers e = absurd cc
+  roomy (Returning a) (back x) v r (g ∷ gs) is rule callers e = absurd (not_both (has_room v g) (caller_room v x r callers.1.shape g (supports.low r callers.1 callers.2) (callers.3 x (rule.1 x is))) e)
+  roomy lead (into called) v r gs is rule callers e = ltb-false (length gs) m.limit e
 
-  unpaused : (w : Outcome V) (effect : Effect) → ComesOf (operation_of i.opcode) w → Matches w effect → pauses (target i) effect (course effect i.branch) t ≡ Ok tt
-  unpaused w effect comes matches =
-      pauses_none (target i) effect (course effect i.branch) t matches.needs matches.goes (room_there (target i) t.frame low_read)
-      (roomy (leading o w i.branch) (course effect i.branch) s.frame.result s.frame.return_place s.callers (leads_in w effect comes matches) (returns w effect comes matches) d.callers)
-
-  -- it is made, or it is `quit`
+  -- it is made, or it is `quit`, or a call where there are as many frames as there may be
   IsAble : Result Done Halt → Type 0
-  IsAble r = ((x : Done) × (r ≡ Ok x)) ⊎ (r ≡ Err halts.Quit)
+  IsAble r = ((x : Done) × (r ≡ Ok x)) ⊎ ((r ≡ Err halts.Quit) ⊎ ((r ≡ Err halts.FrameLimit) × (m.limit ≤ length s.callers)))
+
+  made_able : (w : Outcome V) (effect : Effect) → ComesOf (operation_of i.opcode) w → Matches w effect → IsAble (made_by m t i effect)
+  unfolding IsAble
+  made_able w effect comes matches = by_room (is_roomy m.limit (course effect i.branch) s.frame.result s.callers) refl
+    where
+      ok : made_by m t i effect ≡ (pauses m.limit (target i) effect (course effect i.branch) t >>= λ _. Ok (done_at m t i effect))
+      ok = settled effect (admitted w effect comes matches)
+      by_room : (b : Bool) → is_roomy m.limit (course effect i.branch) s.frame.result s.callers ≡ b → ((x : Done) × (made_by m t i effect ≡ Ok x)) ⊎ ((made_by m t i effect ≡ Err halts.Quit) ⊎ ((made_by m t i effect ≡ Err halts.FrameLimit) × (m.limit ≤ length s.callers)))
+      by_room true e =
+          let none = pauses_none m.limit (target i) effect (course effect i.branch) t matches.needs matches.goes (room_there (target i) t.frame low_read) e in
+          inl (done_at m t i effect, ok ∙ ap (λ (r : Result (Unit {0}) Halt). r >>= λ _. Ok (done_at m t i effect)) none)
+      by_room false e =
+          let full = pauses_full m.limit (target i) effect (course effect i.branch) t matches.needs matches.goes (room_there (target i) t.frame low_read) e in
+          let many = roomy (leading o w i.branch) (course effect i.branch) s.frame.result s.frame.return_place s.callers (leads_in w effect comes matches) (returns w effect comes matches) d.callers e in
+          inr (inr (ok ∙ ap (λ (r : Result (Unit {0}) Halt). r >>= λ _. Ok (done_at m t i effect)) full, many))
 
   quits : (effect : Effect) → Still effect → made_by m t i effect ≡ Err halts.Quit
   unfolding pauses
@@ -650,11 +789,11 @@ module _ {V : Type 0} (o : SetOperations V) (lawful : AreSound o) (claims : Clai
 
   able_by : (r : Result Effect Halt) → Expected (operation_of i.opcode) r → IsAble (r >>= made_by m t i)
   unfolding Expected IsAble
-  able_by (Ok effect) (inl still) = inr (quits effect still)
-  able_by (Ok effect) (inr (w, comes, matches)) = inl (done_at m t i effect, settled effect (admitted w effect comes matches) ∙ ap (λ (r : Result (Unit {0}) Halt). r >>= λ _. Ok (done_at m t i effect)) (unpaused w effect comes matches))
+  able_by (Ok effect) (inl still) = inr (inl (quits effect still))
+  able_by (Ok effect) (inr (w, comes, matches)) = made_able w effect comes matches
   able_by (Err h) expected = absurd expected
 
-  pub able_there : ((x : Done) × (step m s ≡ Ok x)) ⊎ (step m s ≡ Err halts.Quit)
+  pub able_there : ((x : Done) × (step m s ≡ Ok x)) ⊎ ((step m s ≡ Err halts.Quit) ⊎ ((step m s ≡ Err halts.FrameLimit) × (m.limit ≤ length s.callers)))
   unfolding IsAble
   able_there = subst IsAble (sym steps) (able_by (effect_if m (operation_of i.opcode) all.values t) expected)
 
@@ -676,23 +815,16 @@ module _ {V : Type 0} (o : SetOperations V) (lawful : AreSound o) (claims : Clai
       let k = known_for sure in
       k.1 ∙ ap (λ (n : ℕ). Some n) (sym (first_read values u k.0 k.1 read))
 
-  -- a step from the first frame leads to the first frame
-  moved_alone : (move : Move) (u : State) (gs : List Frame) → u.callers ≡ gs → gs ≡ [] → (moved m.story move u).callers ≡ []
-  moved_alone (on d) u gs is none = is ∙ none
-  moved_alone (back x) u gs is none = subst (λ (l : List Frame). (left m.story x l u).callers ≡ []) (sym (is ∙ none)) (is ∙ none)
+  -- what is called is a routine that begins as is said
+  called_begins : CallsOf (Some Call) → (arg all.values 0 == 0) ≡ false → Begins o claims m.story given_args (unpacked (arg all.values 0))
+  unfolding CallsOf
+  called_begins rule e = let on_edge = entry_edge e in rule (enters_in on_edge.a) on_edge.comes (arg all.values 0) on_edge.member (not_zero (arg all.values 0) e)
 
-  done_alone : (effect : Effect) → s.callers ≡ [] → (done_at m t i effect).state.callers ≡ []
-  unfolding act
-  done_alone effect none = moved_alone (course effect i.branch) (advance i (changed m.story i effect t)) _ refl ((changed_aside m.story i effect t).callers ∙ none)
-
-  alone_by : (r : Result Effect Halt) → s.callers ≡ [] → (x : Done) → (r >>= made_by m t i) ≡ Ok x → x.state.callers ≡ []
-  alone_by (Ok effect) none x e =
-      let b = bind_ok (settle i effect t) (λ _. Ok (done_at m t i effect)) x e in
-      subst (λ (y : Done). y.state.callers ≡ []) (same_done (done_at m t i effect) x b.2) (done_alone effect none)
-  alone_by (Err h) none x e = absurd cc
-
-  pub alone_there : s.callers ≡ [] → (x : Done) → step m s ≡ Ok x → x.state.callers ≡ []
-  alone_there none x e = alone_by (effect_if m (operation_of i.opcode) all.values t) none x (sym steps ∙ e)
+  called_as_said : operation_of i.opcode ≡ Some Call → (values : List ℕ) (u : State) → read_operands m.story operands s ≡ Ok (values, u) → (arg values 0 == 0) ≡ false → Begins o claims m.story given_args (unpacked (arg values 0))
+  called_as_said call values u read some =
+      let same : all.values ≡ values = ap (λ (p : List ℕ × State). p.0) (same_read (all.values, t) (values, u) (sym all.read ∙ read)) in
+      subst (λ (ys : List ℕ). Begins o claims m.story given_args (unpacked (arg ys 0))) same
+      (called_begins (subst (λ (k : Option Operation). CallsOf k) call begins_said) (subst (λ (ys : List ℕ). (arg ys 0 == 0) ≡ false) (sym same) some))
 
 -- a step from a described state is no fault, and leads to a described state
 pub step_safe : {V : Type 0} (o : SetOperations V) (lawful : AreSound o) (claims : Claims V) (m : Setting) (s : State) → IsLoadedStory m.story → Supports o claims m.story → IsListedIn o claims m.scope → Described o claims m.limit m.story s → IsSafe o claims m.limit m.story (step m s)
@@ -700,8 +832,9 @@ step_safe o lawful claims m s loaded supports listed d =
     let found = supports.each d.at d.entry d.listed rules.Decodes in
     safe_there o lawful claims m loaded supports listed s d found.0 found.1
 
--- it is made, or it is `quit`: no opcode of this build waits for anything, and low stacks have room
-pub step_able : {V : Type 0} (o : SetOperations V) (lawful : AreSound o) (claims : Claims V) (m : Setting) (s : State) → IsLoadedStory m.story → Supports o claims m.story → IsListedIn o claims m.scope → Described o claims m.limit m.story s → ((x : Done) × (step m s ≡ Ok x)) ⊎ (step m s ≡ Err halts.Quit)
+-- no opcode of this build waits for anything, and low stacks have room: it is made, or it is `quit`, or a call where there are as
+-- many frames as there may be
+pub step_able : {V : Type 0} (o : SetOperations V) (lawful : AreSound o) (claims : Claims V) (m : Setting) (s : State) → IsLoadedStory m.story → Supports o claims m.story → IsListedIn o claims m.scope → Described o claims m.limit m.story s → ((x : Done) × (step m s ≡ Ok x)) ⊎ ((step m s ≡ Err halts.Quit) ⊎ ((step m s ≡ Err halts.FrameLimit) × (m.limit ≤ length s.callers)))
 step_able o lawful claims m s loaded supports listed d =
     let found = supports.each d.at d.entry d.listed rules.Decodes in
     able_there o lawful claims m loaded supports listed s d found.0 found.1
@@ -724,9 +857,9 @@ module _ {V : Type 0} (o : SetOperations V) (lawful : AreSound o) (claims : Clai
   pub stack_low : length s.frame.stack ≤ 64
   stack_low = low o lawful claims m loaded supports listed s d i there
 
-  -- and with no caller, none comes
-  pub step_alone : s.callers ≡ [] → (x : Done) → step m s ≡ Ok x → x.state.callers ≡ []
-  step_alone = alone_there o lawful claims m loaded supports listed s d i there
+  -- what it calls is a routine that begins as is said
+  pub calls_begin : operation_of i.opcode ≡ Some Call → (values : List ℕ) (u : State) → read_operands m.story (inputs i) s ≡ Ok (values, u) → (arg values 0 == 0) ≡ false → Begins o claims m.story (argument_sets o claims.globals i d.entry.shape) (unpacked (arg values 0))
+  calls_begin = called_as_said o lawful claims m loaded supports listed s d i there
 
 -- the opening state
 pub opening_described : {V : Type 0} (o : SetOperations V) (claims : Claims V) (story : LoadedStory) (limit : ℕ) → Supports o claims story → Described o claims limit story (opening story)

@@ -40,7 +40,7 @@ zip_set R (a ∷ xs) [] z i x y r = absurd z
 zip_set R (a ∷ xs) (b ∷ ys) z zero x y r = (r, z.1)
 zip_set R (a ∷ xs) (b ∷ ys) z (suc i) x y r = (z.0, zip_set R xs ys z.1 i x y r)
 
-zip_drop : {A B : Type 0} (R : A → B → Type 0) (n : ℕ) (xs : List A) (ys : List B) → AllZip R xs ys → AllZip R (drop n xs) (drop n ys)
+pub zip_drop : {A B : Type 0} (R : A → B → Type 0) (n : ℕ) (xs : List A) (ys : List B) → AllZip R xs ys → AllZip R (drop n xs) (drop n ys)
 zip_drop R zero xs ys z = z
 zip_drop R (suc n) [] [] z = z
 zip_drop R (suc n) [] (y ∷ ys) z = absurd z

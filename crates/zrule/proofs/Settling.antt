@@ -7,7 +7,7 @@ use Rattle.zstate.specs.declared.halt.Halt.{Halt}
 use Rattle.zstate.specs.declared.halt.Halt.TheVariants as halts
 use Rattle.zstate.specs.InTurn.{◌>>=◌}
 use Rattle.zstate.specs.State.{Frame, State, exists, has_room}
-use Rattle.zstate.specs.Step.{Move, Effect, asked, waits, has_caller, is_taken, is_roomy, admits, pauses}
+use Rattle.zstate.specs.Step.{Move, Effect, asked, waits, expects, has_caller, is_taken, is_roomy, admits, pauses}
 
 -- no fault
 abbrev pub IsPause : Halt → Type 0
@@ -33,12 +33,12 @@ in_turn_fine (Ok x) f a b = b x
 in_turn_fine (Err h) f a b = a
 
 -- the pauses are no faults
-pub pauses_fine : (v : ℕ) (effect : Effect) (move : Move) (s : State) → PausesAtMost (pauses v effect move s)
+pub pauses_fine : (limit v : ℕ) (effect : Effect) (move : Move) (s : State) → PausesAtMost (pauses limit v effect move s)
 unfolding pauses
-pauses_fine v effect move s =
+pauses_fine limit v effect move s =
     in_turn_fine (waits effect.needs) _ (waits_fine effect.needs) (λ x.
     in_turn_fine (asked (not effect.quits) halts.Quit) _ (asked_fine (not effect.quits) halts.Quit tt) (λ x.
-    in_turn_fine (asked (not (is_some effect.gives) || has_room v s.frame) halts.FrameLimit) _ (asked_fine _ halts.FrameLimit tt) (λ x. asked_fine (is_roomy move s.frame.result s.callers) halts.FrameLimit tt)))
+    in_turn_fine (asked (not (is_some effect.gives) || has_room v s.frame) halts.FrameLimit) _ (asked_fine _ halts.FrameLimit tt) (λ x. asked_fine (is_roomy limit move s.frame.result s.callers) halts.FrameLimit tt)))
 
 -- a machine that waits or quits does
 stands_by : (needs : Option Need) (b : Bool) (r : Result (Unit {0}) Halt) → (is_some needs ≡ true) ⊎ (b ≡ true) → (waits needs >>= λ _. (asked (not b) halts.Quit >>= λ _. r)) ≡ Ok tt → ⊥
@@ -47,9 +47,9 @@ stands_by None true r still e = cc
 stands_by None false r (inl still) e = cc
 stands_by None false r (inr still) e = cc
 
-pub pauses_there : (v : ℕ) (effect : Effect) (move : Move) (s : State) → (is_some effect.needs ≡ true) ⊎ (effect.quits ≡ true) → pauses v effect move s ≡ Ok tt → ⊥
+pub pauses_there : (limit v : ℕ) (effect : Effect) (move : Move) (s : State) → (is_some effect.needs ≡ true) ⊎ (effect.quits ≡ true) → pauses limit v effect move s ≡ Ok tt → ⊥
 unfolding pauses
-pauses_there v effect move s still e = stands_by effect.needs effect.quits _ still e
+pauses_there limit v effect move s still e = stands_by effect.needs effect.quits _ still e
 
 or_true : (b : Bool) → (b || true) ≡ true
 or_true true = refl
@@ -72,7 +72,7 @@ both_ok (Err x) b c d e f = absurd cc
 pub admits_is : (v : ℕ) (effect : Effect) (move : Move) (s : State) → exists v s.frame ≡ true → has_caller move s.callers ≡ true → is_taken move s.frame.result s.callers ≡ true → admits v effect move s ≡ Ok tt
 unfolding admits
 admits_is v effect move s there caller taken =
-    both_ok _ _ _ (asked_true _ _ (expected_true (is_some effect.gives) (exists v s.frame) there)) (asked_true _ _ caller) (asked_true _ _ taken)
+    both_ok _ _ _ (asked_true _ _ (expected_true (expects effect.gives move) (exists v s.frame) there)) (asked_true _ _ caller) (asked_true _ _ taken)
 
 -- a stack that is low has room for a word
 pub room_there : (v : ℕ) (f : Frame) → length f.stack ≤ 64 → has_room v f ≡ true
@@ -83,8 +83,15 @@ room_there v f low = by_stack (v == 0)
     by_stack false = refl
 
 -- nothing keeps a step from being made that needs nothing, goes on, and has room
-pub pauses_none : (v : ℕ) (effect : Effect) (move : Move) (s : State) → effect.needs ≡ None → effect.quits ≡ false → has_room v s.frame ≡ true → is_roomy move s.frame.result s.callers ≡ true → pauses v effect move s ≡ Ok tt
+pub pauses_none : (limit v : ℕ) (effect : Effect) (move : Move) (s : State) → effect.needs ≡ None → effect.quits ≡ false → has_room v s.frame ≡ true → is_roomy limit move s.frame.result s.callers ≡ true → pauses limit v effect move s ≡ Ok tt
 unfolding pauses
-pauses_none v effect move s needs quits room roomy =
+pauses_none limit v effect move s needs quits room roomy =
+    let given = expected_true (is_some effect.gives) (has_room v s.frame) room in
+    rw (needs, quits, given, roomy) refl
+
+-- and where there is no room for what is returned, or for a frame more, that does
+pub pauses_full : (limit v : ℕ) (effect : Effect) (move : Move) (s : State) → effect.needs ≡ None → effect.quits ≡ false → has_room v s.frame ≡ true → is_roomy limit move s.frame.result s.callers ≡ false → pauses limit v effect move s ≡ Err halts.FrameLimit
+unfolding pauses
+pauses_full limit v effect move s needs quits room roomy =
     let given = expected_true (is_some effect.gives) (has_room v s.frame) room in
     rw (needs, quits, given, roomy) refl
