@@ -1,6 +1,6 @@
 //! What a set of words has to offer.
 
-ghost use Rattle.std.specs.Prelude.{◌≡◌, ◌↔◌, IsTrue};
+ghost use Rattle.std.specs.Prelude.{◌≡◌, ◌↔◌, ◌≤◌, ℕ, IfNone, IfSome, IsTrue};
 ghost use Rattle.zdomain.specs.Domain.{SetOperations, AreSound, In, Within};
 
 use zword::{BinaryOp, Question, UnaryOp};
@@ -31,6 +31,11 @@ pub trait Domain: Copy + Drop {
     /// A word of the set: there is always one.
     fn member(self) -> u16
         ensures { In operations self result };
+
+    /// The least word of the set from one on.
+    fn least_from(self, word: u16) -> Option<u16>
+        ensures some { IfSome result (λ x. In operations self x × (word ≤ x) × ((y : ℕ) → In operations self y → word ≤ y → x ≤ y)) }
+        ensures none { IfNone result ((y : ℕ) → In operations self y → word ≤ y → ⊥) };
 
     /// The word of the set, where it has but one.
     fn known(self) -> Option<u16>

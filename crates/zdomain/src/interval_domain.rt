@@ -40,6 +40,17 @@ impl Domain for Interval {
         least.cast_unsigned()
     }
 
+    fn least_from(self, word: u16) -> Option<u16> {
+        let low = self.lo.cast_unsigned();
+        if self.contains(word) {
+            Some(word)
+        } else if word < low {
+            Some(low)
+        } else {
+            None
+        }
+    }
+
     fn known(self) -> Option<u16> {
         if self.is_single() {
             Some(self.lo.cast_unsigned())

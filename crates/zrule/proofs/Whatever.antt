@@ -3,6 +3,7 @@ use Rattle.std.proofs.Common.{◌≡◌, ◌↔◌, ℕ, ◌<◌, ◌≤◌, ari
 use Rattle.std.specs.Prelude.{IfSome, slice_get, slice_index_or, nat_lt, ◌-◌}
 use Rattle.std.proofs.lemmas.Option.{same_Some, get_or_from_slice_get}
 use Rattle.std.proofs.lemmas.Bool.{le-ltb}
+use Rattle.zstory.specs.LoadedStory.{LoadedStory}
 use Rattle.zcode.specs.Instruction.{Instruction}
 use Rattle.zcode.specs.Operation.{target}
 use Rattle.zdomain.specs.Domain.{SetOperations, Within}
@@ -10,11 +11,11 @@ use Rattle.zflow.specs.declared.parts.Lead.{Lead}
 use Rattle.zflow.specs.declared.parts.Outcome.{Outcome}
 use Rattle.zflow.specs.declared.flow.Edge.{Edge}
 use Rattle.zflow.specs.declared.flow.Flow.{Flow}
-use Rattle.zflow.specs.Transfer.{Shape, outcome_at, after, leading}
+use Rattle.zflow.specs.Transfer.{Shape, slots_with, outcome_at, after, leading}
 use Rattle.zflow.specs.Flow.{IsEdge, IsFlow}
 use Rattle.zrule.specs.declared.rule.Rule.TheVariants as rules
 use Rattle.zrule.specs.Claims.{Claims}
-use Rattle.zrule.specs.Rules.{GoesOn, Returns, Takes, TakesInPlace, Whatever, OnEdge, IsLow}
+use Rattle.zrule.specs.Rules.{Enters, GoesOn, Returns, Takes, TakesInPlace, TakesBack, comes_back, Whatever, OnEdge, IsLow}
 use Rattle.zrule.specs.Edges.{EdgesKeep}
 use Rattle.zrule.proofs.Sets.{some_at}
 
@@ -48,22 +49,26 @@ module _ {V : Type 0} (o : SetOperations V) (claims : Claims V) (i : Instruction
         all asked w (true, comes) = there true flow.held is.held asked.0 w comes
         all asked w (false, comes) = there false flow.failed is.failed asked.1 w comes
 
-  module _ (routine next : ℕ) where
-    pub leads_on : EdgesKeep o claims routine next (target i) rules.Successor flow ↔ Whatever o claims i e (λ w. IsLow o claims i e w → OnEdge o claims w i e (λ f. GoesOn o claims routine f next (leading o w i.branch)))
+  module _ (story : LoadedStory) (args : List V) (routine next : ℕ) where
+    pub leads_on : EdgesKeep o claims story args routine next (target i) rules.Successor flow ↔ Whatever o claims i e (λ w. IsLow o claims i e w → OnEdge o claims w i e (λ f. GoesOn o claims routine (target i) f next (leading o w i.branch)))
     unfolding Asked Holds
-    leads_on = whatever (λ f lead w. IfSome f (λ f. length f.slots ≤ 64) → IfSome f (λ f. GoesOn o claims routine f next lead))
+    leads_on = whatever (λ f lead w. IfSome f (λ f. length (slots_with (comes_back o claims lead) (target i) f.slots) ≤ 64) → IfSome f (λ f. GoesOn o claims routine (target i) f next lead))
 
-    pub returned : EdgesKeep o claims routine next (target i) rules.Returned flow ↔ Whatever o claims i e (λ w. OnEdge o claims w i e (λ f. Returns o claims routine (leading o w i.branch)))
+    pub called : EdgesKeep o claims story args routine next (target i) rules.Called flow ↔ Whatever o claims i e (λ w. OnEdge o claims w i e (λ f. Enters o claims story args (leading o w i.branch)))
+    unfolding Asked Holds
+    called = whatever (λ f lead w. IfSome f (λ f. Enters o claims story args lead))
+
+    pub returned : EdgesKeep o claims story args routine next (target i) rules.Returned flow ↔ Whatever o claims i e (λ w. OnEdge o claims w i e (λ f. Returns o claims routine (leading o w i.branch)))
     unfolding Asked Holds
     returned = whatever (λ f lead w. IfSome f (λ f. Returns o claims routine lead))
 
-    pub stored : EdgesKeep o claims routine next (target i) rules.Stored flow ↔ Whatever o claims i e (λ w. OnEdge o claims w i e (λ f. Takes o claims w.gives (target i) × TakesInPlace o claims w.assigns))
+    pub stored : EdgesKeep o claims story args routine next (target i) rules.Stored flow ↔ Whatever o claims i e (λ w. OnEdge o claims w i e (λ f. Takes o claims w.gives (target i) × TakesInPlace o claims w.assigns × TakesBack o claims (target i) (leading o w i.branch)))
     unfolding Asked Holds
-    stored = whatever (λ f lead w. IfSome f (λ f. Takes o claims w.gives (target i) × TakesInPlace o claims w.assigns))
+    stored = whatever (λ f lead w. IfSome f (λ f. Takes o claims w.gives (target i) × TakesInPlace o claims w.assigns × TakesBack o claims (target i) lead))
 
-    pub high : EdgesKeep o claims routine next (target i) rules.High flow ↔ Whatever o claims i e (IsLow o claims i e)
+    pub high : EdgesKeep o claims story args routine next (target i) rules.High flow ↔ Whatever o claims i e (IsLow o claims i e)
     unfolding Asked Holds
-    high = whatever (λ f lead w. IfSome f (λ f. length f.slots ≤ 64))
+    high = whatever (λ f lead w. IfSome f (λ f. length (slots_with (comes_back o claims lead) (target i) f.slots) ≤ 64))
 
 -- a global takes what lies in its set
 takes_where : {V : Type 0} (o : SetOperations V) (claims : Claims V) (x : V) (v : ℕ) (values : V) → nat_lt v 16 ≡ false → slice_get claims.globals (v - 16) ≡ Some values → Takes o claims (Some x) v ↔ Within o x values

@@ -1,20 +1,40 @@
 -- What rules ask of each edge of an instruction (own).
-use Rattle.std.specs.Prelude.{ℕ, ◌≤◌, IfSome, length}
-use Rattle.zdomain.specs.Domain.{SetOperations}
+use Rattle.std.specs.Prelude.{◌≡◌, ℕ, ◌<◌, ◌≤◌, List, Option, Some, IfSome, MatchOption, length}
+use Rattle.zstory.specs.LoadedStory.{LoadedStory}
+use Rattle.zdomain.specs.Domain.{SetOperations, In}
+use Rattle.zflow.specs.declared.parts.Lead.{Lead}
+use Rattle.zflow.specs.declared.parts.Lead.TheVariants.{Ahead, Returning, Entering}
 use Rattle.zflow.specs.declared.flow.Edge.{Edge}
 use Rattle.zflow.specs.declared.flow.Flow.{Flow}
+use Rattle.zflow.specs.Transfer.{Shape, slots_with, with_result}
 use Rattle.zrule.specs.declared.rule.Rule.{Rule}
 use Rattle.zrule.specs.declared.rule.Rule.TheVariants as rules
 use Rattle.zrule.specs.Claims.{Claims}
-use Rattle.zrule.specs.Rules.{GoesOn, Returns, Takes, TakesInPlace}
+use Rattle.zrule.specs.Rules.{Begins, EachCallee, Enters, GoesOn, Leads, Returns, Takes, TakesBack, TakesInPlace, comes_back, result_at}
 
-module _ {V : Type 0} (o : SetOperations V) (claims : Claims V) (routine next target : ℕ) where
+-- the least word of a set above a word, if there is one
+abbrev pub IsNextAbove : {V : Type 0} → SetOperations V → V → ℕ → Option ℕ → Type 0
+IsNextAbove o a word next = MatchOption next ((y : ℕ) → In o a y → y ≤ word) (λ x. In o a x × (word < x) × ((y : ℕ) → In o a y → word < y → x ≤ y))
+
+-- the stack stays low behind an edge, with what comes back
+abbrev pub StaysLow : {V : Type 0} → SetOperations V → Claims V → ℕ → Lead V → Shape V → Type 0
+StaysLow o claims target lead f = length (slots_with (comes_back o claims lead) target f.slots) ≤ 64
+
+module _ {V : Type 0} (o : SetOperations V) (claims : Claims V) (story : LoadedStory) (args : List V) (routine next target : ℕ) where
+  -- what a rule asks of each routine that may be called with these arguments, where this is known of the caller
+  abbrev pub CalleeKeeps : Rule → Shape V → ℕ → Type 0
+  CalleeKeeps rules.Called f p = Begins o claims story args p
+  CalleeKeeps rules.Successor f p = Leads o claims routine (with_result (Some (result_at o claims p)) target f) next
+  CalleeKeeps rules.Stored f p = Takes o claims (Some (result_at o claims p)) target
+  CalleeKeeps rule f p = Unit {0}
+
   -- an edge of an instruction of the routine, in front of the place `next`, whose result goes to the target
   abbrev pub EdgeKeeps : Rule → Edge V → Type 0
-  EdgeKeeps rules.Successor edge = IfSome edge.after (λ f. length f.slots ≤ 64) → IfSome edge.after (λ f. GoesOn o claims routine f next edge.lead)
+  EdgeKeeps rules.Successor edge = IfSome edge.after (StaysLow o claims target edge.lead) → IfSome edge.after (λ f. GoesOn o claims routine target f next edge.lead)
+  EdgeKeeps rules.Called edge = IfSome edge.after (λ f. Enters o claims story args edge.lead)
   EdgeKeeps rules.Returned edge = IfSome edge.after (λ f. Returns o claims routine edge.lead)
-  EdgeKeeps rules.Stored edge = IfSome edge.after (λ f. Takes o claims edge.outcome.gives target × TakesInPlace o claims edge.outcome.assigns)
-  EdgeKeeps rules.High edge = IfSome edge.after (λ f. length f.slots ≤ 64)
+  EdgeKeeps rules.Stored edge = IfSome edge.after (λ f. Takes o claims edge.outcome.gives target × TakesInPlace o claims edge.outcome.assigns × TakesBack o claims target edge.lead)
+  EdgeKeeps rules.High edge = IfSome edge.after (StaysLow o claims target edge.lead)
   EdgeKeeps rule edge = Unit {0}
 
   -- both edges, where they can be taken

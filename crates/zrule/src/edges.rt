@@ -1,79 +1,109 @@
 //! What rules ask of an edge of an instruction.
 
-ghost use Rattle.std.specs.Prelude.{◌≡◌, ◌↔◌, ◌<◌, ◌≤◌, IfSome, IsTrue, length, option_map};
+ghost use Rattle.std.specs.Prelude.{◌≡◌, ◌↔◌, ◌+◌, ◌<◌, ◌≤◌, ℕ, IfSome, IsTrue, Some, length, option_map};
+ghost use Rattle.zdomain.specs.declared.interval.Interval.{Interval as AnInterval};
 ghost use Rattle.zdomain.specs.Interval.{interval_operations};
+ghost use Rattle.zcode.specs.Operation.{target};
 ghost use Rattle.zflow.specs.declared.parts.Lead.TheVariants.{Ahead, Returning};
+ghost use Rattle.zflow.specs.Transfer.{Shape, argument_sets, with_result};
 ghost use Rattle.zcert.specs.Listed.{listed_at, seen};
-ghost use Rattle.zrule.specs.Claims.{claims_of, entry_of};
-ghost use Rattle.zrule.specs.Rules.{Covers, GoesOn, Leads, Returns, Takes, TakesInPlace};
+ghost use Rattle.zrule.specs.Claims.{Claims, claims_of, entry_of};
+ghost use Rattle.zrule.specs.Edges.{StaysLow};
+ghost use Rattle.zrule.specs.Rules.{Covers, Enters, GoesOn, Leads, Returns, Takes, TakesBack, TakesInPlace};
 
+use crate::callees::{callees_keep, result_of};
+use crate::rule::Rule;
+use crate::site::Site;
 use zcert::{Certificate, Instruction};
 use zdomain::{Domain, Interval};
-use zflow::{Edge, Known, Lead};
+use zflow::{ArgumentSets, Edge, Known, Lead};
 
 /// The greatest height of a stack behind an edge.
 const MAX_HEIGHT: usize = 64;
 
-/// Whether the stack stays low on an edge, if that can be taken.
-pub(crate) fn is_low(edge: &Edge<'_, Interval>) -> bool
-    ensures { IsTrue result ↔ IfSome edge.now.after (λ f. length f.slots ≤ 64) }
+/// Whether the stack stays low on an edge, if that can be taken, with what comes back. `target` is the variable that takes the result.
+pub(crate) fn is_low(edge: &Edge<'_, Interval>, target: u8) -> bool
+    ensures { (claims : Claims AnInterval) → IsTrue result ↔ IfSome edge.now.after (StaysLow interval_operations claims target edge.now.lead) }
 {
     match &edge.after {
-        Some(after) => after.is_at_most(MAX_HEIGHT),
+        Some(after) => after.is_at_most(most_before(edge.lead, target)),
         None => true,
     }
 }
 
-/// Whether an edge leads on in front of the place `next`, if it can be taken. A listed instruction is looked for at the index
-/// `near` first.
-pub(crate) fn goes_on(
-    certificate: &Certificate,
-    routine: u16,
-    edge: &Edge<'_, Interval>,
-    next: u32,
-    near: usize,
-) -> bool
-    requires { next ≤ 131072 }
-    ensures { IsTrue result ↔ IfSome edge.now.after (λ f. GoesOn interval_operations (claims_of interval_operations certificate.now) routine f next edge.now.lead) }
+/// How high a stack may be before what comes back.
+fn most_before(lead: Lead<Interval>, target: u8) -> usize
+    ensures { (claims : Claims AnInterval) (f : Shape AnInterval) → StaysLow interval_operations claims target lead f ↔ (length f.slots ≤ result) }
+{
+    match lead {
+        Lead::Entering(_) if target == 0 => MAX_HEIGHT - 1,
+        _ => MAX_HEIGHT,
+    }
+}
+
+/// Whether an edge leads on, if it can be taken.
+pub(crate) fn goes_on(site: Site<'_>, edge: &Edge<'_, Interval>) -> bool
+    requires { site.entry.listed.now.address + site.entry.instruction.now.size ≤ 131072 }
+    ensures { IsTrue result ↔ IfSome edge.now.after (λ f. GoesOn interval_operations (claims_of interval_operations site.entry.certificate.now) site.entry.listed.now.routine (target site.entry.instruction.now) f (site.entry.listed.now.address + site.entry.instruction.now.size) edge.now.lead) }
 {
     match (&edge.after, edge.lead) {
-        (Some(after), Lead::Ahead(distance)) => {
-            leads_ahead(certificate, routine, after, next, distance, near)
+        (Some(after), Lead::Ahead(distance)) => leads_ahead(site, after, distance),
+        (Some(after), Lead::Entering(set)) => {
+            callees_keep(site, &[], set, after, Rule::Successor)
         }
         _ => true,
     }
 }
 
-/// Whether what is known leads on to the place so many bytes behind another.
-fn leads_ahead(
-    certificate: &Certificate,
-    routine: u16,
-    after: &Known<'_, Interval>,
-    next: u32,
-    distance: i32,
-    near: usize,
-) -> bool
-    requires { next ≤ 131072 }
-    ensures { IsTrue result ↔ GoesOn interval_operations (claims_of interval_operations certificate.now) routine after.now next (Ahead distance) }
+/// Whether each routine that an edge calls begins as is said, if that can be taken.
+pub(crate) fn enters(site: Site<'_>, edge: &Edge<'_, Interval>) -> bool
+    requires { site.entry.listed.now.address + site.entry.instruction.now.size ≤ 131072 }
+    ensures { IsTrue result ↔ IfSome edge.now.after (λ f. Enters interval_operations (claims_of interval_operations site.entry.certificate.now) site.entry.story.now (argument_sets interval_operations site.entry.certificate.now.globals site.entry.instruction.now (entry_of (seen site.entry.listed.now)).shape) edge.now.lead) }
 {
-    match u32::try_from(i64::from(next) + i64::from(distance)) {
-        Ok(to) => leads(certificate, routine, after, to, near),
+    match (&edge.after, edge.lead) {
+        (Some(after), Lead::Entering(set)) => {
+            let sets = ArgumentSets::new(
+                site.certificate.globals(),
+                site.listed.locals,
+                site.listed.slots,
+                site.instruction,
+            );
+            callees_keep(site, sets.as_slice(), set, after, Rule::Called)
+        }
+        _ => true,
+    }
+}
+
+/// Whether what is known leads on to the place so many bytes behind the instruction.
+fn leads_ahead(site: Site<'_>, after: &Known<'_, Interval>, distance: i32) -> bool
+    requires { site.entry.listed.now.address + site.entry.instruction.now.size ≤ 131072 }
+    ensures { (v : ℕ) → IsTrue result ↔ GoesOn interval_operations (claims_of interval_operations site.entry.certificate.now) site.entry.listed.now.routine v after.now (site.entry.listed.now.address + site.entry.instruction.now.size) (Ahead distance) }
+{
+    match u32::try_from(i64::from(site.next()) + i64::from(distance)) {
+        Ok(to) => leads(site, after, to),
         Err(_) => false,
     }
 }
 
 /// Whether a place is listed in the routine, at equal height, with sets that contain what is known.
-fn leads(
-    certificate: &Certificate,
-    routine: u16,
-    after: &Known<'_, Interval>,
-    to: u32,
-    near: usize,
-) -> bool
-    ensures { IsTrue result ↔ Leads interval_operations (claims_of interval_operations certificate.now) routine after.now to }
+fn leads(site: Site<'_>, after: &Known<'_, Interval>, to: u32) -> bool
+    ensures { IsTrue result ↔ Leads interval_operations (claims_of interval_operations site.entry.certificate.now) site.entry.listed.now.routine after.now to }
 {
-    match listed_near(certificate, near, to) {
-        Some(next) => next.routine == routine && covers(after, &next),
+    match listed_near(site.certificate, site.near, to) {
+        Some(next) => next.routine == site.listed.routine && covers(after, &next),
+        None => false,
+    }
+}
+
+/// Whether the place behind the instruction is, once its result variable is given a value of the set.
+pub(crate) fn leads_given(site: Site<'_>, after: &Known<'_, Interval>, set: Interval) -> bool
+    requires { site.entry.listed.now.address + site.entry.instruction.now.size ≤ 131072 }
+    ensures { IsTrue result ↔ Leads interval_operations (claims_of interval_operations site.entry.certificate.now) site.entry.listed.now.routine (with_result (Some set) (target site.entry.instruction.now) after.now) (site.entry.listed.now.address + site.entry.instruction.now.size) }
+{
+    match listed_near(site.certificate, site.near, site.next()) {
+        Some(next) => {
+            next.routine == site.listed.routine && covers_given(after, set, site.target(), &next)
+        }
         None => false,
     }
 }
@@ -102,6 +132,18 @@ fn covers(after: &Known<'_, Interval>, to: &Instruction<'_, Interval>) -> bool
     after.is_within(to.locals, to.slots)
 }
 
+/// Whether they do once a variable is given a value of the set.
+fn covers_given(
+    after: &Known<'_, Interval>,
+    set: Interval,
+    variable: u8,
+    to: &Instruction<'_, Interval>,
+) -> bool
+    ensures { IsTrue result ↔ Covers interval_operations (with_result (Some set) variable after.now) (entry_of (seen to.now)).shape }
+{
+    after.is_within_given(set, variable, to.locals, to.slots)
+}
+
 /// Whether what an edge returns, if it can be taken, lies in what the routine may give; the main code gives nothing.
 pub(crate) fn returns(certificate: &Certificate, routine: u16, edge: &Edge<'_, Interval>) -> bool
     ensures { IsTrue result ↔ IfSome edge.now.after (λ f. Returns interval_operations (claims_of interval_operations certificate.now) routine edge.now.lead) }
@@ -116,32 +158,35 @@ pub(crate) fn returns(certificate: &Certificate, routine: u16, edge: &Edge<'_, I
 fn may_return(certificate: &Certificate, routine: u16, set: Interval) -> bool
     ensures { IsTrue result ↔ Returns interval_operations (claims_of interval_operations certificate.now) routine (Returning set) }
 {
-    routine > 0 && set.is_within(result_of(certificate, routine))
+    routine > 0 && set.is_within(result_of(certificate, usize::from(routine) - 1))
 }
 
-/// The values that a routine may give, by its number from 1 on: any, where there is none of the number.
-fn result_of(certificate: &Certificate, routine: u16) -> Interval
-    requires { 0 < routine }
-    ensures { result ≡ (claims_of interval_operations certificate.now).result routine }
+/// Whether what an edge stores to globals lies in their sets, if it can be taken, and what the routines give that it calls.
+pub(crate) fn stores(site: Site<'_>, edge: &Edge<'_, Interval>) -> bool
+    requires { site.entry.listed.now.address + site.entry.instruction.now.size ≤ 131072 }
+    ensures { IsTrue result ↔ IfSome edge.now.after (λ f. Takes interval_operations (claims_of interval_operations site.entry.certificate.now) edge.now.outcome.gives (target site.entry.instruction.now) × TakesInPlace interval_operations (claims_of interval_operations site.entry.certificate.now) edge.now.outcome.assigns × TakesBack interval_operations (claims_of interval_operations site.entry.certificate.now) (target site.entry.instruction.now) edge.now.lead) }
 {
-    let index = usize::from(routine) - 1;
-    match certificate.routines().get(index) {
-        Some(listed) => listed.result,
-        None => Interval::any(),
+    let Some(after) = &edge.after else {
+        return true;
+    };
+    takes(site.certificate, edge.outcome.gives, site.target())
+        && takes_in_place(site.certificate, edge.outcome.assigns)
+        && takes_back(site, after, edge.lead)
+}
+
+/// Whether the result variable takes what comes back.
+fn takes_back(site: Site<'_>, after: &Known<'_, Interval>, lead: Lead<Interval>) -> bool
+    requires { site.entry.listed.now.address + site.entry.instruction.now.size ≤ 131072 }
+    ensures { IsTrue result ↔ TakesBack interval_operations (claims_of interval_operations site.entry.certificate.now) (target site.entry.instruction.now) lead }
+{
+    match lead {
+        Lead::Entering(set) => callees_keep(site, &[], set, after, Rule::Stored),
+        Lead::Ahead(_) | Lead::Returning(_) => true,
     }
 }
 
-/// Whether what an edge stores to globals lies in their sets, if it can be taken. `target` is the variable that takes the result.
-pub(crate) fn stores(certificate: &Certificate, target: u8, edge: &Edge<'_, Interval>) -> bool
-    ensures { IsTrue result ↔ IfSome edge.now.after (λ f. Takes interval_operations (claims_of interval_operations certificate.now) edge.now.outcome.gives target × TakesInPlace interval_operations (claims_of interval_operations certificate.now) edge.now.outcome.assigns) }
-{
-    edge.after.is_none()
-        || (takes(certificate, edge.outcome.gives, target)
-            && takes_in_place(certificate, edge.outcome.assigns))
-}
-
 /// Whether what is given to a variable lies in its set, if that is a global.
-fn takes(certificate: &Certificate, gives: Option<Interval>, variable: u8) -> bool
+pub(crate) fn takes(certificate: &Certificate, gives: Option<Interval>, variable: u8) -> bool
     ensures { IsTrue result ↔ Takes interval_operations (claims_of interval_operations certificate.now) gives variable }
 {
     match gives {

@@ -10,13 +10,15 @@ ghost use Rattle.zcode.specs.Opcodes.{prints_text};
 ghost use Rattle.zdomain.specs.Domain.{In};
 ghost use Rattle.zrule.specs.Edges.{EdgeKeeps, EdgesKeep};
 ghost use Rattle.zflow.specs.Flow.{IsFlow};
+ghost use Rattle.zflow.specs.Transfer.{argument_sets};
 ghost use Rattle.zrule.specs.declared.rule.Rule.{Rule as ARule};
 ghost use Rattle.zrule.specs.Claims.{claims_of, entry_of, Entry};
 ghost use Rattle.zrule.specs.Rules.{Asks, IsThere, HasFixedText, Keeps, IsLowestBroken};
 
-use crate::edges::{goes_on, is_low, returns, stores};
+use crate::edges::{enters, goes_on, is_low, returns, stores};
 use crate::operands::{has_height, has_locals, is_known};
 use crate::rule::Rule;
+use crate::site::Site;
 use zcert::{Certificate, Instruction};
 use zcode::{Instr, decode_by, text_ends_instruction};
 use zdomain::{Domain, Interval};
@@ -25,12 +27,13 @@ use zstory::Story;
 use ztext::TextEnds;
 
 /// The rules that are asked of an instruction that is there, by their numbers.
-const RULES: [Rule; 9] = [
+const RULES: [Rule; 10] = [
     Rule::Height,
     Rule::Local,
     Rule::Successor,
     Rule::Divisor,
     Rule::Text,
+    Rule::Called,
     Rule::Returned,
     Rule::Known,
     Rule::Stored,
@@ -73,48 +76,32 @@ fn divides(demands: &Demands<Interval>) -> bool
     }
 }
 
-/// Whether an edge keeps a rule. A listed instruction is looked for at the index `near` first.
-fn edge_keeps(
-    certificate: &Certificate,
-    listed: &Instruction<'_, Interval>,
-    instruction: &Instr,
-    edge: &Edge<'_, Interval>,
-    near: usize,
-    rule: Rule,
-) -> bool
-    requires { listed.now.address + instruction.now.size ≤ 131072 }
-    ensures { IsTrue result ↔ EdgeKeeps interval_operations (claims_of interval_operations certificate.now) listed.now.routine (listed.now.address + instruction.now.size) (target instruction.now) rule edge.now }
+/// Whether an edge keeps a rule.
+fn edge_keeps(site: Site<'_>, edge: &Edge<'_, Interval>, rule: Rule) -> bool
+    requires { site.entry.listed.now.address + site.entry.instruction.now.size ≤ 131072 }
+    ensures { IsTrue result ↔ EdgeKeeps interval_operations (claims_of interval_operations site.entry.certificate.now) site.entry.story.now (argument_sets interval_operations site.entry.certificate.now.globals site.entry.instruction.now (entry_of (seen site.entry.listed.now)).shape) site.entry.listed.now.routine (site.entry.listed.now.address + site.entry.instruction.now.size) (target site.entry.instruction.now) rule edge.now }
 {
     match rule {
-        Rule::Successor => {
-            let next = listed.address + instruction.length() as u32;
-            !is_low(edge) || goes_on(certificate, listed.routine, edge, next, near)
-        }
-        Rule::Returned => returns(certificate, listed.routine, edge),
-        Rule::Stored => stores(certificate, instruction.target(), edge),
-        Rule::High => is_low(edge),
+        Rule::Successor => !is_low(edge, site.target()) || goes_on(site, edge),
+        Rule::Called => enters(site, edge),
+        Rule::Returned => returns(site.certificate, site.listed.routine, edge),
+        Rule::Stored => stores(site, edge),
+        Rule::High => is_low(edge, site.target()),
         _ => true,
     }
 }
 
 /// Whether both edges do, where they can be taken.
-fn edges_keep(
-    certificate: &Certificate,
-    listed: &Instruction<'_, Interval>,
-    instruction: &Instr,
-    flow: &Flow<'_, Interval>,
-    near: usize,
-    rule: Rule,
-) -> bool
-    requires { listed.now.address + instruction.now.size ≤ 131072 }
-    ensures { IsTrue result ↔ EdgesKeep interval_operations (claims_of interval_operations certificate.now) listed.now.routine (listed.now.address + instruction.now.size) (target instruction.now) rule flow.now }
+fn edges_keep(site: Site<'_>, flow: &Flow<'_, Interval>, rule: Rule) -> bool
+    requires { site.entry.listed.now.address + site.entry.instruction.now.size ≤ 131072 }
+    ensures { IsTrue result ↔ EdgesKeep interval_operations (claims_of interval_operations site.entry.certificate.now) site.entry.story.now (argument_sets interval_operations site.entry.certificate.now.globals site.entry.instruction.now (entry_of (seen site.entry.listed.now)).shape) site.entry.listed.now.routine (site.entry.listed.now.address + site.entry.instruction.now.size) (target site.entry.instruction.now) rule flow.now }
 {
     let held = match &flow.held {
-        Some(edge) => edge_keeps(certificate, listed, instruction, edge, near, rule),
+        Some(edge) => edge_keeps(site, edge, rule),
         None => true,
     };
     held && match &flow.failed {
-        Some(edge) => edge_keeps(certificate, listed, instruction, edge, near, rule),
+        Some(edge) => edge_keeps(site, edge, rule),
         None => true,
     }
 }
@@ -129,20 +116,19 @@ fn texts_are_fixed(story: &Story)
 }
 
 /// Whether an instruction that is there does what a rule asks of it.
-fn asks(
-    story: &Story,
-    certificate: &Certificate,
-    listed: &Instruction<'_, Interval>,
-    instruction: &Instr,
-    flow: &Flow<'_, Interval>,
-    near: usize,
-    rule: Rule,
-) -> bool
-    requires there { IsThere story.now listed.now.address instruction.now }
-    requires near { listed.now.address + instruction.now.size ≤ 131072 }
-    requires flow { IsFlow interval_operations certificate.now.globals instruction.now (entry_of (seen listed.now)).shape flow.now }
-    ensures { IsTrue result ↔ Asks interval_operations (claims_of interval_operations certificate.now) story.now listed.now.address (entry_of (seen listed.now)) instruction.now rule }
+fn asks(site: Site<'_>, flow: &Flow<'_, Interval>, rule: Rule) -> bool
+    requires there { IsThere site.entry.story.now site.entry.listed.now.address site.entry.instruction.now }
+    requires near { site.entry.listed.now.address + site.entry.instruction.now.size ≤ 131072 }
+    requires flow { IsFlow interval_operations site.entry.certificate.now.globals site.entry.instruction.now (entry_of (seen site.entry.listed.now)).shape flow.now }
+    ensures { IsTrue result ↔ Asks interval_operations (claims_of interval_operations site.entry.certificate.now) site.entry.story.now site.entry.listed.now.address (entry_of (seen site.entry.listed.now)) site.entry.instruction.now rule }
 {
+    let Site {
+        story,
+        certificate,
+        listed,
+        instruction,
+        near: _,
+    } = site;
     let demands = &flow.demands;
     match rule {
         Rule::Decodes => true,
@@ -156,37 +142,30 @@ fn asks(
         }
         Rule::Successor => {
             !divides(demands)
-                || (demands.certain
-                    && edges_keep(certificate, listed, instruction, flow, near, rule))
+                || !edges_keep(site, flow, Rule::Called)
+                || (demands.certain && edges_keep(site, flow, rule))
         }
         Rule::Divisor => divides(demands),
         Rule::Text => {
             texts_are_fixed(story);
             true
         }
+        Rule::Called => edges_keep(site, flow, rule),
         Rule::Known => is_known(certificate, listed, instruction, demands),
-        Rule::Returned => edges_keep(certificate, listed, instruction, flow, near, rule),
-        Rule::Stored => edges_keep(certificate, listed, instruction, flow, near, rule),
-        Rule::High => edges_keep(certificate, listed, instruction, flow, near, rule),
+        Rule::Returned => edges_keep(site, flow, rule),
+        Rule::Stored => edges_keep(site, flow, rule),
+        Rule::High => edges_keep(site, flow, rule),
     }
 }
 
 /// Whether a place where an instruction is keeps a rule.
-fn keeps(
-    story: &Story,
-    certificate: &Certificate,
-    listed: &Instruction<'_, Interval>,
-    instruction: &Instr,
-    flow: &Flow<'_, Interval>,
-    near: usize,
-    rule: Rule,
-) -> bool
-    requires there { IsThere story.now listed.now.address instruction.now }
-    requires near { listed.now.address + instruction.now.size ≤ 131072 }
-    requires flow { IsFlow interval_operations certificate.now.globals instruction.now (entry_of (seen listed.now)).shape flow.now }
-    ensures { IsTrue result ↔ Keeps interval_operations (claims_of interval_operations certificate.now) story.now listed.now.address (entry_of (seen listed.now)) rule }
+fn keeps(site: Site<'_>, flow: &Flow<'_, Interval>, rule: Rule) -> bool
+    requires there { IsThere site.entry.story.now site.entry.listed.now.address site.entry.instruction.now }
+    requires near { site.entry.listed.now.address + site.entry.instruction.now.size ≤ 131072 }
+    requires flow { IsFlow interval_operations site.entry.certificate.now.globals site.entry.instruction.now (entry_of (seen site.entry.listed.now)).shape flow.now }
+    ensures { IsTrue result ↔ Keeps interval_operations (claims_of interval_operations site.entry.certificate.now) site.entry.story.now site.entry.listed.now.address (entry_of (seen site.entry.listed.now)) rule }
 {
-    asks(story, certificate, listed, instruction, flow, near, rule)
+    asks(site, flow, rule)
 }
 
 /// The lowest rule that a listed instruction breaks, and `None` where it keeps all (own). No other rule is asked of a
@@ -236,8 +215,15 @@ pub fn judge(
         listed.slots,
         &instruction,
     );
+    let site = Site {
+        story,
+        certificate,
+        listed,
+        instruction: &instruction,
+        near,
+    };
     for rule in RULES {
-        if !keeps(story, certificate, listed, &instruction, &flow, near, rule) {
+        if !keeps(site, &flow, rule) {
             return Err(rule);
         }
     }

@@ -2,11 +2,13 @@
 #![tactic(auto)]
 
 mod bytes;
+mod callees;
 mod edges;
 mod judging;
 mod laws;
 mod operands;
 mod rule;
+mod site;
 
 pub use bytes::{is_changing, is_unchanging};
 pub use judging::{instruction_there, judge, rule_at};
