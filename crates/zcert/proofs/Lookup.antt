@@ -1,5 +1,5 @@
 -- Instructions stand by their addresses, so that a search of the stored ones finds the one that is listed.
-use Rattle.std.proofs.Common.{◌≡◌, ◌≢◌, ℕ, zero, suc, ◌+◌, ◌<◌, ◌≤◌, false, eqb, List, [], ◌∷◌, length, get_or, map, Option, Some, None, Result, Ok, Err, refl, sym, ap, subst, ◌∙◌, eq-eqb, arith, inl, inr}
+use Rattle.std.proofs.Common.{◌≡◌, ◌≢◌, Bool, true, if◌then◌else◌, ℕ, zero, suc, ◌+◌, ◌<◌, ◌≤◌, false, eqb, List, [], ◌∷◌, length, get_or, map, Option, Some, None, Result, Ok, Err, refl, sym, ap, subst, ◌∙◌, eq-eqb, arith, inl, inr}
 use Rattle.std.specs.Prelude.{slice_get, IsSome}
 use Rattle.std.proofs.lemmas.List.{length-map}
 use Rattle.std.specs.Ordering.{nat_cmp, ordering_index}
@@ -7,7 +7,7 @@ use Rattle.std.specs.List.Sorted.{IsNonDecreasingBy, IsPartitionPoint, IsSearchI
 use Rattle.std.specs.List.{HoldsAt}
 use Rattle.std.specs.Option.{option_map}
 use Rattle.std.specs.Result.{result_ok}
-use Rattle.std.proofs.lemmas.Bool.{cases_lt, false≢true}
+use Rattle.std.proofs.lemmas.Bool.{cases_lt, eqb-true, false≢true}
 use Rattle.std.specs.declared.cmp.Ordering.TheVariants.{Less, Equal, Greater}
 use Rattle.std.proofs.lemmas.Bool.Decides.{nat_tests}
 use Rattle.std.proofs.lemmas.Option.{get_or_from_slice_get, slice_get_within, slice_get-map}
@@ -15,7 +15,8 @@ use Rattle.zcert.specs.declared.contents.Stored.{Stored}
 use Rattle.zcert.specs.Certificate.{Instruction}
 use Rattle.zcert.specs.Contents.{stored_instruction}
 use Rattle.zcert.specs.Spelling.{Rise}
-use Rattle.zcert.specs.Listed.{listed_at, Finds}
+use Rattle.zcert.specs.declared.parts.Routine.{Routine}
+use Rattle.zcert.specs.Listed.{listed_at, routine_at, Finds}
 use Rattle.zcert.proofs.Rising.{some_is, none_there, above}
 
 abbrev address : Stored → ℕ
@@ -55,20 +56,22 @@ slice_get_is_some (x ∷ xs) (suc k) lt = slice_get_is_some xs k (omega arith)
 ranks : (x y at : ℕ) → x ≤ y → ordering_index (nat_cmp x at) ≤ ordering_index (nat_cmp y at)
 ranks x y at le = grind (arith, nat_tests)
 
-at_or_above : (floor : ℕ) (ss : List Stored) (k : ℕ) (d : Stored) → k < length ss → Rise address floor ss → floor ≤ (get_or ss k d).address
-at_or_above floor [] k d lt rise = absurd (omega arith)
-at_or_above floor (x ∷ ss) zero d lt rise = rise.0
-at_or_above floor (x ∷ ss) (suc k) d lt rise = let h = at_or_above (x.address + 1) ss k d (omega arith) rise.1 in let l = rise.0 in omega arith
+-- things that rise by their addresses
+module _ {A : Type 0} (address : A → ℕ) where
+  at_or_above : (floor : ℕ) (xs : List A) (k : ℕ) (d : A) → k < length xs → Rise address floor xs → floor ≤ address (get_or xs k d)
+  at_or_above floor [] k d lt rise = absurd (omega arith)
+  at_or_above floor (x ∷ xs) zero d lt rise = rise.0
+  at_or_above floor (x ∷ xs) (suc k) d lt rise = let h = at_or_above (address x + 1) xs k d (omega arith) rise.1 in let l = rise.0 in omega arith
 
-in_order : (floor : ℕ) (ss : List Stored) (i j : ℕ) (d : Stored) → i ≤ j → j < length ss → Rise address floor ss → (get_or ss i d).address ≤ (get_or ss j d).address
-in_order floor [] i j d le lt rise = absurd (omega arith)
-in_order floor (x ∷ ss) zero zero d le lt rise = omega arith
-in_order floor (x ∷ ss) zero (suc j) d le lt rise = let h = at_or_above (x.address + 1) ss j d (omega arith) rise.1 in omega arith
-in_order floor (x ∷ ss) (suc i) zero d le lt rise = absurd (omega arith)
-in_order floor (x ∷ ss) (suc i) (suc j) d le lt rise = in_order (x.address + 1) ss i j d (omega arith) (omega arith) rise.1
+  in_order : (floor : ℕ) (xs : List A) (i j : ℕ) (d : A) → i ≤ j → j < length xs → Rise address floor xs → address (get_or xs i d) ≤ address (get_or xs j d)
+  in_order floor [] i j d le lt rise = absurd (omega arith)
+  in_order floor (x ∷ xs) zero zero d le lt rise = omega arith
+  in_order floor (x ∷ xs) zero (suc j) d le lt rise = let h = at_or_above (address x + 1) xs j d (omega arith) rise.1 in omega arith
+  in_order floor (x ∷ xs) (suc i) zero d le lt rise = absurd (omega arith)
+  in_order floor (x ∷ xs) (suc i) (suc j) d le lt rise = in_order (address x + 1) xs i j d (omega arith) (omega arith) rise.1
 
-not_decreasing : (ss : List Stored) (at : ℕ) → Rise address 0 ss → IsNonDecreasingBy (λ s. ordering_index (nat_cmp s.address at)) ss
-not_decreasing ss at rise i j d le lt = ranks (get_or ss i d).address (get_or ss j d).address at (in_order 0 ss i j d le lt rise)
+  not_decreasing : (xs : List A) (at : ℕ) → Rise address 0 xs → IsNonDecreasingBy (λ x. ordering_index (nat_cmp (address x) at)) xs
+  not_decreasing xs at rise i j d le lt = ranks (address (get_or xs i d)) (address (get_or xs j d)) at (in_order 0 xs i j d le lt rise)
 
 equal_is : (x y : ℕ) → nat_cmp x y ≡ Equal → x ≡ y
 equal_is x y e = grind (arith, nat_tests)
@@ -100,4 +103,61 @@ this_index values ss at k rise lt holds (Some s) e =
 -- what a binary search answers is the index of what is listed
 pub searched : {V : Type 0} (values : List V) (ss : List Stored) (at : ℕ) (r : Result ℕ ℕ) → Rise (λ (i : Instruction V). i.address) 0 (instructions values ss) → IsSearchInRange r (length ss) → IsBinarySearchResult (λ s. nat_cmp s.address at) ss r → Finds (instructions values ss) at (result_ok r)
 searched values ss at (Ok k) rise range position = (rw (length-map ss (stored_instruction values)) range, this_index values ss at k rise range position (slice_get ss k) refl)
-searched values ss at (Err i) rise range position = no_index values ss at i (position (not_decreasing ss at (rise_stored values 0 ss rise)))
+searched values ss at (Err i) rise range position = no_index values ss at i (position (not_decreasing address ss at (rise_stored values 0 ss rise)))
+
+-- ---- routines
+
+module _ {V : Type 0} where
+  -- the routine of an index is the one at its address
+  indexed : (floor : ℕ) (rs : List (Routine V)) (k : ℕ) (r : Routine V) → Rise (λ (r : Routine V). r.address) floor rs → slice_get rs k ≡ Some r → routine_at rs r.address ≡ Some k
+  indexed floor [] k r rise e = none_there k r e
+  indexed floor (x ∷ rs) zero r rise e = let same : x ≡ r = some_is x r e in rw (same, eq-eqb r.address r.address refl) refl
+  indexed floor (x ∷ rs) (suc k) r rise e =
+      let higher : x.address + 1 ≤ r.address = above (λ (r : Routine V). r.address) (x.address + 1) rs k r rise.1 e in
+      let other : eqb x.address r.address ≡ false = grind (arith, nat_tests) in
+      rw (other, indexed (x.address + 1) rs k r rise.1 e) refl
+
+  -- where none has the address, none is there
+  not_indexed : (rs : List (Routine V)) (at : ℕ) → ((k : ℕ) (r : Routine V) → slice_get rs k ≡ Some r → r.address ≢ at) → routine_at rs at ≡ None
+  not_indexed [] at none = refl
+  not_indexed (x ∷ rs) at none =
+      let differs : x.address ≢ at = none 0 x refl in
+      let other : eqb x.address at ≡ false = grind (arith, nat_tests) in
+      rw (other, not_indexed rs at (λ k r e. none (suc k) r e)) refl
+
+  no_routine : (rs : List (Routine V)) (at i : ℕ) → IsPartitionPoint (λ (r : Routine V). nat_cmp r.address at ≡ Less) (λ r. nat_cmp r.address at ≡ Greater) rs i → routine_at rs at ≡ None
+  no_routine rs at i point =
+      not_indexed rs at (λ k r e.
+      let within = slice_get_within rs k r e in
+      let same : get_or rs k r ≡ r = get_or_from_slice_get rs k r r e in
+      elim (cases_lt k i) [
+        | inl lt ↦ less_differs r.address at (subst (λ (x : Routine V). nat_cmp x.address at ≡ Less) same (point.0 k r (omega arith) lt))
+        | inr le ↦ greater_differs r.address at (subst (λ (x : Routine V). nat_cmp x.address at ≡ Greater) same (point.1 k r le within))
+      ])
+
+  this_routine : (rs : List (Routine V)) (at k : ℕ) → Rise (λ (r : Routine V). r.address) 0 rs → k < length rs → HoldsAt (λ (r : Routine V). nat_cmp r.address at ≡ Equal) rs k → (o : Option (Routine V)) → slice_get rs k ≡ o → routine_at rs at ≡ Some k
+  this_routine rs at k rise lt holds None e = absurd (false≢true (rw e at (slice_get_is_some rs k lt)))
+  this_routine rs at k rise lt holds (Some r) e =
+      let same : get_or rs k r ≡ r = get_or_from_slice_get rs k r r e in
+      let here : r.address ≡ at = equal_is r.address at (subst (λ (x : Routine V). nat_cmp x.address at ≡ Equal) same (holds r)) in
+      subst (λ (n : ℕ). routine_at rs n ≡ Some k) here (indexed 0 rs k r rise e)
+
+  -- what a binary search answers is the index of the routine there
+  pub searched_routine : (rs : List (Routine V)) (at : ℕ) (r : Result ℕ ℕ) → Rise (λ (r : Routine V). r.address) 0 rs → IsSearchInRange r (length rs) → IsBinarySearchResult (λ (r : Routine V). nat_cmp r.address at) rs r → result_ok r ≡ routine_at rs at
+  searched_routine rs at (Ok k) rise range position = sym (this_routine rs at k rise range position (slice_get rs k) refl)
+  searched_routine rs at (Err i) rise range position = sym (no_routine rs at i (position (not_decreasing (λ (r : Routine V). r.address) rs at rise)))
+
+  -- an index is that of a routine at the address
+  pub routine_at_is : (rs : List (Routine V)) (at k : ℕ) → routine_at rs at ≡ Some k → (r : Routine V) × (slice_get rs k ≡ Some r) × (r.address ≡ at)
+  routine_at_is [] at k e = absurd cc
+  routine_at_is (x ∷ rs) at k e = by_test (λ j f. routine_at_is rs at j f) (eqb x.address at) refl e
+    where
+      by_rest : ((j : ℕ) → routine_at rs at ≡ Some j → (r : Routine V) × (slice_get rs j ≡ Some r) × (r.address ≡ at)) → (o : Option ℕ) → routine_at rs at ≡ o → option_map (λ j. suc j) o ≡ Some k → (r : Routine V) × (slice_get (x ∷ rs) k ≡ Some r) × (r.address ≡ at)
+      by_rest more None f e = absurd cc
+      by_rest more (Some j) f e =
+          let found = more j f in
+          let same : suc j ≡ k = some_is (suc j) k e in
+          (found.0, subst (λ (n : ℕ). slice_get (x ∷ rs) n ≡ Some found.0) same found.1, found.2)
+      by_test : ((j : ℕ) → routine_at rs at ≡ Some j → (r : Routine V) × (slice_get rs j ≡ Some r) × (r.address ≡ at)) → (b : Bool) → eqb x.address at ≡ b → (if b then Some 0 else option_map (λ j. suc j) (routine_at rs at)) ≡ Some k → (r : Routine V) × (slice_get (x ∷ rs) k ≡ Some r) × (r.address ≡ at)
+      by_test more true same e = (x, (let z : 0 ≡ k = some_is 0 k e in subst (λ (n : ℕ). slice_get (x ∷ rs) n ≡ Some x) z refl), eqb-true x.address at same)
+      by_test more false other e = by_rest more (routine_at rs at) refl e

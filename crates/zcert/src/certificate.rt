@@ -3,7 +3,7 @@
 ghost use Rattle.std.specs.Prelude.{◌≡◌, ◌<◌, length, slice_get, Some};
 ghost use Rattle.std.specs.Option.{option_map};
 ghost use Rattle.zcert.specs.Spelling.{HasSpelling};
-ghost use Rattle.zcert.specs.Listed.{listed_at, seen};
+ghost use Rattle.zcert.specs.Listed.{listed_at, routine_at, seen};
 
 use crate::contents::Contents;
 use crate::parts::{Instruction, Range, Routine};
@@ -80,6 +80,16 @@ impl<V: Spelled> Certificate<V> {
         ensures keeps { HasSpelling V.format self.now }
     {
         self.contents.routines.as_slice()
+    }
+
+    /// The index of the routine at an address, if there is one. The search takes as many steps as the count of routines has binary
+    /// digits.
+    pub fn routine_index(&self, address: u32) -> Option<usize>
+        ensures { result ≡ routine_at self.now.routines address }
+    {
+        self.routines()
+            .binary_search_by_key(&address, |routine| routine.address)
+            .ok()
     }
 
     /// How many instructions are listed.
