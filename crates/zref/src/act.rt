@@ -1,6 +1,6 @@
 //! The effect of a step, which only want of memory can keep from being done.
 
-ghost use Rattle.std.specs.Prelude.{◌≡◌, ◌<◌, ◌≤◌, ◌+◌, ◌^◌, ◌++◌, ◌+ℤ◌, ℕ, Option, None, [], true, drop, pos, length, map, is_some, OnOk, OnErr};
+ghost use Rattle.std.specs.Prelude.{◌≡◌, ◌<◌, ◌≤◌, ◌+◌, ◌^◌, ◌++◌, ◌+ℤ◌, ℕ, List, Option, None, [], true, drop, pos, length, map, is_some, OnOk, OnErr};
 ghost use Rattle.zfault.specs.declared.item.Item.TheVariants.{Text};
 ghost use Rattle.zstory.specs.LoadedStory.{globals, static_base};
 ghost use Rattle.zstate.specs.Run.{IsLonger};
@@ -20,8 +20,7 @@ use zstory::Story;
 /// Does what was planned, and gives out its items: all of them or, with nothing changed, none. Memory is wanted only where
 /// something is given out, or a stack gets longer.
 #[inline(always)]
-#[tactic(auto, using(crate::proofs::Doing::acting))]
-pub(crate) fn act_on(
+pub(crate) fn print_and_act(
     story: &Story,
     state: &mut State,
     row: &Row,
@@ -41,10 +40,33 @@ pub(crate) fn act_on(
     ensures kept { OnErr result (items.new.items ≡ items.old.items) }
     ensures wants { OnErr result (length text.now ≡ 0 → IsLonger state.old (act story.now (shape_of row.now) (effect_with plan.effect text.now) (popped plan.popped state.old))) }
 {
-    globals_are_dynamic(story);
     items.reserve_text(text.len())?;
-    go(story, state, row, plan)?;
+    act_on(story, state, row, plan)?;
     items.give_reserved(text);
+    Ok(())
+}
+
+/// Does all of a plan but giving out, whatever it gives out. Memory is wanted only where a stack gets longer.
+#[inline(always)]
+#[tactic(auto, using(crate::proofs::Doing::acting))]
+pub(crate) fn act_on(
+    story: &Story,
+    state: &mut State,
+    row: &Row,
+    plan: Plan,
+) -> Result<(), AllocError>
+    requires memory { length state.old.memory ≡ length story.now.memory }
+    requires reached { state.old.frame.return_place < 2 ^ 24 }
+    requires near { EndsBy 131072 row.now.size state.old.place }
+    requires course { move_of plan.course ≡ course (effect_with plan.effect []) row.now.branch }
+    requires ready { IsReady row.now.target plan.effect plan.course plan.popped state.old }
+    ensures ok { OnOk result ((text : List ℕ) → state.new ≡ act story.now (shape_of row.now) (effect_with plan.effect text) (popped plan.popped state.old)) }
+    ensures fixed { drop (static_base story.now) state.new.memory ≡ drop (static_base story.now) state.old.memory }
+    ensures err { OnErr result (state.new ≡ state.old) }
+    ensures wants { OnErr result ((text : List ℕ) → IsLonger state.old (act story.now (shape_of row.now) (effect_with plan.effect text) (popped plan.popped state.old))) }
+{
+    globals_are_dynamic(story);
+    go(story, state, row, plan)?;
     Ok(())
 }
 

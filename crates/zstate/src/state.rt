@@ -241,6 +241,36 @@ impl State {
         }
     }
 
+    /// The value of a single operand, and how many words its reading takes off the stack.
+    #[inline(always)]
+    #[tactic(auto, unfolding(crate::specs::InTurn::in_turn))]
+    pub fn read_one(&self, story: &Story, operand: Operand) -> Result<(u16, usize), Halt>
+        requires { length self.now.memory ≡ length story.now.memory }
+        ensures value { Gives (λ x. (x.0 ∷ [], popped x.1 self.now)) result (read_operands story.now (operand ∷ []) self.now) }
+        ensures within { IfOk result (λ x. x.1 ≤ length self.now.frame.stack) }
+    {
+        let (word, popped) = self.read_operand(story, operand, 0)?;
+        Ok((word, popped))
+    }
+
+    /// The values of two operands, the first of which is read first, and how many words their reading takes off the stack.
+    #[inline(always)]
+    #[tactic(auto, unfolding(crate::specs::InTurn::in_turn))]
+    pub fn read_two(
+        &self,
+        story: &Story,
+        first: Operand,
+        second: Operand,
+    ) -> Result<(u16, u16, usize), Halt>
+        requires { length self.now.memory ≡ length story.now.memory }
+        ensures value { Gives (λ x. (x.0 ∷ x.1 ∷ [], popped x.2 self.now)) result (read_operands story.now (first ∷ second ∷ []) self.now) }
+        ensures within { IfOk result (λ x. x.2 ≤ length self.now.frame.stack) }
+    {
+        let (left, before) = self.read_operand(story, first, 0)?;
+        let (right, popped) = self.read_operand(story, second, before)?;
+        Ok((left, right, popped))
+    }
+
     /// The values of an instruction's operands, read from left to right (Z 4.2).
     #[inline(always)]
     pub fn read_operands(&self, story: &Story, operands: &[Operand]) -> Result<Values, Halt>
