@@ -9,7 +9,7 @@ ghost use Rattle.zstate.specs.Step.{act, assigned, course, stored};
 ghost use Rattle.zref.specs.Row.{shape_of};
 ghost use Rattle.zref.specs.Plan.{EndsBy, IsAssignable, IsOpenWay, IsReady, IsShort, effect_with, move_of, on_from, returned, went};
 
-use crate::effect::{Course, Effect};
+use crate::effect::Course;
 use crate::plan::Plan;
 use crate::row::Row;
 use std::alloc::AllocError;
@@ -91,9 +91,16 @@ fn go(story: &Story, state: &mut State, row: &Row, plan: Plan) -> Result<(), All
     match plan.course {
         Course::On(distance) => go_on(story, state, row, plan, distance),
         Course::Back(word) => match state.frame().result() {
-            0 => push_back(story, state, plan, word),
+            0 => push_back(story, state, plan.effect.assigns, plan.popped, word),
             variable => {
-                put_back(story, state, plan, variable, word);
+                put_back(
+                    story,
+                    state,
+                    plan.effect.assigns,
+                    plan.popped,
+                    variable,
+                    word,
+                );
                 Ok(())
             }
         },
@@ -123,7 +130,7 @@ fn go_on(
 {
     match plan.effect.gives {
         Some(word) => state.put(story, row.target, plan.popped, word)?,
-        None => change(story, state, plan.effect, plan.popped),
+        None => change(story, state, plan.effect.assigns, plan.popped),
     }
     state.advance(row.size as usize);
     state.go(distance);
@@ -133,14 +140,14 @@ fn go_on(
 /// Takes the words of the operands off the stack, and gives a variable its value.
 #[inline(always)]
 #[tactic(auto, using(crate::proofs::Doing::doing))]
-fn change(story: &Story, state: &mut State, effect: Effect, popped: usize)
+fn change(story: &Story, state: &mut State, assigns: Option<(u8, u16)>, popped: usize)
     requires memory { length state.old.memory ≡ length story.now.memory }
     requires within { popped ≤ length state.old.frame.stack }
-    requires assigns { IsAssignable effect.assigns popped state.old }
-    ensures { state.new ≡ assigned story.now effect.assigns (taken popped state.old) }
+    requires assigns { IsAssignable assigns popped state.old }
+    ensures { state.new ≡ assigned story.now assigns (taken popped state.old) }
 {
     state.pop(popped);
-    if let Some((variable, word)) = effect.assigns {
+    if let Some((variable, word)) = assigns {
         state.put_in_place(story, variable, word);
     }
 }
@@ -148,19 +155,25 @@ fn change(story: &Story, state: &mut State, effect: Effect, popped: usize)
 /// Changes variables, leaves the frame, and puts a value on the caller's stack.
 #[inline(never)]
 #[tactic(auto, using(crate::proofs::Doing::doing))]
-fn push_back(story: &Story, state: &mut State, plan: Plan, word: u16) -> Result<(), AllocError>
+fn push_back(
+    story: &Story,
+    state: &mut State,
+    assigns: Option<(u8, u16)>,
+    popped: usize,
+    word: u16,
+) -> Result<(), AllocError>
     requires memory { length state.old.memory ≡ length story.now.memory }
     requires reached { state.old.frame.return_place < 2 ^ 24 }
     requires way { IsOpenWay (Course.Back word) state.old }
     requires stack { state.old.frame.result ≡ 0 }
-    requires within { plan.popped ≤ length state.old.frame.stack }
-    requires assigns { IsAssignable plan.effect.assigns plan.popped state.old }
-    ensures ok { OnOk result (state.new ≡ returned story.now word (assigned story.now plan.effect.assigns (popped plan.popped state.old))) }
+    requires within { popped ≤ length state.old.frame.stack }
+    requires assigns { IsAssignable assigns popped state.old }
+    ensures ok { OnOk result (state.new ≡ returned story.now word (assigned story.now assigns (taken popped state.old))) }
     ensures err { OnErr result (state.new ≡ state.old) }
-    ensures wants { OnErr result (IsLonger state.old (returned story.now word (assigned story.now plan.effect.assigns (popped plan.popped state.old)))) }
+    ensures wants { OnErr result (IsLonger state.old (returned story.now word (assigned story.now assigns (taken popped state.old)))) }
 {
     state.push_to_caller(word)?;
-    change(story, state, plan.effect, plan.popped);
+    change(story, state, assigns, popped);
     state.leave();
     Ok(())
 }
@@ -168,17 +181,24 @@ fn push_back(story: &Story, state: &mut State, plan: Plan, word: u16) -> Result<
 /// Changes variables, leaves the frame, and gives the caller's variable a value.
 #[inline(never)]
 #[tactic(auto, using(crate::proofs::Doing::doing))]
-fn put_back(story: &Story, state: &mut State, plan: Plan, variable: u8, word: u16)
+fn put_back(
+    story: &Story,
+    state: &mut State,
+    assigns: Option<(u8, u16)>,
+    popped: usize,
+    variable: u8,
+    word: u16,
+)
     requires memory { length state.old.memory ≡ length story.now.memory }
     requires reached { state.old.frame.return_place < 2 ^ 24 }
     requires way { IsOpenWay (Course.Back word) state.old }
     requires result { state.old.frame.result ≡ variable }
     requires named { 0 < variable }
-    requires within { plan.popped ≤ length state.old.frame.stack }
-    requires assigns { IsAssignable plan.effect.assigns plan.popped state.old }
-    ensures { state.new ≡ returned story.now word (assigned story.now plan.effect.assigns (popped plan.popped state.old)) }
+    requires within { popped ≤ length state.old.frame.stack }
+    requires assigns { IsAssignable assigns popped state.old }
+    ensures { state.new ≡ returned story.now word (assigned story.now assigns (taken popped state.old)) }
 {
-    change(story, state, plan.effect, plan.popped);
+    change(story, state, assigns, popped);
     state.leave();
     state.put_named(story, variable, word);
 }
