@@ -35,7 +35,7 @@ only_if r bytes e i s p = e ∙ only playable bytes i s p
 size_within : (bytes : List ℕ) (i : Instruction) → IsAtFront bytes i → i.size ≤ length bytes
 size_within bytes i (front, rest, parts, s) = rw (s.size_is, parts) (omega (arith, length-append front rest))
 
-within : (memory : List ℕ) (at : ℕ) (i : Instruction) → instruction_at (drop at memory) ≡ Ok i → at + i.size ≤ length memory
+pub within : (memory : List ℕ) (at : ℕ) (i : Instruction) → instruction_at (drop at memory) ≡ Ok i → at + i.size ≤ length memory
 within memory at i e =
     let positive = (well_formed playable (drop at memory) i e).size in
     let fits = size_within (drop at memory) i (found playable (drop at memory) i e).spelled in

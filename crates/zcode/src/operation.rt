@@ -39,6 +39,12 @@ pub enum Operation {
     Nop,
     /// The machine stands still.
     Quit,
+    /// The first value is returned.
+    Return,
+    /// The text behind the opcode byte and a new line are printed, and 1 is returned.
+    PrintReturn,
+    /// The routine at the packed address of the first value is called with the others.
+    Call,
 }
 
 impl Opcode {
@@ -84,8 +90,9 @@ impl Opcode {
         ensures { option_to_list result ≡ implied self }
     {
         match self {
-            Opcode::Jz => Some(Operand::Constant(0)),
-            Opcode::Pull | Opcode::Pop => Some(Operand::Variable(0)),
+            Opcode::Jz | Opcode::Rfalse => Some(Operand::Constant(0)),
+            Opcode::Rtrue => Some(Operand::Constant(1)),
+            Opcode::Pull | Opcode::Pop | Opcode::RetPopped => Some(Operand::Variable(0)),
             _ => None,
         }
     }

@@ -1,6 +1,6 @@
 -- Values of the definitions, computed.
 use Rattle.std.proofs.Common.{◌≡◌, ℕ, zero, suc, ◌+◌, ◌-◌, ◌≤◌, Bool, true, false, List, [], ◌∷◌, ◌++◌, length, replicate, map, Some, None, Result, Ok, Err, pos, negsuc, refl, arith, inl, inr}
-use Rattle.std.specs.Prelude.{nat_le, if◌then◌else◌, ℤ}
+use Rattle.std.specs.Prelude.{nat_le, slice_set, if◌then◌else◌, ℤ}
 use Rattle.std.proofs.lemmas.List.{length-replicate}
 use Rattle.std.specs.Fmt.{digits}
 use Rattle.zstory.specs.LoadedStory.{LoadedStory}
@@ -20,7 +20,7 @@ use Rattle.zcode.specs.Reading.{instruction_by, head_at, short_head, played_opco
 use Rattle.ztext.specs.declared.error.TextError.TheVariants.{Outside, NestedAbbreviation}
 use Rattle.ztext.specs.Alphabets.{small_letters}
 use Rattle.ztext.specs.Output.{output_at, output_of_characters}
-use Rattle.zfault.specs.declared.fault.Fault.TheVariants.{UnlistedInstruction, IllegalOpcode, StackUnderflow, AbsentLocal, TextOutside, ReturnFromMain, ZeroDivisor, BadVariable}
+use Rattle.zfault.specs.declared.fault.Fault.TheVariants.{UnlistedInstruction, IllegalOpcode, UnlistedCall, StackUnderflow, AbsentLocal, TextOutside, ReturnFromMain, ZeroDivisor, BadVariable}
 use Rattle.zfault.specs.declared.pause.Need.TheVariants as needs
 use Rattle.zfault.specs.declared.pause.Pause.TheVariants as pauses
 use Rattle.zfault.specs.declared.event.Event.TheVariants as events
@@ -30,8 +30,8 @@ use Rattle.zstate.specs.declared.halt.Stop.TheVariants as stops
 use Rattle.zstate.specs.declared.mode.RandomMode.TheVariants.{Words, Counting}
 use Rattle.zstate.specs.InTurn.{in_turn}
 use Rattle.zstate.specs.State.{Frame, State, Setting, has_head, usual_limit, scope_all, scope_only, first_frame, opening, IsFrame, IsFirst, AreFrames, IsCount, IsState, with_stack, with_locals, write_word, exists, has_room, put, put_named, put_in_place, read_in_place, popped, at_place, give, global, pop, found, read_named, read_variable, read_operand, read_operands}
-use Rattle.zstate.specs.Step.{on, back, proceeds, giving, assigning, testing, printing, quitting, decoded, fetch, printed, print_at, effect_of, way, course, admits, pauses, settle, plan, advance, changed, act, items_of, step}
-use Rattle.zstate.specs.Run.{stop_of, until, is_answered, need_in, awaited, run, Goes, Stands, IsLonger}
+use Rattle.zstate.specs.Step.{Called, on, back, into, words_from, laid_over, calling, returning, proceeds, giving, assigning, testing, printing, quitting, decoded, fetch, printed, print_at, effect_of, way, course, admits, pauses, settle, plan, advance, changed, act, items_of, step}
+use Rattle.zstate.specs.Run.{stop_of, until, is_answered, need_in, awaited, run, Goes, Stands, IsLonger, IsDeeper}
 use Rattle.zstate.specs.Gives.{Gives, IsNear}
 
 -- ---- a story: its first instruction is at 70, its globals begin at 64
@@ -216,6 +216,25 @@ printed_and_moved : (effect_of setting operations.PrintChar (65 ∷ []) state �
 unfolding digits effect_of setting story memory code
 printed_and_moved = (refl, refl, refl, refl, refl, refl)
 
+-- ---- calls
+
+-- the routine at 64 has a local, that at 66 three
+two : Called
+two = record { place = 73; locals = 7 ∷ 0xFEBB ∷ 0xB4B2 ∷ []; supplied = 1 }
+
+calls : (effect_of setting operations.Call (33 ∷ 7 ∷ []) state ≡ Ok (calling two)) × (effect_of setting operations.Call (32 ∷ 7 ∷ 8 ∷ 9 ∷ []) state ≡ Ok (calling (record { place = 67; locals = 7 ∷ []; supplied = 3 }))) × (effect_of setting operations.Call (32 ∷ []) state ≡ Ok (calling (record { place = 67; locals = 0x203 ∷ []; supplied = 0 })))
+unfolding effect_of words_from laid_over setting two story memory code state frame
+calls = (refl, refl, refl)
+
+-- 0 is no routine, nor is what has 255 locals, what isn't listed, and what has no head any more
+uncalled : (effect_of setting operations.Call (0 ∷ 7 ∷ []) state ≡ Ok (giving 0)) × (effect_of setting operations.Call (34 ∷ []) state ≡ Err (halts.Fault UnlistedCall)) × (effect_of (record setting { scope = scope_only (record { records = []; routines = 66 ∷ [] }) }) operations.Call (32 ∷ []) state ≡ Err (halts.Fault UnlistedCall)) × (effect_of setting operations.Call (32 ∷ []) (record state { memory = slice_set memory 64 16 }) ≡ Err (halts.Fault UnlistedCall))
+unfolding effect_of setting story memory code state frame
+uncalled = (refl, refl, refl, refl)
+
+returns : (effect_of setting operations.Return (9 ∷ []) state ≡ Ok (returning 9)) × (effect_of setting operations.PrintReturn [] (at 72) ≡ Ok (record (printing (hello ++ 10 ∷ [])) { moves = back 1 })) × (effect_of setting operations.PrintReturn [] (at 77) ≡ Err (halts.Fault TextOutside))
+unfolding effect_of output_at output_of_characters small_letters setting at story memory code hello
+returns = (refl, refl, refl)
+
 -- ---- variables that are written
 
 written : (put story 0 9 state ≡ with_stack (9 ∷ 5 ∷ 6 ∷ []) state) × (put_in_place story 0 9 state ≡ with_stack (9 ∷ 6 ∷ []) state) × (put story 2 9 state ≡ with_locals (7 ∷ 9 ∷ []) state) × ((put_in_place story 18 0x1234 state).memory ≡ write_word memory 68 0x1234) × (read_named story 18 (put_in_place story 18 0x1234 state) ≡ Ok 0x1234)
@@ -244,16 +263,26 @@ called : State
 called = record (at 72) { frame = record frame { return_place = 75; result = 2 }; callers = frame ∷ first_frame ∷ [] }
 
 -- nothing returns from the first frame; a caller has to have the variable; then `quit` and a full stack are seen
-settled : (settle (branching (pos 0)) (testing true) (at 72) ≡ Err (halts.Fault ReturnFromMain)) × (settle (branching (pos 0)) (testing true) called ≡ Ok tt) × (settle (branching (pos 1)) (testing true) (record called { callers = first_frame ∷ [] }) ≡ Err (halts.Fault AbsentLocal)) × (settle (plain 1) quitting (at 72) ≡ Err halts.Quit) × (settle (record (plain 1) { store = Some 3 }) (giving 4) state ≡ Err (halts.Fault AbsentLocal)) × (settle (record (plain 1) { store = Some 2 }) (giving 4) state ≡ Ok tt)
+settled : (settle 1024 (branching (pos 0)) (testing true) (at 72) ≡ Err (halts.Fault ReturnFromMain)) × (settle 1024 (branching (pos 0)) (testing true) called ≡ Ok tt) × (settle 1024 (branching (pos 1)) (testing true) (record called { callers = first_frame ∷ [] }) ≡ Err (halts.Fault AbsentLocal)) × (settle 1024 (plain 1) quitting (at 72) ≡ Err halts.Quit) × (settle 1024 (record (plain 1) { store = Some 3 }) (giving 4) state ≡ Err (halts.Fault AbsentLocal)) × (settle 1024 (record (plain 1) { store = Some 2 }) (giving 4) state ≡ Ok tt)
 unfolding admits pauses branching called plain state frame at
 settled = (refl, refl, refl, refl, refl, refl)
 
 -- the result variable before a return from the first frame, and both before a need
-settled_in_order : (settle (record (branching (pos 0)) { store = Some 9 }) (record (testing true) { gives = Some 1 }) (at 72) ≡ Err (halts.Fault AbsentLocal)) × (settle (branching (pos 0)) (record (testing true) { needs = Some needs.Saved }) (at 72) ≡ Err (halts.Fault ReturnFromMain)) × (settle (plain 1) (record quitting { needs = Some needs.Random }) (at 72) ≡ Err (halts.Need needs.Random))
+settled_in_order : (settle 1024 (record (branching (pos 0)) { store = Some 9 }) (record (testing true) { gives = Some 1 }) (at 72) ≡ Err (halts.Fault AbsentLocal)) × (settle 1024 (branching (pos 0)) (record (testing true) { needs = Some needs.Saved }) (at 72) ≡ Err (halts.Fault ReturnFromMain)) × (settle 1024 (plain 1) (record quitting { needs = Some needs.Random }) (at 72) ≡ Err (halts.Need needs.Random))
 unfolding admits pauses branching plain at
 settled_in_order = (refl, refl, refl)
 
-full_stack : (stack : List ℕ) → length stack ≡ 65535 → settle (plain 1) (giving 4) (with_stack stack state) ≡ Err halts.FrameLimit
+-- a call asks for the variable that takes the result, and then for a frame more
+called_in_order : (settle 1 (record (plain 3) { store = Some 2 }) (calling two) state ≡ Ok tt) × (settle 0 (record (plain 3) { store = Some 2 }) (calling two) state ≡ Err halts.FrameLimit) × (settle 2 (record (plain 3) { store = Some 2 }) (calling two) called ≡ Err halts.FrameLimit) × (settle 3 (record (plain 3) { store = Some 2 }) (calling two) called ≡ Ok tt) × (settle 0 (record (plain 3) { store = Some 3 }) (calling two) state ≡ Err (halts.Fault AbsentLocal))
+unfolding admits pauses called plain state frame two at
+called_in_order = (refl, refl, refl, refl, refl)
+
+-- at a call, no room for its result is asked for
+called_when_full : (stack : List ℕ) → length stack ≡ 65535 → settle 1 (plain 1) (calling two) (with_stack stack state) ≡ Ok tt
+unfolding admits pauses plain two state
+called_when_full stack deep = refl
+
+full_stack : (stack : List ℕ) → length stack ≡ 65535 → settle 1024 (plain 1) (giving 4) (with_stack stack state) ≡ Err halts.FrameLimit
 unfolding admits pauses plain
 full_stack stack deep = rw deep refl
 
@@ -267,6 +296,15 @@ acts = (refl, refl, refl)
 goes_on : (act story (branching (negsuc 1)) (testing true) (at 72) ≡ at 72) × (act story (branching (negsuc 1)) (testing false) (at 72) ≡ at 76) × (act story (plain 3) (record proceeds { moves = on (negsuc 2) }) (at 72) ≡ at 72) × (act story (branching (pos 1)) (testing true) called ≡ record (at 75) { frame = record frame { locals = 7 ∷ 1 ∷ [] }; callers = first_frame ∷ [] })
 unfolding act changed put put_named branching called plain frame at
 goes_on = (refl, refl, refl, refl)
+
+-- a routine returns behind its call; what it returns goes to the variable of the call, in the caller's frame
+enters : act story (record (plain 4) { store = Some 2 }) (calling two) state ≡ record state { frame = record { return_place = 74; result = 2; supplied = 1; locals = 7 ∷ 0xFEBB ∷ 0xB4B2 ∷ []; stack = [] }; callers = frame ∷ []; place = pos 73 }
+unfolding act changed plain state frame two story memory code
+enters = refl
+
+comes_back : act story (plain 1) (returning 9) called ≡ record (at 75) { frame = record frame { locals = 7 ∷ 9 ∷ [] }; callers = first_frame ∷ [] }
+unfolding act changed put put_named plain called frame at
+comes_back = refl
 
 -- an inc_chk of local 2 against 0, which branches 18 bytes on
 counts_and_branches : act story (record (branching (pos 20)) { opcode = IncChk }) (record (assigning 2 9) { tests = Some true }) state ≡ at_place (pos 92) (with_locals (7 ∷ 9 ∷ []) state)
@@ -293,6 +331,11 @@ longer = (inl (refl, omega arith), inr (_, refl, omega arith), not_longer)
     not_longer : IsLonger (record (opening story) { frame = record { return_place = 0; result = 0; supplied = 0; locals = 7 ∷ 8 ∷ []; stack = 5 ∷ 6 ∷ [] } }) (record (opening story) { frame = record { return_place = 0; result = 0; supplied = 0; locals = 7 ∷ 8 ∷ []; stack = 1 ∷ 6 ∷ [] } }) → ⊥
     not_longer (inl h) = omega (arith, h.1)
     not_longer (inr (g, e, h)) = absurd cc
+
+-- a frame more is deeper
+deeper : IsDeeper state (record state { callers = frame ∷ [] }) × (IsDeeper state state → ⊥)
+unfolding state frame
+deeper = (omega arith, λ d. omega (arith, d))
 
 -- ---- steps, where these opcodes are played
 
