@@ -4,8 +4,10 @@ ghost use Rattle.std.specs.Prelude.{◌≡◌, ◌<◌, ◌≤◌, ◌+◌, ◌^
 ghost use Rattle.zfault.specs.declared.item.Item.TheVariants.{Text};
 ghost use Rattle.zstory.specs.LoadedStory.{globals, static_base};
 ghost use Rattle.zstate.specs.Run.{IsLonger};
-ghost use Rattle.zstate.specs.State.{exists, popped, popped as taken};
-ghost use Rattle.zstate.specs.Step.{act, assigned, course, stored};
+ghost use Rattle.zstate.specs.Callee.{called_of};
+ghost use Rattle.zstate.specs.State.{at_place, exists, popped, popped as taken};
+ghost use Rattle.zstate.specs.Step.{act, assigned, course, entered, stored};
+ghost use Rattle.zref.specs.Machine.{Grows};
 ghost use Rattle.zref.specs.Row.{shape_of};
 ghost use Rattle.zref.specs.Plan.{EndsBy, IsAssignable, IsOpenWay, IsReady, IsShort, effect_with, move_of, on_from, returned, went};
 
@@ -14,11 +16,11 @@ use crate::plan::Plan;
 use crate::row::Row;
 use std::alloc::AllocError;
 use zfault::Items;
-use zstate::State;
+use zstate::{Callee, State};
 use zstory::Story;
 
 /// Does what was planned, and gives out its items: all of them or, with nothing changed, none. Memory is wanted only where
-/// something is given out, or a stack gets longer.
+/// something is given out, or a stack or the frames get longer.
 #[inline(always)]
 pub(crate) fn print_and_act(
     story: &Story,
@@ -38,7 +40,7 @@ pub(crate) fn print_and_act(
     ensures given { OnOk result (items.new.items ≡ items.old.items ++ map Text text.now) }
     ensures err { OnErr result (state.new ≡ state.old) }
     ensures kept { OnErr result (items.new.items ≡ items.old.items) }
-    ensures wants { OnErr result (length text.now ≡ 0 → IsLonger state.old (act story.now (shape_of row.now) (effect_with plan.effect text.now) (popped plan.popped state.old))) }
+    ensures wants { OnErr result (length text.now ≡ 0 → Grows state.old (act story.now (shape_of row.now) (effect_with plan.effect text.now) (popped plan.popped state.old))) }
 {
     items.reserve_text(text.len())?;
     act_on(story, state, row, plan)?;
@@ -46,7 +48,7 @@ pub(crate) fn print_and_act(
     Ok(())
 }
 
-/// Does all of a plan but giving out, whatever it gives out. Memory is wanted only where a stack gets longer.
+/// Does all of a plan but giving out, whatever it gives out. Memory is wanted only where a stack or the frames get longer.
 #[inline(always)]
 #[tactic(auto, using(crate::proofs::Doing::acting))]
 pub(crate) fn act_on(
@@ -63,7 +65,7 @@ pub(crate) fn act_on(
     ensures ok { OnOk result ((text : List ℕ) → state.new ≡ act story.now (shape_of row.now) (effect_with plan.effect text) (popped plan.popped state.old)) }
     ensures fixed { drop (static_base story.now) state.new.memory ≡ drop (static_base story.now) state.old.memory }
     ensures err { OnErr result (state.new ≡ state.old) }
-    ensures wants { OnErr result ((text : List ℕ) → IsLonger state.old (act story.now (shape_of row.now) (effect_with plan.effect text) (popped plan.popped state.old))) }
+    ensures wants { OnErr result ((text : List ℕ) → Grows state.old (act story.now (shape_of row.now) (effect_with plan.effect text) (popped plan.popped state.old))) }
 {
     globals_are_dynamic(story);
     go(story, state, row, plan)?;
@@ -86,7 +88,7 @@ fn go(story: &Story, state: &mut State, row: &Row, plan: Plan) -> Result<(), All
     requires ready { IsReady row.now.target plan.effect plan.course plan.popped state.old }
     ensures ok { OnOk result (state.new ≡ went story.now (shape_of row.now) plan.effect plan.course (popped plan.popped state.old)) }
     ensures err { OnErr result (state.new ≡ state.old) }
-    ensures wants { OnErr result (IsLonger state.old (went story.now (shape_of row.now) plan.effect plan.course (popped plan.popped state.old))) }
+    ensures wants { OnErr result (Grows state.old (went story.now (shape_of row.now) plan.effect plan.course (popped plan.popped state.old))) }
 {
     match plan.course {
         Course::On(distance) => go_on(story, state, row, plan, distance),
@@ -104,6 +106,7 @@ fn go(story: &Story, state: &mut State, row: &Row, plan: Plan) -> Result<(), All
                 Ok(())
             }
         },
+        Course::Into(callee) => go_into(state, row, plan.popped, &callee),
     }
 }
 
@@ -135,6 +138,17 @@ fn go_on(
     state.advance(row.size as usize);
     state.go(distance);
     Ok(())
+}
+
+/// Takes the words of the operands off the stack, and begins a routine, which returns behind the instruction.
+#[inline(never)]
+fn go_into(state: &mut State, row: &Row, popped: usize, callee: &Callee) -> Result<(), AllocError>
+    requires near { EndsBy 131072 row.now.size state.old.place }
+    requires within { popped ≤ length state.old.frame.stack }
+    ensures ok { OnOk result (state.new ≡ entered (called_of callee.now) row.now.target (at_place (state.old.place +ℤ pos row.now.size) (taken popped state.old))) }
+    ensures err { OnErr result (state.new ≡ state.old) }
+{
+    state.enter(callee, row.target, popped, row.size as usize)
 }
 
 /// Takes the words of the operands off the stack, and gives a variable its value.
