@@ -19,7 +19,7 @@ use Rattle.zdomain.specs.declared.interval.Interval.{Interval}
 use Rattle.zdomain.specs.Domain.{In, Within}
 use Rattle.zdomain.specs.Interval.{point, all_words, in_order, interval_operations}
 use Rattle.zdomain.specs.IntervalLaw.{interval_sound}
-use Rattle.zflow.specs.declared.parts.Lead.TheVariants.{Ahead}
+use Rattle.zflow.specs.declared.parts.Lead.TheVariants.{Ahead, Returning, Entering}
 use Rattle.zflow.specs.Transfer.{Shape, demands_of, outcome_of}
 use Rattle.zstate.specs.State.{Frame}
 use Rattle.zcert.specs.declared.parts.Range.{Range}
@@ -30,7 +30,8 @@ use Rattle.zrule.specs.Numbers.{number_of}
 use Rattle.zrule.specs.Claims.{Entry, Claims, is_inside, claims_of}
 use Rattle.zrule.specs.Bytes.{IsWithin, IsChanging, IsSizePlace, IsTableFrame, read_length, IsOpen, IsClosed, header, a_global, a_default, an_entry, a_property, an_abbreviation, frozen, static, first, next, data_length}
 use Rattle.zrule.specs.Described.{Fits, FitsWith}
-use Rattle.zrule.specs.Rules.{global_in, IsNamed, Covers, Leads, GoesOn, Asks}
+use Rattle.zrule.specs.Rules.{global_in, IsNamed, Covers, Leads, GoesOn, Asks, Begins, Starts, TakesBack, comes_back, result_at}
+use Rattle.zstate.specs.Step.{words_from}
 use Rattle.zrule.proofs.Instances.{by_answers}
 
 -- ---- numbers of rules
@@ -527,3 +528,54 @@ writable p within = (there, back)
             by_half n (inr (word, found, inside)) = let none = subst (λ (table : ℕ). readable_word memory (table + 2 * n) ≡ None) (sym places.3) (no_word n) in absurd cc
         by_cause (frozen e) = absurd cc
         by_cause (static above) = let at = places.2 in omega (arith, at, above, within.1)
+
+-- ---- routines that are called
+
+-- at 4 a routine begins with two locals, of 7 and 9 at first, and its code at 9; it gives 5
+two_locals : LoadedStory
+two_locals = record { memory = 0 ∷ 0 ∷ 0 ∷ 0 ∷ 2 ∷ 0 ∷ 7 ∷ 0 ∷ 9 ∷ []; objects = 0 }
+
+abbrev begun : Entry Interval
+begun = record { routine = 1; shape = before (from (pos 0) (pos 7) refl ∷ point 9 ∷ []) [] }
+
+routines : Claims Interval
+routines = record { is_frozen = λ p. false; globals = from (pos 0) (pos 4) refl ∷ []; entry = λ p. if p == 9 then Some begun else None; result = λ r. point 5; routine_at = λ p. if p == 4 then Some 0 else None }
+
+seven : In interval_operations (from (pos 0) (pos 7) refl) 7
+seven = record { word = omega arith; member = (record { le = tt }, record { le = tt }) }
+
+-- with no argument, with one that its first local takes, and with a spare one
+begins_there : Begins interval_operations routines two_locals [] 4 × Begins interval_operations routines two_locals (from (pos 0) (pos 7) refl ∷ []) 4 × Begins interval_operations routines two_locals (from (pos 0) (pos 7) refl ∷ point 9 ∷ all_words ∷ []) 4
+unfolding words_from routines two_locals
+begins_there =
+    let first = interval_sound.single 9 (omega arith) in
+    (
+      record { index = 0; routine = refl; entry = begun; listed = refl; same = refl; empty = refl; starts = (seven, first, tt) },
+      record { index = 0; routine = refl; entry = begun; listed = refl; same = refl; empty = refl; starts = (λ x inside. inside, first, tt) },
+      record { index = 0; routine = refl; entry = begun; listed = refl; same = refl; empty = refl; starts = (λ x inside. inside, λ x inside. inside, tt) },
+    )
+
+-- not where an argument may be 8, and not at another place
+eight : Begins interval_operations routines two_locals (point 8 ∷ []) 4 → In interval_operations (from (pos 0) (pos 7) refl) 8
+unfolding words_from routines two_locals
+eight b =
+    let is : b.entry ≡ begun = same_Some b.entry begun (sym b.listed) in
+    (subst (λ (e : Entry Interval). Starts interval_operations routines (point 8 ∷ []) (7 ∷ 9 ∷ []) e.shape.locals) is b.starts).0 8 (interval_sound.single 8 (omega arith))
+
+not_begun : (Begins interval_operations routines two_locals (point 8 ∷ []) 4 → ⊥) × (Begins interval_operations routines two_locals [] 6 → ⊥)
+unfolding routines
+not_begun = (λ b. (eight b).member.1.le, λ b. let none = b.routine in cc)
+
+-- what it gives is that of its claims; of no routine it may be any word
+gives_back : (result_at interval_operations routines 4 ≡ point 5) × (result_at interval_operations routines 6 ≡ all_words)
+unfolding routines
+gives_back = (refl, refl)
+
+-- a global doesn't take it
+untaken : TakesBack interval_operations routines 16 (Entering (point 2)) → ⊥
+unfolding routines
+untaken takes = (takes 2 (interval_sound.single 2 (omega arith)) (λ e. omega (arith, e)) 5 (interval_sound.single 5 (omega arith))).member.1.le
+
+-- the result of a call lies on the stack behind it, and that of a return doesn't
+comes : (comes_back interval_operations routines (Entering (point 2)) ≡ Some all_words) × (comes_back interval_operations routines (Returning (point 2)) ≡ None)
+comes = (refl, refl)
