@@ -172,7 +172,7 @@ problems :
     × (problem_of_listing listings.OutOfMemory ≡ Failed Memory) × (problem_of_listing (listings.TwoRoutines 804) ≡ Unlisted (listings.TwoRoutines 804))
     × (problem_of_checking refusals.OutOfMemory ≡ Failed Memory) × (problem_of_checking (refusals.Story story_rules.Tables) ≡ BreaksStory story_rules.Tables)
     × (problem_of_play errors.Read ≡ Failed Read)
-problems = (refl, refl, refl, refl, refl, refl, refl)
+problems = (refl, refl, refl, refl, refl, refl, refl, refl, refl)
 
 -- of a file of three bytes a buffer with room for three gets the last two from place 1 on, and none from its end on
 given : GivesPart (10 ∷ 20 ∷ 30 ∷ []) 1 2 (20 ∷ 30 ∷ 99 ∷ []) × GivesPart (10 ∷ 20 ∷ 30 ∷ []) 3 0 (99 ∷ [])
