@@ -550,9 +550,9 @@ unfolding words_from routines two_locals
 begins_there =
     let first = interval_sound.single 9 (omega arith) in
     (
-      record { index = 0; routine = refl; entry = begun; listed = refl; same = refl; empty = refl; starts = (seven, first, tt) },
-      record { index = 0; routine = refl; entry = begun; listed = refl; same = refl; empty = refl; starts = (λ x inside. inside, first, tt) },
-      record { index = 0; routine = refl; entry = begun; listed = refl; same = refl; empty = refl; starts = (λ x inside. inside, λ x inside. inside, tt) },
+      record { index = 0; routine = refl; entry = begun; listed = refl; same = refl; empty = refl; starts = (seven, (first, tt)) },
+      record { index = 0; routine = refl; entry = begun; listed = refl; same = refl; empty = refl; starts = (λ x inside. inside, (first, tt)) },
+      record { index = 0; routine = refl; entry = begun; listed = refl; same = refl; empty = refl; starts = (λ x inside. inside, (λ x inside. inside, tt)) },
     )
 
 -- not where an argument may be 8, and not at another place
