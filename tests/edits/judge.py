@@ -44,7 +44,7 @@ RT = kit()
 
 FUNCTION = re.compile(r"^([ ]*)(?:pub(?:\([^)]*\))? )?(?:const )?(?:unsafe )?fn (\w+)", re.M)
 CLAUSE = re.compile(r"^ +(?:requires|ensures|ghost)\*? ", re.M)
-BLOCK = re.compile(r"^impl(?:<[^{]*?>)? (?:([\w:]+)(?:<[^{]*?>)? for )?(\w+)|^(?:pub(?:\([^)]*\))? )?trait (\w+)", re.M)
+BLOCK = re.compile(r"^impl(?:<[^{]*?>)? (?:([\w:]+)(<[^{]*?>)? for )?(\w+)|^(?:pub(?:\([^)]*\))? )?trait (\w+)", re.M)
 
 
 class Function:
@@ -63,12 +63,14 @@ def functions_of(source, text):
     for match, following in zip(matches, [*(it.start() for it in matches[1:]), len(text)]):
         closing = re.compile(rf"^{match[1]}\}}", re.M).search(text, match.end())
         end = closing.end() if closing else len(text)
-        owner = module
+        owner, is_plain = module, True
         if match[1]:
             block = [it for it in BLOCK.finditer(text, 0, match.start())][-1]
             trait = (block[1] or "").rpartition("::")[2]
-            owner = f"{block[2] or block[3]}{trait if block[2] else ''}"
-        body = body_of(text, match, following)
+            owner = f"{block[3] or block[4]}{trait if block[3] else ''}"
+            # a trait's arguments are a part of the path
+            is_plain = not block[2]
+        body = body_of(text, match, following) if is_plain else None
         found.append(Function(f"{owner}::{match[2]}".removeprefix("::"), match.start(), end, (body, end) if body else None))
     return found
 
@@ -231,16 +233,17 @@ def is_refused_here(place, said):
 
 
 def refused_together(crate, edits, kept):
-    """Of the edits that are planted together, those that are refused by a line of their own."""
+    """Of the edits that are planted together, those that are refused by a line of their own. None where nothing was judged, as where one
+    doesn't compile."""
     said = check(crate, planted(crate, edits), {place for edit in edits for place in edit.places}, kept)
     if not re.search(r"(?m)^only=", said) or RT.rtlib.STALE.search(said):
-        return set()
+        return None
     return {edit.name for edit in edits if any(is_refused_here(place, said) for place in edit.places)}
 
 
 def in_rounds(crate, edits, kept):
     """Plants edits together, one in each function; the second one of a function waits for a later round. Answers which are refused, and
-    which are left to be tried alone."""
+    which are left to be tried over the whole crate."""
     refused, alone, left = [], [], edits
     while left:
         chosen, taken = [], set()
@@ -249,19 +252,18 @@ def in_rounds(crate, edits, kept):
                 chosen.append(edit)
                 taken |= edit.places
         well = refused_together(crate, chosen, kept)
+        if well is None:
+            well = {edit.name for edit in chosen if refused_together(crate, [edit], kept)}
         refused += [edit for edit in chosen if edit.name in well]
         alone += [edit for edit in chosen if edit.name not in well]
         left = [edit for edit in left if edit not in chosen]
     return refused, alone
 
 
-def judge_alone(crate, edit, path, kept):
-    """An edit by itself, and where its functions aren't refused so over the whole crate, by the kit's own rules: whether it is refused at
-    a contract, and what is said."""
-    if edit.is_within_functions() and refused_together(crate, [edit], kept):
-        return True, ""
+def judge_alone(crate, path, kept):
+    """An edit by itself over the whole crate, by the kit's own rules: whether it is refused at a contract, and what is said."""
     refused, text = RT.must_fail(crate, path, ["--jobs", "1"], kept)
-    return refused and "only because a proof file names" not in text, f": {text}"
+    return refused and "only because a proof file names" not in text, text
 
 
 def judge_harmless(crate, edits):
@@ -295,8 +297,8 @@ def judge(crate, folder, is_harmless):
         refused, alone = in_rounds(crate, [edit for edit in good if edit.is_within_functions()], kept)
         told += [(edit.name, True, "refused") for edit in refused]
         for edit in [*alone, *(it for it in good if not it.is_within_functions())]:
-            well, text = judge_alone(crate, edit, f"{where}/{edit.name}.edit", kept)
-            told.append((edit.name, well, f"{'refused' if well else 'NOT REFUSED'}, alone{text}"))
+            well, text = judge_alone(crate, f"{where}/{edit.name}.edit", kept)
+            told.append((edit.name, well, f"{'refused' if well else 'NOT REFUSED'}, alone: {text}"))
     return sorted(told)
 
 
