@@ -7,8 +7,8 @@ It runs at the top of a repository whose libraries are built (`rt ci` leaves the
 file of lines `file: PATH` and then pairs of `old: TEXT` and `new: TEXT`, as `rt must-fail` reads it. --times says what each check took,
 in processor seconds, and its dearest functions. --harmless plants nothing and counts the functions that are still as they should be.
 
-`rt must-fail` checks a crate once for each edit. Here many edits are planted in one copy, one in each function, and only the
-edited functions are checked; each has to be refused by a line of its own. All other functions are emptied in the copy, and have a hole
+`rt must-fail` checks a crate once for each edit. Here many edits are planted in one copy, one in each function and the further ones in
+twins of it, and only the edited functions are checked; each has to be refused by a line of its own. All other functions are emptied in the copy, and have a hole
 for a proof: what is called is taken at its contract, as in the goals of its callers, and isn't proved once more. What isn't refused so,
 and what stands in no function, is planted alone and judged by the kit's own rules over the whole crate.
 """
@@ -51,8 +51,14 @@ class Function:
     """A function of a file: the end of its path as the prover names it, where its text stands, and where its body does, with the braces,
     if it can be emptied. A method goes by its type, since its path is that of the type's module."""
 
-    def __init__(self, path, start, end, body):
-        self.path, self.start, self.end, self.body = path, start, end, body
+    def __init__(self, path, start, end, body, is_of_trait):
+        self.path, self.start, self.end, self.body, self.is_of_trait = path, start, end, body, is_of_trait
+
+    def folder(self, source):
+        """Its folder of proofs, in that of its crate."""
+        module = module_of(source)
+        path = self.path if not module or self.path.startswith(f"{module}::") else f"{module}::{self.path}"
+        return path.replace("::", "/")
 
 
 def functions_of(source, text):
@@ -71,7 +77,8 @@ def functions_of(source, text):
             # a trait's arguments are a part of the path
             is_plain = not block[2]
         body = body_of(text, match, following) if is_plain else None
-        found.append(Function(f"{owner}::{match[2]}".removeprefix("::"), match.start(), end, (body, end) if body else None))
+        path = f"{owner}::{match[2]}".removeprefix("::")
+        found.append(Function(path, match.start(), end, (body, end) if body else None, bool(match[1] and (block[1] or block[4]))))
     return found
 
 
@@ -97,9 +104,14 @@ class Edit:
 
     def __init__(self, name, why, pairs, places):
         self.name, self.why, self.pairs, self.places = name, why, pairs, places
+        # In which twin of its function it is planted, where that isn't the function itself.
+        self.number = 0
 
     def is_within_functions(self):
         return None not in self.places
+
+    def planted_at(self):
+        return {twin(place, self.number) for place in self.places}
 
 
 def read_edit(folder, path, functions, texts):
@@ -123,9 +135,13 @@ def read_edit(folder, path, functions, texts):
 
 def place_of(source, old, functions, texts):
     """The function that a text of a file stands in; none where it stands outside, as in a constant."""
-    at = texts[source].find(old) if source in texts else -1
-    around = [it for it in functions.get(source, []) if it.start <= at < it.end]
-    return around[-1].path if around else None
+    found = function_at(functions.get(source, []), texts.get(source, "").find(old))
+    return found.path if found else None
+
+
+def function_at(functions, at):
+    around = [it for it in functions if it.start <= at < it.end]
+    return around[-1] if around else None
 
 
 HOLE = """use Rattle.{module}.Statement.{{statement}}
@@ -152,15 +168,35 @@ def emptied(crate, room, only):
 
 def leave_open(crate, room, source, function):
     """Puts a hole in the place of a function's proof."""
-    module = module_of(source)
-    path = function.path if not module or function.path.startswith(f"{module}::") else f"{module}::{function.path}"
-    folder = f"{room}/proofs/{path.replace('::', '/')}"
+    path = function.folder(source)
+    folder = f"{room}/proofs/{path}"
     os.makedirs(folder, exist_ok=True)
     for name in ("Answers", "Invariants"):
         if os.path.exists(f"{folder}/{name}.antt"):
             os.remove(f"{folder}/{name}.antt")
     with open(f"{folder}/Proof.antt", "w", encoding="utf-8") as file:
-        file.write(HOLE.format(module=f"{crate.name}.proofs.{path.replace('::', '.')}", name=path.rpartition("::")[2]))
+        file.write(HOLE.format(module=f"{crate.name}.proofs.{path.replace('/', '.')}", name=path.rpartition("/")[2]))
+
+
+def prove_twins(room):
+    """Copies the proof files of each function that has twins in a copy of a crate."""
+    for at, _, files in os.walk(f"{room}/src"):
+        for source in (os.path.relpath(f"{at}/{name}", room) for name in files):
+            with open(f"{room}/{source}", encoding="utf-8") as file:
+                twins = [it for it in functions_of(source, file.read()) if TWIN.search(it.path)]
+            for folder in (it.folder(source) for it in twins):
+                first = TWIN.sub("", folder)
+                if os.path.isdir(f"{room}/proofs/{first}"):
+                    shutil.copytree(f"{room}/proofs/{first}", f"{room}/proofs/{folder}")
+                    for name in os.listdir(f"{room}/proofs/{folder}"):
+                        rename(f"{room}/proofs/{folder}/{name}", first.replace("/", "."), folder.replace("/", "."))
+
+
+def rename(path, old, new):
+    with open(path, encoding="utf-8") as file:
+        text = file.read()
+    with open(path, "w", encoding="utf-8") as file:
+        file.write(re.sub(rf"\.proofs\.{re.escape(old)}\b", f".proofs.{new}", text))
 
 
 def check(crate, texts, only, kept):
@@ -173,6 +209,7 @@ def check(crate, texts, only, kept):
         for path, text in texts.items():
             with open(f"{room}/{path}", "w", encoding="utf-8") as file:
                 file.write(text)
+        prove_twins(room)
         emptied(crate, room, only)
         flags = ["--jobs", "1", "--allow-holes", "--progress", *(word for path in sorted(only) for word in ("--only", path))]
         words = [RT.rtlib.RATTLE, "check", *crate.words(flags, keeps=False), *(["--incremental", kept] if kept else [])]
@@ -199,15 +236,42 @@ def run(crate, words, room):
 TOOK = []
 
 
+# The end of the name of a function's twin.
+TWIN = re.compile(r"_edited_\d+$")
+
+
+def twin(path, number):
+    return f"{path}_edited_{number}" if number else path
+
+
 def planted(crate, edits):
-    texts = {}
+    """The texts of the files that edits change: each edit in the text of its function, as one may write what another one looks for, and
+    all edits of a function but the first in twins of it."""
+    texts, made = {}, {}
     for edit in edits:
         for source, old, new in edit.pairs:
             if source not in texts:
                 with open(f"{crate.folder}/{source}", encoding="utf-8") as file:
                     texts[source] = file.read()
-            texts[source] = texts[source].replace(old, new)
+            function = function_at(functions_of(source, texts[source]), texts[source].find(old))
+            begin = with_attributes(texts[source], function) if edit.number else function.start
+            key = source, function.end, edit.number, begin, function.path
+            made[key] = made.get(key, texts[source][begin : function.end]).replace(old, new)
+    for (source, end, number, begin, path), text in sorted(made.items(), reverse=True):
+        name = path.rpartition("::")[2]
+        if number:
+            text = "\n\n" + re.sub(rf"\bfn {name}\b", f"fn {twin(name, number)}", text, count=1)
+        texts[source] = texts[source][: end if number else begin] + text + texts[source][end:]
     return texts
+
+
+def with_attributes(text, function):
+    """Where begins what stands right above a function."""
+    lines = text[: function.start].split("\n")
+    above = len(lines) - 1
+    while above and lines[above - 1].strip() and not lines[above - 1].endswith(("{", "}")):
+        above -= 1
+    return len("\n".join(lines[:above])) + (1 if above else 0)
 
 
 # An error that only says that a proof file names what an edit took away.
@@ -235,22 +299,24 @@ def is_refused_here(place, said):
 def refused_together(crate, edits, kept):
     """Of the edits that are planted together, those that are refused by a line of their own. None where nothing was judged, as where one
     doesn't compile."""
-    said = check(crate, planted(crate, edits), {place for edit in edits for place in edit.places}, kept)
+    said = check(crate, planted(crate, edits), {place for edit in edits for place in edit.planted_at()}, kept)
     if not re.search(r"(?m)^only=", said) or RT.rtlib.STALE.search(said):
         return None
-    return {edit.name for edit in edits if any(is_refused_here(place, said) for place in edit.places)}
+    return {edit.name for edit in edits if any(is_refused_here(place, said) for place in edit.planted_at())}
 
 
-def in_rounds(crate, edits, kept):
-    """Plants edits together, one in each function; the second one of a function waits for a later round. Answers which are refused, and
-    which are left to be tried over the whole crate."""
+def in_rounds(crate, edits, functions, kept):
+    """Plants edits together, one in each function and the further ones in twins of it; where it can't have one, as a method of a trait,
+    they wait for a later round. Answers which are refused, and which are left to be tried over the whole crate."""
+    bound = {it.path for found in functions.values() for it in found if it.is_of_trait}
     refused, alone, left = [], [], edits
     while left:
-        chosen, taken = [], set()
+        chosen, taken = [], {}
         for edit in left:
-            if not edit.places & taken:
+            if not edit.places & taken.keys() or len(edit.places) == 1 and not edit.places & bound:
+                edit.number = max(taken.get(place, 0) for place in edit.places)
                 chosen.append(edit)
-                taken |= edit.places
+                taken.update((place, edit.number + 1) for place in edit.places)
         well = refused_together(crate, chosen, kept)
         if well is None:
             well = {edit.name for edit in chosen if refused_together(crate, [edit], kept)}
@@ -294,7 +360,7 @@ def judge(crate, folder, is_harmless):
     if is_harmless:
         return [*judge_harmless(crate, good)]
     with tempfile.TemporaryDirectory(prefix="judge-") as kept:
-        refused, alone = in_rounds(crate, [edit for edit in good if edit.is_within_functions()], kept)
+        refused, alone = in_rounds(crate, [edit for edit in good if edit.is_within_functions()], functions, kept)
         told += [(edit.name, True, "refused") for edit in refused]
         for edit in [*alone, *(it for it in good if not it.is_within_functions())]:
             well, text = judge_alone(crate, f"{where}/{edit.name}.edit", kept)
