@@ -1,5 +1,6 @@
 -- Whose code places are found to be, and how far that was followed (own).
-use Rattle.std.specs.Prelude.{◌≡◌, ℕ, suc, All, ◌+◌, ◌*◌, ◌<◌, ◌≤◌, ◌==◌, ℤ, pos, negsuc, ◌≤ℤ◌, ◌<ℤ◌, ◌-ℤ◌, Bool, true, false, IsTrue, List, [], ◌∷◌, ◌++◌, length, IfSome, Ok, if◌then◌else◌, slice_index, slice_index_or, ◌≢◌, sum_by}
+use Rattle.std.specs.Prelude.{◌≡◌, ℕ, suc, All, ◌+◌, ◌*◌, ◌<◌, ◌≤◌, ◌==◌, ℤ, pos, negsuc, ◌≤ℤ◌, ◌<ℤ◌, ◌-ℤ◌, Bool, true, false, IsTrue, List, [], ◌∷◌, ◌++◌, length, Option, None, IfSome, Ok, if◌then◌else◌, slice_index, slice_index_or, ◌≢◌, sum_by}
+use Rattle.std.specs.Result.{result_ok}
 use Rattle.std.specs.List.{Contains, list_any}
 use Rattle.std.specs.List.Sorted.{IsStrictlyIncreasing}
 use Rattle.zstory.specs.LoadedStory.{LoadedStory, first_instruction}
@@ -68,6 +69,15 @@ pub record HasSlot (p : ℤ) : Type 0 where
 pub record IsInside (p : ℤ) (i : Instruction) : Type 0 where
   pub above : pos 0 ≤ℤ p
   pub below : behind p i ≤ℤ pos 131072
+
+-- what stands at an address, if an instruction does
+pub record IsStanding (memory : List ℕ) (a : ℕ) (i : Option Instruction) : Type 0 where
+  pub value : i ≡ result_ok (spelled memory (pos a))
+  pub inside : IfSome i (IsInside (pos a))
+
+-- what stands at each of the first addresses
+abbrev pub AreStanding : List ℕ → List (Option Instruction) → Type 0
+AreStanding memory table = (a : ℕ) → a < length table → IsStanding memory a (slice_index_or table a None)
 
 -- no more than 16 bits away
 pub record IsNear (distance : ℤ) : Type 0 where

@@ -12,6 +12,7 @@ mod numbers;
 mod order;
 mod owner;
 mod record;
+mod standing;
 mod walk;
 
 pub use list_error::ListError;

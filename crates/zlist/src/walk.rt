@@ -7,13 +7,13 @@ ghost use Rattle.zlist.specs.Labels.{Found, Grows, Has, HasSlot, IsEntered, IsFo
 ghost use Rattle.zlist.specs.declared.owner.Label.TheVariants.{Nobody};
 ghost use Rattle.zlist.specs.Listed.{IsCalled, behind, spelled};
 
-use crate::leading::{aside_place, begins, callee, next_place, spelled};
+use crate::leading::{aside_place, begins, callee, next_place};
 use crate::owner::{Label, Owner};
+use crate::standing::Standing;
 use std::alloc::{AllocError, Global};
 use std::marker::Model;
 use zcode::Instr;
 use zstory::Story;
-use ztext::TextEnds;
 
 /// How many places have a slot.
 pub(crate) const SLOTS: usize = 262_144;
@@ -186,20 +186,18 @@ impl Walk {
     }
 
     /// Follows the instruction of a slot, if one stands there.
-    fn visit(&mut self, ends: &mut TextEnds<'_>, slot: usize) -> Result<(), AllocError>
+    fn visit(&mut self, standing: &Standing<'_>, slot: usize) -> Result<(), AllocError>
         requires within { slot < slots }
-        requires short { length ends.old ≤ 131072 }
-        ensures memory { ends.new ≡ ends.old }
         ensures grows { IfOk result (λ _. Grows self.old self.new) }
-        ensures followed { IfOk result (λ _. (i : Instruction) → spelled ends.old (place slot) ≡ Ok i → IsFollowed ends.old self.new (label_at self.old slot) (place slot) i) }
-        ensures sound { (story : LoadedStory) → ends.old ≡ story.memory → label_at self.old slot ≢ Nobody → IsSound story self.old → IfOk result (λ _. IsSound story self.new) }
+        ensures followed { IfOk result (λ _. (i : Instruction) → spelled standing.now (place slot) ≡ Ok i → IsFollowed standing.now self.new (label_at self.old slot) (place slot) i) }
+        ensures sound { (story : LoadedStory) → standing.now ≡ story.memory → label_at self.old slot ≢ Nobody → IsSound story self.old → IfOk result (λ _. IsSound story self.new) }
     {
         let at = place_of(slot);
         let label = self.label_at(slot);
-        let Ok(instruction) = spelled(ends, at) else {
+        let Some(instruction) = standing.at(at) else {
             return Ok(());
         };
-        self.follow(ends.memory(), at, label, &instruction)?;
+        self.follow(standing.memory(), at, label, &instruction)?;
         Ok(())
     }
 }
@@ -217,11 +215,12 @@ fn first_place(story: &Story) -> i32
 pub(crate) fn walk_story(alloc: Global, story: &Story) -> Result<Walk, AllocError>
     ensures { IfOk result (IsWalked story.now) }
 {
-    let mut ends = TextEnds::new(story.memory());
+    let _length = story.length(); // at most 131,072
+    let standing = Standing::new(alloc, story.memory())?;
     let mut walk = Walk::new(alloc)?;
     walk.mark(first_place(story), Label::One(Owner::Main))?;
     while let Some(slot) = walk.next() {
-        walk.visit(&mut ends, slot)?;
+        walk.visit(&standing, slot)?;
     }
     Ok(walk)
 }
