@@ -418,19 +418,19 @@ impl State {
         &mut self,
         callee: &Callee,
         variable: u8,
-        count: usize,
+        taken: usize,
         bytes: usize,
     ) -> Result<(), AllocError>
         requires near { IsNear self.old.place }
         requires small { bytes ≤ 1000000 }
-        requires within { count ≤ length self.old.frame.stack }
-        ensures ok { OnOk result (self.new ≡ entered (called_of callee.now) variable (at_place (self.old.place +ℤ pos bytes) (popped count self.old))) }
+        requires within { taken ≤ length self.old.frame.stack }
+        ensures ok { OnOk result (self.new ≡ entered (called_of callee.now) variable (at_place (self.old.place +ℤ pos bytes) (popped taken self.old))) }
         ensures err { OnErr result (self.new ≡ self.old) }
     {
         self.callers.reserve(1)?;
         let alloc = *self.callers.allocator();
         let behind = self.place as usize + bytes;
-        self.frame.pop(count);
+        self.frame.pop(taken);
         let frame = Frame::begun(alloc, behind as u32, variable, callee);
         let caller = mem::replace(&mut self.frame, frame);
         self.callers.push_reserved(caller);
