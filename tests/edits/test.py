@@ -68,6 +68,8 @@ EDITS = {
     "harmless_bound": (False, [("n < MOST", "n <= MOST")]),
     # proved as before, but beside the first one its callee isn't
     "harmless_caller": (False, [("    let first = successor(n);", "    let first = { successor(n) };")]),
+    # proved as before, by a copy of the answer
+    "spread_harmlessly": (False, [("    let doubled = n + n;", "    let doubled = n + (n);")]),
     # proved, but for an answer that names what is gone
     "name_gone": (False, [("let doubled = n + n;", "let twice = n + n;"), ("    doubled", "    twice")]),
     # no longer there, there twice, and no text that can be read
@@ -90,11 +92,17 @@ def make(root):
     subprocess.run(["git", "init", "--quiet", root], check=True)
 
 
+def ran_judge(root, *words):
+    """What the judge answers, with what it says of each edit that is left, or of each function."""
+    ran = subprocess.run([sys.executable, os.path.join(HERE, "judge.py"), *words], cwd=root, capture_output=True, text=True)
+    lines = [it[len("edit low/") :] for it in ran.stdout.split("\n") if it.startswith("edit low/")]
+    return ran, dict(it.split(": ", 1) for it in lines)
+
+
 def judged(root):
     """What the judge says of the edits that are left: for each whether it counts."""
-    ran = subprocess.run([sys.executable, os.path.join(HERE, "judge.py")], cwd=root, capture_output=True, text=True)
-    lines = [it for it in ran.stdout.split("\n") if it.startswith("edit low/")]
-    told = {name: text.startswith("refused") for name, _, text in (it[len("edit low/") :].partition(": ") for it in lines)}
+    ran, said = ran_judge(root)
+    told = {name: text.startswith("refused") for name, text in said.items()}
     last = ran.stdout.rstrip("\n").rpartition("\n")[2]
     well = sum(told.values())
     is_counted = last == f"edits: {well} passed, {len(told) - well} failed" and ran.returncode == (1 if well < len(told) else 0)
@@ -108,6 +116,7 @@ def main():
         # one that can't be read keeps those planted with it from being judged together, so it comes last
         os.rename(f"{root}/crates/low/edits/unreadable.edit", f"{root}/unreadable.edit")
         first, is_counted, said = judged(root)
+        harmless, unplanted = ran_judge(root, "--harmless")
         wanted = {name: refused for name, (refused, _) in EDITS.items() if name != "unreadable"}
         for name in os.listdir(f"{root}/crates/low/edits"):
             if name != "one_more_forgotten.edit":
@@ -117,6 +126,7 @@ def main():
         for well, what in [
             (first == wanted, said),
             (is_counted, said),
+            (harmless.returncode == 0 and unplanted.keys() >= {"successor", "after_next", "small", "spread"}, harmless.stdout),
             (second == {"one_more_forgotten": True, "unreadable": False}, said_too),
             (is_counted_too, said_too),
         ]:

@@ -72,9 +72,9 @@ def main():
     with tempfile.TemporaryDirectory(prefix="devices-") as folder:
         devices = Devices(program, shim(folder), folder)
         for settings in ({}, {"SHORT": 1000}):
-            for words in (["play", "story"], ["play", "story", "certificate"], ["check", "story", "certificate"], ["play", "absent"]):
+            for words in (["list", "story"], ["play", "story"], ["play", "story", "certificate"], ["check", "story", "certificate"], ["play", "absent"]):
                 see_each(devices, count, words, files, settings)
-            for words in (["--help"], ["--version"], ["play"], ["check", "story", "story"]):
+            for words in (["--help"], ["--version"], ["play"], ["list"], ["check", "story", "story"]):
                 see_each(devices, count, words, files, settings)
         # a byte a call: the text is whole, and each beginning of it is met
         ample = see_each(devices, count, ["check", "story", "certificate"], files, {"SHORT": 400})

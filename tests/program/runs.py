@@ -73,6 +73,8 @@ WORDS = [
     ("help", ["--help"], done(help_text("zpc.txt"))),
     ("help, short", ["-h"], done(help_text("zpc.txt"))),
     ("help, as a command", ["help"], done(help_text("zpc.txt"))),
+    ("help of list", ["list", "--help"], done(help_text("list.txt"))),
+    ("help of list, as a command", ["help", "list"], done(help_text("list.txt"))),
     ("help of check", ["check", "--help"], done(help_text("check.txt"))),
     ("help of check, as a command", ["help", "check"], done(help_text("check.txt"))),
     ("help of play", ["play", "--help"], done(help_text("play.txt"))),
@@ -82,7 +84,9 @@ WORDS = [
     ("no words", [], Answer(2, b"", help_text("no_words.txt"))),
     ("an unknown command", ["sing", "story"], Answer(2, b"", help_text("unknown_command.txt"))),
     ("no story", ["play"], Answer(2, b"", help_text("no_story.txt"))),
+    ("no story to list", ["list"], Answer(2, b"", help_text("no_story_to_list.txt"))),
     ("no certificate", ["check", "story"], Answer(2, b"", help_text("no_certificate.txt"))),
+    ("too many words to list", ["list", "a", "b"], Answer(2, b"", help_text("too_many_to_list.txt"))),
     ("too many words to check", ["check", "a", "b", "c"], Answer(2, b"", help_text("too_many_to_check.txt"))),
     ("too many words to play", ["play", "a", "b", "c"], Answer(2, b"", help_text("too_many_to_play.txt"))),
     ("a budget that is no number", ["play", "--budget", "x", "story"], Answer(2, b"", help_text("no_number.txt"))),
@@ -91,6 +95,7 @@ WORDS = [
     ("a budget without a number", ["play", "--budget"], Answer(2, b"", help_text("no_budget.txt"))),
     ("two budgets", ["play", "--budget", "1", "--budget", "2", "story"], Answer(2, b"", help_text("two_budgets.txt"))),
     ("a budget to check", ["check", "--budget", "3", "story", "certificate"], Answer(2, b"", help_text("budget_to_check.txt"))),
+    ("a budget to list", ["list", "--budget", "3", "story"], Answer(2, b"", help_text("budget_to_list.txt"))),
     ("an unknown option", ["play", "--bugdet", "3", "story"], Answer(2, b"", help_text("unknown_option.txt"))),
     ("a word that isn't UTF-8", [b"a\xff"], Answer(2, b"", help_text("no_text.txt"))),
     ("a name that isn't UTF-8", ["play", b"a\xff"], Answer(2, b"", help_text("no_text.txt"))),
@@ -114,8 +119,42 @@ TEXTS = [
     ("an abbreviation that is cut off", b"\x98\xa1", b"a"),
 ]
 
+# ---- listings: name, code from 324 on, and the addresses and names, or what is at fault with it. `8c` jumps over as many bytes
+# behind it as its word says, less 2 (Z 15).
+
+LISTINGS = [
+    ("the sample", HELLO + QUIT, [(0x324, "print"), (0x329, "quit")]),
+    ("only what a jump leads to", b"\x8c\0\x04" + NOP * 2 + QUIT, [(0x324, "jump"), (0x329, "quit")]),
+    ("a loop", b"\xbb\x8c\xff\xfe", [(0x324, "new_line"), (0x325, "jump")]),
+    ("both ways of a branch", b"\x90\x05\xc4" + NOP * 2 + QUIT, [(0x324, "jz"), (0x327, "nop"), (0x328, "nop"), (0x329, "quit")]),
+    ("one way of a branch that returns", b"\x90\x05\x40" + QUIT + NOP, [(0x324, "jz"), (0x327, "quit")]),
+    ("nothing behind a quit", QUIT + b"\xbe", [(0x324, "quit")]),
+    ("a jump to itself", b"\x8c\xff\xff" + QUIT, [(0x324, "jump")]),
+    ("a jump into itself", b"\x8c\0\0" + QUIT, "U1 at 00325"),
+    ("an instruction within another", b"\x90\xba\x3f\xff" + QUIT, [(0x324, "jz"), (0x325, "quit"), (0x328, "quit")]),
+    ("a byte that is no opcode", NOP + b"\xbe" + QUIT, "U1 at 00325"),
+    ("an opcode out of the profile", NOP + b"\xeb\x7f\0" + QUIT, "U1 at 00325"),
+    ("an opcode with one operand too few", NOP * 2 + b"\xd4\x7f\x01\0" + QUIT, "U1 at 00326"),
+    ("a text without an end", b"\xb2\x35\x51\x46\x85" + QUIT, "U1 at 00324"),
+    ("the end of memory", NOP + NOP, "U1 at 00326"),
+    ("an instruction that memory ends in", NOP + b"\x8c", "U1 at 00325"),
+    ("a jump to a place below 0", b"\x8c\x80\0" + QUIT, "U1 at -31963"),
+    ("a jump to a place behind memory", b"\x8c\x7f\xff" + QUIT, "U1 at 08324"),
+    ("a jump by a variable", NOP + b"\xac\x10" + QUIT, "U3 at 00325"),
+    ("a jump by the stack", b"\xac\0", "U3 at 00324"),
+    ("of two faults the lower", b"\x90\x05\xc4" + b"\xac\x10" + b"\xbe", "U3 at 00327"),
+    ("of two faults the lower, turned round", b"\x90\x05\xc3" + b"\xbe" + b"\xac\x10", "U1 at 00327"),
+]
+
+
+def lines(listed):
+    """The lines of a listing of the main code."""
+    return "".join(f"{address:05x} 0 {name}\n" for address, name in listed).encode()
+
+
 # ---- commands: name, words, files, answer
 
+LIST = ["list", "story"]
 CHECK = ["check", "story", "certificate"]
 PLAY = ["play", "story"]
 PLAY_LISTED = ["play", "story", "certificate"]
@@ -125,6 +164,7 @@ COMMANDS = [
     ("play", PLAY, files(), done(b"hello")),
     ("play by the certificate", PLAY_LISTED, files(), done(b"hello")),
     ("nop and new_line", PLAY_LISTED, coded(NOP + NEW_LINE + QUIT, [0x324, 0x325, 0x326]), done(b"\n")),
+    ("a list from another first instruction", LIST, {"story": story(b"\xbe" + QUIT, first=CODE + 1)}, done(b"00325 0 quit\n")),
     ("budget 0", ["play", "--budget", "0", "story"], files(), done(errors=b"end: budget\n")),
     ("budget 0 by the certificate", ["play", "--budget", "0", "story", "certificate"], files(), done(errors=b"end: budget\n")),
     ("budget 1", ["play", "story", "--budget=1"], files(), done(b"hello")),
@@ -137,6 +177,12 @@ COMMANDS = [
     ("a text whose abbreviation uses one", PLAY, {"story": story(b"\xb2\x84\x05" + QUIT + b"\x84\x05", abbreviations=[0x328] * 96)}, fault("F13 at 00324")),
     # files that are refused, the story before its certificate
     ("no story there", ["play", "absent"], files(), failed("file")),
+    ("no story there to list", ["list", "absent"], files(), failed("file")),
+    ("a folder as story to list", ["list", "."], files(), failed("file")),
+    ("an empty story to list", LIST, files(b""), refused("L1")),
+    ("a story of 131,073 bytes to list", LIST, files(bytes(131073)), refused("L2")),
+    ("another version to list", LIST, files(changed(SAMPLE, 0, 5)), refused("L3")),
+    ("a first instruction behind the end, listed", LIST, files(changed(SAMPLE, 0x06, 4)), refused("L11")),
     ("no story there to check", ["check", "absent", "certificate"], files(), failed("file")),
     ("no certificate there", ["check", "story", "absent"], files(), failed("file")),
     ("no certificate there to play", ["play", "story", "absent"], files(), failed("file")),
@@ -231,6 +277,9 @@ def see_streams(program, count):
         ("a full device", '"$1" play "$2/hello.z3" >/dev/full', failed("write")),
         ("a full device, by the certificate", '"$1" play "$2/hello.z3" "$2/hello.cert" >/dev/full', failed("write")),
         ("acceptance to a full device", '"$1" check "$2/hello.z3" "$2/hello.cert" >/dev/full', failed("write")),
+        ("a list of a story from a pipe", '"$1" list <(cat "$2/hello.z3")', done(lines([(0x324, "print"), (0x329, "quit")]))),
+        ("a list to a full device", '"$1" list "$2/hello.z3" >/dev/full', failed("write")),
+        ("a list to a closed output", '"$1" list "$2/hello.z3" >&-', failed("write")),
         ("help to a full device", '"$1" --help >/dev/full', failed("write")),
         ("version to a full device", '"$1" --version >/dev/full', failed("write")),
         ("an output that nobody reads", '"$1" play "$2/hello.z3" > >(exec <&-; sleep 0.2)', None),
@@ -257,6 +306,9 @@ def main():
         listed = certificate(made, [CODE, CODE + len(code) - 1])
         count.is_answer(f"{name}, checked", program.run(PLAY, files(made)), done(wanted))
         count.is_answer(f"{name}, by its certificate", program.run(PLAY_LISTED, files(made, listed)), done(wanted))
+    for name, code, wanted in LISTINGS:
+        answer = refused(wanted) if isinstance(wanted, str) else done(lines(wanted))
+        count.is_answer(f"{name}, listed", program.run(LIST, {"story": story(code)}), answer)
     for name, words, given, wanted in COMMANDS:
         count.is_answer(name, program.run(words, given), wanted)
     see_plays(program, count)

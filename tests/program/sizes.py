@@ -5,6 +5,7 @@
 
 No clause says that a call succeeds where there is memory, so these runs do. What they print is worked out from the stories' texts.
 """
+import struct
 import sys
 
 from program import Answer, Count, Program
@@ -21,6 +22,39 @@ def see(program, count, name, made, listed, output, errors=b"", budget=None):
     count.is_answer(f"{name}, checked", program.run(["check", "story", "certificate"], files), Answer(0, b"accepted\n", b""))
     count.is_answer(f"{name}, played", program.run(["play", *words, "story"], files), Answer(0, output, errors))
     count.is_answer(f"{name}, by the certificate", program.run(["play", *words, "story", "certificate"], files), Answer(0, output, errors))
+
+
+def branches_to_prints(order, prints):
+    """A story in which 1,300 branches lead to as many prints, from the first one on or, in the order -1, from the last one on. Each
+    of so many prints begins two bytes behind the one before it, and all texts share one end. Also the lines that list it."""
+    count, first = 1300, CODE + 4 * 1300 + 2
+    targets = [first + 2 * it for it in range(count)]
+    code, lines = b"", []
+    for at, target in zip(range(CODE, first, 4), targets[::order]):
+        # `jz 5 ?target` takes four bytes, and its offset counts from two bytes before its end (Z 4.7.2)
+        code += b"\x90\x05" + struct.pack(">H", target - (at + 2))
+        lines.append(f"{at:05x} 0 jz\n")
+    lines.append(f"{first - 2:05x} 0 quit\n")
+    code += QUIT + b"\0" + b"\xb2\x10" * prints + b"\xb2\x94\xa5" + QUIT
+    lines.extend(f"{target:05x} 0 print\n" for target in targets)
+    lines.append(f"{first + 2 * prints + 3:05x} 0 quit\n")
+    return story(code), "".join(lines).encode()
+
+
+def listed_lines(name, addresses):
+    return "".join(f"{address:05x} 0 {name}\n" for address in addresses)
+
+
+def longest_list(program, count):
+    """The longest story of an instruction a byte, and long texts that overlap, listed."""
+    last = LONGEST - 1
+    for name, instruction in [("nop", NOP), ("new_line", NEW_LINE)]:
+        made = story(instruction * (LONGEST - CODE - 1) + QUIT)
+        lines = listed_lines(name, range(CODE, last)) + f"{last:05x} 0 quit\n"
+        count.is_answer(f"the longest story of {name}s, listed", program.run(["list", "story"], {"story": made}), Answer(0, lines.encode(), b""))
+    for name, order in [("front", 1), ("end", -1)]:
+        made, lines = branches_to_prints(order, 61000)
+        count.is_answer(f"long texts from the {name} on, listed", program.run(["list", "story"], {"story": made}), Answer(0, lines, b""))
 
 
 def longest(program, count):
@@ -122,6 +156,7 @@ def long_names(program, count):
 def main():
     program = Program(sys.argv[1])
     count = Count("sizes")
+    longest_list(program, count)
     longest(program, count)
     highest(program, count)
     most_routines(program, count)

@@ -55,6 +55,9 @@ refuse_each() {
 refuse_each play hello.z3
 refuse_each play --budget 0 hello.z3
 refuse_each play absent.z3
+refuse_each list hello.z3
+refuse_each list absent.z3
+refuse_each list hello.cert
 refuse_each check hello.z3 hello.cert
 refuse_each check hello.z3 hello.z3
 refuse_each check hello.z3 absent.cert

@@ -82,28 +82,35 @@ less_differs x y e = grind (arith, nat_tests)
 greater_differs : (x y : ℕ) → nat_cmp x y ≡ Greater → x ≢ y
 greater_differs x y e = grind (arith, nat_tests)
 
-no_index : {V : Type 0} (values : List V) (ss : List Stored) (at i : ℕ) → IsPartitionPoint (λ s. nat_cmp s.address at ≡ Less) (λ s. nat_cmp s.address at ≡ Greater) ss i → listed_at (instructions values ss) at ≡ None
-no_index values ss at i point =
-    not_listed values ss at (λ k s e.
-    let within = slice_get_within ss k s e in
-    let same : get_or ss k s ≡ s = get_or_from_slice_get ss k s s e in
-    elim (cases_lt k i) [
-      | inl lt ↦ less_differs s.address at (subst (λ (x : Stored). nat_cmp x.address at ≡ Less) same (point.0 k s (omega arith) lt))
-      | inr le ↦ greater_differs s.address at (subst (λ (x : Stored). nat_cmp x.address at ≡ Greater) same (point.1 k s le within))
-    ])
+module _ {A : Type 0} (address : A → ℕ) where
+  -- where a search ends between two, nothing is at the address
+  none_at : (xs : List A) (at i : ℕ) → IsPartitionPoint (λ x. nat_cmp (address x) at ≡ Less) (λ x. nat_cmp (address x) at ≡ Greater) xs i → (k : ℕ) (x : A) → slice_get xs k ≡ Some x → address x ≢ at
+  none_at xs at i point k x e =
+      let within = slice_get_within xs k x e in
+      let same : get_or xs k x ≡ x = get_or_from_slice_get xs k x x e in
+      elim (cases_lt k i) [
+        | inl lt ↦ less_differs (address x) at (subst (λ (y : A). nat_cmp (address y) at ≡ Less) same (point.0 k x (omega arith) lt))
+        | inr le ↦ greater_differs (address x) at (subst (λ (y : A). nat_cmp (address y) at ≡ Greater) same (point.1 k x le within))
+      ]
 
-this_index : {V : Type 0} (values : List V) (ss : List Stored) (at k : ℕ) → Rise (λ (i : Instruction V). i.address) 0 (instructions values ss) → k < length ss → HoldsAt (λ s. nat_cmp s.address at ≡ Equal) ss k → (o : Option Stored) → slice_get ss k ≡ o → listed_at (instructions values ss) at ≡ slice_get (instructions values ss) k
-this_index values ss at k rise lt holds None e = absurd (false≢true (rw e at (slice_get_is_some ss k lt)))
-this_index values ss at k rise lt holds (Some s) e =
-    let same : get_or ss k s ≡ s = get_or_from_slice_get ss k s s e in
-    let here : s.address ≡ at = equal_is s.address at (subst (λ (x : Stored). nat_cmp x.address at ≡ Equal) same (holds s)) in
+  -- where it ends at one, that one is
+  one_at : (xs : List A) (at k : ℕ) → k < length xs → HoldsAt (λ x. nat_cmp (address x) at ≡ Equal) xs k → (o : Option A) → slice_get xs k ≡ o → (x : A) × (slice_get xs k ≡ Some x) × (address x ≡ at)
+  one_at xs at k lt holds None e = absurd (false≢true (rw e at (slice_get_is_some xs k lt)))
+  one_at xs at k lt holds (Some x) e =
+      let same : get_or xs k x ≡ x = get_or_from_slice_get xs k x x e in
+      (x, e, equal_is (address x) at (subst (λ (y : A). nat_cmp (address y) at ≡ Equal) same (holds x)))
+
+this_index : {V : Type 0} (values : List V) (ss : List Stored) (at k : ℕ) (s : Stored) → Rise (λ (i : Instruction V). i.address) 0 (instructions values ss) → slice_get ss k ≡ Some s → s.address ≡ at → listed_at (instructions values ss) at ≡ slice_get (instructions values ss) k
+this_index values ss at k s rise e here =
     let there : slice_get (instructions values ss) k ≡ Some (stored_instruction values s) = slice_get-map (stored_instruction values) ss k ∙ ap (option_map (stored_instruction values)) e in
     ap (listed_at (instructions values ss)) (sym here) ∙ listed 0 (instructions values ss) k (stored_instruction values s) rise there ∙ sym there
 
 -- what a binary search answers is the index of what is listed
 pub searched : {V : Type 0} (values : List V) (ss : List Stored) (at : ℕ) (r : Result ℕ ℕ) → Rise (λ (i : Instruction V). i.address) 0 (instructions values ss) → IsSearchInRange r (length ss) → IsBinarySearchResult (λ s. nat_cmp s.address at) ss r → Finds (instructions values ss) at (result_ok r)
-searched values ss at (Ok k) rise range position = (rw (length-map ss (stored_instruction values)) range, this_index values ss at k rise range position (slice_get ss k) refl)
-searched values ss at (Err i) rise range position = no_index values ss at i (position (not_decreasing address ss at (rise_stored values 0 ss rise)))
+searched values ss at (Ok k) rise range position =
+    let found = one_at address ss at k range position (slice_get ss k) refl in
+    (rw (length-map ss (stored_instruction values)) range, this_index values ss at k found.0 rise found.1 found.2)
+searched values ss at (Err i) rise range position = not_listed values ss at (none_at address ss at i (position (not_decreasing address ss at (rise_stored values 0 ss rise))))
 
 -- ---- routines
 
@@ -125,27 +132,12 @@ module _ {V : Type 0} where
       let other : eqb x.address at ≡ false = grind (arith, nat_tests) in
       rw (other, not_indexed rs at (λ k r e. none (suc k) r e)) refl
 
-  no_routine : (rs : List (Routine V)) (at i : ℕ) → IsPartitionPoint (λ (r : Routine V). nat_cmp r.address at ≡ Less) (λ r. nat_cmp r.address at ≡ Greater) rs i → routine_at rs at ≡ None
-  no_routine rs at i point =
-      not_indexed rs at (λ k r e.
-      let within = slice_get_within rs k r e in
-      let same : get_or rs k r ≡ r = get_or_from_slice_get rs k r r e in
-      elim (cases_lt k i) [
-        | inl lt ↦ less_differs r.address at (subst (λ (x : Routine V). nat_cmp x.address at ≡ Less) same (point.0 k r (omega arith) lt))
-        | inr le ↦ greater_differs r.address at (subst (λ (x : Routine V). nat_cmp x.address at ≡ Greater) same (point.1 k r le within))
-      ])
-
-  this_routine : (rs : List (Routine V)) (at k : ℕ) → Rise (λ (r : Routine V). r.address) 0 rs → k < length rs → HoldsAt (λ (r : Routine V). nat_cmp r.address at ≡ Equal) rs k → (o : Option (Routine V)) → slice_get rs k ≡ o → routine_at rs at ≡ Some k
-  this_routine rs at k rise lt holds None e = absurd (false≢true (rw e at (slice_get_is_some rs k lt)))
-  this_routine rs at k rise lt holds (Some r) e =
-      let same : get_or rs k r ≡ r = get_or_from_slice_get rs k r r e in
-      let here : r.address ≡ at = equal_is r.address at (subst (λ (x : Routine V). nat_cmp x.address at ≡ Equal) same (holds r)) in
-      subst (λ (n : ℕ). routine_at rs n ≡ Some k) here (indexed 0 rs k r rise e)
-
   -- what a binary search answers is the index of the routine there
   pub searched_routine : (rs : List (Routine V)) (at : ℕ) (r : Result ℕ ℕ) → Rise (λ (r : Routine V). r.address) 0 rs → IsSearchInRange r (length rs) → IsBinarySearchResult (λ (r : Routine V). nat_cmp r.address at) rs r → result_ok r ≡ routine_at rs at
-  searched_routine rs at (Ok k) rise range position = sym (this_routine rs at k rise range position (slice_get rs k) refl)
-  searched_routine rs at (Err i) rise range position = sym (no_routine rs at i (position (not_decreasing (λ (r : Routine V). r.address) rs at rise)))
+  searched_routine rs at (Ok k) rise range position =
+      let found = one_at (λ (r : Routine V). r.address) rs at k range position (slice_get rs k) refl in
+      subst (λ (n : ℕ). Some k ≡ routine_at rs n) found.2 (sym (indexed 0 rs k found.0 rise found.1))
+  searched_routine rs at (Err i) rise range position = sym (not_indexed rs at (none_at (λ (r : Routine V). r.address) rs at i (position (not_decreasing (λ (r : Routine V). r.address) rs at rise))))
 
   -- an index is that of a routine at the address
   pub routine_at_is : (rs : List (Routine V)) (at k : ℕ) → routine_at rs at ≡ Some k → (r : Routine V) × (slice_get rs k ≡ Some r) × (r.address ≡ at)
@@ -158,6 +150,7 @@ module _ {V : Type 0} where
           let found = more j f in
           let same : suc j ≡ k = some_is (suc j) k e in
           (found.0, subst (λ (n : ℕ). slice_get (x ∷ rs) n ≡ Some found.0) same found.1, found.2)
+
       by_test : ((j : ℕ) → routine_at rs at ≡ Some j → (r : Routine V) × (slice_get rs j ≡ Some r) × (r.address ≡ at)) → (b : Bool) → eqb x.address at ≡ b → (if b then Some 0 else option_map (λ j. suc j) (routine_at rs at)) ≡ Some k → (r : Routine V) × (slice_get (x ∷ rs) k ≡ Some r) × (r.address ≡ at)
       by_test more true same e = (x, (let z : 0 ≡ k = some_is 0 k e in subst (λ (n : ℕ). slice_get (x ∷ rs) n ≡ Some x) z refl), eqb-true x.address at same)
       by_test more false other e = by_rest more (routine_at rs at) refl e

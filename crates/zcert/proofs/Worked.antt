@@ -24,6 +24,7 @@ use Rattle.zcert.specs.Building.{Progress, opening, before_globals, before_range
 use Rattle.zcert.specs.Fields.{field_bytes, IsField, field_at, next_at, IsReached, LeadsToPart}
 use Rattle.zcert.specs.Contents.{values_of, stored_instruction, LiesIn}
 use Rattle.zcert.specs.Listed.{listed_at, Finds}
+use Rattle.zcert.specs.Listed as listing
 use Rattle.zcert.specs.Refusal.{number_of}
 use Rattle.zcert.specs.View.{Refuses, RefusesField}
 
@@ -419,6 +420,11 @@ found = (refl, refl, (omega arith, refl), refl)
 not_found : Finds (main_instruction ∷ instruction ∷ []) 0x331 (Some 0) → ⊥
 unfolding main_instruction instruction
 not_found f = absurd cc
+
+-- the first, the second, and none between them
+routine_found : (listing.routine_at routines 0x32E ≡ Some 0) × (listing.routine_at routines 0x340 ≡ Some 1) × (listing.routine_at routines 0x32F ≡ None)
+unfolding routines routine
+routine_found = (refl, refl, refl)
 
 -- ---- refusals
 

@@ -85,7 +85,8 @@ impl<V: Spelled> Certificate<V> {
     /// The index of the routine at an address, if there is one. The search takes as many steps as the count of routines has binary
     /// digits.
     pub fn routine_index(&self, address: u32) -> Option<usize>
-        ensures { result ≡ routine_at self.now.routines address }
+        ensures value { result ≡ routine_at self.now.routines address }
+        ensures keeps { HasSpelling V.format self.now }
     {
         self.routines()
             .binary_search_by_key(&address, |routine| routine.address)

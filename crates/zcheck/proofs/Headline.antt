@@ -1,5 +1,5 @@
 -- A story that is accepted never faults.
-use Rattle.std.proofs.Common.{◌≡◌, ◌⊎◌, inl, inr, ℕ, Bool, true, false, List, [], ◌∷◌, Some, ◌≤◌, length, arith, refl, ◌∙◌, ap, subst}
+use Rattle.std.proofs.Common.{◌≡◌, ◌⊎◌, inl, inr, ℕ, Bool, true, false, List, [], ◌∷◌, Some, ◌≤◌, length, arith, refl, sym, ◌∙◌, ap, subst}
 use Rattle.std.specs.Prelude.{◌==◌, ◌||◌, if◌then◌else◌}
 use Rattle.std.specs.List.{AllZip, list_any}
 use Rattle.std.proofs.lemmas.List.{length-reverse}
@@ -24,6 +24,7 @@ use Rattle.zrule.proofs.Safety.{opening_described}
 use Rattle.zcheck.specs.declared.refusal.StoryRule.TheVariants as rules
 use Rattle.zcheck.specs.Acceptance.{IsRecordOf, IsListingOf, RunsWithoutFault, RunsWithoutChange}
 use Rattle.zcheck.specs.Passes.{Passes}
+use Rattle.zcheck.proofs.Heads.{heads_where, routine_there}
 
 module _ {V : Type 0} (o : SetOperations V) (lawful : AreSound o) (format : Format V) (story : LoadedStory) (c : Certificate V) (spelling : HasSpelling format c) where
   -- as its format says, it states no stack above 64
@@ -38,6 +39,7 @@ module _ {V : Type 0} (o : SetOperations V) (lawful : AreSound o) (format : Form
   pub supports_where : Passes o story c → Supports o (claims_of o c) story
   supports_where passes = record {
     first = passes.story_rules rules.FirstPlace;
+    heads = heads_where o format story c spelling (passes.story_rules rules.RoutineHeads);
     values = passes.story_rules rules.FirstGlobals;
     low = low;
     abbreviations = passes.story_rules rules.Abbreviations;
@@ -62,9 +64,12 @@ module _ {V : Type 0} (o : SetOperations V) (lawful : AreSound o) (format : Form
       by_test rest false h f = ap (λ b. b || list_any (λ s. s.address == p) rs) (same ∙ h) ∙ rest f
 
   pub lists_where : (listing : ListedCode) → IsListingOf story c listing → IsListedIn o (claims_of o c) (scope_only listing)
-  lists_where listing lists p e claimed =
-      let listed = entry_listed (listed_at c.instructions p) e claimed in
-      record_there c.instructions listing.records lists.records p listed.0 listed.1
+  lists_where listing lists = record {
+    places = λ p e claimed.
+        let listed = entry_listed (listed_at c.instructions p) e claimed in
+        record_there c.instructions listing.records lists.records p listed.0 listed.1;
+    routines = λ p k found. subst (λ (xs : List ℕ). list_any (λ a. a == p) xs ≡ true) (sym lists.routines) (routine_there c.routines p k found);
+  }
 
   module _ (loaded : IsLoadedStory story) (passes : Passes o story c) (scope : Scope) (listed : IsListedIn o (claims_of o c) scope) where
     setting : Setting

@@ -116,11 +116,15 @@ module _ (s : Shape) (names : Names) (helps : s.disable_help_subcommand ≡ fals
           let same = stays rest (walked s.rules names w word) q.0 q.1 p e stopped in
           subst (λ (x : Text). bytes_eq x (codes "help") ≡ false) (sym same) (turn_named w word q going turn e)
 
--- of three subcommands, of which the third is `help`, one of the first two is entered
-one_entered : (a : App) (first second third : Shape) → a.subs ≡ first ∷ second ∷ third ∷ [] → third.name ≡ codes "help" → third.aliases ≡ []
-    → (p : Text × List Text) → bytes_eq p.0 (codes "help") ≡ false → (found : Text × List Row) → entered a (Some p) ≡ Some found → (found.0 ≡ first.name) ⊎ (found.0 ≡ second.name)
-one_entered a first second third subs help alone p other found e =
-    go (answers_to p.0 (label_of first)) (answers_to p.0 (label_of second)) (answers_to p.0 (label_of third)) refl (rw subs at e)
+-- a name is one of three
+abbrev pub IsOneOf : Text → Text → Text → Text → Type 0
+IsOneOf name first second third = (name ≡ first) ⊎ ((name ≡ second) ⊎ (name ≡ third))
+
+-- of four subcommands, of which the last is `help`, one of the first three is entered
+one_entered : (a : App) (first second third last : Shape) → a.subs ≡ first ∷ second ∷ third ∷ last ∷ [] → last.name ≡ codes "help" → last.aliases ≡ []
+    → (p : Text × List Text) → bytes_eq p.0 (codes "help") ≡ false → (found : Text × List Row) → entered a (Some p) ≡ Some found → IsOneOf found.0 first.name second.name third.name
+one_entered a first second third last subs help alone p other found e =
+    go (answers_to p.0 (label_of first)) (answers_to p.0 (label_of second)) (answers_to p.0 (label_of third)) (answers_to p.0 (label_of last)) refl (rw subs at e)
   where
     contradicts : (b : Bool) → b || false ≡ true → bytes_eq (codes "help") p.0 ≡ b → ⊥
     contradicts false e is = cc
@@ -129,17 +133,22 @@ one_entered a first second third subs help alone p other found e =
         let here : bytes_eq p.0 (codes "help") ≡ true = (bytes_eq-Decides p.0 (codes "help")).1 (sym same) in
         cc
 
-    not_third : answers_to p.0 (label_of third) ≡ true → ⊥
-    not_third h =
+    not_last : answers_to p.0 (label_of last) ≡ true → ⊥
+    not_last h =
         let is : bytes_eq (codes "help") p.0 || false ≡ true = subst (λ (x : Text × List Text). answers_to p.0 x ≡ true) (ap₂ (λ (n : Text) (xs : List Text). (n, xs)) help alone) h in
         contradicts (bytes_eq (codes "help") p.0) is refl
 
-    go : (b c d : Bool) → answers_to p.0 (label_of third) ≡ d
-        → option_map (λ s. rows_at s p.1) (if b then Some first else (if c then Some second else (if d then Some third else None))) ≡ Some found → (found.0 ≡ first.name) ⊎ (found.0 ≡ second.name)
-    go true c d is e = inl (sym (ap (λ (o : Option (Text × List Row)). unwrap_or (option_map (λ q. q.0) o) []) e))
-    go false true d is e = inr (sym (ap (λ (o : Option (Text × List Row)). unwrap_or (option_map (λ q. q.0) o) []) e))
-    go false false true is e = absurd (not_third is)
-    go false false false is e = cc
+    name_of : Option (Text × List Row) → Text
+    name_of o = unwrap_or (option_map (λ q. q.0) o) []
+
+    go : (b c d l : Bool) → answers_to p.0 (label_of last) ≡ l
+        → option_map (λ s. rows_at s p.1) (if b then Some first else (if c then Some second else (if d then Some third else (if l then Some last else None)))) ≡ Some found
+        → IsOneOf found.0 first.name second.name third.name
+    go true c d l is e = inl (sym (ap name_of e))
+    go false true d l is e = inr (inl (sym (ap name_of e)))
+    go false false true l is e = inr (inr (sym (ap name_of e)))
+    go false false false true is e = absurd (not_last is)
+    go false false false false is e = cc
 
 -- of five lists of faults in turn, the first and the last
 ends_of : (first second third fourth last : Kinds) → or_else first (or_else second (or_else third (or_else fourth last))) ≡ [] → (first ≡ []) × (last ≡ [])
@@ -159,31 +168,27 @@ required_there s rows false required none =
     go true wants_argument e = cc
     go false wants_argument e = cc
 
--- a subcommand of one of two names is entered
-abbrev pub EntersOne : Option (Text × List Row) → Text → Text → Type 0
-EntersOne entered first second = ((rows : List Row) × (entered ≡ Some (first, rows))) ⊎ ((rows : List Row) × (entered ≡ Some (second, rows)))
+-- a subcommand of one of three names is entered
+abbrev pub EntersOne : Option (Text × List Row) → Text → Text → Text → Type 0
+EntersOne entered first second third = (found : Text × List Row) × (entered ≡ Some found) × IsOneOf found.0 first second third
 
--- where nothing fails, it is one of the first two of three subcommands, if the third is `help` and one has to be there
-module _ (a : App) (first second third : Shape) (subs : a.subs ≡ first ∷ second ∷ third ∷ []) (help : third.name ≡ codes "help") (alone : third.aliases ≡ [])
+-- where nothing fails, it is one of the first three of four subcommands, if the last is `help` and one has to be there
+module _ (a : App) (first second third last : Shape) (subs : a.subs ≡ first ∷ second ∷ third ∷ last ∷ []) (help : last.name ≡ codes "help") (alone : last.aliases ≡ [])
     (helps : a.top.disable_help_subcommand ≡ false) (required : a.top.subcommand_required ≡ true) (words : List Text) where
   one_found : (stop : Option (Text × List Text)) → (walk a.top.rules (names_of a) nothing_held words).stopped ≡ stop → walk_fault a.top (names_of a) (walk_from nothing_held) words ≡ []
-      → is_some (entered a stop) ≡ true → EntersOne (entered a stop) first.name second.name
+      → is_some (entered a stop) ≡ true → EntersOne (entered a stop) first.name second.name third.name
   one_found None at none there = cc
   one_found (Some p) at none there = go (entered a (Some p)) refl there
     where
       other : bytes_eq p.0 (codes "help") ≡ false
       other = walk_named a.top (names_of a) helps words (walk_from nothing_held) p refl none at
 
-      named_so : (found : Text × List Row) → entered a (Some p) ≡ Some found → (found.0 ≡ first.name) ⊎ (found.0 ≡ second.name) → EntersOne (entered a (Some p)) first.name second.name
-      named_so found e (inl name) = inl (found.1, e ∙ ap (λ (n : Text). Some (n, found.1)) name)
-      named_so found e (inr name) = inr (found.1, e ∙ ap (λ (n : Text). Some (n, found.1)) name)
-
-      go : (o : Option (Text × List Row)) → entered a (Some p) ≡ o → is_some o ≡ true → EntersOne (entered a (Some p)) first.name second.name
+      go : (o : Option (Text × List Row)) → entered a (Some p) ≡ o → is_some o ≡ true → EntersOne (entered a (Some p)) first.name second.name third.name
       go None e there = cc
-      go (Some found) e there = named_so found e (one_entered a first second third subs help alone p other found e)
+      go (Some found) e there = (found, e, one_entered a first second third last subs help alone p other found e)
 
-  one_of_three : built_fault a nothing_held words ≡ [] → EntersOne (entered a (walk a.top.rules (names_of a) nothing_held words).stopped) first.name second.name
-  one_of_three none =
+  one_of_four : built_fault a nothing_held words ≡ [] → EntersOne (entered a (walk a.top.rules (names_of a) nothing_held words).stopped) first.name second.name third.name
+  one_of_four none =
       let end = walk a.top.rules (names_of a) nothing_held words in
       let there = is_some (entered a end.stopped) in
       let settled_rows = (settled a.top.rules end.held).rows in
@@ -192,21 +197,26 @@ module _ (a : App) (first second third : Shape) (subs : a.subs ≡ first ∷ sec
       (check_fault a.top (finished a.top.rules end.held) there) none in
       one_found end.stopped refl ends.0 (required_there a.top (finished a.top.rules end.held) there required ends.1)
 
--- where clap makes matches, they are those of `check` or of `play`
-pub command_entered : (words : List Text) → fault_of zpc_app words ≡ [] → EntersOne (subcommand_of zpc_app words) (codes "check") (codes "play")
-command_entered words none = one_of_three (built zpc_app) _ _ _ refl refl refl refl refl words none
+-- where clap makes matches, they are those of `list`, of `check` or of `play`
+pub command_entered : (words : List Text) → fault_of zpc_app words ≡ [] → EntersOne (subcommand_of zpc_app words) (codes "list") (codes "check") (codes "play")
+command_entered words none = one_of_four (built zpc_app) _ _ _ _ refl refl refl refl refl words none
 
 -- what the program's clap command answers
 module _ (program : Command) (m : ArgMatches) (words : List Text) (is : app_of program ≡ zpc_app) (free : is_simple_and_free (app_of program) ≡ true → fault_of (app_of program) words ≡ []) where
   pub no_fault : fault_of zpc_app words ≡ []
   no_fault = subst (λ (a : App). fault_of a words ≡ []) is (free (ap is_simple_and_free is))
 
-  pub command_named : HasMatchesOf (app_of program) words m → (subcommand_name_of m ≡ Some (codes "check")) ⊎ (subcommand_name_of m ≡ Some (codes "play"))
+  pub command_named : HasMatchesOf (app_of program) words m → (subcommand_name_of m ≡ Some (codes "list")) ⊎ ((subcommand_name_of m ≡ Some (codes "check")) ⊎ (subcommand_name_of m ≡ Some (codes "play")))
   command_named matches = go (command_entered words no_fault)
     where
       rows : (subcommand_rows_of m) ≡ subcommand_of zpc_app words
       rows = (matches (ap is_simple is)).1 ∙ ap (λ (a : App). subcommand_of a words) is
 
-      go : EntersOne (subcommand_of zpc_app words) (codes "check") (codes "play") → (subcommand_name_of m ≡ Some (codes "check")) ⊎ (subcommand_name_of m ≡ Some (codes "play"))
-      go (inl (found, e)) = inl (sym (name_first m) ∙ ap (option_map (λ (p : Text × List Row). p.0)) (rows ∙ e))
-      go (inr (found, e)) = inr (sym (name_first m) ∙ ap (option_map (λ (p : Text × List Row). p.0)) (rows ∙ e))
+      named_so : (found : Text × List Row) → subcommand_of zpc_app words ≡ Some found → (name : Text) → found.0 ≡ name → subcommand_name_of m ≡ Some name
+      named_so found e name is = sym (name_first m) ∙ ap (option_map (λ (p : Text × List Row). p.0)) (rows ∙ e) ∙ ap (λ (n : Text). Some n) is
+
+      go : EntersOne (subcommand_of zpc_app words) (codes "list") (codes "check") (codes "play")
+          → (subcommand_name_of m ≡ Some (codes "list")) ⊎ ((subcommand_name_of m ≡ Some (codes "check")) ⊎ (subcommand_name_of m ≡ Some (codes "play")))
+      go (found, e, inl name) = inl (named_so found e _ name)
+      go (found, e, inr (inl name)) = inr (inl (named_so found e _ name))
+      go (found, e, inr (inr name)) = inr (inr (named_so found e _ name))

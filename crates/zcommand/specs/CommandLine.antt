@@ -31,6 +31,10 @@ certificate_rule required = record (new_rule (codes "CERT")) { required = requir
 abbrev pub files_app : Text → Bool → App
 files_app name required = with_rule (with_rule (new_app name) story_rule) (certificate_rule required)
 
+-- `list STORY`
+abbrev pub list_app : App
+list_app = with_rule (new_app (codes "list")) story_rule
+
 -- `check STORY CERT`
 abbrev pub check_app : App
 check_app = files_app (codes "check") true
@@ -46,7 +50,7 @@ bare_app =
 
 -- the program
 abbrev pub zpc_app : App
-zpc_app = with_subcommand (with_subcommand bare_app check_app.top) play_app.top
+zpc_app = with_subcommand (with_subcommand (with_subcommand bare_app list_app.top) check_app.top) play_app.top
 
 -- the number that a text says in decimal digits, with or without a plus before them, where it is a u32; else 0
 abbrev pub number_in : Text → ℕ
@@ -69,11 +73,13 @@ certificate_of rows = first_of (codes "CERT") rows
 
 -- what is asked for, by the names of files
 pub data Request : Type 0 where
+  ListStory : (story : Text) → Request
   Check : (story certificate : Text) → Request
   Play : (story : Text) (certificate : Option Text) (budget : ℕ) → Request
 
 -- the request is the one that clap's matches name, with the values among them
 abbrev pub Asks : Text × List Row → Request → Type 0
+Asks matches (ListStory story) = (matches.0 ≡ codes "list") × (story ≡ story_of matches.1)
 Asks matches (Check story certificate) =
     (matches.0 ≡ codes "check") × (story ≡ story_of matches.1) × (certificate ≡ unwrap_or (certificate_of matches.1) [])
 Asks matches (Play story certificate budget) =
@@ -81,6 +87,7 @@ Asks matches (Play story certificate budget) =
 
 -- what a command asks for
 abbrev pub request_of : Command → Request
+request_of (commands.List story) = ListStory story.now
 request_of (commands.Check story certificate) = Check story.now certificate.now
 request_of (commands.Play story certificate budget) = Play story.now (option_map (λ c. c.now) certificate) budget
 

@@ -4,7 +4,7 @@ ghost use Rattle.std.specs.Prelude.{◌≡◌, ◌⊎◌, IfOk, IsSomeAnd, Some,
 ghost use Rattle.clap.specs.Walk.{texts};
 ghost use Rattle.clap.specs.Words.{FailsBy, app_of, fault_of, found_of, rows_of, rule_of, subcommand_name_of, subcommand_of, subcommand_rows_of};
 ghost use Rattle.clap.specs.declared.builder.command.Command.TheViews.{out-Command as fields_of};
-ghost use Rattle.zcommand.specs.CommandLine.{IsReadFrom, bare_app, budget_rule, certificate_rule, check_app, files_app, play_app, story_rule, zpc_app};
+ghost use Rattle.zcommand.specs.CommandLine.{IsReadFrom, bare_app, budget_rule, certificate_rule, check_app, files_app, list_app, play_app, story_rule, zpc_app};
 
 use clap::{Arg, ArgMatches, Error, value_parser};
 use std::alloc::{AllocError, Global};
@@ -18,6 +18,11 @@ const BUDGET: &str = "1000000000";
 /// What the words ask for.
 #[derive(Clone, Copy, Debug, PartialEq, Eq)]
 pub enum Command<'a> {
+    /// Lists the instructions of a story.
+    List {
+        /// The name of the story's file.
+        story: &'a str,
+    },
     /// Checks a certificate.
     Check {
         /// The name of the story's file.
@@ -47,9 +52,12 @@ pub fn read_words<'a>(alloc: Global, words: &'a [&'a str]) -> Result<Command<'a>
 
 /// The command that the matches name, with its values.
 fn command_of<'a>(matches: &ArgMatches<'a>) -> Command<'a>
-    requires { (subcommand_name_of matches.now ≡ Some (codes "check")) ⊎ (subcommand_name_of matches.now ≡ Some (codes "play")) }
+    requires { (subcommand_name_of matches.now ≡ Some (codes "list")) ⊎ ((subcommand_name_of matches.now ≡ Some (codes "check")) ⊎ (subcommand_name_of matches.now ≡ Some (codes "play"))) }
     ensures { IsSomeAnd (subcommand_rows_of matches.now) (λ matches. IsReadFrom matches result) }
 {
+    if let Some(list) = matches.subcommand_matches("list") {
+        return list_of(list);
+    }
     if let Some(check) = matches.subcommand_matches("check") {
         return check_of(check);
     }
@@ -57,6 +65,14 @@ fn command_of<'a>(matches: &ArgMatches<'a>) -> Command<'a>
         Some(play) => play_of(play),
         None => unreachable!(),
     }
+}
+
+/// `list`, with the value that is among its matches.
+fn list_of<'a>(matches: &ArgMatches<'a>) -> Command<'a>
+    ensures { IsReadFrom (codes "list", rows_of (found_of matches.now)) result }
+{
+    let story = matches.get_str("STORY").unwrap_or("");
+    Command::List { story }
 }
 
 /// `check`, with the values that are among its matches.
@@ -86,6 +102,7 @@ fn program<'a>(alloc: Global) -> Result<clap::Command<'a>, AllocError>
     ensures { IfOk result (λ program. app_of program ≡ zpc_app) }
 {
     let program = bare_program(alloc)?;
+    let program = program.subcommand(list(alloc)?)?;
     let program = program.subcommand(check(alloc)?)?;
     program.subcommand(play(alloc)?)
 }
@@ -95,11 +112,19 @@ fn bare_program<'a>(alloc: Global) -> Result<clap::Command<'a>, AllocError>
     ensures app { IfOk result (λ program. app_of program ≡ bare_app) }
 {
     clap::Command::new(alloc, "zpc")
-        .about("Checks and plays Z-machine version 3 stories")
+        .about("Lists, checks and plays Z-machine version 3 stories")
         .version(VERSION)
         .no_binary_name(true)
         .subcommand_required(true)
         .bin_name("zpc")
+}
+
+fn list<'a>(alloc: Global) -> Result<clap::Command<'a>, AllocError>
+    ensures app { IfOk result (λ list. app_of list ≡ list_app) }
+    ensures local { IfOk result (λ list. (fields_of list).has_globals ≡ false) }
+{
+    let list = clap::Command::new(alloc, "list").about("Lists the instructions of a story");
+    list.arg(story(alloc))
 }
 
 fn check<'a>(alloc: Global) -> Result<clap::Command<'a>, AllocError>

@@ -32,7 +32,7 @@ pub trait Domain: Copy + Drop {
     fn member(self) -> u16
         ensures { In operations self result };
 
-    /// The least word of the set from one on.
+    /// The least word of the set from one on, words taken without sign.
     fn least_from(self, word: u16) -> Option<u16>
         ensures some { IfSome result (λ x. In operations self x × (word ≤ x) × ((y : ℕ) → In operations self y → word ≤ y → x ≤ y)) }
         ensures none { IfNone result ((y : ℕ) → In operations self y → word ≤ y → ⊥) };

@@ -1,4 +1,4 @@
-//! The program `zpc`: checks and plays Z-machine version 3 stories.
+//! The program `zpc`: lists, checks and plays Z-machine version 3 stories.
 #![tactic(auto)]
 
 ghost use Rattle.std.specs.Prelude.{◌≡◌, IfOk, map, string_bytes};

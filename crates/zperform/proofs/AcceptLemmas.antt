@@ -4,7 +4,7 @@ use Rattle.std.specs.Prelude.{IfSome, IfOk, IfErr, IsErr, IsErrAnd, Result, Ok, 
 use Rattle.zstory.specs.LoadedStory.{LoadedStory}
 use Rattle.zperform.specs.declared.outcome.Failure.TheVariants.{File, Read, Write, Memory}
 use Rattle.zperform.specs.declared.outcome.Problem.{Problem}
-use Rattle.zperform.specs.declared.outcome.Problem.TheVariants.{Refused, Unreadable, BreaksStory, BreaksInstruction, Failed}
+use Rattle.zperform.specs.declared.outcome.Problem.TheVariants.{Refused, Unreadable, BreaksStory, BreaksInstruction, Unlisted, Failed}
 use Rattle.zstory.specs.Refusal.{HasNone, IsCause}
 use Rattle.zstory.specs.declared.load_error.LoadError.TheVariants.{TooShort}
 use Rattle.zdomain.specs.declared.interval.Interval.{Interval}
@@ -80,6 +80,7 @@ module _ (known : Option (List ℕ)) (taken : List ℕ) (part : (file : List ℕ
   no_certificate (Refused error) h = absurd h
   no_certificate (BreaksStory rule) h = absurd h
   no_certificate (BreaksInstruction address rule) h = absurd h
+  no_certificate (Unlisted error) h = absurd h
   no_certificate (Failed File) h = absurd h
   no_certificate (Failed Read) h = absurd h
   no_certificate (Failed Write) h = absurd h
@@ -112,6 +113,7 @@ module _ (known : Option (List ℕ)) (taken : List ℕ) (part : (file : List ℕ
   no_story (Unreadable error) h = absurd h
   no_story (BreaksStory rule) h = absurd h
   no_story (BreaksInstruction address rule) h = absurd h
+  no_story (Unlisted error) h = absurd h
   no_story (Failed File) h = absurd h
   no_story (Failed Read) h = absurd h
   no_story (Failed Write) h = absurd h

@@ -17,9 +17,9 @@ use Rattle.zplayer.specs.Playing.{PlaysSome, end_of}
 use Rattle.zplayer.specs.Rendering.{render}
 use Rattle.zperform.specs.declared.outcome.Failure.TheVariants.{File, Read, Write, Memory}
 use Rattle.zperform.specs.declared.outcome.Problem.{Problem}
-use Rattle.zperform.specs.declared.outcome.Problem.TheVariants.{Refused, Unreadable, BreaksStory, BreaksInstruction, Failed}
+use Rattle.zperform.specs.declared.outcome.Problem.TheVariants.{Refused, Unreadable, BreaksStory, BreaksInstruction, Unlisted, Failed}
 use Rattle.zperform.specs.declared.outcome.Outcome.{Outcome}
-use Rattle.zperform.specs.declared.outcome.Outcome.TheVariants.{Accepted, Played, Stopped}
+use Rattle.zperform.specs.declared.outcome.Outcome.TheVariants.{Listed, Accepted, Played, Stopped}
 use Rattle.zperform.specs.Playing.{ComesTo, Holds, IsBegun, IsCutShort, IsPlayed, IsRefused, IsUnloaded, Reads, ending_of}
 use Rattle.zperform.specs.Report.{outcome_of, problem_of_load, problem_of_play}
 use Rattle.zperform.specs.Contents.{HasBytes}
@@ -35,10 +35,12 @@ module _ (known : Option (List ℕ)) (taken : List ℕ) (budget : ℕ) (before n
   of_part (Played end) h =
       along (λ file. IsPlayed file budget end before now) (λ file e p. record { story = p.story; holds = holds_whole 131073 taken file (omega arith) e p.story p.holds; ended = p.ended; written = p.written }) h
   of_part (Stopped (Refused error)) (h, same) = (along (λ file. IsRefused file error) (λ file e p. refused_whole 131073 taken file (omega arith) e error p) h, same)
+  of_part Listed h = h
   of_part Accepted h = h
   of_part (Stopped (Unreadable error)) h = h
   of_part (Stopped (BreaksStory rule)) h = h
   of_part (Stopped (BreaksInstruction address rule)) h = h
+  of_part (Stopped (Unlisted error)) h = h
   of_part (Stopped (Failed File)) h = h
   of_part (Stopped (Failed Read)) h = h
   of_part (Stopped (Failed Write)) h =
@@ -73,6 +75,7 @@ unloaded_comes file budget before (Refused error) h = ((file, refl, h), refl)
 unloaded_comes file budget before (Unreadable error) h = absurd h
 unloaded_comes file budget before (BreaksStory rule) h = absurd h
 unloaded_comes file budget before (BreaksInstruction address rule) h = absurd h
+unloaded_comes file budget before (Unlisted error) h = absurd h
 unloaded_comes file budget before (Failed File) h = absurd h
 unloaded_comes file budget before (Failed Read) h = absurd h
 unloaded_comes file budget before (Failed Write) h = absurd h
@@ -83,6 +86,7 @@ unloaded_blames file (Refused error) h = (λ e. cc, λ e. cc)
 unloaded_blames file (Unreadable error) h = absurd h
 unloaded_blames file (BreaksStory rule) h = absurd h
 unloaded_blames file (BreaksInstruction address rule) h = absurd h
+unloaded_blames file (Unlisted error) h = absurd h
 unloaded_blames file (Failed File) h = absurd h
 unloaded_blames file (Failed Read) h = absurd h
 unloaded_blames file (Failed Write) h = absurd h

@@ -16,7 +16,7 @@ use Rattle.zplayer.specs.Playing.{PlaysSome, end_of}
 use Rattle.zplayer.specs.Rendering.{render}
 use Rattle.zperform.specs.declared.outcome.Failure.TheVariants.{File, Read, Write, Memory}
 use Rattle.zperform.specs.declared.outcome.Problem.{Problem}
-use Rattle.zperform.specs.declared.outcome.Problem.TheVariants.{Refused, Unreadable, BreaksStory, BreaksInstruction, Failed}
+use Rattle.zperform.specs.declared.outcome.Problem.TheVariants.{Refused, Unreadable, BreaksStory, BreaksInstruction, Unlisted, Failed}
 use Rattle.zperform.specs.declared.outcome.Outcome.TheVariants.{Played, Stopped}
 use Rattle.zperform.specs.Accepting.{IsAccepted, IsUnaccepted, PlayComesTo, ending_with}
 use Rattle.zperform.specs.Report.{outcome_of, problem_of_play}
@@ -35,6 +35,7 @@ module _ (story certificate : Option (List ℕ)) (budget : ℕ) (before : Option
   unaccepted (Unreadable error) h = (h, refl)
   unaccepted (BreaksStory rule) h = (h, refl)
   unaccepted (BreaksInstruction address rule) h = (h, refl)
+  unaccepted (Unlisted error) h = absurd h
   unaccepted (Failed File) h = (h, refl)
   unaccepted (Failed Memory) h = inl (refl, h)
   unaccepted (Failed Read) h = absurd h
@@ -46,6 +47,7 @@ module _ (story certificate : Option (List ℕ)) (budget : ℕ) (before : Option
   unblamed (Unreadable error) h = λ e. cc
   unblamed (BreaksStory rule) h = λ e. cc
   unblamed (BreaksInstruction address rule) h = λ e. cc
+  unblamed (Unlisted error) h = absurd h
   unblamed (Failed File) h = λ e. cc
   unblamed (Failed Memory) h = λ e. cc
   unblamed (Failed Read) h = absurd h

@@ -18,23 +18,29 @@ use Rattle.zplayer.specs.declared.end.End.TheVariants as ends
 use Rattle.zplayer.specs.declared.end.PlayError.TheVariants as errors
 use Rattle.zperform.specs.declared.outcome.Failure.{Failure}
 use Rattle.zperform.specs.declared.outcome.Failure.TheVariants.{File, Read, Write, Memory}
-use Rattle.zperform.specs.declared.outcome.Problem.TheVariants.{Refused, Unreadable, BreaksStory, BreaksInstruction, Failed}
-use Rattle.zperform.specs.declared.outcome.Outcome.TheVariants.{Accepted, Played, Stopped}
-use Rattle.std.specs.Prelude.{ℤ, negsuc, Option, Some}
+use Rattle.zperform.specs.declared.outcome.Problem.TheVariants.{Refused, Unreadable, BreaksStory, BreaksInstruction, Unlisted, Failed}
+use Rattle.zperform.specs.declared.outcome.Outcome.TheVariants.{Listed, Accepted, Played, Stopped}
+use Rattle.std.specs.Prelude.{ℤ, negsuc, Option, None, Some}
+use Rattle.zcode.specs.declared.error.DecodeError.TheVariants.{NoSuchOpcode, Truncated}
+use Rattle.zcode.specs.declared.opcode.Opcode.{Opcode}
+use Rattle.zcode.specs.declared.opcode.Opcode.TheVariants as opcodes
+use Rattle.zlist.specs.declared.list_error.ListError.TheVariants as listings
+use Rattle.zlist.specs.declared.record.Record.{Record}
+use Rattle.zperform.specs.Listing.{listing_text}
 use Rattle.zperform.specs.Contents.{GivesPart, IsBeginning}
 use Rattle.zperform.specs.Accepting.{CheckComesTo, PlayComesTo}
 use Rattle.zperform.specs.Performing.{Breaks, Seen, Says, Takes, is_request}
 use Rattle.zperform.specs.Playing.{ComesTo, Holds, IsRefused}
 use Rattle.zperform.specs.declared.accepting.TheConstants.{CERTIFICATE_LIMIT, STORY_LIMIT}
-use Rattle.zperform.specs.Report.{line_of, place_text, problem_of_checking, problem_of_load, problem_of_play, problem_of_reading, status_of, text_of}
+use Rattle.zperform.specs.Report.{line_of, place_text, problem_of_checking, problem_of_listing, problem_of_load, problem_of_play, problem_of_reading, status_of, text_of}
 
 -- ---- what is said, and the exit statuses
 
 -- what was done
 done :
-    (text_of Accepted ≡ []) × (text_of (Played ends.Quit) ≡ []) × (text_of (Played ends.NoInput) ≡ codes "end: no input") × (text_of (Played ends.Budget) ≡ codes "end: budget")
+    (text_of Listed ≡ []) × (text_of Accepted ≡ []) × (text_of (Played ends.Quit) ≡ []) × (text_of (Played ends.NoInput) ≡ codes "end: no input") × (text_of (Played ends.Budget) ≡ codes "end: budget")
     × (text_of (Played ends.FrameLimit) ≡ codes "end: frame limit")
-done = (refl, refl, refl, refl, refl)
+done = (refl, refl, refl, refl, refl, refl)
 
 -- the story's fault, at each kind of place
 faulty :
@@ -64,6 +70,24 @@ refused :
 unfolding digits
 refused = (refl, refl, refl, refl, refl, refl, refl, refl, refl)
 
+-- what is wrong with a listing, and where
+unlisted :
+    (text_of (Stopped (Unlisted (listings.Decode (pos 806) NoSuchOpcode))) ≡ codes "refused: U1 at 00326") × (text_of (Stopped (Unlisted (listings.Decode (negsuc 9) Truncated))) ≡ codes "refused: U1 at -10")
+    × (text_of (Stopped (Unlisted (listings.TwoRoutines 131071))) ≡ codes "refused: U2 at 1ffff") × (text_of (Stopped (Unlisted (listings.ComputedJump 804))) ≡ codes "refused: U3 at 00324")
+unfolding digits
+unlisted = (refl, refl, refl, refl)
+
+-- a line for each instruction, its routine in decimal
+listed_at : ℕ → ℕ → Opcode → Record
+listed_at address routine opcode = record { address = address; routine = routine; instruction = record { opcode = opcode; operands = []; store = None; branch = None; size = 1 } }
+
+listing_lines :
+    (listing_text [] ≡ [])
+    × (listing_text (listed_at 804 0 opcodes.Print ∷ listed_at 809 0 opcodes.Quit ∷ []) ≡ codes "00324 0 print" ++ 10 ∷ codes "00329 0 quit" ++ 10 ∷ [])
+    × (listing_text (listed_at 131071 65535 opcodes.GetNextProp ∷ []) ≡ codes "1ffff 65535 get_next_prop" ++ 10 ∷ [])
+unfolding digits listed_at
+listing_lines = (refl, refl, refl)
+
 failed :
     (text_of (Stopped (Failed File)) ≡ codes "failed: file") × (text_of (Stopped (Failed Read)) ≡ codes "failed: read") × (text_of (Stopped (Failed Write)) ≡ codes "failed: write")
     × (text_of (Stopped (Failed Memory)) ≡ codes "failed: memory")
@@ -73,13 +97,13 @@ failed = (refl, refl, refl, refl)
 lines : (line_of [] ≡ []) × (line_of (codes "end: budget") ≡ codes "end: budget" ++ 10 ∷ []) × (line_of (text_of (Stopped (Failed Write))) ≡ codes "failed: write" ++ 10 ∷ [])
 lines = (refl, refl, refl)
 
-well : (status_of Accepted ≡ 0) × (status_of (Played ends.Quit) ≡ 0) × (status_of (Played ends.NoInput) ≡ 0) × (status_of (Played ends.Budget) ≡ 0) × (status_of (Played ends.FrameLimit) ≡ 0)
-well = (refl, refl, refl, refl, refl)
+well : (status_of Listed ≡ 0) × (status_of Accepted ≡ 0) × (status_of (Played ends.Quit) ≡ 0) × (status_of (Played ends.NoInput) ≡ 0) × (status_of (Played ends.Budget) ≡ 0) × (status_of (Played ends.FrameLimit) ≡ 0)
+well = (refl, refl, refl, refl, refl, refl)
 
 refusals_are_1 :
     (status_of (Stopped (Refused loads.TooShort)) ≡ 1) × (status_of (Stopped (Unreadable readings.Truncated)) ≡ 1) × (status_of (Stopped (BreaksStory story_rules.Tables)) ≡ 1)
-    × (status_of (Stopped (BreaksInstruction 804 rules.Successor)) ≡ 1)
-refusals_are_1 = (refl, refl, refl, refl)
+    × (status_of (Stopped (BreaksInstruction 804 rules.Successor)) ≡ 1) × (status_of (Stopped (Unlisted (listings.ComputedJump 804))) ≡ 1)
+refusals_are_1 = (refl, refl, refl, refl, refl)
 
 faults_are_3 : (fault : Fault) (place : ℤ) → status_of (Played (ends.Fault fault place)) ≡ 3
 faults_are_3 fault place = refl
@@ -145,9 +169,10 @@ kinds = (refl, refl, refl)
 problems :
     (problem_of_load loads.OutOfMemory ≡ Failed Memory) × (problem_of_load loads.TooShort ≡ Refused loads.TooShort)
     × (problem_of_reading readings.OutOfMemory ≡ Failed Memory) × (problem_of_reading readings.Magic ≡ Unreadable readings.Magic)
+    × (problem_of_listing listings.OutOfMemory ≡ Failed Memory) × (problem_of_listing (listings.TwoRoutines 804) ≡ Unlisted (listings.TwoRoutines 804))
     × (problem_of_checking refusals.OutOfMemory ≡ Failed Memory) × (problem_of_checking (refusals.Story story_rules.Tables) ≡ BreaksStory story_rules.Tables)
     × (problem_of_play errors.Read ≡ Failed Read)
-problems = (refl, refl, refl, refl, refl, refl, refl)
+problems = (refl, refl, refl, refl, refl, refl, refl, refl, refl)
 
 -- of a file of three bytes a buffer with room for three gets the last two from place 1 on, and none from its end on
 given : GivesPart (10 ∷ 20 ∷ 30 ∷ []) 1 2 (20 ∷ 30 ∷ 99 ∷ []) × GivesPart (10 ∷ 20 ∷ 30 ∷ []) 3 0 (99 ∷ [])

@@ -22,9 +22,9 @@ use Rattle.zcheck.specs.declared.refusal.Refusal.TheVariants.{Story, Instruction
 use Rattle.zperform.specs.Contents.{HasBytes}
 use Rattle.zperform.specs.declared.outcome.Failure.TheVariants.{File, Read, Write, Memory}
 use Rattle.zperform.specs.declared.outcome.Problem.{Problem}
-use Rattle.zperform.specs.declared.outcome.Problem.TheVariants.{Refused, Unreadable, BreaksStory, BreaksInstruction, Failed}
+use Rattle.zperform.specs.declared.outcome.Problem.TheVariants.{Refused, Unreadable, BreaksStory, BreaksInstruction, Unlisted, Failed}
 use Rattle.zperform.specs.declared.outcome.Outcome.{Outcome}
-use Rattle.zperform.specs.declared.outcome.Outcome.TheVariants.{Accepted, Played, Stopped}
+use Rattle.zperform.specs.declared.outcome.Outcome.TheVariants.{Listed, Accepted, Played, Stopped}
 use Rattle.zperform.specs.Playing.{Holds, IsRefused, Reads}
 
 -- the story that a file holds
@@ -79,6 +79,7 @@ IsUnaccepted story_known certificate_known (Unreadable error) =
 IsUnaccepted story_known certificate_known (BreaksStory rule) = Breaks story_known certificate_known (λ story c. IsCause interval_operations story c (Story rule))
 IsUnaccepted story_known certificate_known (BreaksInstruction address rule) =
     Breaks story_known certificate_known (λ story c. IsCause interval_operations story c (Instruction address rule))
+IsUnaccepted story_known certificate_known (Unlisted error) = ⊥
 IsUnaccepted story_known certificate_known (Failed File) = ⊤
 IsUnaccepted story_known certificate_known (Failed Memory) = HasBytes story_known
 IsUnaccepted story_known certificate_known (Failed Read) = ⊥
@@ -92,6 +93,7 @@ accepted_line = codes "accepted" ++ 10 ∷ []
 abbrev pub CheckComesTo : Option (List ℕ) → Option (List ℕ) → Option (List ℕ) → Option (List ℕ) → Outcome → Type 0
 CheckComesTo story_known certificate_known before now Accepted =
     ((a : Acceptance) × IsAccepted story_known certificate_known a) × Appends before now accepted_line
+CheckComesTo story_known certificate_known before now Listed = ⊥
 CheckComesTo story_known certificate_known before now (Played end) = ⊥
 CheckComesTo story_known certificate_known before now (Stopped (Failed Write)) =
     ((a : Acceptance) × IsAccepted story_known certificate_known a) × AppendsBeginning before now accepted_line
@@ -115,6 +117,7 @@ pub record IsCutShortBy (a : Acceptance) (budget : ℕ) (before now : Option (Li
 
 -- What playing by a certificate comes to.
 abbrev pub PlayComesTo : Option (List ℕ) → Option (List ℕ) → ℕ → Option (List ℕ) → Option (List ℕ) → Outcome → Type 0
+PlayComesTo story_known certificate_known budget before now Listed = ⊥
 PlayComesTo story_known certificate_known budget before now Accepted = ⊥
 PlayComesTo story_known certificate_known budget before now (Played end) =
     (a : Acceptance) × IsAccepted story_known certificate_known a × IsPlayedBy a budget end before now

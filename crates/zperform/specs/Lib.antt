@@ -2,4 +2,5 @@ pub mod Contents
 pub mod Report
 pub mod Playing
 pub mod Accepting
+pub mod Listing
 pub mod Performing

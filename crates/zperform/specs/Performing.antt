@@ -6,9 +6,10 @@ use Rattle.clap.specs.Words.{Row, Text, subcommand_of}
 use Rattle.clap.specs.declared.error.kind.ErrorKind.{ErrorKind}
 use Rattle.clap.specs.declared.error.kind.ErrorKind.TheVariants.{DisplayHelp, DisplayVersion}
 use Rattle.zfault.specs.Devices.{AppendsBeginning, RisesByOne}
-use Rattle.zcommand.specs.CommandLine.{Asks, Request, Check, Play, zpc_app}
+use Rattle.zcommand.specs.CommandLine.{Asks, Request, ListStory, Check, Play, zpc_app}
 use Rattle.zperform.specs.Playing.{ComesTo}
 use Rattle.zperform.specs.Accepting.{CheckComesTo, PlayComesTo}
+use Rattle.zperform.specs.Listing.{ListComesTo}
 use Rattle.zperform.specs.Report.{line_of, status_of, text_of}
 use Rattle.zperform.specs.declared.outcome.Failure.TheVariants.{File, Write, Memory}
 use Rattle.zperform.specs.declared.outcome.Problem.TheVariants.{Failed}
@@ -92,6 +93,7 @@ Explains kinds status old new =
 
 -- what comes of a request, with what the writer took before and has taken now
 abbrev pub Comes : Request → (List ℕ → Option (List ℕ)) → Option (List ℕ) → Option (List ℕ) → Outcome → Type 0
+Comes (ListStory story) known before now outcome = ListComesTo (known story) before now outcome
 Comes (Check story certificate) known before now outcome = CheckComesTo (known story) (known certificate) before now outcome
 Comes (Play story None budget) known before now outcome = ComesTo (known story) budget before now outcome
 Comes (Play story (Some certificate) budget) known before now outcome = PlayComesTo (known story) (known certificate) budget before now outcome

@@ -12,6 +12,9 @@ use Rattle.zrule.specs.Numbers.{number_of as rule_number}
 use Rattle.zcheck.specs.Numbers.{number_of as story_rule_number}
 use Rattle.zcheck.specs.declared.refusal.Refusal.{Refusal}
 use Rattle.zcheck.specs.declared.refusal.Refusal.TheVariants as refusals
+use Rattle.zlist.specs.Listed.{number_of as list_number, place_of as list_place}
+use Rattle.zlist.specs.declared.list_error.ListError.{ListError}
+use Rattle.zlist.specs.declared.list_error.ListError.TheVariants.{OutOfMemory as NoMemoryToList}
 use Rattle.zplayer.specs.declared.end.End.{End}
 use Rattle.zplayer.specs.declared.end.End.TheVariants as ends
 use Rattle.zplayer.specs.declared.end.PlayError.{PlayError}
@@ -19,9 +22,9 @@ use Rattle.zplayer.specs.declared.end.PlayError.TheVariants as errors
 use Rattle.zperform.specs.declared.outcome.Failure.{Failure}
 use Rattle.zperform.specs.declared.outcome.Failure.TheVariants.{File, Read, Write, Memory}
 use Rattle.zperform.specs.declared.outcome.Problem.{Problem}
-use Rattle.zperform.specs.declared.outcome.Problem.TheVariants.{Refused, Unreadable, BreaksStory, BreaksInstruction, Failed}
+use Rattle.zperform.specs.declared.outcome.Problem.TheVariants.{Refused, Unreadable, BreaksStory, BreaksInstruction, Unlisted, Failed}
 use Rattle.zperform.specs.declared.outcome.Outcome.{Outcome}
-use Rattle.zperform.specs.declared.outcome.Outcome.TheVariants.{Accepted, Played, Stopped}
+use Rattle.zperform.specs.declared.outcome.Outcome.TheVariants.{Listed, Accepted, Played, Stopped}
 
 -- a story that isn't loaded is refused, but for want of memory
 abbrev pub problem_of_load : LoadError → Problem
@@ -39,6 +42,11 @@ problem_of_checking (refusals.Story rule) = BreaksStory rule
 problem_of_checking (refusals.Instruction address rule) = BreaksInstruction address rule
 problem_of_checking refusals.OutOfMemory = Failed Memory
 
+-- a story that isn't listed is refused, but for want of memory
+abbrev pub problem_of_listing : ListError → Problem
+problem_of_listing NoMemoryToList = Failed Memory
+problem_of_listing error = Unlisted error
+
 -- what breaks playing off is a failure
 abbrev pub problem_of_play : PlayError → Problem
 problem_of_play errors.Read = Failed Read
@@ -49,6 +57,7 @@ problem_of_play errors.OutOfMemory = Failed Memory
 abbrev pub status_of : Outcome → ℕ
 status_of (Played (ends.Fault fault place)) = 3
 status_of (Played end) = 0
+status_of Listed = 0
 status_of Accepted = 0
 status_of (Stopped (Failed failure)) = 4
 status_of (Stopped problem) = 1
@@ -80,12 +89,14 @@ end_text ends.FrameLimit = codes "end: frame limit"
 end_text (ends.Fault fault place) = codes "fault: F" ++ decimal (fault_number fault) ++ codes " at " ++ place_text place
 
 abbrev pub text_of : Outcome → List ℕ
+text_of Listed = []
 text_of Accepted = []
 text_of (Played end) = end_text end
 text_of (Stopped (Refused error)) = codes "refused: L" ++ decimal (refusal_number error)
 text_of (Stopped (Unreadable error)) = codes "refused: K" ++ decimal (reading_number error)
 text_of (Stopped (BreaksStory rule)) = codes "refused: S" ++ decimal (story_rule_number rule)
 text_of (Stopped (BreaksInstruction address rule)) = codes "refused: I" ++ decimal (rule_number rule) ++ codes " at " ++ place_text (pos address)
+text_of (Stopped (Unlisted error)) = codes "refused: U" ++ decimal (list_number error) ++ codes " at " ++ place_text (list_place error)
 text_of (Stopped (Failed failure)) = failure_text failure
 
 -- what comes of playing, or of what kept it from being done

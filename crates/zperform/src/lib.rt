@@ -1,8 +1,9 @@
-//! Doing what the words after the program's name ask for: files, the checker, the player, and what is said of it.
+//! Doing what the words after the program's name ask for: files, the lister, the checker, the player, and what is said of it.
 #![tactic(auto)]
 
 mod accepting;
 mod files;
+mod listing;
 mod message;
 mod outcome;
 mod performing;

@@ -1,6 +1,7 @@
 //! The line that says what a command came to, made with no memory.
 
 ghost use Rattle.std.specs.Prelude.{◌≡◌, ◌<◌, ◌≤◌, ◌+◌, ◌++◌, [], ◌∷◌, length, decimal, pos};
+ghost use Rattle.zlist.specs.Listed.{number_of, place_of};
 ghost use Rattle.zperform.specs.Report.{address_text, end_text, failure_text, line_of, place_text, text_of};
 
 use crate::outcome::{Failure, Outcome, Problem};
@@ -8,6 +9,7 @@ use arrayvec::ArrayVec;
 use itoa::Buffer;
 use std::marker::Model;
 use zfault::Fault;
+use zlist::ListError;
 use zplayer::End;
 
 /// The most bytes that a line has room for.
@@ -37,7 +39,7 @@ impl Message {
     {
         let mut message = Message::new();
         match outcome {
-            Outcome::Accepted => {}
+            Outcome::Listed | Outcome::Accepted => {}
             Outcome::Played(end) => message.push_end(end),
             Outcome::Stopped(problem) => message.push_problem(problem),
         }
@@ -81,7 +83,26 @@ impl Message {
                 self.push(b" at ");
                 self.push_address(*address);
             }
+            Problem::Unlisted(error) => {
+                self.push_code(b"refused: U", number_of(*error));
+                self.push(b" at ");
+                self.push_place_of(*error);
+            }
             Problem::Failed(failure) => self.push(failure_text(*failure)),
+        }
+    }
+
+    fn push_place_of(&mut self, error: ListError)
+        requires { length self.old + 11 ≤ ROOM }
+        ensures text { self.new ≡ self.old ++ place_text (place_of error) }
+        ensures most { length self.new ≤ length self.old + 11 }
+    {
+        match error {
+            ListError::Decode(place, _) => self.push_place(place),
+            ListError::TwoRoutines(address) | ListError::ComputedJump(address) => {
+                self.push_address(address);
+            }
+            ListError::OutOfMemory => self.push_address(0),
         }
     }
 
@@ -174,8 +195,20 @@ fn failure_text(failure: Failure) -> &'static [u8]
     }
 }
 
+/// The number of what is at fault with a listing.
+fn number_of(error: ListError) -> u8
+    ensures { result ≡ number_of error }
+{
+    match error {
+        ListError::Decode(_, _) => 1,
+        ListError::TwoRoutines(_) => 2,
+        ListError::ComputedJump(_) => 3,
+        ListError::OutOfMemory => 4,
+    }
+}
+
 /// The five hexadecimal digits of a place.
-fn address_text(place: u32) -> [u8; 5]
+pub fn address_text(place: u32) -> [u8; 5]
     requires { place < 0x100000 }
     ensures { result ≡ address_text place }
 {

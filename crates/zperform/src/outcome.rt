@@ -1,11 +1,12 @@
 //! What a command comes to.
 
 ghost use Rattle.std.specs.Prelude.{◌≡◌};
-ghost use Rattle.zperform.specs.Report.{problem_of_checking, problem_of_load, problem_of_play, problem_of_reading, status_of};
+ghost use Rattle.zperform.specs.Report.{problem_of_checking, problem_of_listing, problem_of_load, problem_of_play, problem_of_reading, status_of};
 
 use std::alloc::AllocError;
 use zcert::CertError;
 use zcheck::{Refusal, StoryRule};
+use zlist::ListError;
 use zplayer::{End, PlayError};
 use zrule::Rule;
 use zstory::LoadError;
@@ -34,6 +35,8 @@ pub enum Problem {
     BreaksStory(StoryRule),
     /// The certificate doesn't hold of the instruction at an address.
     BreaksInstruction(u32, Rule),
+    /// The story has no listing. Never for want of memory.
+    Unlisted(ListError),
     /// Something failed that isn't the story's fault.
     Failed(Failure),
 }
@@ -41,6 +44,8 @@ pub enum Problem {
 /// What a command came to.
 #[derive(Clone, Copy)]
 pub enum Outcome {
+    /// The story was listed.
+    Listed,
     /// The certificate was accepted.
     Accepted,
     /// The story was played, and ended so.
@@ -56,7 +61,7 @@ impl Outcome {
     {
         match self {
             Outcome::Played(End::Fault(_, _)) => 3,
-            Outcome::Accepted | Outcome::Played(_) => 0,
+            Outcome::Listed | Outcome::Accepted | Outcome::Played(_) => 0,
             Outcome::Stopped(Problem::Failed(_)) => 4,
             Outcome::Stopped(_) => 1,
         }
@@ -93,6 +98,17 @@ impl From<Refusal> for Problem {
             Refusal::Story(rule) => Problem::BreaksStory(rule),
             Refusal::Instruction(address, rule) => Problem::BreaksInstruction(address, rule),
             Refusal::OutOfMemory => Problem::Failed(Failure::Memory),
+        }
+    }
+}
+
+impl From<ListError> for Problem {
+    ghost from_gives = { λ error problem. problem ≡ problem_of_listing error };
+
+    fn from(error: ListError) -> Problem {
+        match error {
+            ListError::OutOfMemory => Problem::Failed(Failure::Memory),
+            _ => Problem::Unlisted(error),
         }
     }
 }

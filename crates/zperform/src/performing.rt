@@ -14,6 +14,7 @@ ghost use Rattle.zperform.specs.Report.{failure_text, line_of, no_text, outcome_
 
 use crate::accepting::{STORY_LIMIT, accept, load};
 use crate::files::{Files, read_file};
+use crate::listing::list_file;
 use crate::message::Message;
 use crate::outcome::{Failure, Outcome, Problem};
 use crate::unasked::{NoSaves, Zeros};
@@ -84,6 +85,7 @@ fn carry_out<F: Files, R: Source, W: Sink>(
     ensures reader { reader.new ≡ reader.old }
 {
     match command {
+        Command::List { story } => list_file(alloc, story, files, writer),
         Command::Check { story, certificate } => {
             check_files(alloc, story, certificate, files, writer)
         }
@@ -146,7 +148,7 @@ fn say_accepted<W: Sink>(writer: &mut W) -> Outcome
 }
 
 /// Writes a text, and sees that it is through.
-fn write_and_flush<W: Sink>(writer: &mut W, text: &[u8]) -> Result<(), Failed>
+pub fn write_and_flush<W: Sink>(writer: &mut W, text: &[u8]) -> Result<(), Failed>
     ensures written { OnOk result (Appends (W.contents writer.old) (W.contents writer.new) text.now) }
     ensures begun { OnErr result (AppendsBeginning (W.contents writer.old) (W.contents writer.new) text.now) }
     ensures blamed { OnErr result (RisesByOne (W.failures writer.old) (W.failures writer.new)) }

@@ -1,3 +1,4 @@
 pub mod Accepting
+mod Alone
 pub mod Playing
 mod Worked

@@ -2,7 +2,7 @@
 use Rattle.std.proofs.Common.{◌≡◌, ℕ, Bool, true, false, List, [], ◌∷◌, Result, Ok, Err, Option, Some, None, refl, sym, subst, if◌then◌else◌}
 use Rattle.std.specs.Prelude.{ℤ, pos, negsuc, is_some, not, ◌||◌, ◌==◌, nat_lt, drop}
 use Rattle.zfault.specs.declared.fault.Fault.{Fault}
-use Rattle.zfault.specs.declared.fault.Fault.TheVariants.{ZeroDivisor, AbsentLocal, ReturnFromMain}
+use Rattle.zfault.specs.declared.fault.Fault.TheVariants.{UnlistedCall, ZeroDivisor, AbsentLocal, ReturnFromMain}
 use Rattle.zfault.specs.declared.pause.Need.{Need}
 use Rattle.zword.specs.Binary.{is_defined}
 use Rattle.zcode.specs.declared.operation.Operation.{Operation}
@@ -21,7 +21,7 @@ use Rattle.zstate.specs.declared.halt.Halt.TheVariants as halts
 use Rattle.zstate.specs.InTurn.{◌>>=◌, in_turn}
 use Rattle.zstate.specs.State.{State, Scope, Setting, exists, has_room, fault, pop, found, read_named, read_variable, read_operand, read_in_place}
 use Rattle.zstate.specs.Run.{need_in, awaited}
-use Rattle.zstate.specs.Step.{Effect, Move, Done, course, has_caller, is_taken, is_roomy, decoded, fetch, arg, printed, print_at, effect_of, effect_if, asked, waits, admits, pauses, settle, plan, step}
+use Rattle.zstate.specs.Step.{Effect, Move, Done, closing, expects, giving, course, has_caller, is_taken, is_roomy, decoded, fetch, arg, printed, print_at, effect_of, effect_if, asked, waits, admits, pauses, settle, plan, step}
 
 abbrev pub IsNeedless : {A : Type 0} → Result A Halt → Type 0
 IsNeedless (Ok x) = Unit {0}
@@ -100,6 +100,18 @@ of_print : (place : ℤ) (memory : List ℕ) → NeedsNothing (print_at place me
 of_print (pos p) memory = of_text (output_at memory p)
 of_print (negsuc n) memory = tt
 
+of_closing : (r : Result Effect Halt) → NeedsNothing r → NeedsNothing (r >>= λ effect. Ok (closing effect))
+of_closing (Ok e) h = h
+of_closing (Err (halts.Fault f)) h = tt
+of_closing (Err (halts.Need n)) h = h
+of_closing (Err halts.Quit) h = tt
+of_closing (Err halts.FrameLimit) h = tt
+
+of_call : (a b : Bool) (e : Effect) → e.needs ≡ None → NeedsNothing (if a then Ok (giving 0) else (if b then Ok e else fault UnlistedCall))
+of_call true b e h = refl
+of_call false true e h = h
+of_call false false e h = tt
+
 of_operation : (m : Setting) (o : Operation) (values : List ℕ) (s : State) → NeedsNothing (effect_of m o values s)
 unfolding effect_of
 of_operation m (operations.Binary op) values s = of_division (is_defined op (arg values 1)) _ refl
@@ -107,6 +119,8 @@ of_operation m (operations.Count op question) values s = read_first (read_in_pla
 of_operation m operations.Store values s = read_first (read_in_place m.story (arg values 0) s) _ (of_in_place m.story (arg values 0) s) (λ x. refl)
 of_operation m operations.Load values s = read_first (read_in_place m.story (arg values 0) s) _ (of_in_place m.story (arg values 0) s) (λ x. refl)
 of_operation m operations.Print values s = of_print _ s.memory
+of_operation m operations.PrintReturn values s = of_closing _ (of_print _ s.memory)
+of_operation m operations.Call values s = of_call (arg values 0 == 0) _ _ refl
 of_operation m _ values s = refl
 
 of_effect : (m : Setting) (o : Option Operation) (values : List ℕ) (s : State) → NeedsNothing (effect_if m o values s)
@@ -123,20 +137,20 @@ then_asked b h f n k = bind (asked b h) f (of_asked b h n) k
 of_admits : (v : ℕ) (e : Effect) (move : Move) (s : State) → IsNeedless (admits v e move s)
 unfolding admits
 of_admits v e move s =
-    then_asked (not (is_some e.gives) || exists v s.frame) (halts.Fault AbsentLocal) _ tt
+    then_asked (not (expects e.gives move) || exists v s.frame) (halts.Fault AbsentLocal) _ tt
     (λ a. then_asked (has_caller move s.callers) (halts.Fault ReturnFromMain) _ tt
     (λ b. of_asked (is_taken move s.frame.result s.callers) (halts.Fault AbsentLocal) tt))
 
-of_pauses : (v : ℕ) (e : Effect) (move : Move) (s : State) → e.needs ≡ None → IsNeedless (pauses v e move s)
+of_pauses : (limit v : ℕ) (e : Effect) (move : Move) (s : State) → e.needs ≡ None → IsNeedless (pauses limit v e move s)
 unfolding pauses
-of_pauses v e move s none =
+of_pauses limit v e move s none =
     bind (waits e.needs) _ (subst (λ (n : Option Need). IsNeedless (waits n)) (sym none) tt)
     (λ a. then_asked (not e.quits) halts.Quit _ tt
     (λ b. then_asked (not (is_some e.gives) || has_room v s.frame) halts.FrameLimit _ tt
-    (λ c. of_asked (is_roomy move s.frame.result s.callers) halts.FrameLimit tt)))
+    (λ c. of_asked (is_roomy limit move s.frame.result s.callers) halts.FrameLimit tt)))
 
-of_settling : (i : Instruction) (e : Effect) (s : State) → e.needs ≡ None → IsNeedless (settle i e s)
-of_settling i e s none = bind (admits (target i) e (course e i.branch) s) _ (of_admits (target i) e (course e i.branch) s) (λ u. of_pauses (target i) e (course e i.branch) s none)
+of_settling : (limit : ℕ) (i : Instruction) (e : Effect) (s : State) → e.needs ≡ None → IsNeedless (settle limit i e s)
+of_settling limit i e s none = bind (admits (target i) e (course e i.branch) s) _ (of_admits (target i) e (course e i.branch) s) (λ u. of_pauses limit (target i) e (course e i.branch) s none)
 
 bind_effect : {B : Type 0} (r : Result Effect Halt) (f : Effect → Result B Halt) → NeedsNothing r → ((e : Effect) → e.needs ≡ None → IsNeedless (f e)) → IsNeedless (r >>= f)
 bind_effect (Ok e) f h k = k e h
@@ -147,7 +161,7 @@ bind_effect (Err halts.FrameLimit) f h k = tt
 
 of_plan : (m : Setting) (s : State) → IsNeedless (plan m s)
 unfolding plan
-of_plan m s = bind _ _ (of_fetch m.scope s.place s.memory) (λ i. bind _ _ (of_operands m.story (inputs i) s) (λ v. bind_effect _ _ (of_effect m (operation_of i.opcode) v.0 v.1) (λ e none. bind _ _ (of_settling i e v.1 none) (λ u. tt))))
+of_plan m s = bind _ _ (of_fetch m.scope s.place s.memory) (λ i. bind _ _ (of_operands m.story (inputs i) s) (λ v. bind_effect _ _ (of_effect m (operation_of i.opcode) v.0 v.1) (λ e none. bind _ _ (of_settling m.limit i e v.1 none) (λ u. tt))))
 
 of_step : (m : Setting) (s : State) → IsNeedless (step m s)
 unfolding step

@@ -1,27 +1,28 @@
 //! The effect of a step, which only want of memory can keep from being done.
 
-ghost use Rattle.std.specs.Prelude.{◌≡◌, ◌<◌, ◌≤◌, ◌+◌, ◌^◌, ◌++◌, ◌+ℤ◌, ℕ, Option, None, [], true, drop, pos, length, map, is_some, OnOk, OnErr};
+ghost use Rattle.std.specs.Prelude.{◌≡◌, ◌<◌, ◌≤◌, ◌+◌, ◌^◌, ◌++◌, ◌+ℤ◌, ℕ, List, Option, None, [], true, drop, pos, length, map, is_some, OnOk, OnErr};
 ghost use Rattle.zfault.specs.declared.item.Item.TheVariants.{Text};
 ghost use Rattle.zstory.specs.LoadedStory.{globals, static_base};
 ghost use Rattle.zstate.specs.Run.{IsLonger};
-ghost use Rattle.zstate.specs.State.{exists, popped, popped as taken};
-ghost use Rattle.zstate.specs.Step.{act, assigned, course, stored};
+ghost use Rattle.zstate.specs.Callee.{called_of};
+ghost use Rattle.zstate.specs.State.{at_place, exists, popped, popped as taken};
+ghost use Rattle.zstate.specs.Step.{act, assigned, course, entered, stored};
+ghost use Rattle.zref.specs.Machine.{Grows};
 ghost use Rattle.zref.specs.Row.{shape_of};
 ghost use Rattle.zref.specs.Plan.{EndsBy, IsAssignable, IsOpenWay, IsReady, IsShort, effect_with, move_of, on_from, returned, went};
 
-use crate::effect::{Course, Effect};
+use crate::effect::Course;
 use crate::plan::Plan;
 use crate::row::Row;
 use std::alloc::AllocError;
 use zfault::Items;
-use zstate::State;
+use zstate::{Callee, State};
 use zstory::Story;
 
 /// Does what was planned, and gives out its items: all of them or, with nothing changed, none. Memory is wanted only where
-/// something is given out, or a stack gets longer.
+/// something is given out, or a stack or the frames get longer.
 #[inline(always)]
-#[tactic(auto, using(crate::proofs::Doing::acting))]
-pub(crate) fn act_on(
+pub(crate) fn print_and_act(
     story: &Story,
     state: &mut State,
     row: &Row,
@@ -39,12 +40,35 @@ pub(crate) fn act_on(
     ensures given { OnOk result (items.new.items ≡ items.old.items ++ map Text text.now) }
     ensures err { OnErr result (state.new ≡ state.old) }
     ensures kept { OnErr result (items.new.items ≡ items.old.items) }
-    ensures wants { OnErr result (length text.now ≡ 0 → IsLonger state.old (act story.now (shape_of row.now) (effect_with plan.effect text.now) (popped plan.popped state.old))) }
+    ensures wants { OnErr result (length text.now ≡ 0 → Grows state.old (act story.now (shape_of row.now) (effect_with plan.effect text.now) (popped plan.popped state.old))) }
+{
+    items.reserve_text(text.len())?;
+    act_on(story, state, row, plan)?;
+    items.give_reserved(text);
+    Ok(())
+}
+
+/// Does all of a plan but giving out, whatever it gives out. Memory is wanted only where a stack or the frames get longer.
+#[inline(always)]
+#[tactic(auto, using(crate::proofs::Doing::acting))]
+pub(crate) fn act_on(
+    story: &Story,
+    state: &mut State,
+    row: &Row,
+    plan: Plan,
+) -> Result<(), AllocError>
+    requires memory { length state.old.memory ≡ length story.now.memory }
+    requires reached { state.old.frame.return_place < 2 ^ 24 }
+    requires near { EndsBy 131072 row.now.size state.old.place }
+    requires course { move_of plan.course ≡ course (effect_with plan.effect []) row.now.branch }
+    requires ready { IsReady row.now.target plan.effect plan.course plan.popped state.old }
+    ensures ok { OnOk result ((text : List ℕ) → state.new ≡ act story.now (shape_of row.now) (effect_with plan.effect text) (popped plan.popped state.old)) }
+    ensures fixed { drop (static_base story.now) state.new.memory ≡ drop (static_base story.now) state.old.memory }
+    ensures err { OnErr result (state.new ≡ state.old) }
+    ensures wants { OnErr result ((text : List ℕ) → Grows state.old (act story.now (shape_of row.now) (effect_with plan.effect text) (popped plan.popped state.old))) }
 {
     globals_are_dynamic(story);
-    items.reserve_text(text.len())?;
     go(story, state, row, plan)?;
-    items.give_reserved(text);
     Ok(())
 }
 
@@ -64,17 +88,25 @@ fn go(story: &Story, state: &mut State, row: &Row, plan: Plan) -> Result<(), All
     requires ready { IsReady row.now.target plan.effect plan.course plan.popped state.old }
     ensures ok { OnOk result (state.new ≡ went story.now (shape_of row.now) plan.effect plan.course (popped plan.popped state.old)) }
     ensures err { OnErr result (state.new ≡ state.old) }
-    ensures wants { OnErr result (IsLonger state.old (went story.now (shape_of row.now) plan.effect plan.course (popped plan.popped state.old))) }
+    ensures wants { OnErr result (Grows state.old (went story.now (shape_of row.now) plan.effect plan.course (popped plan.popped state.old))) }
 {
     match plan.course {
         Course::On(distance) => go_on(story, state, row, plan, distance),
         Course::Back(word) => match state.frame().result() {
-            0 => push_back(story, state, plan, word),
+            0 => push_back(story, state, plan.effect.assigns, plan.popped, word),
             variable => {
-                put_back(story, state, plan, variable, word);
+                put_back(
+                    story,
+                    state,
+                    plan.effect.assigns,
+                    plan.popped,
+                    variable,
+                    word,
+                );
                 Ok(())
             }
         },
+        Course::Into(callee) => go_into(state, row, plan.popped, &callee),
     }
 }
 
@@ -101,24 +133,35 @@ fn go_on(
 {
     match plan.effect.gives {
         Some(word) => state.put(story, row.target, plan.popped, word)?,
-        None => change(story, state, plan.effect, plan.popped),
+        None => change(story, state, plan.effect.assigns, plan.popped),
     }
     state.advance(row.size as usize);
     state.go(distance);
     Ok(())
 }
 
+/// Takes the words of the operands off the stack, and begins a routine, which returns behind the instruction.
+#[inline(never)]
+fn go_into(state: &mut State, row: &Row, popped: usize, callee: &Callee) -> Result<(), AllocError>
+    requires near { EndsBy 131072 row.now.size state.old.place }
+    requires within { popped ≤ length state.old.frame.stack }
+    ensures ok { OnOk result (state.new ≡ entered (called_of callee.now) row.now.target (at_place (state.old.place +ℤ pos row.now.size) (taken popped state.old))) }
+    ensures err { OnErr result (state.new ≡ state.old) }
+{
+    state.enter(callee, row.target, popped, row.size as usize)
+}
+
 /// Takes the words of the operands off the stack, and gives a variable its value.
 #[inline(always)]
 #[tactic(auto, using(crate::proofs::Doing::doing))]
-fn change(story: &Story, state: &mut State, effect: Effect, popped: usize)
+fn change(story: &Story, state: &mut State, assigns: Option<(u8, u16)>, popped: usize)
     requires memory { length state.old.memory ≡ length story.now.memory }
     requires within { popped ≤ length state.old.frame.stack }
-    requires assigns { IsAssignable effect.assigns popped state.old }
-    ensures { state.new ≡ assigned story.now effect.assigns (taken popped state.old) }
+    requires assigns { IsAssignable assigns popped state.old }
+    ensures { state.new ≡ assigned story.now assigns (taken popped state.old) }
 {
     state.pop(popped);
-    if let Some((variable, word)) = effect.assigns {
+    if let Some((variable, word)) = assigns {
         state.put_in_place(story, variable, word);
     }
 }
@@ -126,19 +169,25 @@ fn change(story: &Story, state: &mut State, effect: Effect, popped: usize)
 /// Changes variables, leaves the frame, and puts a value on the caller's stack.
 #[inline(never)]
 #[tactic(auto, using(crate::proofs::Doing::doing))]
-fn push_back(story: &Story, state: &mut State, plan: Plan, word: u16) -> Result<(), AllocError>
+fn push_back(
+    story: &Story,
+    state: &mut State,
+    assigns: Option<(u8, u16)>,
+    popped: usize,
+    word: u16,
+) -> Result<(), AllocError>
     requires memory { length state.old.memory ≡ length story.now.memory }
     requires reached { state.old.frame.return_place < 2 ^ 24 }
     requires way { IsOpenWay (Course.Back word) state.old }
     requires stack { state.old.frame.result ≡ 0 }
-    requires within { plan.popped ≤ length state.old.frame.stack }
-    requires assigns { IsAssignable plan.effect.assigns plan.popped state.old }
-    ensures ok { OnOk result (state.new ≡ returned story.now word (assigned story.now plan.effect.assigns (popped plan.popped state.old))) }
+    requires within { popped ≤ length state.old.frame.stack }
+    requires assigns { IsAssignable assigns popped state.old }
+    ensures ok { OnOk result (state.new ≡ returned story.now word (assigned story.now assigns (taken popped state.old))) }
     ensures err { OnErr result (state.new ≡ state.old) }
-    ensures wants { OnErr result (IsLonger state.old (returned story.now word (assigned story.now plan.effect.assigns (popped plan.popped state.old)))) }
+    ensures wants { OnErr result (IsLonger state.old (returned story.now word (assigned story.now assigns (taken popped state.old)))) }
 {
     state.push_to_caller(word)?;
-    change(story, state, plan.effect, plan.popped);
+    change(story, state, assigns, popped);
     state.leave();
     Ok(())
 }
@@ -146,17 +195,24 @@ fn push_back(story: &Story, state: &mut State, plan: Plan, word: u16) -> Result<
 /// Changes variables, leaves the frame, and gives the caller's variable a value.
 #[inline(never)]
 #[tactic(auto, using(crate::proofs::Doing::doing))]
-fn put_back(story: &Story, state: &mut State, plan: Plan, variable: u8, word: u16)
+fn put_back(
+    story: &Story,
+    state: &mut State,
+    assigns: Option<(u8, u16)>,
+    popped: usize,
+    variable: u8,
+    word: u16,
+)
     requires memory { length state.old.memory ≡ length story.now.memory }
     requires reached { state.old.frame.return_place < 2 ^ 24 }
     requires way { IsOpenWay (Course.Back word) state.old }
     requires result { state.old.frame.result ≡ variable }
     requires named { 0 < variable }
-    requires within { plan.popped ≤ length state.old.frame.stack }
-    requires assigns { IsAssignable plan.effect.assigns plan.popped state.old }
-    ensures { state.new ≡ returned story.now word (assigned story.now plan.effect.assigns (popped plan.popped state.old)) }
+    requires within { popped ≤ length state.old.frame.stack }
+    requires assigns { IsAssignable assigns popped state.old }
+    ensures { state.new ≡ returned story.now word (assigned story.now assigns (taken popped state.old)) }
 {
-    change(story, state, plan.effect, plan.popped);
+    change(story, state, assigns, popped);
     state.leave();
     state.put_named(story, variable, word);
 }

@@ -1,5 +1,7 @@
 //! What an instruction does, once nothing is wrong with it.
 
+use zstate::Callee;
+
 /// The effect of an instruction, in parts that don't depend on one another. What is printed stands aside.
 #[derive(Clone, Copy)]
 pub(crate) struct Effect {
@@ -9,8 +11,8 @@ pub(crate) struct Effect {
     pub(crate) assigns: Option<(u8, u16)>,
     /// The condition that the branch data asks for.
     pub(crate) tests: Option<bool>,
-    /// The value of a jump, which tells how far it leads.
-    pub(crate) jumps: Option<u16>,
+    /// Where it leads, unless a branch is taken.
+    pub(crate) moves: Course,
     /// Whether the machine stands still.
     pub(crate) quits: bool,
 }
@@ -22,4 +24,6 @@ pub(crate) enum Course {
     On(i32),
     /// To the caller, with a value.
     Back(u16),
+    /// Into a routine.
+    Into(Callee),
 }

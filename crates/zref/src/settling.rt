@@ -2,16 +2,19 @@
 
 ghost use Rattle.std.specs.Prelude.{◌≡◌, ◌≤◌, ℕ, List, [], Option, None, true, length, is_some, IfOk};
 ghost use Rattle.zstate.specs.Gives.{Gives};
-ghost use Rattle.zstate.specs.State.{exists, popped};
-ghost use Rattle.zstate.specs.Step.{admits, course, pauses, settle};
+ghost use Rattle.zstate.specs.State.{exists, popped, usual_limit};
+ghost use Rattle.zstate.specs.Step.{admits, course, expects, is_roomy, pauses, settle};
 ghost use Rattle.zref.specs.Row.{shape_of};
-ghost use Rattle.zref.specs.Plan.{IsApart, IsOn, IsOpenWay, IsShortWay, effect_with, move_of};
+ghost use Rattle.zref.specs.Plan.{IsAlone, IsApart, IsOn, IsOpenWay, IsShortWay, effect_with, move_of};
 
 use crate::effect::{Course, Effect};
 use crate::row::Row;
 use zcode::{Branch, Destination};
 use zfault::Fault;
 use zstate::{Halt, State};
+
+/// How many frames may stand above the first (own).
+const LIMIT: usize = 1024;
 
 /// Judges an effect, where so many words were taken off the stack before, and says where the step leads.
 #[inline(always)]
@@ -23,11 +26,12 @@ pub(crate) fn settle(
 ) -> Result<Course, Halt>
     requires within { before ≤ length state.now.frame.stack }
     requires apart { IsApart effect }
-    ensures value { (text : List ℕ) → Gives (λ _. tt) result (settle (shape_of row.now) (effect_with effect text) (popped before state.now)) }
+    ensures value { (text : List ℕ) → Gives (λ _. tt) result (settle usual_limit (shape_of row.now) (effect_with effect text) (popped before state.now)) }
     ensures course { IfOk result (λ c. move_of c ≡ course (effect_with effect []) row.now.branch) }
     ensures way { IfOk result (λ c. IsOpenWay c state.now) }
     ensures there { IfOk result (λ _. is_some effect.gives ≡ true → exists row.now.target state.now.frame ≡ true) }
-    ensures goes_on { IfOk result (λ c. effect.tests ≡ None → IsOn c) }
+    ensures goes_on { IfOk result (λ c. is_some effect.gives ≡ true → IsOn c) }
+    ensures alone { IfOk result (λ c. IsAlone c effect) }
 {
     let course = course_of(effect, row.branch);
     admit(row.target, effect, course, state)?;
@@ -39,19 +43,17 @@ pub(crate) fn settle(
 #[inline(always)]
 #[tactic(auto, using(crate::proofs::Short::short))]
 fn course_of(effect: Effect, branch: Option<Branch>) -> Course
+    requires { IsApart effect }
     ensures value { (text : List ℕ) → move_of result ≡ course (effect_with effect text) branch }
     ensures short { IsShortWay result }
-    ensures goes_on { effect.tests ≡ None → IsOn result }
+    ensures goes_on { is_some effect.gives ≡ true → IsOn result }
+    ensures alone { IsAlone result effect }
 {
-    let onward = Course::On(match effect.jumps {
-        Some(word) => i32::from(word.cast_signed()) - 2,
-        None => 0,
-    });
     let (Some(condition), Some(branch)) = (effect.tests, branch) else {
-        return onward;
+        return effect.moves;
     };
     if condition != branch.sense {
-        return onward;
+        return effect.moves;
     }
     match branch.destination() {
         Destination::Relative(distance) => Course::On(distance),
@@ -69,11 +71,11 @@ fn admit(target: u8, effect: Effect, course: Course, state: &State) -> Result<()
     ensures way { IfOk result (λ _. IsOpenWay course state.now) }
     ensures there { IfOk result (λ _. is_some effect.gives ≡ true → exists target state.now.frame ≡ true) }
 {
-    if effect.gives.is_some() && !state.frame().has(target) {
+    if expects(effect.gives, course) && !state.frame().has(target) {
         return Err(Halt::Fault(Fault::AbsentLocal));
     }
     match course {
-        Course::On(_) => Ok(()),
+        Course::On(_) | Course::Into(_) => Ok(()),
         Course::Back(_) => match state.caller() {
             None => Err(Halt::Fault(Fault::ReturnFromMain)),
             Some(caller) if caller.has(state.frame().result()) => Ok(()),
@@ -82,7 +84,18 @@ fn admit(target: u8, effect: Effect, course: Course, state: &State) -> Result<()
     }
 }
 
-/// The pauses: `quit`, and a stack with no room for a word.
+/// Whether a value goes to the result variable, now or when the routine that is called returns.
+#[inline(always)]
+fn expects(gives: Option<u16>, course: Course) -> bool
+    ensures { result ≡ expects gives (move_of course) }
+{
+    match course {
+        Course::On(_) | Course::Back(_) => gives.is_some(),
+        Course::Into(_) => true,
+    }
+}
+
+/// The pauses: `quit`, a stack with no room for a word, and as many frames as there may be.
 #[inline(always)]
 #[tactic(auto, unfolding(zstate::specs::Step::pauses))]
 fn pause(
@@ -93,7 +106,7 @@ fn pause(
     before: usize,
 ) -> Result<(), Halt>
     requires within { before ≤ length state.now.frame.stack }
-    ensures { (text : List ℕ) → Gives (λ _. tt) result (pauses target (effect_with effect text) (move_of course) (popped before state.now)) }
+    ensures { (text : List ℕ) → Gives (λ _. tt) result (pauses usual_limit target (effect_with effect text) (move_of course) (popped before state.now)) }
 {
     if effect.quits {
         return Err(Halt::Quit);
@@ -101,10 +114,24 @@ fn pause(
     if effect.gives.is_some() && !state.frame().has_room(target, before) {
         return Err(Halt::FrameLimit);
     }
-    match (course, state.caller()) {
-        (Course::Back(_), Some(caller)) if !caller.has_room(state.frame().result(), 0) => {
-            Err(Halt::FrameLimit)
-        }
-        _ => Ok(()),
+    if is_roomy(course, state) {
+        Ok(())
+    } else {
+        Err(Halt::FrameLimit)
+    }
+}
+
+/// Whether there is room for what is returned, and for a frame more.
+#[inline(always)]
+fn is_roomy(course: Course, state: &State) -> bool
+    ensures { result ≡ is_roomy usual_limit (move_of course) state.now.frame.result state.now.callers }
+{
+    match course {
+        Course::On(_) => true,
+        Course::Back(_) => match state.caller() {
+            Some(caller) => caller.has_room(state.frame().result(), 0),
+            None => true,
+        },
+        Course::Into(_) => state.depth() < LIMIT,
     }
 }

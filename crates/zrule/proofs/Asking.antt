@@ -62,12 +62,21 @@ module _ {V : Type 0} (o : SetOperations V) (claims : Claims V) (story : LoadedS
         let sure : (demands_at o claims i e.shape).certain ≡ true = ap (λ (x : Demands V). x.certain) known ∙ certain in
         subst (λ (r : Rule). IsTrue b ↔ Asks o claims story p e i r) (sym is) (λ t _ _. (sure, edges.0 (kept.0 t)), λ h. kept.1 (edges.1 (h divided (begin begun)).1))
 
+    -- where it isn't known how far a jump goes
+    pub uncertain_asked : (d g : Bool) → (IsTrue d → IfSome flow.demands.divisor (λ a. In o a 0 → ⊥)) → d ≡ true → (IsTrue g → CallsBegin o claims story i e.shape) → g ≡ true → flow.demands.certain ≡ false → IsTrue flow.demands.certain ↔ Asks o claims story p e i Successor
+    uncertain_asked d g divides there begin begun uncertain =
+        let divided : Divides o claims i e.shape = subst (λ (x : Demands V). IfSome x.divisor (λ a. In o a 0 → ⊥)) are.demands (divides there) in
+        (λ t. absurd (let u = uncertain in cc), λ h. subst (λ (x : Demands V). IsTrue x.certain) (sym are.demands) (h divided (begin begun)).0)
+
     -- what is called
-    pub called_asked : rule ≡ Called → IsTrue b ↔ CallsBegin o claims story i e.shape
-    called_asked is =
+    pub calls_asked : rule ≡ Called → IsTrue b ↔ CallsBegin o claims story i e.shape
+    calls_asked is =
         let kept = as_is Called is in
         let edges = called o claims i e.shape flow are story (argument_sets o claims.globals i e.shape) e.routine (p + i.size) in
         (λ t. edges.0 (kept.0 t), λ h. kept.1 (edges.1 h))
+
+    pub called_asked : rule ≡ Called → IsTrue b ↔ Asks o claims story p e i rule
+    called_asked is = subst (λ (r : Rule). IsTrue b ↔ Asks o claims story p e i r) (sym is) (calls_asked is)
 
     pub returned_asked : rule ≡ Returned → IsTrue b ↔ Asks o claims story p e i rule
     returned_asked is =

@@ -222,12 +222,13 @@ unfolding hello bare bare_entry operation_of demands_of outcome_of
 asks_hello c leads text rules.Decodes = tt
 asks_hello c leads text rules.Height = λ known. (omega arith, tt)
 asks_hello c leads text rules.Local = λ known. (tt, tt, tt)
-asks_hello c leads text rules.Successor = λ divides. (refl, by_answers c hello bare _ (λ low. (803, refl, leads)) tt)
+asks_hello c leads text rules.Successor = λ divides begins. (refl, by_answers c hello bare _ (λ low. (803, refl, leads)) tt)
 asks_hello c leads text rules.Divisor = tt
 asks_hello c leads text rules.Text = text
+asks_hello c leads text rules.Called = by_answers c hello bare _ tt tt
 asks_hello c leads text rules.Returned = by_answers c hello bare _ tt tt
 asks_hello c leads text rules.Known = tt
-asks_hello c leads text rules.Stored = by_answers c hello bare _ (tt, tt) tt
+asks_hello c leads text rules.Stored = by_answers c hello bare _ (tt, tt, tt) tt
 asks_hello c leads text rules.High = by_answers c hello bare _ (omega arith) tt
 
 -- of `new_line`, which prints no text
@@ -236,12 +237,13 @@ unfolding line bare bare_entry operation_of demands_of outcome_of
 asks_line c leads rules.Decodes = tt
 asks_line c leads rules.Height = λ known. (omega arith, tt)
 asks_line c leads rules.Local = λ known. (tt, tt, tt)
-asks_line c leads rules.Successor = λ divides. (refl, by_answers c line bare _ (λ low. (804, refl, leads)) tt)
+asks_line c leads rules.Successor = λ divides begins. (refl, by_answers c line bare _ (λ low. (804, refl, leads)) tt)
 asks_line c leads rules.Divisor = tt
 asks_line c leads rules.Text = tt
+asks_line c leads rules.Called = by_answers c line bare _ tt tt
 asks_line c leads rules.Returned = by_answers c line bare _ tt tt
 asks_line c leads rules.Known = tt
-asks_line c leads rules.Stored = by_answers c line bare _ (tt, tt) tt
+asks_line c leads rules.Stored = by_answers c line bare _ (tt, tt, tt) tt
 asks_line c leads rules.High = by_answers c line bare _ (omega arith) tt
 
 -- and of `quit`, of which nothing comes
@@ -250,9 +252,10 @@ unfolding stop bare bare_entry operation_of demands_of outcome_of
 asks_stop c rules.Decodes = tt
 asks_stop c rules.Height = λ known. (omega arith, tt)
 asks_stop c rules.Local = λ known. (tt, tt, tt)
-asks_stop c rules.Successor = λ divides. (refl, by_answers c stop bare _ tt tt)
+asks_stop c rules.Successor = λ divides begins. (refl, by_answers c stop bare _ tt tt)
 asks_stop c rules.Divisor = tt
 asks_stop c rules.Text = tt
+asks_stop c rules.Called = by_answers c stop bare _ tt tt
 asks_stop c rules.Returned = by_answers c stop bare _ tt tt
 asks_stop c rules.Known = tt
 asks_stop c rules.Stored = by_answers c stop bare _ tt tt
@@ -284,12 +287,12 @@ unfolding claims_at certificate_at at_bare bare_entry bare hello operation_of de
 alone = record {
   broken = λ keeps.
       let asks : Asks interval_operations (claims_at (798 ∷ [])) story 798 bare_entry hello rules.Successor = keeps hello (there_at 798 hello (omega arith) reads.0) in
-      let edge : GoesOn interval_operations (claims_at (798 ∷ [])) 0 bare 803 (Ahead (pos 0)) = (asks tt).1 goes_on (true, refl) (omega arith) in
+      let edge : GoesOn interval_operations (claims_at (798 ∷ [])) 0 0 bare 803 (Ahead (pos 0)) = (asks tt (by_answers (claims_at (798 ∷ [])) hello bare _ tt tt)).1 goes_on (true, refl) (omega arith) in
       unlisted edge;
   before = before;
 }
   where
-    unlisted : GoesOn interval_operations (claims_at (798 ∷ [])) 0 bare 803 (Ahead (pos 0)) → ⊥
+    unlisted : GoesOn interval_operations (claims_at (798 ∷ [])) 0 0 bare 803 (Ahead (pos 0)) → ⊥
     unlisted (to, same, leads) = let at : to ≡ 803 = cc in let listed = subst (λ (q : ℕ). (claims_at (798 ∷ [])).entry q ≡ Some leads.entry) at leads.listed in cc
 
     before : (other : Rule) → number_of other < 4 → Keeps interval_operations (claims_at (798 ∷ [])) story 798 bare_entry other
@@ -299,6 +302,7 @@ alone = record {
     before rules.Successor less = absurd (omega (arith, less))
     before rules.Divisor less = absurd (omega (arith, less))
     before rules.Text less = absurd (omega (arith, less))
+    before rules.Called less = absurd (omega (arith, less))
     before rules.Returned less = absurd (omega (arith, less))
     before rules.Known less = absurd (omega (arith, less))
     before rules.Stored less = absurd (omega (arith, less))
@@ -320,6 +324,7 @@ pub supports : Supports interval_operations claims story
 unfolding claims claims_at certificate_at story
 supports = record {
   first = first_place;
+  heads = record { even = λ p k begins. absurd cc; static = λ p k begins. absurd cc; there = λ p k begins. absurd cc };
   values = values;
   low = low;
   abbreviations = record { plain = plain; unchanging = abbreviations_stay };
@@ -383,7 +388,7 @@ not_covered = (λ covers. (covers.locals.0 5 (interval_sound.any 5 (omega arith)
 
 -- routine 1 gives 5, which its caller takes at 900 as its only slot
 calling : Claims Interval
-calling = record { is_frozen = λ p. false; globals = []; entry = λ p. if p == 900 then Some (record { routine = 0; shape = record { locals = []; slots = point 5 ∷ [] } }) else None; result = λ r. point 5 }
+calling = record { is_frozen = λ p. false; globals = []; entry = λ p. if p == 900 then Some (record { routine = 0; shape = record { locals = []; slots = point 5 ∷ [] } }) else None; result = λ r. point 5; routine_at = λ p. None }
 
 caller : Frame
 caller = record { return_place = 0; result = 0; supplied = 0; locals = []; stack = [] }

@@ -14,6 +14,8 @@ mod Framed
 mod Settling
 mod Parts
 pub mod Stepping
+mod Called
+mod Calling
 pub mod Safety
 pub mod Runs
 mod Worked

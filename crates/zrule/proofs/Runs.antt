@@ -1,5 +1,5 @@
 -- A run from a described state is safe.
-use Rattle.std.proofs.Common.{ℕ, zero, suc, Bool, true, false, List, [], ◌∷◌, length, Result, Ok, Err, if◌then◌else◌}
+use Rattle.std.proofs.Common.{ℕ, zero, suc, Bool, true, false, List, [], ◌∷◌, length, Result, Ok, Err, if◌then◌else◌, refl}
 use Rattle.std.proofs.lemmas.Bool.{lt-ltb}
 use Rattle.zfault.specs.declared.event.Event.{Event}
 use Rattle.zstory.specs.LoadedStory.{LoadedStory}
@@ -69,11 +69,17 @@ module _ {V : Type 0} (o : SetOperations V) (lawful : AreSound o) (claims : Clai
   pub run_safe : (events : List Event) (n : ℕ) (s : State) → Described o claims m.limit m.story s → IsNoFault (run m events n s).stop × Described o claims m.limit m.story (run m events n s).state
   run_safe events n s d = let fine = run_fine events n s d in (fine.no_fault, fine.described)
 
--- so every listed place may be played in the widest scope
+-- so every listed place may be played in the widest scope, and every routine called
 pub all_listed : {V : Type 0} (o : SetOperations V) (claims : Claims V) (story : LoadedStory) → Supports o claims story → IsListedIn o claims (scope_all story)
-all_listed o claims story supports p e listed =
-    let found = supports.each p e listed rules.Decodes in
-    lt-ltb p (length story.memory) (read_within story.memory p found.0 found.1.decodes).1
+all_listed o claims story supports = record {
+  places = λ p e listed.
+      let found = supports.each p e listed rules.Decodes in
+      lt-ltb p (length story.memory) (read_within story.memory p found.0 found.1.decodes).1;
+  routines = λ p k begins.
+      let even = supports.heads.even p k begins in
+      let head = supports.heads.there p k begins in
+      rw (even, head) refl;
+}
 
 pub never_faults : {V : Type 0} (o : SetOperations V) (lawful : AreSound o) (claims : Claims V) (story : LoadedStory) (limit : ℕ) (events : List Event) (n : ℕ) → IsLoadedStory story → Supports o claims story → IsNoFault (run (record { story = story; scope = scope_all story; limit = limit }) events n (opening story)).stop
 never_faults o lawful claims story limit events n loaded supports =

@@ -1,9 +1,9 @@
 -- A step from a described state is safe, by the parts of its effect.
 use Rattle.std.proofs.Common.{◌≡◌, ◌⊎◌, inl, inr, ℕ, zero, suc, ◌+◌, ◌-◌, ◌<◌, ◌≤◌, Bool, true, false, List, [], ◌∷◌, ◌++◌, length, drop, take, Option, Some, None, Result, Ok, Err, refl, sym, ap, subst, ◌∙◌, arith, nat_lt, nat_le, slice_set, if◌then◌else◌}
-use Rattle.std.specs.Prelude.{ℤ, pos, ◌+ℤ◌, IsOk, IfSome, MatchOption, IsTrue, is_some, slice_get, slice_index, ◌==◌, ◌&&◌, ◌||◌, ◌^◌}
+use Rattle.std.specs.Prelude.{ℤ, pos, ◌+ℤ◌, IsOk, IfSome, MatchOption, IsTrue, is_some, option_map, slice_get, slice_index, ◌==◌, ◌&&◌, ◌||◌, ◌^◌}
 use Rattle.std.specs.Bool.{OnTrue, MatchBool}
 use Rattle.std.specs.List.{AllZip, AllByRecursion}
-use Rattle.std.proofs.lemmas.Bool.{ltb-false, ltb-true, lt-ltb, ne_eqb, eqb-true, eqb-refl}
+use Rattle.std.proofs.lemmas.Bool.{ltb-false, ltb-true, lt-ltb, ne_eqb, eqb-true}
 use Rattle.std.proofs.lemmas.List.{get_or-set_same, length-set, length-drop}
 use Rattle.zword.specs.declared.binary.BinaryOp.{BinaryOp}
 use Rattle.zword.specs.declared.binary.BinaryOp.TheVariants.{Add, Sub, Mul, Div, Mod, Or, And}
@@ -51,7 +51,7 @@ use Rattle.zrule.specs.Rules.{Begins, Enters, CallsBegin, TakesBack, result_if, 
 use Rattle.zrule.specs.Described.{Callers, Described, DescribedMemory, Fits, FitsWith, IsSafe, IsListedIn, IsLoadedStory}
 use Rattle.zrule.proofs.Sets.{pops_cons, ReadsAll, reads_all, fits_popped, zip_set, zip_length}
 use Rattle.zrule.proofs.Unchanged.{static_fixed, drop_same, abbreviation_same}
-use Rattle.zrule.proofs.Callees.{starts_in, called_same, head_same, arguments_in}
+use Rattle.zrule.proofs.Called.{starts_in, called_same, head_same, arguments_in}
 use Rattle.zrule.proofs.Settling.{PausesAtMost, pauses_fine, pauses_there, pauses_none, pauses_full, room_there, admits_is}
 use Rattle.zrule.proofs.Framed.{FitsFrame, in_place_fits, result_fits}
 use Rattle.zrule.proofs.Fitting.{IsIn, exists_in, named_in, length_with, given_fits, covered, covered_with, fits_there, Mid, put_mid, GivenIn, stored_mid}
@@ -502,13 +502,13 @@ module _ {V : Type 0} (o : SetOperations V) (lawful : AreSound o) (claims : Clai
   unfolding outcome_of
   entry_edge e =
       let n = edge_of (o.narrow Equal false (args 0) (o.single 0)) _ (lawful.narrow Equal false (args 0) (o.single 0) (arg all.values 0) 0 (all.members 0) (lawful.single 0 (omega arith)) e) in
-      record { a = n.0.0; comes = (true, (let r = n.1 in rw r refl)); member = n.2.0 }
+      record { a = n.0.0; comes = (true, ap (λ (r : Option (V × V)). option_map (λ p. enters_in p.0) r) n.1); member = n.2.0 }
 
   missed : (arg all.values 0 == 0) ≡ true → ComesOf (Some Call) (gives_in (o.single 0))
   unfolding outcome_of
   missed e =
       let n = edge_of (o.narrow Equal true (args 0) (o.single 0)) _ (lawful.narrow Equal true (args 0) (o.single 0) (arg all.values 0) 0 (all.members 0) (lawful.single 0 (omega arith)) e) in
-      (false, (let r = n.1 in rw r refl))
+      (false, ap (λ (r : Option (V × V)). option_map (λ p. gives_in (o.single 0)) r) n.1)
 
   not_zero : (x : ℕ) → (x == 0) ≡ false → x ≡ 0 → ⊥
   not_zero zero e is = absurd cc

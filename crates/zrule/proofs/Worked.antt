@@ -19,24 +19,25 @@ use Rattle.zdomain.specs.declared.interval.Interval.{Interval}
 use Rattle.zdomain.specs.Domain.{In, Within}
 use Rattle.zdomain.specs.Interval.{point, all_words, in_order, interval_operations}
 use Rattle.zdomain.specs.IntervalLaw.{interval_sound}
-use Rattle.zflow.specs.declared.parts.Lead.TheVariants.{Ahead}
+use Rattle.zflow.specs.declared.parts.Lead.TheVariants.{Ahead, Returning, Entering}
 use Rattle.zflow.specs.Transfer.{Shape, demands_of, outcome_of}
 use Rattle.zstate.specs.State.{Frame}
 use Rattle.zcert.specs.declared.parts.Range.{Range}
 use Rattle.zcert.specs.Certificate.{Certificate}
 use Rattle.zrule.specs.declared.rule.Rule.{Rule}
-use Rattle.zrule.specs.declared.rule.Rule.TheVariants.{Decodes, Height, Local, Successor, Divisor, Text, Returned, Known, Stored, High}
+use Rattle.zrule.specs.declared.rule.Rule.TheVariants.{Decodes, Height, Local, Successor, Divisor, Text, Called, Returned, Known, Stored, High}
 use Rattle.zrule.specs.Numbers.{number_of}
 use Rattle.zrule.specs.Claims.{Entry, Claims, is_inside, claims_of}
 use Rattle.zrule.specs.Bytes.{IsWithin, IsChanging, IsSizePlace, IsTableFrame, read_length, IsOpen, IsClosed, header, a_global, a_default, an_entry, a_property, an_abbreviation, frozen, static, first, next, data_length}
 use Rattle.zrule.specs.Described.{Fits, FitsWith}
-use Rattle.zrule.specs.Rules.{global_in, IsNamed, Covers, Leads, GoesOn, Asks}
+use Rattle.zrule.specs.Rules.{global_in, IsNamed, Covers, Leads, GoesOn, Asks, Begins, Starts, TakesBack, comes_back, result_at}
+use Rattle.zstate.specs.Step.{words_from}
 use Rattle.zrule.proofs.Instances.{by_answers}
 
 -- ---- numbers of rules
 
-numbers : (number_of Decodes ≡ 1) × (number_of Height ≡ 2) × (number_of Local ≡ 3) × (number_of Successor ≡ 4) × (number_of Divisor ≡ 8) × (number_of Text ≡ 11) × (number_of Returned ≡ 13) × (number_of Known ≡ 15) × (number_of Stored ≡ 16) × (number_of High ≡ 17)
-numbers = (refl, refl, refl, refl, refl, refl, refl, refl, refl, refl)
+numbers : (number_of Decodes ≡ 1) × (number_of Height ≡ 2) × (number_of Local ≡ 3) × (number_of Successor ≡ 4) × (number_of Divisor ≡ 8) × (number_of Text ≡ 11) × (number_of Called ≡ 12) × (number_of Returned ≡ 13) × (number_of Known ≡ 15) × (number_of Stored ≡ 16) × (number_of High ≡ 17)
+numbers = (refl, refl, refl, refl, refl, refl, refl, refl, refl, refl, refl)
 
 -- ---- claims
 
@@ -93,7 +94,7 @@ abbrev listed_at_place : ℕ → Option (Entry Interval)
 listed_at_place p = if p == 13 then Some (of_one (from (pos 1) (pos 5) refl)) else (if p == 8 || p == 21 then Some (of_one all_words) else None)
 
 small : Claims Interval
-small = record { is_frozen = λ p. false; globals = from (pos 0) (pos 5) refl ∷ []; entry = listed_at_place; result = λ r. point 0 }
+small = record { is_frozen = λ p. false; globals = from (pos 0) (pos 5) refl ∷ []; entry = listed_at_place; result = λ r. point 0; routine_at = λ p. None }
 
 -- the instructions stand at 10, and are of three bytes
 abbrev plain : Opcode → List Operand → Instruction
@@ -247,7 +248,7 @@ upper x inside = let above = inside.member.0 in record { word = inside.word; mem
 
 stores_five : asks Stored [] [] (gives_global 5) × asks Stored [] [] (stores_global 5)
 unfolding operation_of outcome_of small
-stores_five = (by_answers small (gives_global 5) (before [] []) _ (upper, tt) tt, by_answers small (stores_global 5) (before [] []) _ (tt, upper) tt)
+stores_five = (by_answers small (gives_global 5) (before [] []) _ (upper, tt, tt) tt, by_answers small (stores_global 5) (before [] []) _ (tt, upper, tt) tt)
 
 not_six : (asks Stored [] [] (gives_global 6) → ⊥) × (asks Stored [] [] (stores_global 6) → ⊥)
 unfolding operation_of outcome_of small
@@ -269,18 +270,18 @@ high = (by_answers small push (before [] (replicate 63 (point 7))) _ (omega arit
 -- ---- edges
 
 -- an edge leads to the one place that is so far behind another
-leads_there : (r : ℕ) (f : Shape Interval) (q : ℕ) (d : ℤ) (p : ℕ) → (pos q +ℤ d) ≡ pos p → GoesOn interval_operations small r f q (Ahead d) → Leads interval_operations small r f p
+leads_there : (r : ℕ) (f : Shape Interval) (q : ℕ) (d : ℤ) (p : ℕ) → (pos q +ℤ d) ≡ pos p → GoesOn interval_operations small r 0 f q (Ahead d) → Leads interval_operations small r f p
 leads_there r f q d p same (to, at, leads) = subst (Leads interval_operations small r f) (same_place to p (sym at ∙ same)) leads
   where
     same_place : (m n : ℕ) → pos m ≡ pos n → m ≡ n
     same_place m n e = cc
 
 -- not where none is listed
-unlisted : (f : Shape Interval) (q : ℕ) (d : ℤ) (p : ℕ) → (pos q +ℤ d) ≡ pos p → small.entry p ≡ None → GoesOn interval_operations small 1 f q (Ahead d) → ⊥
+unlisted : (f : Shape Interval) (q : ℕ) (d : ℤ) (p : ℕ) → (pos q +ℤ d) ≡ pos p → small.entry p ≡ None → GoesOn interval_operations small 1 0 f q (Ahead d) → ⊥
 unlisted f q d p same none goes = let leads = leads_there 1 f q d p same goes in let listed = leads.listed in cc
 
 -- nor where fewer values are
-uncovered : (a b : Interval) (q : ℕ) (d : ℤ) (p x : ℕ) → (pos q +ℤ d) ≡ pos p → small.entry p ≡ Some (of_one b) → In interval_operations a x → (In interval_operations b x → ⊥) → GoesOn interval_operations small 1 (before (a ∷ []) []) q (Ahead d) → ⊥
+uncovered : (a b : Interval) (q : ℕ) (d : ℤ) (p x : ℕ) → (pos q +ℤ d) ≡ pos p → small.entry p ≡ Some (of_one b) → In interval_operations a x → (In interval_operations b x → ⊥) → GoesOn interval_operations small 1 0 (before (a ∷ []) []) q (Ahead d) → ⊥
 uncovered a b q d p x same listed inside outside goes =
     let leads = leads_there 1 (before (a ∷ []) []) q d p same goes in
     let is : leads.entry ≡ of_one b = same_Some leads.entry (of_one b) (sym leads.listed ∙ listed) in
@@ -292,17 +293,17 @@ covered a b p listed within = record { entry = of_one b; listed = listed; same =
 -- of a branch that is never taken only what follows has to be listed, and else where it leads too
 one_edge : asks Successor low_local [] (jz (pos 500))
 unfolding jz low_local operation_of demands_of outcome_of small
-one_edge = λ divides. (refl, by_answers small (jz (pos 500)) (before low_local []) _ tt (λ low. (13, refl, covered (from (pos 1) (pos 5) refl) (from (pos 1) (pos 5) refl) 13 refl (λ x inside. inside))))
+one_edge = λ divides begins. (refl, by_answers small (jz (pos 500)) (before low_local []) _ tt (λ low. (13, refl, covered (from (pos 1) (pos 5) refl) (from (pos 1) (pos 5) refl) 13 refl (λ x inside. inside))))
 
 both_edges : asks Successor any_local [] (jz (pos 500)) → ⊥
 unfolding jz any_local operation_of demands_of outcome_of small
-both_edges s = unlisted _ 13 (pos 498) 511 refl refl ((s tt).1 _ (true, refl) (omega arith))
+both_edges s = unlisted _ 13 (pos 498) 511 refl refl ((s tt (by_answers small (jz (pos 500)) (before any_local []) _ tt tt)).1 _ (true, refl) (omega arith))
 
 -- what is listed for one routine isn't for another
 elsewhere : of_routine 2 Successor low_local [] (jz (pos 500)) → ⊥
 unfolding jz low_local operation_of demands_of outcome_of small
 elsewhere s =
-    let leads = leads_there 2 _ 13 (pos 0) 13 refl ((s tt).1 _ (false, refl) (omega arith)) in
+    let leads = leads_there 2 _ 13 (pos 0) 13 refl ((s tt (by_answers small (jz (pos 500)) (before low_local []) _ tt tt)).1 _ (false, refl) (omega arith)) in
     let is : leads.entry ≡ of_one (from (pos 1) (pos 5) refl) = same_Some leads.entry (of_one (from (pos 1) (pos 5) refl)) (sym leads.listed) in
     omega (arith, ap (λ (e : Entry Interval). e.routine) is, leads.same)
 
@@ -312,18 +313,18 @@ longer i = record i { size = 5 }
 
 not_taken : asks Successor any_local [] (longer (jz (pos 8))) → ⊥
 unfolding jz any_local operation_of demands_of outcome_of small
-not_taken s = unlisted _ 15 (pos 0) 15 refl refl ((s tt).1 _ (false, refl) (omega arith))
+not_taken s = unlisted _ 15 (pos 0) 15 refl refl ((s tt (by_answers small (longer (jz (pos 8))) (before any_local []) _ tt tt)).1 _ (false, refl) (omega arith))
 
 -- with all that the branch leaves of a local: [0, 5] without 0, and not [0, 6]
 narrowed : asks Successor (from (pos 0) (pos 5) refl ∷ []) [] (jz (pos 10))
 unfolding jz operation_of demands_of outcome_of small
-narrowed = λ divides. (refl, by_answers small (jz (pos 10)) (before (from (pos 0) (pos 5) refl ∷ []) []) _ (λ low. (21, refl, covered (point 0) all_words 21 refl (λ x inside. interval_sound.any x inside.word))) (λ low. (13, refl, covered (from (pos 1) (pos 5) refl) (from (pos 1) (pos 5) refl) 13 refl (λ x inside. inside))))
+narrowed = λ divides begins. (refl, by_answers small (jz (pos 10)) (before (from (pos 0) (pos 5) refl ∷ []) []) _ (λ low. (21, refl, covered (point 0) all_words 21 refl (λ x inside. interval_sound.any x inside.word))) (λ low. (13, refl, covered (from (pos 1) (pos 5) refl) (from (pos 1) (pos 5) refl) 13 refl (λ x inside. inside))))
 
 not_narrowed : asks Successor (from (pos 0) (pos 6) refl ∷ []) [] (jz (pos 10)) → ⊥
 unfolding jz operation_of demands_of outcome_of small
 not_narrowed s =
     uncovered (from (pos 1) (pos 6) refl) (from (pos 1) (pos 5) refl) 13 (pos 0) 13 6 refl refl (record { word = omega arith; member = (record { le = tt }, record { le = tt }) }) (λ inside. inside.member.1.le)
-    ((s tt).1 _ (false, refl) (omega arith))
+    ((s tt (by_answers small (jz (pos 10)) (before (from (pos 0) (pos 6) refl ∷ []) []) _ tt tt)).1 _ (false, refl) (omega arith))
 
 -- a jump goes one known way: back to 8, but not before the first byte, and of two values nowhere
 jump : Operand → Instruction
@@ -331,19 +332,19 @@ jump operand = plain opcodes.Jump (operand ∷ [])
 
 goes_back : asks Successor any_local [] (jump (Constant 0xFFFD))
 unfolding jump any_local operation_of demands_of outcome_of small
-goes_back = λ divides. (refl, by_answers small (jump (Constant 0xFFFD)) (before any_local []) _ (λ low. (8, refl, covered all_words all_words 8 refl (λ x inside. inside))) tt)
+goes_back = λ divides begins. (refl, by_answers small (jump (Constant 0xFFFD)) (before any_local []) _ (λ low. (8, refl, covered all_words all_words 8 refl (λ x inside. inside))) tt)
 
 goes_nowhere : (asks Successor any_local [] (jump (Constant 0xFFF3)) → ⊥) × (asks Successor (from (pos 1) (pos 2) refl ∷ []) [] (jump (Variable 1)) → ⊥)
 unfolding jump any_local operation_of demands_of outcome_of small
-goes_nowhere = (λ s. let place = ((s tt).1 _ (true, refl) (omega arith)).1 in cc, λ s. let certain = (s tt).0 in cc)
+goes_nowhere = (λ s. let place = ((s tt (by_answers small (jump (Constant 0xFFF3)) (before any_local []) _ tt tt)).1 _ (true, refl) (omega arith)).1 in cc, λ s. let certain = (s tt (by_answers small (jump (Variable 1)) (before (from (pos 1) (pos 2) refl ∷ []) []) _ tt tt)).0 in cc)
 
 -- nothing has to follow `quit`, what may divide by 0, or what makes the stack too high: other rules refuse the last two
 nothing_follows : asks Successor [] [] (longer (plain opcodes.Quit [])) × asks Successor (from (pos 0) (pos 5) refl ∷ []) [] (longer divide) × asks Successor [] (replicate 64 (point 7)) (longer push)
 unfolding divide push operation_of demands_of outcome_of small
 nothing_follows = (
-  λ divides. (refl, by_answers small (longer (plain opcodes.Quit [])) (before [] []) _ tt tt),
-  λ divides. absurd (divides (record { word = omega arith; member = (record { le = tt }, record { le = tt }) })),
-  λ divides. (refl, by_answers small (longer push) (before [] (replicate 64 (point 7))) _ (λ low. absurd (omega (arith, low))) tt),
+  λ divides begins. (refl, by_answers small (longer (plain opcodes.Quit [])) (before [] []) _ tt tt),
+  λ divides begins. absurd (divides (record { word = omega arith; member = (record { le = tt }, record { le = tt }) })),
+  λ divides begins. (refl, by_answers small (longer push) (before [] (replicate 64 (point 7))) _ (λ low. absurd (omega (arith, low))) tt),
 )
 
 -- ---- values that are stored
@@ -527,3 +528,54 @@ writable p within = (there, back)
             by_half n (inr (word, found, inside)) = let none = subst (λ (table : ℕ). readable_word memory (table + 2 * n) ≡ None) (sym places.3) (no_word n) in absurd cc
         by_cause (frozen e) = absurd cc
         by_cause (static above) = let at = places.2 in omega (arith, at, above, within.1)
+
+-- ---- routines that are called
+
+-- at 4 a routine begins with two locals, of 7 and 9 at first, and its code at 9; it gives 5
+two_locals : LoadedStory
+two_locals = record { memory = 0 ∷ 0 ∷ 0 ∷ 0 ∷ 2 ∷ 0 ∷ 7 ∷ 0 ∷ 9 ∷ []; objects = 0 }
+
+abbrev begun : Entry Interval
+begun = record { routine = 1; shape = before (from (pos 0) (pos 7) refl ∷ point 9 ∷ []) [] }
+
+routines : Claims Interval
+routines = record { is_frozen = λ p. false; globals = from (pos 0) (pos 4) refl ∷ []; entry = λ p. if p == 9 then Some begun else None; result = λ r. point 5; routine_at = λ p. if p == 4 then Some 0 else None }
+
+seven : In interval_operations (from (pos 0) (pos 7) refl) 7
+seven = record { word = omega arith; member = (record { le = tt }, record { le = tt }) }
+
+-- with no argument, with one that its first local takes, and with a spare one
+begins_there : Begins interval_operations routines two_locals [] 4 × Begins interval_operations routines two_locals (from (pos 0) (pos 7) refl ∷ []) 4 × Begins interval_operations routines two_locals (from (pos 0) (pos 7) refl ∷ point 9 ∷ all_words ∷ []) 4
+unfolding words_from routines two_locals
+begins_there =
+    let first = interval_sound.single 9 (omega arith) in
+    (
+      record { index = 0; routine = refl; entry = begun; listed = refl; same = refl; empty = refl; starts = (seven, (first, tt)) },
+      record { index = 0; routine = refl; entry = begun; listed = refl; same = refl; empty = refl; starts = (λ x inside. inside, (first, tt)) },
+      record { index = 0; routine = refl; entry = begun; listed = refl; same = refl; empty = refl; starts = (λ x inside. inside, (λ x inside. inside, tt)) },
+    )
+
+-- not where an argument may be 8, and not at another place
+eight : Begins interval_operations routines two_locals (point 8 ∷ []) 4 → In interval_operations (from (pos 0) (pos 7) refl) 8
+unfolding words_from routines two_locals
+eight b =
+    let is : b.entry ≡ begun = same_Some b.entry begun (sym b.listed) in
+    (subst (λ (e : Entry Interval). Starts interval_operations routines (point 8 ∷ []) (7 ∷ 9 ∷ []) e.shape.locals) is b.starts).0 8 (interval_sound.single 8 (omega arith))
+
+not_begun : (Begins interval_operations routines two_locals (point 8 ∷ []) 4 → ⊥) × (Begins interval_operations routines two_locals [] 6 → ⊥)
+unfolding routines
+not_begun = (λ b. (eight b).member.1.le, λ b. let none = b.routine in cc)
+
+-- what it gives is that of its claims; of no routine it may be any word
+gives_back : (result_at interval_operations routines 4 ≡ point 5) × (result_at interval_operations routines 6 ≡ all_words)
+unfolding routines
+gives_back = (refl, refl)
+
+-- a global doesn't take it
+untaken : TakesBack interval_operations routines 16 (Entering (point 2)) → ⊥
+unfolding routines
+untaken takes = (takes 2 (interval_sound.single 2 (omega arith)) (λ e. omega (arith, e)) 5 (interval_sound.single 5 (omega arith))).member.1.le
+
+-- the result of a call lies on the stack behind it, and that of a return doesn't
+comes : (comes_back interval_operations routines (Entering (point 2)) ≡ Some all_words) × (comes_back interval_operations routines (Returning (point 2)) ≡ None)
+comes = (refl, refl)

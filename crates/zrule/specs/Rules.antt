@@ -1,5 +1,5 @@
 -- What a certificate must say of a story: sentences over its claims (own). A rule has the number that a refusal shows.
-use Rattle.std.specs.Prelude.{◌≡◌, ℕ, suc, ◌∷◌, ◌+◌, ◌-◌, ◌*◌, ◌<◌, ◌≤◌, Bool, true, List, [], length, drop, take, Option, Some, None, IfSome, MatchOption, IsTrue, is_some, Ok, slice_get, ◌==◌, nat_lt, pos, ◌+ℤ◌}
+use Rattle.std.specs.Prelude.{◌≡◌, ℕ, suc, ◌∷◌, ◌%◌, ◌+◌, ◌-◌, ◌*◌, ◌<◌, ◌≤◌, Bool, true, List, [], length, drop, take, Option, Some, None, IfSome, MatchOption, IsTrue, is_some, Ok, slice_get, ◌==◌, nat_lt, pos, ◌+ℤ◌}
 use Rattle.std.specs.Bool.{OnTrue, MatchBool}
 use Rattle.std.specs.List.{AllZip, AllByRecursion}
 use Rattle.zstory.specs.Bytes.{word_at}
@@ -70,8 +70,9 @@ module _ {V : Type 0} (o : SetOperations V) (claims : Claims V) where
     pub no_locals : entry.shape.locals ≡ []
     pub no_slots : entry.shape.slots ≡ []
 
-  -- S3: each routine has its head in static memory
+  -- S3: each routine has its head at an even place of static memory
   pub record HasHeads (story : LoadedStory) : Type 0 where
+    pub even : (p k : ℕ) → claims.routine_at p ≡ Some k → (p % 2 == 0) ≡ true
     pub static : (p k : ℕ) → claims.routine_at p ≡ Some k → static_base story ≤ p
     pub there : (p k : ℕ) → claims.routine_at p ≡ Some k → has_head story.memory p ≡ true
 

@@ -1,6 +1,6 @@
 //! What rules ask of each routine that an instruction may call.
 
-ghost use Rattle.std.specs.Prelude.{◌≡◌, ◌↔◌, ◌*◌, ◌+◌, ◌≤◌, IsTrue, Some, length};
+ghost use Rattle.std.specs.Prelude.{◌≡◌, ◌↔◌, ◌*◌, ◌+◌, ◌≤◌, IsTrue, Some, [], length, reverse, suc};
 ghost use Rattle.zdomain.specs.declared.interval.Interval.{Interval as AnInterval};
 ghost use Rattle.zdomain.specs.Interval.{interval_operations};
 ghost use Rattle.zstory.specs.Bytes.{byte_at, word_at};
@@ -14,7 +14,7 @@ ghost use Rattle.zrule.specs.Rules.{Begins, EachCallee, Leads, Starts, result_at
 use crate::edges::{leads_given, takes};
 use crate::rule::Rule;
 use crate::site::Site;
-use zcert::Certificate;
+use zcert::{Certificate, Instruction};
 use zdomain::{Domain, Interval};
 use zflow::Known;
 
@@ -27,7 +27,7 @@ pub(crate) fn callees_keep(
     after: &Known<'_, Interval>,
     rule: Rule,
 ) -> bool
-    requires { site.entry.listed.now.address + site.entry.instruction.now.size ≤ 131072 }
+    requires { site.listed.now.address + site.instruction.now.size ≤ 131072 }
     ensures { IsTrue result ↔ EachCallee interval_operations (claims_of interval_operations site.entry.certificate.now) set (CalleeKeeps interval_operations (claims_of interval_operations site.entry.certificate.now) site.entry.story.now arguments.now site.entry.listed.now.routine (site.entry.listed.now.address + site.entry.instruction.now.size) (target site.entry.instruction.now) rule after.now) }
 {
     let mut callee = next_above(set, 0);
@@ -55,7 +55,7 @@ fn callee_keeps(
     after: &Known<'_, Interval>,
     rule: Rule,
 ) -> bool
-    requires { site.entry.listed.now.address + site.entry.instruction.now.size ≤ 131072 }
+    requires { site.listed.now.address + site.instruction.now.size ≤ 131072 }
     ensures { IsTrue result ↔ CalleeKeeps interval_operations (claims_of interval_operations site.entry.certificate.now) site.entry.story.now arguments.now site.entry.listed.now.routine (site.entry.listed.now.address + site.entry.instruction.now.size) (target site.entry.instruction.now) rule after.now (2 * packed) }
 {
     let place = 2 * u32::from(packed);
@@ -102,9 +102,17 @@ fn begins(site: Site<'_>, arguments: &[Interval], place: u32) -> bool
     let Some(first) = site.certificate.instruction_at(code) else {
         return false;
     };
-    usize::from(first.routine) == index + 1
-        && first.slots.is_empty()
-        && starts(arguments, memory, at + 1, count, first.locals)
+    opens(&first, index) && starts(arguments, memory, at + 1, count, first.locals)
+}
+
+/// Whether an instruction is listed in the routine of an index, with an empty stack.
+fn opens(first: &Instruction<'_, Interval>, index: usize) -> bool
+    ensures { IsTrue result ↔ ((first.now.routine ≡ suc index) × (reverse first.now.slots.now ≡ [])) }
+{
+    match usize::from(first.routine).checked_sub(1) {
+        Some(before) if before == index => first.slots.is_empty(),
+        _ => false,
+    }
 }
 
 /// Whether the locals that a routine begins with lie in the sets stated, where so many initial words stand from a place on.

@@ -43,7 +43,7 @@ fn most_before(lead: Lead<Interval>, target: u8) -> usize
 
 /// Whether an edge leads on, if it can be taken.
 pub(crate) fn goes_on(site: Site<'_>, edge: &Edge<'_, Interval>) -> bool
-    requires { site.entry.listed.now.address + site.entry.instruction.now.size ≤ 131072 }
+    requires { site.listed.now.address + site.instruction.now.size ≤ 131072 }
     ensures { IsTrue result ↔ IfSome edge.now.after (λ f. GoesOn interval_operations (claims_of interval_operations site.entry.certificate.now) site.entry.listed.now.routine (target site.entry.instruction.now) f (site.entry.listed.now.address + site.entry.instruction.now.size) edge.now.lead) }
 {
     match (&edge.after, edge.lead) {
@@ -57,7 +57,7 @@ pub(crate) fn goes_on(site: Site<'_>, edge: &Edge<'_, Interval>) -> bool
 
 /// Whether each routine that an edge calls begins as is said, if that can be taken.
 pub(crate) fn enters(site: Site<'_>, edge: &Edge<'_, Interval>) -> bool
-    requires { site.entry.listed.now.address + site.entry.instruction.now.size ≤ 131072 }
+    requires { site.listed.now.address + site.instruction.now.size ≤ 131072 }
     ensures { IsTrue result ↔ IfSome edge.now.after (λ f. Enters interval_operations (claims_of interval_operations site.entry.certificate.now) site.entry.story.now (argument_sets interval_operations site.entry.certificate.now.globals site.entry.instruction.now (entry_of (seen site.entry.listed.now)).shape) edge.now.lead) }
 {
     match (&edge.after, edge.lead) {
@@ -76,8 +76,8 @@ pub(crate) fn enters(site: Site<'_>, edge: &Edge<'_, Interval>) -> bool
 
 /// Whether what is known leads on to the place so many bytes behind the instruction.
 fn leads_ahead(site: Site<'_>, after: &Known<'_, Interval>, distance: i32) -> bool
-    requires { site.entry.listed.now.address + site.entry.instruction.now.size ≤ 131072 }
-    ensures { (v : ℕ) → IsTrue result ↔ GoesOn interval_operations (claims_of interval_operations site.entry.certificate.now) site.entry.listed.now.routine v after.now (site.entry.listed.now.address + site.entry.instruction.now.size) (Ahead distance) }
+    requires { site.listed.now.address + site.instruction.now.size ≤ 131072 }
+    ensures { IsTrue result ↔ GoesOn interval_operations (claims_of interval_operations site.entry.certificate.now) site.entry.listed.now.routine (target site.entry.instruction.now) after.now (site.entry.listed.now.address + site.entry.instruction.now.size) (Ahead distance) }
 {
     match u32::try_from(i64::from(site.next()) + i64::from(distance)) {
         Ok(to) => leads(site, after, to),
@@ -97,7 +97,7 @@ fn leads(site: Site<'_>, after: &Known<'_, Interval>, to: u32) -> bool
 
 /// Whether the place behind the instruction is, once its result variable is given a value of the set.
 pub(crate) fn leads_given(site: Site<'_>, after: &Known<'_, Interval>, set: Interval) -> bool
-    requires { site.entry.listed.now.address + site.entry.instruction.now.size ≤ 131072 }
+    requires { site.listed.now.address + site.instruction.now.size ≤ 131072 }
     ensures { IsTrue result ↔ Leads interval_operations (claims_of interval_operations site.entry.certificate.now) site.entry.listed.now.routine (with_result (Some set) (target site.entry.instruction.now) after.now) (site.entry.listed.now.address + site.entry.instruction.now.size) }
 {
     match listed_near(site.certificate, site.near, site.next()) {
@@ -163,7 +163,7 @@ fn may_return(certificate: &Certificate, routine: u16, set: Interval) -> bool
 
 /// Whether what an edge stores to globals lies in their sets, if it can be taken, and what the routines give that it calls.
 pub(crate) fn stores(site: Site<'_>, edge: &Edge<'_, Interval>) -> bool
-    requires { site.entry.listed.now.address + site.entry.instruction.now.size ≤ 131072 }
+    requires { site.listed.now.address + site.instruction.now.size ≤ 131072 }
     ensures { IsTrue result ↔ IfSome edge.now.after (λ f. Takes interval_operations (claims_of interval_operations site.entry.certificate.now) edge.now.outcome.gives (target site.entry.instruction.now) × TakesInPlace interval_operations (claims_of interval_operations site.entry.certificate.now) edge.now.outcome.assigns × TakesBack interval_operations (claims_of interval_operations site.entry.certificate.now) (target site.entry.instruction.now) edge.now.lead) }
 {
     let Some(after) = &edge.after else {
@@ -176,7 +176,7 @@ pub(crate) fn stores(site: Site<'_>, edge: &Edge<'_, Interval>) -> bool
 
 /// Whether the result variable takes what comes back.
 fn takes_back(site: Site<'_>, after: &Known<'_, Interval>, lead: Lead<Interval>) -> bool
-    requires { site.entry.listed.now.address + site.entry.instruction.now.size ≤ 131072 }
+    requires { site.listed.now.address + site.instruction.now.size ≤ 131072 }
     ensures { IsTrue result ↔ TakesBack interval_operations (claims_of interval_operations site.entry.certificate.now) (target site.entry.instruction.now) lead }
 {
     match lead {

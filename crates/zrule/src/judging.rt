@@ -12,6 +12,7 @@ ghost use Rattle.zrule.specs.Edges.{EdgeKeeps, EdgesKeep};
 ghost use Rattle.zflow.specs.Flow.{IsFlow};
 ghost use Rattle.zflow.specs.Transfer.{argument_sets};
 ghost use Rattle.zrule.specs.declared.rule.Rule.{Rule as ARule};
+ghost use Rattle.zrule.specs.declared.rule.Rule.TheVariants.{Successor};
 ghost use Rattle.zrule.specs.Claims.{claims_of, entry_of, Entry};
 ghost use Rattle.zrule.specs.Rules.{Asks, IsThere, HasFixedText, Keeps, IsLowestBroken};
 
@@ -78,7 +79,7 @@ fn divides(demands: &Demands<Interval>) -> bool
 
 /// Whether an edge keeps a rule.
 fn edge_keeps(site: Site<'_>, edge: &Edge<'_, Interval>, rule: Rule) -> bool
-    requires { site.entry.listed.now.address + site.entry.instruction.now.size ≤ 131072 }
+    requires { site.listed.now.address + site.instruction.now.size ≤ 131072 }
     ensures { IsTrue result ↔ EdgeKeeps interval_operations (claims_of interval_operations site.entry.certificate.now) site.entry.story.now (argument_sets interval_operations site.entry.certificate.now.globals site.entry.instruction.now (entry_of (seen site.entry.listed.now)).shape) site.entry.listed.now.routine (site.entry.listed.now.address + site.entry.instruction.now.size) (target site.entry.instruction.now) rule edge.now }
 {
     match rule {
@@ -93,7 +94,7 @@ fn edge_keeps(site: Site<'_>, edge: &Edge<'_, Interval>, rule: Rule) -> bool
 
 /// Whether both edges do, where they can be taken.
 fn edges_keep(site: Site<'_>, flow: &Flow<'_, Interval>, rule: Rule) -> bool
-    requires { site.entry.listed.now.address + site.entry.instruction.now.size ≤ 131072 }
+    requires { site.listed.now.address + site.instruction.now.size ≤ 131072 }
     ensures { IsTrue result ↔ EdgesKeep interval_operations (claims_of interval_operations site.entry.certificate.now) site.entry.story.now (argument_sets interval_operations site.entry.certificate.now.globals site.entry.instruction.now (entry_of (seen site.entry.listed.now)).shape) site.entry.listed.now.routine (site.entry.listed.now.address + site.entry.instruction.now.size) (target site.entry.instruction.now) rule flow.now }
 {
     let held = match &flow.held {
@@ -115,11 +116,28 @@ fn texts_are_fixed(story: &Story)
     text_ends_instruction();
 }
 
+/// Whether each edge of an instruction that is there leads on, as far as that is asked: not where something may be divided by 0, or what
+/// it calls doesn't begin as is said.
+fn has_successors(site: Site<'_>, flow: &Flow<'_, Interval>) -> bool
+    requires there { IsThere site.story.now site.listed.now.address site.instruction.now }
+    requires near { site.listed.now.address + site.instruction.now.size ≤ 131072 }
+    requires flow { IsFlow interval_operations site.certificate.now.globals site.instruction.now (entry_of (seen site.listed.now)).shape flow.now }
+    ensures { IsTrue result ↔ Asks interval_operations (claims_of interval_operations site.entry.certificate.now) site.entry.story.now site.entry.listed.now.address (entry_of (seen site.entry.listed.now)) site.entry.instruction.now Successor }
+{
+    if !divides(&flow.demands) {
+        return true;
+    }
+    if !edges_keep(site, flow, Rule::Called) {
+        return true;
+    }
+    flow.demands.certain && edges_keep(site, flow, Rule::Successor)
+}
+
 /// Whether an instruction that is there does what a rule asks of it.
 fn asks(site: Site<'_>, flow: &Flow<'_, Interval>, rule: Rule) -> bool
-    requires there { IsThere site.entry.story.now site.entry.listed.now.address site.entry.instruction.now }
-    requires near { site.entry.listed.now.address + site.entry.instruction.now.size ≤ 131072 }
-    requires flow { IsFlow interval_operations site.entry.certificate.now.globals site.entry.instruction.now (entry_of (seen site.entry.listed.now)).shape flow.now }
+    requires there { IsThere site.story.now site.listed.now.address site.instruction.now }
+    requires near { site.listed.now.address + site.instruction.now.size ≤ 131072 }
+    requires flow { IsFlow interval_operations site.certificate.now.globals site.instruction.now (entry_of (seen site.listed.now)).shape flow.now }
     ensures { IsTrue result ↔ Asks interval_operations (claims_of interval_operations site.entry.certificate.now) site.entry.story.now site.entry.listed.now.address (entry_of (seen site.entry.listed.now)) site.entry.instruction.now rule }
 {
     let Site {
@@ -140,11 +158,7 @@ fn asks(site: Site<'_>, flow: &Flow<'_, Interval>, rule: Rule) -> bool
             !is_known(certificate, listed, instruction, demands)
                 || has_locals(certificate, listed, instruction, demands)
         }
-        Rule::Successor => {
-            !divides(demands)
-                || !edges_keep(site, flow, Rule::Called)
-                || (demands.certain && edges_keep(site, flow, rule))
-        }
+        Rule::Successor => has_successors(site, flow),
         Rule::Divisor => divides(demands),
         Rule::Text => {
             texts_are_fixed(story);
@@ -160,9 +174,9 @@ fn asks(site: Site<'_>, flow: &Flow<'_, Interval>, rule: Rule) -> bool
 
 /// Whether a place where an instruction is keeps a rule.
 fn keeps(site: Site<'_>, flow: &Flow<'_, Interval>, rule: Rule) -> bool
-    requires there { IsThere site.entry.story.now site.entry.listed.now.address site.entry.instruction.now }
-    requires near { site.entry.listed.now.address + site.entry.instruction.now.size ≤ 131072 }
-    requires flow { IsFlow interval_operations site.entry.certificate.now.globals site.entry.instruction.now (entry_of (seen site.entry.listed.now)).shape flow.now }
+    requires there { IsThere site.story.now site.listed.now.address site.instruction.now }
+    requires near { site.listed.now.address + site.instruction.now.size ≤ 131072 }
+    requires flow { IsFlow interval_operations site.certificate.now.globals site.instruction.now (entry_of (seen site.listed.now)).shape flow.now }
     ensures { IsTrue result ↔ Keeps interval_operations (claims_of interval_operations site.entry.certificate.now) site.entry.story.now site.entry.listed.now.address (entry_of (seen site.entry.listed.now)) rule }
 {
     asks(site, flow, rule)

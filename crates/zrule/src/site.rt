@@ -29,7 +29,7 @@ impl<'s> Site<'s> {
 
     /// The place behind it.
     pub(crate) fn next(self) -> u32
-        requires { self.entry.listed.now.address + self.entry.instruction.now.size ≤ 131072 }
+        requires { self.listed.now.address + self.instruction.now.size ≤ 131072 }
         ensures { result ≡ self.entry.listed.now.address + self.entry.instruction.now.size }
     {
         self.listed.address + self.instruction.length() as u32

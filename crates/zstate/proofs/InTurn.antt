@@ -37,3 +37,13 @@ unfolding in_turn
 turns_end {A} {B} f front all s total d so_far =
     let one : with_front front (in_turn f all s) ≡ Ok (front, s) = rw d (ap (λ (bs : List B). Ok (bs, s)) (append-nil front)) in
     sym so_far ∙ one
+
+-- ---- of one thing or two
+
+pub first_fails : {A B S E : Type 0} (f : A → S → Result (B × S) E) (a : A) (rest : List A) (s : S) (e : E) → f a s ≡ Err e → in_turn f (a ∷ rest) s ≡ Err e
+unfolding in_turn
+first_fails f a rest s e h = rw h refl
+
+pub second_fails : {A B S E : Type 0} (f : A → S → Result (B × S) E) (a b : A) (rest : List A) (s t : S) (x : B) (e : E) → f a s ≡ Ok (x, t) → f b t ≡ Err e → in_turn f (a ∷ b ∷ rest) s ≡ Err e
+unfolding in_turn
+second_fails f a b rest s t x e h g = rw (h, g) refl

@@ -1,3 +1,4 @@
+pub mod Callee
 pub mod InTurn
 pub mod State
 pub mod Step

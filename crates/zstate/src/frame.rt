@@ -1,14 +1,13 @@
 //! Frames of routines.
 
-ghost use Rattle.std.specs.Prelude.{◌≡◌, ◌<◌, ◌≤◌, ◌-◌, ◌∷◌, drop, length, reverse, slice_get, slice_index, slice_set, OnOk, OnErr};
+ghost use Rattle.std.specs.Prelude.{◌≡◌, ◌<◌, ◌≤◌, ◌-◌, ◌∷◌, [], drop, length, reverse, slice_get, slice_index, slice_set, OnOk, OnErr};
+ghost use Rattle.zstate.specs.Callee.{called_of};
 ghost use Rattle.zstate.specs.State.{exists, first_frame, has_room};
 
+use crate::callee::{Callee, MAX_LOCALS};
 use arrayvec::ArrayVec;
 use std::alloc::{AllocError, Global};
 use std::marker::Model;
-
-/// The most locals that a routine has (Z 5.2).
-const MAX_LOCALS: usize = 15;
 
 /// The most words that lie on the stack of a frame (own).
 const MAX_HEIGHT: usize = 65_535;
@@ -42,6 +41,23 @@ impl Frame {
             result: 0,
             supplied: 0,
             locals: ArrayVec::new(),
+            stack: Vec::new(alloc),
+        }
+    }
+
+    /// The frame of a routine as it begins, whose stack is empty (Z 6.3.2, 6.4.4).
+    pub(crate) fn begun(alloc: Global, return_place: u32, variable: u8, callee: &Callee) -> Frame
+        ensures { result ≡ record { return_place = return_place; result = variable; supplied = (called_of callee.now).supplied; locals = (called_of callee.now).locals; stack = [] } }
+    {
+        let mut locals = ArrayVec::new();
+        let Ok(()) = locals.try_extend_from_slice(callee.locals()) else {
+            unreachable!()
+        };
+        Frame {
+            return_place,
+            result: variable,
+            supplied: callee.supplied(),
+            locals,
             stack: Vec::new(alloc),
         }
     }

@@ -4,8 +4,11 @@ ghost use Rattle.std.specs.Prelude.{◌≡◌, ◌≤◌, ◌<◌, ◌+◌, ◌*
 ghost use Rattle.zstory.specs.LoadedStory.{globals};
 ghost use Rattle.zstory.specs.Bytes.{word_at};
 ghost use Rattle.zstate.specs.State.{State as StateValue, opening, popped, at_place, give, global, read_named, read_variable, read_operand, read_operands, found, pop, Frame as FrameValue, exists, put, put_named, put_in_place, read_in_place, with_memory, write_word};
+ghost use Rattle.zstate.specs.Callee.{called_of};
 ghost use Rattle.zstate.specs.Gives.{Gives, IsNear};
+ghost use Rattle.zstate.specs.Step.{entered};
 
+use crate::callee::Callee;
 use crate::frame::Frame;
 use crate::halt::Halt;
 use crate::mode::RandomMode;
@@ -13,6 +16,7 @@ use arrayvec::ArrayVec;
 use byteorder::{BigEndian, ByteOrder};
 use std::alloc::{AllocError, Global};
 use std::marker::Model;
+use std::mem;
 use zcode::Operand;
 use zfault::{Event, Fault};
 use zstory::Story;
@@ -104,6 +108,14 @@ impl State {
         ensures { MatchOption result (self.now.callers ≡ []) (λ g. (gs : List FrameValue) × (self.now.callers ≡ g.now ∷ gs)) }
     {
         self.callers.last()
+    }
+
+    /// How many frames stand below the newest.
+    #[inline(always)]
+    pub fn depth(&self) -> usize
+        ensures { result ≡ length self.now.callers }
+    {
+        self.callers.len()
     }
 
     /// The address of the instruction that comes next. A jump may lead outside memory, below 0 too.
@@ -241,6 +253,36 @@ impl State {
         }
     }
 
+    /// The value of a single operand, and how many words its reading takes off the stack.
+    #[inline(always)]
+    #[tactic(auto, unfolding(crate::specs::InTurn::in_turn))]
+    pub fn read_one(&self, story: &Story, operand: Operand) -> Result<(u16, usize), Halt>
+        requires { length self.now.memory ≡ length story.now.memory }
+        ensures value { Gives (λ x. (x.0 ∷ [], popped x.1 self.now)) result (read_operands story.now (operand ∷ []) self.now) }
+        ensures within { IfOk result (λ x. x.1 ≤ length self.now.frame.stack) }
+    {
+        let (word, popped) = self.read_operand(story, operand, 0)?;
+        Ok((word, popped))
+    }
+
+    /// The values of two operands, the first of which is read first, and how many words their reading takes off the stack.
+    #[inline(always)]
+    #[tactic(auto, unfolding(crate::specs::InTurn::in_turn))]
+    pub fn read_two(
+        &self,
+        story: &Story,
+        first: Operand,
+        second: Operand,
+    ) -> Result<(u16, u16, usize), Halt>
+        requires { length self.now.memory ≡ length story.now.memory }
+        ensures value { Gives (λ x. (x.0 ∷ x.1 ∷ [], popped x.2 self.now)) result (read_operands story.now (first ∷ second ∷ []) self.now) }
+        ensures within { IfOk result (λ x. x.2 ≤ length self.now.frame.stack) }
+    {
+        let (left, before) = self.read_operand(story, first, 0)?;
+        let (right, popped) = self.read_operand(story, second, before)?;
+        Ok((left, right, popped))
+    }
+
     /// The values of an instruction's operands, read from left to right (Z 4.2).
     #[inline(always)]
     pub fn read_operands(&self, story: &Story, operands: &[Operand]) -> Result<Values, Halt>
@@ -367,6 +409,33 @@ impl State {
         let pushed = caller.exchange(0, word);
         self.callers.push_reserved(caller);
         pushed
+    }
+
+    /// Takes so many words off the stack, and begins a routine (Z 6.4): its frame is the newest, of which a variable takes the
+    /// result, and a return from it goes on behind an instruction of so many bytes. Want of memory is the only error, and
+    /// changes nothing.
+    pub fn enter(
+        &mut self,
+        callee: &Callee,
+        variable: u8,
+        count: usize,
+        bytes: usize,
+    ) -> Result<(), AllocError>
+        requires near { IsNear self.old.place }
+        requires small { bytes ≤ 1000000 }
+        requires within { count ≤ length self.old.frame.stack }
+        ensures ok { OnOk result (self.new ≡ entered (called_of callee.now) variable (at_place (self.old.place +ℤ pos bytes) (popped count self.old))) }
+        ensures err { OnErr result (self.new ≡ self.old) }
+    {
+        self.callers.reserve(1)?;
+        let alloc = *self.callers.allocator();
+        let behind = self.place as usize + bytes;
+        self.frame.pop(count);
+        let frame = Frame::begun(alloc, behind as u32, variable, callee);
+        let caller = mem::replace(&mut self.frame, frame);
+        self.callers.push_reserved(caller);
+        self.place = callee.place() as i32;
+        Ok(())
     }
 
     /// Leaves the newest frame: its caller is the newest, and goes on where the frame says (Z 6.4.5).

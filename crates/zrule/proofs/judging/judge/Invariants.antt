@@ -9,4 +9,4 @@ use Rattle.zrule.proofs.judging.judge.Given as goal
 
 abbrev pub invariant-loop-rule : goal.invariant-loop-rule
 invariant-loop-rule l =
-    AllByRecursion (Keeps interval_operations (claims_of interval_operations l.certificate) l.story l.listed.address (entry_of (seen l.listed))) (take l.rule-index asked)
+    AllByRecursion (Keeps interval_operations (claims_of interval_operations l.certificate) l.story l.fn.listed.address (entry_of (seen l.fn.listed))) (take l.rule-index asked)

@@ -6,5 +6,5 @@ use Rattle.zrule.proofs.judging.keeps.Goals as goal
 
 pub returns : goal.returns
 returns c =
-    let told = asks_keeps interval_operations (claims_of interval_operations c.args.certificate.now) c.args.story.now c.args.listed.now.address (entry_of (seen c.args.listed.now)) c.args.instruction.now c.requires.there c.args.rule in
+    let told = asks_keeps interval_operations (claims_of interval_operations c.args.site.certificate.now) c.args.site.story.now c.args.site.listed.now.address (entry_of (seen c.args.site.listed.now)) c.args.site.instruction.now c.requires.there c.args.rule in
     (λ t. told.0 (c.asks.ensures.0 t), λ k. c.asks.ensures.1 (told.1 k))

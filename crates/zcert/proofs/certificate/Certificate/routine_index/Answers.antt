@@ -8,4 +8,7 @@ pub returns : goal.returns
 returns g c =
     let routines = c.args.self.now.routines in
     let by_address = c.binary_search_by_key.ensures.position (λ (r : Routine _). r.address) (answers_always _ _ _ (λ f a r g k. search rules)) in
-    rw c.ok.ensures.value (searched_routine routines c.args.address c.binary_search_by_key.result c.routines.ensures.keeps.routines_rise (rw c.routines.ensures.value at c.binary_search_by_key.ensures.bound) (rw c.routines.ensures.value at by_address))
+    rw c.ok.ensures.value (record {
+      value = searched_routine routines c.args.address c.binary_search_by_key.result c.routines.ensures.keeps.routines_rise (rw c.routines.ensures.value at c.binary_search_by_key.ensures.bound) (rw c.routines.ensures.value at by_address);
+      keeps = c.routines.ensures.keeps;
+    })

@@ -1,0 +1,54 @@
+-- What listing a story file comes to (own).
+use Rattle.std.specs.Prelude.{◌≡◌, ⊤, ℕ, ◌++◌, List, [], ◌∷◌, Option, pos, codes, decimal, flat_map}
+use Rattle.std.specs.Io.KnownBytes.{Appends}
+use Rattle.zfault.specs.Devices.{AppendsBeginning}
+use Rattle.zstory.specs.LoadedStory.{LoadedStory}
+use Rattle.zcode.specs.Names.{name_of}
+use Rattle.zlist.specs.declared.list_error.ListError.{ListError}
+use Rattle.zlist.specs.declared.record.Record.{Record}
+use Rattle.zlist.specs.Listed.{IsLowestFault, Lists}
+use Rattle.zlist.specs.Listing.{IsInOrder, ListedCode}
+use Rattle.zperform.specs.Accepting.{HoldsStory, IsNoStory}
+use Rattle.zperform.specs.Report.{place_text}
+use Rattle.zperform.specs.declared.outcome.Failure.TheVariants.{File, Read, Write, Memory}
+use Rattle.zperform.specs.declared.outcome.Problem.{Problem}
+use Rattle.zperform.specs.declared.outcome.Problem.TheVariants.{Refused, Unlisted, Failed}
+use Rattle.zperform.specs.declared.outcome.Outcome.{Outcome}
+use Rattle.zperform.specs.declared.outcome.Outcome.TheVariants.{Listed, Stopped}
+
+-- an instruction's line: its address, its routine's number, and the name of its opcode (Z 14)
+abbrev pub record_line : Record → List ℕ
+record_line r = place_text (pos r.address) ++ codes " " ++ decimal r.routine ++ codes " " ++ name_of r.instruction.opcode ++ 10 ∷ []
+
+-- a line for each instruction, in order
+abbrev pub listing_text : List Record → List ℕ
+listing_text records = flat_map record_line records
+
+-- the text is that of the one listing of all that the story lists
+pub record IsListedAs (story : LoadedStory) (text : List ℕ) : Type 0 where
+  pub listing : ListedCode
+  pub lists : Lists story listing
+  pub order : IsInOrder listing
+  pub lines : text ≡ listing_text listing.records
+
+-- why a story isn't listed: of what is at fault the lowest, or want of memory
+abbrev pub IsUnlisted : LoadedStory → Problem → Type 0
+IsUnlisted story (Unlisted error) = IsLowestFault story error
+IsUnlisted story (Failed Memory) = ⊤
+IsUnlisted story problem = ⊥
+
+-- a story that a file holds has this listing
+abbrev pub HoldsListed : Option (List ℕ) → List ℕ → Type 0
+HoldsListed known text = (story : LoadedStory) × HoldsStory known story × IsListedAs story text
+
+-- why no listing is made of a file: it holds no story, or one that isn't listed
+abbrev pub IsNoListing : Option (List ℕ) → Problem → Type 0
+IsNoListing known (Unlisted error) = (story : LoadedStory) × HoldsStory known story × IsLowestFault story error
+IsNoListing known problem = IsNoStory known problem
+
+-- What listing comes to, with what the writer took before and has taken now.
+abbrev pub ListComesTo : Option (List ℕ) → Option (List ℕ) → Option (List ℕ) → Outcome → Type 0
+ListComesTo known before now Listed = (text : List ℕ) × HoldsListed known text × Appends before now text
+ListComesTo known before now (Stopped (Failed Write)) = (text : List ℕ) × HoldsListed known text × AppendsBeginning before now text
+ListComesTo known before now (Stopped problem) = IsNoListing known problem × (now ≡ before)
+ListComesTo known before now outcome = ⊥

@@ -1,0 +1,113 @@
+//! The listing of a story's file, as lines.
+
+ghost use Rattle.std.specs.Prelude.{◌≡◌, ◌≢◌, ◌⊎◌, ◌++◌, Err, IfErr, IfOk, pos};
+ghost use Rattle.std.specs.Io.KnownBytes.{Appends};
+ghost use Rattle.zfault.specs.Devices.{AppendsBeginning, RisesByOne};
+ghost use Rattle.zperform.specs.Listing.{HoldsListed, IsListedAs, IsNoListing, IsUnlisted, ListComesTo, listing_text, record_line};
+ghost use Rattle.zperform.specs.Performing.{IsFlushed};
+ghost use Rattle.zperform.specs.Report.{place_text};
+
+use crate::accepting::open_story;
+use crate::files::Files;
+use crate::message::address_text;
+use crate::outcome::{Failure, Outcome, Problem};
+use crate::performing::write_and_flush;
+use itoa::Buffer;
+use std::alloc::{AllocError, Global};
+use zfault::{Failed, Sink};
+use zlist::{Record, list_story};
+use zstory::Story;
+
+/// Writes the listing of a story's file: nothing before all of it is made.
+pub fn list_file<F: Files, W: Sink>(
+    alloc: Global,
+    story: &str,
+    files: &mut F,
+    writer: &mut W,
+) -> Outcome
+    ensures comes { ListComesTo (F.known files.old story.now) (W.contents writer.old) (W.contents writer.new) result }
+    ensures blamed { result ≡ Outcome.Stopped (Problem.Failed Failure.Write) → RisesByOne (W.failures writer.old) (W.failures writer.new) }
+    ensures quiet { result ≢ Outcome.Stopped (Problem.Failed Failure.Write) → W.failures writer.new ≡ W.failures writer.old }
+    ensures flushed { result ≢ Outcome.Stopped (Problem.Failed Failure.Write) → IsFlushed W.waits writer.old writer.new }
+    ensures unread { result ≡ Outcome.Stopped (Problem.Failed Failure.File) → RisesByOne (F.failures files.old) (F.failures files.new) }
+    ensures unfailed { result ≢ Outcome.Stopped (Problem.Failed Failure.File) → F.failures files.new ≡ F.failures files.old }
+    ensures kept { F.known files.new ≡ F.known files.old }
+{
+    match listing_of(alloc, story, files) {
+        Ok(text) => write_listing(&text, writer),
+        Err(problem) => Outcome::Stopped(problem),
+    }
+}
+
+/// Writes the lines of a listing.
+fn write_listing<W: Sink>(text: &[u8], writer: &mut W) -> Outcome
+    ensures written { result ≡ Outcome.Listed → Appends (W.contents writer.old) (W.contents writer.new) text.now }
+    ensures begun { result ≡ Outcome.Stopped (Problem.Failed Failure.Write) → AppendsBeginning (W.contents writer.old) (W.contents writer.new) text.now }
+    ensures only { (result ≡ Outcome.Listed) ⊎ (result ≡ Outcome.Stopped (Problem.Failed Failure.Write)) }
+    ensures blamed { result ≡ Outcome.Stopped (Problem.Failed Failure.Write) → RisesByOne (W.failures writer.old) (W.failures writer.new) }
+    ensures quiet { result ≢ Outcome.Stopped (Problem.Failed Failure.Write) → W.failures writer.new ≡ W.failures writer.old }
+    ensures flushed { result ≢ Outcome.Stopped (Problem.Failed Failure.Write) → IsFlushed W.waits writer.old writer.new }
+{
+    match write_and_flush(writer, text) {
+        Ok(()) => Outcome::Listed,
+        Err(Failed) => Outcome::Stopped(Problem::Failed(Failure::Write)),
+    }
+}
+
+/// The lines of the listing of a story's file.
+fn listing_of<F: Files>(alloc: Global, name: &str, files: &mut F) -> Result<Vec<u8>, Problem>
+    ensures listed { IfOk result (λ text. HoldsListed (F.known files.old name.now) text.items) }
+    ensures refused { IfErr result (IsNoListing (F.known files.old name.now)) }
+    ensures unread { result ≡ Err (Problem.Failed Failure.File) → RisesByOne (F.failures files.old) (F.failures files.new) }
+    ensures unfailed { result ≢ Err (Problem.Failed Failure.File) → F.failures files.new ≡ F.failures files.old }
+    ensures unwritten { result ≢ Err (Problem.Failed Failure.Write) }
+    ensures kept { F.known files.new ≡ F.known files.old }
+{
+    let story = open_story(alloc, name, files)?;
+    list_loaded(alloc, &story)
+}
+
+/// The lines of the listing of a story.
+fn list_loaded(alloc: Global, story: &Story) -> Result<Vec<u8>, Problem>
+    ensures listed { IfOk result (λ text. IsListedAs story.now text.items) }
+    ensures refused { IfErr result (IsUnlisted story.now) }
+{
+    let listing = list_story(alloc, story)?;
+    let text = lines_of(alloc, listing.records())?;
+    Ok(text)
+}
+
+/// A line for each instruction, in order.
+fn lines_of(alloc: Global, records: &[Record]) -> Result<Vec<u8>, AllocError>
+    ensures { IfOk result (λ text. text.items ≡ listing_text records.now) }
+{
+    let mut text = Vec::new(alloc);
+    for listed in records {
+        add_line(listed, &mut text)?;
+    }
+    Ok(text)
+}
+
+/// Adds the line of an instruction: address, number of the routine, and name, with single spaces.
+fn add_line(listed: &Record, text: &mut Vec<u8>) -> Result<(), AllocError>
+    ensures { IfOk result (λ _. text.new.items ≡ text.old.items ++ record_line listed.now) }
+{
+    add_address(listed.address, text)?;
+    text.push(b' ')?;
+    text.extend_from_slice(Buffer::new().format(listed.routine).as_bytes())?;
+    text.push(b' ')?;
+    text.extend_from_slice(listed.instruction.opcode().name().as_bytes())?;
+    text.push(b'\n')?;
+    Ok(())
+}
+
+/// Adds an address.
+fn add_address(address: u32, text: &mut Vec<u8>) -> Result<(), AllocError>
+    ensures { IfOk result (λ _. text.new.items ≡ text.old.items ++ place_text (pos address)) }
+{
+    if address < 0x100000 {
+        text.extend_from_slice(&address_text(address))
+    } else {
+        text.extend_from_slice(Buffer::new().format(address).as_bytes())
+    }
+}
