@@ -1,3 +1,4 @@
+pub mod Index
 pub mod Position
 pub mod Deed
 pub mod View

@@ -1,6 +1,6 @@
 //! What rows print.
 
-ghost use Rattle.std.specs.Prelude.{◌≡◌, ◌<◌, ◌++◌, IsOk, OnOk, OnErr, length, map};
+ghost use Rattle.std.specs.Prelude.{◌≡◌, ◌<◌, ◌∷◌, [], ◌++◌, IsOk, OnOk, OnErr, length, map};
 ghost use Rattle.zfault.specs.declared.item.Item.TheVariants.{Text};
 ghost use Rattle.std.specs.Fmt.{signed_decimal};
 ghost use Rattle.zword.specs.Binary.{signed};
@@ -27,6 +27,28 @@ pub(crate) fn give_decoded(
     text.clear();
     match decode_into(memory, at, text) {
         Ok(_) => items.give_text(text.as_slice()),
+        Err(TextError::OutOfMemory) => Err(AllocError),
+        Err(_) => unreachable!(),
+    }
+}
+
+/// Gives out the text at a place and a line's end, all or none.
+pub(crate) fn give_line(
+    memory: &[u8],
+    at: usize,
+    text: &mut Vec<u8>,
+    items: &mut Items,
+) -> Result<(), AllocError>
+    requires { IsOk (output_at memory.now at) }
+    ensures ok { OnOk result (items.new.items ≡ items.old.items ++ map Text (bytes_in (output_at memory.now at) ++ 10 ∷ [])) }
+    ensures kept { OnErr result (items.new.items ≡ items.old.items) }
+{
+    text.clear();
+    match decode_into(memory, at, text) {
+        Ok(_) => {
+            text.push(b'\n')?;
+            items.give_text(text.as_slice())
+        }
         Err(TextError::OutOfMemory) => Err(AllocError),
         Err(_) => unreachable!(),
     }

@@ -6,11 +6,13 @@ mod giving;
 mod in_place;
 mod place;
 mod quick;
+mod returning;
 mod row;
 mod running;
 mod table;
+mod turning;
 
 pub use board::Board;
-pub use row::{Action, Global, Row, Slot};
+pub use row::{Action, Asking, Global, Row, Slot};
 pub use running::{Played, play};
 pub use table::row_of;

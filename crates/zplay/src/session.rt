@@ -149,7 +149,14 @@ impl<'a> Session<'a> {
         let Some(board) = self.board.take() else {
             unreachable!()
         };
-        let played = play(board, self.rows.as_slice(), *left, &mut self.text, items);
+        let played = play(
+            board,
+            self.rows.as_slice(),
+            self.accepted.listing(),
+            *left,
+            &mut self.text,
+            items,
+        );
         self.board = Some(played.board);
         *left = played.left;
         played.outcome

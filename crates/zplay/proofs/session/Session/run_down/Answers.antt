@@ -17,7 +17,7 @@ invariant_of-self c =
     let play : IsInPlay a c.self.inside.rows.items (position_of c.in-Some.board) = played_there a c.self.inside.rows.items c.self.inside.board c.in-Some.board c.self.invariant there in
     let same : c.as_slice.result.now ≡ c.self.inside.rows.items = c.as_slice.ensures.value in
     let playable : IsPlayable (game_of a) c.as_slice.result.now (position_of c.in-Some.board) = subst (λ (rows : List Row). IsPlayable (game_of a) rows (position_of c.in-Some.board)) (sym same) play.playable in
-    let f : SoFar (game_of a) c.self.inside.rows.items c.args.left.now c.play-played.result.left (position_of c.in-Some.board) (position_of c.play-played.result.board) c.args.items.now.items c.play-played.new.items.items = subst (λ (rows : List Row). SoFar (game_of a) rows c.args.left.now c.play-played.result.left (position_of c.in-Some.board) (position_of c.play-played.result.board) c.args.items.now.items c.play-played.new.items.items) same (c.play-played.ensures.run (game_of a) playable) in
+    let f : SoFar (game_of a) c.self.inside.rows.items c.args.left.now c.play-played.result.left (position_of c.in-Some.board) (position_of c.play-played.result.board) c.args.items.now.items c.play-played.new.items.items = subst (λ (rows : List Row). SoFar (game_of a) rows c.args.left.now c.play-played.result.left (position_of c.in-Some.board) (position_of c.play-played.result.board) c.args.items.now.items c.play-played.new.items.items) same (c.play-played.ensures.run (game_of a) playable c.listing.ensures.value) in
     in_play_after a c.self.inside.rows.items _ _ play _ _ _ _ f
 
 pub returns-clause-ok : goal.returns-clause-ok
@@ -27,8 +27,8 @@ returns-clause-ok c =
     let play : IsInPlay a c.self.inside.rows.items (position_of c.in-Some.board) = played_there a c.self.inside.rows.items c.self.inside.board c.in-Some.board c.self.invariant there in
     let same : c.as_slice.result.now ≡ c.self.inside.rows.items = c.as_slice.ensures.value in
     let playable : IsPlayable (game_of a) c.as_slice.result.now (position_of c.in-Some.board) = subst (λ (rows : List Row). IsPlayable (game_of a) rows (position_of c.in-Some.board)) (sym same) play.playable in
-    let f : SoFar (game_of a) c.self.inside.rows.items c.args.left.now c.play-played.result.left (position_of c.in-Some.board) (position_of c.play-played.result.board) c.args.items.now.items c.play-played.new.items.items = subst (λ (rows : List Row). SoFar (game_of a) rows c.args.left.now c.play-played.result.left (position_of c.in-Some.board) (position_of c.play-played.result.board) c.args.items.now.items c.play-played.new.items.items) same (c.play-played.ensures.run (game_of a) playable) in
-    let told = ends_if a c.self.inside.rows.items _ _ play _ _ _ _ f c.play-played.result.outcome (c.play-played.ensures.stands (game_of a) playable) c.play-played.ensures.spent in
+    let f : SoFar (game_of a) c.self.inside.rows.items c.args.left.now c.play-played.result.left (position_of c.in-Some.board) (position_of c.play-played.result.board) c.args.items.now.items c.play-played.new.items.items = subst (λ (rows : List Row). SoFar (game_of a) rows c.args.left.now c.play-played.result.left (position_of c.in-Some.board) (position_of c.play-played.result.board) c.args.items.now.items c.play-played.new.items.items) same (c.play-played.ensures.run (game_of a) playable c.listing.ensures.value) in
+    let told = ends_if a c.self.inside.rows.items _ _ play _ _ _ _ f c.play-played.result.outcome (c.play-played.ensures.stands (game_of a) playable c.listing.ensures.value) c.play-played.ensures.spent in
     rw (← c.self.view_is, there) told
 
 pub returns-clause-made : goal.returns-clause-made
@@ -38,7 +38,7 @@ returns-clause-made c =
     let play : IsInPlay a c.self.inside.rows.items (position_of c.in-Some.board) = played_there a c.self.inside.rows.items c.self.inside.board c.in-Some.board c.self.invariant there in
     let same : c.as_slice.result.now ≡ c.self.inside.rows.items = c.as_slice.ensures.value in
     let playable : IsPlayable (game_of a) c.as_slice.result.now (position_of c.in-Some.board) = subst (λ (rows : List Row). IsPlayable (game_of a) rows (position_of c.in-Some.board)) (sym same) play.playable in
-    let f : SoFar (game_of a) c.self.inside.rows.items c.args.left.now c.play-played.result.left (position_of c.in-Some.board) (position_of c.play-played.result.board) c.args.items.now.items c.play-played.new.items.items = subst (λ (rows : List Row). SoFar (game_of a) rows c.args.left.now c.play-played.result.left (position_of c.in-Some.board) (position_of c.play-played.result.board) c.args.items.now.items c.play-played.new.items.items) same (c.play-played.ensures.run (game_of a) playable) in
+    let f : SoFar (game_of a) c.self.inside.rows.items c.args.left.now c.play-played.result.left (position_of c.in-Some.board) (position_of c.play-played.result.board) c.args.items.now.items c.play-played.new.items.items = subst (λ (rows : List Row). SoFar (game_of a) rows c.args.left.now c.play-played.result.left (position_of c.in-Some.board) (position_of c.play-played.result.board) c.args.items.now.items c.play-played.new.items.items) same (c.play-played.ensures.run (game_of a) playable c.listing.ensures.value) in
     rw (← c.self.view_is, there) (f.steps, f.all, f.made)
 
 pub returns-clause-stands : goal.returns-clause-stands
@@ -48,9 +48,9 @@ returns-clause-stands c =
     let play : IsInPlay a c.self.inside.rows.items (position_of c.in-Some.board) = played_there a c.self.inside.rows.items c.self.inside.board c.in-Some.board c.self.invariant there in
     let same : c.as_slice.result.now ≡ c.self.inside.rows.items = c.as_slice.ensures.value in
     let playable : IsPlayable (game_of a) c.as_slice.result.now (position_of c.in-Some.board) = subst (λ (rows : List Row). IsPlayable (game_of a) rows (position_of c.in-Some.board)) (sym same) play.playable in
-    let f : SoFar (game_of a) c.self.inside.rows.items c.args.left.now c.play-played.result.left (position_of c.in-Some.board) (position_of c.play-played.result.board) c.args.items.now.items c.play-played.new.items.items = subst (λ (rows : List Row). SoFar (game_of a) rows c.args.left.now c.play-played.result.left (position_of c.in-Some.board) (position_of c.play-played.result.board) c.args.items.now.items c.play-played.new.items.items) same (c.play-played.ensures.run (game_of a) playable) in
+    let f : SoFar (game_of a) c.self.inside.rows.items c.args.left.now c.play-played.result.left (position_of c.in-Some.board) (position_of c.play-played.result.board) c.args.items.now.items c.play-played.new.items.items = subst (λ (rows : List Row). SoFar (game_of a) rows c.args.left.now c.play-played.result.left (position_of c.in-Some.board) (position_of c.play-played.result.board) c.args.items.now.items c.play-played.new.items.items) same (c.play-played.ensures.run (game_of a) playable c.listing.ensures.value) in
     let accepted = ap (λ (p : Playing). p.accepted) c.self.view_is in
-    subst (λ (x : Acceptance). IfOk c.play-played.result.outcome (λ pause. Stands (setting_of x) (Paused pause) (state_in (game_of a) (position_of c.play-played.result.board)))) accepted (c.play-played.ensures.stands (game_of a) playable)
+    subst (λ (x : Acceptance). IfOk c.play-played.result.outcome (λ pause. Stands (setting_of x) (Paused pause) (state_in (game_of a) (position_of c.play-played.result.board)))) accepted (c.play-played.ensures.stands (game_of a) playable c.listing.ensures.value)
 
 pub returns-clause-err : goal.returns-clause-err
 returns-clause-err c =
@@ -59,5 +59,5 @@ returns-clause-err c =
     let play : IsInPlay a c.self.inside.rows.items (position_of c.in-Some.board) = played_there a c.self.inside.rows.items c.self.inside.board c.in-Some.board c.self.invariant there in
     let same : c.as_slice.result.now ≡ c.self.inside.rows.items = c.as_slice.ensures.value in
     let playable : IsPlayable (game_of a) c.as_slice.result.now (position_of c.in-Some.board) = subst (λ (rows : List Row). IsPlayable (game_of a) rows (position_of c.in-Some.board)) (sym same) play.playable in
-    let f : SoFar (game_of a) c.self.inside.rows.items c.args.left.now c.play-played.result.left (position_of c.in-Some.board) (position_of c.play-played.result.board) c.args.items.now.items c.play-played.new.items.items = subst (λ (rows : List Row). SoFar (game_of a) rows c.args.left.now c.play-played.result.left (position_of c.in-Some.board) (position_of c.play-played.result.board) c.args.items.now.items c.play-played.new.items.items) same (c.play-played.ensures.run (game_of a) playable) in
-    rw (← c.self.view_is) (c.play-played.ensures.err (game_of a) playable)
+    let f : SoFar (game_of a) c.self.inside.rows.items c.args.left.now c.play-played.result.left (position_of c.in-Some.board) (position_of c.play-played.result.board) c.args.items.now.items c.play-played.new.items.items = subst (λ (rows : List Row). SoFar (game_of a) rows c.args.left.now c.play-played.result.left (position_of c.in-Some.board) (position_of c.play-played.result.board) c.args.items.now.items c.play-played.new.items.items) same (c.play-played.ensures.run (game_of a) playable c.listing.ensures.value) in
+    rw (← c.self.view_is) (c.play-played.ensures.err (game_of a) playable c.listing.ensures.value)
