@@ -44,6 +44,7 @@ RT = kit()
 
 FUNCTION = re.compile(r"^([ ]*)(?:pub(?:\([^)]*\))? )?(?:const )?(?:unsafe )?fn (\w+)", re.M)
 CLAUSE = re.compile(r"^ +(?:requires|ensures|ghost)\*? ", re.M)
+TYPE = re.compile(r"^(?:pub(?:\([^)]*\))? )?(?:struct|enum) (\w+)", re.M)
 BLOCK = re.compile(r"^impl(?:<[^{]*?>)? (?:([\w:]+)(<[^{]*?>)? for )?(\w+)|^(?:pub(?:\([^)]*\))? )?trait (\w+)", re.M)
 
 
@@ -51,12 +52,17 @@ class Function:
     """A function of a file: the end of its path as the prover names it, where its text stands, and where its body does, with the braces,
     if it can be emptied. A method goes by its type, since its path is that of the type's module."""
 
-    def __init__(self, path, start, end, body, is_of_trait):
-        self.path, self.start, self.end, self.body, self.is_of_trait = path, start, end, body, is_of_trait
+    def __init__(self, path, start, end, body, is_of_trait, names_itself):
+        self.path, self.start, self.end, self.body = path, start, end, body
+        self.is_of_trait = is_of_trait
+        # A method of a trait can't have a twin, nor can a function that calls itself, since its twin would call it.
+        self.is_single = is_of_trait or names_itself
 
-    def folder(self, source):
-        """Its folder of proofs, in that of its crate."""
+    def folder(self, source, homes):
+        """Its folder of proofs, in that of its crate. A type's own methods are where the type is, by these homes of types."""
         module = module_of(source)
+        if not self.is_of_trait:
+            module = homes.get(self.path.partition("::")[0], module)
         path = self.path if not module or self.path.startswith(f"{module}::") else f"{module}::{self.path}"
         return path.replace("::", "/")
 
@@ -78,7 +84,9 @@ def functions_of(source, text):
             is_plain = not block[2]
         body = body_of(text, match, following) if is_plain else None
         path = f"{owner}::{match[2]}".removeprefix("::")
-        found.append(Function(path, match.start(), end, (body, end) if body else None, bool(match[1] and (block[1] or block[4]))))
+        is_of_trait = bool(match[1] and (block[1] or block[4]))
+        names_itself = bool(re.search(rf"\b{match[2]}\b", text[match.end() : end]))
+        found.append(Function(path, match.start(), end, (body, end) if body else None, is_of_trait, names_itself))
     return found
 
 
@@ -151,24 +159,31 @@ pub {name}_spec : {{M : Type 1}} → statement M
 """
 
 
-def emptied(crate, room, only):
-    """Empties the functions of a copy that aren't asked for: with a hole for a proof, what calls them has their contracts alone."""
+def sources_of(room):
+    """The texts of a copy's source files, and the module of each type."""
+    texts = {}
     for at, _, files in os.walk(f"{room}/src"):
         for source in (os.path.relpath(f"{at}/{name}", room) for name in files):
             with open(f"{room}/{source}", encoding="utf-8") as file:
-                text = file.read()
-            functions = [it for it in functions_of(source, text) if it.body and it.path not in only]
-            for function in reversed(functions):
-                text = f"{text[: function.body[0]]}{{ unreachable!() }}{text[function.body[1] :]}"
-            with open(f"{room}/{source}", "w", encoding="utf-8") as file:
-                file.write(text)
-            for function in functions:
-                leave_open(crate, room, source, function)
+                texts[source] = file.read()
+    return texts, {name: module_of(source) for source, text in texts.items() for name in TYPE.findall(text)}
 
 
-def leave_open(crate, room, source, function):
+def emptied(crate, room, only):
+    """Empties the functions of a copy that aren't asked for: with a hole for a proof, what calls them has their contracts alone."""
+    texts, homes = sources_of(room)
+    for source, text in texts.items():
+        functions = [it for it in functions_of(source, text) if it.body and it.path not in only]
+        for function in reversed(functions):
+            text = f"{text[: function.body[0]]}{{ unreachable!() }}{text[function.body[1] :]}"
+        with open(f"{room}/{source}", "w", encoding="utf-8") as file:
+            file.write(text)
+        for folder in (it.folder(source, homes) for it in functions):
+            leave_open(crate, room, folder)
+
+
+def leave_open(crate, room, path):
     """Puts a hole in the place of a function's proof."""
-    path = function.folder(source)
     folder = f"{room}/proofs/{path}"
     os.makedirs(folder, exist_ok=True)
     for name in ("Answers", "Invariants"):
@@ -180,16 +195,14 @@ def leave_open(crate, room, source, function):
 
 def prove_twins(room):
     """Copies the proof files of each function that has twins in a copy of a crate."""
-    for at, _, files in os.walk(f"{room}/src"):
-        for source in (os.path.relpath(f"{at}/{name}", room) for name in files):
-            with open(f"{room}/{source}", encoding="utf-8") as file:
-                twins = [it for it in functions_of(source, file.read()) if TWIN.search(it.path)]
-            for folder in (it.folder(source) for it in twins):
-                first = TWIN.sub("", folder)
-                if os.path.isdir(f"{room}/proofs/{first}"):
-                    shutil.copytree(f"{room}/proofs/{first}", f"{room}/proofs/{folder}")
-                    for name in os.listdir(f"{room}/proofs/{folder}"):
-                        rename(f"{room}/proofs/{folder}/{name}", first.replace("/", "."), folder.replace("/", "."))
+    texts, homes = sources_of(room)
+    twins = [it.folder(source, homes) for source, text in texts.items() for it in functions_of(source, text) if TWIN.search(it.path)]
+    for folder in twins:
+        first = TWIN.sub("", folder)
+        if os.path.isdir(f"{room}/proofs/{first}"):
+            shutil.copytree(f"{room}/proofs/{first}", f"{room}/proofs/{folder}")
+            for name in os.listdir(f"{room}/proofs/{folder}"):
+                rename(f"{room}/proofs/{folder}/{name}", first.replace("/", "."), folder.replace("/", "."))
 
 
 def rename(path, old, new):
@@ -290,7 +303,10 @@ def is_refused_here(place, said):
     for folder, line in lines_of(place, said):
         if line.startswith("no proof: ") and "`search` did not prove" in line:
             return True
-        errors = re.findall(rf"(?m)^\./proofs/{re.escape(folder)}/\S+: error: (.*)$", said)
+        above, _, name = folder.rpartition("/")
+        # (one that calls itself has a folder with a plus)
+        own = rf"{re.escape(f'{above}/' if above else '')}\+?{re.escape(name)}"
+        errors = re.findall(rf"(?m)^\./proofs/{own}/\S+: error: (.*)$", said)
         if line.startswith("not proved") and any(not OF_NAMES.search(it) for it in errors):
             return True
     return False
@@ -308,7 +324,7 @@ def refused_together(crate, edits, kept):
 def in_rounds(crate, edits, functions, kept):
     """Plants edits together, one in each function and the further ones in twins of it; where it can't have one, as a method of a trait,
     they wait for a later round. Answers which are refused, and which are left to be tried over the whole crate."""
-    bound = {it.path for found in functions.values() for it in found if it.is_of_trait}
+    bound = {it.path for found in functions.values() for it in found if it.is_single}
     refused, alone, left = [], [], edits
     while left:
         chosen, taken = [], {}
