@@ -30,7 +30,7 @@ use Rattle.zstate.specs.declared.halt.Stop.TheVariants as stops
 use Rattle.zstate.specs.declared.mode.RandomMode.TheVariants.{Words, Counting}
 use Rattle.zstate.specs.InTurn.{in_turn}
 use Rattle.zstate.specs.State.{Frame, State, Setting, has_head, usual_limit, scope_all, scope_only, first_frame, opening, IsFrame, IsFirst, AreFrames, IsCount, IsState, with_stack, with_locals, write_word, exists, has_room, put, put_named, put_in_place, read_in_place, popped, at_place, give, global, pop, found, read_named, read_variable, read_operand, read_operands}
-use Rattle.zstate.specs.Step.{Called, on, back, into, words_from, laid_over, calling, returning, proceeds, giving, assigning, testing, printing, quitting, decoded, fetch, printed, print_at, effect_of, way, course, admits, pauses, settle, plan, advance, changed, act, items_of, step}
+use Rattle.zstate.specs.Step.{Called, on, back, words_from, laid_over, calling, returning, proceeds, giving, assigning, testing, printing, quitting, decoded, fetch, printed, print_at, effect_of, way, course, admits, pauses, settle, plan, advance, changed, act, items_of, step}
 use Rattle.zstate.specs.Run.{stop_of, until, is_answered, need_in, awaited, run, Goes, Stands, IsLonger, IsDeeper}
 use Rattle.zstate.specs.Gives.{Gives, IsNear}
 

@@ -1,6 +1,6 @@
-use Rattle.std.proofs.Common.{◌≡◌, ◌<◌, ◌≤◌, length, take, arith, ap, ◌∙◌, refl, ℕ, List}
+use Rattle.std.proofs.Common.{arith, ◌∙◌, refl}
 use Rattle.std.proofs.lemmas.List.{length-set}
-use Rattle.zstate.specs.Step.{Called, initial, laid_over}
+use Rattle.zstate.specs.Step.{initial, laid_over}
 use Rattle.zstory.specs.Bytes.{byte_at}
 use Rattle.zstate.proofs.Locals.{one_more, length_locals, all_laid, head_within}
 use Rattle.zstate.proofs.callee.Callee.at.Goals as goal
