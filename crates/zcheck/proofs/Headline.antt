@@ -20,7 +20,7 @@ use Rattle.zrule.specs.Bytes.{IsFixed, frozen}
 use Rattle.zrule.specs.Described.{Described, IsListedIn, IsLoadedStory, IsNoFault}
 use Rattle.zrule.proofs.Listed.{entry_listed, few_there}
 use Rattle.zrule.proofs.Runs.{all_listed, run_safe}
-use Rattle.zrule.proofs.Safety.{opening_described}
+use Rattle.zrule.proofs.Opening.{opening_described}
 use Rattle.zcheck.specs.declared.refusal.StoryRule.TheVariants as rules
 use Rattle.zcheck.specs.Acceptance.{IsRecordOf, IsListingOf, RunsWithoutFault, RunsWithoutChange}
 use Rattle.zcheck.specs.Passes.{Passes}

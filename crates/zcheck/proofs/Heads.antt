@@ -1,6 +1,6 @@
 -- Routines whose heads are there can be called.
-use Rattle.std.proofs.Common.{◌≡◌, ℕ, zero, suc, ◌+◌, ◌*◌, ◌%◌, ◌≤◌, Bool, true, false, nat_lt, nat_le, List, [], ◌∷◌, length, map, Option, Some, None, arith, refl, sym, ap, subst, ◌∙◌, if◌then◌else◌}
-use Rattle.std.specs.Prelude.{◌==◌, ◌&&◌, ◌||◌, slice_get, option_map}
+use Rattle.std.proofs.Common.{◌≡◌, ℕ, zero, suc, ◌+◌, ◌*◌, ◌%◌, ◌≤◌, Bool, true, false, nat_lt, nat_le, List, [], ◌∷◌, length, map, Option, Some, None, arith, refl, subst, if◌then◌else◌}
+use Rattle.std.specs.Prelude.{◌==◌, ◌||◌, slice_get, option_map}
 use Rattle.std.specs.List.{list_any, AllByRecursion}
 use Rattle.std.proofs.lemmas.Bool.{lt-ltb, le-leb}
 use Rattle.std.proofs.lemmas.Option.{same_Some}
@@ -45,10 +45,13 @@ module _ {V : Type 0} (o : SetOperations V) (format : Format V) (story : LoadedS
       head_at p k found =
           let r = routine_at_is c.routines p k found in
           (r.0, each_at (HasHead story) c.routines k r.0 heads r.1, (each_at (IsRoutine format) c.routines k r.0 spelling.routines r.1).locals, r.2)
+
       even : (p k : ℕ) → routine_at c.routines p ≡ Some k → (p % 2 == 0) ≡ true
       even p k found = let r = head_at p k found in eq_test (p % 2) (subst (λ (n : ℕ). n % 2 ≡ 0) r.3 r.1.even)
+
       static : (p k : ℕ) → routine_at c.routines p ≡ Some k → static_base story ≤ p
       static p k found = let r = head_at p k found in subst (λ (n : ℕ). static_base story ≤ n) r.3 r.1.static
+
       there : (p k : ℕ) → routine_at c.routines p ≡ Some k → has_head story.memory p ≡ true
       there p k found = let r = head_at p k found in subst (λ (n : ℕ). has_head story.memory n ≡ true) r.3 (head_there story r.0 r.2 r.1)
 
@@ -60,6 +63,7 @@ routine_there (r ∷ rs) p k e = by_test (λ j f. routine_there rs p j f) (r.add
     by_rest : ((j : ℕ) → routine_at rs p ≡ Some j → list_any (λ a. a == p) (map (λ r. r.address) rs) ≡ true) → (o : Option ℕ) → routine_at rs p ≡ o → option_map (λ j. suc j) o ≡ Some k → list_any (λ a. a == p) (map (λ r. r.address) rs) ≡ true
     by_rest more None f e = absurd cc
     by_rest more (Some j) f e = more j f
+
     by_test : ((j : ℕ) → routine_at rs p ≡ Some j → list_any (λ a. a == p) (map (λ r. r.address) rs) ≡ true) → (b : Bool) → (r.address == p) ≡ b → (if b then Some 0 else option_map (λ j. suc j) (routine_at rs p)) ≡ Some k → ((r.address == p) || list_any (λ a. a == p) (map (λ r. r.address) rs)) ≡ true
     by_test more true is e = rw is refl
     by_test more false is e = let rest = by_rest more (routine_at rs p) refl e in rw (is, rest) refl

@@ -18,12 +18,7 @@ pub struct ArgumentSets<V> {
 impl<V: Domain> ArgumentSets<V> {
     /// The sets of the arguments of a call before which this is known: sets of the globals, of the frame's locals and of its slots,
     /// the top slot last.
-    pub fn new(
-        globals: &[V],
-        locals: &[V],
-        slots: &[V],
-        instruction: &Instr,
-    ) -> ArgumentSets<V>
+    pub fn new(globals: &[V], locals: &[V], slots: &[V], instruction: &Instr) -> ArgumentSets<V>
         ensures few { result.count ≤ 3 }
         ensures value { take result.count result.sets ≡ argument_sets V.operations globals.now instruction.now (shape_of locals.now slots.now) }
     {

@@ -79,9 +79,7 @@ impl<'a, V: Domain> View<'a, V> {
         ensures { result ≡ operand_set V.operations self.entry.globals.now operands.now (seen self.entry) index }
     {
         match operands.get(index) {
-            Some(operand) => self
-                .below(pops(&operands[..index]))
-                .values_of(*operand),
+            Some(operand) => self.below(pops(&operands[..index])).values_of(*operand),
             None => V::single(0),
         }
     }

@@ -1,5 +1,5 @@
 -- No opcode of this build calls, so that no frame stands above the first.
-use Rattle.std.proofs.Common.{◌≡◌, ℕ, Bool, true, false, List, [], ◌∷◌, Option, Some, None, Result, Ok, Err, refl, sym, ap, subst, ◌∙◌, if◌then◌else◌}
+use Rattle.std.proofs.Common.{◌≡◌, ℕ, Bool, true, false, List, [], ◌∷◌, Option, Some, None, Result, Ok, Err, refl, subst, ◌∙◌, if◌then◌else◌}
 use Rattle.std.specs.Prelude.{ℤ, pos, negsuc, ◌+ℤ◌}
 use Rattle.ztext.specs.declared.error.TextError.{TextError}
 use Rattle.ztext.specs.Output.{output_at}
@@ -14,8 +14,8 @@ use Rattle.zcode.specs.Operation.{operation_of, inputs, target}
 use Rattle.zstory.specs.LoadedStory.{LoadedStory}
 use Rattle.zstate.specs.declared.halt.Halt.{Halt}
 use Rattle.zstate.specs.InTurn.{◌>>=◌}
-use Rattle.zstate.specs.State.{Frame, State, Setting, fault, with_stack, read_operands, read_in_place}
-use Rattle.zstate.specs.Step.{Called, Move, on, back, into, Effect, Done, arg, printing, printed, print_at, fetch, effect_of, effect_if, way, turned, course, settle, plan, changed, left, moved, advance, act, step}
+use Rattle.zstate.specs.State.{Frame, State, Setting, fault, read_operands, read_in_place}
+use Rattle.zstate.specs.Step.{Move, on, back, into, Effect, Done, arg, printing, printed, print_at, fetch, effect_of, effect_if, way, turned, course, settle, plan, changed, left, moved, advance, act, step}
 use Rattle.zstate.proofs.Keeps.{bind_ok, callers_read, changed_aside}
 use Rattle.zboard.proofs.Reading.{IsOn, is_on}
 

@@ -1,5 +1,5 @@
 -- Routines that are called: the locals that they begin with, and their heads, which stay as they are.
-use Rattle.std.proofs.Common.{◌≡◌, ℕ, zero, suc, ◌+◌, ◌-◌, ◌<◌, ◌≤◌, true, List, [], ◌∷◌, length, drop, take, refl, sym, ap, subst, arith}
+use Rattle.std.proofs.Common.{◌≡◌, ℕ, zero, suc, ◌+◌, ◌≤◌, true, List, [], ◌∷◌, length, take, refl, subst, arith}
 use Rattle.std.specs.List.{AllZip}
 use Rattle.zstory.specs.Bytes.{byte_at}
 use Rattle.zdomain.specs.Domain.{SetOperations, In}

@@ -35,7 +35,7 @@ use Rattle.zrule.specs.Bytes.{IsWithin, IsChanging, IsAbbreviation, IsFixed, sta
 use Rattle.zrule.specs.Rules.{Covers, HasFirstPlace, HasGlobals, HasDisjointTables, HasFixedText, IsThere, Whatever, Leads, GoesOn, Asks, Keeps, IsLowestBroken, Supports}
 use Rattle.zrule.specs.Described.{Callers, Described, IsLoadedStory}
 use Rattle.zrule.proofs.Asking.{asks_keeps}
-use Rattle.zrule.proofs.Safety.{opening_described}
+use Rattle.zrule.proofs.Opening.{opening_described}
 
 -- ---- the story
 

@@ -16,6 +16,8 @@ mod Parts
 pub mod Stepping
 mod Called
 mod Calling
+mod Pieces
+pub mod Opening
 pub mod Safety
 pub mod Runs
 mod Worked

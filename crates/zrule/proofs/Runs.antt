@@ -13,7 +13,8 @@ use Rattle.zrule.specs.declared.rule.Rule.TheVariants as rules
 use Rattle.zrule.specs.Claims.{Claims}
 use Rattle.zrule.specs.Rules.{Supports}
 use Rattle.zrule.specs.Described.{Described, IsSafe, IsListedIn, IsNoFault, IsLoadedStory}
-use Rattle.zrule.proofs.Safety.{step_safe, opening_described}
+use Rattle.zrule.proofs.Opening.{opening_described}
+use Rattle.zrule.proofs.Safety.{step_safe}
 use Rattle.zrule.proofs.Stepping.{read_within}
 
 -- an event changes nothing that is described

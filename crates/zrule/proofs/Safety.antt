@@ -1,20 +1,17 @@
 -- A step from a described state is safe, by the parts of its effect.
-use Rattle.std.proofs.Common.{◌≡◌, ◌⊎◌, inl, inr, ℕ, zero, suc, ◌+◌, ◌-◌, ◌<◌, ◌≤◌, Bool, true, false, List, [], ◌∷◌, ◌++◌, length, drop, take, Option, Some, None, Result, Ok, Err, refl, sym, ap, subst, ◌∙◌, arith, nat_lt, nat_le, slice_set, if◌then◌else◌}
-use Rattle.std.specs.Prelude.{ℤ, pos, ◌+ℤ◌, IsOk, IfSome, MatchOption, IsTrue, is_some, option_map, slice_get, slice_index, ◌==◌, ◌&&◌, ◌||◌, ◌^◌}
+use Rattle.std.proofs.Common.{◌≡◌, ◌⊎◌, inl, inr, ℕ, zero, suc, ◌+◌, ◌-◌, ◌<◌, ◌≤◌, Bool, true, false, List, [], ◌∷◌, ◌++◌, length, drop, Option, Some, None, Result, Ok, Err, refl, sym, ap, subst, ◌∙◌, arith, nat_lt, slice_set, if◌then◌else◌}
+use Rattle.std.specs.Prelude.{ℤ, pos, ◌+ℤ◌, IsOk, IfSome, MatchOption, IsTrue, is_some, option_map, slice_get, ◌==◌, ◌&&◌, ◌||◌}
 use Rattle.std.specs.Bool.{OnTrue, MatchBool}
 use Rattle.std.specs.List.{AllZip, AllByRecursion}
-use Rattle.std.proofs.lemmas.Bool.{ltb-false, ltb-true, lt-ltb, ne_eqb, eqb-true}
-use Rattle.std.proofs.lemmas.List.{get_or-set_same, length-set, length-drop}
-use Rattle.zword.specs.declared.binary.BinaryOp.{BinaryOp}
-use Rattle.zword.specs.declared.binary.BinaryOp.TheVariants.{Add, Sub, Mul, Div, Mod, Or, And}
+use Rattle.std.proofs.lemmas.Bool.{ltb-false, eqb-true}
+use Rattle.std.proofs.lemmas.List.{length-drop}
 use Rattle.zword.specs.declared.question.Question.{Question}
 use Rattle.zword.specs.declared.question.Question.TheVariants.{Equal}
 use Rattle.zword.specs.declared.count.CountOp.{CountOp}
-use Rattle.zword.specs.Binary.{is_defined}
 use Rattle.zword.specs.Question.{holds}
 use Rattle.zword.specs.Count.{counting as counts_by, counted}
 use Rattle.zstory.specs.Bytes.{byte_at}
-use Rattle.zstory.specs.LoadedStory.{LoadedStory, static_base, first_instruction}
+use Rattle.zstory.specs.LoadedStory.{static_base}
 use Rattle.zfault.specs.declared.fault.Fault.TheVariants.{UnlistedCall}
 use Rattle.ztext.specs.declared.error.TextError.{TextError}
 use Rattle.ztext.specs.Words.{text_at, front_text}
@@ -36,20 +33,20 @@ use Rattle.zdomain.specs.Domain.{SetOperations, AreSound, In, Within}
 use Rattle.zstate.specs.declared.halt.Halt.{Halt}
 use Rattle.zstate.specs.declared.halt.Halt.TheVariants as halts
 use Rattle.zstate.specs.InTurn.{◌>>=◌}
-use Rattle.zstate.specs.State.{Frame, State, Setting, IsState, opening, at_place, popped, with_stack, with_locals, with_memory, write_word, global, has_room, exists, put_named, put_in_place, read_in_place, read_operands, has_head, fault}
-use Rattle.zstate.specs.Step.{Called, Move, on, back, into, returning, calling, closing, called_at, call_of, unpacked, arguments, initial, behind_head, place_of, entered, Effect, Done, way, arg, asked_of, giving, assigning, testing, printing, jumping, fetch, printed, print_at, effect_of, effect_if, has_caller, is_taken, is_roomy, turned, course, admits, pauses, settle, assigned, changed, stored, left, moved, advance, act, step}
-use Rattle.zstate.proofs.Keeps.{bind_ok, put_aside, changed_aside, step_keeps}
+use Rattle.zstate.specs.State.{Frame, State, Setting, IsState, at_place, popped, with_stack, with_locals, with_memory, write_word, global, has_room, exists, put_named, put_in_place, read_in_place, read_operands, has_head, fault}
+use Rattle.zstate.specs.Step.{Called, Move, on, back, into, calling, closing, called_at, call_of, unpacked, arguments, initial, behind_head, place_of, entered, Effect, Done, way, arg, asked_of, giving, assigning, testing, printing, jumping, fetch, printed, print_at, effect_of, effect_if, has_caller, is_taken, is_roomy, turned, course, admits, pauses, assigned, changed, stored, left, moved, advance, act, step}
+use Rattle.zstate.proofs.Keeps.{put_aside, changed_aside, step_keeps}
 use Rattle.zflow.specs.declared.parts.Lead.{Lead}
 use Rattle.zflow.specs.declared.parts.Lead.TheVariants.{Ahead, Returning, Entering}
 use Rattle.zflow.specs.declared.parts.Kept.{Kept}
 use Rattle.zflow.specs.declared.parts.Outcome.{Outcome}
 use Rattle.zflow.specs.declared.parts.Demands.{Demands}
-use Rattle.zflow.specs.Transfer.{Shape, pops, variable_set, small, local_kept, operand_kept, both_kept, untold, counted_set, demands_of, demands_if, goes_on, gives_in, assigns_in, asks, counts_in, returns_in, enters_in, argument_sets, locals_with, jumps, outcome_of, outcome_if, leading, turned_to, named_with, with_result, with_assigned, narrowed, read_set, mid_shape, changed_by, after}
+use Rattle.zflow.specs.Transfer.{Shape, pops, variable_set, small, local_kept, operand_kept, both_kept, untold, counted_set, demands_of, demands_if, goes_on, gives_in, assigns_in, asks, counts_in, returns_in, enters_in, argument_sets, jumps, outcome_of, outcome_if, leading, turned_to, named_with, with_result, with_assigned, narrowed, read_set, mid_shape, changed_by, after}
 use Rattle.zrule.specs.declared.rule.Rule.TheVariants as rules
 use Rattle.zrule.specs.Claims.{Claims}
-use Rattle.zrule.specs.Rules.{Begins, Enters, CallsBegin, TakesBack, result_if, result_at, Leads, IsThere, HasFixedText, IsKnown, IsNamed, IsVariable, HasTop, Supports, Takes, TakesInPlace, GoesOn, Returns, OnEdge, demands_at}
+use Rattle.zrule.specs.Rules.{Begins, Enters, TakesBack, result_if, result_at, Leads, IsThere, HasFixedText, IsKnown, IsNamed, IsVariable, HasTop, Supports, Takes, TakesInPlace, GoesOn, Returns, OnEdge, demands_at}
 use Rattle.zrule.specs.Described.{Callers, Described, DescribedMemory, Fits, FitsWith, IsSafe, IsListedIn, IsLoadedStory}
-use Rattle.zrule.proofs.Sets.{pops_cons, ReadsAll, reads_all, fits_popped, zip_set, zip_length}
+use Rattle.zrule.proofs.Sets.{ReadsAll, reads_all, fits_popped, zip_set, zip_length}
 use Rattle.zrule.proofs.Unchanged.{static_fixed, drop_same, abbreviation_same}
 use Rattle.zrule.proofs.Called.{starts_in, called_same, head_same, arguments_in}
 use Rattle.zrule.proofs.Settling.{PausesAtMost, pauses_fine, pauses_there, pauses_none, pauses_full, room_there, admits_is}
@@ -58,66 +55,7 @@ use Rattle.zrule.proofs.Fitting.{IsIn, exists_in, named_in, length_with, given_f
 use Rattle.zrule.proofs.Memory.{global_put}
 use Rattle.zrule.proofs.Parts.{Hold, HoldsOne, narrowed_fits, variable_there, small_is}
 use Rattle.zrule.proofs.Stepping.{fetch_is, done_at, made_by, step_is}
-
-not_both : (b : Bool) → b ≡ true → b ≡ false → ⊥
-not_both true e f = cc
-not_both false e f = cc
-
-on_true : (b : Bool) (A B : Type 0) → OnTrue b (A → B) → A → OnTrue b B
-on_true true A B f a = f a
-on_true false A B f a = tt
-
-first_there : {V : Type 0} (o : SetOperations V) (claims : Claims V) (xs : List Operand) (e : Shape V) → pops xs ≤ length e.slots → AllByRecursion (IsNamed o claims e) xs → (pops (take 1 xs) ≤ length e.slots) × IfSome (slice_get xs 0) (IsNamed o claims e)
-first_there o claims [] e few named = (few, tt)
-first_there o claims (x ∷ xs) e few named = (let count = pops_cons x xs in omega (arith, count, few), named.0)
-
--- a local that was given a value
-assigned_local : (story : LoadedStory) (v x : ℕ) (u : State) → 1 ≤ v → v < 16 → v ≤ length u.frame.locals → slice_index (put_in_place story v x u).frame.locals (v - 1) ≡ x
-unfolding put_in_place put_named
-assigned_local story v x u least few exists = let n = ne_eqb v 0 (λ e. omega (arith, e, least)) in let e = lt-ltb v 16 few in rw (n, e) (get_or-set_same u.frame.locals (v - 1) x 0 (omega (arith, least, exists)))
-
-at_least_one : (v : ℕ) → nat_le 1 v ≡ true → 1 ≤ v
-at_least_one zero e = absurd cc
-at_least_one (suc v) e = omega arith
-
-length_assigned : {V : Type 0} (a : Option (ℕ × V)) (e : Shape V) → length (with_assigned a e).locals ≡ length e.locals
-length_assigned None e = refl
-length_assigned (Some p) e = by_kind (p.0 == 0) (nat_lt p.0 16)
-  where
-    by_kind : (b c : Bool) → length (if b then e.locals else (if c then slice_set e.locals (p.0 - 1) p.1 else e.locals)) ≡ length e.locals
-    by_kind true c = refl
-    by_kind false true = length-set e.locals (p.0 - 1) p.1
-    by_kind false false = refl
-
-edge_of : {A : Type 0} (r : Option A) (Q : A → Type 0) → MatchOption r ⊥ Q → (f : A) × (r ≡ Some f) × Q f
-edge_of None Q h = absurd h
-edge_of (Some f) Q h = (f, refl, h)
-
--- what divides by a value that isn't 0 is defined
-defined_where : {V : Type 0} (o : SetOperations V) (op : BinaryOp) (a : V) (y : ℕ) → IfSome (demands_of o (Binary op) (λ k. a)).divisor (λ a. In o a 0 → ⊥) → In o a y → is_defined op y ≡ true
-unfolding demands_of
-defined_where o Add a y h member = refl
-defined_where o Sub a y h member = refl
-defined_where o Mul a y h member = refl
-defined_where o Or a y h member = refl
-defined_where o And a y h member = refl
-defined_where o Div a y h member = let n = ne_eqb y 0 (λ e. h (subst (λ (n : ℕ). In o a n) e member)) in rw n refl
-defined_where o Mod a y h member = let n = ne_eqb y 0 (λ e. h (subst (λ (n : ℕ). In o a n) e member)) in rw n refl
-
-same_read : (x y : List ℕ × State) → ◌≡◌ {A = Result (List ℕ × State) Halt} (Ok x) (Ok y) → x ≡ y
-same_read x y e = cc
-
-same_done : (x y : Done) → ◌≡◌ {A = Result Done Halt} (Ok x) (Ok y) → x ≡ y
-same_done x y e = cc
-
-module _ {V : Type 0} (o : SetOperations V) (lawful : AreSound o) where
-  kept_holds : (v : ℕ) (a : V) (locals : List ℕ) → (1 ≤ v → v < 16 → In o a (slice_index locals (v - 1))) → HoldsOne o lawful (local_kept v a) locals
-  kept_holds v a locals has = by_test (nat_le 1 v) (nat_lt v 16) refl refl
-    where
-      by_test : (b c : Bool) → nat_le 1 v ≡ b → nat_lt v 16 ≡ c → HoldsOne o lawful (if b && c then Some (v, a) else None) locals
-      by_test true true e f = has (at_least_one v e) (ltb-true v 16 f)
-      by_test true false e f = tt
-      by_test false c e f = tt
+use Rattle.zrule.proofs.Pieces.{not_both, on_true, first_there, assigned_local, length_assigned, edge_of, defined_where, same_read, kept_holds}
 
 module _ {V : Type 0} (o : SetOperations V) (lawful : AreSound o) (claims : Claims V) (m : Setting) (loaded : IsLoadedStory m.story) (supports : Supports o claims m.story) (listed : IsListedIn o claims m.scope) (s : State) (d : Described o claims m.limit m.story s) (i : Instruction) (there : IsThere m.story d.at i) where
   abbrev operands : List Operand
@@ -376,8 +314,6 @@ module _ {V : Type 0} (o : SetOperations V) (lawful : AreSound o) (claims : Clai
       by_kind least few false true e f h = h
       by_kind least few b false e f h = absurd (let g = ltb-false v 16 f in omega (arith, g, few))
 
-  -- ---- by operations
-
   -- what prints, or does nothing, and goes on
   goes_expected : (k : Operation) (bytes : List ℕ) → ComesOf (Some k) goes_on → Expected (Some k) (Ok (printing bytes))
   unfolding Expected LeadsIn AssignedIn changed
@@ -470,8 +406,6 @@ module _ {V : Type 0} (o : SetOperations V) (lawful : AreSound o) (claims : Clai
   jumps_expected : (x : ℕ) → o.known (args 0) ≡ Some x → arg all.values 0 ≡ x → Expected (Some Jump) (Ok (jumping (arg all.values 0)))
   unfolding Expected LeadsIn AssignedIn outcome_of changed
   jumps_expected x known is = inr (jumps x, (true, rw known refl), record { gives = tt; assigns = tt; tests = refl; leads = rw is refl; kept = (tt, tt); needs = refl; goes = refl })
-
-  -- ---- returns and calls
 
   returns_expected : (k : Operation) (bytes : List ℕ) (a : V) (x : ℕ) → ComesOf (Some k) (returns_in a) → In o a x → Expected (Some k) (Ok (record (printing bytes) { moves = back x }))
   unfolding Expected LeadsIn AssignedIn changed
@@ -771,6 +705,7 @@ module _ {V : Type 0} (o : SetOperations V) (lawful : AreSound o) (claims : Clai
     where
       ok : made_by m t i effect ≡ (pauses m.limit (target i) effect (course effect i.branch) t >>= λ _. Ok (done_at m t i effect))
       ok = settled effect (admitted w effect comes matches)
+
       by_room : (b : Bool) → is_roomy m.limit (course effect i.branch) s.frame.result s.callers ≡ b → ((x : Done) × (made_by m t i effect ≡ Ok x)) ⊎ ((made_by m t i effect ≡ Err halts.Quit) ⊎ ((made_by m t i effect ≡ Err halts.FrameLimit) × (m.limit ≤ length s.callers)))
       by_room true e =
           let none = pauses_none m.limit (target i) effect (course effect i.branch) t matches.needs matches.goes (room_there (target i) t.frame low_read) e in
@@ -860,26 +795,3 @@ module _ {V : Type 0} (o : SetOperations V) (lawful : AreSound o) (claims : Clai
   -- what it calls is a routine that begins as is said
   pub calls_begin : operation_of i.opcode ≡ Some Call → (values : List ℕ) (u : State) → read_operands m.story (inputs i) s ≡ Ok (values, u) → (arg values 0 == 0) ≡ false → Begins o claims m.story (argument_sets o claims.globals i d.entry.shape) (unpacked (arg values 0))
   calls_begin = called_as_said o lawful claims m loaded supports listed s d i there
-
--- the opening state
-pub opening_described : {V : Type 0} (o : SetOperations V) (claims : Claims V) (story : LoadedStory) (limit : ℕ) → Supports o claims story → Described o claims limit story (opening story)
-opening_described o claims story limit supports =
-    let first = supports.first in
-    record {
-      is_state = record {
-        memory = refl;
-        frames = (record { reached = omega arith; supplied = omega arith; locals = omega arith; stack = omega arith }, record { return_place = refl; result = refl; supplied = refl; locals = refl });
-        few = omega arith;
-        count = tt;
-      };
-      at = first_instruction story;
-      place = refl;
-      entry = first.entry;
-      listed = first.listed;
-      fits = record {
-        in_locals = subst (λ xs. AllZip (In o) xs []) (sym first.no_locals) tt;
-        in_slots = subst (λ xs. AllZip (In o) xs []) (sym first.no_slots) tt;
-      };
-      callers = first.main;
-      memory = record { long = refl; values = supports.values; fixed = λ p h. refl };
-    }

@@ -548,8 +548,7 @@ seven = record { word = omega arith; member = (record { le = tt }, record { le =
 begins_there : Begins interval_operations routines two_locals [] 4 × Begins interval_operations routines two_locals (from (pos 0) (pos 7) refl ∷ []) 4 × Begins interval_operations routines two_locals (from (pos 0) (pos 7) refl ∷ point 9 ∷ all_words ∷ []) 4
 unfolding words_from routines two_locals
 begins_there =
-    let first = interval_sound.single 9 (omega arith) in
-    (
+    let first = interval_sound.single 9 (omega arith) in (
       record { index = 0; routine = refl; entry = begun; listed = refl; same = refl; empty = refl; starts = (seven, (first, tt)) },
       record { index = 0; routine = refl; entry = begun; listed = refl; same = refl; empty = refl; starts = (λ x inside. inside, (first, tt)) },
       record { index = 0; routine = refl; entry = begun; listed = refl; same = refl; empty = refl; starts = (λ x inside. inside, (λ x inside. inside, tt)) },

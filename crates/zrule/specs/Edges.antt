@@ -1,16 +1,15 @@
 -- What rules ask of each edge of an instruction (own).
-use Rattle.std.specs.Prelude.{◌≡◌, ℕ, ◌<◌, ◌≤◌, List, Option, Some, IfSome, MatchOption, length}
+use Rattle.std.specs.Prelude.{ℕ, ◌<◌, ◌≤◌, List, Option, Some, IfSome, MatchOption, length}
 use Rattle.zstory.specs.LoadedStory.{LoadedStory}
 use Rattle.zdomain.specs.Domain.{SetOperations, In}
 use Rattle.zflow.specs.declared.parts.Lead.{Lead}
-use Rattle.zflow.specs.declared.parts.Lead.TheVariants.{Ahead, Returning, Entering}
 use Rattle.zflow.specs.declared.flow.Edge.{Edge}
 use Rattle.zflow.specs.declared.flow.Flow.{Flow}
 use Rattle.zflow.specs.Transfer.{Shape, slots_with, with_result}
 use Rattle.zrule.specs.declared.rule.Rule.{Rule}
 use Rattle.zrule.specs.declared.rule.Rule.TheVariants as rules
 use Rattle.zrule.specs.Claims.{Claims}
-use Rattle.zrule.specs.Rules.{Begins, EachCallee, Enters, GoesOn, Leads, Returns, Takes, TakesBack, TakesInPlace, comes_back, result_at}
+use Rattle.zrule.specs.Rules.{Begins, Enters, GoesOn, Leads, Returns, Takes, TakesBack, TakesInPlace, comes_back, result_at}
 
 -- the least word of a set above a word, if there is one
 abbrev pub IsNextAbove : {V : Type 0} → SetOperations V → V → ℕ → Option ℕ → Type 0

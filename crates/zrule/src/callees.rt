@@ -62,7 +62,11 @@ fn callee_keeps(
     match rule {
         Rule::Called => begins(site, arguments, place),
         Rule::Successor => leads_given(site, after, result_at(site.certificate, place)),
-        Rule::Stored => takes(site.certificate, Some(result_at(site.certificate, place)), site.target()),
+        Rule::Stored => takes(
+            site.certificate,
+            Some(result_at(site.certificate, place)),
+            site.target(),
+        ),
         _ => true,
     }
 }
@@ -116,13 +120,7 @@ fn opens(first: &Instruction<'_, Interval>, index: usize) -> bool
 }
 
 /// Whether the locals that a routine begins with lie in the sets stated, where so many initial words stand from a place on.
-fn starts(
-    arguments: &[Interval],
-    memory: &[u8],
-    at: usize,
-    count: u8,
-    locals: &[Interval],
-) -> bool
+fn starts(arguments: &[Interval], memory: &[u8], at: usize, count: u8, locals: &[Interval]) -> bool
     requires { at + 2 * count ≤ 1000000 }
     ensures { (claims : Claims AnInterval) → IsTrue result ↔ Starts interval_operations claims arguments.now (words_from memory.now at count) locals.now }
 {

@@ -1,4 +1,3 @@
-use Rattle.std.proofs.Common.{arith}
 use Rattle.zdomain.specs.Interval.{interval_operations}
 use Rattle.zrule.proofs.Calling.{starts_none, starts_short, starts_free, starts_given}
 use Rattle.zrule.proofs.callees.+starts.Goals as goal

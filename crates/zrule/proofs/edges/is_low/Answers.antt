@@ -1,5 +1,3 @@
-use Rattle.std.proofs.Common.{Some, ◌↔◌, ◌≤◌, length}
-use Rattle.std.specs.Prelude.{IsTrue, IfSome}
 use Rattle.zdomain.specs.Interval.{interval_operations}
 use Rattle.zrule.specs.Edges.{StaysLow}
 use Rattle.zrule.proofs.Calling.{if_there}

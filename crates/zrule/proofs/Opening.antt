@@ -1,0 +1,31 @@
+-- The state in which a story opens is described.
+use Rattle.std.proofs.Common.{ℕ, [], refl, sym, subst, arith}
+use Rattle.std.specs.List.{AllZip}
+use Rattle.zstory.specs.LoadedStory.{LoadedStory, first_instruction}
+use Rattle.zdomain.specs.Domain.{SetOperations, In}
+use Rattle.zstate.specs.State.{opening}
+use Rattle.zrule.specs.Claims.{Claims}
+use Rattle.zrule.specs.Rules.{Supports}
+use Rattle.zrule.specs.Described.{Described}
+
+pub opening_described : {V : Type 0} (o : SetOperations V) (claims : Claims V) (story : LoadedStory) (limit : ℕ) → Supports o claims story → Described o claims limit story (opening story)
+opening_described o claims story limit supports =
+    let first = supports.first in
+    record {
+      is_state = record {
+        memory = refl;
+        frames = (record { reached = omega arith; supplied = omega arith; locals = omega arith; stack = omega arith }, record { return_place = refl; result = refl; supplied = refl; locals = refl });
+        few = omega arith;
+        count = tt;
+      };
+      at = first_instruction story;
+      place = refl;
+      entry = first.entry;
+      listed = first.listed;
+      fits = record {
+        in_locals = subst (λ xs. AllZip (In o) xs []) (sym first.no_locals) tt;
+        in_slots = subst (λ xs. AllZip (In o) xs []) (sym first.no_slots) tt;
+      };
+      callers = first.main;
+      memory = record { long = refl; values = supports.values; fixed = λ p h. refl };
+    }
