@@ -81,6 +81,9 @@ impl Opcode {
             Opcode::NewLine => Operation::NewLine,
             Opcode::Nop | Opcode::Pop => Operation::Nop,
             Opcode::Quit => Operation::Quit,
+            Opcode::Ret | Opcode::Rtrue | Opcode::Rfalse | Opcode::RetPopped => Operation::Return,
+            Opcode::PrintRet => Operation::PrintReturn,
+            Opcode::Call => Operation::Call,
             _ => return None,
         })
     }
