@@ -8,6 +8,7 @@ import re
 import sys
 
 from program import Count, Program, side_by_side
+from calls import PRINT_FIRST, RET_POPPED, call
 from samples import HELLO, NOP, QUIT, certificate, interval, story
 
 REFUSED = re.compile(rb"refused: [LKSI][0-9]{1,2}( at [0-9a-f]{5})?\n")
@@ -42,13 +43,12 @@ def what_is_wrong(program, files):
 def main():
     program = Program(sys.argv[1])
     count = Count("altered")
-    # behind the first quit is a routine of one local, which isn't reached, with two slots
-    slots = interval(1, 2) + interval(-1, 3)
-    inside = (1, interval(0, 5))
-    made = story(HELLO + QUIT + b"\x01\0\0" + NOP + QUIT)
+    # the main code calls a routine of one local, which gives what it pushes
+    made = story(HELLO + call(0x334, 16, 3) + PRINT_FIRST + QUIT + b"\0" + b"\x01\0\0" + b"\xe8\xbf\x01" + NOP + RET_POPPED)
+    inside, slot = (1, interval(1, 4)), interval(0, 5)
     listed = certificate(
-        made, [0x324, 0x329, 0x32D, 0x32E], stacks={0x32D: slots, 0x32E: slots}, ranges=[(0x230, 0x231), (0x240, 0x240)],
-        routines=[(0x32A, 1)], inside={0x32D: inside, 0x32E: inside},
+        made, [0x324, 0x329, 0x32F, 0x332, 0x337, 0x33A, 0x33B], stacks={0x33A: slot, 0x33B: slot}, ranges=[(0x230, 0x231), (0x240, 0x240)],
+        routines=[(0x334, 1, (0, 5))], inside=dict.fromkeys([0x337, 0x33A, 0x33B], inside), own={16: (0, 5)},
     )
     cases = [(f"story, {name}", {"story": file, "certificate": listed}) for name, file in changes(made)]
     cases += [(f"certificate, {name}", {"story": made, "certificate": file}) for name, file in changes(listed)]

@@ -9,6 +9,7 @@ import os
 import subprocess
 import sys
 
+from calls import see_calls
 from plays import see_plays
 from program import Answer, Count, Program
 from samples import CODE, HELLO, NEW_LINE, NOP, QUIT, certificate, changed, interval, story, with_objects
@@ -312,6 +313,7 @@ def main():
     for name, words, given, wanted in COMMANDS:
         count.is_answer(name, program.run(words, given), wanted)
     see_plays(program, count)
+    see_calls(program, count)
     see_streams(program, count)
     count.end()
 

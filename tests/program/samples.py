@@ -59,14 +59,14 @@ def certificate(made, addresses, values=(0, 0), release=RELEASE, stacks=None, ra
     own, which are given for the number of its variable. The stack is
     empty, or has the intervals that are given for the address, the bottom one first. An instruction is in the main code, or in the
     routine whose number is given for the address, with its locals. A frozen range is its first and its last place, a routine its
-    address and its count of locals, and it may give any word."""
+    address, its count of locals and what it may give, which is any word where nothing is said."""
     stacks, inside, own = stacks or {}, inside or {}, own or {}
     parts = [b"ZPCC\x01", struct.pack(">H6s2sI", release, SERIAL, made[0x1C:0x1E], len(made))]
     parts.append(word(len(ranges)))
     parts.extend(struct.pack(">HH", *it) for it in ranges)
     parts.extend(interval(*own.get(number, values)) for number in range(16, 256))
     parts.append(word(len(routines)))
-    parts.extend(struct.pack(">IB", *it) + interval(-32768, 32767) for it in routines)
+    parts.extend(struct.pack(">IB", at, count) + interval(*(result or [(-32768, 32767)])[0]) for at, count, *result in routines)
     parts.append(struct.pack(">I", len(addresses)))
     for address in addresses:
         slots = stacks.get(address, b"")

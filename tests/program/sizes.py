@@ -8,6 +8,8 @@ No clause says that a call succeeds where there is memory, so these runs do. Wha
 import struct
 import sys
 
+from calls import RET_POPPED, RTRUE, call_with, deep, files, routine
+from plays import PRINT_TOP, PUSH
 from program import Answer, Count, Program
 from samples import CODE, DICTIONARY, NEW_LINE, NOP, QUIT, certificate, interval, printed, story, text
 
@@ -100,6 +102,27 @@ def most_routines(program, count):
     see(program, count, "15 locals and stacks of 64", made, listed, b"\n")
 
 
+def deepest(program, count):
+    """As many frames above the first as there may be, each with 15 locals and, but the newest, with as many words on its stack as a
+    session has room for."""
+    words, place = list(range(1, 16)), CODE + 28
+    rest = [(it, it) for it in words[1:]]
+    before, after = [(1, 1023), *rest], [(0, 1022), *rest]
+    one = interval(1, 1)
+    lines = [(b"\xa0\x01\x80\xca", [(0, 1023), *rest]), (b"\x55\x01\x01\x01", before)]
+    lines += [(PUSH + b"\x01", after, one * it) for it in range(63)]
+    lines += [(call_with(place, 0, 1), after, one * 63), (RET_POPPED, after, one * 63 + interval(15, 15)), (b"\xab\x0f", [(0, 0), *rest])]
+    made = files(deep(1023, place), [routine(place, words, (15, 15), *lines)])
+    see(program, count, "1,024 frames of 15 locals and 64 words", made["story"], made["certificate"], b"15")
+
+
+def most_callees(program, count):
+    """A call by a word that may lead to each of 31,001 routines."""
+    main = [b"\xe8\x3f\x03\xe8", (b"\xe0\xbf\x00\x00", interval(1000, 32000)), (PRINT_TOP, interval(1, 1)), QUIT]
+    made = files(main, [routine(place, [], (1, 1), (RTRUE, [])) for place in range(2000, 64001, 2)])
+    see(program, count, "31,001 routines that a call may enter", made["story"], made["certificate"], b"1")
+
+
 def most_ranges(program, count):
     """As many frozen ranges as two bytes can place, of which the first isn't behind the header; and as many as property defaults
     have room for."""
@@ -160,6 +183,8 @@ def main():
     longest(program, count)
     highest(program, count)
     most_routines(program, count)
+    deepest(program, count)
+    most_callees(program, count)
     most_ranges(program, count)
     long_certificates(program, count)
     long_texts(program, count)
