@@ -179,7 +179,7 @@ def deep(count, place=A):
     return printing(b"\xe0\x0f" + word(place // 2) + word(count) + b"\x00", WIDE)
 
 
-FOR_EVER = [routine(A, [], (0, 0), (call(A, 0), []), (RTRUE, [], slots(0)))]
+FOR_EVER = [routine(A, [], (0, 0), (call(A, 0), []), (RFALSE, [], slots(0)))]
 
 # ---- plays: the main code, its routines, what globals may be, what is printed
 
@@ -365,7 +365,7 @@ LISTINGS = [
         [constant(A, 1), constant(B, 2), routine(C, [], None, call(A, 0), RET_POPPED)],
         [(0x324, 0, "call"), (0x329, 0, "quit"), (0x361, 1, "ret"), (0x3E1, 2, "call"), (0x3E6, 2, "ret_popped")],
     ),
-    ("a routine that calls itself", [call(A, 16), QUIT], FOR_EVER, [(0x324, 0, "call"), (0x329, 0, "quit"), (0x361, 1, "call"), (0x366, 1, "rtrue")]),
+    ("a routine that calls itself", [call(A, 16), QUIT], FOR_EVER, [(0x324, 0, "call"), (0x329, 0, "quit"), (0x361, 1, "call"), (0x366, 1, "rfalse")]),
     ("a call of 0, listed", [b"\xe0\x7f\x00\x10", QUIT], [], [(0x324, 0, "call"), (0x328, 0, "quit")]),
     ("a call by a variable", [b"\xe0\xbf\x10\x10", QUIT], [constant(A, 1)], [(0x324, 0, "call"), (0x328, 0, "quit")]),
     ("a routine among the globals", [b"\xe0\x7f\x20\x10", QUIT], [], "U1 at 00041"),
