@@ -163,11 +163,11 @@ done_for : (operation_of Je ≡ Some (operations.Compare questions.Equal)) × (o
 unfolding operation_of
 done_for = (refl, refl, refl, refl, refl, refl, refl, refl, refl, refl, refl, refl)
 
--- jz compares with 0, pull takes a word off the stack behind the variable's number, and push gives to the stack
 -- what a return without an operand gives
 returned : (inputs (record { opcode = Rtrue; operands = []; store = None; branch = None; size = 1 }) ≡ Constant 1 ∷ []) × (inputs (record { opcode = Rfalse; operands = []; store = None; branch = None; size = 1 }) ≡ Constant 0 ∷ []) × (inputs (record { opcode = RetPopped; operands = []; store = None; branch = None; size = 1 }) ≡ Variable 0 ∷ [])
 returned = (refl, refl, refl)
 
+-- jz compares with 0, pull takes a word off the stack behind the variable's number, and push gives to the stack
 read_and_given : (inputs (record { opcode = Jz; operands = Variable 1 ∷ []; store = None; branch = None; size = 4 }) ≡ Variable 1 ∷ Constant 0 ∷ []) × (inputs (record { opcode = Pull; operands = Constant 16 ∷ []; store = None; branch = None; size = 3 }) ≡ Constant 16 ∷ Variable 0 ∷ []) × (inputs inc_chk ≡ inc_chk.operands) × (target (record { opcode = Push; operands = Constant 3 ∷ []; store = None; branch = None; size = 3 }) ≡ 0) × (target (record { opcode = Load; operands = Constant 1 ∷ []; store = Some 16; branch = None; size = 3 }) ≡ 16)
 unfolding inc_chk
 read_and_given = (refl, refl, refl, refl, refl)
