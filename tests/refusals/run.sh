@@ -3,7 +3,16 @@
 # to be the one of ample memory, or `failed: memory` with status 4 and a beginning of the output.
 # Usage: run.sh PROGRAM STORIES, a folder with the stories that the commands below name.
 set -u
-. "$(dirname "$0")/prepare.sh" "$@"
+here=$(cd "$(dirname "$0")" && pwd)
+. "$here/prepare.sh" "$@"
+# A story whose routine calls itself three times, so that frames and stacks grow, and its certificate.
+(cd "$here/../program" && python3 -c '
+import sys
+from calls import LEVELS, deep, files
+for name, contents in files(deep(3), [LEVELS]).items():
+    with open(f"{sys.argv[1]}/{name}", "wb") as file:
+        file.write(contents)
+' "$work") || exit 1
 
 # answer NAME SETTINGS WORD..: the status, output and errors of a run, in files of that name. The settings are of the
 # program's environment alone.
@@ -63,6 +72,10 @@ refuse_each check hello.z3 hello.z3
 refuse_each check hello.z3 absent.cert
 refuse_each play hello.z3 hello.cert
 refuse_each play --budget 0 hello.z3 hello.cert
+refuse_each play "$work/story"
+refuse_each play "$work/story" "$work/certificate"
+refuse_each check "$work/story" "$work/certificate"
+refuse_each list "$work/story"
 refuse_each play
 refuse_each check hello.z3
 refuse_each --help
