@@ -1,8 +1,12 @@
 pub mod SlotLemmas
 pub mod Landing
+pub mod Heads
+pub mod Limits
+pub mod Calls
 pub mod StepLemmas
 pub mod Reading
 pub mod Families
+pub mod Full
 pub mod Quiet
 pub mod Stepped
 pub mod Inside

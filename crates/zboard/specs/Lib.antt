@@ -1,5 +1,6 @@
 pub mod Index
 pub mod Position
+pub mod Head
 pub mod Deed
 pub mod View
 pub mod Table

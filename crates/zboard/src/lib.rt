@@ -2,6 +2,7 @@
 #![tactic(auto)]
 
 mod board;
+mod calling;
 mod giving;
 mod in_place;
 mod place;
@@ -13,6 +14,7 @@ mod table;
 mod turning;
 
 pub use board::Board;
-pub use row::{Action, Asking, Global, Row, Slot};
+pub use calling::callee_of;
+pub use row::{Action, Asking, Callee, Calling, Global, Row, Slot};
 pub use running::{Played, play};
 pub use table::row_of;

@@ -31,7 +31,7 @@ impl Callee {
     }
 
     /// Where the routine's code begins.
-    pub(crate) fn place(&self) -> u32
+    pub fn place(&self) -> u32
         ensures value { result ≡ (called_of self.now).place }
         ensures low { result < 2 ^ 24 }
     {
@@ -39,7 +39,7 @@ impl Callee {
     }
 
     /// The words that its locals begin with, the first local's first.
-    pub(crate) fn locals(&self) -> &[u16]
+    pub fn locals(&self) -> &[u16]
         ensures value { result.now ≡ (called_of self.now).locals }
         ensures few { length result.now ≤ 15 }
     {
