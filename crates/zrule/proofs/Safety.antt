@@ -34,6 +34,7 @@ use Rattle.zstate.specs.declared.halt.Halt.{Halt}
 use Rattle.zstate.specs.declared.halt.Halt.TheVariants as halts
 use Rattle.zstate.specs.InTurn.{◌>>=◌}
 use Rattle.zstate.specs.State.{Frame, State, Setting, IsState, at_place, popped, with_stack, with_locals, with_memory, write_word, global, has_room, exists, put_named, put_in_place, read_in_place, read_operands, has_head, fault}
+use Rattle.zstate.specs.Run.{IsFull}
 use Rattle.zstate.specs.Step.{Called, Move, on, back, into, calling, closing, called_at, call_of, unpacked, arguments, initial, behind_head, place_of, entered, Effect, Done, way, arg, asked_of, giving, assigning, testing, printing, jumping, fetch, printed, print_at, effect_of, effect_if, has_caller, is_taken, is_roomy, turned, course, admits, pauses, assigned, changed, stored, left, moved, advance, act, step}
 use Rattle.zstate.proofs.Keeps.{put_aside, changed_aside, step_keeps}
 use Rattle.zflow.specs.declared.parts.Lead.{Lead}
@@ -686,34 +687,34 @@ module _ {V : Type 0} (o : SetOperations V) (lawful : AreSound o) (claims : Clai
       by_stack false is h = rw is refl
 
   -- so a return has room, and a call where the frames are fewer than there may be
-  roomy : (lead : Lead V) (move : Move) (v return_place : ℕ) (gs : List Frame) → LeadsIn lead move → Returns o claims d.entry.routine lead → Callers o claims d.entry.routine return_place v gs → is_roomy m.limit move v gs ≡ false → m.limit ≤ length gs
+  roomy : (lead : Lead V) (move : Move) (v return_place : ℕ) (gs : List Frame) → LeadsIn lead move → Returns o claims d.entry.routine lead → Callers o claims d.entry.routine return_place v gs → is_roomy m.limit move v gs ≡ false → (called : Called) × (move ≡ into called) × (m.limit ≤ length gs)
   unfolding LeadsIn
   roomy lead (on b) v r gs is rule callers e = absurd cc
   roomy (Ahead a) (back x) v r gs is rule callers e = absurd is
   roomy (Entering a) (back x) v r gs is rule callers e = absurd is
   roomy (Returning a) (back x) v r [] is rule callers e = absurd cc
   roomy (Returning a) (back x) v r (g ∷ gs) is rule callers e = absurd (not_both (has_room v g) (caller_room v x r callers.1.shape g (supports.low r callers.1 callers.2) (callers.3 x (rule.1 x is))) e)
-  roomy lead (into called) v r gs is rule callers e = ltb-false (length gs) m.limit e
+  roomy lead (into called) v r gs is rule callers e = (called, refl, ltb-false (length gs) m.limit e)
 
   -- it is made, or it is `quit`, or a call where there are as many frames as there may be
   IsAble : Result Done Halt → Type 0
-  IsAble r = ((x : Done) × (r ≡ Ok x)) ⊎ ((r ≡ Err halts.Quit) ⊎ ((r ≡ Err halts.FrameLimit) × (m.limit ≤ length s.callers)))
+  IsAble r = ((x : Done) × (r ≡ Ok x)) ⊎ ((r ≡ Err halts.Quit) ⊎ ((r ≡ Err halts.FrameLimit) × IsFull m s))
 
-  made_able : (w : Outcome V) (effect : Effect) → ComesOf (operation_of i.opcode) w → Matches w effect → IsAble (made_by m t i effect)
+  made_able : (w : Outcome V) (effect : Effect) → effect_if m (operation_of i.opcode) all.values t ≡ Ok effect → ComesOf (operation_of i.opcode) w → Matches w effect → IsAble (made_by m t i effect)
   unfolding IsAble
-  made_able w effect comes matches = by_room (is_roomy m.limit (course effect i.branch) s.frame.result s.callers) refl
+  made_able w effect does comes matches = by_room (is_roomy m.limit (course effect i.branch) s.frame.result s.callers) refl
     where
       ok : made_by m t i effect ≡ (pauses m.limit (target i) effect (course effect i.branch) t >>= λ _. Ok (done_at m t i effect))
       ok = settled effect (admitted w effect comes matches)
 
-      by_room : (b : Bool) → is_roomy m.limit (course effect i.branch) s.frame.result s.callers ≡ b → ((x : Done) × (made_by m t i effect ≡ Ok x)) ⊎ ((made_by m t i effect ≡ Err halts.Quit) ⊎ ((made_by m t i effect ≡ Err halts.FrameLimit) × (m.limit ≤ length s.callers)))
+      by_room : (b : Bool) → is_roomy m.limit (course effect i.branch) s.frame.result s.callers ≡ b → ((x : Done) × (made_by m t i effect ≡ Ok x)) ⊎ ((made_by m t i effect ≡ Err halts.Quit) ⊎ ((made_by m t i effect ≡ Err halts.FrameLimit) × IsFull m s))
       by_room true e =
           let none = pauses_none m.limit (target i) effect (course effect i.branch) t matches.needs matches.goes (room_there (target i) t.frame low_read) e in
           inl (done_at m t i effect, ok ∙ ap (λ (r : Result (Unit {0}) Halt). r >>= λ _. Ok (done_at m t i effect)) none)
       by_room false e =
           let full = pauses_full m.limit (target i) effect (course effect i.branch) t matches.needs matches.goes (room_there (target i) t.frame low_read) e in
           let many = roomy (leading o w i.branch) (course effect i.branch) s.frame.result s.frame.return_place s.callers (leads_in w effect comes matches) (returns w effect comes matches) d.callers e in
-          inr (inr (ok ∙ ap (λ (r : Result (Unit {0}) Halt). r >>= λ _. Ok (done_at m t i effect)) full, many))
+          inr (inr (ok ∙ ap (λ (r : Result (Unit {0}) Halt). r >>= λ _. Ok (done_at m t i effect)) full, record { instruction = i; fetched = fetches; values = all.values; after = t; read = all.read; effect = effect; does = does; called = many.0; into = many.1.0; many = many.1.1 }))
 
   quits : (effect : Effect) → Still effect → made_by m t i effect ≡ Err halts.Quit
   unfolding pauses
@@ -722,15 +723,15 @@ module _ {V : Type 0} (o : SetOperations V) (lawful : AreSound o) (claims : Clai
       let stands = still.still in
       settled effect (still_admitted effect still) ∙ rw (needs, stands) refl
 
-  able_by : (r : Result Effect Halt) → Expected (operation_of i.opcode) r → IsAble (r >>= made_by m t i)
+  able_by : (r : Result Effect Halt) → effect_if m (operation_of i.opcode) all.values t ≡ r → Expected (operation_of i.opcode) r → IsAble (r >>= made_by m t i)
   unfolding Expected IsAble
-  able_by (Ok effect) (inl still) = inr (inl (quits effect still))
-  able_by (Ok effect) (inr (w, comes, matches)) = made_able w effect comes matches
-  able_by (Err h) expected = absurd expected
+  able_by (Ok effect) does (inl still) = inr (inl (quits effect still))
+  able_by (Ok effect) does (inr (w, comes, matches)) = made_able w effect does comes matches
+  able_by (Err h) does expected = absurd expected
 
-  pub able_there : ((x : Done) × (step m s ≡ Ok x)) ⊎ ((step m s ≡ Err halts.Quit) ⊎ ((step m s ≡ Err halts.FrameLimit) × (m.limit ≤ length s.callers)))
+  pub able_there : ((x : Done) × (step m s ≡ Ok x)) ⊎ ((step m s ≡ Err halts.Quit) ⊎ ((step m s ≡ Err halts.FrameLimit) × IsFull m s))
   unfolding IsAble
-  able_there = subst IsAble (sym steps) (able_by (effect_if m (operation_of i.opcode) all.values t) expected)
+  able_there = subst IsAble (sym steps) (able_by (effect_if m (operation_of i.opcode) all.values t) refl expected)
 
   -- ---- more that sessions rely on
 
@@ -769,7 +770,7 @@ step_safe o lawful claims m s loaded supports listed d =
 
 -- no opcode of this build waits for anything, and low stacks have room: it is made, or it is `quit`, or a call where there are as
 -- many frames as there may be
-pub step_able : {V : Type 0} (o : SetOperations V) (lawful : AreSound o) (claims : Claims V) (m : Setting) (s : State) → IsLoadedStory m.story → Supports o claims m.story → IsListedIn o claims m.scope → Described o claims m.limit m.story s → ((x : Done) × (step m s ≡ Ok x)) ⊎ ((step m s ≡ Err halts.Quit) ⊎ ((step m s ≡ Err halts.FrameLimit) × (m.limit ≤ length s.callers)))
+pub step_able : {V : Type 0} (o : SetOperations V) (lawful : AreSound o) (claims : Claims V) (m : Setting) (s : State) → IsLoadedStory m.story → Supports o claims m.story → IsListedIn o claims m.scope → Described o claims m.limit m.story s → ((x : Done) × (step m s ≡ Ok x)) ⊎ ((step m s ≡ Err halts.Quit) ⊎ ((step m s ≡ Err halts.FrameLimit) × IsFull m s))
 step_able o lawful claims m s loaded supports listed d =
     let found = supports.each d.at d.entry d.listed rules.Decodes in
     able_there o lawful claims m loaded supports listed s d found.0 found.1
