@@ -1,4 +1,3 @@
 pub mod Accepting
-mod Alone
 pub mod Playing
 mod Worked

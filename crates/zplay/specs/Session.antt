@@ -15,6 +15,7 @@ use Rattle.zstate.specs.State.{State, Setting, opening, scope_only, usual_limit}
 use Rattle.zboard.specs.declared.row.Row.{Row}
 use Rattle.zboard.specs.declared.board.Board.{Board}
 use Rattle.zboard.specs.Position.{Position}
+use Rattle.zboard.specs.Head.{Head}
 use Rattle.zboard.specs.Play.{Game, IsPlayable, state_in}
 use Rattle.zboard.specs.View.{position_of}
 use Rattle.zrule.specs.Claims.{entry_of}
@@ -59,12 +60,11 @@ stands_in a None = opening a.story
 stands_in a (Some b) = state_in (game_of a) (position_of b)
 
 -- what a session keeps: no step from here needs a test
-pub record IsInPlay (a : Acceptance) (rows : List Row) (p : Position) : Type 0 where
+pub record IsInPlay (a : Acceptance) (rows : List Row) (heads : List Head) (p : Position) : Type 0 where
   pub accepted : IsAccepted a
-  pub playable : IsPlayable (game_of a) rows p
+  pub playable : IsPlayable (game_of a) rows heads p
   pub described : Described interval_operations (claims a) usual_limit a.story (state_in (game_of a) p)
-  pub alone : (state_in (game_of a) p).callers ≡ []
 
-abbrev pub IsPlayed : Acceptance → List Row → Option Board → Type 0
-IsPlayed a rows None = ⊥
-IsPlayed a rows (Some b) = IsInPlay a rows (position_of b)
+abbrev pub IsPlayed : Acceptance → List Row → List Head → Option Board → Type 0
+IsPlayed a rows heads None = ⊥
+IsPlayed a rows heads (Some b) = IsInPlay a rows heads (position_of b)

@@ -9,14 +9,15 @@ ghost use Rattle.zfault.specs.declared.event.Event.{Event as AnEvent};
 ghost use Rattle.zrule.specs.Described.{IsNoFault};
 ghost use Rattle.zplay.specs.Accepted.{IsAccepted};
 ghost use Rattle.zboard.specs.Play.{state_in};
+ghost use Rattle.zboard.specs.Head.{Head};
 ghost use Rattle.zboard.specs.View.{position_of};
 ghost use Rattle.zboard.specs.declared.row.Row.{Row as ARow};
 ghost use Rattle.zplay.specs.Session.{game_of, setting, IsInPlay};
 
-use crate::rows::rows_of;
+use crate::rows::{callees_of, rows_of};
 use std::alloc::{AllocError, Global};
 use std::marker::Model;
-use zboard::{Board, Row, play};
+use zboard::{Board, Callee, Row, play};
 use zcheck::Accepted;
 use zdomain::Interval;
 use zfault::{Event, Items, Need, Pause};
@@ -36,6 +37,8 @@ pub struct Session<'a> {
     accepted: &'a Accepted,
     /// The listed instructions, as they are played.
     rows: Vec<Row>,
+    /// The listed routines, as they are called.
+    callees: Vec<Callee>,
     /// What steps move. It is there between calls.
     board: Option<Board>,
     /// A text that is about to be printed.
@@ -43,13 +46,15 @@ pub struct Session<'a> {
 }
 
 impl<'a> Model for Session<'a> {
+    ghost use Rattle.std.specs.Prelude.{map};
+    ghost use Rattle.zboard.specs.Head.{head_of};
     ghost use Rattle.zplay.specs.Session.{Playing, IsPlayed, stands_in};
 
     ghost Value = { Playing };
 
     ghost view = { λ p. record { accepted = p.accepted.now; state = stands_in p.accepted.now p.board } };
 
-    ghost invariant = { λ p. IsPlayed p.accepted.now p.rows.items p.board };
+    ghost invariant = { λ p. IsPlayed p.accepted.now p.rows.items (map head_of p.callees.items) p.board };
 }
 
 impl<'a> Session<'a> {
@@ -65,6 +70,7 @@ impl<'a> Session<'a> {
             unreachable!()
         };
         let rows = rows_of(alloc, accepted)?;
+        let callees = callees_of(alloc, accepted)?;
         let board = Board {
             frames: Frames::new(alloc, FRAME_LIMIT)?,
             memory: story.memory().to_vec(alloc)?,
@@ -73,6 +79,7 @@ impl<'a> Session<'a> {
         Ok(Session {
             accepted,
             rows,
+            callees,
             board: Some(board),
             text: Vec::new(alloc),
         })
@@ -81,7 +88,7 @@ impl<'a> Session<'a> {
     /// What steps move.
     fn board(&self) -> &Board
         ensures state { self.now.state ≡ state_in (game_of self.now.accepted) (position_of result.now) }
-        ensures play { (rows : List ARow) × IsInPlay self.now.accepted rows (position_of result.now) }
+        ensures play { (rows : List ARow) × (heads : List Head) × IsInPlay self.now.accepted rows heads (position_of result.now) }
     {
         match &self.board {
             Some(board) => board,
@@ -153,6 +160,7 @@ impl<'a> Session<'a> {
             board,
             self.rows.as_slice(),
             self.accepted.listing(),
+            self.callees.as_slice(),
             *left,
             &mut self.text,
             items,

@@ -14,7 +14,7 @@ mod Framed
 mod Settling
 mod Parts
 pub mod Stepping
-mod Called
+pub mod Called
 mod Calling
 mod Pieces
 pub mod Opening

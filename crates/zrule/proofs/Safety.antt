@@ -714,7 +714,7 @@ module _ {V : Type 0} (o : SetOperations V) (lawful : AreSound o) (claims : Clai
       by_room false e =
           let full = pauses_full m.limit (target i) effect (course effect i.branch) t matches.needs matches.goes (room_there (target i) t.frame low_read) e in
           let many = roomy (leading o w i.branch) (course effect i.branch) s.frame.result s.frame.return_place s.callers (leads_in w effect comes matches) (returns w effect comes matches) d.callers e in
-          inr (inr (ok ∙ ap (λ (r : Result (Unit {0}) Halt). r >>= λ _. Ok (done_at m t i effect)) full, record { instruction = i; fetched = fetches; values = all.values; after = t; read = all.read; effect = effect; does = does; called = many.0; into = many.1.0; many = many.1.1 }))
+          inr (inr (ok ∙ ap (λ (r : Result (Unit {0}) Halt). r >>= λ _. Ok (done_at m t i effect)) full, record { instruction = i; fetched = fetches; values = all.values; after = t; read = all.read; effect = effect; does = does; called = many.0; into = many.1; many = many.2 }))
 
   quits : (effect : Effect) → Still effect → made_by m t i effect ≡ Err halts.Quit
   unfolding pauses

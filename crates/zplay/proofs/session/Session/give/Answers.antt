@@ -8,5 +8,5 @@ use Rattle.zplay.proofs.session.Session.give.Goals as goal
 pub unreachable-requires : goal.unreachable-requires
 unreachable-requires c =
     none_is_some _ c.requires.0
-    (ap (λ (s : State). awaited (setting c.args.self.now) s) c.board-board.ensures.state ∙ none_waited c.args.self.now.accepted c.board-board.ensures.play.0 _ c.board-board.ensures.play.1)
+    (ap (λ (s : State). awaited (setting c.args.self.now) s) c.board-board.ensures.state ∙ none_waited c.args.self.now.accepted c.board-board.ensures.play.0 c.board-board.ensures.play.1 _ c.board-board.ensures.play.2)
     c.requires.1

@@ -2,4 +2,4 @@ use Rattle.zplay.proofs.Playing.{runs_fine}
 use Rattle.zplay.proofs.session.Session.never_faults.Goals as goal
 
 pub returns : goal.returns
-returns c = rw c.board-board.ensures.state (λ events n. runs_fine _ _ _ c.board-board.ensures.play.1 (c.each_step_is_safe.ensures.runs _) events n)
+returns c = rw c.board-board.ensures.state (λ events n. runs_fine _ _ _ _ c.board-board.ensures.play.2 (c.each_step_is_safe.ensures.runs _) events n)

@@ -6,14 +6,14 @@ use Rattle.zplay.proofs.session.Session.place.Goals as goal
 pub bounds-records-at : goal.bounds-records-at
 bounds-records-at c =
     let same = ap (λ (p : Playing). p.accepted) c.self.view_is in
-    rw (c.records.ensures.value, c.listing.ensures.value, same) (within_listing _ _ _ c.board.ensures.play.1)
+    rw (c.records.ensures.value, c.listing.ensures.value, same) (within_listing _ _ _ _ c.board.ensures.play.2)
 
 pub bounds-records-at-2 : goal.bounds-records-at-2
 bounds-records-at-2 c =
     let same = ap (λ (p : Playing). p.accepted) c.self.view_is in
-    rw (c.records.ensures.value, c.listing.ensures.value, same) (within_listing _ _ _ c.board.ensures.play.1)
+    rw (c.records.ensures.value, c.listing.ensures.value, same) (within_listing _ _ _ _ c.board.ensures.play.2)
 
 pub returns : goal.returns
 returns c =
     let same = ap (λ (p : Playing). p.accepted) c.self.view_is in
-    rw (c.board.ensures.state, c.records.ensures.value, c.listing.ensures.value, same) (place_read c.args.self.now.accepted.listing _ _ (rw (c.listing.ensures.value, same) at c.records.ensures.order) (within_listing _ _ _ c.board.ensures.play.1))
+    rw (c.board.ensures.state, c.records.ensures.value, c.listing.ensures.value, same) (place_read c.args.self.now.accepted.listing _ _ (rw (c.listing.ensures.value, same) at c.records.ensures.order) (within_listing _ _ _ _ c.board.ensures.play.2))

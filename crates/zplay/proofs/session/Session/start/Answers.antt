@@ -1,4 +1,6 @@
-use Rattle.std.proofs.Common.{rules, ◌≡◌, Some, sym, ap, ◌∙◌}
+use Rattle.std.proofs.Common.{rules, ◌≡◌, Some, sym, ap, ◌∙◌, map}
+use Rattle.zboard.specs.Head.{head_of}
+use Rattle.zplay.proofs.Accepting.{each_headed}
 use Rattle.zstory.specs.LoadedStory.{first_instruction}
 use Rattle.zlist.specs.Listing.{index_of}
 use Rattle.zstate.specs.State.{State}
@@ -16,12 +18,15 @@ rows_of-requires-clause-spelled c = each_spelled c.args.accepted.now c.known_of.
 pub rows_of-requires-clause-inside : goal.rows_of-requires-clause-inside
 rows_of-requires-clause-inside c = each_inside c.args.accepted.now c.known_of.ensures
 
+pub callees_of-requires : goal.callees_of-requires
+callees_of-requires c = each_headed c.args.accepted.now c.known_of.ensures
+
 pub invariant_of-result : goal.invariant_of-result
 invariant_of-result c =
     let found : Some c.in-Some.index ≡ index_of c.args.accepted.now.listing (first_instruction c.args.accepted.now.story) = rw (← c.listing.ensures.value, ← c.story-story.ensures.value, ← c.first_instruction.ensures.value) c.in-Some.ensures.value in
     let memory : c.in_ok-to_vec.field-0.items ≡ c.args.accepted.now.story.memory = search rules in
     rw (c.in_ok-new.ensures, memory)
-    (in_play_first c.args.accepted.now c.known_of.ensures c.in-Some.index (sym found) c.in_ok-rows.rows.items c.in_ok-rows.ensures (c.each_step_is_safe.ensures.opening _))
+    (in_play_first c.args.accepted.now c.known_of.ensures c.in-Some.index (sym found) c.in_ok-rows.rows.items (map head_of c.in_ok-callees.callees.items) c.in_ok-rows.ensures c.in_ok-callees.ensures (c.each_step_is_safe.ensures.opening _))
 
 pub returns : goal.returns
 returns c =
