@@ -1,12 +1,11 @@
 //! The effect of a step, which only want of memory can keep from being done.
 
-ghost use Rattle.std.specs.Prelude.{◌≡◌, ◌<◌, ◌≤◌, ◌+◌, ◌^◌, ◌++◌, ◌+ℤ◌, ℕ, List, Option, None, [], true, drop, pos, length, map, is_some, OnOk, OnErr};
+ghost use Rattle.std.specs.Prelude.{◌≡◌, ◌<◌, ◌≤◌, ◌+◌, ◌^◌, ◌++◌, ℕ, List, Option, None, [], true, drop, length, map, is_some, OnOk, OnErr};
 ghost use Rattle.zfault.specs.declared.item.Item.TheVariants.{Text};
 ghost use Rattle.zstory.specs.LoadedStory.{globals, static_base};
 ghost use Rattle.zstate.specs.Run.{IsLonger};
-ghost use Rattle.zstate.specs.Callee.{called_of};
-ghost use Rattle.zstate.specs.State.{at_place, exists, popped, popped as taken};
-ghost use Rattle.zstate.specs.Step.{act, assigned, course, entered, stored};
+ghost use Rattle.zstate.specs.State.{exists, popped, popped as taken};
+ghost use Rattle.zstate.specs.Step.{act, assigned, course, stored};
 ghost use Rattle.zref.specs.Machine.{Grows};
 ghost use Rattle.zref.specs.Row.{shape_of};
 ghost use Rattle.zref.specs.Plan.{EndsBy, IsAssignable, IsOpenWay, IsReady, IsShort, effect_with, move_of, on_from, returned, went};
@@ -16,7 +15,7 @@ use crate::plan::Plan;
 use crate::row::Row;
 use std::alloc::AllocError;
 use zfault::Items;
-use zstate::{Callee, State};
+use zstate::State;
 use zstory::Story;
 
 /// Does what was planned, and gives out its items: all of them or, with nothing changed, none. Memory is wanted only where
@@ -106,7 +105,6 @@ fn go(story: &Story, state: &mut State, row: &Row, plan: Plan) -> Result<(), All
                 Ok(())
             }
         },
-        Course::Into(callee) => go_into(state, row, plan.popped, &callee),
     }
 }
 
@@ -138,17 +136,6 @@ fn go_on(
     state.advance(row.size as usize);
     state.go(distance);
     Ok(())
-}
-
-/// Takes the words of the operands off the stack, and begins a routine, which returns behind the instruction.
-#[inline(never)]
-fn go_into(state: &mut State, row: &Row, popped: usize, callee: &Callee) -> Result<(), AllocError>
-    requires near { EndsBy 131072 row.now.size state.old.place }
-    requires within { popped ≤ length state.old.frame.stack }
-    ensures ok { OnOk result (state.new ≡ entered (called_of callee.now) row.now.target (at_place (state.old.place +ℤ pos row.now.size) (taken popped state.old))) }
-    ensures err { OnErr result (state.new ≡ state.old) }
-{
-    state.enter(callee, row.target, popped, row.size as usize)
 }
 
 /// Takes the words of the operands off the stack, and gives a variable its value.
