@@ -3,6 +3,7 @@ mod InTurn
 pub mod Joins
 pub mod Keeps
 mod Locals
+mod Packing
 mod Reading
 mod Stacks
 mod Worked
