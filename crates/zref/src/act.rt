@@ -91,20 +91,26 @@ fn go(story: &Story, state: &mut State, row: &Row, plan: Plan) -> Result<(), All
 {
     match plan.course {
         Course::On(distance) => go_on(story, state, row, plan, distance),
-        Course::Back(word) => match state.frame().result() {
-            0 => push_back(story, state, plan.effect.assigns, plan.popped, word),
-            variable => {
-                put_back(
-                    story,
-                    state,
-                    plan.effect.assigns,
-                    plan.popped,
-                    variable,
-                    word,
-                );
-                Ok(())
-            }
-        },
+        Course::Back(word) => {
+            go_back(story, state, plan.effect.assigns, plan.popped, word);
+            Ok(())
+        }
+    }
+}
+
+/// Changes variables, and goes back to the caller with a value.
+#[inline(always)]
+fn go_back(story: &Story, state: &mut State, assigns: Option<(u8, u16)>, popped: usize, word: u16)
+    requires memory { length state.old.memory ≡ length story.now.memory }
+    requires reached { state.old.frame.return_place < 2 ^ 24 }
+    requires way { IsOpenWay (Course.Back word) state.old }
+    requires within { popped ≤ length state.old.frame.stack }
+    requires assigns { IsAssignable assigns popped state.old }
+    ensures { state.new ≡ returned story.now word (assigned story.now assigns (taken popped state.old)) }
+{
+    match state.frame().result() {
+        0 => push_back(story, state, assigns, popped, word),
+        variable => put_back(story, state, assigns, popped, variable, word),
     }
 }
 
@@ -156,27 +162,17 @@ fn change(story: &Story, state: &mut State, assigns: Option<(u8, u16)>, popped: 
 /// Changes variables, leaves the frame, and puts a value on the caller's stack.
 #[inline(never)]
 #[tactic(auto, using(crate::proofs::Doing::doing))]
-fn push_back(
-    story: &Story,
-    state: &mut State,
-    assigns: Option<(u8, u16)>,
-    popped: usize,
-    word: u16,
-) -> Result<(), AllocError>
+fn push_back(story: &Story, state: &mut State, assigns: Option<(u8, u16)>, popped: usize, word: u16)
     requires memory { length state.old.memory ≡ length story.now.memory }
     requires reached { state.old.frame.return_place < 2 ^ 24 }
     requires way { IsOpenWay (Course.Back word) state.old }
     requires stack { state.old.frame.result ≡ 0 }
     requires within { popped ≤ length state.old.frame.stack }
     requires assigns { IsAssignable assigns popped state.old }
-    ensures ok { OnOk result (state.new ≡ returned story.now word (assigned story.now assigns (taken popped state.old))) }
-    ensures err { OnErr result (state.new ≡ state.old) }
-    ensures wants { OnErr result (IsLonger state.old (returned story.now word (assigned story.now assigns (taken popped state.old)))) }
+    ensures { state.new ≡ returned story.now word (assigned story.now assigns (taken popped state.old)) }
 {
-    state.push_to_caller(word)?;
     change(story, state, assigns, popped);
-    state.leave();
-    Ok(())
+    state.leave_with(word);
 }
 
 /// Changes variables, leaves the frame, and gives the caller's variable a value.
