@@ -10,7 +10,7 @@ use Rattle.zstate.specs.State.{Frame, State, with_stack, with_locals, with_memor
 use Rattle.zstate.specs.Step.{assigned, stored, left}
 use Rattle.zstate.proofs.Keeps.{assigned_aside}
 use Rattle.zref.specs.declared.effect.Course.{Course}
-use Rattle.zref.specs.declared.effect.Course.TheVariants.{On, Back, Into}
+use Rattle.zref.specs.declared.effect.Course.TheVariants.{On, Back}
 use Rattle.zref.specs.declared.effect.Effect.{Effect}
 use Rattle.zref.specs.Plan.{IsAssignable, IsReady, went}
 
@@ -66,4 +66,3 @@ module _ (story : LoadedStory) (dynamic : globals story + 480 ≤ static_base st
       let t = assigned story e.assigns (popped n s) in
       let same : t.frame.result ≡ s.frame.result = (assigned_aside story e.assigns (popped n s)).0.result in
       left_fixed x t.callers t (subst (λ (v : ℕ). v < 256) (sym same) ready.way.4) ∙ assigned_fixed e.assigns n (popped n s) s ready.assigns
-  went_fixed i e (Into c) n s ready = refl

@@ -1,3 +1,4 @@
+mod Calling
 mod Doing
 mod Fixed
 mod Keeping

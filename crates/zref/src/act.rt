@@ -1,12 +1,11 @@
 //! The effect of a step, which only want of memory can keep from being done.
 
-ghost use Rattle.std.specs.Prelude.{◌≡◌, ◌<◌, ◌≤◌, ◌+◌, ◌^◌, ◌++◌, ◌+ℤ◌, ℕ, List, Option, None, [], true, drop, pos, length, map, is_some, OnOk, OnErr};
+ghost use Rattle.std.specs.Prelude.{◌≡◌, ◌<◌, ◌≤◌, ◌+◌, ◌^◌, ◌++◌, ℕ, List, Option, None, [], true, drop, length, map, is_some, OnOk, OnErr};
 ghost use Rattle.zfault.specs.declared.item.Item.TheVariants.{Text};
 ghost use Rattle.zstory.specs.LoadedStory.{globals, static_base};
 ghost use Rattle.zstate.specs.Run.{IsLonger};
-ghost use Rattle.zstate.specs.Callee.{called_of};
-ghost use Rattle.zstate.specs.State.{at_place, exists, popped, popped as taken};
-ghost use Rattle.zstate.specs.Step.{act, assigned, course, entered, stored};
+ghost use Rattle.zstate.specs.State.{exists, popped, popped as taken};
+ghost use Rattle.zstate.specs.Step.{act, assigned, course, stored};
 ghost use Rattle.zref.specs.Machine.{Grows};
 ghost use Rattle.zref.specs.Row.{shape_of};
 ghost use Rattle.zref.specs.Plan.{EndsBy, IsAssignable, IsOpenWay, IsReady, IsShort, effect_with, move_of, on_from, returned, went};
@@ -16,7 +15,7 @@ use crate::plan::Plan;
 use crate::row::Row;
 use std::alloc::AllocError;
 use zfault::Items;
-use zstate::{Callee, State};
+use zstate::State;
 use zstory::Story;
 
 /// Does what was planned, and gives out its items: all of them or, with nothing changed, none. Memory is wanted only where
@@ -92,21 +91,26 @@ fn go(story: &Story, state: &mut State, row: &Row, plan: Plan) -> Result<(), All
 {
     match plan.course {
         Course::On(distance) => go_on(story, state, row, plan, distance),
-        Course::Back(word) => match state.frame().result() {
-            0 => push_back(story, state, plan.effect.assigns, plan.popped, word),
-            variable => {
-                put_back(
-                    story,
-                    state,
-                    plan.effect.assigns,
-                    plan.popped,
-                    variable,
-                    word,
-                );
-                Ok(())
-            }
-        },
-        Course::Into(callee) => go_into(state, row, plan.popped, &callee),
+        Course::Back(word) => {
+            go_back(story, state, plan.effect.assigns, plan.popped, word);
+            Ok(())
+        }
+    }
+}
+
+/// Changes variables, and goes back to the caller with a value.
+#[inline(always)]
+fn go_back(story: &Story, state: &mut State, assigns: Option<(u8, u16)>, popped: usize, word: u16)
+    requires memory { length state.old.memory ≡ length story.now.memory }
+    requires reached { state.old.frame.return_place < 2 ^ 24 }
+    requires way { IsOpenWay (Course.Back word) state.old }
+    requires within { popped ≤ length state.old.frame.stack }
+    requires assigns { IsAssignable assigns popped state.old }
+    ensures { state.new ≡ returned story.now word (assigned story.now assigns (taken popped state.old)) }
+{
+    match state.frame().result() {
+        0 => push_back(story, state, assigns, popped, word),
+        variable => put_back(story, state, assigns, popped, variable, word),
     }
 }
 
@@ -140,17 +144,6 @@ fn go_on(
     Ok(())
 }
 
-/// Takes the words of the operands off the stack, and begins a routine, which returns behind the instruction.
-#[inline(never)]
-fn go_into(state: &mut State, row: &Row, popped: usize, callee: &Callee) -> Result<(), AllocError>
-    requires near { EndsBy 131072 row.now.size state.old.place }
-    requires within { popped ≤ length state.old.frame.stack }
-    ensures ok { OnOk result (state.new ≡ entered (called_of callee.now) row.now.target (at_place (state.old.place +ℤ pos row.now.size) (taken popped state.old))) }
-    ensures err { OnErr result (state.new ≡ state.old) }
-{
-    state.enter(callee, row.target, popped, row.size as usize)
-}
-
 /// Takes the words of the operands off the stack, and gives a variable its value.
 #[inline(always)]
 #[tactic(auto, using(crate::proofs::Doing::doing))]
@@ -169,27 +162,17 @@ fn change(story: &Story, state: &mut State, assigns: Option<(u8, u16)>, popped: 
 /// Changes variables, leaves the frame, and puts a value on the caller's stack.
 #[inline(never)]
 #[tactic(auto, using(crate::proofs::Doing::doing))]
-fn push_back(
-    story: &Story,
-    state: &mut State,
-    assigns: Option<(u8, u16)>,
-    popped: usize,
-    word: u16,
-) -> Result<(), AllocError>
+fn push_back(story: &Story, state: &mut State, assigns: Option<(u8, u16)>, popped: usize, word: u16)
     requires memory { length state.old.memory ≡ length story.now.memory }
     requires reached { state.old.frame.return_place < 2 ^ 24 }
     requires way { IsOpenWay (Course.Back word) state.old }
     requires stack { state.old.frame.result ≡ 0 }
     requires within { popped ≤ length state.old.frame.stack }
     requires assigns { IsAssignable assigns popped state.old }
-    ensures ok { OnOk result (state.new ≡ returned story.now word (assigned story.now assigns (taken popped state.old))) }
-    ensures err { OnErr result (state.new ≡ state.old) }
-    ensures wants { OnErr result (IsLonger state.old (returned story.now word (assigned story.now assigns (taken popped state.old)))) }
+    ensures { state.new ≡ returned story.now word (assigned story.now assigns (taken popped state.old)) }
 {
-    state.push_to_caller(word)?;
     change(story, state, assigns, popped);
-    state.leave();
-    Ok(())
+    state.leave_with(word);
 }
 
 /// Changes variables, leaves the frame, and gives the caller's variable a value.

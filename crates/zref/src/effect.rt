@@ -1,8 +1,6 @@
 //! What an instruction does, once nothing is wrong with it.
 
-use zstate::Callee;
-
-/// The effect of an instruction, in parts that don't depend on one another. What is printed stands aside.
+/// The effect of an instruction that isn't a call, in parts that don't depend on one another. What is printed stands aside.
 #[derive(Clone, Copy)]
 pub(crate) struct Effect {
     /// The value that goes to the result variable.
@@ -17,13 +15,11 @@ pub(crate) struct Effect {
     pub(crate) quits: bool,
 }
 
-/// Where a step leads.
+/// Where a step leads that isn't into a routine.
 #[derive(Clone, Copy)]
 pub(crate) enum Course {
     /// So many bytes behind the next instruction.
     On(i32),
     /// To the caller, with a value.
     Back(u16),
-    /// Into a routine.
-    Into(Callee),
 }

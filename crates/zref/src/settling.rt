@@ -3,9 +3,9 @@
 ghost use Rattle.std.specs.Prelude.{◌≡◌, ◌≤◌, ℕ, List, [], Option, None, true, length, is_some, IfOk};
 ghost use Rattle.zstate.specs.Gives.{Gives};
 ghost use Rattle.zstate.specs.State.{exists, popped, usual_limit};
-ghost use Rattle.zstate.specs.Step.{admits, course, expects, is_roomy, pauses, settle};
+ghost use Rattle.zstate.specs.Step.{admits, calling, course, is_roomy, pauses, settle, Called};
 ghost use Rattle.zref.specs.Row.{shape_of};
-ghost use Rattle.zref.specs.Plan.{IsAlone, IsApart, IsOn, IsOpenWay, IsShortWay, effect_with, move_of};
+ghost use Rattle.zref.specs.Plan.{IsApart, IsOn, IsOpenWay, IsShortWay, effect_with, move_of};
 
 use crate::effect::{Course, Effect};
 use crate::row::Row;
@@ -16,7 +16,7 @@ use zstate::{Halt, State};
 /// How many frames may stand above the first (own).
 const LIMIT: usize = 1024;
 
-/// Judges an effect, where so many words were taken off the stack before, and says where the step leads.
+/// Judges an effect that isn't a call's, where so many words were taken off the stack before, and says where the step leads.
 #[inline(always)]
 pub(crate) fn settle(
     row: &Row,
@@ -31,7 +31,6 @@ pub(crate) fn settle(
     ensures way { IfOk result (λ c. IsOpenWay c state.now) }
     ensures there { IfOk result (λ _. is_some effect.gives ≡ true → exists row.now.target state.now.frame ≡ true) }
     ensures goes_on { IfOk result (λ c. is_some effect.gives ≡ true → IsOn c) }
-    ensures alone { IfOk result (λ c. IsAlone c effect) }
 {
     let course = course_of(effect, row.branch);
     admit(row.target, effect, course, state)?;
@@ -47,7 +46,6 @@ fn course_of(effect: Effect, branch: Option<Branch>) -> Course
     ensures value { (text : List ℕ) → move_of result ≡ course (effect_with effect text) branch }
     ensures short { IsShortWay result }
     ensures goes_on { is_some effect.gives ≡ true → IsOn result }
-    ensures alone { IsAlone result effect }
 {
     let (Some(condition), Some(branch)) = (effect.tests, branch) else {
         return effect.moves;
@@ -71,27 +69,16 @@ fn admit(target: u8, effect: Effect, course: Course, state: &State) -> Result<()
     ensures way { IfOk result (λ _. IsOpenWay course state.now) }
     ensures there { IfOk result (λ _. is_some effect.gives ≡ true → exists target state.now.frame ≡ true) }
 {
-    if expects(effect.gives, course) && !state.frame().has(target) {
+    if effect.gives.is_some() && !state.frame().has(target) {
         return Err(Halt::Fault(Fault::AbsentLocal));
     }
     match course {
-        Course::On(_) | Course::Into(_) => Ok(()),
+        Course::On(_) => Ok(()),
         Course::Back(_) => match state.caller() {
             None => Err(Halt::Fault(Fault::ReturnFromMain)),
             Some(caller) if caller.has(state.frame().result()) => Ok(()),
             Some(_) => Err(Halt::Fault(Fault::AbsentLocal)),
         },
-    }
-}
-
-/// Whether a value goes to the result variable, now or when the routine that is called returns.
-#[inline(always)]
-fn expects(gives: Option<u16>, course: Course) -> bool
-    ensures { result ≡ expects gives (move_of course) }
-{
-    match course {
-        Course::On(_) | Course::Back(_) => gives.is_some(),
-        Course::Into(_) => true,
     }
 }
 
@@ -121,7 +108,7 @@ fn pause(
     }
 }
 
-/// Whether there is room for what is returned, and for a frame more.
+/// Whether there is room for what is returned.
 #[inline(always)]
 fn is_roomy(course: Course, state: &State) -> bool
     ensures { result ≡ is_roomy usual_limit (move_of course) state.now.frame.result state.now.callers }
@@ -132,6 +119,21 @@ fn is_roomy(course: Course, state: &State) -> bool
             Some(caller) => caller.has_room(state.frame().result(), 0),
             None => true,
         },
-        Course::Into(_) => state.depth() < LIMIT,
+    }
+}
+
+/// Judges a call, whose frame is one more and whose result goes to the row's variable.
+#[inline(always)]
+#[tactic(auto, unfolding(zstate::specs::Step::admits, zstate::specs::Step::pauses))]
+pub(crate) fn settle_call(row: &Row, state: &State) -> Result<(), Halt>
+    ensures value { (called : Called) (n : ℕ) → Gives (λ _. tt) result (settle usual_limit (shape_of row.now) (calling called) (popped n state.now)) }
+{
+    if !state.frame().has(row.target) {
+        return Err(Halt::Fault(Fault::AbsentLocal));
+    }
+    if state.depth() < LIMIT {
+        Ok(())
+    } else {
+        Err(Halt::FrameLimit)
     }
 }

@@ -2,7 +2,8 @@ pub mod Calls
 mod InTurn
 pub mod Joins
 pub mod Keeps
-mod Locals
+pub mod Locals
+mod Packing
 mod Reading
 mod Stacks
 mod Worked

@@ -33,6 +33,8 @@ use Rattle.zstate.specs.State.{Frame, State, Setting, has_head, usual_limit, sco
 use Rattle.zstate.specs.Step.{Called, on, back, words_from, laid_over, calling, returning, proceeds, giving, assigning, testing, printing, quitting, decoded, fetch, printed, print_at, effect_of, way, course, admits, pauses, settle, plan, advance, changed, act, items_of, step}
 use Rattle.zstate.specs.Run.{stop_of, until, is_answered, need_in, awaited, run, Goes, Stands, IsLonger, IsDeeper}
 use Rattle.zstate.specs.Gives.{Gives, IsNear}
+use Rattle.zstate.specs.declared.head.Head.{Head}
+use Rattle.zstate.specs.Packed.{AreBelow, ArePacked, chain_of, frames_of}
 
 -- ---- a story: its first instruction is at 70, its globals begin at 64
 
@@ -323,19 +325,28 @@ pulls = (refl, refl)
 given : (items_of proceeds ≡ []) × (items_of (printing (72 ∷ 105 ∷ [])) ≡ Text 72 ∷ Text 105 ∷ [])
 given = (refl, refl)
 
--- a stack gets longer where it is pushed, the caller's too
-longer : IsLonger state (with_stack (1 ∷ 5 ∷ 6 ∷ []) state) × IsLonger called (record called { frame = record frame { stack = 0 ∷ 5 ∷ 6 ∷ [] }; callers = first_frame ∷ [] }) × (IsLonger state (with_stack (1 ∷ 6 ∷ []) state) → ⊥)
+-- a stack gets longer where it is pushed, but not where that of the caller is, which is the newest again
+longer : IsLonger state (with_stack (1 ∷ 5 ∷ 6 ∷ []) state) × (IsLonger called (record called { frame = record frame { stack = 0 ∷ 5 ∷ 6 ∷ [] }; callers = first_frame ∷ [] }) → ⊥) × (IsLonger state (with_stack (1 ∷ 6 ∷ []) state) → ⊥)
 unfolding state frame called
-longer = (inl (refl, omega arith), inr (_, refl, omega arith), not_longer)
-  where
-    not_longer : IsLonger (record (opening story) { frame = record { return_place = 0; result = 0; supplied = 0; locals = 7 ∷ 8 ∷ []; stack = 5 ∷ 6 ∷ [] } }) (record (opening story) { frame = record { return_place = 0; result = 0; supplied = 0; locals = 7 ∷ 8 ∷ []; stack = 1 ∷ 6 ∷ [] } }) → ⊥
-    not_longer (inl h) = omega (arith, h.1)
-    not_longer (inr (g, e, h)) = absurd cc
+longer = ((refl, omega arith), (λ h. let e = h.0 in absurd cc), λ h. omega (arith, h.1))
 
 -- a frame more is deeper
 deeper : IsDeeper state (record state { callers = frame ∷ [] }) × (IsDeeper state state → ⊥)
 unfolding state frame
 deeper = (omega arith, λ d. omega (arith, d))
+
+-- ---- frames in one list of words
+
+-- the frame that the story opens with, with 5 on top of 6, and one of a routine with the local 7 and 9 on its stack
+first_head : Head
+first_head = record { base = 0; return_place = 0; result = 0; supplied = 0; count = 0 }
+
+second_head : Head
+second_head = record { base = 3; return_place = 75; result = 4; supplied = 2; count = 1 }
+
+packed : (chain_of second_head (first_head ∷ []) (6 ∷ 5 ∷ 0 ∷ 7 ∷ 9 ∷ []) ≡ record { newest = record { return_place = 75; result = 4; supplied = 2; locals = 7 ∷ []; stack = 9 ∷ [] }; callers = record first_frame { stack = 5 ∷ 6 ∷ [] } ∷ [] }) × ArePacked second_head (first_head ∷ []) (6 ∷ 5 ∷ 0 ∷ 7 ∷ 9 ∷ []) × (ArePacked second_head [] (6 ∷ 5 ∷ 0 ∷ []) → ⊥) × (ArePacked (record second_head { base = 0 }) (first_head ∷ []) (6 ∷ []) → ⊥)
+unfolding first_head second_head frames_of AreBelow
+packed = (refl, (omega arith, (omega arith, omega arith, tt)), (λ p. omega (arith, p.0)), λ p. omega (arith, p.1.0))
 
 -- ---- steps, where these opcodes are played
 

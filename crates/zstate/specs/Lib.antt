@@ -1,6 +1,6 @@
-pub mod Callee
 pub mod InTurn
 pub mod State
 pub mod Step
 pub mod Run
 pub mod Gives
+pub mod Packed

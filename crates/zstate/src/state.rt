@@ -1,22 +1,20 @@
 //! The state of a machine.
 
-ghost use Rattle.std.specs.Prelude.{◌≡◌, ◌≤◌, ◌<◌, ◌+◌, ◌*◌, ◌-◌, ◌^◌, ◌==◌, ◌+ℤ◌, ◌≤ℤ◌, ◌∷◌, Some, List, drop, length, map, reverse, slice_get, slice_index, pos, negsuc, true, [], MatchOption, IfOk, OnOk, OnErr, IsOk, is_some};
+ghost use Rattle.std.specs.Prelude.{◌≡◌, ◌≤◌, ◌<◌, ◌+◌, ◌*◌, ◌-◌, ◌^◌, ◌==◌, ◌+ℤ◌, ◌≤ℤ◌, ◌∷◌, Some, List, drop, length, map, slice_get, slice_index, pos, negsuc, true, [], MatchOption, IfOk, OnOk, OnErr, IsOk, is_some};
 ghost use Rattle.zstory.specs.LoadedStory.{globals};
 ghost use Rattle.zstory.specs.Bytes.{word_at};
-ghost use Rattle.zstate.specs.State.{State as StateValue, opening, popped, at_place, give, global, read_named, read_variable, read_operand, read_operands, found, pop, Frame as FrameValue, exists, put, put_named, put_in_place, read_in_place, with_memory, write_word};
-ghost use Rattle.zstate.specs.Callee.{called_of};
+ghost use Rattle.zstate.specs.State.{State as StateValue, has_head, opening, popped, at_place, give, global, read_named, read_variable, read_operand, read_operands, found, pop, Frame as FrameValue, exists, put, put_named, put_in_place, read_in_place, with_memory, write_word};
 ghost use Rattle.zstate.specs.Gives.{Gives, IsNear};
-ghost use Rattle.zstate.specs.Step.{entered};
+ghost use Rattle.zstate.specs.Step.{called_at, entered};
 
-use crate::callee::Callee;
 use crate::frame::Frame;
+use crate::frames::Frames;
 use crate::halt::Halt;
 use crate::mode::RandomMode;
 use arrayvec::ArrayVec;
 use byteorder::{BigEndian, ByteOrder};
 use std::alloc::{AllocError, Global};
 use std::marker::Model;
-use std::mem;
 use zcode::Operand;
 use zfault::{Event, Fault};
 use zstory::Story;
@@ -26,8 +24,7 @@ use zstory::Story;
 #[derive(Drop)]
 pub struct State {
     memory: Vec<u8>,
-    frame: Frame,
-    callers: Vec<Frame>,
+    frames: Frames,
     place: i32,
     random: RandomMode,
     prompted: bool,
@@ -35,12 +32,11 @@ pub struct State {
 }
 
 impl Model for State {
-    ghost use Rattle.std.specs.Prelude.{reverse};
     ghost use Rattle.zstate.specs.State.{State as StateValue};
 
     ghost Value = { StateValue };
 
-    ghost view = { λ s. record { memory = s.memory.items; frame = s.frame; callers = reverse s.callers.items; place = s.place; random = s.random; prompted = s.prompted; waiting = s.waiting } };
+    ghost view = { λ s. record { memory = s.memory.items; frame = s.frames.newest; callers = s.frames.callers; place = s.place; random = s.random; prompted = s.prompted; waiting = s.waiting } };
 }
 
 /// The values of an instruction's operands, with how many words their reading takes off the stack.
@@ -73,8 +69,7 @@ impl State {
     {
         Ok(State {
             memory: story.memory().to_vec(alloc)?,
-            frame: Frame::first(alloc),
-            callers: Vec::new(alloc),
+            frames: Frames::first(alloc),
             place: story.first_instruction() as i32,
             random: RandomMode::Words,
             prompted: false,
@@ -90,24 +85,19 @@ impl State {
     }
 
     /// The newest frame.
-    pub fn frame(&self) -> &Frame
-        ensures { result.now ≡ self.now.frame }
+    #[inline(always)]
+    pub fn frame(&self) -> Frame<'_>
+        ensures { result ≡ self.now.frame }
     {
-        &self.frame
-    }
-
-    /// The frames below the newest, the oldest first.
-    pub fn callers(&self) -> &[Frame]
-        ensures { self.now.callers ≡ reverse result.now }
-    {
-        self.callers.as_slice()
+        self.frames.newest()
     }
 
     /// The newest of the frames below the newest, to which that one returns.
-    pub fn caller(&self) -> Option<&Frame>
-        ensures { MatchOption result (self.now.callers ≡ []) (λ g. (gs : List FrameValue) × (self.now.callers ≡ g.now ∷ gs)) }
+    #[inline(always)]
+    pub fn caller(&self) -> Option<Frame<'_>>
+        ensures { MatchOption result (self.now.callers ≡ []) (λ g. (gs : List FrameValue) × (self.now.callers ≡ g ∷ gs)) }
     {
-        self.callers.last()
+        self.frames.caller()
     }
 
     /// How many frames stand below the newest.
@@ -115,7 +105,7 @@ impl State {
     pub fn depth(&self) -> usize
         ensures { result ≡ length self.now.callers }
     {
-        self.callers.len()
+        self.frames.depth()
     }
 
     /// The address of the instruction that comes next. A jump may lead outside memory, below 0 too.
@@ -178,7 +168,7 @@ impl State {
         requires { count ≤ length self.old.frame.stack }
         ensures { self.new ≡ popped count self.old }
     {
-        self.frame.pop(count);
+        self.frames.pop(count);
     }
 
     /// A global, by its variable's number.
@@ -204,7 +194,7 @@ impl State {
         if variable >= 16 {
             return Ok(self.global(story, variable));
         }
-        match self.frame.locals().get(usize::from(variable) - 1) {
+        match self.frames.locals().get(usize::from(variable) - 1) {
             Some(word) => Ok(*word),
             None => Err(Halt::Fault(Fault::AbsentLocal)),
         }
@@ -225,10 +215,10 @@ impl State {
         ensures within { IfOk result (λ x. x.1 ≤ length self.now.frame.stack) }
     {
         if variable == 0 {
-            if before == self.frame.height() {
+            if before == self.frames.height() {
                 return Err(Halt::Fault(Fault::StackUnderflow));
             }
-            Ok((self.frame.slot(before), before + 1))
+            Ok((self.frames.slot(before), before + 1))
         } else {
             Ok((self.read_named(story, variable)?, before))
         }
@@ -317,10 +307,10 @@ impl State {
             return Err(Halt::Fault(Fault::BadVariable));
         }
         if number == 0 {
-            if before == self.frame.height() {
+            if before == self.frames.height() {
                 return Err(Halt::Fault(Fault::StackUnderflow));
             }
-            return Ok(self.frame.slot(before));
+            return Ok(self.frames.slot(before));
         }
         self.read_named(story, number as u8)
     }
@@ -348,7 +338,7 @@ impl State {
         ensures { self.new ≡ put_named story.now variable word self.old }
     {
         if variable < 16 {
-            self.frame.set_local(usize::from(variable) - 1, word);
+            self.frames.set_local(usize::from(variable) - 1, word);
         } else {
             self.set_global(story, variable, word);
         }
@@ -364,7 +354,7 @@ impl State {
         ensures { self.new ≡ put_in_place story.now variable word self.old }
     {
         if variable == 0 {
-            self.frame.set_top(word);
+            self.frames.set_top(word);
         } else {
             self.put_named(story, variable, word);
         }
@@ -389,7 +379,7 @@ impl State {
         ensures wants { OnErr result ((variable ≡ 0) × (count ≡ 0)) }
     {
         if variable == 0 {
-            self.frame.exchange(count, word)?;
+            self.frames.exchange(count, word)?;
             return Ok(());
         }
         self.pop(count);
@@ -397,57 +387,55 @@ impl State {
         Ok(())
     }
 
-    /// Puts a word on the stack of the newest caller. An error changes nothing.
-    pub fn push_to_caller(&mut self, word: u16) -> Result<(), AllocError>
-        requires { 0 < length self.old.callers }
-        ensures ok { OnOk result ((g : FrameValue) (gs : List FrameValue) → self.old.callers ≡ g ∷ gs → self.new ≡ record self.old { callers = record g { stack = word ∷ g.stack } ∷ gs }) }
-        ensures err { OnErr result (self.new ≡ self.old) }
-    {
-        let Some(mut caller) = self.callers.pop() else {
-            unreachable!()
-        };
-        let pushed = caller.exchange(0, word);
-        self.callers.push_reserved(caller);
-        pushed
-    }
-
-    /// Takes so many words off the stack, and begins a routine (Z 6.4): its frame is the newest, of which a variable takes the
-    /// result, and a return from it goes on behind an instruction of so many bytes. Want of memory is the only error, and
-    /// changes nothing.
+    /// Takes so many words off the stack, and begins the routine whose head lies at a place, with these arguments (Z 6.4): its
+    /// frame is the newest, of which a variable takes the result, and a return from it goes on behind an instruction of so many
+    /// bytes. Want of memory is the only error, and changes nothing.
+    #[inline(always)]
     pub fn enter(
         &mut self,
-        callee: &Callee,
+        routine: usize,
+        arguments: &[u16],
         variable: u8,
         taken: usize,
         bytes: usize,
     ) -> Result<(), AllocError>
+        requires head { has_head self.old.memory routine ≡ true }
+        requires short { length self.old.memory ≤ 131072 }
+        requires few { length arguments.now ≤ 3 }
         requires near { IsNear self.old.place }
         requires small { bytes ≤ 1000000 }
         requires within { taken ≤ length self.old.frame.stack }
-        ensures ok { OnOk result (self.new ≡ entered (called_of callee.now) variable (at_place (self.old.place +ℤ pos bytes) (popped taken self.old))) }
+        ensures ok { OnOk result (self.new ≡ entered (called_at self.old.memory routine arguments.now) variable (at_place (self.old.place +ℤ pos bytes) (popped taken self.old))) }
         ensures err { OnErr result (self.new ≡ self.old) }
     {
-        self.callers.reserve(1)?;
-        let alloc = *self.callers.allocator();
+        let memory = self.memory.as_slice();
         let behind = self.place as usize + bytes;
-        self.frame.pop(taken);
-        let frame = Frame::begun(alloc, behind as u32, variable, callee);
-        let caller = mem::replace(&mut self.frame, frame);
-        self.callers.push_reserved(caller);
-        self.place = callee.place() as i32;
+        let begin = routine + 1 + 2 * usize::from(memory[routine]);
+        self.frames
+            .enter(memory, routine, arguments, behind as u32, variable, taken)?;
+        self.place = begin as i32;
         Ok(())
     }
 
     /// Leaves the newest frame: its caller is the newest, and goes on where the frame says (Z 6.4.5).
+    #[inline(always)]
     pub fn leave(&mut self)
         requires called { 0 < length self.old.callers }
         requires reached { self.old.frame.return_place < 2 ^ 24 }
         ensures { (g : FrameValue) (gs : List FrameValue) → self.old.callers ≡ g ∷ gs → self.new ≡ record self.old { frame = g; callers = gs; place = pos self.old.frame.return_place } }
     {
-        let Some(caller) = self.callers.pop() else {
-            unreachable!()
-        };
-        self.place = self.frame.return_place() as i32;
-        self.frame = caller;
+        self.place = self.frames.return_place() as i32;
+        self.frames.leave();
+    }
+
+    /// Leaves the newest frame, and puts a word on the stack of its caller.
+    #[inline(always)]
+    pub fn leave_with(&mut self, word: u16)
+        requires called { 0 < length self.old.callers }
+        requires reached { self.old.frame.return_place < 2 ^ 24 }
+        ensures { (g : FrameValue) (gs : List FrameValue) → self.old.callers ≡ g ∷ gs → self.new ≡ record self.old { frame = record g { stack = word ∷ g.stack }; callers = gs; place = pos self.old.frame.return_place } }
+    {
+        self.place = self.frames.return_place() as i32;
+        self.frames.leave_with(word);
     }
 }
