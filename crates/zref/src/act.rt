@@ -160,7 +160,7 @@ fn change(story: &Story, state: &mut State, assigns: Option<(u8, u16)>, popped: 
 }
 
 /// Changes variables, leaves the frame, and puts a value on the caller's stack.
-#[inline(never)]
+#[inline(always)]
 #[tactic(auto, using(crate::proofs::Doing::doing))]
 fn push_back(story: &Story, state: &mut State, assigns: Option<(u8, u16)>, popped: usize, word: u16)
     requires memory { length state.old.memory ≡ length story.now.memory }
@@ -176,7 +176,7 @@ fn push_back(story: &Story, state: &mut State, assigns: Option<(u8, u16)>, poppe
 }
 
 /// Changes variables, leaves the frame, and gives the caller's variable a value.
-#[inline(never)]
+#[inline(always)]
 #[tactic(auto, using(crate::proofs::Doing::doing))]
 fn put_back(
     story: &Story,

@@ -435,7 +435,8 @@ impl State {
         requires reached { self.old.frame.return_place < 2 ^ 24 }
         ensures { (g : FrameValue) (gs : List FrameValue) → self.old.callers ≡ g ∷ gs → self.new ≡ record self.old { frame = record g { stack = word ∷ g.stack }; callers = gs; place = pos self.old.frame.return_place } }
     {
-        self.place = self.frames.return_place() as i32;
+        let place = self.frames.return_place();
         self.frames.leave_with(word);
+        self.place = place as i32;
     }
 }

@@ -1,7 +1,6 @@
-use Rattle.std.proofs.Common.{arith, ◌∙◌, ◌<◌, ap, length}
+use Rattle.std.proofs.Common.{arith, ◌∙◌, ◌<◌, length}
 use Rattle.zstate.specs.Step.{initial, laid_over}
-use Rattle.zstory.specs.Bytes.{byte_at}
-use Rattle.zstate.proofs.Locals.{all_laid, head_within, length_locals, one_more}
+use Rattle.zstate.proofs.Locals.{all_laid, length_locals, one_more}
 use Rattle.zstate.proofs.frames.lay.Goals as goal
 
 pub loop-number-preserved : goal.loop-number-preserved

@@ -1,4 +1,4 @@
-use Rattle.std.proofs.Common.{arith, ◌≡◌, ◌≤◌, ◌+◌, ◌∷◌, ◌++◌, ◌-◌, ◌∙◌, [], List, ap, sym, length, take, drop}
+use Rattle.std.proofs.Common.{arith, ◌∷◌, ◌-◌, ◌∙◌, ap, sym, length, take}
 use Rattle.std.specs.Prelude.{reverse}
 use Rattle.std.proofs.lemmas.List.{length-drop}
 use Rattle.zstate.specs.State.{Frame}
