@@ -3,8 +3,9 @@
 
     loop.py KIND STORY CERTIFICATE
 
-KIND is the name of one instruction, played again and again, or sentence, a print of 114 bytes, or mix: thirteen of them in turn. All but
-the prints and the jump at the end work on globals, constants and the stack. Its certificate lists each instruction, and says that a global may be any word.
+KIND is the name of one instruction, played again and again, or sentence, a print of 114 bytes, or mix: thirteen of them in turn; or call, of a
+routine that returns a constant, or call_3, with three arguments, of which it returns the first. All but the prints and the jump at the end work on
+globals, constants and the stack. Its certificate lists each instruction, and says that a global may be any word.
 """
 import struct
 import sys
@@ -43,39 +44,62 @@ KINDS = {
 }
 ROUNDS = 20
 
+# routines: the arguments of a call, how many locals, and the one instruction
+ROUTINES = {"call": ([], 0, b"\x9b\x05"), "call_3": (G[:3], 3, b"\xab\x01")}
+
 
 def jump(back):
     """A jump that goes back so many bytes from its own first one."""
     return b"\x8c" + struct.pack(">h", 2 - 3 - back)
 
 
-def instructions(kind):
-    """The instructions of the loop, with the height of the stack before each."""
+def call(place, arguments):
+    """A call of the routine at a place with these globals, its result to a global."""
+    types = 0x3F & ~sum(0x10 >> (2 * number) for number in range(len(arguments)))
+    return bytes([0xE0, types]) + struct.pack(">H", place // 2) + bytes(arguments) + bytes([G[0]])
+
+
+def instructions(kind, place):
+    """The instructions of the loop, with the height of the stack before each, where its routine lies at a place."""
     height = 0
-    for instruction in KINDS[kind] * ROUNDS:
+    for instruction in KINDS[kind] * ROUNDS if kind in KINDS else [call(place, ROUTINES[kind][0])] * ROUNDS:
         yield instruction, height
         height += {PUSH: 1, PULL: -1}.get(instruction, 0)
 
 
-def certificate(listed, checksum, length):
-    """One that lists these places with these heights, where any slot and any global may be any word."""
+def certificate(listed, routines, checksum, length):
+    """One that lists these places with their routines, counts of locals and heights, and these routines with their counts of locals, where
+    any local, slot, global and result may be any word."""
     head = struct.pack(">4sBH6sHI", b"ZPCC", 1, straight.RELEASE, straight.SERIAL, checksum, length)
-    entries = b"".join(struct.pack(">IHB", place, 0, height) + ANY * height for place, height in listed)
-    return head + struct.pack(">H", 0) + ANY * 240 + struct.pack(">HI", 0, len(listed)) + entries
+    heads = b"".join(struct.pack(">IB", place, count) + ANY for place, count in routines)
+    entries = b"".join(struct.pack(">IHB", place, routine, height) + ANY * (count + height) for place, routine, count, height in listed)
+    return head + struct.pack(">H", 0) + ANY * 240 + struct.pack(">H", len(routines)) + heads + struct.pack(">I", len(listed)) + entries
 
 
 def main(kind, story_name, certificate_name):
-    code, listed = b"", []
-    for instruction, height in instructions(kind):
-        listed.append((straight.CODE + len(code), height))
+    code, listed, routines = b"", [], []
+    for instruction, height in instructions(kind, place_behind(kind)):
+        listed.append((straight.CODE + len(code), 0, 0, height))
         code += instruction
-    listed.append((straight.CODE + len(code), 0))
+    listed.append((straight.CODE + len(code), 0, 0, 0))
     code += jump(len(code))
+    if kind in ROUTINES:
+        _, count, instruction = ROUTINES[kind]
+        code += bytes(place_behind(kind) - straight.CODE - len(code)) + bytes([count]) + bytes(2 * count)
+        routines.append((place_behind(kind), count))
+        listed.append((straight.CODE + len(code), 1, count, 0))
+        code += instruction
     story, checksum = straight.story(code)
     with open(story_name, "wb") as file:
         file.write(story)
     with open(certificate_name, "wb") as file:
-        file.write(certificate(listed, checksum, len(story)))
+        file.write(certificate(listed, routines, checksum, len(story)))
+
+
+def place_behind(kind):
+    """The first even place behind the loop."""
+    end = straight.CODE + sum(len(instruction) for instruction, _ in instructions(kind, 0)) + len(jump(0))
+    return end + end % 2
 
 
 if __name__ == "__main__":

@@ -24,7 +24,7 @@ each() {
 }
 
 printf '%-8s %8s %8s\n' kind session checked
-for kind in nop add store je jl inc push mix print sentence; do
+for kind in nop add store je jl inc push mix print sentence call call_3; do
     python3 "$here/loop.py" "$kind" "$work/story" "$work/certificate"
     printf '%-8s %8s %8s\n' "$kind" "$(each "$work/story" "$work/certificate")" "$(each "$work/story")"
 done
