@@ -1,5 +1,5 @@
 -- The session, as contracts see it.
-use Rattle.std.specs.Prelude.{◌≡◌, ℕ, List, [], Option, Some, None, Result, Ok, drop}
+use Rattle.std.specs.Prelude.{ℕ, List, Option, Some, None, Result, Ok, drop}
 use Rattle.zcode.specs.declared.error.DecodeError.{DecodeError}
 use Rattle.zcode.specs.declared.operation.Operation.{Operation}
 use Rattle.zcode.specs.declared.operation.Operation.TheVariants.{Jump}

@@ -1,6 +1,5 @@
 use Rattle.std.proofs.Common.{◌≡◌, Some, map, sym, ap, subst, ◌∙◌}
 use Rattle.zboard.specs.Head.{head_of}
-use Rattle.zboard.specs.declared.row.Row.{Row}
 use Rattle.zboard.specs.Play.{IsPlayable, SoFar, state_in}
 use Rattle.zboard.specs.View.{position_of}
 use Rattle.std.specs.Prelude.{IfOk}
