@@ -6,3 +6,4 @@ mod Locals
 mod Reading
 mod Stacks
 mod Worked
+mod WorkedCall
