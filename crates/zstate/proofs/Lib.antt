@@ -7,3 +7,4 @@ mod Packing
 mod Reading
 mod Stacks
 mod Worked
+mod WorkedCall
