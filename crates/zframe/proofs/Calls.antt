@@ -111,6 +111,13 @@ module _ (limit n base top : ℕ) (words : List ℕ) (held : IsHeld limit n base
           room = same ∙ held.room;
         }
 
+    -- where the locals are so many
+    pub enter_seen_by : (count : ℕ) → length locals ≡ count → chain_at limit (n + 1) (top + 5) (take (top + 5 + count) new) ≡ entered (begun place (marks % 256) (marks / 256) locals) v
+    enter_seen_by count is = subst (λ (m : ℕ). chain_at limit (n + 1) (top + 5) (take (top + 5 + m) new) ≡ entered (begun place (marks % 256) (marks / 256) locals) v) is enter_seen
+
+    pub enter_held_by : (count : ℕ) → length locals ≡ count → IsHeld limit (n + 1) (top + 5) (top + 5 + count) new
+    enter_held_by count is = subst (λ (m : ℕ). IsHeld limit (n + 1) (top + 5) (top + 5 + m) new) is enter_held
+
 -- the variable and the supplied count in one word
 pub marks_apart : (v : Chain) (place variable supplied : ℕ) (locals : List ℕ) → variable < 256 → entered (begun place ((variable + supplied * 256) % 256) ((variable + supplied * 256) / 256) locals) v ≡ entered (begun place variable supplied locals) v
 marks_apart v place variable supplied locals h =
@@ -126,10 +133,9 @@ grown w xs t x e h = take_more_set w t x h ∙ ap (λ (ys : List ℕ). ys ++ x �
 next : (h i j : ℕ) (w : List ℕ) (xs : List ℕ) → h + i + 1 ≡ h + j → take (h + i + 1) w ≡ xs → take (h + j) w ≡ xs
 next h i j w xs e p = subst (λ (m : ℕ). take m w ≡ xs) e p
 
-pub written_law : (w : List ℕ) (h a b c d e m : ℕ) (ys : List ℕ) → h + 20 ≤ length w → length ys ≤ 15
-    → take (h + 5 + length ys) (put_mid (h + 5) m (set (set (set (set (set w h a) (h + 1) b) (h + 2) c) (h + 3) d) (h + 4) e) ys) ≡ take h w ++ a ∷ b ∷ c ∷ d ∷ e ∷ ys
-written_law w h a b c d e m ys room few =
-    let k : ℕ = length ys in
+pub written_law : (w : List ℕ) (h a b c d e m k : ℕ) (ys : List ℕ) → h + 20 ≤ length w → k ≤ length ys
+    → take (h + 5 + k) (put_mid (h + 5) m (set (set (set (set (set w h a) (h + 1) b) (h + 2) c) (h + 3) d) (h + 4) e) ys) ≡ take h w ++ a ∷ b ∷ c ∷ d ∷ e ∷ take k ys
+written_law w h a b c d e m k ys room few =
     let w1 : List ℕ = set w h a in
     let w2 : List ℕ = set w1 (h + 1) b in
     let w3 : List ℕ = set w2 (h + 2) c in
@@ -149,8 +155,8 @@ written_law w h a b c d e m ys room few =
     let front : length (take (h + 5) w5) ≡ h + 5 = length-take-le (h + 5) w5 (omega (arith, room, l5)) in
     let tail : List ℕ = post_of (h + 5) m w5 in
     let cut : take (h + 5 + k) (take (h + 5) w5 ++ (ys ++ tail)) ≡ take (h + 5) w5 ++ take k (ys ++ tail) = subst (λ (n : ℕ). take (n + k) (take (h + 5) w5 ++ (ys ++ tail)) ≡ take (h + 5) w5 ++ take k (ys ++ tail)) front (take-append-add (take (h + 5) w5) (ys ++ tail) k) in
-    cut ∙ ap (λ (zs : List ℕ). take (h + 5) w5 ++ zs) (take-append-le k ys tail (omega arith) ∙ take_all k ys (omega arith))
-    ∙ ap (λ (zs : List ℕ). zs ++ ys) q5 ∙ append_assoc (take h w) (a ∷ b ∷ c ∷ d ∷ e ∷ []) ys
+    cut ∙ ap (λ (zs : List ℕ). take (h + 5) w5 ++ zs) (take-append-le k ys tail few)
+    ∙ ap (λ (zs : List ℕ). zs ++ take k ys) q5 ∙ append_assoc (take h w) (a ∷ b ∷ c ∷ d ∷ e ∷ []) (take k ys)
 
 -- ---- the end of a frame
 
