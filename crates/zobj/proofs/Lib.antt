@@ -1,0 +1,3 @@
+pub mod Tables
+pub mod Lists
+pub mod Rows

@@ -1,0 +1,7 @@
+pub mod Entries
+pub mod Attributes
+pub mod Tree
+pub mod Moves
+pub mod Properties
+pub mod Values
+pub mod Names

@@ -1,0 +1,1 @@
+//! Laws of the definitions: the contracts of these functions, which do nothing.
