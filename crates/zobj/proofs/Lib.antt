@@ -1,3 +1,6 @@
 pub mod Tables
+pub mod Bytes
+pub mod Bits
+pub mod Keeping
 pub mod Lists
 pub mod Rows

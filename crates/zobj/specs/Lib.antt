@@ -5,3 +5,4 @@ pub mod Moves
 pub mod Properties
 pub mod Values
 pub mod Names
+pub mod Kept

@@ -13,6 +13,10 @@ mod values;
 
 pub use attributes::{clear_attribute, has_attribute, set_attribute};
 pub use error::ObjectError;
+pub use laws::{
+    attributes_are_a_set, links_are_functions, lists_go_on, moves_keep_the_tree,
+    objects_have_entries, parts_stay_apart,
+};
 pub use moves::{Lead, insert, lead_of, unlink};
 pub use name::{ShortName, short_name};
 pub use property::{Property, find_property, next_number};

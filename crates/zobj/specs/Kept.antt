@@ -1,0 +1,8 @@
+-- What calls on objects leave as it is.
+use Rattle.std.specs.Prelude.{◌≡◌, ℕ, List, length}
+use Rattle.zstory.specs.Bytes.{byte_at}
+
+-- a memory differs from another at places of a kind alone
+pub record DiffersOnly (IsChanged : ℕ → Type 0) (memory after : List ℕ) : Type 0 where
+  pub size : length after ≡ length memory
+  pub rest : (p : ℕ) → (IsChanged p → ⊥) → byte_at after p ≡ byte_at memory p
