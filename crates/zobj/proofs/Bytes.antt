@@ -1,11 +1,11 @@
 -- Bytes of entries, after one of them was written.
-use Rattle.std.proofs.Common.{◌≡◌, ◌≢◌, ℕ, zero, suc, ◌+◌, ◌-◌, ◌*◌, ◌<◌, ◌≤◌, Bool, true, false, List, length, refl, ap, sym, ◌∙◌, arith}
-use Rattle.std.specs.Prelude.{slice_set, ◌==◌, if◌then◌else◌}
-use Rattle.std.proofs.lemmas.List.{get_or-set_same, length-set}
+use Rattle.std.proofs.Common.{◌≡◌, ◌≢◌, ℕ, ◌+◌, ◌<◌, ◌≤◌, false, List, length, refl, ap, sym, ◌∙◌, arith}
+use Rattle.std.specs.Prelude.{slice_set, ◌==◌}
+use Rattle.std.proofs.lemmas.List.{get_or-set_same}
 use Rattle.std.proofs.lemmas.Bool.{ne_eqb}
 use Rattle.zstory.specs.Bytes.{byte_at}
 use Rattle.zstory.specs.Header.{object_table}
-use Rattle.zstory.specs.Objects.{object_place, object_end}
+use Rattle.zstory.specs.Objects.{object_place}
 use Rattle.zobj.specs.Entries.{HasTable, HasEntry, IsEntryByte, entry_byte, with_entry_byte}
 use Rattle.zobj.specs.Kept.{DiffersOnly}
 use Rattle.zobj.proofs.Tables.{byte_elsewhere, table_stays, table_kept, length_kept}

@@ -1,23 +1,22 @@
 -- What a move in the tree leaves.
-use Rattle.std.proofs.Common.{◌≡◌, ◌≢◌, ◌⊎◌, inl, inr, ℕ, zero, suc, ◌+◌, ◌<◌, ◌≤◌, Bool, true, false, nat_lt, List, length, Option, Some, None, Result, Ok, Err, refl, ap, sym, subst, ◌∙◌, arith, lit<, lit≤}
+use Rattle.std.proofs.Common.{◌≡◌, ◌≢◌, ◌⊎◌, inl, inr, ℕ, zero, suc, ◌+◌, ◌<◌, ◌≤◌, Bool, true, false, nat_lt, List, Option, Some, None, Result, Ok, Err, refl, ap, sym, ◌∙◌, arith, lit<, lit≤}
 use Rattle.std.specs.Prelude.{◌||◌, ◌==◌, if◌then◌else◌, IfSome, IfOk}
 use Rattle.std.specs.List.{find}
 use Rattle.std.specs.Result.{IsOkAnd}
 use Rattle.std.proofs.lemmas.Bool.{ltb-true, ltb-false}
 use Rattle.std.proofs.lemmas.Bool.Decides.{eqb_tells}
-use Rattle.zstory.specs.Bytes.{byte_at}
 use Rattle.zstory.specs.Header.{object_table}
 use Rattle.zobj.specs.declared.error.ObjectError.{ObjectError}
 use Rattle.zobj.specs.declared.error.ObjectError.TheVariants.{AbsentObject}
 use Rattle.zobj.specs.declared.tree.Link.{Link}
 use Rattle.zobj.specs.declared.tree.Link.TheVariants.{Parent, Sibling, Child}
 use Rattle.zobj.specs.declared.moves.Lead.{Lead}
-use Rattle.zobj.specs.Entries.{HasTable, HasEntry, IsEntryByte, IsLinkByte, entry_byte, with_entry_byte}
+use Rattle.zobj.specs.Entries.{HasTable, IsLinkByte, entry_byte, with_entry_byte}
 use Rattle.zobj.specs.Tree.{link_byte, linked, parent, sibling, child, with_link, IsTree}
 use Rattle.zobj.specs.Moves.{row, ends_search, elder, lead_of, IsLead, on_ok, led_past, alone, unlinked, first_under, inserted}
 use Rattle.zobj.specs.Kept.{DiffersOnly}
 use Rattle.zobj.proofs.Tables.{table_kept, all_kept, entry_there}
-use Rattle.zobj.proofs.Bytes.{entry_byte_same, entry_byte_other, differs_there, differs_more}
+use Rattle.zobj.proofs.Bytes.{entry_byte_same, entry_byte_other, differs_there}
 
 link_low : (link : Link) → 4 ≤ link_byte link
 link_low Parent = lit≤ tt

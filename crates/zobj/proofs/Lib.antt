@@ -4,3 +4,4 @@ pub mod Bits
 pub mod Keeping
 pub mod Lists
 pub mod Rows
+mod Worked

@@ -1,11 +1,11 @@
 -- The object table stays where it is, whatever is written behind the header.
-use Rattle.std.proofs.Common.{◌≡◌, ℕ, ◌+◌, ◌-◌, ◌*◌, ◌<◌, ◌≤◌, ◌≢◌, Bool, true, false, List, length, get_or, refl, ap, sym, ◌∙◌, arith}
+use Rattle.std.proofs.Common.{◌≡◌, ℕ, ◌+◌, ◌≤◌, ◌≢◌, Bool, true, false, List, length, refl, arith}
 use Rattle.std.specs.Prelude.{slice_set, ◌==◌, if◌then◌else◌}
 use Rattle.std.proofs.lemmas.List.{get_or-set_other, length-set}
-use Rattle.zstory.specs.Bytes.{byte_at, word_at}
-use Rattle.zstory.specs.Header.{object_table, static_base}
+use Rattle.zstory.specs.Bytes.{byte_at}
+use Rattle.zstory.specs.Header.{object_table}
 use Rattle.zstory.specs.LoadedStory.{IsSound}
-use Rattle.zstory.specs.Objects.{object_place, object_end, IsObjectCount}
+use Rattle.zstory.specs.Objects.{object_place, IsObjectCount}
 use Rattle.zstory.proofs.Counting.{entries_dynamic}
 use Rattle.zobj.specs.Entries.{HasTable, HasEntry, with_entry_byte}
 

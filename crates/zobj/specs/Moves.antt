@@ -28,10 +28,10 @@ elder objects (Some number) = if nat_lt objects number then Err AbsentObject els
 -- parent, or a number in the row up to that one, that is none of the objects is an error (own)
 abbrev pub lead_of : ℕ → List ℕ → ℕ → Result (Option Lead) ObjectError
 lead_of objects memory object =
-  if parent memory object == 0 then Ok None
-  else (if nat_lt objects (parent memory object) then Err AbsentObject
-  else (if child memory (parent memory object) == object then Ok (Some (record { link = Child; object = parent memory object }))
-  else elder objects (find (ends_search objects memory object) (row objects memory (child memory (parent memory object))))))
+    if parent memory object == 0 then Ok None
+    else (if nat_lt objects (parent memory object) then Err AbsentObject
+    else (if child memory (parent memory object) == object then Ok (Some (record { link = Child; object = parent memory object }))
+    else elder objects (find (ends_search objects memory object) (row objects memory (child memory (parent memory object))))))
 
 -- it is a link of one of so many objects
 pub record IsLead (objects : ℕ) (lead : Lead) : Type 0 where

@@ -9,7 +9,7 @@ use Rattle.zstory.specs.Objects.{property_table}
 -- it can't be decoded (own)
 abbrev pub name_in : List ℕ → ℕ → ShortName
 name_in memory table =
-  if nat_lt table (readable_end memory) then (if byte_at memory table == 0 then Empty else (if nat_lt (table + 1) (readable_end memory) then At (table + 1) else Outside)) else Outside
+    if nat_lt table (readable_end memory) then (if byte_at memory table == 0 then Empty else (if nat_lt (table + 1) (readable_end memory) then At (table + 1) else Outside)) else Outside
 
 -- the short name of an object; object 0 has none (own)
 abbrev pub short_name : List ℕ → ℕ → ShortName

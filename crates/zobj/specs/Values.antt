@@ -14,8 +14,8 @@ default_word memory number = if number == 0 then 0 else word_at memory (object_t
 -- the value of a property with one or two bytes of data (Z 15 get_prop); one with more has none
 abbrev pub value_of : List ℕ → Property → Result ℕ ObjectError
 value_of memory property =
-  if property.length == 1 then Ok (byte_at memory property.place)
-  else (if property.length == 2 then Ok (word_at memory property.place) else Err PropertyTooLong)
+    if property.length == 1 then Ok (byte_at memory property.place)
+    else (if property.length == 2 then Ok (word_at memory property.place) else Err PropertyTooLong)
 
 -- the value of an object's property, or the default where it has none of that number
 abbrev pub value_or_default : List ℕ → ℕ → Option Property → Result ℕ ObjectError
@@ -29,8 +29,8 @@ property_value memory object number = value_or_default memory number (property_o
 -- (Z 15 put_prop)
 abbrev pub with_value : ℕ → List ℕ → Property → Result (List ℕ) ObjectError
 with_value word memory property =
-  if property.length == 1 then Ok (slice_set memory property.place (word % 256))
-  else (if property.length == 2 then Ok (slice_set (slice_set memory property.place (word / 256)) (property.place + 1) (word % 256)) else Err PropertyTooLong)
+    if property.length == 1 then Ok (slice_set memory property.place (word % 256))
+    else (if property.length == 2 then Ok (slice_set (slice_set memory property.place (word / 256)) (property.place + 1) (word % 256)) else Err PropertyTooLong)
 
 abbrev pub with_found : ℕ → List ℕ → Option Property → Result (List ℕ) ObjectError
 with_found word memory None = Err AbsentProperty

@@ -29,7 +29,9 @@ fn entry_place(memory: &[u8], object: u8) -> usize
     requires { HasEntry memory.now object }
     ensures { result ≡ object_place memory.now object }
 {
-    usize::from(word_at(memory, OBJECT_TABLE)) + DEFAULTS_LENGTH + OBJECT_ENTRY_LENGTH * (usize::from(object) - 1)
+    usize::from(word_at(memory, OBJECT_TABLE))
+        + DEFAULTS_LENGTH
+        + OBJECT_ENTRY_LENGTH * (usize::from(object) - 1)
 }
 
 /// A byte of an object's entry.

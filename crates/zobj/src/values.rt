@@ -15,7 +15,10 @@ pub fn default_word(memory: &[u8], number: u8) -> u16
     requires most { number < 32 }
     ensures { result ≡ default_word memory.now number }
 {
-    word_at(memory, usize::from(word_at(memory, OBJECT_TABLE)) + 2 * (usize::from(number) - 1))
+    word_at(
+        memory,
+        usize::from(word_at(memory, OBJECT_TABLE)) + 2 * (usize::from(number) - 1),
+    )
 }
 
 impl Property {

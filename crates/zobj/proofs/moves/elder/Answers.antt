@@ -1,4 +1,4 @@
-use Rattle.std.proofs.Common.{◌≡◌, ◌+◌, ◌-◌, sym, rules, arith}
+use Rattle.std.proofs.Common.{◌+◌, ◌-◌, sym, rules, arith}
 use Rattle.zobj.proofs.Rows.{answer_zero, answer_full, answer_absent, answer_sibling, answer_later}
 use Rattle.zobj.proofs.moves.elder.Goals as goal
 

@@ -1,5 +1,5 @@
-use Rattle.std.proofs.Common.{◌≡◌, true, false, sym, ◌∙◌, rules, arith}
-use Rattle.zobj.specs.Properties.{has_number, properties_from}
+use Rattle.std.proofs.Common.{◌≡◌, true, false, sym, ◌∙◌, rules}
+use Rattle.zobj.specs.Properties.{has_number}
 use Rattle.zobj.proofs.Lists.{found_first, found_later, after_first, after_later, at_end, none_found, none_after}
 use Rattle.zobj.proofs.property.find_from.Goals as goal
 
