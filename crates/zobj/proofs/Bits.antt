@@ -1,14 +1,17 @@
 -- Attributes as bits.
-use Rattle.std.proofs.Common.{◌≡◌, ◌≢◌, ◌⊎◌, inl, inr, ℕ, ◌-◌, ◌*◌, ◌/◌, ◌%◌, ◌^◌, ◌<◌, Bool, true, false, List, w8, refl, ap, sym, ◌∙◌, arith}
+use Rattle.std.proofs.Common.{◌≡◌, ◌≢◌, ◌⊎◌, inl, inr, ℕ, ◌+◌, ◌-◌, ◌*◌, ◌/◌, ◌%◌, ◌^◌, ◌<◌, Bool, true, false, List, w8, refl, ap, sym, ◌∙◌, arith, lit<}
 use Rattle.std.specs.Prelude.{◌==◌, ◌&&◌, if◌then◌else◌, bit_and, bit_or}
 use Rattle.std.specs.Int.{bit_at, bit_not}
 use Rattle.std.proofs.lemmas.Nat.Bits.{bit_at_set_same, bit_at_set_other, bit_at_clear_same, bit_at_clear_other}
-use Rattle.std.proofs.lemmas.Nat.{one_shl}
+use Rattle.std.proofs.lemmas.Nat.{one_shl, or_of_8, and_le_l, pow_below}
 use Rattle.std.proofs.lemmas.Bool.{eq-eqb}
 use Rattle.std.proofs.lemmas.Bool.Decides.{eqb_tells}
 use Rattle.zobj.specs.Entries.{HasEntry, entry_byte}
 use Rattle.zobj.specs.Attributes.{attribute_bit, has_attribute, with_bit, with_attribute}
-use Rattle.zobj.proofs.Bytes.{entry_byte_same, entry_byte_other}
+use Rattle.zstory.specs.Bytes.{byte_at}
+use Rattle.zstory.specs.Objects.{object_place}
+use Rattle.zobj.specs.Kept.{AreBytes}
+use Rattle.zobj.proofs.Bytes.{bytes_entry, entry_byte_same, entry_byte_other}
 
 -- a bit as std's lemmas spell it
 one_bit : (k : ℕ) → k < 8 → 2 ^ k ≡ 1 * 2 ^ k % 2 ^ 8
@@ -52,3 +55,16 @@ attribute_set memory on object attribute other number has few there small = by (
         let same : bit_at new (attribute_bit number) ≡ bit_at (entry_byte memory object (attribute / 8)) (attribute_bit number) = with_bit_other on (entry_byte memory object (attribute / 8)) (attribute_bit attribute) (attribute_bit number) (omega arith) (omega arith) differs in
         let old : entry_byte memory object (attribute / 8) ≡ entry_byte memory other (number / 8) = ap (λ (o : ℕ). entry_byte memory o (attribute / 8)) (sym o.1) ∙ ap (entry_byte memory other) (sym k.1) in
         rw (o.0, n.0) (ap (λ (b : ℕ). bit_at b (attribute_bit number) == 1) (here o.1 k.1) ∙ ap (λ (b : ℕ). b == 1) (same ∙ ap (λ (b : ℕ). bit_at b (attribute_bit number)) old))
+
+-- a byte with a bit set or cleared is one
+with_bit_small : (on : Bool) (byte k : ℕ) → k < 8 → byte < 256 → with_bit on k byte < 256
+with_bit_small true byte k small is = or_of_8 byte (2 ^ k) is (pow_below k 8 small)
+with_bit_small false byte k small is = omega (arith, is, and_le_l byte (255 - 2 ^ k))
+
+pub attribute_bytes : (memory : List ℕ) (on : Bool) (object attribute : ℕ) → AreBytes memory → AreBytes (with_attribute on object attribute memory)
+attribute_bytes memory on object attribute are =
+    bytes_entry memory object (attribute / 8) (with_bit on (attribute_bit attribute) (entry_byte memory object (attribute / 8))) are (with_bit_small on (entry_byte memory object (attribute / 8)) (attribute_bit attribute) (omega arith) (by (object == 0)))
+  where
+    by : (b : Bool) → (if b then 0 else byte_at memory (object_place memory object + attribute / 8)) < 256
+    by true = lit< tt
+    by false = are (object_place memory object + attribute / 8)

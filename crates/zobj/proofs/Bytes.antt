@@ -1,13 +1,14 @@
 -- Bytes of entries, after one of them was written.
-use Rattle.std.proofs.Common.{◌≡◌, ◌≢◌, ℕ, ◌+◌, ◌<◌, ◌≤◌, false, List, length, refl, ap, sym, ◌∙◌, arith}
-use Rattle.std.specs.Prelude.{slice_set, ◌==◌}
-use Rattle.std.proofs.lemmas.List.{get_or-set_same}
-use Rattle.std.proofs.lemmas.Bool.{ne_eqb}
+use Rattle.std.proofs.Common.{◌≡◌, ◌≢◌, inl, inr, ℕ, ◌+◌, ◌<◌, ◌≤◌, Bool, true, false, List, length, refl, ap, sym, lit<, ◌∙◌, arith}
+use Rattle.std.specs.Prelude.{slice_set, ◌==◌, if◌then◌else◌}
+use Rattle.std.proofs.lemmas.List.{get_or-set_same, get_or_past, length-set}
+use Rattle.std.proofs.lemmas.Bool.{ne_eqb, cases_lt}
+use Rattle.std.proofs.lemmas.Bool.Decides.{eqb_tells}
 use Rattle.zstory.specs.Bytes.{byte_at}
 use Rattle.zstory.specs.Header.{object_table}
 use Rattle.zstory.specs.Objects.{object_place}
 use Rattle.zobj.specs.Entries.{HasTable, HasEntry, IsEntryByte, entry_byte, with_entry_byte}
-use Rattle.zobj.specs.Kept.{DiffersOnly}
+use Rattle.zobj.specs.Kept.{DiffersOnly, AreBytes}
 use Rattle.zobj.proofs.Tables.{byte_elsewhere, table_stays, table_kept, length_kept}
 
 -- an object isn't number 0
@@ -47,8 +48,8 @@ entry_byte_other memory object k byte other j above least first inside within di
 -- the object table stays where only bytes of entries differ
 pub table_rests : (memory after : List ℕ) (objects first size : ℕ) → HasTable memory objects → DiffersOnly (IsEntryByte memory objects first size) memory after → object_table after ≡ object_table memory
 table_rests memory after objects first size has d =
-    let high = d.rest 0x0A (λ is. omega (arith, is.from, has.above)) in
-    let low = d.rest 0x0B (λ is. omega (arith, is.from, has.above)) in
+    let high : byte_at after 0x0A ≡ byte_at memory 0x0A = elim (d.rest 0x0A) [ inl e ↦ e | inr is ↦ absurd (omega (arith, is.from, has.above)) ] in
+    let low : byte_at after 0x0B ≡ byte_at memory 0x0B = elim (d.rest 0x0B) [ inl e ↦ e | inr is ↦ absurd (omega (arith, is.from, has.above)) ] in
     omega (arith, high, low)
 
 -- and so do bytes of entries outside of what differs
@@ -56,14 +57,31 @@ pub entry_byte_rests : (memory after : List ℕ) (objects first size : ℕ) → 
 entry_byte_rests memory after objects first size has d whole object j least inside outside =
     let table = table_rests memory after objects first size has d in
     let same : object_place after object + j ≡ object_place memory object + j = omega (arith, table) in
-    ap (byte_at after) same ∙ d.rest (object_place memory object + j) (λ is. outside (omega (arith, is.from, is.below, is.least, least, inside, whole)) (omega (arith, is.from, is.below, is.least, least, inside, whole)))
+    ap (byte_at after) same ∙ elim (d.rest (object_place memory object + j)) [ inl e ↦ e | inr is ↦ absurd (outside (omega (arith, is.from, is.below, is.least, least, inside, whole)) (omega (arith, is.from, is.below, is.least, least, inside, whole))) ]
 
 -- one written byte of an entry is the only one that differs
 pub differs_there : (memory : List ℕ) (objects first size object k byte : ℕ) → HasTable memory objects → 1 ≤ object → object ≤ objects → first ≤ k → k < first + size → DiffersOnly (IsEntryByte memory objects first size) memory (with_entry_byte object k byte memory)
 differs_there memory objects first size object k byte has least most from below = record {
   size = length_kept memory object k byte has.above;
-  rest = λ p outside. byte_rests memory object k byte p least (λ e. outside (record { object = object; least = least; most = most; from = omega (arith, e, from); below = omega (arith, e, below) }));
+  rest = λ p. elim (eqb_tells p (object_place memory object + k)) [
+    | inl e ↦ inr (record { object = object; least = least; most = most; from = omega (arith, e.1, from); below = omega (arith, e.1, below) })
+    | inr e ↦ inl (byte_rests memory object k byte p least e.1)
+  ];
 }
 
-pub differs_more : (IsChanged : ℕ → Type 0) (memory between after : List ℕ) → DiffersOnly IsChanged memory between → DiffersOnly IsChanged between after → DiffersOnly IsChanged memory after
-differs_more IsChanged memory between after one two = record { size = two.size ∙ one.size; rest = λ p outside. two.rest p outside ∙ one.rest p outside }
+-- bytes stay bytes where bytes are written
+pub bytes_set : (memory : List ℕ) (place byte : ℕ) → AreBytes memory → byte < 256 → AreBytes (slice_set memory place byte)
+bytes_set memory place byte are small p = elim (eqb_tells p place) [
+  | inr other ↦ let e = byte_elsewhere memory place byte p other.1 in omega (arith, e, are p)
+  | inl same ↦ elim (cases_lt place (length memory)) [
+    | inl inside ↦ let e : byte_at (slice_set memory place byte) p ≡ byte = ap (byte_at (slice_set memory place byte)) same.1 ∙ get_or-set_same memory place byte 0 inside in omega (arith, e, small)
+    | inr outside ↦ let e : byte_at (slice_set memory place byte) p ≡ 0 = get_or_past (slice_set memory place byte) p 0 (let size : length (slice_set memory place byte) ≡ length memory = length-set memory place byte in omega (arith, size, same.1, outside)) in omega (arith, e)
+  ]
+]
+
+pub bytes_entry : (memory : List ℕ) (object k byte : ℕ) → AreBytes memory → byte < 256 → AreBytes (with_entry_byte object k byte memory)
+bytes_entry memory object k byte are small = by (object == 0)
+  where
+    by : (b : Bool) → AreBytes (if b then memory else slice_set memory (object_place memory object + k) byte)
+    by true = are
+    by false = bytes_set memory (object_place memory object + k) byte are small

@@ -4,7 +4,9 @@ use Rattle.std.specs.Prelude.{◌||◌, ◌==◌, if◌then◌else◌, IfSome, I
 use Rattle.std.specs.List.{find}
 use Rattle.std.specs.Result.{IsOkAnd}
 use Rattle.std.proofs.lemmas.Bool.{ltb-true, ltb-false}
+use Rattle.zstory.specs.Objects.{object_place}
 use Rattle.std.proofs.lemmas.Bool.Decides.{eqb_tells}
+use Rattle.zstory.specs.Bytes.{byte_at}
 use Rattle.zstory.specs.Header.{object_table}
 use Rattle.zobj.specs.declared.error.ObjectError.{ObjectError}
 use Rattle.zobj.specs.declared.error.ObjectError.TheVariants.{AbsentObject}
@@ -14,9 +16,9 @@ use Rattle.zobj.specs.declared.moves.Lead.{Lead}
 use Rattle.zobj.specs.Entries.{HasTable, IsLinkByte, entry_byte, with_entry_byte}
 use Rattle.zobj.specs.Tree.{link_byte, linked, parent, sibling, child, with_link, IsTree}
 use Rattle.zobj.specs.Moves.{row, ends_search, elder, lead_of, IsLead, on_ok, led_past, alone, unlinked, first_under, inserted}
-use Rattle.zobj.specs.Kept.{DiffersOnly}
+use Rattle.zobj.specs.Kept.{DiffersOnly, AreBytes}
 use Rattle.zobj.proofs.Tables.{table_kept, all_kept, entry_there}
-use Rattle.zobj.proofs.Bytes.{entry_byte_same, entry_byte_other, differs_there}
+use Rattle.zobj.proofs.Bytes.{bytes_entry, entry_byte_same, entry_byte_other, differs_there}
 
 link_low : (link : Link) → 4 ≤ link_byte link
 link_low Parent = lit≤ tt
@@ -37,7 +39,7 @@ pub record IsMoved (objects : ℕ) (memory after : List ℕ) : Type 0 where
   pub differs : DiffersOnly (IsLinkByte memory objects) memory after
 
 pub moved_none : (objects : ℕ) (memory : List ℕ) → HasTable memory objects → IsMoved objects memory memory
-moved_none objects memory has = record { table = has; place = refl; differs = record { size = refl; rest = λ p outside. refl } }
+moved_none objects memory has = record { table = has; place = refl; differs = record { size = refl; rest = λ p. inl refl } }
 
 pub moved_more : (objects : ℕ) (memory now : List ℕ) → IsMoved objects memory now → (link : Link) (object to : ℕ) → 1 ≤ object → object ≤ objects → IsMoved objects memory (with_link link object to now)
 moved_more objects memory now is link object to least most =
@@ -47,7 +49,10 @@ moved_more objects memory now is link object to least most =
       place = table_kept now object (link_byte link) to is.table.above ∙ is.place;
       differs = record {
         size = one.size ∙ is.differs.size;
-        rest = λ p outside. one.rest p (λ there. outside (record { object = there.object; least = there.least; most = there.most; from = omega (arith, there.from, is.place); below = omega (arith, there.below, is.place) })) ∙ is.differs.rest p outside;
+        rest = λ p. elim (one.rest p) [
+          | inr there ↦ inr (record { object = there.object; least = there.least; most = there.most; from = omega (arith, there.from, is.place); below = omega (arith, there.below, is.place) })
+          | inl e ↦ elim (is.differs.rest p) [ inl f ↦ inl (e ∙ f) | inr before ↦ inr before ]
+        ];
       };
     }
 
@@ -192,3 +197,33 @@ module _ (objects : ℕ) (memory : List ℕ) (has : HasTable memory objects) (ob
       by : (r : Result (List ℕ) ObjectError) → IsOkAnd r (λ after. IsMoved objects memory after × IsTree after objects) → IsOkAnd r (λ after. IsTree after objects)
       by (Ok now) is = is.1
       by (Err e) is = absurd is
+
+-- ---- bytes
+
+link_byte_is : (memory : List ℕ) → AreBytes memory → (link : Link) (object : ℕ) → linked link memory object < 256
+link_byte_is memory are link object = by (object == 0)
+  where
+    by : (b : Bool) → (if b then 0 else byte_at memory (object_place memory object + link_byte link)) < 256
+    by true = lit< tt
+    by false = are (object_place memory object + link_byte link)
+
+pub unlinked_bytes : (memory : List ℕ) (objects object : ℕ) → AreBytes memory → IfOk (unlinked objects object memory) AreBytes
+unlinked_bytes memory objects object are = by (lead_of objects memory object)
+  where
+    past : (lead : Option Lead) → AreBytes (led_past object lead memory)
+    past None = are
+    past (Some lead) = bytes_entry memory lead.object (link_byte lead.link) (sibling memory object) are (link_byte_is memory are Sibling object)
+
+    by : (r : Result (Option Lead) ObjectError) → IfOk (on_ok (λ lead. alone object (led_past object lead memory)) r) AreBytes
+    by (Ok lead) = bytes_entry (with_link Parent object 0 (led_past object lead memory)) object 5 0 (bytes_entry (led_past object lead memory) object 4 0 (past lead) (lit< tt)) (lit< tt)
+    by (Err e) = tt
+
+pub inserted_bytes : (memory : List ℕ) (objects object under : ℕ) → AreBytes memory → object < 256 → under < 256 → IfOk (inserted objects object under memory) AreBytes
+inserted_bytes memory objects object under are small few = by (unlinked objects object memory) (unlinked_bytes memory objects object are)
+  where
+    by : (r : Result (List ℕ) ObjectError) → IfOk r AreBytes → IfOk (on_ok (first_under object under) r) AreBytes
+    by (Ok now) is =
+        let one = bytes_entry now object 5 (child now under) is (link_byte_is now is Child under) in
+        let two = bytes_entry (with_link Sibling object (child now under) now) under 6 object one small in
+        bytes_entry (with_link Child under object (with_link Sibling object (child now under) now)) object 4 under two few
+    by (Err e) is = tt

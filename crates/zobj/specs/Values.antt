@@ -1,5 +1,5 @@
 -- What properties hold (Z 12.4, 15 get_prop, put_prop, get_prop_len).
-use Rattle.std.specs.Prelude.{ℕ, zero, suc, ◌+◌, ◌-◌, ◌*◌, ◌/◌, ◌%◌, ◌==◌, nat_lt, if◌then◌else◌, List, Option, Some, None, Result, Ok, Err, slice_set}
+use Rattle.std.specs.Prelude.{ℕ, zero, suc, ◌+◌, ◌-◌, ◌*◌, ◌/◌, ◌%◌, ◌<◌, ◌≤◌, ◌==◌, nat_lt, if◌then◌else◌, List, Option, Some, None, Result, Ok, Err, slice_set}
 use Rattle.zobj.specs.declared.error.ObjectError.{ObjectError}
 use Rattle.zobj.specs.declared.error.ObjectError.TheVariants.{AbsentProperty, PropertyTooLong}
 use Rattle.zobj.specs.declared.property.Property.{Property}
@@ -24,6 +24,10 @@ value_or_default memory number (Some property) = value_of memory property
 
 abbrev pub property_value : List ℕ → ℕ → ℕ → Result ℕ ObjectError
 property_value memory object number = value_or_default memory number (property_of memory object number)
+
+-- a byte of its data
+abbrev pub IsDataByte : Property → ℕ → Type 0
+IsDataByte property p = (property.place ≤ p) × (p < property.place + property.length)
 
 -- the memory with a word in a property's data: its low byte where that is one byte, its high and low byte where that is two
 -- (Z 15 put_prop)

@@ -1,16 +1,18 @@
 //! Laws of the definitions: the contracts of these functions, which do nothing.
 
-ghost use Rattle.std.specs.Prelude.{◌≡◌, ◌==◌, ◌&&◌, ◌≤◌, ◌<◌, ℕ, Bool, List, [], ◌∷◌, if◌then◌else◌, slice_set, IfOk};
+ghost use Rattle.std.specs.Prelude.{◌≡◌, ◌+◌, ◌==◌, ◌&&◌, ◌≤◌, ◌<◌, ℕ, Bool, List, [], ◌∷◌, if◌then◌else◌, slice_set, IfOk};
 ghost use Rattle.std.specs.Result.{IsOkAnd};
 ghost use Rattle.zstory.specs.LoadedStory.{IsSound};
 ghost use Rattle.zstory.specs.Objects.{IsObjectCount, property_table};
 ghost use Rattle.zobj.specs.declared.tree.Link.{Link};
-ghost use Rattle.zobj.specs.Entries.{HasTable, HasEntry, HasDefaults, IsAttributeByte, IsLinkByte};
+ghost use Rattle.zobj.specs.Entries.{HasTable, HasEntry, HasDefaults, IsEntryByte, IsAttributeByte, IsLinkByte};
 ghost use Rattle.zobj.specs.Attributes.{has_attribute, with_attribute};
 ghost use Rattle.zobj.specs.Tree.{linked, with_link, IsTree};
 ghost use Rattle.zobj.specs.Moves.{unlinked, inserted};
 ghost use Rattle.zobj.specs.Properties.{is_property, property_there, data_end, properties_from};
-ghost use Rattle.zobj.specs.Kept.{DiffersOnly};
+ghost use Rattle.zobj.specs.declared.property.Property.{Property};
+ghost use Rattle.zobj.specs.Values.{with_value, IsDataByte};
+ghost use Rattle.zobj.specs.Kept.{DiffersOnly, AreBytes};
 
 /// What calls on objects ask of a memory holds of that of a loaded story, and stays so whatever is written behind the header.
 pub fn objects_have_entries()
@@ -45,10 +47,23 @@ pub fn moves_keep_the_tree()
     ensures under { (memory : List ℕ) (objects object under : ℕ) → HasTable memory objects → IsTree memory objects → 1 ≤ object → object ≤ objects → 1 ≤ under → under ≤ objects → IsOkAnd (inserted objects object under memory) (λ after. IsTree after objects) }
 {}
 
+/// What is put into a property changes its data alone.
+pub fn values_stay_in_their_data()
+    ensures { (memory : List ℕ) (word : ℕ) (property : Property) → IfOk (with_value word memory property) (DiffersOnly (IsDataByte property) memory) }
+{}
+
+/// What is written are bytes.
+pub fn bytes_stay_bytes()
+    ensures attributes { (memory : List ℕ) (on : Bool) (object attribute : ℕ) → AreBytes memory → AreBytes (with_attribute on object attribute memory) }
+    ensures unlinked { (memory : List ℕ) (objects object : ℕ) → AreBytes memory → IfOk (unlinked objects object memory) AreBytes }
+    ensures inserted { (memory : List ℕ) (objects object under : ℕ) → AreBytes memory → object < 256 → under < 256 → IfOk (inserted objects object under memory) AreBytes }
+    ensures values { (memory : List ℕ) (word : ℕ) (property : Property) → AreBytes memory → word < 65536 → IfOk (with_value word memory property) AreBytes }
+{}
+
 /// Attributes, links and the addresses of property tables stay apart.
 pub fn parts_stay_apart()
     ensures attributes { (memory : List ℕ) (on : Bool) (objects object attribute : ℕ) → HasTable memory objects → 1 ≤ object → object ≤ objects → attribute < 32 → DiffersOnly (IsAttributeByte memory objects) memory (with_attribute on object attribute memory) }
     ensures links_stay { (memory after : List ℕ) (objects object : ℕ) (link : Link) → HasTable memory objects → DiffersOnly (IsAttributeByte memory objects) memory after → 1 ≤ object → linked link after object ≡ linked link memory object }
     ensures attributes_stay { (memory after : List ℕ) (objects object attribute : ℕ) → HasTable memory objects → DiffersOnly (IsLinkByte memory objects) memory after → 1 ≤ object → attribute < 32 → has_attribute after object attribute ≡ has_attribute memory object attribute }
-    ensures tables_stay { (memory after : List ℕ) (objects object : ℕ) → HasTable memory objects → DiffersOnly (IsLinkByte memory objects) memory after → 1 ≤ object → property_table after object ≡ property_table memory object }
+    ensures tables_stay { (memory after : List ℕ) (objects first size object : ℕ) → HasTable memory objects → DiffersOnly (IsEntryByte memory objects first size) memory after → first + size ≤ 7 → 1 ≤ object → property_table after object ≡ property_table memory object }
 {}
