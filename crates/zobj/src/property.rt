@@ -57,7 +57,7 @@ fn list_place(memory: &[u8], object: u8) -> usize
 }
 
 /// The property of a number in a list from the place of a size byte on.
-fn find_from(memory: &[u8], first: usize, number: u8) -> Option<Property>
+fn find_from(memory: &[u8], first: usize, number: u16) -> Option<Property>
     ensures value { result ≡ find (has_number number) (properties_from memory.now first) }
     ensures readable { IfSome result (IsReadable memory.now) }
     ensures behind { IfSome result (λ property. after_number number (properties_from memory.now first) ≡ Some (properties_from memory.now (property.place + property.length))) }
@@ -65,7 +65,7 @@ fn find_from(memory: &[u8], first: usize, number: u8) -> Option<Property>
 {
     let mut at = first;
     while let Some(property) = property_at(memory, at) {
-        if property.number == number {
+        if property.number as u16 == number {
             return Some(property);
         }
         at = property.place as usize + property.length as usize;
@@ -85,7 +85,7 @@ fn number_at(memory: &[u8], at: usize) -> u8
 
 /// The property of an object with a number, the first where there are several. None where there is none: the list of properties
 /// ends at a zero byte, and before a property that isn't wholly in memory below 65,536.
-pub fn find_property(memory: &[u8], object: u8, number: u8) -> Option<Property>
+pub fn find_property(memory: &[u8], object: u8, number: u16) -> Option<Property>
     requires { HasEntry memory.now object }
     ensures value { result ≡ property_of memory.now object number }
     ensures readable { IfSome result (IsReadable memory.now) }
@@ -95,7 +95,7 @@ pub fn find_property(memory: &[u8], object: u8, number: u8) -> Option<Property>
 
 /// The number of the property behind that of a number, 0 behind the last; of the first, behind 0 (Z 15 get_next_prop). None where
 /// the object has no property of that number.
-pub fn next_number(memory: &[u8], object: u8, number: u8) -> Option<u8>
+pub fn next_number(memory: &[u8], object: u8, number: u16) -> Option<u8>
     requires { HasEntry memory.now object }
     ensures { result ≡ next_in (properties memory.now object) number }
 {

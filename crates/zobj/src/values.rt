@@ -9,7 +9,7 @@ use crate::error::ObjectError;
 use crate::property::{Property, find_property};
 
 /// The default of a property, 1 to 31 (Z 12.2).
-pub fn default_word(memory: &[u8], number: u8) -> u16
+pub fn default_word(memory: &[u8], number: u16) -> u16
     requires table { HasDefaults memory.now }
     requires least { 1 ≤ number }
     requires most { number < 32 }
@@ -73,7 +73,7 @@ impl Property {
 /// # Errors
 ///
 /// `PropertyTooLong` where it has more than two bytes of data.
-pub fn property_value(memory: &[u8], object: u8, number: u8) -> Result<u16, ObjectError>
+pub fn property_value(memory: &[u8], object: u8, number: u16) -> Result<u16, ObjectError>
     requires entry { HasEntry memory.now object }
     requires least { 1 ≤ number }
     requires most { number < 32 }
@@ -91,7 +91,7 @@ pub fn property_value(memory: &[u8], object: u8, number: u8) -> Result<u16, Obje
 ///
 /// `AbsentProperty` where the object has none of that number, `PropertyTooLong` where it has more than two bytes of data. Nothing
 /// is changed then.
-pub fn put_property(memory: &mut [u8], object: u8, number: u8, word: u16) -> Result<(), ObjectError>
+pub fn put_property(memory: &mut [u8], object: u8, number: u16, word: u16) -> Result<(), ObjectError>
     requires { HasEntry memory.old object }
     ensures ok { OnOk result (with_property object number word memory.old ≡ Ok memory.new) }
     ensures err { IfErr result (λ e. with_property object number word memory.old ≡ Err e) }
