@@ -1,5 +1,5 @@
 -- Bytes of entries, after one of them was written.
-use Rattle.std.proofs.Common.{◌≡◌, ◌≢◌, inl, inr, ℕ, ◌+◌, ◌<◌, ◌≤◌, Bool, true, false, List, length, refl, ap, sym, lit<, ◌∙◌, arith}
+use Rattle.std.proofs.Common.{◌≡◌, ◌≢◌, inl, inr, ℕ, ◌+◌, ◌<◌, ◌≤◌, Bool, true, false, List, length, refl, ap, sym, ◌∙◌, arith}
 use Rattle.std.specs.Prelude.{slice_set, ◌==◌, if◌then◌else◌}
 use Rattle.std.proofs.lemmas.List.{get_or-set_same, get_or_past, length-set}
 use Rattle.std.proofs.lemmas.Bool.{ne_eqb, cases_lt}
@@ -51,6 +51,11 @@ table_rests memory after objects first size has d =
     let high : byte_at after 0x0A ≡ byte_at memory 0x0A = elim (d.rest 0x0A) [ inl e ↦ e | inr is ↦ absurd (omega (arith, is.from, has.above)) ] in
     let low : byte_at after 0x0B ≡ byte_at memory 0x0B = elim (d.rest 0x0B) [ inl e ↦ e | inr is ↦ absurd (omega (arith, is.from, has.above)) ] in
     omega (arith, high, low)
+
+pub all_rest : (memory after : List ℕ) (objects first size : ℕ) → HasTable memory objects → DiffersOnly (IsEntryByte memory objects first size) memory after → HasTable after objects
+all_rest memory after objects first size has d =
+    let table = table_rests memory after objects first size has d in
+    record { few = has.few; above = omega (arith, table, has.above); within = omega (arith, table, d.size, has.within) }
 
 -- and so do bytes of entries outside of what differs
 pub entry_byte_rests : (memory after : List ℕ) (objects first size : ℕ) → HasTable memory objects → DiffersOnly (IsEntryByte memory objects first size) memory after → first + size ≤ 9 → (object j : ℕ) → 1 ≤ object → j < 9 → (first ≤ j → j < first + size → ⊥) → byte_at after (object_place after object + j) ≡ byte_at memory (object_place memory object + j)

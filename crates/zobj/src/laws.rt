@@ -65,5 +65,6 @@ pub fn parts_stay_apart()
     ensures attributes { (memory : List ℕ) (on : Bool) (objects object attribute : ℕ) → HasTable memory objects → 1 ≤ object → object ≤ objects → attribute < 32 → DiffersOnly (IsAttributeByte memory objects) memory (with_attribute on object attribute memory) }
     ensures links_stay { (memory after : List ℕ) (objects object : ℕ) (link : Link) → HasTable memory objects → DiffersOnly (IsAttributeByte memory objects) memory after → 1 ≤ object → linked link after object ≡ linked link memory object }
     ensures attributes_stay { (memory after : List ℕ) (objects object attribute : ℕ) → HasTable memory objects → DiffersOnly (IsLinkByte memory objects) memory after → 1 ≤ object → attribute < 32 → has_attribute after object attribute ≡ has_attribute memory object attribute }
+    ensures entries_stay { (memory after : List ℕ) (objects first size : ℕ) → HasTable memory objects → DiffersOnly (IsEntryByte memory objects first size) memory after → HasTable after objects }
     ensures tables_stay { (memory after : List ℕ) (objects first size object : ℕ) → HasTable memory objects → DiffersOnly (IsEntryByte memory objects first size) memory after → first + size ≤ 7 → 1 ≤ object → property_table after object ≡ property_table memory object }
 {}

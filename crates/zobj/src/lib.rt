@@ -17,7 +17,7 @@ pub use laws::{
     attributes_are_a_set, bytes_stay_bytes, links_are_functions, lists_go_on, moves_keep_the_tree,
     objects_have_entries, parts_stay_apart, values_stay_in_their_data,
 };
-pub use moves::{Lead, insert, lead_of, unlink};
+pub use moves::{Lead, insert, lead_of, lead_past, put_first, unlink};
 pub use name::{ShortName, short_name};
 pub use property::{Property, find_property, next_number};
 pub use tree::{Link, linked, set_link};

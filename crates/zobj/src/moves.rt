@@ -74,9 +74,9 @@ fn elder(memory: &[u8], objects: u8, object: u8, first: u8) -> Result<Option<Lea
     Ok(None)
 }
 
-/// Leads the link that leads to an object past it, and leaves the object alone.
+/// Takes an object out of the tree, by the link that [`lead_of`] found to lead to it: the first half of a move, which can't fail.
 #[tactic(auto, using(crate::proofs::Tables::all_kept))]
-fn pass(memory: &mut [u8], objects: u8, object: u8, lead: Option<Lead>)
+pub fn lead_past(memory: &mut [u8], objects: u8, object: u8, lead: Option<Lead>)
     requires table { HasTable memory.old objects }
     requires least { 1 ≤ object }
     requires most { object ≤ objects }
@@ -108,7 +108,7 @@ pub fn unlink(memory: &mut [u8], objects: u8, object: u8) -> Result<(), ObjectEr
     ensures table { HasTable memory.new objects }
 {
     let lead = lead_of(memory, objects, object)?;
-    pass(memory, objects, object, lead);
+    lead_past(memory, objects, object, lead);
     Ok(())
 }
 
@@ -133,9 +133,9 @@ pub fn insert(memory: &mut [u8], objects: u8, object: u8, under: u8) -> Result<(
     Ok(())
 }
 
-/// Makes an object, whose parent and sibling are overwritten, the first child of another.
+/// Makes an object, which is out of the tree, the first child of another: the second half of [`insert`], which can't fail.
 #[tactic(auto, using(crate::proofs::Tables::entry_kept))]
-fn put_first(memory: &mut [u8], object: u8, under: u8)
+pub fn put_first(memory: &mut [u8], object: u8, under: u8)
     requires object { HasEntry memory.old object }
     requires under { HasEntry memory.old under }
     ensures { memory.new ≡ first_under object under memory.old }

@@ -91,7 +91,12 @@ pub fn property_value(memory: &[u8], object: u8, number: u16) -> Result<u16, Obj
 ///
 /// `AbsentProperty` where the object has none of that number, `PropertyTooLong` where it has more than two bytes of data. Nothing
 /// is changed then.
-pub fn put_property(memory: &mut [u8], object: u8, number: u16, word: u16) -> Result<(), ObjectError>
+pub fn put_property(
+    memory: &mut [u8],
+    object: u8,
+    number: u16,
+    word: u16,
+) -> Result<(), ObjectError>
     requires { HasEntry memory.old object }
     ensures ok { OnOk result (with_property object number word memory.old ≡ Ok memory.new) }
     ensures err { IfErr result (λ e. with_property object number word memory.old ≡ Err e) }
