@@ -1,6 +1,7 @@
 -- Values of the definitions, computed.
-use Rattle.std.proofs.Common.{◌≡◌, ℕ, ◌*◌, ◌≤◌, Bool, true, false, List, [], ◌∷◌, ◌++◌, replicate, length, take, drop, Some, None, Ok, Err, refl, subst, arith, lit<, lit≤}
+use Rattle.std.proofs.Common.{◌≡◌, ◌⊎◌, inl, inr, ℕ, zero, suc, ◌*◌, ◌<◌, ◌≤◌, Bool, true, false, List, [], ◌∷◌, ◌++◌, replicate, length, take, drop, Some, None, Ok, Err, refl, subst, arith, lit<, lit≤}
 use Rattle.std.specs.List.{find}
+use Rattle.zstory.specs.Bytes.{byte_at}
 use Rattle.zstory.specs.Objects.{object_place, property_table}
 use Rattle.zobj.specs.declared.error.ObjectError.TheVariants.{AbsentObject, AbsentProperty, PropertyTooLong}
 use Rattle.zobj.specs.declared.tree.Link.{Link}
@@ -11,8 +12,9 @@ use Rattle.zobj.specs.Entries.{HasTable, HasEntry, HasDefaults, IsAttributeByte,
 use Rattle.zobj.specs.Attributes.{has_attribute, with_attribute}
 use Rattle.zobj.specs.Tree.{linked, parent, sibling, child, with_link, IsTree}
 use Rattle.zobj.specs.Moves.{row, lead_of, unlinked, inserted}
-use Rattle.zobj.specs.Properties.{list_place, data_length, property_number, is_property, first_properties, properties_from, properties, has_number, property_of, after_number, next_in}
-use Rattle.zobj.specs.Values.{default_word, value_of, property_value, with_value, with_property, length_before}
+use Rattle.zobj.specs.Properties.{IsReadable, list_place, data_length, property_number, is_property, first_properties, properties_from, properties, has_number, property_of, after_number, next_in}
+use Rattle.zobj.specs.Values.{IsDataByte, default_word, value_of, property_value, with_value, with_property, length_before}
+use Rattle.zobj.specs.Kept.{DiffersOnly, AreBytes}
 use Rattle.zobj.specs.Names.{name_in, short_name}
 use Rattle.zobj.proofs.Lists.{property_inside}
 
@@ -290,3 +292,29 @@ size_bytes = (refl, refl, refl)
 
 no_names : (name_in (0x00 ∷ 0x05 ∷ []) 0 ≡ Empty) × (name_in (0x01 ∷ 0x94 ∷ 0xA5 ∷ []) 0 ≡ At 1) × (name_in (0x00 ∷ 0x01 ∷ []) 1 ≡ Outside) × (name_in (0x00 ∷ 0x00 ∷ []) 1 ≡ Empty) × (name_in (0x00 ∷ 0x00 ∷ []) 2 ≡ Outside)
 no_names = (refl, refl, refl, refl, refl)
+
+-- ---- what is left as it is
+
+data_bytes : IsDataByte three 630 × IsDataByte three 631 × (IsDataByte three 629 → ⊥) × (IsDataByte three 632 → ⊥)
+unfolding three
+data_bytes = ((lit≤ tt, lit< tt), (lit≤ tt, lit< tt), λ h. omega (arith, h.0), λ h. omega (arith, h.1))
+
+readable : IsReadable (take 632 story) three × (IsReadable (take 631 story) three → ⊥)
+unfolding story story_with state front tables three
+readable = (record { some = lit≤ tt; within = lit≤ tt }, λ h. omega (arith, h.within))
+
+-- a byte that differs, at its place and at no other
+differing : DiffersOnly (λ p. p ≡ 1) (7 ∷ 8 ∷ []) (7 ∷ 9 ∷ []) × (DiffersOnly (λ p. p ≡ 0) (7 ∷ 8 ∷ []) (7 ∷ 9 ∷ []) → ⊥) × (DiffersOnly (λ p. p ≡ 1) (7 ∷ 8 ∷ []) (7 ∷ []) → ⊥)
+differing = (record { size = refl; rest = by }, λ d. elim (d.rest 1) [ inl e ↦ omega (arith, e) | inr e ↦ omega (arith, e) ], λ d. omega (arith, d.size))
+  where
+    by : (p : ℕ) → (byte_at (7 ∷ 9 ∷ []) p ≡ byte_at (7 ∷ 8 ∷ []) p) ⊎ (p ≡ 1)
+    by zero = inl refl
+    by (suc zero) = inr refl
+    by (suc (suc p)) = inl refl
+
+bytes : AreBytes (255 ∷ []) × (AreBytes (256 ∷ []) → ⊥)
+bytes = (by, λ are. omega (arith, are 0))
+  where
+    by : (p : ℕ) → byte_at (255 ∷ []) p < 256
+    by zero = lit< tt
+    by (suc p) = lit< tt
