@@ -1,0 +1,8 @@
+pub mod Tables
+pub mod Bytes
+pub mod Bits
+pub mod Keeping
+pub mod Puts
+pub mod Lists
+pub mod Rows
+mod Worked
