@@ -66,6 +66,14 @@ def frozen(*ranges):
     return files(listed=certificate(SAMPLE, LISTED, ranges=ranges))
 
 
+def with_links(*links):
+    """The story with two objects, where these bytes are changed, listed."""
+    made = with_objects()
+    for place, number in links:
+        made = changed(made, place, number)
+    return files(made, certificate(made, [0x370]))
+
+
 ONE, TWO, WIDE = interval(1, 1), interval(2, 2), interval(-32768, 32767)
 
 # ---- words: name, words, answer
@@ -238,6 +246,10 @@ COMMANDS = [
     ("nothing listed", CHECK, files(listed=certificate(SAMPLE, [])), refused("S2")),
     ("the first place isn't listed", CHECK, files(listed=certificate(SAMPLE, [0x329])), refused("S2")),
     ("a global that isn't as stated", CHECK, files(changed(SAMPLE, 0x21F, 1)), refused("S4")),
+    ("links to the last object", CHECK, with_links((0x262, 2), (0x26C, 2), (0x26D, 2)), done(b"accepted\n")),
+    ("a parent that is no object", CHECK, with_links((0x262, 3)), refused("S6")),
+    ("a sibling that is no object", CHECK, with_links((0x26C, 3)), refused("S6")),
+    ("a child that is no object", CHECK, with_links((0x26D, 255)), refused("S6")),
     ("an abbreviation behind memory", CHECK, files(changed(SAMPLE, 0x25E, 0x7F)), refused("S7")),
     ("globals in the object table", CHECK, files(changed(SAMPLE, 0x0D, 0x41)), refused("S8")),
     ("a listed place with no instruction", CHECK, coded(b"\xeb\x7f\x00" + QUIT, [0x324, 0x327]), refused("I1 at 00324")),

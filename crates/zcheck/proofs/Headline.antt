@@ -42,6 +42,7 @@ module _ {V : Type 0} (o : SetOperations V) (lawful : AreSound o) (format : Form
     heads = heads_where o format story c spelling (passes.story_rules rules.RoutineHeads);
     values = passes.story_rules rules.FirstGlobals;
     low = low;
+    tree = passes.story_rules rules.Tree;
     abbreviations = passes.story_rules rules.Abbreviations;
     tables = passes.story_rules rules.Tables;
     each = passes.each;
@@ -79,7 +80,7 @@ module _ {V : Type 0} (o : SetOperations V) (lawful : AreSound o) (format : Form
     unfolding setting
     runs events n =
         let supports = supports_where passes in
-        run_safe o lawful (claims_of o c) setting loaded supports listed events n (opening story) (opening_described o (claims_of o c) story usual_limit supports)
+        run_safe o lawful (claims_of o c) setting loaded supports listed events n (opening story) (opening_described o (claims_of o c) story usual_limit loaded supports)
 
     safe_in : RunsWithoutFault story scope
     unfolding setting

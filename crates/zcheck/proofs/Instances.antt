@@ -31,6 +31,7 @@ keeps_story rules.Identity = refl
 keeps_story rules.FirstPlace = supports.first
 keeps_story rules.RoutineHeads = tt
 keeps_story rules.FirstGlobals = supports.values
+keeps_story rules.Tree = supports.tree
 keeps_story rules.Abbreviations = supports.abbreviations
 keeps_story rules.Tables = supports.tables
 
@@ -93,6 +94,7 @@ lowest = record { broken = no_first_place; before = before }
     before rules.FirstPlace less = absurd (omega (arith, less))
     before rules.RoutineHeads less = absurd (omega (arith, less))
     before rules.FirstGlobals less = absurd (omega (arith, less))
+    before rules.Tree less = absurd (omega (arith, less))
     before rules.Abbreviations less = absurd (omega (arith, less))
     before rules.Tables less = absurd (omega (arith, less))
 
@@ -110,6 +112,7 @@ keeps_alone rules.Identity = refl
 keeps_alone rules.FirstPlace = record { entry = record { routine = 0; shape = record { locals = []; slots = [] } }; listed = refl; main = refl; no_locals = refl; no_slots = refl }
 keeps_alone rules.RoutineHeads = tt
 keeps_alone rules.FirstGlobals = supports.values
+keeps_alone rules.Tree = supports.tree
 keeps_alone rules.Abbreviations = supports.abbreviations
 keeps_alone rules.Tables = supports.tables
 

@@ -4,6 +4,7 @@ mod First
 mod Places
 mod Lists
 mod Heads
+mod Trees
 pub mod Headline
 mod Worked
 pub mod Instances

@@ -5,6 +5,7 @@ mod accepted;
 mod checking;
 mod examining;
 mod listing;
+mod objects;
 mod refusal;
 mod story_rules;
 mod tables;

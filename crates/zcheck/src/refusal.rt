@@ -18,6 +18,8 @@ pub enum StoryRule {
     RoutineHeads,
     /// S4: the loaded value of each global lies in its set.
     FirstGlobals,
+    /// S6: parent, sibling and child of each object are objects, or none.
+    Tree,
     /// S7: the 96 abbreviations are whole in memory, none uses another, and no instruction changes a byte of them.
     Abbreviations,
     /// S8: the globals and the object table share no byte, and what is frozen lies in dynamic memory behind the header,
@@ -37,6 +39,7 @@ impl StoryRule {
             StoryRule::FirstPlace => 2,
             StoryRule::RoutineHeads => 3,
             StoryRule::FirstGlobals => 4,
+            StoryRule::Tree => 6,
             StoryRule::Abbreviations => 7,
             StoryRule::Tables => 8,
         }

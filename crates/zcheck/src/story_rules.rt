@@ -10,17 +10,19 @@ ghost use Rattle.zcheck.specs.declared.refusal.StoryRule.{StoryRule as ARule};
 ghost use Rattle.zcheck.specs.Passes.{HasHead, KeepsStory, IsLowestStoryRule};
 
 use crate::refusal::StoryRule;
+use crate::objects::has_tree;
 use crate::tables::{has_abbreviations, has_disjoint_tables, has_globals};
 use zcert::{Certificate, Instruction, Routine};
 use zdomain::Interval;
 use zstory::Story;
 
 /// The rules by their numbers.
-const RULES: [StoryRule; 6] = [
+const RULES: [StoryRule; 7] = [
     StoryRule::Identity,
     StoryRule::FirstPlace,
     StoryRule::RoutineHeads,
     StoryRule::FirstGlobals,
+    StoryRule::Tree,
     StoryRule::Abbreviations,
     StoryRule::Tables,
 ];
@@ -46,6 +48,7 @@ fn keeps(story: &Story, certificate: &Certificate, rule: StoryRule) -> bool
         StoryRule::FirstPlace => has_first_place(story, certificate),
         StoryRule::RoutineHeads => has_heads(story, certificate),
         StoryRule::FirstGlobals => has_globals(story, certificate),
+        StoryRule::Tree => has_tree(story),
         StoryRule::Abbreviations => has_abbreviations(story),
         StoryRule::Tables => has_disjoint_tables(story, certificate),
     }

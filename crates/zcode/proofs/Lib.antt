@@ -11,3 +11,4 @@ mod Inline
 mod Standard
 mod Worked
 pub mod Operating
+pub mod Ranges

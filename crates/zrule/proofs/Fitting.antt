@@ -5,14 +5,14 @@ use Rattle.std.specs.Bool.{MatchBool}
 use Rattle.std.specs.List.{AllZip}
 use Rattle.std.proofs.lemmas.Bool.{ltb-false, le-leb}
 use Rattle.std.proofs.lemmas.List.{length-set}
-use Rattle.zstory.specs.LoadedStory.{LoadedStory, IsSound}
+use Rattle.zstory.specs.LoadedStory.{LoadedStory}
 use Rattle.zdomain.specs.Domain.{SetOperations, In, Within}
 use Rattle.zstate.specs.State.{Frame, State, with_stack, with_locals, with_memory, write_word, global, put, put_named, exists}
 use Rattle.zstate.specs.Step.{stored}
 use Rattle.zflow.specs.Transfer.{Shape, with_result, locals_with}
 use Rattle.zrule.specs.Claims.{Claims}
-use Rattle.zrule.specs.Rules.{Covers, IsVariable, Takes}
-use Rattle.zrule.specs.Described.{Callers, DescribedMemory, Fits, FitsWith}
+use Rattle.zrule.specs.Rules.{HasDisjointTables, Covers, IsVariable, Takes}
+use Rattle.zrule.specs.Described.{Callers, DescribedMemory, Fits, FitsWith, IsLoadedStory}
 use Rattle.zrule.proofs.Sets.{zip_set}
 use Rattle.zrule.proofs.Memory.{global_put}
 
@@ -98,7 +98,7 @@ module _ {V : Type 0} (o : SetOperations V) (claims : Claims V) where
       by_kind false true h = h.0
       by_kind false false h = h.0
 
-  module _ (story : LoadedStory) (sound : IsSound story.memory) where
+  module _ (story : LoadedStory) (loaded : IsLoadedStory story) (tables : HasDisjointTables story claims.is_frozen) where
     -- a state in mid-instruction, of which this is known
     pub record Mid (routine : ℕ) (e : Shape V) (u : State) : Type 0 where
       pub memory : DescribedMemory o claims story u.memory
@@ -109,7 +109,7 @@ module _ {V : Type 0} (o : SetOperations V) (claims : Claims V) where
     global_given : (v x : ℕ) (memory : List ℕ) → DescribedMemory o claims story memory → 16 ≤ v → v < 256 → (option : Option V) → slice_get claims.globals (v - 16) ≡ option → MatchOption option ⊥ (λ values. In o values x) → DescribedMemory o claims story (write_word memory (global story v) x)
     global_given v x memory described above below_end None e found = absurd found
     global_given v x memory described above below_end (Some values) e found =
-        global_put o claims story sound v x values memory described.long above below_end found (subst (λ (c : Option V). MatchOption c ⊥ (Within o values)) (sym e) (λ y h. h)) described
+        global_put o claims story loaded tables v x values memory described.long above below_end found (subst (λ (c : Option V). MatchOption c ⊥ (Within o values)) (sym e) (λ y h. h)) described
 
     -- a value in a variable: what is known of the frame with it is known of the state after
     pub put_mid : (routine v x : ℕ) (e : Shape V) (u : State) → FitsWith o claims v x e u.frame → DescribedMemory o claims story u.memory → Callers o claims routine u.frame.return_place u.frame.result u.callers → Mid routine e (put story v x u)

@@ -36,6 +36,7 @@ use Rattle.zrule.specs.Rules.{Covers, HasFirstPlace, HasGlobals, HasDisjointTabl
 use Rattle.zrule.specs.Described.{Callers, Described, IsLoadedStory}
 use Rattle.zrule.proofs.Asking.{asks_keeps}
 use Rattle.zrule.proofs.Opening.{opening_described}
+use Rattle.zstory.proofs.Computed.{bytes_tested}
 
 -- ---- the story
 
@@ -319,7 +320,7 @@ low : (p : ℕ) (e : Entry Interval) → claims.entry p ≡ Some e → length e.
 unfolding claims bare_entry bare
 low = each_listed (λ p e. length e.shape.slots ≤ 64) (798 ∷ 803 ∷ 804 ∷ []) (omega arith, (omega arith, (omega arith, tt)))
 
--- so the claims hold, and describe the state in which the story opens
+-- so the claims hold
 pub supports : Supports interval_operations claims story
 unfolding claims claims_at certificate_at story
 supports = record {
@@ -327,19 +328,18 @@ supports = record {
   heads = record { even = λ p k begins. absurd cc; static = λ p k begins. absurd cc; there = λ p k begins. absurd cc };
   values = values;
   low = low;
+  tree = record { small = λ link object least most. absurd (omega (arith, least, most)) };
   abbreviations = record { plain = plain; unchanging = abbreviations_stay };
   tables = tables;
   each = each_listed (λ p e. (rule : Rule) → Keeps interval_operations claims story p e rule) (798 ∷ 803 ∷ 804 ∷ []) (first_keeps, (rest_keep.0, (rest_keep.1, tt)));
 }
-
-pub opens : (limit : ℕ) → Described interval_operations claims limit story (opening story)
-opens limit = opening_described interval_operations claims story limit supports
 
 -- the story could be loaded: its dictionary has no entry, and there is no room for an object
 pub loaded : IsLoadedStory story
 unfolding story memory
 loaded = record {
   sound = record {
+    bytes = bytes_tested story.memory refl;
     least_length = omega arith;
     greatest_length = omega arith;
     version = refl;
@@ -366,6 +366,10 @@ loaded = record {
     greatest : (other : ℕ) → other ≤ 255 → HasEntries memory other → other ≤ 0
     greatest zero small entries = omega arith
     greatest (suc k) small entries = let fits : 615 ≤ 606 = (entries 1 (omega arith) (omega arith)).dynamic in absurd (omega (arith, fits))
+
+-- and describe the state in which the story opens
+pub opens : (limit : ℕ) → Described interval_operations claims limit story (opening story)
+opens limit = opening_described interval_operations claims story limit loaded supports
 
 -- ---- shapes
 

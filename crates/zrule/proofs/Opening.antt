@@ -4,20 +4,16 @@ use Rattle.std.specs.List.{AllZip}
 use Rattle.zstory.specs.LoadedStory.{LoadedStory, first_instruction}
 use Rattle.zdomain.specs.Domain.{SetOperations, In}
 use Rattle.zstate.specs.State.{opening}
+use Rattle.zstate.proofs.Opens.{opening_is_state}
 use Rattle.zrule.specs.Claims.{Claims}
 use Rattle.zrule.specs.Rules.{Supports}
-use Rattle.zrule.specs.Described.{Described}
+use Rattle.zrule.specs.Described.{Described, IsLoadedStory}
 
-pub opening_described : {V : Type 0} (o : SetOperations V) (claims : Claims V) (story : LoadedStory) (limit : ℕ) → Supports o claims story → Described o claims limit story (opening story)
-opening_described o claims story limit supports =
+pub opening_described : {V : Type 0} (o : SetOperations V) (claims : Claims V) (story : LoadedStory) (limit : ℕ) → IsLoadedStory story → Supports o claims story → Described o claims limit story (opening story)
+opening_described o claims story limit loaded supports =
     let first = supports.first in
     record {
-      is_state = record {
-        memory = refl;
-        frames = (record { reached = omega arith; supplied = omega arith; locals = omega arith; stack = omega arith }, record { return_place = refl; result = refl; supplied = refl; locals = refl });
-        few = omega arith;
-        count = tt;
-      };
+      is_state = opening_is_state limit story loaded.sound;
       at = first_instruction story;
       place = refl;
       entry = first.entry;
@@ -27,5 +23,5 @@ opening_described o claims story limit supports =
         in_slots = subst (λ xs. AllZip (In o) xs []) (sym first.no_slots) tt;
       };
       callers = first.main;
-      memory = record { long = refl; values = supports.values; fixed = λ p h. refl };
+      memory = record { long = refl; values = supports.values; tree = supports.tree; fixed = λ p h. refl };
     }

@@ -20,7 +20,7 @@ use Rattle.zrule.proofs.Stepping.{read_within}
 -- an event changes nothing that is described
 pub described_given : {V : Type 0} (o : SetOperations V) (claims : Claims V) (limit : ℕ) (story : LoadedStory) (e : Event) (s : State) → Described o claims limit story s → Described o claims limit story (give e s)
 described_given o claims limit story e s d = record {
-  is_state = record { memory = d.is_state.memory; frames = d.is_state.frames; few = d.is_state.few; count = d.is_state.count };
+  is_state = record { memory = d.is_state.memory; bytes = d.is_state.bytes; frames = d.is_state.frames; few = d.is_state.few; count = d.is_state.count };
   at = d.at;
   place = d.place;
   entry = d.entry;
@@ -85,4 +85,4 @@ all_listed o claims story supports = record {
 pub never_faults : {V : Type 0} (o : SetOperations V) (lawful : AreSound o) (claims : Claims V) (story : LoadedStory) (limit : ℕ) (events : List Event) (n : ℕ) → IsLoadedStory story → Supports o claims story → IsNoFault (run (record { story = story; scope = scope_all story; limit = limit }) events n (opening story)).stop
 never_faults o lawful claims story limit events n loaded supports =
     let m : Setting = record { story = story; scope = scope_all story; limit = limit } in
-    (run_safe o lawful claims m loaded supports (all_listed o claims story supports) events n (opening story) (opening_described o claims story limit supports)).0
+    (run_safe o lawful claims m loaded supports (all_listed o claims story supports) events n (opening story) (opening_described o claims story limit loaded supports)).0

@@ -77,7 +77,7 @@ module _ {V : Type 0} (o : SetOperations V) (lawful : AreSound o) (claims : Clai
 
   -- a state in mid-instruction, of which this is known
   abbrev Known_in : Shape V → State → Type 0
-  Known_in e u = Mid o claims m.story loaded.sound d.entry.routine e u
+  Known_in e u = Mid o claims m.story loaded supports.tables d.entry.routine e u
 
   rule_known : IsKnown o claims i d.entry.shape
   rule_known = supports.each d.at d.entry d.listed rules.Known i there
@@ -168,7 +168,7 @@ module _ {V : Type 0} (o : SetOperations V) (lawful : AreSound o) (claims : Clai
       let e = callers.1 in
       let v = u.frame.result in
       let caller : State = record u { frame = g; callers = gs; place = pos u.frame.return_place } in
-      let known = put_mid o claims m.story loaded.sound e.routine v x e.shape caller (callers.3 x (rule.1 x member)) kept callers.4 in
+      let known = put_mid o claims m.story loaded supports.tables e.routine v x e.shape caller (callers.3 x (rule.1 x member)) kept callers.4 in
       record {
         is_state = state;
         at = u.frame.return_place;
@@ -246,7 +246,7 @@ module _ {V : Type 0} (o : SetOperations V) (lawful : AreSound o) (claims : Clai
 
   -- an effect has the parts of an outcome
   record Matches (w : Outcome V) (effect : Effect) : Type 0 where
-    gives : GivenIn o claims m.story loaded.sound w.gives effect.gives
+    gives : GivenIn o claims m.story loaded supports.tables w.gives effect.gives
     assigns : AssignedIn w.assigns effect.assigns
     tests : effect.tests ≡ w.tests
     leads : LeadsIn w.leads effect.moves
@@ -524,7 +524,7 @@ module _ {V : Type 0} (o : SetOperations V) (lawful : AreSound o) (claims : Clai
       by_kind : (c : Bool) → nat_lt v 16 ≡ c → MatchBool c (v ≤ length d.entry.shape.locals) ((v < 256) × (v - 16 < length claims.globals)) → MatchBool c (Unit {0}) (MatchOption (slice_get claims.globals (v - 16)) ⊥ (Within o a))
           → Known_in (record { locals = if c then slice_set e.locals (v - 1) a else e.locals; slots = e.slots }) (if c then with_locals (slice_set u.frame.locals (v - 1) x) u else with_memory (write_word u.memory (global m.story v) x) u)
       by_kind true is exists takes = record { memory = known.memory; fits = record { in_locals = zip_set (In o) e.locals u.frame.locals known.fits.in_locals (v - 1) a x member; in_slots = known.fits.in_slots }; callers = known.callers }
-      by_kind false is exists takes = record { memory = global_put o claims m.story loaded.sound v x a u.memory known.memory.long (ltb-false v 16 is) exists.0 member takes known.memory; fits = record { in_locals = known.fits.in_locals; in_slots = known.fits.in_slots }; callers = known.callers }
+      by_kind false is exists takes = record { memory = global_put o claims m.story loaded supports.tables v x a u.memory known.memory.long (ltb-false v 16 is) exists.0 member takes known.memory; fits = record { in_locals = known.fits.in_locals; in_slots = known.fits.in_slots }; callers = known.callers }
 
   -- what is given in place
   mid_in_place : (v x : ℕ) (a : V) (e : Shape V) (u : State) → IsVariable o claims d.entry.shape v → MatchBool (nat_lt v 16) (Unit {0}) (MatchOption (slice_get claims.globals (v - 16)) ⊥ (Within o a)) → In o a x → Known_in e u → Known_in (with_assigned (Some (v, a)) e) (put_in_place m.story v x u)
@@ -554,7 +554,7 @@ module _ {V : Type 0} (o : SetOperations V) (lawful : AreSound o) (claims : Clai
   mid_changed w effect matches given in_place =
       let u = assigned m.story effect.assigns t in
       let known = mid_assigned w.assigns effect.assigns mid t matches.assigns in_place read_known in
-      stored_mid o claims m.story loaded.sound d.entry.routine (target i) w.gives effect.gives (with_assigned w.assigns mid) u matches.gives (still_there (with_assigned w.assigns mid) u (length_assigned w.assigns mid) known) given known
+      stored_mid o claims m.story loaded supports.tables d.entry.routine (target i) w.gives effect.gives (with_assigned w.assigns mid) u matches.gives (still_there (with_assigned w.assigns mid) u (length_assigned w.assigns mid) known) given known
 
   -- and the frame with all parts, whatever globals take
   fits_assigned : (given : Option (ℕ × V)) (assigns : Option (ℕ × ℕ)) (e : Shape V) (u : State) → AssignedIn given assigns → FitsFrame o claims m.story e u → FitsFrame o claims m.story (with_assigned given e) (assigned m.story assigns u)
@@ -565,7 +565,7 @@ module _ {V : Type 0} (o : SetOperations V) (lawful : AreSound o) (claims : Clai
   fits_assigned (Some a) (Some p) e u is fits =
       subst (λ (n : ℕ). FitsFrame o claims m.story (with_assigned (Some a) e) (put_in_place m.story n p.1 u)) (sym is.0) (in_place_fits o claims m.story a.0 p.1 a.1 e u is.1 fits)
 
-  fits_given : (given : Option V) (gives : Option ℕ) (e : Shape V) (u : State) → GivenIn o claims m.story loaded.sound given gives → FitsFrame o claims m.story e u → FitsFrame o claims m.story (with_result given (target i) e) (stored m.story gives (target i) u)
+  fits_given : (given : Option V) (gives : Option ℕ) (e : Shape V) (u : State) → GivenIn o claims m.story loaded supports.tables given gives → FitsFrame o claims m.story e u → FitsFrame o claims m.story (with_result given (target i) e) (stored m.story gives (target i) u)
   fits_given None None e u is fits = fits
   fits_given None (Some x) e u is fits = absurd is
   fits_given (Some a) None e u is fits = absurd is

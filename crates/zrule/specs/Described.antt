@@ -15,6 +15,7 @@ use Rattle.zstate.specs.declared.halt.Stop.TheVariants as stops
 use Rattle.zfault.specs.declared.event.Event.{Event}
 use Rattle.zstory.specs.LoadedStory.{IsSound}
 use Rattle.zstory.specs.Objects.{IsObjectCount}
+use Rattle.zobj.specs.Tree.{IsTree}
 use Rattle.zflow.specs.Transfer.{Shape}
 use Rattle.zrule.specs.Claims.{Entry, Claims}
 use Rattle.zrule.specs.Bytes.{IsFixed}
@@ -44,6 +45,7 @@ module _ {V : Type 0} (o : SetOperations V) (claims : Claims V) where
   pub record DescribedMemory (story : LoadedStory) (memory : List ℕ) : Type 0 where
     pub long : length memory ≡ length story.memory
     pub values : HasGlobals o claims story memory
+    pub tree : IsTree memory story.objects
     pub fixed : (p : ℕ) → IsFixed story claims.is_frozen p → byte_at memory p ≡ byte_at story.memory p
 
   -- a state with at most so many frames above the first
@@ -85,7 +87,7 @@ pub record IsLoadedStory (story : LoadedStory) : Type 0 where
 module _ {V : Type 0} (o : SetOperations V) (claims : Claims V) where
   -- the opening state is described, however many frames there may be
   abbrev pub OpensDescribed : Type 0
-  OpensDescribed = (story : LoadedStory) (limit : ℕ) → Supports o claims story → Described o claims limit story (opening story)
+  OpensDescribed = (story : LoadedStory) (limit : ℕ) → IsLoadedStory story → Supports o claims story → Described o claims limit story (opening story)
 
   -- a step from a described state is no fault, and leads to a described state
   abbrev pub StepsSafely : Type 0

@@ -4,6 +4,7 @@ use Rattle.std.specs.Bool.{OnTrue, MatchBool}
 use Rattle.std.specs.List.{AllZip, AllByRecursion}
 use Rattle.zstory.specs.Bytes.{word_at}
 use Rattle.zstory.specs.LoadedStory.{LoadedStory, first_instruction, globals, object_table, static_base}
+use Rattle.zobj.specs.Tree.{IsTree}
 use Rattle.ztext.specs.Words.{text_at}
 use Rattle.ztext.specs.Abbreviations.{IsPlainAbbreviation}
 use Rattle.zcode.specs.declared.instr.Operand.{Operand}
@@ -252,6 +253,7 @@ module _ {V : Type 0} (o : SetOperations V) (claims : Claims V) where
     pub values : HasGlobals story story.memory
     -- as the format says, no stack is above 64
     pub low : (p : ℕ) (e : Entry V) → claims.entry p ≡ Some e → length e.shape.slots ≤ 64
+    pub tree : IsTree story.memory story.objects
     pub abbreviations : HasAbbreviations story
     pub tables : HasDisjointTables story claims.is_frozen
     pub each : (p : ℕ) (e : Entry V) → claims.entry p ≡ Some e → (rule : Rule) → Keeps story p e rule

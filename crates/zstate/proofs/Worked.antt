@@ -3,7 +3,9 @@ use Rattle.std.proofs.Common.{◌≡◌, ℕ, zero, suc, ◌+◌, ◌-◌, ◌�
 use Rattle.std.specs.Prelude.{nat_le, slice_set, if◌then◌else◌, ℤ}
 use Rattle.std.proofs.lemmas.List.{length-replicate}
 use Rattle.std.specs.Fmt.{digits}
+use Rattle.zstory.specs.Bytes.{AreBytes}
 use Rattle.zstory.specs.LoadedStory.{LoadedStory}
+use Rattle.zstory.proofs.Computed.{bytes_tested}
 use Rattle.zcode.specs.declared.error.DecodeError.TheVariants.{Truncated}
 use Rattle.zcode.specs.declared.instr.Operand.TheVariants.{Constant, Variable}
 use Rattle.zcode.specs.declared.opcode.Opcode.TheVariants.{Print as APrint, NewLine, Nop, Quit as AQuit, Jz, IncChk, Pull}
@@ -29,9 +31,10 @@ use Rattle.zstate.specs.declared.halt.Halt.TheVariants as halts
 use Rattle.zstate.specs.declared.halt.Stop.TheVariants as stops
 use Rattle.zstate.specs.declared.mode.RandomMode.TheVariants.{Words, Counting}
 use Rattle.zstate.specs.InTurn.{in_turn}
-use Rattle.zstate.specs.State.{Frame, State, Setting, has_head, usual_limit, scope_all, scope_only, first_frame, opening, IsFrame, IsFirst, AreFrames, IsCount, IsState, with_stack, with_locals, write_word, exists, has_room, put, put_named, put_in_place, read_in_place, popped, at_place, give, global, pop, found, read_named, read_variable, read_operand, read_operands}
+use Rattle.zstate.specs.State.{AreWords, Frame, State, Setting, has_head, usual_limit, scope_all, scope_only, first_frame, opening, IsFrame, IsFirst, AreFrames, IsCount, IsState, with_stack, with_locals, write_word, exists, has_room, put, put_named, put_in_place, read_in_place, popped, at_place, give, global, pop, found, read_named, read_variable, read_operand, read_operands}
 use Rattle.zstate.specs.Step.{Called, on, back, words_from, laid_over, calling, returning, proceeds, giving, assigning, testing, printing, quitting, decoded, fetch, printed, print_at, effect_of, way, course, admits, pauses, settle, plan, advance, changed, act, items_of, step}
 use Rattle.zstate.specs.Run.{stop_of, until, is_answered, need_in, awaited, run, Goes, Stands, IsLonger, IsDeeper}
+use Rattle.zstate.proofs.Words.{no_words, words_pushed}
 use Rattle.zstate.specs.Gives.{Gives, IsNear}
 use Rattle.zstate.specs.declared.head.Head.{Head}
 use Rattle.zstate.specs.Packed.{AreBelow, ArePacked, chain_of, frames_of}
@@ -80,26 +83,42 @@ only : ((scope_only (record { records = []; routines = 66 ∷ [] })).instruction
 only = (refl, refl, refl)
 
 first : IsFrame first_frame × IsFirst first_frame
-first = (record { reached = omega arith; supplied = omega arith; locals = omega arith; stack = omega arith }, record { return_place = refl; result = refl; supplied = refl; locals = refl })
+first = (record { reached = omega arith; result = omega arith; supplied = omega arith; locals = omega arith; stack = omega arith; local_words = no_words; stack_words = no_words }, record { return_place = refl; result = refl; supplied = refl; locals = refl })
 
 above : IsFrame frame
 unfolding frame
-above = record { reached = omega arith; supplied = omega arith; locals = omega arith; stack = omega arith }
+above = record {
+  reached = omega arith;
+  result = omega arith;
+  supplied = omega arith;
+  locals = omega arith;
+  stack = omega arith;
+  local_words = words_pushed 7 (8 ∷ []) (omega arith) (words_pushed 8 [] (omega arith) no_words);
+  stack_words = words_pushed 5 (6 ∷ []) (omega arith) (words_pushed 6 [] (omega arith) no_words);
+}
 
 no_frames : (IsFrame (record first_frame { locals = replicate 16 0 }) → ⊥) × (IsFrame (record first_frame { supplied = 4 }) → ⊥) × (IsFrame (record first_frame { return_place = 16777216 }) → ⊥) × (IsFirst frame → ⊥)
 unfolding frame
 no_frames = (λ f. omega (arith, f.locals), λ f. omega (arith, f.supplied), λ f. omega (arith, f.reached), λ f. absurd cc)
 
+-- 256 is no variable, and 65,536 no word
+too_great : (IsFrame (record first_frame { result = 256 }) → ⊥) × (IsFrame (record first_frame { locals = 0 ∷ 65536 ∷ [] }) → ⊥) × (IsFrame (record first_frame { stack = 65536 ∷ [] }) → ⊥)
+too_great = (λ f. omega (arith, f.result), λ f. omega (arith, f.local_words 1), λ f. omega (arith, f.stack_words 0))
+
 -- the oldest frame is the first, and those above it need not be
 frames : AreFrames first_frame [] × AreFrames frame (first_frame ∷ []) × (AreFrames first_frame (frame ∷ []) → ⊥) × (AreFrames frame [] → ⊥)
 frames = (first, (above, first), λ f. no_frames.3 f.1.1, λ f. no_frames.3 f.1)
 
+story_bytes : AreBytes story.memory
+unfolding story memory code
+story_bytes = bytes_tested story.memory refl
+
 is_state : IsState usual_limit story (opening story)
-is_state = record { memory = refl; frames = first; few = omega arith; count = tt }
+is_state = record { memory = refl; bytes = story_bytes; frames = first; few = omega arith; count = tt }
 
 -- each bound of a frame is reached, and a word more on the stack is too many
-full_frame : (stack locals : List ℕ) → length stack ≡ 65535 → length locals ≡ 15 → IsFrame (record { return_place = 16777215; result = 255; supplied = 3; locals = locals; stack = stack })
-full_frame stack locals deep wide = record { reached = omega arith; supplied = omega arith; locals = omega (arith, wide); stack = omega (arith, deep) }
+full_frame : (stack locals : List ℕ) → length stack ≡ 65535 → length locals ≡ 15 → AreWords stack → AreWords locals → IsFrame (record { return_place = 16777215; result = 255; supplied = 3; locals = locals; stack = stack })
+full_frame stack locals deep wide words more = record { reached = omega arith; result = omega arith; supplied = omega arith; locals = omega (arith, wide); stack = omega (arith, deep); local_words = more; stack_words = words }
 
 too_deep : (stack : List ℕ) → length stack ≡ 65536 → IsFrame (record first_frame { stack = stack }) → ⊥
 too_deep stack deep f = omega (arith, deep, f.stack)
@@ -110,7 +129,7 @@ all_first zero = first
 all_first (suc n) = (first.0, all_first n)
 
 many_frames : (n : ℕ) → n ≤ 1024 → IsState usual_limit story (record (opening story) { callers = replicate n first_frame })
-many_frames n few = record { memory = refl; frames = all_first n; few = omega (arith, few, length-replicate n first_frame); count = tt }
+many_frames n few = record { memory = refl; bytes = story_bytes; frames = all_first n; few = omega (arith, few, length-replicate n first_frame); count = tt }
 
 too_many_frames : (s : State) → length s.callers ≡ 1025 → IsState usual_limit story s → ⊥
 too_many_frames s many is = omega (arith, many, is.few)
@@ -123,6 +142,11 @@ is_count = ((omega arith, omega arith, omega arith), λ h. omega (arith, h.1), �
 shortened : IsState usual_limit story (record (opening story) { memory = [] }) → ⊥
 unfolding story memory code
 shortened s = omega (arith, s.memory)
+
+-- and holds bytes
+no_byte : IsState usual_limit story (record (opening story) { memory = slice_set story.memory 64 256 }) → ⊥
+unfolding story memory code
+no_byte s = omega (arith, s.bytes 64)
 
 no_state : (IsState usual_limit story (record (opening story) { callers = replicate 1025 first_frame }) → ⊥)
 no_state s = omega (arith, s.few)

@@ -3,7 +3,7 @@
 ghost use Rattle.std.specs.Prelude.{◌≡◌, ◌≤◌, ◌<◌, ◌+◌, ◌*◌, ◌-◌, ◌^◌, ◌==◌, ◌+ℤ◌, ◌≤ℤ◌, ◌∷◌, Some, List, drop, length, map, slice_get, slice_index, pos, negsuc, true, [], MatchOption, IfOk, OnOk, OnErr, IsOk, is_some};
 ghost use Rattle.zstory.specs.LoadedStory.{globals};
 ghost use Rattle.zstory.specs.Bytes.{word_at};
-ghost use Rattle.zstate.specs.State.{State as StateValue, has_head, opening, popped, at_place, give, global, read_named, read_variable, read_operand, read_operands, found, pop, Frame as FrameValue, exists, put, put_named, put_in_place, read_in_place, with_memory, write_word};
+ghost use Rattle.zstate.specs.State.{IsState, State as StateValue, usual_limit, has_head, opening, popped, at_place, give, global, read_named, read_variable, read_operand, read_operands, found, pop, Frame as FrameValue, exists, put, put_named, put_in_place, read_in_place, with_memory, write_word};
 ghost use Rattle.zstate.specs.Gives.{Gives, IsNear};
 ghost use Rattle.zstate.specs.Step.{called_at, entered};
 
@@ -64,8 +64,10 @@ impl Values {
 
 impl State {
     /// The state in which a story opens (Z 6.1.3). Want of memory is the only error.
+    #[tactic(auto, using(crate::proofs::Opens::opening_is_state))]
     pub fn opening(alloc: Global, story: &Story) -> Result<State, AllocError>
-        ensures { IfOk result (λ state. state ≡ opening story.now) }
+        ensures opens { IfOk result (λ state. state ≡ opening story.now) }
+        ensures holds { IfOk result (IsState usual_limit story.now) }
     {
         Ok(State {
             memory: story.memory().to_vec(alloc)?,

@@ -1,3 +1,4 @@
+pub mod Computed
 pub mod Counting
 pub mod Neighbours
 pub mod Soundness

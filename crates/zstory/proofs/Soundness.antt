@@ -3,6 +3,7 @@ use Rattle.std.proofs.Common.{◌≡◌, ℕ, ◌<◌, ◌≤◌, inl, inr, lit<
 use Rattle.std.proofs.lemmas.Bool.{cases_lt}
 use Rattle.zstory.specs.declared.load_error.LoadError.TheVariants.{StaticBase, Globals, Objects, Dictionary, EntryLength, DictionaryOrder, FirstInstruction}
 use Rattle.zstory.specs.Header as header
+use Rattle.zstory.specs.Bytes.{AreBytes}
 use Rattle.zstory.specs.LoadedStory.{IsSound}
 use Rattle.zstory.specs.Refusal.{IsFlaw, HasNone}
 
@@ -13,8 +14,8 @@ below : {m n : ℕ} → ¬ (n ≤ m) → m < n
 below {m} {n} not_above = elim (cases_lt m n) [ inl is ↦ is | inr above ↦ absurd (not_above above) ]
 
 -- memory of a story's length and version against which nothing speaks is sound
-pub sound_from_none : (memory : List ℕ) → 64 ≤ length memory → length memory ≤ 131072 → header.version memory ≡ 3 → HasNone (IsFlaw memory) → IsSound memory
-sound_from_none memory least greatest version none =
+pub sound_from_none : (memory : List ℕ) → AreBytes memory → 64 ≤ length memory → length memory ≤ 131072 → header.version memory ≡ 3 → HasNone (IsFlaw memory) → IsSound memory
+sound_from_none memory bytes least greatest version none =
     let base = none StaticBase (lit< tt) in
     let globals = none Globals (lit< tt) in
     let defaults = none Objects (lit< tt) in
@@ -22,6 +23,7 @@ sound_from_none memory least greatest version none =
     let order = none DictionaryOrder (lit< tt) in
     let start = none FirstInstruction (lit< tt) in
     record {
+      bytes = bytes;
       least_length = least;
       greatest_length = greatest;
       version = version;

@@ -10,6 +10,7 @@ use Rattle.zstory.specs.Objects.{object_place, object_end, property_table, HasEn
 use Rattle.zstory.specs.Dictionary.{separator_count, entry_length, entry_count, entry_place, dictionary_end, encoded_text, IsOrdered, HasFallingEntries}
 use Rattle.zstory.specs.LoadedStory.{LoadedStory, IsSound, identity_of, file_sum, save_checksum}
 use Rattle.zstory.specs.Loading.{stated_length, stated_part, with_flags_cleared, loaded_memory, IsLoaded}
+use Rattle.zstory.proofs.Computed.{bytes_tested}
 use Rattle.zstory.specs.Refusal.{number_of, IsTooShort, IsTooLong, HasOtherVersion, HasWrongLength, HasWrongBase, HasWrongGlobals, HasWrongDefaults, HasWrongDictionary, HasShortEntries, HasWrongStart, IsCause, IsLowest, HasNone}
 
 neither : {A B : Type 0} → (A → ⊥) → (B → ⊥) → A ⊎ B → ⊥
@@ -196,6 +197,7 @@ loaded = (record { memory = refl; objects = no_object }, record { memory = refl;
 sound : IsSound peopled
 unfolding peopled
 sound = record {
+  bytes = bytes_tested peopled refl;
   least_length = omega (arith, sizes.1);
   greatest_length = omega (arith, sizes.1);
   version = refl;
@@ -244,6 +246,7 @@ beyond_too :
     × (IsSound (slice_set peopled 0x361 0x47) → ⊥)
     × (IsSound (slice_set (slice_set plain 0x06 0) 0x07 63) → ⊥)
     × (IsSound (slice_set plain 0x07 0x2A) → ⊥)
+    × (IsSound (slice_set plain 0x329 256) → ⊥)
 unfolding plain peopled
 beyond_too = (
   λ sound. omega (arith, sound.dictionary_above),
@@ -252,6 +255,7 @@ beyond_too = (
   λ sound. omega (arith, sound.entries_ordered 0 (lit< tt)),
   λ sound. omega (arith, sound.first_instruction_above),
   λ sound. omega (arith, sound.first_instruction_within),
+  λ sound. omega (arith, sound.bytes 0x329),
 )
 
 -- but not of one that ends where its code begins

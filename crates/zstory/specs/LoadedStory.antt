@@ -1,7 +1,7 @@
 -- A loaded story: its memory, with the number of its objects. All other numbers are those of the header (Z 11.1).
 use Rattle.std.specs.Prelude.{◌≡◌, ℕ, ◌+◌, ◌%◌, ◌<◌, ◌≤◌, Bool, ◌==◌, if◌then◌else◌, List, length, drop, sum}
 use Rattle.zstory.specs.declared.identity.Identity.{Identity}
-use Rattle.zstory.specs.Bytes.{readable_end}
+use Rattle.zstory.specs.Bytes.{AreBytes, readable_end}
 use Rattle.zstory.specs.Header as header
 use Rattle.zstory.specs.Dictionary.{dictionary_end, entry_length, IsOrdered}
 
@@ -61,6 +61,7 @@ save_checksum story = if checksum story == 0 then file_sum story else checksum s
 
 -- what holds of the memory of every loaded story, for the layers above to rely on
 pub record IsSound (memory : List ℕ) : Type 0 where
+  pub bytes : AreBytes memory
   pub least_length : 64 ≤ length memory
   pub greatest_length : length memory ≤ 131072
   pub version : header.version memory ≡ 3

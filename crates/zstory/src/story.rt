@@ -2,7 +2,7 @@
 
 ghost use Rattle.std.specs.Prelude.{◌≡◌, ◌+◌, ◌*◌, ◌≤◌, ◌<◌, length, OnOk, IfOk, IfErr};
 ghost use Rattle.zstory.specs.Loading.{IsLoaded, with_flags_cleared};
-ghost use Rattle.zstory.specs.Refusal.{IsCause, IsLowest, HasNone};
+ghost use Rattle.zstory.specs.Refusal.{IsCause, IsFlaw, IsLowest, HasNone};
 
 use crate::bytes::word_at;
 use crate::checks::check_part;
@@ -40,6 +40,7 @@ impl Model for Story {
 impl Story {
     ghost use Rattle.zstory.specs.Bytes.{word_at, readable_end};
     ghost use Rattle.zstory.specs.Objects.{IsObjectCount};
+    ghost use Rattle.zstory.specs.Header.{version};
     ghost use Rattle.zstory.specs.Dictionary.{dictionary_end, IsOrdered};
     ghost use Rattle.zstory.specs.LoadedStory.{LoadedStory, IsSound, static_base, first_instruction, dictionary, object_table, globals, abbreviations, is_time_game, serial, identity_of, file_sum, save_checksum};
 
@@ -50,7 +51,6 @@ impl Story {
     ///
     /// The first cause in the order of [`LoadError`] that holds of the file. Where none does, `OutOfMemory`, if memory
     /// for the story was refused.
-    #[tactic(auto, using(crate::proofs::Soundness::sound_from_none))]
     pub fn load(alloc: Global, file: &[u8]) -> Result<Story, LoadError>
         ensures loaded { IfOk result (IsLoaded file.now) }
         ensures only { IfOk result (λ story. (other : LoadedStory) → IsLoaded file.now other → other ≡ story) }
@@ -184,8 +184,12 @@ impl Story {
         }
     }
 
+    #[tactic(auto, using(crate::proofs::Soundness::sound_from_none))]
     fn of_part(alloc: Global, part: &[u8]) -> Result<Story, AllocError>
-        requires { IsSound part.now }
+        requires least { 64 ≤ length part.now }
+        requires greatest { length part.now ≤ 131072 }
+        requires version { version part.now ≡ 3 }
+        requires flawless { HasNone (IsFlaw part.now) }
         ensures memory { IfOk result (λ story. story.memory ≡ with_flags_cleared part.now) }
         ensures objects { IfOk result (λ story. IsObjectCount story.memory story.objects) }
     {

@@ -1,1 +1,2 @@
+pub mod Small
 mod Worked
