@@ -9,8 +9,8 @@ ghost use Rattle.zrule.specs.Rules.{HasFirstPlace};
 ghost use Rattle.zcheck.specs.declared.refusal.StoryRule.{StoryRule as ARule};
 ghost use Rattle.zcheck.specs.Passes.{HasHead, KeepsStory, IsLowestStoryRule};
 
-use crate::refusal::StoryRule;
 use crate::objects::has_tree;
+use crate::refusal::StoryRule;
 use crate::tables::{has_abbreviations, has_disjoint_tables, has_globals};
 use zcert::{Certificate, Instruction, Routine};
 use zdomain::Interval;

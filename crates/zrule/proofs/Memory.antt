@@ -1,5 +1,5 @@
 -- What is said of every memory of a play stays so when a global is written.
-use Rattle.std.proofs.Common.{◌≡◌, ◌⊎◌, inl, inr, ℕ, ◌+◌, ◌-◌, ◌*◌, ◌/◌, ◌%◌, ◌<◌, ◌≤◌, Bool, true, false, if◌then◌else◌, List, length, Option, Some, None, refl, ap, subst, ◌∙◌, arith, slice_set}
+use Rattle.std.proofs.Common.{◌≡◌, ◌⊎◌, inl, inr, ℕ, ◌+◌, ◌-◌, ◌*◌, ◌/◌, ◌%◌, ◌<◌, ◌≤◌, Bool, if◌then◌else◌, List, length, Option, Some, None, refl, ap, subst, ◌∙◌, arith, slice_set}
 use Rattle.std.specs.Prelude.{MatchOption, slice_get}
 use Rattle.std.proofs.lemmas.Bool.{cases_lt}
 use Rattle.std.proofs.lemmas.Option.{same_Some}
@@ -85,16 +85,16 @@ module _ {V : Type 0} (o : SetOperations V) (claims : Claims V) (story : LoadedS
     tree_put : IsTree memory story.objects → IsTree (write_word memory (globals story + 2 * (v - 16)) x) story.objects
     tree_put tree = record {
       small = λ link object least most.
-      let before = table_same memory was in
-      let after = table_same (write_word memory (globals story + 2 * (v - 16)) x) (λ q low no_flags. other q (behind q low) ∙ was q low no_flags) in
-      let k = link_inside link in
-      let q = object_place memory object + link_byte link in
-      let same_place : object_place (write_word memory (globals story + 2 * (v - 16)) x) object + link_byte link ≡ q = omega (arith, before, after) in
-      let apart : byte_at (write_word memory (globals story + 2 * (v - 16)) x) q ≡ byte_at memory q = other q (λ within. tables.apart q within (omega (arith, before, least), omega (arith, before, least, most, k))) in
-      let there : byte_at (write_word memory (globals story + 2 * (v - 16)) x) (object_place (write_word memory (globals story + 2 * (v - 16)) x) object + link_byte link) ≡ byte_at memory q = ap (byte_at (write_word memory (globals story + 2 * (v - 16)) x)) same_place ∙ apart in
-      let small : entry_byte memory object (link_byte link) ≤ story.objects = tree.small link object least most in
-      let was_small : byte_at memory q ≤ story.objects = subst (λ (b : Bool). (if b then 0 else byte_at memory q) ≤ story.objects) (no_zero object least) small in
-      rw (no_zero object least, there) was_small;
+          let before = table_same memory was in
+          let after = table_same (write_word memory (globals story + 2 * (v - 16)) x) (λ q low no_flags. other q (behind q low) ∙ was q low no_flags) in
+          let k = link_inside link in
+          let q = object_place memory object + link_byte link in
+          let same_place : object_place (write_word memory (globals story + 2 * (v - 16)) x) object + link_byte link ≡ q = omega (arith, before, after) in
+          let apart : byte_at (write_word memory (globals story + 2 * (v - 16)) x) q ≡ byte_at memory q = other q (λ within. tables.apart q within (omega (arith, before, least), omega (arith, before, least, most, k))) in
+          let there : byte_at (write_word memory (globals story + 2 * (v - 16)) x) (object_place (write_word memory (globals story + 2 * (v - 16)) x) object + link_byte link) ≡ byte_at memory q = ap (byte_at (write_word memory (globals story + 2 * (v - 16)) x)) same_place ∙ apart in
+          let small : entry_byte memory object (link_byte link) ≤ story.objects = tree.small link object least most in
+          let was_small : byte_at memory q ≤ story.objects = subst (λ (b : Bool). (if b then 0 else byte_at memory q) ≤ story.objects) (no_zero object least) small in
+          rw (no_zero object least, there) was_small;
     }
 
   -- a global that is given a value of its set

@@ -1,5 +1,5 @@
 -- The state in which a story opens is described.
-use Rattle.std.proofs.Common.{ℕ, [], refl, sym, subst, arith}
+use Rattle.std.proofs.Common.{ℕ, [], refl, sym, subst}
 use Rattle.std.specs.List.{AllZip}
 use Rattle.zstory.specs.LoadedStory.{LoadedStory, first_instruction}
 use Rattle.zdomain.specs.Domain.{SetOperations, In}

@@ -1,5 +1,5 @@
 -- Words stay words, and bytes bytes.
-use Rattle.std.proofs.Common.{◌≡◌, ℕ, zero, suc, ◌+◌, ◌-◌, ◌*◌, ◌/◌, ◌%◌, ◌<◌, ◌≤◌, take, drop, slice_set, Option, Some, None, Bool, true, false, List, [], ◌∷◌, length, Result, Ok, Err, refl, sym, ap, subst, ◌∙◌, arith, if◌then◌else◌, nat_lt, inl, inr}
+use Rattle.std.proofs.Common.{◌≡◌, ℕ, zero, suc, ◌+◌, ◌-◌, ◌/◌, ◌%◌, ◌<◌, take, drop, slice_set, Option, Some, None, Bool, true, false, List, [], ◌∷◌, length, Ok, refl, ap, subst, ◌∙◌, arith, if◌then◌else◌, nat_lt, inl, inr}
 use Rattle.std.specs.Prelude.{◌==◌, slice_get, slice_index}
 use Rattle.std.specs.List.{AllByRecursion}
 use Rattle.std.proofs.lemmas.Bool.{cases_lt}
@@ -11,9 +11,8 @@ use Rattle.zcode.specs.declared.instr.Operand.TheVariants.{Constant, Variable}
 use Rattle.zcode.proofs.Ranges.{InRange}
 use Rattle.zfault.specs.declared.fault.Fault.{Fault}
 use Rattle.zfault.specs.declared.fault.Fault.TheVariants.{AbsentLocal, BadVariable, StackUnderflow}
-use Rattle.zstory.specs.Bytes.{AreBytes, byte_at, word_at}
+use Rattle.zstory.specs.Bytes.{AreBytes, word_at}
 use Rattle.zstory.specs.LoadedStory.{LoadedStory}
-use Rattle.zstate.specs.declared.halt.Halt.{Halt}
 use Rattle.zstate.specs.InTurn.{◌>>=◌, in_turn}
 use Rattle.zstate.specs.State.{State, AreWords, fault, found, global, pop, read_named, read_variable, read_operand, read_operands, read_in_place, with_stack, write_word}
 use Rattle.zstate.specs.Step.{laid_over, words_from, arguments}

@@ -1,5 +1,5 @@
 -- What words make is a word.
-use Rattle.std.proofs.Common.{◌≡◌, ℕ, suc, ◌*◌, ◌<◌, ℤ, pos, negsuc, ◌≤ℤ◌, int_div, int_rem, unsigned_abs, arith}
+use Rattle.std.proofs.Common.{ℕ, suc, ◌*◌, ◌<◌, ℤ, pos, negsuc, ◌≤ℤ◌, int_div, int_rem, unsigned_abs, arith}
 use Rattle.std.proofs.lemmas.Int.{ints}
 use Rattle.std.proofs.lemmas.Nat.{or_lt, and_le_l}
 use Rattle.std.proofs.Math.Nat.{mod-lt, mod-le, div-le_self}

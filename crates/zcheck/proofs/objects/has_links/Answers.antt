@@ -1,8 +1,5 @@
-use Rattle.std.proofs.Common.{rules, ◌≤◌, ◌↔◌}
-use Rattle.std.specs.Prelude.{IsTrue}
-use Rattle.zobj.specs.declared.tree.Link.TheVariants.{Parent, Sibling, Child}
-use Rattle.zobj.specs.Tree.{linked}
-use Rattle.zcheck.proofs.Trees.{EachIs, each_where}
+use Rattle.std.proofs.Common.{rules}
+use Rattle.zcheck.proofs.Trees.{each_where}
 use Rattle.zcheck.proofs.objects.has_links.Goals as goal
 
 pub returns-then-linked-objects-2 : goal.returns-then-linked-objects-2
