@@ -10,6 +10,7 @@ pub mod Full
 pub mod Quiet
 pub mod Stepped
 pub mod Inside
+pub mod Known
 pub mod Playing
 pub mod Rows
 mod Worked

@@ -3,6 +3,7 @@
 
 mod board;
 mod calling;
+mod entering;
 mod giving;
 mod in_place;
 mod place;
@@ -15,6 +16,6 @@ mod turning;
 
 pub use board::Board;
 pub use calling::callee_of;
-pub use row::{Action, Asking, Callee, Calling, Global, Row, Slot};
+pub use row::{Action, Asking, Callee, Calling, Entering, Global, Row, Slot};
 pub use running::{Played, play};
 pub use table::row_of;

@@ -1,9 +1,8 @@
 -- A frame begins, and ends.
 use Rattle.std.proofs.Common.{◌≡◌, ℕ, suc, ◌+◌, ◌-◌, ◌*◌, ◌/◌, ◌%◌, ◌<◌, ◌≤◌, List, [], ◌∷◌, ◌++◌, length, take, drop, get_or, refl, sym, ap, ◌∙◌, subst, arith}
 use Rattle.std.proofs.Math.Seq.{drop-append-add, take-append-add}
-use Rattle.std.proofs.lemmas.List.{get_or-append-add, get_or-take, take_at, drop_all, length-take-le, length-append, take-take, take_all, append_assoc, take-append-le, take_more_set, length-set}
+use Rattle.std.proofs.lemmas.List.{get_or-append-add, get_or-take, take_at, drop_all, length-take-le, length-append, take-take, take_all, append_assoc, take_more_set, length-set}
 use Rattle.std.proofs.Math.ListN.{set}
-use borrow.Rule.Slice.PartMut.{put_mid, post_of}
 use Rattle.zframe.specs.Frames.{Frame, Chain, begun, entered, left, opening}
 use Rattle.zframe.specs.Packed.{Fits, IsHeld, frame_at, callers_at, chain_at, ArePacked, count_at, base_below, spelled}
 use Rattle.zframe.proofs.Packing.{fits}
@@ -78,7 +77,7 @@ module _ (limit n base top : ℕ) (words : List ℕ) (held : IsHeld limit n base
   pub room_seen : length v.callers < v.limit → n < limit
   room_seen h = rw (ap (λ (c : Chain). c.limit) seen) (omega (arith, h, depth_seen limit n base top words held v seen))
 
-  pub enter_room : length v.callers < v.limit → top + 20 ≤ length words
+  pub enter_room : length v.callers < v.limit → top + 21 ≤ length words
   enter_room h = omega (arith, room_seen h, near_top, whole.low, held.room)
 
   module _ (place marks : ℕ) (locals new : List ℕ) (room : length v.callers < v.limit) (few : length locals ≤ 15) (same : length new ≡ length words) (written : take (top + 5 + length locals) new ≡ take top words ++ spelled (top + 5 - base) place marks locals) where
@@ -133,9 +132,9 @@ grown w xs t x e h = take_more_set w t x h ∙ ap (λ (ys : List ℕ). ys ++ x �
 next : (h i j : ℕ) (w : List ℕ) (xs : List ℕ) → h + i + 1 ≡ h + j → take (h + i + 1) w ≡ xs → take (h + j) w ≡ xs
 next h i j w xs e p = subst (λ (m : ℕ). take m w ≡ xs) e p
 
-pub written_law : (w : List ℕ) (h a b c d e m k : ℕ) (ys : List ℕ) → h + 20 ≤ length w → k ≤ length ys
-    → take (h + 5 + k) (put_mid (h + 5) m (set (set (set (set (set w h a) (h + 1) b) (h + 2) c) (h + 3) d) (h + 4) e) ys) ≡ take h w ++ a ∷ b ∷ c ∷ d ∷ e ∷ take k ys
-written_law w h a b c d e m k ys room few =
+pub written_law : (w new : List ℕ) (h a b c d e k : ℕ) (ys : List ℕ) → h + 21 ≤ length w → k ≤ 16
+    → take (h + 5 + 16) new ≡ take (h + 5) (set (set (set (set (set w h a) (h + 1) b) (h + 2) c) (h + 3) d) (h + 4) e) ++ ys → take (h + 5 + k) new ≡ take h w ++ a ∷ b ∷ c ∷ d ∷ e ∷ take k ys
+written_law w new h a b c d e k ys room few put =
     let w1 : List ℕ = set w h a in
     let w2 : List ℕ = set w1 (h + 1) b in
     let w3 : List ℕ = set w2 (h + 2) c in
@@ -153,9 +152,8 @@ written_law w h a b c d e m k ys room few =
     let p5 : take (h + 5) w5 ≡ ((((take h w ++ a ∷ []) ++ b ∷ []) ++ c ∷ []) ++ d ∷ []) ++ e ∷ [] = next h 4 5 w5 (((((take h w ++ a ∷ []) ++ b ∷ []) ++ c ∷ []) ++ d ∷ []) ++ e ∷ []) (omega arith) (grown w4 ((((take h w ++ a ∷ []) ++ b ∷ []) ++ c ∷ []) ++ d ∷ []) (h + 4) e p4 (omega (arith, room, l4))) in
     let q5 : take (h + 5) w5 ≡ take h w ++ a ∷ b ∷ c ∷ d ∷ e ∷ [] = p5 ∙ simp append_assoc in
     let front : length (take (h + 5) w5) ≡ h + 5 = length-take-le (h + 5) w5 (omega (arith, room, l5)) in
-    let tail : List ℕ = post_of (h + 5) m w5 in
-    let cut : take (h + 5 + k) (take (h + 5) w5 ++ (ys ++ tail)) ≡ take (h + 5) w5 ++ take k (ys ++ tail) = subst (λ (n : ℕ). take (n + k) (take (h + 5) w5 ++ (ys ++ tail)) ≡ take (h + 5) w5 ++ take k (ys ++ tail)) front (take-append-add (take (h + 5) w5) (ys ++ tail) k) in
-    cut ∙ ap (λ (zs : List ℕ). take (h + 5) w5 ++ zs) (take-append-le k ys tail few)
+    let cut : take (h + 5 + k) (take (h + 5) w5 ++ ys) ≡ take (h + 5) w5 ++ take k ys = subst (λ (n : ℕ). take (n + k) (take (h + 5) w5 ++ ys) ≡ take (h + 5) w5 ++ take k ys) front (take-append-add (take (h + 5) w5) ys k) in
+    sym (take-take (h + 5 + k) (h + 5 + 16) new (omega (arith, few))) ∙ ap (take (h + 5 + k)) put ∙ cut
     ∙ ap (λ (zs : List ℕ). zs ++ take k ys) q5 ∙ append_assoc (take h w) (a ∷ b ∷ c ∷ d ∷ e ∷ []) (take k ys)
 
 -- ---- the end of a frame

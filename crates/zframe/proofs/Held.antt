@@ -1,9 +1,10 @@
 -- The packed frames of a whole vector: v is how callers see them.
-use Rattle.std.proofs.Common.{◌≡◌, ℕ, ◌+◌, ◌-◌, ◌<◌, ◌≤◌, List, [], ◌∷◌, ◌++◌, length, take, drop, get_or, sym, ap, ◌∙◌, subst, arith}
+use Rattle.std.proofs.Common.{◌⊎◌, inl, inr, ◌≡◌, ℕ, ◌+◌, ◌-◌, ◌<◌, ◌≤◌, List, [], ◌∷◌, ◌++◌, length, take, drop, get_or, sym, ap, ◌∙◌, subst, arith}
 use Rattle.std.specs.Prelude.{slice_index}
 use Rattle.std.proofs.Math.ListN.{set}
 use Rattle.std.proofs.Math.Seq.{take-set-lt}
-use Rattle.std.proofs.lemmas.List.{get_or-take, take-take, take-append-le, take-set-le, take_more, take_more_set, length-take-le, length-set, length-drop, length_push}
+use Rattle.std.proofs.lemmas.Bool.{cases_lt}
+use Rattle.std.proofs.lemmas.List.{set_past, get_or-take, take-take, take-append-le, take-set-le, take_more, take_more_set, length-take-le, length-set, length-drop, length_push}
 use Rattle.zframe.specs.Frames.{Chain, pushed, popped, with_top, with_local}
 use Rattle.zframe.specs.Packed.{Fits, IsHeld, chain_at, ArePacked, count_at}
 use Rattle.zframe.proofs.Packing.{same_packed, same_count, fits, depth, locals_length, local_at, stack_length, push_law, set_law}
@@ -51,6 +52,39 @@ module _ (limit n base top : ℕ) (words : List ℕ) (held : IsHeld limit n base
     few = held.few;
     room = rw length-set held.room;
   }
+
+  -- a word is written where a local lies, or would, above which there is no stack
+  module _ (k word : ℕ) (few : k < 15) (none : length v.newest.stack ≡ 0) where
+    pub supply_within : base + k < length words
+    supply_within = omega (arith, few, room_for)
+
+    past_top : length v.newest.locals ≤ k → top ≤ base + k
+    past_top past = omega (arith, past, none, count_seen, height_seen)
+
+    supply_front : length v.newest.locals ≤ k → take top (set words (base + k) word) ≡ take top words
+    supply_front past = take-set-le top words (base + k) word (past_top past)
+
+    not_there : length v.newest.locals ≤ k → v ≡ with_local k word v
+    not_there past = ap (λ (xs : List ℕ). record v { newest = record v.newest { locals = xs } }) (sym (set_past v.newest.locals k word past))
+
+    pub supply_seen : chain_at limit n base (take top (set words (base + k) word)) ≡ with_local k word v
+    supply_seen = by_place (cases_lt k (length v.newest.locals))
+      where
+        by_place : (k < length v.newest.locals) ⊎ (length v.newest.locals ≤ k) → chain_at limit n base (take top (set words (base + k) word)) ≡ with_local k word v
+        by_place (inl there) = set_seen k word there
+        by_place (inr past) = ap (λ (xs : List ℕ). chain_at limit n base xs) (supply_front past) ∙ seen ∙ not_there past
+
+    pub supply_held : IsHeld limit n base top (set words (base + k) word)
+    supply_held = by_place (cases_lt k (length v.newest.locals))
+      where
+        by_place : (k < length v.newest.locals) ⊎ (length v.newest.locals ≤ k) → IsHeld limit n base top (set words (base + k) word)
+        by_place (inl there) = set_held k word there
+        by_place (inr past) = record {
+          packed = subst (λ (xs : List ℕ). ArePacked n base xs) (sym (supply_front past)) held.packed;
+          within = rw length-set held.within;
+          few = held.few;
+          room = rw length-set held.room;
+        }
 
   pub push_within : length v.newest.stack < 64 → top < length words
   push_within h = omega (arith, h, room_for, height_seen, whole.few)
