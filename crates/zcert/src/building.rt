@@ -286,10 +286,10 @@ impl<V: Spelled> Building<V> {
         if routine == 0 {
             return 0;
         }
-        self.contents
-            .routines
-            .get(usize::from(routine) - 1)
-            .map_or(0, |found| found.locals)
+        match self.contents.routines.get(usize::from(routine) - 1) {
+            Some(found) => found.locals,
+            None => 0,
+        }
     }
 
     // Goes on where so many values of an instruction are to come. With the last one it is stored, in room that is reserved.

@@ -37,8 +37,8 @@ pub(crate) fn long_of(bytes: &[u8]) -> Result<(u32, &[u8]), CertError>
 pub(crate) fn serial_of(bytes: &[u8]) -> Result<([u8; 6], &[u8]), CertError>
     ensures { Gives (λ x. (x.0, x.1.now)) result (serial_at bytes.now) }
 {
-    match bytes.split_first_chunk::<6>() {
-        Some((serial, rest)) => Ok((*serial, rest)),
-        None => Err(CertError::Truncated),
+    match bytes {
+        [a, b, c, d, e, f, rest @ ..] => Ok(([*a, *b, *c, *d, *e, *f], rest)),
+        _ => Err(CertError::Truncated),
     }
 }

@@ -106,16 +106,25 @@ fn put_instructions<V: Spelled>(out: &mut Vec<u8>, contents: &Contents<V>) -> Re
 
 // How many bytes a certificate takes, so that they are taken at once.
 fn room_for<V: Spelled>(contents: &Contents<V>) -> usize {
-    let parts = [
-        (contents.ranges.len(), RANGE_BYTES),
-        (contents.globals.len(), V::most_bytes()),
-        (contents.routines.len(), ROUTINE_BYTES),
-        (contents.stored.len(), HEADER_BYTES),
-        (contents.values.len(), V::most_bytes()),
-    ];
-    parts.iter().fold(FIXED_BYTES, |sum: usize, (count, size)| {
-        sum.saturating_add(count.saturating_mul(*size))
-    })
+    FIXED_BYTES
+        .saturating_add(contents.ranges.len().saturating_mul(RANGE_BYTES))
+        .saturating_add(contents.globals.len().saturating_mul(V::most_bytes()))
+        .saturating_add(contents.routines.len().saturating_mul(ROUTINE_BYTES))
+        .saturating_add(contents.stored.len().saturating_mul(HEADER_BYTES))
+        .saturating_add(contents.values.len().saturating_mul(V::most_bytes()))
+}
+
+// All that a certificate says, apart from the vector, which would be dropped where any of these is refused.
+fn put_all<V: Spelled>(out: &mut Vec<u8>, contents: &Contents<V>) -> Result<(), AllocError>
+    requires { HasSpelling V.format (content_of contents.now) }
+    ensures { OnOk result (out.new.items ≡ out.old.items ++ spelling V.format (content_of contents.now)) }
+{
+    put_heading::<V>(out)?;
+    put_identity(out, &contents.identity)?;
+    put_ranges(out, &contents.ranges)?;
+    put_values(out, &contents.globals)?;
+    put_routines(out, &contents.routines)?;
+    put_instructions(out, contents)
 }
 
 /// The one spelling of a certificate. It always has bytes, so whichever certificate it is, the growth for them may be refused.
@@ -126,11 +135,6 @@ pub fn write<V: Spelled>(alloc: Global, certificate: &Certificate<V>) -> Result<
 {
     let contents = certificate.contents();
     let mut out = Vec::with_capacity(alloc, room_for(contents))?;
-    put_heading::<V>(&mut out)?;
-    put_identity(&mut out, &contents.identity)?;
-    put_ranges(&mut out, &contents.ranges)?;
-    put_values(&mut out, &contents.globals)?;
-    put_routines(&mut out, &contents.routines)?;
-    put_instructions(&mut out, contents)?;
+    put_all(&mut out, contents)?;
     Ok(out)
 }

@@ -10,7 +10,7 @@ use crate::tree::{Link, linked, set_link};
 
 /// The one link that leads to an object from those under the same parent: the child of its parent, or the sibling of one
 /// of them.
-#[derive(Clone, Copy, Debug)]
+#[derive(Clone, Copy)]
 pub struct Lead {
     /// Child or sibling.
     pub link: Link,

@@ -8,7 +8,7 @@ use crate::entry::property_table;
 use crate::property::READABLE_LENGTH;
 
 /// The short name of an object.
-#[derive(Clone, Copy, Debug)]
+#[derive(Clone, Copy)]
 pub enum ShortName {
     /// Its length is 0: it prints nothing.
     Empty,

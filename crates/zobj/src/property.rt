@@ -12,7 +12,7 @@ use crate::entry::property_table;
 pub(crate) const READABLE_LENGTH: usize = 65_536;
 
 /// A property.
-#[derive(Clone, Copy, Debug)]
+#[derive(Clone, Copy)]
 pub struct Property {
     /// Its number, at most 31.
     pub number: u8,

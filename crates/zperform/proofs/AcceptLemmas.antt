@@ -53,6 +53,40 @@ refused_of story_known certificate_known story c held read (refusals.Story rule)
 refused_of story_known certificate_known story c held read (refusals.Instruction address rule) why = record { story = story; certificate = c; held = held; read = read; why = why }
 refused_of story_known certificate_known story c held read refusals.OutOfMemory why = story_bytes story_known story held
 
+-- no story is a story that isn't accepted
+pub no_story_refuses : (story_known certificate_known : Option (List ℕ)) (problem : Problem) → IsNoStory story_known problem → IsUnaccepted story_known certificate_known problem
+no_story_refuses story_known certificate_known (Refused error) h = h
+no_story_refuses story_known certificate_known (Unreadable error) h = absurd h
+no_story_refuses story_known certificate_known (BreaksStory rule) h = absurd h
+no_story_refuses story_known certificate_known (BreaksInstruction address rule) h = absurd h
+no_story_refuses story_known certificate_known (Unlisted error) h = absurd h
+no_story_refuses story_known certificate_known (Failed File) h = tt
+no_story_refuses story_known certificate_known (Failed Read) h = absurd h
+no_story_refuses story_known certificate_known (Failed Write) h = absurd h
+no_story_refuses story_known certificate_known (Failed Memory) h = h
+
+-- nor is one with no certificate
+pub no_certificate_refuses : (story_known certificate_known : Option (List ℕ)) (story : LoadedStory) → HoldsStory story_known story → (problem : Problem) → IsNoCertificate certificate_known problem → IsUnaccepted story_known certificate_known problem
+no_certificate_refuses story_known certificate_known story held (Refused error) h = absurd h
+no_certificate_refuses story_known certificate_known story held (Unreadable error) h = ((story, held), h)
+no_certificate_refuses story_known certificate_known story held (BreaksStory rule) h = absurd h
+no_certificate_refuses story_known certificate_known story held (BreaksInstruction address rule) h = absurd h
+no_certificate_refuses story_known certificate_known story held (Unlisted error) h = absurd h
+no_certificate_refuses story_known certificate_known story held (Failed File) h = tt
+no_certificate_refuses story_known certificate_known story held (Failed Read) h = absurd h
+no_certificate_refuses story_known certificate_known story held (Failed Write) h = absurd h
+no_certificate_refuses story_known certificate_known story held (Failed Memory) h = story_bytes story_known story held
+
+-- what a check refuses is no failure of a file
+refusal_reads : (refusal : Refusal) → problem_of_checking refusal ≢ Failed File
+refusal_reads (refusals.Story rule) e = absurd cc
+refusal_reads (refusals.Instruction address rule) e = absurd cc
+refusal_reads refusals.OutOfMemory e = absurd cc
+
+pub refused_reads : {T : Type 0} (r : Result T Problem) (refusal : Refusal) → IsErr r × IsErrAnd r (λ q. q ≡ problem_of_checking refusal) → r ≢ Err (Failed File)
+refused_reads (Ok x) refusal (is, same) e = absurd cc
+refused_reads (Err q) refusal (is, same) e = refusal_reads refusal (sym same ∙ (let file : q ≡ Failed File = cc in file))
+
 -- an error that is handed on
 pub handed_on : {T : Type 0} (P : Problem → Type 0) (r : Result T Problem) (problem : Problem) → IsErr r × IsErrAnd r (λ q. q ≡ problem) → P problem → IfErr r P
 handed_on P (Ok x) problem (is, same) h = tt

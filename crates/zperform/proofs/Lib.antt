@@ -3,5 +3,6 @@ mod StoryFiles
 mod PlayLemmas
 mod PerformLemmas
 mod AcceptLemmas
+mod ListLemmas
 mod SessionLemmas
 mod Worked

@@ -1,14 +1,22 @@
 -- What the words come to.
-use Rattle.std.proofs.Common.{◌≡◌, ◌≢◌, ◌<◌, ◌⊎◌, inl, inr, ℕ, Bool, List, [], ◌∷◌, length, Option, Some, None, refl, ap, subst, arith, IsSomeAnd}
+use Rattle.std.proofs.Common.{◌≡◌, ◌≢◌, ◌<◌, ◌⊎◌, inl, inr, ℕ, Bool, List, [], ◌∷◌, length, Option, Some, None, Result, Ok, Err, refl, ap, subst, arith, IsSomeAnd}
 use Rattle.clap.specs.Kinds.{IsAmong}
 use Rattle.clap.specs.Words.{Row, Text, fault_of, subcommand_of}
 use Rattle.zfault.specs.Devices.{RisesByOne}
+use Rattle.zplayer.specs.declared.end.End.{End}
 use Rattle.zcommand.specs.CommandLine.{Asks, Request, zpc_app}
 use Rattle.zperform.specs.Performing.{Breaks, Comes, Devices, Explains, IsFlushed, Performs, Reports, Says, Seen, Takes, seen}
 use Rattle.zperform.specs.declared.outcome.Failure.TheVariants.{File, Write}
+use Rattle.zperform.specs.Report.{outcome_of}
+use Rattle.zperform.specs.declared.outcome.Problem.{Problem}
 use Rattle.zperform.specs.declared.outcome.Problem.TheVariants.{Failed}
 use Rattle.zperform.specs.declared.outcome.Outcome.{Outcome}
 use Rattle.zperform.specs.declared.outcome.Outcome.TheVariants.{Stopped}
+
+-- what kept a play from being done is what stopped it
+pub stopped_is : (r : Result End Problem) (problem : Problem) → outcome_of r ≡ Stopped problem → r ≡ Err problem
+stopped_is (Ok end) problem e = absurd cc
+stopped_is (Err q) problem e = ap Err (let same : q ≡ problem = cc in same)
 
 -- with no fault in the words, only memory can be wanting
 pub performs_lacking : (words : List Text) (known : List ℕ → Option (List ℕ)) (status : ℕ) (old new : Devices) → fault_of zpc_app words ≡ [] → Explains (fault_of zpc_app words) status old new → Performs words known status old new

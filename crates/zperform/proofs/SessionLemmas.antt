@@ -1,5 +1,5 @@
 -- What comes of playing by a certificate.
-use Rattle.std.proofs.Common.{◌≡◌, ◌≢◌, inl, inr, ◌∙◌, ℕ, List, [], refl, sym, ap, subst, true≢false}
+use Rattle.std.proofs.Common.{◌≡◌, ◌≢◌, ◌⊎◌, inl, inr, ◌∙◌, ℕ, List, [], refl, sym, ap, subst, true≢false}
 use Rattle.std.specs.Prelude.{ℤ, Option, Result, Ok, Err, IsErr, IsErrAnd}
 use Rattle.std.specs.Io.KnownBytes.{Appends}
 use Rattle.zfault.specs.declared.fault.Fault.{Fault}
@@ -17,8 +17,9 @@ use Rattle.zplayer.specs.Rendering.{render}
 use Rattle.zperform.specs.declared.outcome.Failure.TheVariants.{File, Read, Write, Memory}
 use Rattle.zperform.specs.declared.outcome.Problem.{Problem}
 use Rattle.zperform.specs.declared.outcome.Problem.TheVariants.{Refused, Unreadable, BreaksStory, BreaksInstruction, Unlisted, Failed}
-use Rattle.zperform.specs.declared.outcome.Outcome.TheVariants.{Played, Stopped}
-use Rattle.zperform.specs.Accepting.{IsAccepted, IsUnaccepted, PlayComesTo, ending_with}
+use Rattle.zperform.specs.declared.outcome.Outcome.{Outcome}
+use Rattle.zperform.specs.declared.outcome.Outcome.TheVariants.{Accepted, Played, Stopped}
+use Rattle.zperform.specs.Accepting.{CheckComesTo, IsAccepted, IsUnaccepted, PlayComesTo, accepted_line, ending_with}
 use Rattle.zperform.specs.Report.{outcome_of, problem_of_play}
 use Rattle.zperform.specs.Contents.{HasBytes}
 use Rattle.zperform.proofs.AcceptLemmas.{story_bytes}
@@ -27,6 +28,26 @@ use Rattle.zperform.proofs.AcceptLemmas.{story_bytes}
 pub as_write : (r : Result End Problem) (error : PlayError) → IsErr r × IsErrAnd r (λ q. q ≡ problem_of_play error) → error ≡ errors.Write → r ≡ Err (Failed Write)
 as_write (Ok end) error (is, same) e = absurd (true≢false (sym is))
 as_write (Err q) error (is, same) e = ap Err (same ∙ ap problem_of_play e)
+
+-- and nothing else is
+write_alone : (error : PlayError) → problem_of_play error ≡ Failed Write → error ≡ errors.Write
+write_alone errors.Read e = absurd cc
+write_alone errors.Write e = refl
+write_alone errors.OutOfMemory e = absurd cc
+
+pub was_write : (r : Result End Problem) (error : PlayError) → IsErr r × IsErrAnd r (λ q. q ≡ problem_of_play error) → r ≡ Err (Failed Write) → error ≡ errors.Write
+was_write (Ok end) error (is, same) e = absurd cc
+was_write (Err q) error (is, same) e = write_alone error (sym same ∙ (let write : q ≡ Failed Write = cc in write))
+
+-- what breaks playing off is no failure of a file
+no_file : (error : PlayError) → problem_of_play error ≢ Failed File
+no_file errors.Read e = absurd cc
+no_file errors.Write e = absurd cc
+no_file errors.OutOfMemory e = absurd cc
+
+pub was_no_file : (r : Result End Problem) (error : PlayError) → IsErr r × IsErrAnd r (λ q. q ≡ problem_of_play error) → r ≢ Err (Failed File)
+was_no_file (Ok end) error (is, same) e = absurd cc
+was_no_file (Err q) error (is, same) e = no_file error (sym same ∙ (let file : q ≡ Failed File = cc in file))
 
 module _ (story certificate : Option (List ℕ)) (budget : ℕ) (before : Option (List ℕ)) where
   -- what isn't accepted isn't played
@@ -52,6 +73,18 @@ module _ (story certificate : Option (List ℕ)) (budget : ℕ) (before : Option
   unblamed (Failed Memory) h = λ e. cc
   unblamed (Failed Read) h = absurd h
   unblamed (Failed Write) h = absurd h
+
+  -- nor does the certificate hold
+  pub unchecked : (problem : Problem) → IsUnaccepted story certificate problem → CheckComesTo story certificate before before (Stopped problem)
+  unchecked (Refused error) h = (h, refl)
+  unchecked (Unreadable error) h = (h, refl)
+  unchecked (BreaksStory rule) h = (h, refl)
+  unchecked (BreaksInstruction address rule) h = (h, refl)
+  unchecked (Unlisted error) h = absurd h
+  unchecked (Failed File) h = (h, refl)
+  unchecked (Failed Memory) h = (h, refl)
+  unchecked (Failed Read) h = absurd h
+  unchecked (Failed Write) h = absurd h
 
   pub handed_on : (now : Option (List ℕ)) (r : Result End Problem) (problem : Problem) → IsErr r × IsErrAnd r (λ q. q ≡ problem)
       → PlayComesTo story certificate budget before now (Stopped problem) → PlayComesTo story certificate budget before now (outcome_of r)
@@ -80,3 +113,20 @@ module _ (story certificate : Option (List ℕ)) (budget : ℕ) (before : Option
     broken errors.Write no_read begun state finished wanted = (a, accepted, subst (λ (e : Ending). AppendsBeginning before now (render e.items)) same (begun refl))
     broken errors.OutOfMemory no_read begun state finished wanted =
         inr (a, accepted, record { state = state; finished = subst (λ (q : Playing). PlaysSome (setting_of q.accepted) budget q.state state before now) opened (finished refl); wanted = subst (λ (q : Playing). GivesOut (setting_of q.accepted) state) opened (wanted refl) })
+
+-- what is said of a certificate that is accepted
+module _ (outcome : Outcome) (only : (outcome ≡ Accepted) ⊎ (outcome ≡ Stopped (Failed Write))) where
+  pub said : (story certificate before now : Option (List ℕ)) (a : Acceptance) → IsAccepted story certificate a → (outcome ≡ Accepted → Appends before now accepted_line)
+      → (outcome ≡ Stopped (Failed Write) → AppendsBeginning before now accepted_line) → CheckComesTo story certificate before now outcome
+  said story certificate before now a accepted written begun = go only
+    where
+      go : (outcome ≡ Accepted) ⊎ (outcome ≡ Stopped (Failed Write)) → CheckComesTo story certificate before now outcome
+      go (inl e) = subst (λ (o : Outcome). CheckComesTo story certificate before now o) (sym e) ((a, accepted), written e)
+      go (inr e) = subst (λ (o : Outcome). CheckComesTo story certificate before now o) (sym e) ((a, accepted), begun e)
+
+  pub said_reads : outcome ≢ Stopped (Failed File)
+  said_reads e = go only
+    where
+      go : (outcome ≡ Accepted) ⊎ (outcome ≡ Stopped (Failed Write)) → ⊥
+      go (inl is) = absurd cc
+      go (inr is) = absurd cc

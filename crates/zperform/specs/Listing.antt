@@ -4,15 +4,14 @@ use Rattle.std.specs.Io.KnownBytes.{Appends}
 use Rattle.zfault.specs.Devices.{AppendsBeginning}
 use Rattle.zstory.specs.LoadedStory.{LoadedStory}
 use Rattle.zcode.specs.Names.{name_of}
-use Rattle.zlist.specs.declared.list_error.ListError.{ListError}
 use Rattle.zlist.specs.declared.record.Record.{Record}
 use Rattle.zlist.specs.Listed.{IsLowestFault, Lists}
 use Rattle.zlist.specs.Listing.{IsInOrder, ListedCode}
 use Rattle.zperform.specs.Accepting.{HoldsStory, IsNoStory}
 use Rattle.zperform.specs.Report.{place_text}
-use Rattle.zperform.specs.declared.outcome.Failure.TheVariants.{File, Read, Write, Memory}
+use Rattle.zperform.specs.declared.outcome.Failure.TheVariants.{Write, Memory}
 use Rattle.zperform.specs.declared.outcome.Problem.{Problem}
-use Rattle.zperform.specs.declared.outcome.Problem.TheVariants.{Refused, Unlisted, Failed}
+use Rattle.zperform.specs.declared.outcome.Problem.TheVariants.{Unlisted, Failed}
 use Rattle.zperform.specs.declared.outcome.Outcome.{Outcome}
 use Rattle.zperform.specs.declared.outcome.Outcome.TheVariants.{Listed, Stopped}
 

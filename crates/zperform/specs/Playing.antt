@@ -43,8 +43,8 @@ pub record IsBegun (file : List ℕ) (budget : ℕ) (before now : Option (List �
   pub holds : Holds file story
   pub begun : AppendsBeginning before now (render (ending_of story budget).items)
 
--- the play of a file stopped before a step that gives something out or makes a stack longer, and what the steps up to there
--- give out was written
+-- the play of a file stopped before a step that gives something out, or makes the stack of its frame or the frames longer, and
+-- what the steps up to there give out was written
 pub record IsCutShort (file : List ℕ) (budget : ℕ) (before now : Option (List ℕ)) : Type 0 where
   pub story : LoadedStory
   pub holds : Holds file story

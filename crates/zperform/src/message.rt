@@ -2,7 +2,7 @@
 
 ghost use Rattle.std.specs.Prelude.{◌≡◌, ◌<◌, ◌≤◌, ◌+◌, ◌++◌, [], ◌∷◌, length, decimal, pos};
 ghost use Rattle.zlist.specs.Listed.{number_of, place_of};
-ghost use Rattle.zperform.specs.Report.{address_text, end_text, failure_text, line_of, place_text, text_of};
+ghost use Rattle.zperform.specs.Report.{address_text, end_text, failure_text, hex_digit, line_of, place_text, text_of};
 
 use crate::outcome::{Failure, Outcome, Problem};
 use arrayvec::ArrayVec;
@@ -14,9 +14,6 @@ use zplayer::End;
 
 /// The most bytes that a line has room for.
 const ROOM: usize = 32;
-
-/// The lower-case hexadecimal digits.
-const DIGITS: [u8; 16] = *b"0123456789abcdef";
 
 /// A short line of text.
 #[derive(Drop)]
@@ -212,6 +209,19 @@ pub fn address_text(place: u32) -> [u8; 5]
     requires { place < 0x100000 }
     ensures { result ≡ address_text place }
 {
-    let digit = |shift: u32| DIGITS[((place >> shift) & 0xf) as usize];
-    [digit(16), digit(12), digit(8), digit(4), digit(0)]
+    [
+        hex_digit(place / 0x10000),
+        hex_digit(place / 0x1000 % 0x10),
+        hex_digit(place / 0x100 % 0x10),
+        hex_digit(place / 0x10 % 0x10),
+        hex_digit(place % 0x10),
+    ]
+}
+
+/// The lower-case hexadecimal digit of a number below 16.
+fn hex_digit(n: u32) -> u8
+    requires { n < 16 }
+    ensures { result ≡ hex_digit n }
+{
+    b"0123456789abcdef"[n as usize]
 }

@@ -106,10 +106,17 @@ impl From<ListError> for Problem {
     ghost from_gives = { λ error problem. problem ≡ problem_of_listing error };
 
     fn from(error: ListError) -> Problem {
-        match error {
-            ListError::OutOfMemory => Problem::Failed(Failure::Memory),
-            _ => Problem::Unlisted(error),
-        }
+        of_listing(error)
+    }
+}
+
+/// What keeps a story from being listed, as a problem.
+fn of_listing(error: ListError) -> Problem
+    ensures { result ≡ problem_of_listing error }
+{
+    match error {
+        ListError::OutOfMemory => Problem::Failed(Failure::Memory),
+        _ => Problem::Unlisted(error),
     }
 }
 

@@ -127,9 +127,10 @@ fn check_files<F: Files, W: Sink>(
     ensures kept { F.known files.new ≡ F.known files.old }
 {
     match accept(alloc, story, certificate, files) {
-        Ok(_) => say_accepted(writer),
-        Err(problem) => Outcome::Stopped(problem),
+        Ok(_) => {}
+        Err(problem) => return Outcome::Stopped(problem),
     }
+    say_accepted(writer)
 }
 
 /// Writes that a certificate is accepted.
@@ -256,7 +257,7 @@ fn play_accepted<R: Source, W: Sink>(
         budget,
         status: false,
     };
-    Ok(zplayer::play_story(
+    let end = zplayer::play_story(
         alloc,
         &mut session,
         reader,
@@ -264,7 +265,8 @@ fn play_accepted<R: Source, W: Sink>(
         &mut NoSaves::new(),
         &mut Zeros,
         options,
-    )?)
+    )?;
+    Ok(end)
 }
 
 fn outcome_of(played: Result<End, Problem>) -> Outcome

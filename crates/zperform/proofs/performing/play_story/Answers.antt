@@ -1,4 +1,4 @@
-use Rattle.std.proofs.Common.{◌≡◌, Err, Some, ap}
+use Rattle.std.proofs.Common.{Err, Some, ap}
 use Rattle.zperform.specs.Report.{problem_of_play}
 use Rattle.zperform.proofs.PlayLemmas.{broken, passed_on}
 use Rattle.zperform.proofs.performing.play_story.Goals as goal
