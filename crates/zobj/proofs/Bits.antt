@@ -8,9 +8,8 @@ use Rattle.std.proofs.lemmas.Bool.{eq-eqb}
 use Rattle.std.proofs.lemmas.Bool.Decides.{eqb_tells}
 use Rattle.zobj.specs.Entries.{HasEntry, entry_byte}
 use Rattle.zobj.specs.Attributes.{attribute_bit, has_attribute, with_bit, with_attribute}
-use Rattle.zstory.specs.Bytes.{byte_at}
+use Rattle.zstory.specs.Bytes.{AreBytes, byte_at}
 use Rattle.zstory.specs.Objects.{object_place}
-use Rattle.zobj.specs.Kept.{AreBytes}
 use Rattle.zobj.proofs.Bytes.{bytes_entry, entry_byte_same, entry_byte_other}
 
 -- a bit as std's lemmas spell it

@@ -4,11 +4,11 @@ use Rattle.std.specs.Prelude.{slice_set, ◌==◌, if◌then◌else◌}
 use Rattle.std.proofs.lemmas.List.{get_or-set_same, get_or_past, length-set}
 use Rattle.std.proofs.lemmas.Bool.{ne_eqb, cases_lt}
 use Rattle.std.proofs.lemmas.Bool.Decides.{eqb_tells}
-use Rattle.zstory.specs.Bytes.{byte_at}
+use Rattle.zstory.specs.Bytes.{AreBytes, byte_at}
 use Rattle.zstory.specs.Header.{object_table}
 use Rattle.zstory.specs.Objects.{object_place}
 use Rattle.zobj.specs.Entries.{HasTable, HasEntry, IsEntryByte, entry_byte, with_entry_byte}
-use Rattle.zobj.specs.Kept.{DiffersOnly, AreBytes}
+use Rattle.zobj.specs.Kept.{DiffersOnly}
 use Rattle.zobj.proofs.Tables.{byte_elsewhere, table_stays, table_kept, length_kept}
 
 -- an object isn't number 0

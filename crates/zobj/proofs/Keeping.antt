@@ -6,7 +6,7 @@ use Rattle.std.specs.Result.{IsOkAnd}
 use Rattle.std.proofs.lemmas.Bool.{ltb-true, ltb-false}
 use Rattle.zstory.specs.Objects.{object_place}
 use Rattle.std.proofs.lemmas.Bool.Decides.{eqb_tells}
-use Rattle.zstory.specs.Bytes.{byte_at}
+use Rattle.zstory.specs.Bytes.{AreBytes, byte_at}
 use Rattle.zstory.specs.Header.{object_table}
 use Rattle.zobj.specs.declared.error.ObjectError.{ObjectError}
 use Rattle.zobj.specs.declared.error.ObjectError.TheVariants.{AbsentObject}
@@ -16,7 +16,7 @@ use Rattle.zobj.specs.declared.moves.Lead.{Lead}
 use Rattle.zobj.specs.Entries.{HasTable, IsLinkByte, entry_byte, with_entry_byte}
 use Rattle.zobj.specs.Tree.{link_byte, linked, parent, sibling, child, with_link, IsTree}
 use Rattle.zobj.specs.Moves.{row, ends_search, elder, lead_of, IsLead, on_ok, led_past, alone, unlinked, first_under, inserted}
-use Rattle.zobj.specs.Kept.{DiffersOnly, AreBytes}
+use Rattle.zobj.specs.Kept.{DiffersOnly}
 use Rattle.zobj.proofs.Tables.{table_kept, all_kept, entry_there}
 use Rattle.zobj.proofs.Bytes.{bytes_entry, entry_byte_same, entry_byte_other, differs_there}
 

@@ -7,7 +7,8 @@ use Rattle.std.proofs.lemmas.List.{length-set}
 use Rattle.zobj.specs.declared.error.ObjectError.TheVariants.{PropertyTooLong}
 use Rattle.zobj.specs.declared.property.Property.{Property}
 use Rattle.zobj.specs.Values.{with_value, IsDataByte}
-use Rattle.zobj.specs.Kept.{DiffersOnly, AreBytes}
+use Rattle.zstory.specs.Bytes.{AreBytes}
+use Rattle.zobj.specs.Kept.{DiffersOnly}
 use Rattle.zobj.proofs.Tables.{byte_elsewhere}
 use Rattle.zobj.proofs.Bytes.{bytes_set}
 

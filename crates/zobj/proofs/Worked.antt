@@ -1,7 +1,7 @@
 -- Values of the definitions, computed.
 use Rattle.std.proofs.Common.{◌≡◌, ◌⊎◌, inl, inr, ℕ, zero, suc, ◌*◌, ◌<◌, ◌≤◌, Bool, true, false, List, [], ◌∷◌, ◌++◌, replicate, length, take, drop, Some, None, Ok, Err, refl, subst, arith, lit<, lit≤}
 use Rattle.std.specs.List.{find}
-use Rattle.zstory.specs.Bytes.{byte_at}
+use Rattle.zstory.specs.Bytes.{AreBytes, byte_at}
 use Rattle.zstory.specs.Objects.{object_place, property_table}
 use Rattle.zobj.specs.declared.error.ObjectError.TheVariants.{AbsentObject, AbsentProperty, PropertyTooLong}
 use Rattle.zobj.specs.declared.tree.Link.{Link}
@@ -14,7 +14,7 @@ use Rattle.zobj.specs.Tree.{linked, parent, sibling, child, with_link, IsTree}
 use Rattle.zobj.specs.Moves.{row, lead_of, unlinked, inserted}
 use Rattle.zobj.specs.Properties.{IsReadable, list_place, data_length, property_number, is_property, first_properties, properties_from, properties, has_number, property_of, after_number, next_in}
 use Rattle.zobj.specs.Values.{IsDataByte, default_word, value_of, property_value, with_value, with_property, length_before}
-use Rattle.zobj.specs.Kept.{DiffersOnly, AreBytes}
+use Rattle.zobj.specs.Kept.{DiffersOnly}
 use Rattle.zobj.specs.Names.{name_in, short_name}
 use Rattle.zobj.proofs.Lists.{property_inside}
 

@@ -12,7 +12,8 @@ ghost use Rattle.zobj.specs.Moves.{unlinked, inserted};
 ghost use Rattle.zobj.specs.Properties.{is_property, property_there, data_end, properties_from};
 ghost use Rattle.zobj.specs.declared.property.Property.{Property};
 ghost use Rattle.zobj.specs.Values.{with_value, IsDataByte};
-ghost use Rattle.zobj.specs.Kept.{DiffersOnly, AreBytes};
+ghost use Rattle.zobj.specs.Kept.{DiffersOnly};
+ghost use Rattle.zstory.specs.Bytes.{AreBytes};
 
 /// What calls on objects ask of a memory holds of that of a loaded story, and stays so whatever is written behind the header.
 pub fn objects_have_entries()
