@@ -8,7 +8,7 @@ fn frames_reach_their_limit(rt: HostRuntime) -> Result<(), Fail> {
     let mut frames = Frames::new(rt.alloc(), 4096)?;
     for _ in 0..5000 {
         if frames.count() <= frames.limit() {
-            frames.enter(0x1_2345, 16, 2, 2, [7; 15]);
+            frames.enter(0x1_2345, 16, 2, 2, &[7; 16]);
         }
     }
     assert_eq!(rt; frames.count(), 4097);
