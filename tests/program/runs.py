@@ -10,6 +10,7 @@ import subprocess
 import sys
 
 from calls import see_calls
+from objects import see_objects
 from plays import see_plays
 from program import Answer, Count, Program
 from samples import CODE, HELLO, NEW_LINE, NOP, QUIT, certificate, changed, interval, story, with_objects
@@ -326,6 +327,7 @@ def main():
         count.is_answer(name, program.run(words, given), wanted)
     see_plays(program, count)
     see_calls(program, count)
+    see_objects(program, count)
     see_streams(program, count)
     count.end()
 

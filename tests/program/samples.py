@@ -35,14 +35,14 @@ def story(code, first=CODE, abbreviations=None):
     return header(length // 2 % 65536, sum(rest) % 65536, first) + rest
 
 
-def with_objects():
-    """A story with two objects and two words, which quits."""
+def with_objects(code=QUIT):
+    """A story with two objects, of which the second is in the first, two words, and this code at 370."""
     table = b"\0\0\0\0\0\0\x02\x02\x70" + b"\0\0\0\0\x01\0\0\x02\x79" + b"\x01\x98\xa5\x05\x07\x23\x12\x34\0" + b"\x01\x9c\xa5\0"
     rest = (bytes(0x25E - 64) + table).ljust(0x280 - 64, b"\0")
     rest = (rest + b"\x0a").ljust(0x290 - 64, b"\0")
     rest = (rest + b"\x02").ljust(0x29A - 64, b"\0")
     rest += word(0x35A // 2) * 96 + b"\x94\xa5\x01\x2c\x07\x00\x02"
-    rest += b"\x1b\x25\x94\xa5\0\0\0" + b"\x46\x94\xc0\xa5\0\0\0" + b"\0" + b"\xba\0"
+    rest += b"\x1b\x25\x94\xa5\0\0\0" + b"\x46\x94\xc0\xa5\0\0\0" + b"\0" + code + b"\0" * (len(code) % 2)
     words = struct.pack(
         ">BBHHHHHHHH6sHHH",
         3, 0, RELEASE, 0x370, 0x370, 0x35C, 0x220, 0x40, 0x29A, 0, SERIAL, 0x29A, (64 + len(rest)) // 2, sum(rest) % 65536,

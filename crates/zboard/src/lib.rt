@@ -6,6 +6,7 @@ mod calling;
 mod entering;
 mod giving;
 mod in_place;
+mod objects;
 mod place;
 mod quick;
 mod returning;

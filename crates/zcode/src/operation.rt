@@ -6,6 +6,7 @@ ghost use Rattle.zcode.specs.Operation.{implied, inputs, operation_of, target};
 use crate::instr::{Instr, Operand};
 use crate::opcode::Opcode;
 use arrayvec::ArrayVec;
+use zobj::Link;
 use zword::{BinaryOp, CountOp, Question, UnaryOp};
 
 /// What an opcode does, by its family (Z 15). Every layer goes by these.
@@ -45,6 +46,12 @@ pub enum Operation {
     PrintReturn,
     /// The routine at the packed address of the first value is called with the others.
     Call,
+    /// The branch asks whether the object of the first value is in that of the second.
+    Inside,
+    /// The branch asks whether the object of the first value has the attribute of the second.
+    TestAttribute,
+    /// The number that a link of the value's object leads to goes to the result variable, and the branch asks whether it leads to one.
+    Follow(Link),
 }
 
 impl Opcode {
@@ -84,6 +91,11 @@ impl Opcode {
             Opcode::Ret | Opcode::Rtrue | Opcode::Rfalse | Opcode::RetPopped => Operation::Return,
             Opcode::PrintRet => Operation::PrintReturn,
             Opcode::Call => Operation::Call,
+            Opcode::Jin => Operation::Inside,
+            Opcode::TestAttr => Operation::TestAttribute,
+            Opcode::GetSibling => Operation::Follow(Link::Sibling),
+            Opcode::GetChild => Operation::Follow(Link::Child),
+            Opcode::GetParent => Operation::Follow(Link::Parent),
             _ => return None,
         })
     }

@@ -61,7 +61,7 @@ no_inclusion = (λ w. no_words.0 (w 2 (record { word = omega arith; member = (om
 
 -- sets that don't have their single word are unsound
 nothing : SetOperations ℕ
-nothing = record { has = λ _ _. ⊥; single = λ word. word; any = 0; known = λ a. None; join = λ a b. a; meet = λ a b. None; unary = λ op a. a; binary = λ op a b. a; narrow = λ q c a b. None }
+nothing = record { has = λ _ _. ⊥; single = λ word. word; any = 0; between = λ lo hi. lo; known = λ a. None; join = λ a b. a; meet = λ a b. None; unary = λ op a. a; binary = λ op a b. a; narrow = λ q c a b. None }
 
 unsound : AreSound nothing → ⊥
 unfolding nothing
@@ -71,6 +71,10 @@ unsound sound = (sound.single 0 (omega arith)).member
 
 abbrev from : (lo hi : ℤ) → int_le lo hi ≡ true → Interval
 from lo hi e = record { lo = lo; hi = hi; ordered = in_order lo hi e }
+
+-- from one word to another; where the second has a sign, or they aren't in order, any word
+ranges : (interval_operations.between 0 31 ≡ from (pos 0) (pos 31) refl) × (interval_operations.between 7 7 ≡ point 7) × (interval_operations.between 1 32767 ≡ from (pos 1) (pos 32767) refl) × (interval_operations.between 1 32768 ≡ all_words) × (interval_operations.between 2 1 ≡ all_words)
+ranges = (refl, refl, refl, refl, refl)
 
 abbrev IsFrom : Interval → ℤ → ℤ → Type 0
 IsFrom i lo hi = (i.lo ≡ lo) × (i.hi ≡ hi)

@@ -181,6 +181,7 @@ interval_operations = record {
   has = λ i word. HasMember i (signed word);
   single = point;
   any = all_words;
+  between = λ lo hi. fitting (pos lo) (pos hi);
   known = λ i. if is_single i then Some (word_of i.lo) else None;
   join = join;
   meet = meet;

@@ -138,7 +138,7 @@ fn around(a: i32, b: i32, c: i32, d: i32) -> Interval
 }
 
 /// The interval from `low` to `high`, or all words where an end isn't the number of one.
-fn fitting(low: i32, high: i32) -> Interval
+pub(crate) fn fitting(low: i32, high: i32) -> Interval
     ensures { result ≡ fitting low high }
 {
     if low < -32768 || 32767 < low || high < -32768 || 32767 < high {

@@ -20,6 +20,10 @@ pub trait Domain: Copy + Drop {
     fn any() -> Self
         ensures { result ≡ operations.any };
 
+    /// A set that has each word from one to another, words taken without sign.
+    fn between(least: u16, greatest: u16) -> Self
+        ensures { result ≡ operations.between least greatest };
+
     /// Whether the word is in the set.
     fn contains(self, word: u16) -> bool
         ensures { IsTrue result ↔ In operations self word };

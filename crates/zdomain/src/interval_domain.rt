@@ -25,6 +25,10 @@ impl Domain for Interval {
         Interval::all()
     }
 
+    fn between(least: u16, greatest: u16) -> Interval {
+        arithmetic::fitting(i32::from(least), i32::from(greatest))
+    }
+
     fn contains(self, word: u16) -> bool {
         let value = word.cast_signed();
         self.lo <= value && value <= self.hi

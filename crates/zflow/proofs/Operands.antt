@@ -1,8 +1,9 @@
 -- No operation reads more than two operands.
 use Rattle.std.proofs.Common.{◌≡◌, ℕ, Bool, List, Some, None, refl}
+use Rattle.zstory.specs.LoadedStory.{LoadedStory}
 use Rattle.zcode.specs.declared.instr.Operand.{Operand}
 use Rattle.zcode.specs.declared.operation.Operation.{Operation}
-use Rattle.zcode.specs.declared.operation.Operation.TheVariants.{Unary, Binary, Compare, Count, Store, Load, Jump, Verify, PrintChar, PrintNumber, Print, NewLine, Nop, Quit, Return, PrintReturn, Call}
+use Rattle.zcode.specs.declared.operation.Operation.TheVariants.{Unary, Binary, Compare, Count, Store, Load, Jump, Verify, PrintChar, PrintNumber, Print, NewLine, Nop, Quit, Return, PrintReturn, Call, Inside, TestAttribute, Follow}
 use Rattle.zdomain.specs.Domain.{SetOperations}
 use Rattle.zflow.specs.Transfer.{Shape, demands_of, outcome_of}
 use Rattle.zflow.specs.Kept.{both}
@@ -27,24 +28,30 @@ module _ {V : Type 0} (o : SetOperations V) where
   demands_read Return arg = refl
   demands_read PrintReturn arg = refl
   demands_read Call arg = refl
+  demands_read Inside arg = refl
+  demands_read TestAttribute arg = refl
+  demands_read (Follow link) arg = refl
 
-  pub outcome_read : (globals : List V) (operation : Operation) (operands : List Operand) (arg : ℕ → V) (e : Shape V) (c : Bool) → outcome_of o globals operation operands arg e c ≡ outcome_of o globals operation operands (both (arg 0) (arg 1)) e c
+  pub outcome_read : (globals : List V) (story : LoadedStory) (operation : Operation) (operands : List Operand) (arg : ℕ → V) (e : Shape V) (c : Bool) → outcome_of o globals story operation operands arg e c ≡ outcome_of o globals story operation operands (both (arg 0) (arg 1)) e c
   unfolding outcome_of
-  outcome_read globals (Unary op) operands arg e c = refl
-  outcome_read globals (Binary op) operands arg e c = refl
-  outcome_read globals (Compare q) operands arg e c = refl
-  outcome_read globals (Count op None) operands arg e c = refl
-  outcome_read globals (Count op (Some q)) operands arg e c = refl
-  outcome_read globals Store operands arg e c = refl
-  outcome_read globals Load operands arg e c = refl
-  outcome_read globals Jump operands arg e c = refl
-  outcome_read globals Verify operands arg e c = refl
-  outcome_read globals PrintChar operands arg e c = refl
-  outcome_read globals PrintNumber operands arg e c = refl
-  outcome_read globals Print operands arg e c = refl
-  outcome_read globals NewLine operands arg e c = refl
-  outcome_read globals Nop operands arg e c = refl
-  outcome_read globals Quit operands arg e c = refl
-  outcome_read globals Return operands arg e c = refl
-  outcome_read globals PrintReturn operands arg e c = refl
-  outcome_read globals Call operands arg e c = refl
+  outcome_read globals story (Unary op) operands arg e c = refl
+  outcome_read globals story (Binary op) operands arg e c = refl
+  outcome_read globals story (Compare q) operands arg e c = refl
+  outcome_read globals story (Count op None) operands arg e c = refl
+  outcome_read globals story (Count op (Some q)) operands arg e c = refl
+  outcome_read globals story Store operands arg e c = refl
+  outcome_read globals story Load operands arg e c = refl
+  outcome_read globals story Jump operands arg e c = refl
+  outcome_read globals story Verify operands arg e c = refl
+  outcome_read globals story PrintChar operands arg e c = refl
+  outcome_read globals story PrintNumber operands arg e c = refl
+  outcome_read globals story Print operands arg e c = refl
+  outcome_read globals story NewLine operands arg e c = refl
+  outcome_read globals story Nop operands arg e c = refl
+  outcome_read globals story Quit operands arg e c = refl
+  outcome_read globals story Return operands arg e c = refl
+  outcome_read globals story PrintReturn operands arg e c = refl
+  outcome_read globals story Call operands arg e c = refl
+  outcome_read globals story Inside operands arg e c = refl
+  outcome_read globals story TestAttribute operands arg e c = refl
+  outcome_read globals story (Follow link) operands arg e c = refl

@@ -1,6 +1,7 @@
 -- Values of the definitions, computed over intervals.
 use Rattle.std.proofs.Common.{◌≡◌, ℕ, ℤ, pos, negsuc, int_le, Bool, true, false, List, [], ◌∷◌, map, Option, Some, None, option_map, refl}
 use Rattle.std.specs.Option.{option_and_then}
+use Rattle.zstory.specs.LoadedStory.{LoadedStory}
 use Rattle.zcode.specs.declared.opcode.Opcode.{Opcode}
 use Rattle.zcode.specs.declared.opcode.Opcode.TheVariants as opcodes
 use Rattle.zcode.specs.declared.operation.Operation.TheVariants as operations
@@ -56,8 +57,12 @@ storing opcode operands v = record (plain opcode operands) { store = Some v }
 abbrev branching : Opcode → List Operand → ℤ → Instruction
 branching opcode operands offset = record (plain opcode operands) { branch = Some (record { sense = true; offset = offset }) }
 
+-- of a story of so many objects
+abbrev with_objects : ℕ → LoadedStory
+with_objects n = record { memory = []; objects = n }
+
 abbrev outcome_on : Instruction → Bool → Option (Outcome Interval)
-outcome_on i c = outcome_at interval_operations globals i shape c
+outcome_on i c = outcome_at interval_operations globals i shape (with_objects 200) c
 
 abbrev after_on : Instruction → Bool → Option (Shape Interval)
 after_on i c = option_and_then (after interval_operations globals i shape) (outcome_on i c)
@@ -118,7 +123,7 @@ taken = (refl, refl, refl, refl)
 -- ---- calls
 
 abbrev of_call : Interval → Bool → Option (Outcome Interval)
-of_call a c = outcome_of interval_operations globals operations.Call [] (λ k. a) shape c
+of_call a c = outcome_of interval_operations globals (with_objects 0) operations.Call [] (λ k. a) shape c
 
 abbrev entered_by : Interval → Option Ends
 entered_by a = option_and_then (λ w. entered w.leads) (of_call a true)
@@ -210,7 +215,7 @@ loads = (refl, refl, refl, refl)
 abbrev zero_above : Shape Interval
 zero_above = record shape { slots = from (pos 0) (pos 0) refl ∷ shape.slots }
 
-loads_below : option_map (λ e. map ends e.slots) (option_and_then (after interval_operations globals (storing opcodes.Load (Variable 0 ∷ []) 0) zero_above) (outcome_at interval_operations globals (storing opcodes.Load (Variable 0 ∷ []) 0) zero_above true)) ≡ Some (only 7 ∷ only 7 ∷ span 20 30 ∷ [])
+loads_below : option_map (λ e. map ends e.slots) (option_and_then (after interval_operations globals (storing opcodes.Load (Variable 0 ∷ []) 0) zero_above) (outcome_at interval_operations globals (storing opcodes.Load (Variable 0 ∷ []) 0) zero_above (with_objects 0) true)) ≡ Some (only 7 ∷ only 7 ∷ span 20 30 ∷ [])
 unfolding operation_of outcome_of shape globals
 loads_below = refl
 
@@ -247,6 +252,31 @@ jumps = (refl, refl, refl, refl, refl)
 certain : ((demands_on (jump (Variable 2))).certain ≡ true) × ((demands_on (jump (Variable 3))).certain ≡ false) × ((demands_on jl).certain ≡ true)
 unfolding operation_of demands_of shape globals jump jl
 certain = (refl, refl, refl)
+
+-- ---- objects
+
+-- get_child of the first local into the second: one of the objects, and then the branch is taken, or none
+child : Instruction
+child = record (branching opcodes.GetChild (Variable 1 ∷ []) (pos 8)) { store = Some 2 }
+
+follows : (locals_on child true ≡ Some (span 0 9 ∷ span 1 200 ∷ span 0 1 ∷ [])) × (distance_on child true ≡ Some (pos 6)) × (locals_on child false ≡ Some (span 0 9 ∷ only 0 ∷ span 0 1 ∷ [])) × (distance_on child false ≡ Some (pos 0))
+unfolding operation_of outcome_of shape globals child
+follows = (refl, refl, refl, refl)
+
+-- it leads to none where there is none
+no_objects : (option_map (λ w. option_map ends w.gives) (outcome_at interval_operations globals child shape (with_objects 1) true) ≡ Some (Some (only 1))) × (outcome_at interval_operations globals child shape (with_objects 0) true ≡ nothing) × (option_map (λ w. w.tests) (outcome_at interval_operations globals child shape (with_objects 0) false) ≡ Some (Some false))
+unfolding operation_of outcome_of shape globals child
+no_objects = (refl, refl, refl)
+
+-- what is asked of an object says nothing of its number
+asks_objects : (locals_on (branching opcodes.Jin (Variable 1 ∷ Constant 3 ∷ []) (pos 8)) true ≡ Some (span 0 9 ∷ only 1 ∷ span 0 1 ∷ [])) × (locals_on (branching opcodes.TestAttr (Variable 1 ∷ Constant 3 ∷ []) (pos 8)) false ≡ Some (span 0 9 ∷ only 1 ∷ span 0 1 ∷ []))
+unfolding operation_of outcome_of shape globals
+asks_objects = (refl, refl)
+
+-- objects and attributes are asked for by these operands
+asked : (option_map ends (demands_on (branching opcodes.Jin (Variable 1 ∷ Variable 2 ∷ []) (pos 8))).object ≡ Some (span 0 9)) × (option_map ends (demands_on (branching opcodes.Jin (Variable 1 ∷ Variable 2 ∷ []) (pos 8))).attribute ≡ None) × (option_map ends (demands_on (branching opcodes.TestAttr (Variable 1 ∷ Variable 2 ∷ []) (pos 8))).object ≡ Some (span 0 9)) × (option_map ends (demands_on (branching opcodes.TestAttr (Variable 1 ∷ Variable 2 ∷ []) (pos 8))).attribute ≡ Some (only 1)) × (option_map ends (demands_on child).object ≡ Some (span 0 9)) × (option_map ends (demands_on (jump (Variable 2))).object ≡ None)
+unfolding operation_of demands_of shape globals child jump
+asked = (refl, refl, refl, refl, refl, refl)
 
 -- ---- what prints or does nothing
 

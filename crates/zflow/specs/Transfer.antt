@@ -8,13 +8,14 @@ use Rattle.zword.specs.declared.question.Question.TheVariants.{Equal}
 use Rattle.zword.specs.declared.count.CountOp.{CountOp}
 use Rattle.zword.specs.Binary.{signed}
 use Rattle.zword.specs.Count.{counting}
+use Rattle.zstory.specs.LoadedStory.{LoadedStory}
 use Rattle.zcode.specs.declared.instr.Operand.{Operand}
 use Rattle.zcode.specs.declared.instr.Operand.TheVariants.{Constant, Variable}
 use Rattle.zcode.specs.declared.instr.Branch.{Branch}
 use Rattle.zcode.specs.declared.instr.Destination.{Destination}
 use Rattle.zcode.specs.declared.instr.Destination.TheVariants.{ReturnFalse, ReturnTrue, Relative}
 use Rattle.zcode.specs.declared.operation.Operation.{Operation}
-use Rattle.zcode.specs.declared.operation.Operation.TheVariants.{Unary, Binary, Compare, Count, Store, Load, Jump, Verify, PrintChar, PrintNumber, Print, NewLine, Nop, Quit, Return, PrintReturn, Call}
+use Rattle.zcode.specs.declared.operation.Operation.TheVariants.{Unary, Binary, Compare, Count, Store, Load, Jump, Verify, PrintChar, PrintNumber, Print, NewLine, Nop, Quit, Return, PrintReturn, Call, Inside, TestAttribute, Follow}
 use Rattle.zcode.specs.Instruction.{Instruction}
 use Rattle.zcode.specs.Operation.{operation_of, inputs, target}
 use Rattle.zdomain.specs.Domain.{SetOperations}
@@ -68,7 +69,7 @@ module _ {V : Type 0} (o : SetOperations V) (globals : List V) where
 -- ---- what an operation asks for, once for an instruction
 
 abbrev pub nothing : {V : Type 0} → Demands V
-nothing = record { indirect = false; variable = None; divisor = None; certain = true; has_text = false }
+nothing = record { indirect = false; variable = None; divisor = None; object = None; attribute = None; certain = true; has_text = false }
 
 abbrev pub naming : {V : Type 0} → Option ℕ → Demands V
 naming variable = record nothing { indirect = true; variable = variable }
@@ -103,6 +104,9 @@ module _ {V : Type 0} (o : SetOperations V) where
   demands_of Return arg = nothing
   demands_of PrintReturn arg = record nothing { has_text = true }
   demands_of Call arg = nothing
+  demands_of Inside arg = record nothing { object = Some (arg 0) }
+  demands_of TestAttribute arg = record nothing { object = Some (arg 0); attribute = Some (arg 1) }
+  demands_of (Follow link) arg = record nothing { object = Some (arg 0) }
 
   abbrev pub demands_if : Option Operation → (ℕ → V) → Demands V
   demands_if None arg = nothing
@@ -136,6 +140,9 @@ returns_in a = record goes_on { leads = Returning a }
 
 abbrev pub enters_in : {V : Type 0} → V → Outcome V
 enters_in a = record goes_on { leads = Entering a }
+
+abbrev pub follows_in : {V : Type 0} → Bool → V → Outcome V
+follows_in c a = record (asks c untold) { gives = Some a }
 
 -- a variable that is a local keeps what a branch says of it
 abbrev pub local_kept : {V : Type 0} → ℕ → V → Option (ℕ × V)
@@ -181,14 +188,20 @@ module _ {V : Type 0} (o : SetOperations V) (globals : List V) where
   called_outcome true a = option_map (λ p. enters_in p.0) (o.narrow Equal false a (o.single 0))
   called_outcome false a = option_map (λ p. gives_in (o.single 0)) (o.narrow Equal true a (o.single 0))
 
+  -- where a link leads to: to one of so many objects, or to none
+  abbrev pub followed_outcome : ℕ → Bool → Option (Outcome V)
+  followed_outcome objects true = if objects == 0 then None else Some (follows_in true (o.between 1 objects))
+  followed_outcome objects false = Some (follows_in false (o.single 0))
+
+module _ {V : Type 0} (o : SetOperations V) (globals : List V) (story : LoadedStory) where
   -- What may come of an operation where its condition is answered so, from the sets of what it reads; e is what is known
   -- once that was read. None comes of an edge that can't be taken, and of `quit`.
   unfoldable pub outcome_of : Operation → List Operand → (ℕ → V) → Shape V → Bool → Option (Outcome V)
   outcome_of (Unary op) operands arg e c = once c (gives_in (o.unary op (arg 0)))
   outcome_of (Binary op) operands arg e c = once c (gives_in (o.binary op (arg 0) (arg 1)))
-  outcome_of (Compare q) operands arg e c = option_map (asks c) (compared_kept q c operands arg)
-  outcome_of (Count op None) operands arg e c = once_known c (small (o.known (arg 0))) (λ v. assigns_in v (counted_set op v e))
-  outcome_of (Count op (Some q)) operands arg e c = counted_outcome op q c (small (o.known (arg 0))) (arg 1) e
+  outcome_of (Compare q) operands arg e c = option_map (asks c) (compared_kept o globals q c operands arg)
+  outcome_of (Count op None) operands arg e c = once_known c (small (o.known (arg 0))) (λ v. assigns_in v (counted_set o globals op v e))
+  outcome_of (Count op (Some q)) operands arg e c = counted_outcome o globals op q c (small (o.known (arg 0))) (arg 1) e
   outcome_of Store operands arg e c = once_known c (small (o.known (arg 0))) (λ v. assigns_in v (arg 1))
   outcome_of Load operands arg e c = once_known c (small (o.known (arg 0))) (λ v. gives_in (variable_set o globals v e))
   outcome_of Jump operands arg e c = once_known c (o.known (arg 0)) jumps
@@ -201,7 +214,10 @@ module _ {V : Type 0} (o : SetOperations V) (globals : List V) where
   outcome_of Quit operands arg e c = None
   outcome_of Return operands arg e c = once c (returns_in (arg 0))
   outcome_of PrintReturn operands arg e c = once c (returns_in (o.single 1))
-  outcome_of Call operands arg e c = called_outcome c (arg 0)
+  outcome_of Call operands arg e c = called_outcome o globals c (arg 0)
+  outcome_of Inside operands arg e c = Some (asks c untold)
+  outcome_of TestAttribute operands arg e c = Some (asks c untold)
+  outcome_of (Follow link) operands arg e c = followed_outcome o globals story.objects c
 
   abbrev pub outcome_if : Option Operation → List Operand → (ℕ → V) → Shape V → Bool → Option (Outcome V)
   outcome_if None operands arg e c = None
@@ -278,8 +294,8 @@ module _ {V : Type 0} (o : SetOperations V) (globals : List V) (i : Instruction)
   abbrev pub demands_at : Demands V
   demands_at = demands_if o (operation_of i.opcode) read_set
 
-  abbrev pub outcome_at : Bool → Option (Outcome V)
-  outcome_at c = outcome_if o globals (operation_of i.opcode) (inputs i) read_set mid_shape c
+  abbrev pub outcome_at : LoadedStory → Bool → Option (Outcome V)
+  outcome_at story c = outcome_if o globals story (operation_of i.opcode) (inputs i) read_set mid_shape c
 
   -- what is known after it came to this, before what a branch says of locals
   abbrev pub changed_by : Outcome V → Shape V

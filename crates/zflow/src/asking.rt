@@ -20,6 +20,11 @@ fn demands_of<V: Domain>(operation: Operation, first: V, second: V) -> Demands<V
         Operation::Count(..) | Operation::Store | Operation::Load => return naming(named(first)),
         Operation::Jump => demands.certain = first.known().is_some(),
         Operation::Print | Operation::PrintReturn => demands.has_text = true,
+        Operation::Inside | Operation::Follow(_) => demands.object = Some(first),
+        Operation::TestAttribute => {
+            demands.object = Some(first);
+            demands.attribute = Some(second);
+        }
         Operation::Unary(_)
         | Operation::Compare(_)
         | Operation::Verify
@@ -62,6 +67,8 @@ fn nothing<V: Domain>() -> Demands<V>
         indirect: false,
         variable: None,
         divisor: None,
+        object: None,
+        attribute: None,
         certain: true,
         has_text: false,
     }

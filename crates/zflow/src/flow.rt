@@ -13,6 +13,7 @@ use crate::parts::{Demands, Lead, Outcome};
 use crate::view::{View, below, pops};
 use zcode::{Branch, Destination, Instr};
 use zdomain::Domain;
+use zstory::Story;
 
 /// What comes of an instruction where its condition is answered so.
 #[derive(Drop)]
@@ -38,15 +39,16 @@ pub struct Flow<'a, V> {
     pub failed: Option<Edge<'a, V>>,
 }
 
-/// What may come of an instruction before which this is known: sets of the globals, of the frame's locals and of its slots,
+/// What may come of an instruction of a story before which this is known: sets of the globals, of the frame's locals and of its slots,
 /// the top slot last. Each set is computed once.
 pub fn flow_of<'a, V: Domain>(
+    story: &Story,
     globals: &[V],
     locals: &'a [V],
     slots: &'a [V],
     instruction: &Instr,
 ) -> Flow<'a, V>
-    ensures { IsFlow V.operations globals.now instruction.now (shape_of locals.now slots.now) result }
+    ensures { IsFlow V.operations globals.now story.now instruction.now (shape_of locals.now slots.now) result }
 {
     let before = View {
         globals,
@@ -58,7 +60,14 @@ pub fn flow_of<'a, V: Domain>(
     let popped = pops(operands);
     let operation = instruction.opcode().operation();
     let (first, second) = before.read(operands);
-    let outcomes = outcomes_if(operation, operands, first, second, before.below(popped));
+    let outcomes = outcomes_if(
+        story,
+        operation,
+        operands,
+        first,
+        second,
+        before.below(popped),
+    );
     let left = below(popped, slots);
     Flow {
         popped,

@@ -3,15 +3,17 @@
 ghost use Rattle.std.specs.Prelude.{◌≡◌, List, [], Some, None, true, false, option_map};
 ghost use Rattle.zcode.specs.declared.instr.Operand.{Operand as AnOperand};
 ghost use Rattle.zcode.specs.declared.operation.Operation.TheVariants.{Count};
-ghost use Rattle.zflow.specs.Transfer.{asks, assigns_in, called_outcome, compared_kept, counted_kept, counts_in, gives_in, goes_on, jumps, local_kept, once_known, operand_kept, outcome_if, outcome_of, returns_in, small, untold, variable_set};
+ghost use Rattle.zflow.specs.Transfer.{asks, assigns_in, called_outcome, compared_kept, counted_kept, counts_in, followed_outcome, follows_in, gives_in, goes_on, jumps, local_kept, once_known, operand_kept, outcome_if, outcome_of, returns_in, small, untold, variable_set};
 ghost use Rattle.zflow.specs.Kept.{both};
 ghost use Rattle.zflow.specs.View.{seen};
+ghost use Rattle.zstory.specs.LoadedStory.{LoadedStory};
 
 use crate::asking::named;
 use crate::parts::{Kept, Lead, Outcome};
 use crate::view::View;
 use zcode::{Operand, Operation};
 use zdomain::Domain;
+use zstory::Story;
 use zword::{CountOp, Question};
 
 /// What may come of an operation, by the answers of its condition.
@@ -25,32 +27,34 @@ pub(crate) struct Outcomes<V> {
 
 /// What may come of an instruction, by what it does; of one that does nothing, nothing.
 pub(crate) fn outcomes_if<V: Domain>(
+    story: &Story,
     operation: Option<Operation>,
     operands: &[Operand],
     first: V,
     second: V,
     view: View<'_, V>,
 ) -> Outcomes<V>
-    ensures held { result.held ≡ outcome_if V.operations view.entry.globals.now operation operands.now (both first second) (seen view.entry) true }
-    ensures failed { result.failed ≡ outcome_if V.operations view.entry.globals.now operation operands.now (both first second) (seen view.entry) false }
+    ensures held { result.held ≡ outcome_if V.operations view.entry.globals.now story.now operation operands.now (both first second) (seen view.entry) true }
+    ensures failed { result.failed ≡ outcome_if V.operations view.entry.globals.now story.now operation operands.now (both first second) (seen view.entry) false }
 {
     match operation {
         None => never(),
-        Some(operation) => outcomes_of(operation, operands, first, second, view),
+        Some(operation) => outcomes_of(story, operation, operands, first, second, view),
     }
 }
 
 /// What may come of an operation on operands whose first two have these sets. `view` is what is known once they were read.
 #[tactic(auto, unfolding(crate::specs::Transfer::outcome_of))]
 fn outcomes_of<V: Domain>(
+    story: &Story,
     operation: Operation,
     operands: &[Operand],
     first: V,
     second: V,
     view: View<'_, V>,
 ) -> Outcomes<V>
-    ensures held { result.held ≡ outcome_of V.operations view.entry.globals.now operation operands.now (both first second) (seen view.entry) true }
-    ensures failed { result.failed ≡ outcome_of V.operations view.entry.globals.now operation operands.now (both first second) (seen view.entry) false }
+    ensures held { result.held ≡ outcome_of V.operations view.entry.globals.now story.now operation operands.now (both first second) (seen view.entry) true }
+    ensures failed { result.failed ≡ outcome_of V.operations view.entry.globals.now story.now operation operands.now (both first second) (seen view.entry) false }
 {
     match operation {
         Operation::Unary(op) => once(gives_in(V::unary(op, first))),
@@ -60,7 +64,7 @@ fn outcomes_of<V: Domain>(
         Operation::Store => stored(first, second),
         Operation::Load => loaded(first, view),
         Operation::Jump => jumped(first),
-        Operation::Verify => verified(),
+        Operation::Verify => either(),
         Operation::PrintChar
         | Operation::PrintNumber
         | Operation::Print
@@ -70,6 +74,8 @@ fn outcomes_of<V: Domain>(
         Operation::Return => once(returns_in(first)),
         Operation::PrintReturn => once(returns_in(V::single(1))),
         Operation::Call => called(first),
+        Operation::Inside | Operation::TestAttribute => either(),
+        Operation::Follow(_) => followed(story.objects()),
     }
 }
 
@@ -224,8 +230,8 @@ fn counted<V: Domain>(
     second: V,
     view: View<'_, V>,
 ) -> Outcomes<V>
-    ensures held { (operands : List AnOperand) → result.held ≡ outcome_of V.operations view.entry.globals.now (Count op question) operands (both first second) (seen view.entry) true }
-    ensures failed { (operands : List AnOperand) → result.failed ≡ outcome_of V.operations view.entry.globals.now (Count op question) operands (both first second) (seen view.entry) false }
+    ensures held { (story : LoadedStory) (operands : List AnOperand) → result.held ≡ outcome_of V.operations view.entry.globals.now story (Count op question) operands (both first second) (seen view.entry) true }
+    ensures failed { (story : LoadedStory) (operands : List AnOperand) → result.failed ≡ outcome_of V.operations view.entry.globals.now story (Count op question) operands (both first second) (seen view.entry) false }
 {
     let Some(variable) = named(first) else {
         return never();
@@ -329,13 +335,38 @@ fn missed<V: Domain>(first: V) -> Option<Outcome<V>>
     Some(gives_in(V::single(0)))
 }
 
-/// Of the sum of a file it isn't known whether it is that of its header.
-fn verified<V: Domain>() -> Outcomes<V>
+/// It isn't known what the answer is, and it says nothing of locals.
+fn either<V: Domain>() -> Outcomes<V>
     ensures held { result.held ≡ Some (asks true untold) }
     ensures failed { result.failed ≡ Some (asks false untold) }
 {
     Outcomes {
         held: Some(asks(true, untold())),
         failed: Some(asks(false, untold())),
+    }
+}
+
+/// A link leads to one of so many objects, or to none.
+fn followed<V: Domain>(objects: u8) -> Outcomes<V>
+    ensures held { result.held ≡ followed_outcome V.operations [] objects true }
+    ensures failed { result.failed ≡ followed_outcome V.operations [] objects false }
+{
+    let object = match objects {
+        0 => None,
+        _ => Some(follows_in(true, V::between(1, u16::from(objects)))),
+    };
+    Outcomes {
+        held: object,
+        failed: Some(follows_in(false, V::single(0))),
+    }
+}
+
+/// A value goes to the result variable, and the branch data asks whether it is an object.
+fn follows_in<V: Domain>(answer: bool, set: V) -> Outcome<V>
+    ensures { result ≡ follows_in answer set }
+{
+    Outcome {
+        gives: Some(set),
+        ..asks(answer, untold())
     }
 }

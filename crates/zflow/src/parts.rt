@@ -9,6 +9,10 @@ pub struct Demands<V> {
     pub variable: Option<u8>,
     /// The values by which it divides.
     pub divisor: Option<V>,
+    /// The values that it takes for the number of an object.
+    pub object: Option<V>,
+    /// The values that it takes for the number of an attribute.
+    pub attribute: Option<V>,
     /// It is known how far it jumps, if it jumps.
     pub certain: bool,
     /// A text stands behind the opcode byte.

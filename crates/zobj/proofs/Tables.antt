@@ -18,6 +18,12 @@ table_stays memory place byte behind =
     let low = byte_elsewhere memory place byte 0x0B (λ e. omega (arith, e, behind)) in
     omega (arith, high, low)
 
+pub table_put : (memory : List ℕ) (place byte objects : ℕ) → 64 ≤ place → HasTable memory objects → HasTable (slice_set memory place byte) objects
+table_put memory place byte objects behind has =
+    let table = table_stays memory place byte behind in
+    let size = length-set memory place byte in
+    record { few = has.few; above = omega (arith, table, has.above); within = omega (arith, table, size, has.within) }
+
 -- so after a byte of an entry is written
 module _ (memory : List ℕ) (object k byte : ℕ) (above : 64 ≤ object_table memory) where
   pub table_kept : object_table (with_entry_byte object k byte memory) ≡ object_table memory

@@ -7,7 +7,7 @@ ghost use Rattle.zobj.specs.Tree.{linked, with_link, link_byte};
 use crate::entry::{entry_byte, set_entry_byte};
 
 /// What leads from an object to another.
-#[derive(Clone, Copy)]
+#[derive(Clone, Copy, PartialEq, Eq)]
 pub enum Link {
     /// To the object that it is in.
     Parent,

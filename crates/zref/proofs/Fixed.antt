@@ -13,6 +13,7 @@ use Rattle.zref.specs.declared.effect.Course.{Course}
 use Rattle.zref.specs.declared.effect.Course.TheVariants.{On, Back}
 use Rattle.zref.specs.declared.effect.Effect.{Effect}
 use Rattle.zref.specs.Plan.{IsAssignable, IsReady, went}
+use Rattle.zref.proofs.Doing.{stored_aside}
 
 module _ (story : LoadedStory) (dynamic : globals story + 480 ≤ static_base story) where
   -- what lies from the static base on
@@ -64,5 +65,6 @@ module _ (story : LoadedStory) (dynamic : globals story + 480 ≤ static_base st
       stored_fixed e.gives (target i) (assigned story e.assigns (popped n s)) ready.target ∙ assigned_fixed e.assigns n (popped n s) s ready.assigns
   went_fixed i e (Back x) n s ready =
       let t = assigned story e.assigns (popped n s) in
-      let same : t.frame.result ≡ s.frame.result = (assigned_aside story e.assigns (popped n s)).0.result in
-      left_fixed x t.callers t (subst (λ (v : ℕ). v < 256) (sym same) ready.way.4) ∙ assigned_fixed e.assigns n (popped n s) s ready.assigns
+      let u = stored story e.gives (target i) t in
+      let same : u.frame.result ≡ s.frame.result = (stored_aside story e.gives (target i) t).result ∙ (assigned_aside story e.assigns (popped n s)).0.result in
+      left_fixed x u.callers u (subst (λ (v : ℕ). v < 256) (sym same) ready.way.4) ∙ stored_fixed e.gives (target i) t ready.target ∙ assigned_fixed e.assigns n (popped n s) s ready.assigns

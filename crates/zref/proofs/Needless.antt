@@ -2,7 +2,7 @@
 use Rattle.std.proofs.Common.{◌≡◌, ℕ, Bool, true, false, List, [], ◌∷◌, Result, Ok, Err, Option, Some, None, refl, sym, subst, if◌then◌else◌}
 use Rattle.std.specs.Prelude.{ℤ, pos, negsuc, is_some, not, ◌||◌, ◌==◌, nat_lt, drop}
 use Rattle.zfault.specs.declared.fault.Fault.{Fault}
-use Rattle.zfault.specs.declared.fault.Fault.TheVariants.{UnlistedCall, ZeroDivisor, AbsentLocal, ReturnFromMain}
+use Rattle.zfault.specs.declared.fault.Fault.TheVariants.{UnlistedCall, ZeroDivisor, AbsentLocal, AbsentObject, AbsentAttribute, ReturnFromMain}
 use Rattle.zfault.specs.declared.pause.Need.{Need}
 use Rattle.zword.specs.Binary.{is_defined}
 use Rattle.zcode.specs.declared.operation.Operation.{Operation}
@@ -21,7 +21,7 @@ use Rattle.zstate.specs.declared.halt.Halt.TheVariants as halts
 use Rattle.zstate.specs.InTurn.{◌>>=◌, in_turn}
 use Rattle.zstate.specs.State.{State, Scope, Setting, exists, has_room, fault, pop, found, read_named, read_variable, read_operand, read_in_place}
 use Rattle.zstate.specs.Run.{need_in, awaited}
-use Rattle.zstate.specs.Step.{Effect, Move, Done, closing, expects, giving, course, has_caller, is_taken, is_roomy, decoded, fetch, arg, printed, print_at, effect_of, effect_if, asked, waits, admits, pauses, settle, plan, step}
+use Rattle.zstate.specs.Step.{Effect, Move, Done, closing, expects, giving, course, has_caller, is_taken, is_roomy, decoded, fetch, arg, printed, print_at, is_object, effect_of, effect_if, asked, waits, admits, pauses, settle, plan, step}
 
 abbrev pub IsNeedless : {A : Type 0} → Result A Halt → Type 0
 IsNeedless (Ok x) = Unit {0}
@@ -112,6 +112,14 @@ of_call true b e h = refl
 of_call false true e h = h
 of_call false false e h = tt
 
+of_object : (b : Bool) (r : Result Effect Halt) → NeedsNothing r → NeedsNothing (if b then r else fault AbsentObject)
+of_object true r h = h
+of_object false r h = tt
+
+of_attribute : (b : Bool) (e : Effect) → e.needs ≡ None → NeedsNothing (if b then Ok e else fault AbsentAttribute)
+of_attribute true e h = h
+of_attribute false e h = tt
+
 of_operation : (m : Setting) (o : Operation) (values : List ℕ) (s : State) → NeedsNothing (effect_of m o values s)
 unfolding effect_of
 of_operation m (operations.Binary op) values s = of_division (is_defined op (arg values 1)) _ refl
@@ -121,6 +129,9 @@ of_operation m operations.Load values s = read_first (read_in_place m.story (arg
 of_operation m operations.Print values s = of_print _ s.memory
 of_operation m operations.PrintReturn values s = of_closing _ (of_print _ s.memory)
 of_operation m operations.Call values s = of_call (arg values 0 == 0) _ _ refl
+of_operation m operations.Inside values s = of_object (is_object m.story (arg values 0)) _ refl
+of_operation m operations.TestAttribute values s = of_object (is_object m.story (arg values 0)) _ (of_attribute (nat_lt (arg values 1) 32) _ refl)
+of_operation m (operations.Follow link) values s = of_object (is_object m.story (arg values 0)) _ refl
 of_operation m _ values s = refl
 
 of_effect : (m : Setting) (o : Option Operation) (values : List ℕ) (s : State) → NeedsNothing (effect_if m o values s)

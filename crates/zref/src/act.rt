@@ -2,15 +2,16 @@
 
 ghost use Rattle.std.specs.Prelude.{◌≡◌, ◌<◌, ◌≤◌, ◌+◌, ◌^◌, ◌++◌, ℕ, List, Option, None, [], true, drop, length, map, is_some, OnOk, OnErr};
 ghost use Rattle.zfault.specs.declared.item.Item.TheVariants.{Text};
-ghost use Rattle.zstory.specs.LoadedStory.{globals, static_base};
+ghost use Rattle.zstory.specs.LoadedStory.{LoadedStory, globals, static_base};
 ghost use Rattle.zstate.specs.Run.{IsLonger};
+ghost use Rattle.zstate.specs.State as spec;
 ghost use Rattle.zstate.specs.State.{exists, popped, popped as taken};
 ghost use Rattle.zstate.specs.Step.{act, assigned, course, stored};
 ghost use Rattle.zref.specs.Machine.{Grows};
 ghost use Rattle.zref.specs.Row.{shape_of};
 ghost use Rattle.zref.specs.Plan.{EndsBy, IsAssignable, IsOpenWay, IsReady, IsShort, effect_with, move_of, on_from, returned, went};
 
-use crate::effect::Course;
+use crate::effect::{Course, Effect};
 use crate::plan::Plan;
 use crate::row::Row;
 use std::alloc::AllocError;
@@ -92,9 +93,25 @@ fn go(story: &Story, state: &mut State, row: &Row, plan: Plan) -> Result<(), All
     match plan.course {
         Course::On(distance) => go_on(story, state, row, plan, distance),
         Course::Back(word) => {
-            go_back(story, state, plan.effect.assigns, plan.popped, word);
+            let assigns = assigned_on_leaving(plan.effect, row.target);
+            go_back(story, state, assigns, plan.popped, word);
             Ok(())
         }
+    }
+}
+
+/// What is assigned before a frame is left. What is given is, too, but to its stack, which is left with it.
+#[inline(always)]
+#[tactic(auto, using(crate::proofs::Doing::leaving))]
+fn assigned_on_leaving(effect: Effect, target: u8) -> Option<(u8, u16)>
+    requires apart { is_some effect.gives ≡ true → effect.assigns ≡ None }
+    ensures same { (story : LoadedStory) (word : ℕ) (s : spec.State) → 0 < length s.callers → returned story word (assigned story result s) ≡ returned story word (stored story effect.gives target (assigned story effect.assigns s)) }
+    ensures there { (n : ℕ) (s : spec.State) → IsAssignable effect.assigns n s → (is_some effect.gives ≡ true → exists target s.frame ≡ true) → IsAssignable result n s }
+{
+    match effect.gives {
+        None => effect.assigns,
+        Some(_) if target == 0 => None,
+        Some(word) => Some((target, word)),
     }
 }
 

@@ -6,6 +6,7 @@ mod cache;
 mod effect;
 mod families;
 mod machine;
+mod objects;
 mod plan;
 mod row;
 mod scope;

@@ -5,7 +5,7 @@ ghost use Rattle.zstate.specs.Gives.{Gives};
 ghost use Rattle.zstate.specs.State.{exists, popped, usual_limit};
 ghost use Rattle.zstate.specs.Step.{admits, calling, course, is_roomy, pauses, settle, Called};
 ghost use Rattle.zref.specs.Row.{shape_of};
-ghost use Rattle.zref.specs.Plan.{IsApart, IsOn, IsOpenWay, IsShortWay, effect_with, move_of};
+ghost use Rattle.zref.specs.Plan.{IsApart, IsOpenWay, IsShortWay, effect_with, move_of};
 
 use crate::effect::{Course, Effect};
 use crate::row::Row;
@@ -30,7 +30,6 @@ pub(crate) fn settle(
     ensures course { IfOk result (λ c. move_of c ≡ course (effect_with effect []) row.now.branch) }
     ensures way { IfOk result (λ c. IsOpenWay c state.now) }
     ensures there { IfOk result (λ _. is_some effect.gives ≡ true → exists row.now.target state.now.frame ≡ true) }
-    ensures goes_on { IfOk result (λ c. is_some effect.gives ≡ true → IsOn c) }
 {
     let course = course_of(effect, row.branch);
     admit(row.target, effect, course, state)?;
@@ -45,7 +44,6 @@ fn course_of(effect: Effect, branch: Option<Branch>) -> Course
     requires { IsApart effect }
     ensures value { (text : List ℕ) → move_of result ≡ course (effect_with effect text) branch }
     ensures short { IsShortWay result }
-    ensures goes_on { is_some effect.gives ≡ true → IsOn result }
 {
     let (Some(condition), Some(branch)) = (effect.tests, branch) else {
         return effect.moves;

@@ -14,7 +14,7 @@ use Rattle.zflow.specs.declared.flow.Flow.{Flow}
 use Rattle.zflow.specs.Transfer.{demands_of, demands_if, read_set, argument_sets}
 use Rattle.zflow.specs.Flow.{IsFlow}
 use Rattle.zrule.specs.declared.rule.Rule.{Rule}
-use Rattle.zrule.specs.declared.rule.Rule.TheVariants.{Decodes, Height, Local, Successor, Divisor, Text, Called, Returned, Known, Stored, High}
+use Rattle.zrule.specs.declared.rule.Rule.TheVariants.{Decodes, Height, Local, Successor, Object, Attribute, Divisor, Text, Called, Returned, Known, Stored, High}
 use Rattle.zrule.specs.Claims.{Entry, Claims}
 use Rattle.zrule.specs.Rules.{IsThere, demands_at, IsKnown, Divides, CallsBegin, HasFixedText, Asks, Keeps}
 use Rattle.zrule.specs.Edges.{EdgesKeep}
@@ -49,14 +49,14 @@ module _ {V : Type 0} (o : SetOperations V) (claims : Claims V) (story : LoadedS
   text_fixed rule is fixed = rw is (on_true _ _ _ (text_asked o (read_set o claims.globals i e.shape) i.opcode) fixed)
 
   -- what is asked of edges
-  module _ (flow : Flow V) (are : IsFlow o claims.globals i e.shape flow) (rule : Rule) (b : Bool) (keep : IsTrue b ↔ EdgesKeep o claims story (argument_sets o claims.globals i e.shape) e.routine (p + i.size) (target i) rule flow) where
+  module _ (flow : Flow V) (are : IsFlow o claims.globals story i e.shape flow) (rule : Rule) (b : Bool) (keep : IsTrue b ↔ EdgesKeep o claims story (argument_sets o claims.globals i e.shape) e.routine (p + i.size) (target i) rule flow) where
     as_is : (r : Rule) → rule ≡ r → IsTrue b ↔ EdgesKeep o claims story (argument_sets o claims.globals i e.shape) e.routine (p + i.size) (target i) r flow
     as_is r is = subst (λ (r : Rule). IsTrue b ↔ EdgesKeep o claims story (argument_sets o claims.globals i e.shape) e.routine (p + i.size) (target i) r flow) is keep
 
     pub successor_asked : rule ≡ Successor → (d g : Bool) → (IsTrue d → IfSome flow.demands.divisor (λ a. In o a 0 → ⊥)) → d ≡ true → (IsTrue g → CallsBegin o claims story i e.shape) → g ≡ true → flow.demands.certain ≡ true → IsTrue b ↔ Asks o claims story p e i rule
     successor_asked is d g divides there begin begun certain =
         let kept = as_is Successor is in
-        let edges = leads_on o claims i e.shape flow are story (argument_sets o claims.globals i e.shape) e.routine (p + i.size) in
+        let edges = leads_on o claims story i e.shape flow are (argument_sets o claims.globals i e.shape) e.routine (p + i.size) in
         let known : demands_at o claims i e.shape ≡ flow.demands = sym are.demands in
         let divided : Divides o claims i e.shape = subst (λ (x : Demands V). IfSome x.divisor (λ a. In o a 0 → ⊥)) are.demands (divides there) in
         let sure : (demands_at o claims i e.shape).certain ≡ true = ap (λ (x : Demands V). x.certain) known ∙ certain in
@@ -72,7 +72,7 @@ module _ {V : Type 0} (o : SetOperations V) (claims : Claims V) (story : LoadedS
     pub calls_asked : rule ≡ Called → IsTrue b ↔ CallsBegin o claims story i e.shape
     calls_asked is =
         let kept = as_is Called is in
-        let edges = called o claims i e.shape flow are story (argument_sets o claims.globals i e.shape) e.routine (p + i.size) in
+        let edges = called o claims story i e.shape flow are (argument_sets o claims.globals i e.shape) e.routine (p + i.size) in
         (λ t. edges.0 (kept.0 t), λ h. kept.1 (edges.1 h))
 
     pub called_asked : rule ≡ Called → IsTrue b ↔ Asks o claims story p e i rule
@@ -81,19 +81,19 @@ module _ {V : Type 0} (o : SetOperations V) (claims : Claims V) (story : LoadedS
     pub returned_asked : rule ≡ Returned → IsTrue b ↔ Asks o claims story p e i rule
     returned_asked is =
         let kept = as_is Returned is in
-        let edges = returned o claims i e.shape flow are story (argument_sets o claims.globals i e.shape) e.routine (p + i.size) in
+        let edges = returned o claims story i e.shape flow are (argument_sets o claims.globals i e.shape) e.routine (p + i.size) in
         subst (λ (r : Rule). IsTrue b ↔ Asks o claims story p e i r) (sym is) (λ t. edges.0 (kept.0 t), λ h. kept.1 (edges.1 h))
 
     pub stored_asked : rule ≡ Stored → IsTrue b ↔ Asks o claims story p e i rule
     stored_asked is =
         let kept = as_is Stored is in
-        let edges = stored o claims i e.shape flow are story (argument_sets o claims.globals i e.shape) e.routine (p + i.size) in
+        let edges = stored o claims story i e.shape flow are (argument_sets o claims.globals i e.shape) e.routine (p + i.size) in
         subst (λ (r : Rule). IsTrue b ↔ Asks o claims story p e i r) (sym is) (λ t. edges.0 (kept.0 t), λ h. kept.1 (edges.1 h))
 
     pub high_asked : rule ≡ High → IsTrue b ↔ Asks o claims story p e i rule
     high_asked is =
         let kept = as_is High is in
-        let edges = high o claims i e.shape flow are story (argument_sets o claims.globals i e.shape) e.routine (p + i.size) in
+        let edges = high o claims story i e.shape flow are (argument_sets o claims.globals i e.shape) e.routine (p + i.size) in
         subst (λ (r : Rule). IsTrue b ↔ Asks o claims story p e i r) (sym is) (λ t. edges.0 (kept.0 t), λ h. kept.1 (edges.1 h))
 
   -- what is asked of every instruction that is there is asked of this one
@@ -105,6 +105,8 @@ module _ {V : Type 0} (o : SetOperations V) (claims : Claims V) (story : LoadedS
   asks_keeps Height = every (λ j. Asks o claims story p e j Height)
   asks_keeps Local = every (λ j. Asks o claims story p e j Local)
   asks_keeps Successor = every (λ j. Asks o claims story p e j Successor)
+  asks_keeps Object = every (λ j. Asks o claims story p e j Object)
+  asks_keeps Attribute = every (λ j. Asks o claims story p e j Attribute)
   asks_keeps Divisor = every (λ j. Asks o claims story p e j Divisor)
   asks_keeps Text = every (λ j. Asks o claims story p e j Text)
   asks_keeps Called = every (λ j. Asks o claims story p e j Called)

@@ -213,7 +213,7 @@ same_ok : {A E : Type 0} (x y : A) → ◌≡◌ {A = Result A E} (Ok x) (Ok y) 
 same_ok x y e = cc
 
 -- whatever may come of an instruction, by the answer of its condition
-pub by_answers : (c : Claims Interval) (i : Instruction) (e : Shape Interval) (P : Outcome Interval → Type 0) → IfSome (outcome_at interval_operations c.globals i e true) P → IfSome (outcome_at interval_operations c.globals i e false) P → Whatever interval_operations c i e P
+pub by_answers : (c : Claims Interval) (i : Instruction) (e : Shape Interval) (P : Outcome Interval → Type 0) → IfSome (outcome_at interval_operations c.globals i e story true) P → IfSome (outcome_at interval_operations c.globals i e story false) P → Whatever interval_operations c story i e P
 by_answers c i e P held failed w (true, comes) = subst (λ (x : Option (Outcome Interval)). IfSome x P) comes held
 by_answers c i e P held failed w (false, comes) = subst (λ (x : Option (Outcome Interval)). IfSome x P) comes failed
 
@@ -224,6 +224,8 @@ asks_hello c leads text rules.Decodes = tt
 asks_hello c leads text rules.Height = λ known. (omega arith, tt)
 asks_hello c leads text rules.Local = λ known. (tt, tt, tt)
 asks_hello c leads text rules.Successor = λ divides begins. (refl, by_answers c hello bare _ (λ low. (803, refl, leads)) tt)
+asks_hello c leads text rules.Object = tt
+asks_hello c leads text rules.Attribute = tt
 asks_hello c leads text rules.Divisor = tt
 asks_hello c leads text rules.Text = text
 asks_hello c leads text rules.Called = by_answers c hello bare _ tt tt
@@ -239,6 +241,8 @@ asks_line c leads rules.Decodes = tt
 asks_line c leads rules.Height = λ known. (omega arith, tt)
 asks_line c leads rules.Local = λ known. (tt, tt, tt)
 asks_line c leads rules.Successor = λ divides begins. (refl, by_answers c line bare _ (λ low. (804, refl, leads)) tt)
+asks_line c leads rules.Object = tt
+asks_line c leads rules.Attribute = tt
 asks_line c leads rules.Divisor = tt
 asks_line c leads rules.Text = tt
 asks_line c leads rules.Called = by_answers c line bare _ tt tt
@@ -254,6 +258,8 @@ asks_stop c rules.Decodes = tt
 asks_stop c rules.Height = λ known. (omega arith, tt)
 asks_stop c rules.Local = λ known. (tt, tt, tt)
 asks_stop c rules.Successor = λ divides begins. (refl, by_answers c stop bare _ tt tt)
+asks_stop c rules.Object = tt
+asks_stop c rules.Attribute = tt
 asks_stop c rules.Divisor = tt
 asks_stop c rules.Text = tt
 asks_stop c rules.Called = by_answers c stop bare _ tt tt
@@ -301,6 +307,8 @@ alone = record {
     before rules.Height less = first_keeps rules.Height
     before rules.Local less = first_keeps rules.Local
     before rules.Successor less = absurd (omega (arith, less))
+    before rules.Object less = absurd (omega (arith, less))
+    before rules.Attribute less = absurd (omega (arith, less))
     before rules.Divisor less = absurd (omega (arith, less))
     before rules.Text less = absurd (omega (arith, less))
     before rules.Called less = absurd (omega (arith, less))

@@ -19,6 +19,7 @@ mod Calling
 mod Pieces
 pub mod Opening
 pub mod Safety
+pub mod Relied
 pub mod Runs
 mod Worked
 pub mod Instances

@@ -13,7 +13,7 @@ pub opening_described : {V : Type 0} (o : SetOperations V) (claims : Claims V) (
 opening_described o claims story limit loaded supports =
     let first = supports.first in
     record {
-      is_state = opening_is_state limit story loaded.sound;
+      is_state = opening_is_state limit story loaded.sound loaded.counted;
       at = first_instruction story;
       place = refl;
       entry = first.entry;

@@ -15,7 +15,7 @@ use Rattle.zdomain.specs.Domain.{SetOperations, AreSound, In}
 use Rattle.zstate.specs.declared.halt.Halt.{Halt}
 use Rattle.zstate.specs.State.{State, exists, put_named, put_in_place}
 use Rattle.zstate.specs.Step.{Done}
-use Rattle.zflow.specs.Transfer.{Shape, pops, local_kept, demands_of, with_assigned}
+use Rattle.zflow.specs.Transfer.{Shape, pops, local_kept, demands_of, slots_with, with_assigned}
 use Rattle.zrule.specs.Claims.{Claims}
 use Rattle.zrule.specs.Rules.{IsNamed}
 use Rattle.zrule.proofs.Sets.{pops_cons}
@@ -80,3 +80,12 @@ module _ {V : Type 0} (o : SetOperations V) (lawful : AreSound o) where
       by_test true true e f = has (at_least_one v e) (ltb-true v 16 f)
       by_test true false e f = tt
       by_test false c e f = tt
+
+-- a value that comes makes a stack no lower
+pub no_lower : {V : Type 0} (x : Option V) (v : ℕ) (slots : List V) → length slots ≤ length (slots_with x v slots)
+no_lower None v slots = omega arith
+no_lower (Some a) v slots = by (v == 0)
+  where
+    by : (b : Bool) → length slots ≤ length (if b then a ∷ slots else slots)
+    by true = omega arith
+    by false = omega arith

@@ -1,9 +1,9 @@
 -- A step from a described state is safe, by the parts of its effect.
-use Rattle.std.proofs.Common.{◌≡◌, ◌⊎◌, inl, inr, ℕ, zero, suc, ◌+◌, ◌-◌, ◌<◌, ◌≤◌, Bool, true, false, List, [], ◌∷◌, ◌++◌, length, drop, Option, Some, None, Result, Ok, Err, refl, sym, ap, subst, ◌∙◌, arith, nat_lt, slice_set, if◌then◌else◌}
-use Rattle.std.specs.Prelude.{ℤ, pos, ◌+ℤ◌, IsOk, IfSome, MatchOption, IsTrue, is_some, option_map, slice_get, ◌==◌, ◌&&◌, ◌||◌}
+use Rattle.std.proofs.Common.{◌≡◌, ◌⊎◌, inl, inr, ℕ, zero, suc, ◌+◌, ◌-◌, ◌<◌, ◌≤◌, Bool, true, false, List, [], ◌∷◌, ◌++◌, length, drop, Option, Some, None, Result, Ok, Err, refl, sym, ap, subst, ◌∙◌, arith, nat_lt, nat_le, slice_set, if◌then◌else◌}
+use Rattle.std.specs.Prelude.{ℤ, pos, ◌+ℤ◌, IsOk, IfSome, MatchOption, IsTrue, is_some, not, option_map, slice_get, ◌==◌, ◌&&◌, ◌||◌}
 use Rattle.std.specs.Bool.{OnTrue, MatchBool}
 use Rattle.std.specs.List.{AllZip, AllByRecursion}
-use Rattle.std.proofs.lemmas.Bool.{ltb-false, eqb-true}
+use Rattle.std.proofs.lemmas.Bool.{ltb-false, eqb-true, le-leb, lt-ltb}
 use Rattle.std.proofs.lemmas.List.{length-drop}
 use Rattle.zword.specs.declared.question.Question.{Question}
 use Rattle.zword.specs.declared.question.Question.TheVariants.{Equal}
@@ -22,27 +22,28 @@ use Rattle.zcode.specs.declared.instr.Operand.TheVariants.{Constant, Variable}
 use Rattle.zcode.specs.declared.instr.Destination.{Destination}
 use Rattle.zcode.specs.declared.instr.Destination.TheVariants.{ReturnFalse, ReturnTrue, Relative}
 use Rattle.zcode.specs.declared.operation.Operation.{Operation}
-use Rattle.zcode.specs.declared.operation.Operation.TheVariants.{Unary, Binary, Compare, Count, Store, Load, Jump, Verify, PrintChar, PrintNumber, Print, NewLine, Nop, Quit, Return, PrintReturn, Call}
+use Rattle.zcode.specs.declared.operation.Operation.TheVariants.{Unary, Binary, Compare, Count, Store, Load, Jump, Verify, PrintChar, PrintNumber, Print, NewLine, Nop, Quit, Return, PrintReturn, Call, Inside, TestAttribute, Follow}
 use Rattle.zcode.specs.Instruction.{Instruction}
 use Rattle.zcode.specs.Operation.{operation_of, inputs, target}
 use Rattle.zcode.specs.Playable.{playable}
 use Rattle.zcode.specs.Reading.{instruction_at}
 use Rattle.zcode.proofs.Found.{found}
 use Rattle.zcode.proofs.Operating.{played_operate}
+use Rattle.zobj.specs.declared.tree.Link.{Link}
 use Rattle.zdomain.specs.Domain.{SetOperations, AreSound, In, Within}
 use Rattle.zstate.specs.declared.halt.Halt.{Halt}
 use Rattle.zstate.specs.declared.halt.Halt.TheVariants as halts
 use Rattle.zstate.specs.InTurn.{◌>>=◌}
-use Rattle.zstate.specs.State.{Frame, State, Setting, IsState, at_place, popped, with_stack, with_locals, with_memory, write_word, global, has_room, exists, put_named, put_in_place, read_in_place, read_operands, has_head, fault}
+use Rattle.zstate.specs.State.{Frame, State, Setting, IsState, at_place, popped, with_stack, with_locals, with_memory, write_word, global, has_room, exists, put_named, put_in_place, read_in_place, has_head, fault}
 use Rattle.zstate.specs.Run.{IsFull}
-use Rattle.zstate.specs.Step.{Called, Move, on, back, into, calling, closing, called_at, call_of, unpacked, arguments, initial, behind_head, place_of, entered, Effect, Done, way, arg, asked_of, giving, assigning, testing, printing, jumping, fetch, printed, print_at, effect_of, effect_if, has_caller, is_taken, is_roomy, turned, course, admits, pauses, assigned, changed, stored, left, moved, advance, act, step}
+use Rattle.zstate.specs.Step.{Called, Move, on, back, into, calling, closing, called_at, call_of, unpacked, arguments, initial, behind_head, place_of, entered, Effect, Done, way, arg, asked_of, giving, assigning, testing, printing, jumping, following, fetch, printed, print_at, effect_of, effect_if, has_caller, is_taken, is_roomy, turned, course, admits, pauses, assigned, changed, stored, left, moved, advance, act, step}
 use Rattle.zstate.proofs.Keeps.{put_aside, changed_aside, step_keeps}
 use Rattle.zflow.specs.declared.parts.Lead.{Lead}
 use Rattle.zflow.specs.declared.parts.Lead.TheVariants.{Ahead, Returning, Entering}
 use Rattle.zflow.specs.declared.parts.Kept.{Kept}
 use Rattle.zflow.specs.declared.parts.Outcome.{Outcome}
 use Rattle.zflow.specs.declared.parts.Demands.{Demands}
-use Rattle.zflow.specs.Transfer.{Shape, pops, variable_set, small, local_kept, operand_kept, both_kept, untold, counted_set, demands_of, demands_if, goes_on, gives_in, assigns_in, asks, counts_in, returns_in, enters_in, argument_sets, jumps, outcome_of, outcome_if, leading, turned_to, named_with, with_result, with_assigned, narrowed, read_set, mid_shape, changed_by, after}
+use Rattle.zflow.specs.Transfer.{Shape, pops, variable_set, small, local_kept, operand_kept, both_kept, untold, counted_set, demands_of, demands_if, goes_on, gives_in, assigns_in, asks, counts_in, follows_in, returns_in, enters_in, argument_sets, jumps, outcome_of, outcome_if, leading, turned_to, named_with, with_result, with_assigned, narrowed, read_set, mid_shape, changed_by, after}
 use Rattle.zrule.specs.declared.rule.Rule.TheVariants as rules
 use Rattle.zrule.specs.Claims.{Claims}
 use Rattle.zrule.specs.Rules.{Begins, Enters, TakesBack, result_if, result_at, Leads, IsThere, HasFixedText, IsKnown, IsNamed, IsVariable, HasTop, Supports, Takes, TakesInPlace, GoesOn, Returns, OnEdge, demands_at}
@@ -56,7 +57,7 @@ use Rattle.zrule.proofs.Fitting.{IsIn, exists_in, named_in, length_with, given_f
 use Rattle.zrule.proofs.Memory.{global_put}
 use Rattle.zrule.proofs.Parts.{Hold, HoldsOne, narrowed_fits, variable_there, small_is}
 use Rattle.zrule.proofs.Stepping.{fetch_is, done_at, made_by, step_is}
-use Rattle.zrule.proofs.Pieces.{not_both, on_true, first_there, assigned_local, length_assigned, edge_of, defined_where, same_read, kept_holds}
+use Rattle.zrule.proofs.Pieces.{not_both, on_true, first_there, assigned_local, length_assigned, edge_of, defined_where, kept_holds}
 
 module _ {V : Type 0} (o : SetOperations V) (lawful : AreSound o) (claims : Claims V) (m : Setting) (loaded : IsLoadedStory m.story) (supports : Supports o claims m.story) (listed : IsListedIn o claims m.scope) (s : State) (d : Described o claims m.limit m.story s) (i : Instruction) (there : IsThere m.story d.at i) where
   abbrev operands : List Operand
@@ -72,8 +73,8 @@ module _ {V : Type 0} (o : SetOperations V) (lawful : AreSound o) (claims : Clai
   t = popped (pops operands) s
 
   -- what may come of an operation there, where its condition is answered so
-  abbrev ComesOf : Option Operation → Outcome V → Type 0
-  ComesOf k w = (c : Bool) × (outcome_if o claims.globals k operands args mid c ≡ Some w)
+  abbrev pub ComesOf : Option Operation → Outcome V → Type 0
+  ComesOf k w = (c : Bool) × (outcome_if o claims.globals m.story k operands args mid c ≡ Some w)
 
   -- a state in mid-instruction, of which this is known
   abbrev Known_in : Shape V → State → Type 0
@@ -102,20 +103,24 @@ module _ {V : Type 0} (o : SetOperations V) (lawful : AreSound o) (claims : Clai
 
   -- ---- what the rules say of what is asked for
 
-  record Asked (out : Demands V) : Type 0 where
+  pub record Asked (out : Demands V) : Type 0 where
     top : IfSome out.variable (HasTop o claims mid)
     exists : IfSome out.variable (IsVariable o claims d.entry.shape)
     known : OnTrue out.indirect (IsTrue (is_some out.variable))
     divides : IfSome out.divisor (λ a. In o a 0 → ⊥)
-    certain : IsTrue out.certain
+    pub object : IfSome out.object (λ a. (x : ℕ) → In o a x → (1 ≤ x) × (x ≤ m.story.objects))
+    pub attribute : IfSome out.attribute (λ a. (x : ℕ) → In o a x → x < 32)
+    pub certain : IsTrue out.certain
     text : OnTrue out.has_text (HasFixedText m.story claims.is_frozen (d.at + 1))
 
-  asked : Asked (demands_if o (operation_of i.opcode) args)
+  pub asked : Asked (demands_if o (operation_of i.opcode) args)
   asked = record {
     top = height.1;
     exists = local.2;
     known = on_true (demands_at o claims i d.entry.shape).indirect _ _ rule_known (first_there o claims operands d.entry.shape height.0 local.0);
     divides = supports.each d.at d.entry d.listed rules.Divisor i there;
+    object = supports.each d.at d.entry d.listed rules.Object i there;
+    attribute = supports.each d.at d.entry d.listed rules.Attribute i there;
     certain = (supports.each d.at d.entry d.listed rules.Successor i there (supports.each d.at d.entry d.listed rules.Divisor i there) (supports.each d.at d.entry d.listed rules.Called i there)).0;
     text = supports.each d.at d.entry d.listed rules.Text i there;
   }
@@ -245,7 +250,7 @@ module _ {V : Type 0} (o : SetOperations V) (lawful : AreSound o) (claims : Clai
   AssignedIn (Some a) (Some p) = (p.0 ≡ a.0) × In o a.1 p.1 × IsVariable o claims d.entry.shape a.0
 
   -- an effect has the parts of an outcome
-  record Matches (w : Outcome V) (effect : Effect) : Type 0 where
+  pub record Matches (w : Outcome V) (effect : Effect) : Type 0 where
     gives : GivenIn o claims m.story loaded supports.tables w.gives effect.gives
     assigns : AssignedIn w.assigns effect.assigns
     tests : effect.tests ≡ w.tests
@@ -256,14 +261,14 @@ module _ {V : Type 0} (o : SetOperations V) (lawful : AreSound o) (claims : Clai
     goes : effect.quits ≡ false
 
   -- the machine stands still, whatever else
-  record Still (effect : Effect) : Type 0 where
+  pub record Still (effect : Effect) : Type 0 where
     tests : effect.tests ≡ None
     moves : effect.moves ≡ on (pos 0)
-    still : effect.quits ≡ true
+    pub still : effect.quits ≡ true
     needs : effect.needs ≡ None
 
   -- the effect is one that the rules expect, or the machine stands still
-  Expected : Option Operation → Result Effect Halt → Type 0
+  unfoldable pub Expected : Option Operation → Result Effect Halt → Type 0
   Expected k (Ok effect) = Still effect ⊎ ((w : Outcome V) × ComesOf k w × Matches w effect)
   Expected k (Err h) = ⊥
 
@@ -397,7 +402,7 @@ module _ {V : Type 0} (o : SetOperations V) (lawful : AreSound o) (claims : Clai
       let comes = counted_asked op q c p.v n.0 p.variable n.1 in
       rw r (inr (counts_in p.v a c kept, comes, record { gives = tt; assigns = (named, counted_in op p, p.exists); tests = refl; leads = refl; kept = rw named held; needs = refl; goes = refl }))
 
-  known_jump : IsTrue (is_some (o.known (args 0))) → (x : ℕ) × (o.known (args 0) ≡ Some x) × (arg all.values 0 ≡ x)
+  pub known_jump : IsTrue (is_some (o.known (args 0))) → (x : ℕ) × (o.known (args 0) ≡ Some x) × (arg all.values 0 ≡ x)
   known_jump h = by_known (o.known (args 0)) refl h
     where
       by_known : (k : Option ℕ) → o.known (args 0) ≡ k → IsTrue (is_some k) → (x : ℕ) × (o.known (args 0) ≡ Some x) × (arg all.values 0 ≡ x)
@@ -417,7 +422,7 @@ module _ {V : Type 0} (o : SetOperations V) (lawful : AreSound o) (claims : Clai
   closes_expected (Err e) ok comes = absurd cc
 
   -- whatever is called begins as is said
-  CallsOf : Option Operation → Type 0
+  unfoldable pub CallsOf : Option Operation → Type 0
   CallsOf k = (w : Outcome V) → ComesOf k w → OnEdge o claims w i d.entry.shape (λ f. Enters o claims m.story given_args (leading o w i.branch))
 
   -- a routine that begins so can be called
@@ -428,12 +433,12 @@ module _ {V : Type 0} (o : SetOperations V) (lawful : AreSound o) (claims : Clai
       (listed.routines p begins.index begins.routine, head_same s.memory m.story.memory p d.memory.long (same p (omega arith)) (supports.heads.there p begins.index begins.routine), called_same s.memory m.story.memory p (arguments all.values) same)
 
   -- the edge on which a routine is called
-  record Entry_edge : Type 0 where
-    a : V
-    comes : ComesOf (Some Call) (enters_in a)
-    member : In o a (arg all.values 0)
+  pub record Entry_edge : Type 0 where
+    pub a : V
+    pub comes : ComesOf (Some Call) (enters_in a)
+    pub member : In o a (arg all.values 0)
 
-  entry_edge : (arg all.values 0 == 0) ≡ false → Entry_edge
+  pub entry_edge : (arg all.values 0 == 0) ≡ false → Entry_edge
   unfolding outcome_of
   entry_edge e =
       let n = edge_of (o.narrow Equal false (args 0) (o.single 0)) _ (lawful.narrow Equal false (args 0) (o.single 0) (arg all.values 0) 0 (all.members 0) (lawful.single 0 (omega arith)) e) in
@@ -445,7 +450,7 @@ module _ {V : Type 0} (o : SetOperations V) (lawful : AreSound o) (claims : Clai
       let n = edge_of (o.narrow Equal true (args 0) (o.single 0)) _ (lawful.narrow Equal true (args 0) (o.single 0) (arg all.values 0) 0 (all.members 0) (lawful.single 0 (omega arith)) e) in
       (false, ap (λ (r : Option (V × V)). option_map (λ p. gives_in (o.single 0)) r) n.1)
 
-  not_zero : (x : ℕ) → (x == 0) ≡ false → x ≡ 0 → ⊥
+  pub not_zero : (x : ℕ) → (x == 0) ≡ false → x ≡ 0 → ⊥
   not_zero zero e is = absurd cc
   not_zero (suc x) e is = absurd cc
 
@@ -464,6 +469,34 @@ module _ {V : Type 0} (o : SetOperations V) (lawful : AreSound o) (claims : Clai
           let routine = can.0 in
           let head = can.1 in
           rw (routine, head) (inr (enters_in on_edge.a, on_edge.comes, record { gives = tt; assigns = tt; tests = refl; leads = (x, on_edge.member, some, (arguments all.values, arguments_in o args (length operands) all.values all.count all.members, can.2)); kept = (tt, tt); needs = refl; goes = refl }))
+
+  -- what a link leads to is an object, or none
+  follows_expected : (k : Operation) (c : Bool) (a : V) (x : ℕ) → ComesOf (Some k) (follows_in c a) → In o a x → not (x == 0) ≡ c → Expected (Some k) (Ok (following x))
+  unfolding Expected LeadsIn AssignedIn changed
+  follows_expected k c a x comes member is = inr (follows_in c a, comes, record { gives = member; assigns = tt; tests = ap (λ (b : Bool). Some b) is; leads = refl; kept = (tt, tt); needs = refl; goes = refl })
+
+  to_object : (link : Link) → (m.story.objects == 0) ≡ false → ComesOf (Some (Follow link)) (follows_in true (o.between 1 m.story.objects))
+  unfolding outcome_of
+  to_object link some = (true, rw some refl)
+
+  follows : (link : Link) (x : ℕ) → x ≤ m.story.objects → m.story.objects ≤ 255 → Expected (Some (Follow link)) (Ok (following x))
+  unfolding outcome_of
+  follows link x most few = by (x == 0) refl
+    where
+      least : (n : ℕ) → (n == 0) ≡ false → 1 ≤ n
+      least zero e = absurd cc
+      least (suc n) e = omega arith
+
+      some : (b : Bool) → (m.story.objects == 0) ≡ b → 1 ≤ x → b ≡ false
+      some true e first = absurd (let none = eqb-true m.story.objects 0 e in omega (arith, none, first, most))
+      some false e first = refl
+
+      by : (b : Bool) → (x == 0) ≡ b → Expected (Some (Follow link)) (Ok (following x))
+      by true e = let none = eqb-true x 0 e in follows_expected (Follow link) false (o.single 0) x (false, refl) (subst (In o (o.single 0)) (sym none) (lawful.single 0 (omega arith))) (ap not e)
+      by false e = let first = least x e in follows_expected (Follow link) true (o.between 1 m.story.objects) x (to_object link (some (m.story.objects == 0) refl first)) (lawful.between 1 m.story.objects x first most (omega (arith, most, few))) (ap not e)
+
+  object_known : (objects x : ℕ) → (1 ≤ x) × (x ≤ objects) → (nat_le 1 x && nat_le x objects) ≡ true
+  object_known objects x h = let a = le-leb 1 x h.0 in let b = le-leb x objects h.1 in rw (a, b) refl
 
   by_operation : (k : Operation) → Asked (demands_of o k args) → CallsOf (Some k) → Expected (Some k) (effect_of m k all.values t)
   unfolding Expected demands_of outcome_of effect_of
@@ -498,6 +531,17 @@ module _ {V : Type 0} (o : SetOperations V) (lawful : AreSound o) (claims : Clai
       let at : s.place +ℤ pos 1 ≡ pos (d.at + 1) = ap (λ (p : ℤ). p +ℤ pos 1) d.place in
       subst (λ (p : ℤ). Expected (Some PrintReturn) (print_at p s.memory >>= λ effect. Ok (closing effect))) (sym at) (closes_expected (output_at s.memory (d.at + 1)) (prints rule.text) (true, refl))
   by_operation Call rule begins = calls begins
+  by_operation Inside rule begins =
+      let known = object_known m.story.objects (arg all.values 0) (rule.object (arg all.values 0) (all.members 0)) in
+      rw known (asks_expected Inside _ untold (_, refl) (tt, tt))
+  by_operation TestAttribute rule begins =
+      let known = object_known m.story.objects (arg all.values 0) (rule.object (arg all.values 0) (all.members 0)) in
+      let few = lt-ltb (arg all.values 1) 32 (rule.attribute (arg all.values 1) (all.members 1)) in
+      rw (known, few) (asks_expected TestAttribute _ untold (_, refl) (tt, tt))
+  by_operation (Follow link) rule begins =
+      let object = rule.object (arg all.values 0) (all.members 0) in
+      let known = object_known m.story.objects (arg all.values 0) object in
+      rw known (follows link _ (d.memory.tree.small link (arg all.values 0) object.0 object.1) d.is_state.objects.few)
 
   by_played : (k : Option Operation) → IsTrue (is_some k) → Asked (demands_if o k args) → CallsOf k → Expected k (effect_if m k all.values t)
   by_played None played rule begins = absurd cc
@@ -506,11 +550,11 @@ module _ {V : Type 0} (o : SetOperations V) (lawful : AreSound o) (claims : Clai
   played : IsTrue (is_some (operation_of i.opcode))
   played = played_operate i.opcode (found playable (drop d.at m.story.memory) i there.decodes).played
 
-  begins_said : CallsOf (operation_of i.opcode)
+  pub begins_said : CallsOf (operation_of i.opcode)
   unfolding CallsOf
   begins_said = supports.each d.at d.entry d.listed rules.Called i there
 
-  expected : Expected (operation_of i.opcode) (effect_if m (operation_of i.opcode) all.values t)
+  pub expected : Expected (operation_of i.opcode) (effect_if m (operation_of i.opcode) all.values t)
   expected = by_played (operation_of i.opcode) played asked begins_said
 
   -- ---- the parts, done
@@ -592,7 +636,7 @@ module _ {V : Type 0} (o : SetOperations V) (lawful : AreSound o) (claims : Clai
     u = changed m.story i effect t
 
     -- the edge can be taken
-    edge : (f : Shape V) × (after o claims.globals i d.entry.shape w ≡ Some f) × Fits o claims f u.frame.locals u.frame.stack
+    pub edge : (f : Shape V) × (after o claims.globals i d.entry.shape w ≡ Some f) × Fits o claims f u.frame.locals u.frame.stack
     edge = edge_of (narrowed o w.kept shape) _ (narrowed_fits o lawful claims w.kept shape u.frame.locals u.frame.stack (fits_changed w effect matches) matches.kept)
 
     by_edge : (Rule : Shape V → Type 0) → OnEdge o claims w i d.entry.shape Rule → Rule edge.0
@@ -672,7 +716,7 @@ module _ {V : Type 0} (o : SetOperations V) (lawful : AreSound o) (claims : Clai
 
   -- ---- no opcode of this build waits, and low stacks have room
 
-  low : length s.frame.stack ≤ 64
+  pub low : length s.frame.stack ≤ 64
   low = let same = zip_length (In o) d.entry.shape.slots s.frame.stack d.fits.in_slots in let few = supports.low d.at d.entry d.listed in omega (arith, same, few)
 
   low_read : length t.frame.stack ≤ 64
@@ -733,35 +777,6 @@ module _ {V : Type 0} (o : SetOperations V) (lawful : AreSound o) (claims : Clai
   unfolding IsAble
   able_there = subst IsAble (sym steps) (able_by (effect_if m (operation_of i.opcode) all.values t) refl expected)
 
-  -- ---- more that sessions rely on
-
-  -- where a first operand can have but one value, it has that
-  first_read : (values : List ℕ) (u : State) (x : ℕ) → o.known (args 0) ≡ Some x → read_operands m.story operands s ≡ Ok (values, u) → arg values 0 ≡ x
-  first_read values u x known read =
-      let same : values ≡ all.values = ap (λ (p : List ℕ × State). p.0) (same_read (values, u) (all.values, t) (sym read ∙ all.read)) in
-      ap (λ (ys : List ℕ). arg ys 0) same ∙ lawful.known (args 0) x (arg all.values 0) known (all.members 0)
-
-  known_for : IsTrue (demands_if o (Some Jump) args).certain → (x : ℕ) × (o.known (args 0) ≡ Some x)
-  unfolding demands_of
-  known_for sure = let k = known_jump sure in (k.0, k.1)
-
-  jumps_as_known : operation_of i.opcode ≡ Some Jump → (values : List ℕ) (u : State) → read_operands m.story operands s ≡ Ok (values, u) → o.known (args 0) ≡ Some (arg values 0)
-  jumps_as_known jump values u read =
-      let sure : IsTrue (demands_if o (Some Jump) args).certain = subst (λ (k : Option Operation). IsTrue (demands_if o k args).certain) jump asked.certain in
-      let k = known_for sure in
-      k.1 ∙ ap (λ (n : ℕ). Some n) (sym (first_read values u k.0 k.1 read))
-
-  -- what is called is a routine that begins as is said
-  called_begins : CallsOf (Some Call) → (arg all.values 0 == 0) ≡ false → Begins o claims m.story given_args (unpacked (arg all.values 0))
-  unfolding CallsOf
-  called_begins rule e = let on_edge = entry_edge e in rule (enters_in on_edge.a) on_edge.comes (arg all.values 0) on_edge.member (not_zero (arg all.values 0) e)
-
-  called_as_said : operation_of i.opcode ≡ Some Call → (values : List ℕ) (u : State) → read_operands m.story operands s ≡ Ok (values, u) → (arg values 0 == 0) ≡ false → Begins o claims m.story given_args (unpacked (arg values 0))
-  called_as_said call values u read some =
-      let same : all.values ≡ values = ap (λ (p : List ℕ × State). p.0) (same_read (all.values, t) (values, u) (sym all.read ∙ read)) in
-      subst (λ (ys : List ℕ). Begins o claims m.story given_args (unpacked (arg ys 0))) same
-      (called_begins (subst (λ (k : Option Operation). CallsOf k) call begins_said) (subst (λ (ys : List ℕ). (arg ys 0 == 0) ≡ false) (sym same) some))
-
 -- a step from a described state is no fault, and leads to a described state
 pub step_safe : {V : Type 0} (o : SetOperations V) (lawful : AreSound o) (claims : Claims V) (m : Setting) (s : State) → IsLoadedStory m.story → Supports o claims m.story → IsListedIn o claims m.scope → Described o claims m.limit m.story s → IsSafe o claims m.limit m.story (step m s)
 step_safe o lawful claims m s loaded supports listed d =
@@ -774,25 +789,3 @@ pub step_able : {V : Type 0} (o : SetOperations V) (lawful : AreSound o) (claims
 step_able o lawful claims m s loaded supports listed d =
     let found = supports.each d.at d.entry d.listed rules.Decodes in
     able_there o lawful claims m loaded supports listed s d found.0 found.1
-
--- ---- what a session relies on, where it stands
-
-module _ {V : Type 0} (o : SetOperations V) (lawful : AreSound o) (claims : Claims V) (m : Setting) (s : State) (loaded : IsLoadedStory m.story) (supports : Supports o claims m.story) (listed : IsListedIn o claims m.scope) (d : Described o claims m.limit m.story s) (i : Instruction) (reads : instruction_at (drop d.at m.story.memory) ≡ Ok i) where
-  there : IsThere m.story d.at i
-  there = record { static = (supports.each d.at d.entry d.listed rules.Decodes).1.static; decodes = reads }
-
-  -- the instruction that is listed there is read there
-  pub reads_it : fetch m.scope s.place s.memory ≡ Ok i
-  reads_it = fetches o lawful claims m loaded supports listed s d i there
-
-  -- a jump goes as far as is known
-  pub jumps_known : operation_of i.opcode ≡ Some Jump → (values : List ℕ) (u : State) → read_operands m.story (inputs i) s ≡ Ok (values, u) → o.known (read_set o claims.globals i d.entry.shape 0) ≡ Some (arg values 0)
-  jumps_known = jumps_as_known o lawful claims m loaded supports listed s d i there
-
-  -- its stack is low
-  pub stack_low : length s.frame.stack ≤ 64
-  stack_low = low o lawful claims m loaded supports listed s d i there
-
-  -- what it calls is a routine that begins as is said
-  pub calls_begin : operation_of i.opcode ≡ Some Call → (values : List ℕ) (u : State) → read_operands m.story (inputs i) s ≡ Ok (values, u) → (arg values 0 == 0) ≡ false → Begins o claims m.story (argument_sets o claims.globals i d.entry.shape) (unpacked (arg values 0))
-  calls_begin = called_as_said o lawful claims m loaded supports listed s d i there

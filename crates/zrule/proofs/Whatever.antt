@@ -19,7 +19,7 @@ use Rattle.zrule.specs.Rules.{Enters, GoesOn, Returns, Takes, TakesInPlace, Take
 use Rattle.zrule.specs.Edges.{EdgesKeep}
 use Rattle.zrule.proofs.Sets.{some_at}
 
-module _ {V : Type 0} (o : SetOperations V) (claims : Claims V) (i : Instruction) (e : Shape V) (flow : Flow V) (is : IsFlow o claims.globals i e flow) where
+module _ {V : Type 0} (o : SetOperations V) (claims : Claims V) (story : LoadedStory) (i : Instruction) (e : Shape V) (flow : Flow V) (is : IsFlow o claims.globals story i e flow) where
   -- something that is asked of what is known after an edge, of where it leads, and of what came to it
   module _ (P : Option (Shape V) → Lead V → Outcome V → Type 0) where
     Asked : Option (Edge V) → Type 0
@@ -32,41 +32,41 @@ module _ {V : Type 0} (o : SetOperations V) (claims : Claims V) (i : Instruction
     unfolding Holds
     same x a l = (λ p. subst (λ (k : Lead V). P (after o claims.globals i e x.outcome) k x.outcome) l (subst (λ (f : Option (Shape V)). P f x.lead x.outcome) a p), λ h. subst (λ (f : Option (Shape V)). P f x.lead x.outcome) (sym a) (subst (λ (k : Lead V). P (after o claims.globals i e x.outcome) k x.outcome) (sym l) h))
 
-    there : (c : Bool) (edge : Option (Edge V)) → IsEdge o claims.globals i e c edge → Asked edge → (w : Outcome V) → outcome_at o claims.globals i e c ≡ Some w → Holds w
+    there : (c : Bool) (edge : Option (Edge V)) → IsEdge o claims.globals story i e c edge → Asked edge → (w : Outcome V) → outcome_at o claims.globals i e story c ≡ Some w → Holds w
     unfolding Asked
     there c None is asked w comes = absurd (let none = is.outcome ∙ comes in cc)
     there c (Some x) is asked w comes = subst Holds (same_Some x.outcome w (is.outcome ∙ comes)) ((same x is.behind is.lead).0 asked)
 
-    back : (c : Bool) (edge : Option (Edge V)) → IsEdge o claims.globals i e c edge → ((w : Outcome V) → outcome_at o claims.globals i e c ≡ Some w → Holds w) → Asked edge
+    back : (c : Bool) (edge : Option (Edge V)) → IsEdge o claims.globals story i e c edge → ((w : Outcome V) → outcome_at o claims.globals i e story c ≡ Some w → Holds w) → Asked edge
     unfolding Asked
     back c None is all = tt
     back c (Some x) is all = (same x is.behind is.lead).1 (all x.outcome (sym is.outcome))
 
-    whatever : (Asked flow.held × Asked flow.failed) ↔ Whatever o claims i e Holds
+    whatever : (Asked flow.held × Asked flow.failed) ↔ Whatever o claims story i e Holds
     whatever = (all, λ h. (back true flow.held is.held (λ w comes. h w (true, comes)), back false flow.failed is.failed (λ w comes. h w (false, comes))))
       where
-        all : Asked flow.held × Asked flow.failed → Whatever o claims i e Holds
+        all : Asked flow.held × Asked flow.failed → Whatever o claims story i e Holds
         all asked w (true, comes) = there true flow.held is.held asked.0 w comes
         all asked w (false, comes) = there false flow.failed is.failed asked.1 w comes
 
-  module _ (story : LoadedStory) (args : List V) (routine next : ℕ) where
-    pub leads_on : EdgesKeep o claims story args routine next (target i) rules.Successor flow ↔ Whatever o claims i e (λ w. IsLow o claims i e w → OnEdge o claims w i e (λ f. GoesOn o claims routine (target i) f next (leading o w i.branch)))
+  module _ (args : List V) (routine next : ℕ) where
+    pub leads_on : EdgesKeep o claims story args routine next (target i) rules.Successor flow ↔ Whatever o claims story i e (λ w. IsLow o claims i e w → OnEdge o claims w i e (λ f. GoesOn o claims routine (target i) f next (leading o w i.branch)))
     unfolding Asked Holds
     leads_on = whatever (λ f lead w. IfSome f (λ f. length (slots_with (comes_back o claims lead) (target i) f.slots) ≤ 64) → IfSome f (λ f. GoesOn o claims routine (target i) f next lead))
 
-    pub called : EdgesKeep o claims story args routine next (target i) rules.Called flow ↔ Whatever o claims i e (λ w. OnEdge o claims w i e (λ f. Enters o claims story args (leading o w i.branch)))
+    pub called : EdgesKeep o claims story args routine next (target i) rules.Called flow ↔ Whatever o claims story i e (λ w. OnEdge o claims w i e (λ f. Enters o claims story args (leading o w i.branch)))
     unfolding Asked Holds
     called = whatever (λ f lead w. IfSome f (λ f. Enters o claims story args lead))
 
-    pub returned : EdgesKeep o claims story args routine next (target i) rules.Returned flow ↔ Whatever o claims i e (λ w. OnEdge o claims w i e (λ f. Returns o claims routine (leading o w i.branch)))
+    pub returned : EdgesKeep o claims story args routine next (target i) rules.Returned flow ↔ Whatever o claims story i e (λ w. OnEdge o claims w i e (λ f. Returns o claims routine (leading o w i.branch)))
     unfolding Asked Holds
     returned = whatever (λ f lead w. IfSome f (λ f. Returns o claims routine lead))
 
-    pub stored : EdgesKeep o claims story args routine next (target i) rules.Stored flow ↔ Whatever o claims i e (λ w. OnEdge o claims w i e (λ f. Takes o claims w.gives (target i) × TakesInPlace o claims w.assigns × TakesBack o claims (target i) (leading o w i.branch)))
+    pub stored : EdgesKeep o claims story args routine next (target i) rules.Stored flow ↔ Whatever o claims story i e (λ w. OnEdge o claims w i e (λ f. Takes o claims w.gives (target i) × TakesInPlace o claims w.assigns × TakesBack o claims (target i) (leading o w i.branch)))
     unfolding Asked Holds
     stored = whatever (λ f lead w. IfSome f (λ f. Takes o claims w.gives (target i) × TakesInPlace o claims w.assigns × TakesBack o claims (target i) lead))
 
-    pub high : EdgesKeep o claims story args routine next (target i) rules.High flow ↔ Whatever o claims i e (IsLow o claims i e)
+    pub high : EdgesKeep o claims story args routine next (target i) rules.High flow ↔ Whatever o claims story i e (IsLow o claims i e)
     unfolding Asked Holds
     high = whatever (λ f lead w. IfSome f (λ f. length (slots_with (comes_back o claims lead) (target i) f.slots) ≤ 64))
 

@@ -88,8 +88,8 @@ module _ {V : Type 0} (o : SetOperations V) (claims : Claims V) where
   demands_at i e = asked_for o claims.globals i e
 
   -- one of the things that may come of it
-  abbrev pub Comes : Instruction → Shape V → Outcome V → Type 0
-  Comes i e w = (c : Bool) × (outcome_at o claims.globals i e c ≡ Some w)
+  abbrev pub Comes : LoadedStory → Instruction → Shape V → Outcome V → Type 0
+  Comes story i e w = (c : Bool) × (outcome_at o claims.globals i e story c ≡ Some w)
 
   -- a variable exists
   abbrev pub IsVariable : Shape V → ℕ → Type 0
@@ -183,8 +183,8 @@ module _ {V : Type 0} (o : SetOperations V) (claims : Claims V) where
   Returns routine (Entering a) = Unit {0}
 
   -- whatever may come of an instruction
-  abbrev pub Whatever : Instruction → Shape V → (Outcome V → Type 0) → Type 0
-  Whatever i e Rule = (w : Outcome V) → Comes i e w → Rule w
+  abbrev pub Whatever : LoadedStory → Instruction → Shape V → (Outcome V → Type 0) → Type 0
+  Whatever story i e Rule = (w : Outcome V) → Comes story i e w → Rule w
 
   -- where locals can have what a branch says of them
   abbrev pub OnEdge : Outcome V → Instruction → Shape V → (Shape V → Type 0) → Type 0
@@ -196,7 +196,7 @@ module _ {V : Type 0} (o : SetOperations V) (claims : Claims V) where
 
   -- every routine that it calls begins as is said
   abbrev pub CallsBegin : LoadedStory → Instruction → Shape V → Type 0
-  CallsBegin story i e = Whatever i e (λ w. OnEdge w i e (λ f. Enters story (argument_sets o claims.globals i e) (leading o w i.branch)))
+  CallsBegin story i e = Whatever story i e (λ w. OnEdge w i e (λ f. Enters story (argument_sets o claims.globals i e) (leading o w i.branch)))
 
   -- the first operand has a value
   abbrev pub FirstThere : Instruction → Shape V → Type 0
@@ -210,6 +210,14 @@ module _ {V : Type 0} (o : SetOperations V) (claims : Claims V) where
   abbrev pub Divides : Instruction → Shape V → Type 0
   Divides i e = IfSome (demands_at i e).divisor (λ a. In o a 0 → ⊥)
 
+  -- each number that is taken for an object's is that of one of the story's
+  abbrev pub NamesObject : LoadedStory → Instruction → Shape V → Type 0
+  NamesObject story i e = IfSome (demands_at i e).object (λ a. (x : ℕ) → In o a x → (1 ≤ x) × (x ≤ story.objects))
+
+  -- and each that is taken for an attribute's, of which there are 32 (Z 12.3.1)
+  abbrev pub NamesAttribute : Instruction → Shape V → Type 0
+  NamesAttribute i e = IfSome (demands_at i e).attribute (λ a. (x : ℕ) → In o a x → x < 32)
+
   -- ---- the rules on a listed place
 
   -- what a rule asks of an instruction that is there
@@ -220,7 +228,11 @@ module _ {V : Type 0} (o : SetOperations V) (claims : Claims V) where
   -- I3: every variable that is named exists
   Asks story p e i rules.Local = IsKnown i e.shape → AllByRecursion (IsNamed e.shape) (inputs i) × IsVariable e.shape (target i) × IfSome (demands_at i e.shape).variable (IsVariable e.shape)
   -- I4: each edge that can be taken leads on, and it is known how far a jump goes
-  Asks story p e i rules.Successor = Divides i e.shape → CallsBegin story i e.shape → IsTrue (demands_at i e.shape).certain × Whatever i e.shape (λ w. IsLow i e.shape w → OnEdge w i e.shape (λ f. GoesOn e.routine (target i) f (p + i.size) (leading o w i.branch)))
+  Asks story p e i rules.Successor = Divides i e.shape → CallsBegin story i e.shape → IsTrue (demands_at i e.shape).certain × Whatever story i e.shape (λ w. IsLow i e.shape w → OnEdge w i e.shape (λ f. GoesOn e.routine (target i) f (p + i.size) (leading o w i.branch)))
+  -- I5: each object is one
+  Asks story p e i rules.Object = NamesObject story i e.shape
+  -- I6: each attribute is one
+  Asks story p e i rules.Attribute = NamesAttribute i e.shape
   -- I8: nothing is divided by 0
   Asks story p e i rules.Divisor = Divides i e.shape
   -- I11: the text behind the opcode byte stays as it is
@@ -228,13 +240,13 @@ module _ {V : Type 0} (o : SetOperations V) (claims : Claims V) where
   -- I12: what is called begins as is said
   Asks story p e i rules.Called = CallsBegin story i e.shape
   -- I13: what is returned lies in the set of the routine
-  Asks story p e i rules.Returned = Whatever i e.shape (λ w. OnEdge w i e.shape (λ f. Returns e.routine (leading o w i.branch)))
+  Asks story p e i rules.Returned = Whatever story i e.shape (λ w. OnEdge w i e.shape (λ f. Returns e.routine (leading o w i.branch)))
   -- I15: a variable that an operand names is known
   Asks story p e i rules.Known = IsKnown i e.shape
   -- I16: what is given to a global, at once or by a routine that is called, lies in its set
-  Asks story p e i rules.Stored = Whatever i e.shape (λ w. OnEdge w i e.shape (λ f. Takes w.gives (target i) × TakesInPlace w.assigns × TakesBack (target i) (leading o w i.branch)))
+  Asks story p e i rules.Stored = Whatever story i e.shape (λ w. OnEdge w i e.shape (λ f. Takes w.gives (target i) × TakesInPlace w.assigns × TakesBack (target i) (leading o w i.branch)))
   -- I17: the stack stays low
-  Asks story p e i rules.High = Whatever i e.shape (IsLow i e.shape)
+  Asks story p e i rules.High = Whatever story i e.shape (IsLow i e.shape)
 
   abbrev pub Keeps : LoadedStory → ℕ → Entry V → Rule → Type 0
   -- I1: an instruction is there

@@ -17,6 +17,7 @@ ghost use Rattle.zrule.specs.Claims.{claims_of, entry_of, Entry};
 ghost use Rattle.zrule.specs.Rules.{Asks, IsThere, HasFixedText, Keeps, IsLowestBroken};
 
 use crate::edges::{enters, goes_on, is_low, returns, stores};
+use crate::objects::{names_attribute, names_object};
 use crate::operands::{has_height, has_locals, is_known};
 use crate::rule::Rule;
 use crate::site::Site;
@@ -28,10 +29,12 @@ use zstory::Story;
 use ztext::TextEnds;
 
 /// The rules that are asked of an instruction that is there, by their numbers.
-const RULES: [Rule; 10] = [
+const RULES: [Rule; 12] = [
     Rule::Height,
     Rule::Local,
     Rule::Successor,
+    Rule::Object,
+    Rule::Attribute,
     Rule::Divisor,
     Rule::Text,
     Rule::Called,
@@ -121,7 +124,7 @@ fn texts_are_fixed(story: &Story)
 fn has_successors(site: Site<'_>, flow: &Flow<'_, Interval>) -> bool
     requires there { IsThere site.story.now site.listed.now.address site.instruction.now }
     requires near { site.listed.now.address + site.instruction.now.size ≤ 131072 }
-    requires flow { IsFlow interval_operations site.certificate.now.globals site.instruction.now (entry_of (seen site.listed.now)).shape flow.now }
+    requires flow { IsFlow interval_operations site.certificate.now.globals site.story.now site.instruction.now (entry_of (seen site.listed.now)).shape flow.now }
     ensures { IsTrue result ↔ Asks interval_operations (claims_of interval_operations site.entry.certificate.now) site.entry.story.now site.entry.listed.now.address (entry_of (seen site.entry.listed.now)) site.entry.instruction.now Successor }
 {
     if !divides(&flow.demands) {
@@ -137,7 +140,7 @@ fn has_successors(site: Site<'_>, flow: &Flow<'_, Interval>) -> bool
 fn asks(site: Site<'_>, flow: &Flow<'_, Interval>, rule: Rule) -> bool
     requires there { IsThere site.story.now site.listed.now.address site.instruction.now }
     requires near { site.listed.now.address + site.instruction.now.size ≤ 131072 }
-    requires flow { IsFlow interval_operations site.certificate.now.globals site.instruction.now (entry_of (seen site.listed.now)).shape flow.now }
+    requires flow { IsFlow interval_operations site.certificate.now.globals site.story.now site.instruction.now (entry_of (seen site.listed.now)).shape flow.now }
     ensures { IsTrue result ↔ Asks interval_operations (claims_of interval_operations site.entry.certificate.now) site.entry.story.now site.entry.listed.now.address (entry_of (seen site.entry.listed.now)) site.entry.instruction.now rule }
 {
     let Site {
@@ -159,6 +162,8 @@ fn asks(site: Site<'_>, flow: &Flow<'_, Interval>, rule: Rule) -> bool
                 || has_locals(certificate, listed, instruction, demands)
         }
         Rule::Successor => has_successors(site, flow),
+        Rule::Object => names_object(story, demands),
+        Rule::Attribute => names_attribute(demands),
         Rule::Divisor => divides(demands),
         Rule::Text => {
             texts_are_fixed(story);
@@ -176,7 +181,7 @@ fn asks(site: Site<'_>, flow: &Flow<'_, Interval>, rule: Rule) -> bool
 fn keeps(site: Site<'_>, flow: &Flow<'_, Interval>, rule: Rule) -> bool
     requires there { IsThere site.story.now site.listed.now.address site.instruction.now }
     requires near { site.listed.now.address + site.instruction.now.size ≤ 131072 }
-    requires flow { IsFlow interval_operations site.certificate.now.globals site.instruction.now (entry_of (seen site.listed.now)).shape flow.now }
+    requires flow { IsFlow interval_operations site.certificate.now.globals site.story.now site.instruction.now (entry_of (seen site.listed.now)).shape flow.now }
     ensures { IsTrue result ↔ Keeps interval_operations (claims_of interval_operations site.entry.certificate.now) site.entry.story.now site.entry.listed.now.address (entry_of (seen site.entry.listed.now)) rule }
 {
     asks(site, flow, rule)
@@ -224,6 +229,7 @@ pub fn judge(
         return Err(Rule::Decodes);
     };
     let flow = flow_of(
+        story,
         certificate.globals(),
         listed.locals,
         listed.slots,

@@ -6,6 +6,7 @@ mod callees;
 mod edges;
 mod judging;
 mod laws;
+mod objects;
 mod operands;
 mod rule;
 mod site;

@@ -12,6 +12,10 @@ pub enum Rule {
     /// I4: each edge that can be taken leads to a listed place of the same routine, of equal height, whose sets contain
     /// those after the instruction; a jump goes one known way.
     Successor,
+    /// I5: each number that it takes for an object's is that of one of the story's objects.
+    Object,
+    /// I6: each number that it takes for an attribute's is 0 to 31.
+    Attribute,
     /// I8: no value by which it divides is 0.
     Divisor,
     /// I11: a text that it prints ends in memory, and no play changes a byte of it.
@@ -42,6 +46,8 @@ impl Rule {
             Rule::Height => 2,
             Rule::Local => 3,
             Rule::Successor => 4,
+            Rule::Object => 5,
+            Rule::Attribute => 6,
             Rule::Divisor => 8,
             Rule::Text => 11,
             Rule::Called => 12,

@@ -1,18 +1,23 @@
 -- Words stay words, and bytes bytes.
-use Rattle.std.proofs.Common.{◌≡◌, ℕ, zero, suc, ◌+◌, ◌-◌, ◌/◌, ◌%◌, ◌<◌, take, drop, slice_set, Option, Some, None, Bool, true, false, List, [], ◌∷◌, length, Ok, refl, ap, subst, ◌∙◌, arith, if◌then◌else◌, nat_lt, inl, inr}
+use Rattle.std.proofs.Common.{◌≡◌, ℕ, zero, suc, ◌+◌, ◌-◌, ◌/◌, ◌%◌, ◌<◌, ◌≤◌, take, drop, slice_set, Option, Some, None, Bool, true, false, List, [], ◌∷◌, length, Ok, refl, ap, subst, ◌∙◌, arith, if◌then◌else◌, nat_lt, inl, inr}
 use Rattle.std.specs.Prelude.{◌==◌, slice_get, slice_index}
 use Rattle.std.specs.List.{AllByRecursion}
 use Rattle.std.proofs.lemmas.Bool.{cases_lt}
 use Rattle.std.proofs.lemmas.Bool.Decides.{eqb_tells}
 use Rattle.std.proofs.lemmas.List.{length-set, get_or-set_same, get_or-set_other, get_or_past}
 use Rattle.std.proofs.lemmas.Option.{get_or_from_slice_get}
+use Rattle.zobj.specs.declared.tree.Link.{Link}
+use Rattle.zobj.specs.Entries.{HasTable}
+use Rattle.zobj.specs.Tree.{link_byte, linked}
+use Rattle.zobj.proofs.Tables.{table_put}
 use Rattle.zcode.specs.declared.instr.Operand.{Operand}
 use Rattle.zcode.specs.declared.instr.Operand.TheVariants.{Constant, Variable}
 use Rattle.zcode.proofs.Ranges.{InRange}
 use Rattle.zfault.specs.declared.fault.Fault.{Fault}
 use Rattle.zfault.specs.declared.fault.Fault.TheVariants.{AbsentLocal, BadVariable, StackUnderflow}
-use Rattle.zstory.specs.Bytes.{AreBytes, word_at}
+use Rattle.zstory.specs.Bytes.{AreBytes, byte_at, word_at}
 use Rattle.zstory.specs.LoadedStory.{LoadedStory}
+use Rattle.zstory.specs.Objects.{object_place}
 use Rattle.zstate.specs.InTurn.{◌>>=◌, in_turn}
 use Rattle.zstate.specs.State.{State, AreWords, fault, found, global, pop, read_named, read_variable, read_operand, read_operands, read_in_place, with_stack, write_word}
 use Rattle.zstate.specs.Step.{laid_over, words_from, arguments}
@@ -54,8 +59,21 @@ no_words k = omega arith
 pub word_written : (memory : List ℕ) (at x : ℕ) → x < 65536 → AreBytes memory → AreBytes (write_word memory at x)
 word_written memory at x small are = set_below 256 (slice_set memory at (x / 256)) (at + 1) (x % 256) (omega arith) (set_below 256 memory at (x / 256) (omega (arith, small)) are)
 
+-- the table of objects stays, where that is written behind the header
+pub table_written : (memory : List ℕ) (at x objects : ℕ) → 64 ≤ at → HasTable memory objects → HasTable (write_word memory at x) objects
+table_written memory at x objects behind has =
+    table_put (slice_set memory at (x / 256)) (at + 1) (x % 256) objects (omega (arith, behind)) (table_put memory at (x / 256) objects behind has)
+
 pub is_word : (memory : List ℕ) (at : ℕ) → AreBytes memory → word_at memory at < 65536
 is_word memory at are = omega (arith, are at, are (at + 1))
+
+-- what a link leads to is a byte
+pub is_link : (memory : List ℕ) (link : Link) (object : ℕ) → AreBytes memory → linked link memory object < 65536
+is_link memory link object are = by (object == 0)
+  where
+    by : (b : Bool) → (if b then 0 else byte_at memory (object_place memory object + link_byte link)) < 65536
+    by true = omega arith
+    by false = let byte = are (object_place memory object + link_byte link) in omega (arith, byte)
 
 -- ---- what a call begins with
 

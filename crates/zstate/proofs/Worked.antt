@@ -22,7 +22,7 @@ use Rattle.zcode.specs.Reading.{instruction_by, head_at, short_head, played_opco
 use Rattle.ztext.specs.declared.error.TextError.TheVariants.{Outside, NestedAbbreviation}
 use Rattle.ztext.specs.Alphabets.{small_letters}
 use Rattle.ztext.specs.Output.{output_at, output_of_characters}
-use Rattle.zfault.specs.declared.fault.Fault.TheVariants.{UnlistedInstruction, IllegalOpcode, UnlistedCall, StackUnderflow, AbsentLocal, TextOutside, ReturnFromMain, ZeroDivisor, BadVariable}
+use Rattle.zfault.specs.declared.fault.Fault.TheVariants.{UnlistedInstruction, IllegalOpcode, UnlistedCall, StackUnderflow, AbsentLocal, AbsentObject, AbsentAttribute, TextOutside, ReturnFromMain, ZeroDivisor, BadVariable}
 use Rattle.zfault.specs.declared.pause.Need.TheVariants as needs
 use Rattle.zfault.specs.declared.pause.Pause.TheVariants as pauses
 use Rattle.zfault.specs.declared.event.Event.TheVariants as events
@@ -32,11 +32,13 @@ use Rattle.zstate.specs.declared.halt.Stop.TheVariants as stops
 use Rattle.zstate.specs.declared.mode.RandomMode.TheVariants.{Words, Counting}
 use Rattle.zstate.specs.InTurn.{in_turn}
 use Rattle.zstate.specs.State.{AreWords, Frame, State, Setting, has_head, usual_limit, scope_all, scope_only, first_frame, opening, IsFrame, IsFirst, AreFrames, IsCount, IsState, with_stack, with_locals, write_word, exists, has_room, put, put_named, put_in_place, read_in_place, popped, at_place, give, global, pop, found, read_named, read_variable, read_operand, read_operands}
-use Rattle.zstate.specs.Step.{Called, on, back, words_from, laid_over, calling, returning, proceeds, giving, assigning, testing, printing, quitting, decoded, fetch, printed, print_at, effect_of, way, course, admits, pauses, settle, plan, advance, changed, act, items_of, step}
+use Rattle.zstate.specs.Step.{Called, on, back, words_from, laid_over, calling, returning, proceeds, giving, assigning, testing, printing, quitting, following, decoded, fetch, printed, print_at, effect_of, way, course, admits, pauses, settle, plan, advance, changed, act, items_of, step}
 use Rattle.zstate.specs.Run.{stop_of, until, is_answered, need_in, awaited, run, Goes, Stands, IsLonger, IsDeeper}
 use Rattle.zstate.proofs.Words.{no_words, words_pushed}
 use Rattle.zstate.specs.Gives.{Gives, IsNear}
 use Rattle.zstate.specs.declared.head.Head.{Head}
+use Rattle.zobj.specs.Entries.{HasTable}
+use Rattle.zobj.specs.declared.tree.Link.TheVariants.{Parent, Sibling, Child}
 use Rattle.zstate.specs.Packed.{AreBelow, ArePacked, chain_of, frames_of}
 
 -- ---- a story: its first instruction is at 70, its globals begin at 64
@@ -51,8 +53,15 @@ memory = replicate 7 0 ++ 70 ∷ replicate 5 0 ++ 64 ∷ replicate 50 0 ++ 0x01 
 story : LoadedStory
 story = record { memory = memory; objects = 0 }
 
+-- with a table of two objects behind it, of which the second is in the first and has attribute 9
+tabled : LoadedStory
+tabled = record { memory = slice_set memory 11 79 ++ replicate 62 0 ++ 0 ∷ 0 ∷ 0 ∷ 0 ∷ 0 ∷ 0 ∷ 2 ∷ 0 ∷ 0 ∷ 0 ∷ 0x40 ∷ 0 ∷ 0 ∷ 1 ∷ 0 ∷ 0 ∷ 0 ∷ 0 ∷ []; objects = 2 }
+
 setting : Setting
 setting = record { story = story; scope = scope_all story; limit = usual_limit }
+
+in_tabled : Setting
+in_tabled = record { story = tabled; scope = scope_all tabled; limit = usual_limit }
 
 -- two locals, and two words on the stack, of which 5 is the topmost
 frame : Frame
@@ -109,12 +118,16 @@ too_great = (λ f. omega (arith, f.result), λ f. omega (arith, f.local_words 1)
 frames : AreFrames first_frame [] × AreFrames frame (first_frame ∷ []) × (AreFrames first_frame (frame ∷ []) → ⊥) × (AreFrames frame [] → ⊥)
 frames = (first, (above, first), λ f. no_frames.3 f.1.1, λ f. no_frames.3 f.1)
 
-story_bytes : AreBytes story.memory
-unfolding story memory code
-story_bytes = bytes_tested story.memory refl
+story_bytes : AreBytes tabled.memory
+unfolding tabled memory code
+story_bytes = bytes_tested tabled.memory refl
 
-is_state : IsState usual_limit story (opening story)
-is_state = record { memory = refl; bytes = story_bytes; frames = first; few = omega arith; count = tt }
+story_table : HasTable tabled.memory tabled.objects
+unfolding tabled memory code
+story_table = record { few = omega arith; above = omega arith; within = omega arith }
+
+is_state : IsState usual_limit tabled (opening tabled)
+is_state = record { memory = refl; bytes = story_bytes; objects = story_table; frames = first; few = omega arith; count = tt }
 
 -- each bound of a frame is reached, and a word more on the stack is too many
 full_frame : (stack locals : List ℕ) → length stack ≡ 65535 → length locals ≡ 15 → AreWords stack → AreWords locals → IsFrame (record { return_place = 16777215; result = 255; supplied = 3; locals = locals; stack = stack })
@@ -128,8 +141,8 @@ all_first : (n : ℕ) → AreFrames first_frame (replicate n first_frame)
 all_first zero = first
 all_first (suc n) = (first.0, all_first n)
 
-many_frames : (n : ℕ) → n ≤ 1024 → IsState usual_limit story (record (opening story) { callers = replicate n first_frame })
-many_frames n few = record { memory = refl; bytes = story_bytes; frames = all_first n; few = omega (arith, few, length-replicate n first_frame); count = tt }
+many_frames : (n : ℕ) → n ≤ 1024 → IsState usual_limit tabled (record (opening tabled) { callers = replicate n first_frame })
+many_frames n few = record { memory = refl; bytes = story_bytes; objects = story_table; frames = all_first n; few = omega (arith, few, length-replicate n first_frame); count = tt }
 
 too_many_frames : (s : State) → length s.callers ≡ 1025 → IsState usual_limit story s → ⊥
 too_many_frames s many is = omega (arith, many, is.few)
@@ -147,6 +160,16 @@ shortened s = omega (arith, s.memory)
 no_byte : IsState usual_limit story (record (opening story) { memory = slice_set story.memory 64 256 }) → ⊥
 unfolding story memory code
 no_byte s = omega (arith, s.bytes 64)
+
+-- and has the entry of each object
+no_entry : IsState usual_limit (record tabled { objects = 3 }) (opening tabled) → ⊥
+unfolding tabled memory code
+no_entry s = omega (arith, s.objects.within)
+
+-- behind its header
+no_table : IsState usual_limit story (opening story) → ⊥
+unfolding story memory code
+no_table s = omega (arith, s.objects.above)
 
 no_state : (IsState usual_limit story (record (opening story) { callers = replicate 1025 first_frame }) → ⊥)
 no_state s = omega (arith, s.few)
@@ -251,6 +274,21 @@ two = record { place = 73; locals = 7 ∷ 0xFEBB ∷ 0xB4B2 ∷ []; supplied = 1
 calls : (effect_of setting operations.Call (33 ∷ 7 ∷ []) state ≡ Ok (calling two)) × (effect_of setting operations.Call (32 ∷ 7 ∷ 8 ∷ 9 ∷ []) state ≡ Ok (calling (record { place = 67; locals = 7 ∷ []; supplied = 3 }))) × (effect_of setting operations.Call (32 ∷ []) state ≡ Ok (calling (record { place = 67; locals = 0x203 ∷ []; supplied = 0 })))
 unfolding effect_of words_from laid_over setting two story memory code state frame
 calls = (refl, refl, refl)
+
+-- an object is in its parent, one that is in none in 0; 0 is no object, nor is 3
+objects : (effect_of in_tabled operations.Inside (2 ∷ 1 ∷ []) (opening tabled) ≡ Ok (testing true)) × (effect_of in_tabled operations.Inside (1 ∷ 2 ∷ []) (opening tabled) ≡ Ok (testing false)) × (effect_of in_tabled operations.Inside (1 ∷ 0 ∷ []) (opening tabled) ≡ Ok (testing true)) × (effect_of in_tabled operations.Inside (0 ∷ 0 ∷ []) (opening tabled) ≡ Err (halts.Fault AbsentObject)) × (effect_of in_tabled operations.Inside (3 ∷ 0 ∷ []) (opening tabled) ≡ Err (halts.Fault AbsentObject))
+unfolding effect_of in_tabled tabled memory code
+objects = (refl, refl, refl, refl, refl)
+
+-- the object is tested before the attribute
+attributes : (effect_of in_tabled operations.TestAttribute (2 ∷ 9 ∷ []) (opening tabled) ≡ Ok (testing true)) × (effect_of in_tabled operations.TestAttribute (2 ∷ 8 ∷ []) (opening tabled) ≡ Ok (testing false)) × (effect_of in_tabled operations.TestAttribute (1 ∷ 31 ∷ []) (opening tabled) ≡ Ok (testing false)) × (effect_of in_tabled operations.TestAttribute (1 ∷ 32 ∷ []) (opening tabled) ≡ Err (halts.Fault AbsentAttribute)) × (effect_of in_tabled operations.TestAttribute (3 ∷ 32 ∷ []) (opening tabled) ≡ Err (halts.Fault AbsentObject))
+unfolding effect_of in_tabled tabled memory code
+attributes = (refl, refl, refl, refl, refl)
+
+-- a link is given, and it is asked whether it leads to an object
+links : (effect_of in_tabled (operations.Follow Child) (1 ∷ []) (opening tabled) ≡ Ok (record proceeds { gives = Some 2; tests = Some true })) × (effect_of in_tabled (operations.Follow Parent) (2 ∷ []) (opening tabled) ≡ Ok (following 1)) × (effect_of in_tabled (operations.Follow Sibling) (2 ∷ []) (opening tabled) ≡ Ok (record proceeds { gives = Some 0; tests = Some false })) × (effect_of in_tabled (operations.Follow Parent) (0 ∷ []) (opening tabled) ≡ Err (halts.Fault AbsentObject))
+unfolding effect_of in_tabled tabled memory code
+links = (refl, refl, refl, refl)
 
 -- 0 is no routine, nor is what has 255 locals, what isn't listed, and what has no head any more
 uncalled : (effect_of setting operations.Call (0 ∷ 7 ∷ []) state ≡ Ok (giving 0)) × (effect_of setting operations.Call (34 ∷ []) state ≡ Err (halts.Fault UnlistedCall)) × (effect_of (record setting { scope = scope_only (record { records = []; routines = 66 ∷ [] }) }) operations.Call (32 ∷ []) state ≡ Err (halts.Fault UnlistedCall)) × (effect_of setting operations.Call (32 ∷ []) (record state { memory = slice_set memory 64 16 }) ≡ Err (halts.Fault UnlistedCall))

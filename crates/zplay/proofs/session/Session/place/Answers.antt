@@ -1,4 +1,4 @@
-use Rattle.std.proofs.Common.{ap}
+use Rattle.std.proofs.Common.{rules, ap, ◌<◌, length, arith}
 use Rattle.zplay.specs.Session.{Playing}
 use Rattle.zplay.proofs.Playing.{place_read, within_listing}
 use Rattle.zplay.proofs.session.Session.place.Goals as goal
@@ -17,3 +17,17 @@ pub returns : goal.returns
 returns c =
     let same = ap (λ (p : Playing). p.accepted) c.self.view_is in
     rw (c.board.ensures.state, c.records.ensures.value, c.listing.ensures.value, same) (place_read c.args.self.now.accepted.listing _ _ (rw (c.listing.ensures.value, same) at c.records.ensures.order) (within_listing _ _ _ _ c.board.ensures.play.2))
+
+pub offset_bounds-records-at : goal.offset_bounds-records-at
+offset_bounds-records-at c =
+    let same = ap (λ (p : Playing). p.accepted) c.self.view_is in
+    let inside : c.board.result.now.at < length c.records.result.now = rw (c.records.ensures.value, c.listing.ensures.value, same) (within_listing _ _ _ _ c.board.ensures.play.2) in
+    let few = c.records.ensures.few in
+    omega (arith, inside, few)
+
+pub overflow_cast-result : goal.overflow_cast-result
+overflow_cast-result c =
+    let same = ap (λ (p : Playing). p.accepted) c.self.view_is in
+    let inside : c.board.result.now.at < length c.records.result.now = rw (c.records.ensures.value, c.listing.ensures.value, same) (within_listing _ _ _ _ c.board.ensures.play.2) in
+    let below = (c.records.ensures.order).inside c.board.result.now.at c.index-records-at.result in
+    search rules

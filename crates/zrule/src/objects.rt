@@ -1,0 +1,39 @@
+//! What rules ask of the numbers of objects and attributes.
+
+ghost use Rattle.std.specs.Prelude.{◌↔◌, ◌<◌, ◌≤◌, ℕ, IfSome, IsTrue};
+ghost use Rattle.zdomain.specs.Domain.{In};
+ghost use Rattle.zdomain.specs.Interval.{interval_operations};
+
+use zdomain::{Domain, Interval};
+use zflow::Demands;
+use zstory::Story;
+
+/// How many attributes an object has (Z 12.3.1).
+const ATTRIBUTES: u16 = 32;
+
+/// Whether each value that is taken for an object's number is that of one of the story's objects.
+pub(crate) fn names_object(story: &Story, demands: &Demands<Interval>) -> bool
+    ensures { IsTrue result ↔ IfSome demands.now.object (λ a. (x : ℕ) → In interval_operations a x → (1 ≤ x) × (x ≤ story.now.objects)) }
+{
+    match demands.object {
+        Some(set) => !set.contains(0) && are_below(set, u16::from(story.objects()) + 1),
+        None => true,
+    }
+}
+
+/// Whether each value that is taken for an attribute's number is 0 to 31.
+pub(crate) fn names_attribute(demands: &Demands<Interval>) -> bool
+    ensures { IsTrue result ↔ IfSome demands.now.attribute (λ a. (x : ℕ) → In interval_operations a x → x < 32) }
+{
+    match demands.attribute {
+        Some(set) => are_below(set, ATTRIBUTES),
+        None => true,
+    }
+}
+
+/// Whether each word of a set is below a word.
+fn are_below(set: Interval, bound: u16) -> bool
+    ensures { IsTrue result ↔ ((x : ℕ) → In interval_operations set x → x < bound) }
+{
+    set.least_from(bound).is_none()
+}

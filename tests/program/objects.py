@@ -1,0 +1,70 @@
+"""Runs of the opcodes that ask of objects, on both machines. What is printed is worked out by hand after the standard."""
+from plays import PRINT_FIRST, QUIT, Plays, conditional, fault, placed, printed
+from samples import certificate, changed, with_objects
+
+CODE = 0x370
+SECOND = 0x267  # the entry of object 2: four bytes of attributes, its parent, sibling and child
+
+# ---- conditions: the instruction up to its branch, bytes of the story that are others, what it answers
+
+CONDITIONS = [
+    ("2 is in 1", b"\x06\x02\x01", {}, b"y"),
+    ("1 isn't in 2", b"\x06\x01\x02", {}, b"n"),
+    ("1 is in none", b"\x06\x01\x00", {}, b"y"),
+    ("2 isn't in none", b"\x06\x02\x00", {}, b"n"),
+    ("attribute 0, the top bit of the first byte", b"\x0a\x02\x00", {SECOND: 0x80}, b"y"),
+    ("attribute 9", b"\x0a\x02\x09", {SECOND + 1: 0x40}, b"y"),
+    ("attribute 8 beside it", b"\x0a\x02\x08", {SECOND + 1: 0x40}, b"n"),
+    ("attribute 9 of the other", b"\x0a\x01\x09", {SECOND + 1: 0x40}, b"n"),
+    ("attribute 31", b"\x0a\x02\x1f", {SECOND + 3: 0x01}, b"y"),
+    ("a child", b"\x92\x01\x10", {}, b"y"),
+    ("no child", b"\x92\x02\x10", {}, b"n"),
+    ("a sibling", b"\x91\x02\x10", {SECOND + 5: 1}, b"y"),
+    ("no sibling", b"\x91\x01\x10", {}, b"n"),
+]
+
+# ---- links: the instruction, and what it gives
+
+LINKS = [
+    ("the child of 1", b"\x92\x01\x10\xc2", b"2"),
+    ("the child of 2", b"\x92\x02\x10\xc2", b"0"),
+    ("the sibling of 1", b"\x91\x01\x10\xc2", b"0"),
+    ("the parent of 2", b"\x93\x02\x10", b"1"),
+    ("the parent of 1", b"\x93\x01\x10", b"0"),
+]
+
+# ---- what no certificate makes well: the instruction, what global 16 may be, the rule, what the checked machine does
+
+NUMBERS = (0, 2)
+
+REFUSED = [
+    ("the parent of 0", b"\x93\x00\x10", NUMBERS, "I5 at 00370", fault("F6 at 00370")),
+    ("the parent of 3", b"\x93\x03\x10", NUMBERS, "I5 at 00370", fault("F6 at 00370")),
+    ("the parent of what may be 0", b"\xa3\x10\x10", NUMBERS, "I5 at 00370", fault("F6 at 00370")),
+    ("0 is in 1", b"\x06\x00\x01\xc2", NUMBERS, "I5 at 00370", fault("F6 at 00370")),
+    ("an attribute of 3", b"\x0a\x03\x20\xc2", NUMBERS, "I5 at 00370", fault("F6 at 00370")),
+    ("attribute 32", b"\x0a\x01\x20\xc2", NUMBERS, "I6 at 00370", fault("F7 at 00370")),
+    ("a child that a global may not be", b"\x92\x01\x10\xc2", (0, 1), "I16 at 00370", printed(b"2")),
+    ("a parent that a global may not be", b"\x93\x02\x10", (0, 1), "I16 at 00370", printed(b"1")),
+]
+
+
+def files(lines, values, others=()):
+    """A story with two objects and these instructions, with other bytes, and its certificate."""
+    lines = placed(lines, CODE)
+    made = with_objects(b"".join(code for _, code, _ in lines))
+    for at, byte in dict(others).items():
+        made = changed(made, at, byte)
+    return {"story": made, "certificate": certificate(made, [start for start, _, _ in lines], own={16: values})}
+
+
+def see_objects(program, count):
+    plays = Plays(program, count)
+    for name, instruction, others, answer in CONDITIONS:
+        plays.answers(name, files(conditional(instruction, b"yn"), NUMBERS, others), printed(answer))
+    for name, instruction, text in LINKS:
+        plays.answers(name, files([instruction, PRINT_FIRST, QUIT], NUMBERS), printed(text))
+    for name, instruction, values, rule, played in REFUSED:
+        given = files([instruction, PRINT_FIRST, QUIT], values)
+        plays.refuses(name, given, rule)
+        count.is_answer(f"{name}, checked", plays.play(given, []), played)
