@@ -52,6 +52,14 @@ pub enum Operation {
     TestAttribute,
     /// The number that a link of the value's object leads to goes to the result variable, and the branch asks whether it leads to one.
     Follow(Link),
+    /// The object of the first value gets the attribute of the second.
+    SetAttribute,
+    /// The object of the first value loses the attribute of the second.
+    ClearAttribute,
+    /// The object of the first value becomes the first child of that of the second.
+    Insert,
+    /// The object of the value is taken out of the tree.
+    Remove,
 }
 
 impl Opcode {
@@ -96,6 +104,10 @@ impl Opcode {
             Opcode::GetSibling => Operation::Follow(Link::Sibling),
             Opcode::GetChild => Operation::Follow(Link::Child),
             Opcode::GetParent => Operation::Follow(Link::Parent),
+            Opcode::SetAttr => Operation::SetAttribute,
+            Opcode::ClearAttr => Operation::ClearAttribute,
+            Opcode::InsertObj => Operation::Insert,
+            Opcode::RemoveObj => Operation::Remove,
             _ => return None,
         })
     }

@@ -1,7 +1,8 @@
 -- Bytes of entries, after one of them was written.
-use Rattle.std.proofs.Common.{◌≡◌, ◌≢◌, inl, inr, ℕ, ◌+◌, ◌<◌, ◌≤◌, Bool, true, false, List, length, refl, ap, sym, ◌∙◌, arith}
+use Rattle.std.proofs.Common.{◌≡◌, ◌≢◌, inl, inr, ℕ, ◌+◌, ◌-◌, ◌*◌, ◌<◌, ◌≤◌, Bool, true, false, List, length, drop, refl, ap, sym, ◌∙◌, arith}
 use Rattle.std.specs.Prelude.{slice_set, ◌==◌, if◌then◌else◌}
-use Rattle.std.proofs.lemmas.List.{get_or-set_same, get_or_past, length-set}
+use Rattle.std.proofs.lemmas.List.{get_or-set_same, get_or_past, length-set, get_or-drop, length-drop}
+use Rattle.std.proofs.lemmas.Grind.{same_number_lists}
 use Rattle.std.proofs.lemmas.Bool.{ne_eqb, cases_lt}
 use Rattle.std.proofs.lemmas.Bool.Decides.{eqb_tells}
 use Rattle.zstory.specs.Bytes.{AreBytes, byte_at}
@@ -56,6 +57,15 @@ pub all_rest : (memory after : List ℕ) (objects first size : ℕ) → HasTable
 all_rest memory after objects first size has d =
     let table = table_rests memory after objects first size has d in
     record { few = has.few; above = omega (arith, table, has.above); within = omega (arith, table, d.size, has.within) }
+
+-- what lies behind the entries
+pub behind_rests : (memory after : List ℕ) (objects first size base : ℕ) → DiffersOnly (IsEntryByte memory objects first size) memory after → first + size ≤ 9 → object_table memory + 62 + 9 * objects ≤ base → drop base after ≡ drop base memory
+behind_rests memory after objects first size base d inside above =
+    same_number_lists _ _ (length-drop base after ∙ ap (λ (n : ℕ). n - base) d.size ∙ sym (length-drop base memory)) (λ k below.
+    get_or-drop base after k 0 ∙ same k ∙ sym (get_or-drop base memory k 0))
+  where
+    same : (k : ℕ) → byte_at after (base + k) ≡ byte_at memory (base + k)
+    same k = elim (d.rest (base + k)) [ inl e ↦ e | inr is ↦ absurd (omega (arith, is.least, is.most, is.below, inside, above)) ]
 
 -- and so do bytes of entries outside of what differs
 pub entry_byte_rests : (memory after : List ℕ) (objects first size : ℕ) → HasTable memory objects → DiffersOnly (IsEntryByte memory objects first size) memory after → first + size ≤ 9 → (object j : ℕ) → 1 ≤ object → j < 9 → (first ≤ j → j < first + size → ⊥) → byte_at after (object_place after object + j) ≡ byte_at memory (object_place memory object + j)

@@ -1,7 +1,8 @@
 //! Laws of the definitions: the contracts of these functions, which do nothing.
 
-ghost use Rattle.std.specs.Prelude.{◌≡◌, ◌+◌, ◌==◌, ◌&&◌, ◌≤◌, ◌<◌, ℕ, Bool, List, [], ◌∷◌, if◌then◌else◌, slice_set, IfOk};
+ghost use Rattle.std.specs.Prelude.{◌≡◌, ◌+◌, ◌*◌, ◌==◌, ◌&&◌, ◌≤◌, ◌<◌, ℕ, Bool, List, [], ◌∷◌, drop, if◌then◌else◌, slice_set, IfOk};
 ghost use Rattle.std.specs.Result.{IsOkAnd};
+ghost use Rattle.zstory.specs.Header.{object_table};
 ghost use Rattle.zstory.specs.LoadedStory.{IsSound};
 ghost use Rattle.zstory.specs.Objects.{IsObjectCount, property_table};
 ghost use Rattle.zobj.specs.declared.tree.Link.{Link};
@@ -67,5 +68,6 @@ pub fn parts_stay_apart()
     ensures links_stay { (memory after : List ℕ) (objects object : ℕ) (link : Link) → HasTable memory objects → DiffersOnly (IsAttributeByte memory objects) memory after → 1 ≤ object → linked link after object ≡ linked link memory object }
     ensures attributes_stay { (memory after : List ℕ) (objects object attribute : ℕ) → HasTable memory objects → DiffersOnly (IsLinkByte memory objects) memory after → 1 ≤ object → attribute < 32 → has_attribute after object attribute ≡ has_attribute memory object attribute }
     ensures entries_stay { (memory after : List ℕ) (objects first size : ℕ) → HasTable memory objects → DiffersOnly (IsEntryByte memory objects first size) memory after → HasTable after objects }
+    ensures behind_stays { (memory after : List ℕ) (objects first size base : ℕ) → DiffersOnly (IsEntryByte memory objects first size) memory after → first + size ≤ 9 → object_table memory + 62 + 9 * objects ≤ base → drop base after ≡ drop base memory }
     ensures tables_stay { (memory after : List ℕ) (objects first size object : ℕ) → HasTable memory objects → DiffersOnly (IsEntryByte memory objects first size) memory after → first + size ≤ 7 → 1 ≤ object → property_table after object ≡ property_table memory object }
 {}

@@ -32,12 +32,13 @@ use Rattle.zstate.specs.declared.halt.Stop.TheVariants as stops
 use Rattle.zstate.specs.declared.mode.RandomMode.TheVariants.{Words, Counting}
 use Rattle.zstate.specs.InTurn.{in_turn}
 use Rattle.zstate.specs.State.{AreWords, Frame, State, Setting, has_head, usual_limit, scope_all, scope_only, first_frame, opening, IsFrame, IsFirst, AreFrames, IsCount, IsState, with_stack, with_locals, write_word, exists, has_room, put, put_named, put_in_place, read_in_place, popped, at_place, give, global, pop, found, read_named, read_variable, read_operand, read_operands}
-use Rattle.zstate.specs.Step.{Called, on, back, words_from, laid_over, calling, returning, proceeds, giving, assigning, testing, printing, quitting, following, decoded, fetch, printed, print_at, effect_of, way, course, admits, pauses, settle, plan, advance, changed, act, items_of, step}
+use Rattle.zstate.specs.Step.{Called, on, back, words_from, laid_over, calling, returning, proceeds, giving, rewriting, changed, assigning, testing, printing, quitting, following, decoded, fetch, printed, print_at, effect_of, way, course, admits, pauses, settle, plan, advance, act, items_of, step}
 use Rattle.zstate.specs.Run.{stop_of, until, is_answered, need_in, awaited, run, Goes, Stands, IsLonger, IsDeeper}
 use Rattle.zstate.proofs.Words.{no_words, words_pushed}
 use Rattle.zstate.specs.Gives.{Gives, IsNear}
 use Rattle.zstate.specs.declared.head.Head.{Head}
 use Rattle.zobj.specs.Entries.{HasTable}
+use Rattle.zobj.specs.Moves.{row}
 use Rattle.zobj.specs.declared.tree.Link.TheVariants.{Parent, Sibling, Child}
 use Rattle.zstate.specs.Packed.{AreBelow, ArePacked, chain_of, frames_of}
 
@@ -127,7 +128,7 @@ unfolding tabled memory code
 story_table = record { few = omega arith; above = omega arith; within = omega arith }
 
 is_state : IsState usual_limit tabled (opening tabled)
-is_state = record { memory = refl; bytes = story_bytes; objects = story_table; frames = first; few = omega arith; count = tt }
+is_state = record { memory = refl; bytes = story_bytes; objects = story_table; tables = refl; frames = first; few = omega arith; count = tt }
 
 -- each bound of a frame is reached, and a word more on the stack is too many
 full_frame : (stack locals : List ℕ) → length stack ≡ 65535 → length locals ≡ 15 → AreWords stack → AreWords locals → IsFrame (record { return_place = 16777215; result = 255; supplied = 3; locals = locals; stack = stack })
@@ -142,7 +143,7 @@ all_first zero = first
 all_first (suc n) = (first.0, all_first n)
 
 many_frames : (n : ℕ) → n ≤ 1024 → IsState usual_limit tabled (record (opening tabled) { callers = replicate n first_frame })
-many_frames n few = record { memory = refl; bytes = story_bytes; objects = story_table; frames = all_first n; few = omega (arith, few, length-replicate n first_frame); count = tt }
+many_frames n few = record { memory = refl; bytes = story_bytes; objects = story_table; tables = refl; frames = all_first n; few = omega (arith, few, length-replicate n first_frame); count = tt }
 
 too_many_frames : (s : State) → length s.callers ≡ 1025 → IsState usual_limit story s → ⊥
 too_many_frames s many is = omega (arith, many, is.few)
@@ -289,6 +290,26 @@ attributes = (refl, refl, refl, refl, refl)
 links : (effect_of in_tabled (operations.Follow Child) (1 ∷ []) (opening tabled) ≡ Ok (record proceeds { gives = Some 2; tests = Some true })) × (effect_of in_tabled (operations.Follow Parent) (2 ∷ []) (opening tabled) ≡ Ok (following 1)) × (effect_of in_tabled (operations.Follow Sibling) (2 ∷ []) (opening tabled) ≡ Ok (record proceeds { gives = Some 0; tests = Some false })) × (effect_of in_tabled (operations.Follow Parent) (0 ∷ []) (opening tabled) ≡ Err (halts.Fault AbsentObject))
 unfolding effect_of in_tabled tabled memory code
 links = (refl, refl, refl, refl)
+
+-- attribute 9 is the second bit from the top of the second byte of an entry; that of the second object stands at 151
+marked : (effect_of in_tabled operations.SetAttribute (1 ∷ 9 ∷ []) (opening tabled) ≡ Ok (rewriting (slice_set tabled.memory 142 0x40))) × (effect_of in_tabled operations.ClearAttribute (2 ∷ 9 ∷ []) (opening tabled) ≡ Ok (rewriting (slice_set tabled.memory 151 0))) × (effect_of in_tabled operations.SetAttribute (1 ∷ 32 ∷ []) (opening tabled) ≡ Err (halts.Fault AbsentAttribute)) × (effect_of in_tabled operations.ClearAttribute (0 ∷ 32 ∷ []) (opening tabled) ≡ Err (halts.Fault AbsentObject))
+unfolding effect_of in_tabled tabled memory code
+marked = (refl, refl, refl, refl)
+
+-- the second object leaves the first, whose child is at 147 and whose parent at 145; its own parent stands at 154
+rearranged : (effect_of in_tabled operations.Remove (2 ∷ []) (opening tabled) ≡ Ok (rewriting (slice_set (slice_set tabled.memory 147 0) 154 0))) × (effect_of in_tabled operations.Insert (1 ∷ 2 ∷ []) (opening tabled) ≡ Ok (rewriting (slice_set (slice_set tabled.memory 145 2) 156 1))) × (effect_of in_tabled operations.Insert (1 ∷ 3 ∷ []) (opening tabled) ≡ Err (halts.Fault AbsentObject)) × (effect_of in_tabled operations.Insert (0 ∷ 2 ∷ []) (opening tabled) ≡ Err (halts.Fault AbsentObject)) × (effect_of in_tabled operations.Remove (3 ∷ []) (opening tabled) ≡ Err (halts.Fault AbsentObject))
+unfolding effect_of in_tabled tabled memory code row
+rearranged = (refl, refl, refl, refl, refl)
+
+-- a parent that is none of the objects is met on the way
+unmoved : effect_of in_tabled operations.Remove (2 ∷ []) (record (opening tabled) { memory = slice_set tabled.memory 154 3 }) ≡ Err (halts.Fault AbsentObject)
+unfolding effect_of in_tabled tabled memory code
+unmoved = refl
+
+-- the memory is rewritten before a global of it is
+rewritten_first : (changed tabled (record { opcode = Nop; operands = []; store = Some 16; branch = None; size = 1 }) (record (rewriting (replicate 71 9)) { gives = Some 0x102 }) (opening tabled)).memory ≡ replicate 64 9 ++ 1 ∷ 2 ∷ replicate 5 9
+unfolding changed put put_named tabled memory code
+rewritten_first = refl
 
 -- 0 is no routine, nor is what has 255 locals, what isn't listed, and what has no head any more
 uncalled : (effect_of setting operations.Call (0 ∷ 7 ∷ []) state ≡ Ok (giving 0)) × (effect_of setting operations.Call (34 ∷ []) state ≡ Err (halts.Fault UnlistedCall)) × (effect_of (record setting { scope = scope_only (record { records = []; routines = 66 ∷ [] }) }) operations.Call (32 ∷ []) state ≡ Err (halts.Fault UnlistedCall)) × (effect_of setting operations.Call (32 ∷ []) (record state { memory = slice_set memory 64 16 }) ≡ Err (halts.Fault UnlistedCall))

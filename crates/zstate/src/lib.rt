@@ -8,6 +8,7 @@ mod halt;
 mod head;
 mod laws;
 mod mode;
+mod objects;
 mod state;
 
 pub use calling::{has_head, local_at};

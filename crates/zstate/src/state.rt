@@ -23,7 +23,7 @@ use zstory::Story;
 /// which the newest is first.
 #[derive(Drop)]
 pub struct State {
-    memory: Vec<u8>,
+    pub(crate) memory: Vec<u8>,
     frames: Frames,
     place: i32,
     random: RandomMode,
