@@ -42,6 +42,7 @@ module _ {V : Type 0} (o : SetOperations V) (lawful : AreSound o) (format : Form
     heads = heads_where o format story c spelling (passes.story_rules rules.RoutineHeads);
     values = passes.story_rules rules.FirstGlobals;
     low = low;
+    few = let count = spelling.globals in omega (arith, count);
     tree = passes.story_rules rules.Tree;
     abbreviations = passes.story_rules rules.Abbreviations;
     tables = passes.story_rules rules.Tables;

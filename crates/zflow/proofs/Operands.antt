@@ -3,7 +3,7 @@ use Rattle.std.proofs.Common.{◌≡◌, ℕ, Bool, List, Some, None, refl}
 use Rattle.zstory.specs.LoadedStory.{LoadedStory}
 use Rattle.zcode.specs.declared.instr.Operand.{Operand}
 use Rattle.zcode.specs.declared.operation.Operation.{Operation}
-use Rattle.zcode.specs.declared.operation.Operation.TheVariants.{Unary, Binary, Compare, Count, Store, Load, Jump, Verify, PrintChar, PrintNumber, Print, NewLine, Nop, Quit, Return, PrintReturn, Call, Inside, TestAttribute, Follow}
+use Rattle.zcode.specs.declared.operation.Operation.TheVariants.{Unary, Binary, Compare, Count, Store, Load, Jump, Verify, PrintChar, PrintNumber, Print, NewLine, Nop, Quit, Return, PrintReturn, Call, Inside, TestAttribute, Follow, SetAttribute, ClearAttribute, Insert, Remove}
 use Rattle.zdomain.specs.Domain.{SetOperations}
 use Rattle.zflow.specs.Transfer.{Shape, demands_of, outcome_of}
 use Rattle.zflow.specs.Kept.{both}
@@ -31,6 +31,10 @@ module _ {V : Type 0} (o : SetOperations V) where
   demands_read Inside arg = refl
   demands_read TestAttribute arg = refl
   demands_read (Follow link) arg = refl
+  demands_read SetAttribute arg = refl
+  demands_read ClearAttribute arg = refl
+  demands_read Insert arg = refl
+  demands_read Remove arg = refl
 
   pub outcome_read : (globals : List V) (story : LoadedStory) (operation : Operation) (operands : List Operand) (arg : ℕ → V) (e : Shape V) (c : Bool) → outcome_of o globals story operation operands arg e c ≡ outcome_of o globals story operation operands (both (arg 0) (arg 1)) e c
   unfolding outcome_of
@@ -55,3 +59,7 @@ module _ {V : Type 0} (o : SetOperations V) where
   outcome_read globals story Inside operands arg e c = refl
   outcome_read globals story TestAttribute operands arg e c = refl
   outcome_read globals story (Follow link) operands arg e c = refl
+  outcome_read globals story SetAttribute operands arg e c = refl
+  outcome_read globals story ClearAttribute operands arg e c = refl
+  outcome_read globals story Insert operands arg e c = refl
+  outcome_read globals story Remove operands arg e c = refl

@@ -278,6 +278,11 @@ asked : (option_map ends (demands_on (branching opcodes.Jin (Variable 1 ∷ Vari
 unfolding operation_of demands_of shape globals child jump
 asked = (refl, refl, refl, refl, refl, refl)
 
+-- of the two of a move the one that is moved comes first
+moved_objects : (option_map ends (demands_on (plain opcodes.InsertObj (Variable 1 ∷ Variable 2 ∷ []))).object ≡ Some (span 0 9)) × (option_map ends (demands_on (plain opcodes.InsertObj (Variable 1 ∷ Variable 2 ∷ []))).under ≡ Some (only 1)) × (option_map ends (demands_on (plain opcodes.RemoveObj (Variable 2 ∷ []))).object ≡ Some (only 1)) × (option_map ends (demands_on (plain opcodes.RemoveObj (Variable 2 ∷ []))).under ≡ None) × (option_map ends (demands_on (plain opcodes.SetAttr (Variable 1 ∷ Variable 2 ∷ []))).object ≡ Some (span 0 9)) × (option_map ends (demands_on (plain opcodes.ClearAttr (Variable 1 ∷ Variable 2 ∷ []))).attribute ≡ Some (only 1))
+unfolding operation_of demands_of shape globals
+moved_objects = (refl, refl, refl, refl, refl, refl)
+
 -- ---- what prints or does nothing
 
 texts : ((demands_on (plain opcodes.Print [])).has_text ≡ true) × ((demands_on (plain opcodes.NewLine [])).has_text ≡ false)
@@ -287,9 +292,9 @@ texts = (refl, refl)
 abbrev stays : Option (List Ends)
 stays = Some (only 7 ∷ span 20 30 ∷ [])
 
-proceeds : (slots_on (plain opcodes.Print []) true ≡ stays) × (slots_on (plain opcodes.NewLine []) true ≡ stays) × (slots_on (plain opcodes.PrintChar (Constant 65 ∷ [])) true ≡ stays) × (slots_on (plain opcodes.PrintNum (Variable 0 ∷ [])) true ≡ Some (span 20 30 ∷ [])) × (slots_on (plain opcodes.Nop []) true ≡ stays) × (slots_on (plain opcodes.Pop []) true ≡ Some (span 20 30 ∷ [])) × (outcome_on (plain opcodes.Nop []) false ≡ nothing)
+proceeds : (slots_on (plain opcodes.Print []) true ≡ stays) × (slots_on (plain opcodes.NewLine []) true ≡ stays) × (slots_on (plain opcodes.PrintChar (Constant 65 ∷ [])) true ≡ stays) × (slots_on (plain opcodes.PrintNum (Variable 0 ∷ [])) true ≡ Some (span 20 30 ∷ [])) × (slots_on (plain opcodes.Nop []) true ≡ stays) × (slots_on (plain opcodes.InsertObj (Variable 0 ∷ Constant 2 ∷ [])) true ≡ Some (span 20 30 ∷ [])) × (slots_on (plain opcodes.SetAttr (Constant 1 ∷ Constant 2 ∷ [])) true ≡ stays) × (outcome_on (plain opcodes.RemoveObj (Constant 1 ∷ [])) false ≡ nothing) × (slots_on (plain opcodes.Pop []) true ≡ Some (span 20 30 ∷ [])) × (outcome_on (plain opcodes.Nop []) false ≡ nothing)
 unfolding operation_of outcome_of shape globals
-proceeds = (refl, refl, refl, refl, refl, refl, refl)
+proceeds = (refl, refl, refl, refl, refl, refl, refl, refl, refl, refl)
 
 -- nothing comes of quit, and of an opcode of which nothing is said
 ends_there : (outcome_on (plain opcodes.Quit []) true ≡ nothing) × (outcome_on (plain opcodes.Quit []) false ≡ nothing) × (outcome_on (plain opcodes.Restart []) true ≡ nothing)

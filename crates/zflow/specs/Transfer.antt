@@ -15,7 +15,7 @@ use Rattle.zcode.specs.declared.instr.Branch.{Branch}
 use Rattle.zcode.specs.declared.instr.Destination.{Destination}
 use Rattle.zcode.specs.declared.instr.Destination.TheVariants.{ReturnFalse, ReturnTrue, Relative}
 use Rattle.zcode.specs.declared.operation.Operation.{Operation}
-use Rattle.zcode.specs.declared.operation.Operation.TheVariants.{Unary, Binary, Compare, Count, Store, Load, Jump, Verify, PrintChar, PrintNumber, Print, NewLine, Nop, Quit, Return, PrintReturn, Call, Inside, TestAttribute, Follow}
+use Rattle.zcode.specs.declared.operation.Operation.TheVariants.{Unary, Binary, Compare, Count, Store, Load, Jump, Verify, PrintChar, PrintNumber, Print, NewLine, Nop, Quit, Return, PrintReturn, Call, Inside, TestAttribute, Follow, SetAttribute, ClearAttribute, Insert, Remove}
 use Rattle.zcode.specs.Instruction.{Instruction}
 use Rattle.zcode.specs.Operation.{operation_of, inputs, target}
 use Rattle.zdomain.specs.Domain.{SetOperations}
@@ -69,7 +69,7 @@ module _ {V : Type 0} (o : SetOperations V) (globals : List V) where
 -- ---- what an operation asks for, once for an instruction
 
 abbrev pub nothing : {V : Type 0} → Demands V
-nothing = record { indirect = false; variable = None; divisor = None; object = None; attribute = None; certain = true; has_text = false }
+nothing = record { indirect = false; variable = None; divisor = None; object = None; under = None; attribute = None; certain = true; has_text = false }
 
 abbrev pub naming : {V : Type 0} → Option ℕ → Demands V
 naming variable = record nothing { indirect = true; variable = variable }
@@ -107,6 +107,10 @@ module _ {V : Type 0} (o : SetOperations V) where
   demands_of Inside arg = record nothing { object = Some (arg 0) }
   demands_of TestAttribute arg = record nothing { object = Some (arg 0); attribute = Some (arg 1) }
   demands_of (Follow link) arg = record nothing { object = Some (arg 0) }
+  demands_of SetAttribute arg = record nothing { object = Some (arg 0); attribute = Some (arg 1) }
+  demands_of ClearAttribute arg = record nothing { object = Some (arg 0); attribute = Some (arg 1) }
+  demands_of Insert arg = record nothing { object = Some (arg 0); under = Some (arg 1) }
+  demands_of Remove arg = record nothing { object = Some (arg 0) }
 
   abbrev pub demands_if : Option Operation → (ℕ → V) → Demands V
   demands_if None arg = nothing
@@ -218,6 +222,10 @@ module _ {V : Type 0} (o : SetOperations V) (globals : List V) (story : LoadedSt
   outcome_of Inside operands arg e c = Some (asks c untold)
   outcome_of TestAttribute operands arg e c = Some (asks c untold)
   outcome_of (Follow link) operands arg e c = followed_outcome o globals story.objects c
+  outcome_of SetAttribute operands arg e c = once c goes_on
+  outcome_of ClearAttribute operands arg e c = once c goes_on
+  outcome_of Insert operands arg e c = once c goes_on
+  outcome_of Remove operands arg e c = once c goes_on
 
   abbrev pub outcome_if : Option Operation → List Operand → (ℕ → V) → Shape V → Bool → Option (Outcome V)
   outcome_if None operands arg e c = None

@@ -20,8 +20,14 @@ fn demands_of<V: Domain>(operation: Operation, first: V, second: V) -> Demands<V
         Operation::Count(..) | Operation::Store | Operation::Load => return naming(named(first)),
         Operation::Jump => demands.certain = first.known().is_some(),
         Operation::Print | Operation::PrintReturn => demands.has_text = true,
-        Operation::Inside | Operation::Follow(_) => demands.object = Some(first),
-        Operation::TestAttribute => {
+        Operation::Inside | Operation::Follow(_) | Operation::Remove => {
+            demands.object = Some(first);
+        }
+        Operation::Insert => {
+            demands.object = Some(first);
+            demands.under = Some(second);
+        }
+        Operation::TestAttribute | Operation::SetAttribute | Operation::ClearAttribute => {
             demands.object = Some(first);
             demands.attribute = Some(second);
         }
@@ -68,6 +74,7 @@ fn nothing<V: Domain>() -> Demands<V>
         variable: None,
         divisor: None,
         object: None,
+        under: None,
         attribute: None,
         certain: true,
         has_text: false,

@@ -69,7 +69,11 @@ fn outcomes_of<V: Domain>(
         | Operation::PrintNumber
         | Operation::Print
         | Operation::NewLine
-        | Operation::Nop => once(goes_on()),
+        | Operation::Nop
+        | Operation::SetAttribute
+        | Operation::ClearAttribute
+        | Operation::Insert
+        | Operation::Remove => once(goes_on()),
         Operation::Quit => never(),
         Operation::Return => once(returns_in(first)),
         Operation::PrintReturn => once(returns_in(V::single(1))),

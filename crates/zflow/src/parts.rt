@@ -11,6 +11,8 @@ pub struct Demands<V> {
     pub divisor: Option<V>,
     /// The values that it takes for the number of an object.
     pub object: Option<V>,
+    /// The values that it takes for the number of the object that another is put under.
+    pub under: Option<V>,
     /// The values that it takes for the number of an attribute.
     pub attribute: Option<V>,
     /// It is known how far it jumps, if it jumps.

@@ -224,7 +224,7 @@ asks_hello c leads text rules.Decodes = tt
 asks_hello c leads text rules.Height = λ known. (omega arith, tt)
 asks_hello c leads text rules.Local = λ known. (tt, tt, tt)
 asks_hello c leads text rules.Successor = λ divides begins. (refl, by_answers c hello bare _ (λ low. (803, refl, leads)) tt)
-asks_hello c leads text rules.Object = tt
+asks_hello c leads text rules.Object = (tt, tt)
 asks_hello c leads text rules.Attribute = tt
 asks_hello c leads text rules.Divisor = tt
 asks_hello c leads text rules.Text = text
@@ -241,7 +241,7 @@ asks_line c leads rules.Decodes = tt
 asks_line c leads rules.Height = λ known. (omega arith, tt)
 asks_line c leads rules.Local = λ known. (tt, tt, tt)
 asks_line c leads rules.Successor = λ divides begins. (refl, by_answers c line bare _ (λ low. (804, refl, leads)) tt)
-asks_line c leads rules.Object = tt
+asks_line c leads rules.Object = (tt, tt)
 asks_line c leads rules.Attribute = tt
 asks_line c leads rules.Divisor = tt
 asks_line c leads rules.Text = tt
@@ -258,7 +258,7 @@ asks_stop c rules.Decodes = tt
 asks_stop c rules.Height = λ known. (omega arith, tt)
 asks_stop c rules.Local = λ known. (tt, tt, tt)
 asks_stop c rules.Successor = λ divides begins. (refl, by_answers c stop bare _ tt tt)
-asks_stop c rules.Object = tt
+asks_stop c rules.Object = (tt, tt)
 asks_stop c rules.Attribute = tt
 asks_stop c rules.Divisor = tt
 asks_stop c rules.Text = tt
@@ -336,6 +336,7 @@ supports = record {
   heads = record { even = λ p k begins. absurd cc; static = λ p k begins. absurd cc; there = λ p k begins. absurd cc };
   values = values;
   low = low;
+  few = omega arith;
   tree = record { small = λ link object least most. absurd (omega (arith, least, most)) };
   abbreviations = record { plain = plain; unchanging = abbreviations_stay };
   tables = tables;

@@ -19,7 +19,9 @@ mod Calling
 mod Pieces
 pub mod Opening
 pub mod Safety
+pub mod Steps
 pub mod Relied
+pub mod Rewriting
 pub mod Runs
 mod Worked
 pub mod Instances

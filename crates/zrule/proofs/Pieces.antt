@@ -1,20 +1,22 @@
 -- What a step is made of, for the proof that it is safe.
 use Rattle.std.proofs.Common.{◌≡◌, ℕ, zero, suc, ◌-◌, ◌<◌, ◌≤◌, Bool, true, false, List, [], ◌∷◌, length, take, Option, Some, None, Result, Ok, refl, subst, arith, nat_lt, nat_le, slice_set, if◌then◌else◌}
-use Rattle.std.specs.Prelude.{IfSome, MatchOption, slice_get, slice_index, ◌==◌, ◌&&◌}
+use Rattle.std.specs.Prelude.{IfSome, MatchOption, slice_get, slice_index, ◌==◌, ◌&&◌, ◌||◌}
 use Rattle.std.specs.Bool.{OnTrue}
 use Rattle.std.specs.List.{AllByRecursion}
-use Rattle.std.proofs.lemmas.Bool.{ltb-true, lt-ltb, ne_eqb}
+use Rattle.std.proofs.lemmas.Bool.{le-leb, ltb-true, lt-ltb, ne_eqb}
 use Rattle.std.proofs.lemmas.List.{get_or-set_same, length-set}
 use Rattle.zword.specs.declared.binary.BinaryOp.{BinaryOp}
 use Rattle.zword.specs.declared.binary.BinaryOp.TheVariants.{Add, Sub, Mul, Div, Mod, Or, And}
 use Rattle.zword.specs.Binary.{is_defined}
+use Rattle.zword.specs.declared.question.Question.{Question}
+use Rattle.zword.specs.Question.{holds}
 use Rattle.zstory.specs.LoadedStory.{LoadedStory}
 use Rattle.zcode.specs.declared.instr.Operand.{Operand}
 use Rattle.zcode.specs.declared.operation.Operation.TheVariants.{Binary}
 use Rattle.zdomain.specs.Domain.{SetOperations, AreSound, In}
 use Rattle.zstate.specs.declared.halt.Halt.{Halt}
 use Rattle.zstate.specs.State.{State, exists, put_named, put_in_place}
-use Rattle.zstate.specs.Step.{Done}
+use Rattle.zstate.specs.Step.{Done, arg, asked_of}
 use Rattle.zflow.specs.Transfer.{Shape, pops, local_kept, demands_of, slots_with, with_assigned}
 use Rattle.zrule.specs.Claims.{Claims}
 use Rattle.zrule.specs.Rules.{IsNamed}
@@ -65,6 +67,25 @@ defined_where o Or a y h member = refl
 defined_where o And a y h member = refl
 defined_where o Div a y h member = let n = ne_eqb y 0 (λ e. h (subst (λ (n : ℕ). In o a n) e member)) in rw n refl
 defined_where o Mod a y h member = let n = ne_eqb y 0 (λ e. h (subst (λ (n : ℕ). In o a n) e member)) in rw n refl
+
+-- two operands that are compared, or more
+pub two_asked : (q : Question) (values : List ℕ) → length values ≡ 2 → asked_of q values ≡ holds q (arg values 0) (arg values 1)
+two_asked q [] e = absurd cc
+two_asked q (x ∷ []) e = absurd cc
+two_asked q (x ∷ y ∷ []) e = or_false (holds q x y)
+  where
+    or_false : (b : Bool) → (b || false) ≡ b
+    or_false true = refl
+    or_false false = refl
+two_asked q (x ∷ y ∷ z ∷ values) e = absurd (omega (arith, e))
+
+-- an object's number is known for one
+pub object_known : (objects x : ℕ) → (1 ≤ x) × (x ≤ objects) → (nat_le 1 x && nat_le x objects) ≡ true
+object_known objects x h = let a = le-leb 1 x h.0 in let b = le-leb x objects h.1 in rw (a, b) refl
+
+pub not_zero : (x : ℕ) → (x == 0) ≡ false → x ≡ 0 → ⊥
+not_zero zero e is = absurd cc
+not_zero (suc x) e is = absurd cc
 
 pub same_read : (x y : List ℕ × State) → ◌≡◌ {A = Result (List ℕ × State) Halt} (Ok x) (Ok y) → x ≡ y
 same_read x y e = cc

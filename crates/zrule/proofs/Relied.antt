@@ -19,8 +19,8 @@ use Rattle.zrule.specs.Rules.{Begins, IsThere, Supports, comes_back}
 use Rattle.zrule.specs.Described.{Described, IsListedIn, IsLoadedStory}
 use Rattle.zrule.proofs.Sets.{ReadsAll, zip_length}
 use Rattle.zrule.proofs.Settling.{pauses_there}
-use Rattle.zrule.proofs.Pieces.{no_lower, same_read}
-use Rattle.zrule.proofs.Safety.{ComesOf, Matches, Expected, edge, expected, all, asked, known_jump, CallsOf, begins_said, entry_edge, not_zero, fetches, low}
+use Rattle.zrule.proofs.Pieces.{not_zero, no_lower, same_read}
+use Rattle.zrule.proofs.Safety.{ComesOf, Matches, Expected, edge, expected, all, asked, known_jump, CallsOf, begins_said, entry_edge, fetches, low}
 
 module _ {V : Type 0} (o : SetOperations V) (lawful : AreSound o) (claims : Claims V) (m : Setting) (loaded : IsLoadedStory m.story) (supports : Supports o claims m.story) (listed : IsListedIn o claims m.scope) (s : State) (d : Described o claims m.limit m.story s) (i : Instruction) (there : IsThere m.story d.at i) where
   abbrev operands : List Operand
@@ -54,7 +54,7 @@ module _ {V : Type 0} (o : SetOperations V) (lawful : AreSound o) (claims : Clai
   -- what is called is a routine that begins as is said
   called_begins : CallsOf o lawful claims m loaded supports listed s d i there (Some Call) → (arg all_there.values 0 == 0) ≡ false → Begins o claims m.story given_args (unpacked (arg all_there.values 0))
   unfolding CallsOf
-  called_begins rule e = let on_edge = entry_edge o lawful claims m loaded supports listed s d i there e in rule (enters_in on_edge.a) on_edge.comes (arg all_there.values 0) on_edge.member (not_zero o lawful claims m loaded supports listed s d i there (arg all_there.values 0) e)
+  called_begins rule e = let on_edge = entry_edge o lawful claims m loaded supports listed s d i there e in rule (enters_in on_edge.a) on_edge.comes (arg all_there.values 0) on_edge.member (not_zero (arg all_there.values 0) e)
 
   pub called_as_said : operation_of i.opcode ≡ Some Call → (values : List ℕ) (u : State) → read_operands m.story operands s ≡ Ok (values, u) → (arg values 0 == 0) ≡ false → Begins o claims m.story given_args (unpacked (arg values 0))
   called_as_said call values u read some =

@@ -14,13 +14,13 @@ use Rattle.zrule.specs.Claims.{Claims}
 use Rattle.zrule.specs.Rules.{Supports}
 use Rattle.zrule.specs.Described.{Described, IsSafe, IsListedIn, IsNoFault, IsLoadedStory}
 use Rattle.zrule.proofs.Opening.{opening_described}
-use Rattle.zrule.proofs.Safety.{step_safe}
+use Rattle.zrule.proofs.Steps.{step_safe}
 use Rattle.zrule.proofs.Stepping.{read_within}
 
 -- an event changes nothing that is described
 pub described_given : {V : Type 0} (o : SetOperations V) (claims : Claims V) (limit : ℕ) (story : LoadedStory) (e : Event) (s : State) → Described o claims limit story s → Described o claims limit story (give e s)
 described_given o claims limit story e s d = record {
-  is_state = record { memory = d.is_state.memory; bytes = d.is_state.bytes; objects = d.is_state.objects; frames = d.is_state.frames; few = d.is_state.few; count = d.is_state.count };
+  is_state = record { memory = d.is_state.memory; bytes = d.is_state.bytes; objects = d.is_state.objects; tables = d.is_state.tables; frames = d.is_state.frames; few = d.is_state.few; count = d.is_state.count };
   at = d.at;
   place = d.place;
   entry = d.entry;

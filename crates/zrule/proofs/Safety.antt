@@ -22,13 +22,15 @@ use Rattle.zcode.specs.declared.instr.Operand.TheVariants.{Constant, Variable}
 use Rattle.zcode.specs.declared.instr.Destination.{Destination}
 use Rattle.zcode.specs.declared.instr.Destination.TheVariants.{ReturnFalse, ReturnTrue, Relative}
 use Rattle.zcode.specs.declared.operation.Operation.{Operation}
-use Rattle.zcode.specs.declared.operation.Operation.TheVariants.{Unary, Binary, Compare, Count, Store, Load, Jump, Verify, PrintChar, PrintNumber, Print, NewLine, Nop, Quit, Return, PrintReturn, Call, Inside, TestAttribute, Follow}
+use Rattle.zcode.specs.declared.operation.Operation.TheVariants.{Unary, Binary, Compare, Count, Store, Load, Jump, Verify, PrintChar, PrintNumber, Print, NewLine, Nop, Quit, Return, PrintReturn, Call, Inside, TestAttribute, Follow, SetAttribute, ClearAttribute, Insert, Remove}
 use Rattle.zcode.specs.Instruction.{Instruction}
 use Rattle.zcode.specs.Operation.{operation_of, inputs, target}
 use Rattle.zcode.specs.Playable.{playable}
 use Rattle.zcode.specs.Reading.{instruction_at}
 use Rattle.zcode.proofs.Found.{found}
 use Rattle.zcode.proofs.Operating.{played_operate}
+use Rattle.std.specs.Result.{IsOkAnd}
+use Rattle.zobj.specs.declared.error.ObjectError.{ObjectError}
 use Rattle.zobj.specs.declared.tree.Link.{Link}
 use Rattle.zdomain.specs.Domain.{SetOperations, AreSound, In, Within}
 use Rattle.zstate.specs.declared.halt.Halt.{Halt}
@@ -36,7 +38,7 @@ use Rattle.zstate.specs.declared.halt.Halt.TheVariants as halts
 use Rattle.zstate.specs.InTurn.{◌>>=◌}
 use Rattle.zstate.specs.State.{Frame, State, Setting, IsState, at_place, popped, with_stack, with_locals, with_memory, write_word, global, has_room, exists, put_named, put_in_place, read_in_place, has_head, fault}
 use Rattle.zstate.specs.Run.{IsFull}
-use Rattle.zstate.specs.Step.{Called, Move, on, back, into, calling, closing, called_at, call_of, unpacked, arguments, initial, behind_head, place_of, entered, Effect, Done, way, arg, asked_of, giving, assigning, testing, printing, jumping, following, fetch, printed, print_at, effect_of, effect_if, has_caller, is_taken, is_roomy, turned, course, admits, pauses, assigned, changed, stored, left, moved, advance, act, step}
+use Rattle.zstate.specs.Step.{Called, Move, on, back, into, calling, closing, called_at, call_of, unpacked, arguments, initial, behind_head, place_of, entered, Effect, Done, way, arg, asked_of, giving, assigning, testing, printing, jumping, following, marking, rearranging, rewriting, rewritten, fetch, printed, print_at, effect_of, effect_if, has_caller, is_taken, is_roomy, turned, course, admits, pauses, assigned, changed, stored, left, moved, advance, act, step}
 use Rattle.zstate.proofs.Keeps.{put_aside, changed_aside, step_keeps}
 use Rattle.zflow.specs.declared.parts.Lead.{Lead}
 use Rattle.zflow.specs.declared.parts.Lead.TheVariants.{Ahead, Returning, Entering}
@@ -46,7 +48,7 @@ use Rattle.zflow.specs.declared.parts.Demands.{Demands}
 use Rattle.zflow.specs.Transfer.{Shape, pops, variable_set, small, local_kept, operand_kept, both_kept, untold, counted_set, demands_of, demands_if, goes_on, gives_in, assigns_in, asks, counts_in, follows_in, returns_in, enters_in, argument_sets, jumps, outcome_of, outcome_if, leading, turned_to, named_with, with_result, with_assigned, narrowed, read_set, mid_shape, changed_by, after}
 use Rattle.zrule.specs.declared.rule.Rule.TheVariants as rules
 use Rattle.zrule.specs.Claims.{Claims}
-use Rattle.zrule.specs.Rules.{Begins, Enters, TakesBack, result_if, result_at, Leads, IsThere, HasFixedText, IsKnown, IsNamed, IsVariable, HasTop, Supports, Takes, TakesInPlace, GoesOn, Returns, OnEdge, demands_at}
+use Rattle.zrule.specs.Rules.{Begins, Enters, TakesBack, result_if, result_at, Leads, IsThere, HasFixedText, IsKnown, IsNamed, IsVariable, HasTop, Supports, Takes, TakesInPlace, GoesOn, Returns, OnEdge, demands_at, AreObjects}
 use Rattle.zrule.specs.Described.{Callers, Described, DescribedMemory, Fits, FitsWith, IsSafe, IsListedIn, IsLoadedStory}
 use Rattle.zrule.proofs.Sets.{ReadsAll, reads_all, fits_popped, zip_set, zip_length}
 use Rattle.zrule.proofs.Unchanged.{static_fixed, drop_same, abbreviation_same}
@@ -57,7 +59,8 @@ use Rattle.zrule.proofs.Fitting.{IsIn, exists_in, named_in, length_with, given_f
 use Rattle.zrule.proofs.Memory.{global_put}
 use Rattle.zrule.proofs.Parts.{Hold, HoldsOne, narrowed_fits, variable_there, small_is}
 use Rattle.zrule.proofs.Stepping.{fetch_is, done_at, made_by, step_is}
-use Rattle.zrule.proofs.Pieces.{not_both, on_true, first_there, assigned_local, length_assigned, edge_of, defined_where, kept_holds}
+use Rattle.zrule.proofs.Pieces.{not_both, not_zero, object_known, on_true, two_asked, first_there, assigned_local, length_assigned, edge_of, defined_where, kept_holds}
+use Rattle.zrule.proofs.Rewriting.{inserted_described, marked_described, unlinked_described}
 
 module _ {V : Type 0} (o : SetOperations V) (lawful : AreSound o) (claims : Claims V) (m : Setting) (loaded : IsLoadedStory m.story) (supports : Supports o claims m.story) (listed : IsListedIn o claims m.scope) (s : State) (d : Described o claims m.limit m.story s) (i : Instruction) (there : IsThere m.story d.at i) where
   abbrev operands : List Operand
@@ -108,7 +111,7 @@ module _ {V : Type 0} (o : SetOperations V) (lawful : AreSound o) (claims : Clai
     exists : IfSome out.variable (IsVariable o claims d.entry.shape)
     known : OnTrue out.indirect (IsTrue (is_some out.variable))
     divides : IfSome out.divisor (λ a. In o a 0 → ⊥)
-    pub object : IfSome out.object (λ a. (x : ℕ) → In o a x → (1 ≤ x) × (x ≤ m.story.objects))
+    pub object : IfSome out.object (AreObjects o m.story) × IfSome out.under (AreObjects o m.story)
     pub attribute : IfSome out.attribute (λ a. (x : ℕ) → In o a x → x < 32)
     pub certain : IsTrue out.certain
     text : OnTrue out.has_text (HasFixedText m.story claims.is_frozen (d.at + 1))
@@ -253,6 +256,7 @@ module _ {V : Type 0} (o : SetOperations V) (lawful : AreSound o) (claims : Clai
   pub record Matches (w : Outcome V) (effect : Effect) : Type 0 where
     gives : GivenIn o claims m.story loaded supports.tables w.gives effect.gives
     assigns : AssignedIn w.assigns effect.assigns
+    memory : IfSome effect.memory (DescribedMemory o claims m.story)
     tests : effect.tests ≡ w.tests
     leads : LeadsIn w.leads effect.moves
     kept : Hold o lawful w.kept (changed m.story i effect t).frame.locals
@@ -323,19 +327,19 @@ module _ {V : Type 0} (o : SetOperations V) (lawful : AreSound o) (claims : Clai
   -- what prints, or does nothing, and goes on
   goes_expected : (k : Operation) (bytes : List ℕ) → ComesOf (Some k) goes_on → Expected (Some k) (Ok (printing bytes))
   unfolding Expected LeadsIn AssignedIn changed
-  goes_expected k bytes comes = inr (goes_on, comes, record { gives = tt; assigns = tt; tests = refl; leads = refl; kept = (tt, tt); needs = refl; goes = refl })
+  goes_expected k bytes comes = inr (goes_on, comes, record { gives = tt; assigns = tt; tests = refl; leads = refl; kept = (tt, tt); memory = tt; needs = refl; goes = refl })
 
   gives_expected : (k : Operation) (a : V) (x : ℕ) → ComesOf (Some k) (gives_in a) → In o a x → Expected (Some k) (Ok (giving x))
   unfolding Expected LeadsIn AssignedIn changed
-  gives_expected k a x comes member = inr (gives_in a, comes, record { gives = member; assigns = tt; tests = refl; leads = refl; kept = (tt, tt); needs = refl; goes = refl })
+  gives_expected k a x comes member = inr (gives_in a, comes, record { gives = member; assigns = tt; tests = refl; leads = refl; kept = (tt, tt); memory = tt; needs = refl; goes = refl })
 
   assigns_expected : (k : Operation) (v : ℕ) (a : V) (w x : ℕ) → ComesOf (Some k) (assigns_in v a) → w ≡ v → In o a x → IsVariable o claims d.entry.shape v → Expected (Some k) (Ok (assigning w x))
   unfolding Expected LeadsIn AssignedIn changed
-  assigns_expected k v a w x comes same member exists = inr (assigns_in v a, comes, record { gives = tt; assigns = (same, member, exists); tests = refl; leads = refl; kept = (tt, tt); needs = refl; goes = refl })
+  assigns_expected k v a w x comes same member exists = inr (assigns_in v a, comes, record { gives = tt; assigns = (same, member, exists); tests = refl; leads = refl; kept = (tt, tt); memory = tt; needs = refl; goes = refl })
 
   asks_expected : (k : Operation) (c : Bool) (kept : Kept V) → ComesOf (Some k) (asks c kept) → Hold o lawful kept s.frame.locals → Expected (Some k) (Ok (testing c))
   unfolding Expected LeadsIn AssignedIn changed
-  asks_expected k c kept comes hold = inr (asks c kept, comes, record { gives = tt; assigns = tt; tests = refl; leads = refl; kept = hold; needs = refl; goes = refl })
+  asks_expected k c kept comes hold = inr (asks c kept, comes, record { gives = tt; assigns = tt; tests = refl; leads = refl; kept = hold; memory = tt; needs = refl; goes = refl })
 
   printed_expected : (r : Result (List ℕ) TextError) → IsOk r → ComesOf (Some Print) goes_on → Expected (Some Print) (printed r)
   printed_expected (Ok bytes) ok comes = goes_expected Print bytes comes
@@ -348,17 +352,6 @@ module _ {V : Type 0} (o : SetOperations V) (lawful : AreSound o) (claims : Clai
       let same : drop (d.at + 1) s.memory ≡ drop (d.at + 1) m.story.memory = drop_same m.story loaded.sound loaded.counted claims.is_frozen s.memory d.memory.long d.memory.fixed (d.at + 1) above in
       let found : text_at s.memory (d.at + 1) ≡ Some rule.text = ap front_text same ∙ rule.found in
       output_at-ok s.memory (d.at + 1) rule.text (λ n few. abbreviation_same m.story loaded.sound loaded.counted claims.is_frozen s.memory d.memory.long d.memory.fixed supports.abbreviations n few) found
-
-  -- two operands that are compared, or more
-  two_asked : (q : Question) (values : List ℕ) → length values ≡ 2 → asked_of q values ≡ holds q (arg values 0) (arg values 1)
-  two_asked q [] e = absurd cc
-  two_asked q (x ∷ []) e = absurd cc
-  two_asked q (x ∷ y ∷ []) e = or_false (holds q x y)
-    where
-      or_false : (b : Bool) → (b || false) ≡ b
-      or_false true = refl
-      or_false false = refl
-  two_asked q (x ∷ y ∷ z ∷ values) e = absurd (omega (arith, e))
 
   compared_two : (q : Question) (c : Bool) (p : V × V) → (length operands == 2) ≡ true → o.narrow q c (args 0) (args 1) ≡ Some p → ComesOf (Some (Compare q)) (asks c (both_kept operands p))
   unfolding outcome_of
@@ -400,7 +393,7 @@ module _ {V : Type 0} (o : SetOperations V) (lawful : AreSound o) (claims : Clai
       let held : Hold o lawful kept (put_in_place m.story p.v new t).frame.locals = (counted_local p.v new n.0.0 t (sym same_count) p.exists n.2.0, tt) in
       let named = p.named in
       let comes = counted_asked op q c p.v n.0 p.variable n.1 in
-      rw r (inr (counts_in p.v a c kept, comes, record { gives = tt; assigns = (named, counted_in op p, p.exists); tests = refl; leads = refl; kept = rw named held; needs = refl; goes = refl }))
+      rw r (inr (counts_in p.v a c kept, comes, record { gives = tt; assigns = (named, counted_in op p, p.exists); tests = refl; leads = refl; kept = rw named held; memory = tt; needs = refl; goes = refl }))
 
   pub known_jump : IsTrue (is_some (o.known (args 0))) → (x : ℕ) × (o.known (args 0) ≡ Some x) × (arg all.values 0 ≡ x)
   known_jump h = by_known (o.known (args 0)) refl h
@@ -411,11 +404,11 @@ module _ {V : Type 0} (o : SetOperations V) (lawful : AreSound o) (claims : Clai
 
   jumps_expected : (x : ℕ) → o.known (args 0) ≡ Some x → arg all.values 0 ≡ x → Expected (Some Jump) (Ok (jumping (arg all.values 0)))
   unfolding Expected LeadsIn AssignedIn outcome_of changed
-  jumps_expected x known is = inr (jumps x, (true, rw known refl), record { gives = tt; assigns = tt; tests = refl; leads = rw is refl; kept = (tt, tt); needs = refl; goes = refl })
+  jumps_expected x known is = inr (jumps x, (true, rw known refl), record { gives = tt; assigns = tt; tests = refl; leads = rw is refl; kept = (tt, tt); memory = tt; needs = refl; goes = refl })
 
   returns_expected : (k : Operation) (bytes : List ℕ) (a : V) (x : ℕ) → ComesOf (Some k) (returns_in a) → In o a x → Expected (Some k) (Ok (record (printing bytes) { moves = back x }))
   unfolding Expected LeadsIn AssignedIn changed
-  returns_expected k bytes a x comes member = inr (returns_in a, comes, record { gives = tt; assigns = tt; tests = refl; leads = member; kept = (tt, tt); needs = refl; goes = refl })
+  returns_expected k bytes a x comes member = inr (returns_in a, comes, record { gives = tt; assigns = tt; tests = refl; leads = member; kept = (tt, tt); memory = tt; needs = refl; goes = refl })
 
   closes_expected : (r : Result (List ℕ) TextError) → IsOk r → ComesOf (Some PrintReturn) (returns_in (o.single 1)) → Expected (Some PrintReturn) (printed r >>= λ effect. Ok (closing effect))
   closes_expected (Ok bytes) ok comes = returns_expected PrintReturn (bytes ++ 10 ∷ []) (o.single 1) 1 comes (lawful.single 1 (omega arith))
@@ -450,10 +443,6 @@ module _ {V : Type 0} (o : SetOperations V) (lawful : AreSound o) (claims : Clai
       let n = edge_of (o.narrow Equal true (args 0) (o.single 0)) _ (lawful.narrow Equal true (args 0) (o.single 0) (arg all.values 0) 0 (all.members 0) (lawful.single 0 (omega arith)) e) in
       (false, ap (λ (r : Option (V × V)). option_map (λ p. gives_in (o.single 0)) r) n.1)
 
-  pub not_zero : (x : ℕ) → (x == 0) ≡ false → x ≡ 0 → ⊥
-  not_zero zero e is = absurd cc
-  not_zero (suc x) e is = absurd cc
-
   calls : CallsOf (Some Call) → Expected (Some Call) (call_of m.scope s.memory all.values)
   unfolding Expected LeadsIn IsCall AssignedIn CallsOf changed
   calls rule = by_zero (arg all.values 0 == 0) refl
@@ -468,12 +457,12 @@ module _ {V : Type 0} (o : SetOperations V) (lawful : AreSound o) (claims : Clai
           let can = can_be_called (unpacked x) begins in
           let routine = can.0 in
           let head = can.1 in
-          rw (routine, head) (inr (enters_in on_edge.a, on_edge.comes, record { gives = tt; assigns = tt; tests = refl; leads = (x, on_edge.member, some, (arguments all.values, arguments_in o args (length operands) all.values all.count all.members, can.2)); kept = (tt, tt); needs = refl; goes = refl }))
+          rw (routine, head) (inr (enters_in on_edge.a, on_edge.comes, record { gives = tt; assigns = tt; tests = refl; leads = (x, on_edge.member, some, (arguments all.values, arguments_in o args (length operands) all.values all.count all.members, can.2)); kept = (tt, tt); memory = tt; needs = refl; goes = refl }))
 
   -- what a link leads to is an object, or none
   follows_expected : (k : Operation) (c : Bool) (a : V) (x : ℕ) → ComesOf (Some k) (follows_in c a) → In o a x → not (x == 0) ≡ c → Expected (Some k) (Ok (following x))
   unfolding Expected LeadsIn AssignedIn changed
-  follows_expected k c a x comes member is = inr (follows_in c a, comes, record { gives = member; assigns = tt; tests = ap (λ (b : Bool). Some b) is; leads = refl; kept = (tt, tt); needs = refl; goes = refl })
+  follows_expected k c a x comes member is = inr (follows_in c a, comes, record { gives = member; assigns = tt; tests = ap (λ (b : Bool). Some b) is; leads = refl; kept = (tt, tt); memory = tt; needs = refl; goes = refl })
 
   to_object : (link : Link) → (m.story.objects == 0) ≡ false → ComesOf (Some (Follow link)) (follows_in true (o.between 1 m.story.objects))
   unfolding outcome_of
@@ -495,8 +484,20 @@ module _ {V : Type 0} (o : SetOperations V) (lawful : AreSound o) (claims : Clai
       by true e = let none = eqb-true x 0 e in follows_expected (Follow link) false (o.single 0) x (false, refl) (subst (In o (o.single 0)) (sym none) (lawful.single 0 (omega arith))) (ap not e)
       by false e = let first = least x e in follows_expected (Follow link) true (o.between 1 m.story.objects) x (to_object link (some (m.story.objects == 0) refl first)) (lawful.between 1 m.story.objects x first most (omega (arith, most, few))) (ap not e)
 
-  object_known : (objects x : ℕ) → (1 ≤ x) × (x ≤ objects) → (nat_le 1 x && nat_le x objects) ≡ true
-  object_known objects x h = let a = le-leb 1 x h.0 in let b = le-leb x objects h.1 in rw (a, b) refl
+  -- what rewrites memory so that it stays as is said
+  rewrites : (k : Operation) (after : List ℕ) → ComesOf (Some k) goes_on → DescribedMemory o claims m.story after → Expected (Some k) (Ok (rewriting after))
+  unfolding Expected LeadsIn AssignedIn changed
+  rewrites k after comes is = inr (goes_on, comes, record { gives = tt; assigns = tt; memory = is; tests = refl; leads = refl; kept = (tt, tt); needs = refl; goes = refl })
+
+  rearranges : (k : Operation) (r : Result (List ℕ) ObjectError) → ComesOf (Some k) goes_on → IsOkAnd r (DescribedMemory o claims m.story) → Expected (Some k) (rearranging r)
+  rearranges k (Ok after) comes is = rewrites k after comes is
+  rearranges k (Err e) comes is = absurd is
+
+  marks : (k : Operation) (sets : Bool) → ComesOf (Some k) goes_on → (1 ≤ arg all.values 0) × (arg all.values 0 ≤ m.story.objects) → arg all.values 1 < 32 → Expected (Some k) (marking m.story sets all.values s.memory)
+  marks k sets comes object low =
+      let known = object_known m.story.objects (arg all.values 0) object in
+      let few = lt-ltb (arg all.values 1) 32 low in
+      rw (known, few) (rewrites k _ comes (marked_described o claims m.story supports.tables supports.few s.memory d.memory d.is_state.objects d.is_state.tables sets (arg all.values 0) (arg all.values 1) object.0 object.1 low))
 
   by_operation : (k : Operation) → Asked (demands_of o k args) → CallsOf (Some k) → Expected (Some k) (effect_of m k all.values t)
   unfolding Expected demands_of outcome_of effect_of
@@ -532,16 +533,29 @@ module _ {V : Type 0} (o : SetOperations V) (lawful : AreSound o) (claims : Clai
       subst (λ (p : ℤ). Expected (Some PrintReturn) (print_at p s.memory >>= λ effect. Ok (closing effect))) (sym at) (closes_expected (output_at s.memory (d.at + 1)) (prints rule.text) (true, refl))
   by_operation Call rule begins = calls begins
   by_operation Inside rule begins =
-      let known = object_known m.story.objects (arg all.values 0) (rule.object (arg all.values 0) (all.members 0)) in
+      let known = object_known m.story.objects (arg all.values 0) (rule.object.0 (arg all.values 0) (all.members 0)) in
       rw known (asks_expected Inside _ untold (_, refl) (tt, tt))
   by_operation TestAttribute rule begins =
-      let known = object_known m.story.objects (arg all.values 0) (rule.object (arg all.values 0) (all.members 0)) in
+      let known = object_known m.story.objects (arg all.values 0) (rule.object.0 (arg all.values 0) (all.members 0)) in
       let few = lt-ltb (arg all.values 1) 32 (rule.attribute (arg all.values 1) (all.members 1)) in
       rw (known, few) (asks_expected TestAttribute _ untold (_, refl) (tt, tt))
   by_operation (Follow link) rule begins =
-      let object = rule.object (arg all.values 0) (all.members 0) in
+      let object = rule.object.0 (arg all.values 0) (all.members 0) in
       let known = object_known m.story.objects (arg all.values 0) object in
       rw known (follows link _ (d.memory.tree.small link (arg all.values 0) object.0 object.1) d.is_state.objects.few)
+
+  by_operation SetAttribute rule begins = marks SetAttribute true (true, refl) (rule.object.0 (arg all.values 0) (all.members 0)) (rule.attribute (arg all.values 1) (all.members 1))
+  by_operation ClearAttribute rule begins = marks ClearAttribute false (true, refl) (rule.object.0 (arg all.values 0) (all.members 0)) (rule.attribute (arg all.values 1) (all.members 1))
+  by_operation Insert rule begins =
+      let object = rule.object.0 (arg all.values 0) (all.members 0) in
+      let under = rule.object.1 (arg all.values 1) (all.members 1) in
+      let known = object_known m.story.objects (arg all.values 0) object in
+      let known_under = object_known m.story.objects (arg all.values 1) under in
+      rw (known, known_under) (rearranges Insert _ (true, refl) (inserted_described o claims m.story supports.tables supports.few s.memory d.memory d.is_state.objects d.is_state.tables (arg all.values 0) (arg all.values 1) object.0 object.1 under.0 under.1))
+  by_operation Remove rule begins =
+      let object = rule.object.0 (arg all.values 0) (all.members 0) in
+      let known = object_known m.story.objects (arg all.values 0) object in
+      rw known (rearranges Remove _ (true, refl) (unlinked_described o claims m.story supports.tables supports.few s.memory d.memory d.is_state.objects d.is_state.tables (arg all.values 0) object.0 object.1))
 
   by_played : (k : Option Operation) → IsTrue (is_some k) → Asked (demands_if o k args) → CallsOf k → Expected k (effect_if m k all.values t)
   by_played None played rule begins = absurd cc
@@ -592,12 +606,21 @@ module _ {V : Type 0} (o : SetOperations V) (lawful : AreSound o) (claims : Clai
   still_there : (e : Shape V) (u : State) → length e.locals ≡ length d.entry.shape.locals → Known_in e u → IsIn (target i) u.frame.locals
   still_there e u same known = named_in o claims (target i) d.entry.shape u.frame.locals local.1 (sym same ∙ zip_length (In o) e.locals u.frame.locals known.fits.in_locals)
 
+  rewritten_known : (memory : Option (List ℕ)) → IfSome memory (DescribedMemory o claims m.story) → Known_in mid (rewritten memory t)
+  rewritten_known None is = read_known
+  rewritten_known (Some memory) is = record { memory = is; fits = mid_fits; callers = d.callers }
+
+  rewritten_fits : (memory : Option (List ℕ)) → FitsFrame o claims m.story mid (rewritten memory t)
+  rewritten_fits None = mid_fits
+  rewritten_fits (Some memory) = mid_fits
+
   -- all parts, one after another
   mid_changed : (w : Outcome V) (effect : Effect) → Matches w effect → Takes o claims w.gives (target i) → TakesInPlace o claims w.assigns → Known_in (changed_by o claims.globals i d.entry.shape w) (changed m.story i effect t)
   unfolding changed
   mid_changed w effect matches given in_place =
-      let u = assigned m.story effect.assigns t in
-      let known = mid_assigned w.assigns effect.assigns mid t matches.assigns in_place read_known in
+      let r = rewritten effect.memory t in
+      let u = assigned m.story effect.assigns r in
+      let known = mid_assigned w.assigns effect.assigns mid r matches.assigns in_place (rewritten_known effect.memory matches.memory) in
       stored_mid o claims m.story loaded supports.tables d.entry.routine (target i) w.gives effect.gives (with_assigned w.assigns mid) u matches.gives (still_there (with_assigned w.assigns mid) u (length_assigned w.assigns mid) known) given known
 
   -- and the frame with all parts, whatever globals take
@@ -617,7 +640,7 @@ module _ {V : Type 0} (o : SetOperations V) (lawful : AreSound o) (claims : Clai
 
   fits_changed : (w : Outcome V) (effect : Effect) → Matches w effect → FitsFrame o claims m.story (changed_by o claims.globals i d.entry.shape w) (changed m.story i effect t)
   unfolding changed
-  fits_changed w effect matches = fits_given w.gives effect.gives (with_assigned w.assigns mid) (assigned m.story effect.assigns t) matches.gives (fits_assigned w.assigns effect.assigns mid t matches.assigns mid_fits)
+  fits_changed w effect matches = fits_given w.gives effect.gives (with_assigned w.assigns mid) (assigned m.story effect.assigns (rewritten effect.memory t)) matches.gives (fits_assigned w.assigns effect.assigns mid (rewritten effect.memory t) matches.assigns (rewritten_fits effect.memory))
 
   -- ---- the step
 
@@ -776,16 +799,3 @@ module _ {V : Type 0} (o : SetOperations V) (lawful : AreSound o) (claims : Clai
   pub able_there : ((x : Done) × (step m s ≡ Ok x)) ⊎ ((step m s ≡ Err halts.Quit) ⊎ ((step m s ≡ Err halts.FrameLimit) × IsFull m s))
   unfolding IsAble
   able_there = subst IsAble (sym steps) (able_by (effect_if m (operation_of i.opcode) all.values t) refl expected)
-
--- a step from a described state is no fault, and leads to a described state
-pub step_safe : {V : Type 0} (o : SetOperations V) (lawful : AreSound o) (claims : Claims V) (m : Setting) (s : State) → IsLoadedStory m.story → Supports o claims m.story → IsListedIn o claims m.scope → Described o claims m.limit m.story s → IsSafe o claims m.limit m.story (step m s)
-step_safe o lawful claims m s loaded supports listed d =
-    let found = supports.each d.at d.entry d.listed rules.Decodes in
-    safe_there o lawful claims m loaded supports listed s d found.0 found.1
-
--- no opcode of this build waits for anything, and low stacks have room: it is made, or it is `quit`, or a call where there are as
--- many frames as there may be
-pub step_able : {V : Type 0} (o : SetOperations V) (lawful : AreSound o) (claims : Claims V) (m : Setting) (s : State) → IsLoadedStory m.story → Supports o claims m.story → IsListedIn o claims m.scope → Described o claims m.limit m.story s → ((x : Done) × (step m s ≡ Ok x)) ⊎ ((step m s ≡ Err halts.Quit) ⊎ ((step m s ≡ Err halts.FrameLimit) × IsFull m s))
-step_able o lawful claims m s loaded supports listed d =
-    let found = supports.each d.at d.entry d.listed rules.Decodes in
-    able_there o lawful claims m loaded supports listed s d found.0 found.1

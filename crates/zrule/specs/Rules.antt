@@ -57,6 +57,10 @@ pub record HasFixedText (story : LoadedStory) (is_frozen : ℕ → Bool) (at : �
   pub found : text_at story.memory at ≡ Some text
   pub fixed : (p : ℕ) → IsWithin at (length text) p → IsFixed story is_frozen p
 
+-- each word of a set is the number of one of the story's objects
+abbrev pub AreObjects : {V : Type 0} → SetOperations V → LoadedStory → V → Type 0
+AreObjects o story a = (x : ℕ) → In o a x → (1 ≤ x) × (x ≤ story.objects)
+
 -- one shape says all that the other says
 pub record Covers {V : Type 0} (o : SetOperations V) (from to : Shape V) : Type 0 where
   pub locals : AllZip (Within o) from.locals to.locals
@@ -212,7 +216,7 @@ module _ {V : Type 0} (o : SetOperations V) (claims : Claims V) where
 
   -- each number that is taken for an object's is that of one of the story's
   abbrev pub NamesObject : LoadedStory → Instruction → Shape V → Type 0
-  NamesObject story i e = IfSome (demands_at i e).object (λ a. (x : ℕ) → In o a x → (1 ≤ x) × (x ≤ story.objects))
+  NamesObject story i e = IfSome (demands_at i e).object (AreObjects o story) × IfSome (demands_at i e).under (AreObjects o story)
 
   -- and each that is taken for an attribute's, of which there are 32 (Z 12.3.1)
   abbrev pub NamesAttribute : Instruction → Shape V → Type 0
@@ -265,6 +269,8 @@ module _ {V : Type 0} (o : SetOperations V) (claims : Claims V) where
     pub values : HasGlobals story story.memory
     -- as the format says, no stack is above 64
     pub low : (p : ℕ) (e : Entry V) → claims.entry p ≡ Some e → length e.shape.slots ≤ 64
+    -- nor are there more globals than variables for them
+    pub few : length claims.globals ≤ 240
     pub tree : IsTree story.memory story.objects
     pub abbreviations : HasAbbreviations story
     pub tables : HasDisjointTables story claims.is_frozen

@@ -1,8 +1,9 @@
 //! What rules ask of the numbers of objects and attributes.
 
-ghost use Rattle.std.specs.Prelude.{◌↔◌, ◌<◌, ◌≤◌, ℕ, IfSome, IsTrue};
+ghost use Rattle.std.specs.Prelude.{◌↔◌, ◌<◌, ℕ, IfSome, IsTrue};
 ghost use Rattle.zdomain.specs.Domain.{In};
 ghost use Rattle.zdomain.specs.Interval.{interval_operations};
+ghost use Rattle.zrule.specs.Rules.{AreObjects};
 
 use zdomain::{Domain, Interval};
 use zflow::Demands;
@@ -13,12 +14,26 @@ const ATTRIBUTES: u16 = 32;
 
 /// Whether each value that is taken for an object's number is that of one of the story's objects.
 pub(crate) fn names_object(story: &Story, demands: &Demands<Interval>) -> bool
-    ensures { IsTrue result ↔ IfSome demands.now.object (λ a. (x : ℕ) → In interval_operations a x → (1 ≤ x) × (x ≤ story.now.objects)) }
+    ensures { IsTrue result ↔ IfSome demands.now.object (AreObjects interval_operations story.now) × IfSome demands.now.under (AreObjects interval_operations story.now) }
 {
-    match demands.object {
-        Some(set) => !set.contains(0) && are_below(set, u16::from(story.objects()) + 1),
+    are_objects_if(story, demands.object) && are_objects_if(story, demands.under)
+}
+
+/// Whether each value of a set is the number of one of the story's objects, where there is a set.
+fn are_objects_if(story: &Story, values: Option<Interval>) -> bool
+    ensures { IsTrue result ↔ IfSome values (AreObjects interval_operations story.now) }
+{
+    match values {
+        Some(set) => are_objects(story, set),
         None => true,
     }
+}
+
+/// Whether each value of a set is the number of one of the story's objects.
+fn are_objects(story: &Story, set: Interval) -> bool
+    ensures { IsTrue result ↔ AreObjects interval_operations story.now set }
+{
+    !set.contains(0) && are_below(set, u16::from(story.objects()) + 1)
 }
 
 /// Whether each value that is taken for an attribute's number is 0 to 31.

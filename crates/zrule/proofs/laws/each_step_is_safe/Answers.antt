@@ -1,5 +1,5 @@
 use Rattle.zrule.proofs.Opening.{opening_described}
-use Rattle.zrule.proofs.Safety.{step_safe}
+use Rattle.zrule.proofs.Steps.{step_safe}
 use Rattle.zrule.proofs.Runs.{run_safe, never_faults}
 use Rattle.zrule.proofs.laws.each_step_is_safe.Goals as goal
 

@@ -1,0 +1,86 @@
+-- What is said of every memory of a play stays so when attributes, or links of objects, are written.
+use Rattle.std.proofs.Common.{◌≡◌, ◌⊎◌, inl, inr, ℕ, ◌+◌, ◌*◌, ◌/◌, ◌<◌, ◌≤◌, Bool, true, false, List, length, Result, Ok, Err, Some, refl, sym, subst, ◌∙◌, arith}
+use Rattle.std.specs.Prelude.{slice_get, IfOk}
+use Rattle.std.specs.Result.{IsOkAnd}
+use Rattle.std.proofs.lemmas.Option.{slice_get_within}
+use Rattle.zstory.specs.Bytes.{byte_at, word_at}
+use Rattle.zstory.specs.Header as header
+use Rattle.zstory.specs.LoadedStory.{LoadedStory, globals, object_table}
+use Rattle.zobj.specs.declared.error.ObjectError.{ObjectError}
+use Rattle.zobj.specs.declared.tree.Link.{Link}
+use Rattle.zobj.specs.declared.tree.Link.TheVariants.{Parent, Sibling, Child}
+use Rattle.zobj.specs.Attributes.{with_attribute}
+use Rattle.zobj.specs.Entries.{HasTable, IsEntryByte, IsLinkByte}
+use Rattle.zobj.specs.Kept.{DiffersOnly}
+use Rattle.zobj.specs.Moves.{inserted, unlinked}
+use Rattle.zobj.specs.Tree.{IsTree, link_byte, linked}
+use Rattle.zobj.proofs.Bytes.{differs_there, entry_byte_is, entry_byte_rests}
+use Rattle.zobj.proofs.Keeping.{inserted_only, inserted_tree, unlinked_only, unlinked_stays}
+use Rattle.zdomain.specs.Domain.{SetOperations, In}
+use Rattle.zrule.specs.Bytes.{IsFixed, IsWithin}
+use Rattle.zrule.specs.Claims.{Claims}
+use Rattle.zrule.specs.Rules.{HasDisjointTables, HasGlobals}
+use Rattle.zrule.specs.Described.{DescribedMemory, IsLoadedStory}
+
+module _ {V : Type 0} (o : SetOperations V) (claims : Claims V) (story : LoadedStory) (tables : HasDisjointTables story claims.is_frozen) (few : length claims.globals ≤ 240) (memory : List ℕ) (d : DescribedMemory o claims story memory) (has : HasTable memory story.objects) (same : header.object_table memory ≡ object_table story) where
+  module _ (after : List ℕ) (first size : ℕ) (inside : first + size ≤ 7) (differs : DiffersOnly (IsEntryByte memory story.objects first size) memory after) where
+    -- a byte that no entry has is as it was
+    byte_stays : (p : ℕ) → (IsEntryByte memory story.objects first size p → ⊥) → byte_at after p ≡ byte_at memory p
+    byte_stays p outside = elim (differs.rest p) [ inl e ↦ e | inr is ↦ absurd (outside is) ]
+
+    no_global : (p : ℕ) → IsWithin (globals story) 480 p → IsEntryByte memory story.objects first size p → ⊥
+    no_global p within is = tables.apart p within (omega (arith, is.from, is.least, same), omega (arith, is.below, is.most, is.least, inside, same))
+
+    values_stay : HasGlobals o claims story after
+    values_stay k values is =
+        let below = slice_get_within claims.globals k values is in
+        let high = byte_stays (globals story + 2 * k) (no_global _ (omega arith, omega (arith, below, few))) in
+        let low = byte_stays (globals story + 2 * k + 1) (no_global _ (omega arith, omega (arith, below, few))) in
+        subst (In o values) (sym (word_is high low)) (d.values k values is)
+      where
+        word_is : byte_at after (globals story + 2 * k) ≡ byte_at memory (globals story + 2 * k) → byte_at after (globals story + 2 * k + 1) ≡ byte_at memory (globals story + 2 * k + 1) → word_at after (globals story + 2 * k) ≡ word_at memory (globals story + 2 * k)
+        word_is high low = rw (high, low) refl
+
+    fixed_stays : (p : ℕ) → IsFixed story claims.is_frozen p → byte_at after p ≡ byte_at story.memory p
+    fixed_stays p fixed = byte_stays p (λ is. fixed.unchanging (inr (inr (record { object = is.object; first = is.least; last = is.most; inside = (omega (arith, is.from, same), omega (arith, is.below, inside, same)) })))) ∙ d.fixed p fixed
+
+    described : IsTree after story.objects → DescribedMemory o claims story after
+    described tree = record { long = differs.size ∙ d.long; values = values_stay; tree = tree; fixed = fixed_stays }
+
+  -- an attribute is set or cleared
+  module _ (sets : Bool) (object attribute : ℕ) (least : 1 ≤ object) (most : object ≤ story.objects) (low : attribute < 32) where
+    abbrev marked : List ℕ
+    marked = with_attribute sets object attribute memory
+
+    marked_only : DiffersOnly (IsEntryByte memory story.objects 0 4) memory marked
+    marked_only = differs_there memory story.objects 0 4 object (attribute / 8) _ has least most (omega arith) (omega (arith, low))
+
+    link_inside : (link : Link) → (link_byte link < 9) × (4 ≤ link_byte link)
+    link_inside Parent = (omega arith, omega arith)
+    link_inside Sibling = (omega arith, omega arith)
+    link_inside Child = (omega arith, omega arith)
+
+    marked_tree : IsTree marked story.objects
+    marked_tree = record {
+      small = λ link other from to.
+          let k = link_inside link in
+          let stays = entry_byte_rests memory marked story.objects 0 4 has marked_only (omega arith) other (link_byte link) from k.0 (λ above below. omega (arith, below, k.1)) in
+          let now = entry_byte_is marked other (link_byte link) from in
+          let was = entry_byte_is memory other (link_byte link) from in
+          let small : linked link memory other ≤ story.objects = d.tree.small link other from to in
+          omega (arith, stays, now, was, small);
+    }
+
+    pub marked_described : DescribedMemory o claims story marked
+    marked_described = described marked 0 4 (omega arith) marked_only marked_tree
+
+  -- a move is done
+  moved_described : (r : Result (List ℕ) ObjectError) → IfOk r (DiffersOnly (IsLinkByte memory story.objects) memory) → IsOkAnd r (λ after. IsTree after story.objects) → IsOkAnd r (DescribedMemory o claims story)
+  moved_described (Ok after) only tree = described after 4 3 (omega arith) only tree
+  moved_described (Err e) only tree = absurd tree
+
+  pub unlinked_described : (object : ℕ) → 1 ≤ object → object ≤ story.objects → IsOkAnd (unlinked story.objects object memory) (DescribedMemory o claims story)
+  unlinked_described object least most = moved_described _ (unlinked_only story.objects memory has object least most) (unlinked_stays story.objects memory has object least most d.tree)
+
+  pub inserted_described : (object under : ℕ) → 1 ≤ object → object ≤ story.objects → 1 ≤ under → under ≤ story.objects → IsOkAnd (inserted story.objects object under memory) (DescribedMemory o claims story)
+  inserted_described object under least most first last = moved_described _ (inserted_only story.objects memory has object least most under first last) (inserted_tree story.objects memory has object least most under first last d.tree)
