@@ -1,4 +1,4 @@
-"""Runs of the opcodes that ask of objects, on both machines. What is printed is worked out by hand after the standard."""
+"""Runs of the opcodes that ask of objects and change them, on both machines. What is printed is worked out by hand after the standard."""
 from plays import PRINT_FIRST, QUIT, Plays, conditional, fault, placed, printed
 from samples import certificate, changed, with_objects
 
@@ -33,6 +33,42 @@ LINKS = [
     ("the parent of 1", b"\x93\x01\x10", b"0"),
 ]
 
+# ---- moves: the instructions, and what the last of them gives; 2 is the only object in 1, which is in none
+
+PUT_1_UNDER_2 = b"\x0e\x01\x02"
+TAKE_2_OUT = b"\x99\x02"
+PARENT_OF_1, PARENT_OF_2 = b"\x93\x01\x10", b"\x93\x02\x10"
+CHILD_OF_1, CHILD_OF_2 = b"\x92\x01\x10\xc2", b"\x92\x02\x10\xc2"
+SIBLING_OF_1, SIBLING_OF_2 = b"\x91\x01\x10\xc2", b"\x91\x02\x10\xc2"
+
+MOVES = [
+    ("1 put under 2 is its child", [PUT_1_UNDER_2, CHILD_OF_2], b"1"),
+    ("and has it as its parent", [PUT_1_UNDER_2, PARENT_OF_1], b"2"),
+    ("which stays in 1: a cycle", [PUT_1_UNDER_2, PARENT_OF_2], b"1"),
+    ("and its child", [PUT_1_UNDER_2, CHILD_OF_1], b"2"),
+    ("2 taken out of the cycle is in none", [PUT_1_UNDER_2, TAKE_2_OUT, PARENT_OF_2], b"0"),
+    ("1 then has no child", [PUT_1_UNDER_2, TAKE_2_OUT, CHILD_OF_1], b"0"),
+    ("and stays in 2", [PUT_1_UNDER_2, TAKE_2_OUT, PARENT_OF_1], b"2"),
+    ("2 taken out of 1", [TAKE_2_OUT, CHILD_OF_1], b"0"),
+    ("2 taken out twice", [TAKE_2_OUT, TAKE_2_OUT, PARENT_OF_2], b"0"),
+    ("2 put back", [TAKE_2_OUT, b"\x0e\x02\x01", CHILD_OF_1], b"2"),
+    ("2 put where it is", [b"\x0e\x02\x01", SIBLING_OF_2], b"0"),
+    ("1 put under itself", [b"\x0e\x01\x01", CHILD_OF_1], b"1"),
+    ("with its child for a sibling", [b"\x0e\x01\x01", SIBLING_OF_1], b"2"),
+]
+
+# ---- attributes that are changed: the instruction, bytes of the story that are others, a question behind it, its answer
+
+MARKS = [
+    ("attribute 0 set", b"\x0b\x02\x00", {}, b"\x0a\x02\x00", b"y"),
+    ("attribute 31 set", b"\x0b\x01\x1f", {}, b"\x0a\x01\x1f", b"y"),
+    ("attribute 9 set for 1 isn't set for 2", b"\x0b\x01\x09", {}, b"\x0a\x02\x09", b"n"),
+    ("attribute 9 set again", b"\x0b\x02\x09", {SECOND + 1: 0x40}, b"\x0a\x02\x09", b"y"),
+    ("attribute 9 cleared", b"\x0c\x02\x09", {SECOND + 1: 0x40}, b"\x0a\x02\x09", b"n"),
+    ("attribute 9 cleared where it wasn't set", b"\x0c\x02\x09", {}, b"\x0a\x02\x09", b"n"),
+    ("attribute 8 cleared, 9 stays", b"\x0c\x02\x08", {SECOND + 1: 0xC0}, b"\x0a\x02\x09", b"y"),
+]
+
 # ---- what no certificate makes well: the instruction, what global 16 may be, the rule, what the checked machine does
 
 NUMBERS = (0, 2)
@@ -45,6 +81,14 @@ REFUSED = [
     ("an attribute of 3", b"\x0a\x03\x20\xc2", NUMBERS, "I5 at 00370", fault("F6 at 00370")),
     ("attribute 32", b"\x0a\x01\x20\xc2", NUMBERS, "I6 at 00370", fault("F7 at 00370")),
     ("a child that a global may not be", b"\x92\x01\x10\xc2", (0, 1), "I16 at 00370", printed(b"2")),
+    ("attribute 9 set for 0", b"\x0b\x00\x09", NUMBERS, "I5 at 00370", fault("F6 at 00370")),
+    ("attribute 32 set for 3", b"\x0b\x03\x20", NUMBERS, "I5 at 00370", fault("F6 at 00370")),
+    ("attribute 32 cleared", b"\x0c\x01\x20", NUMBERS, "I6 at 00370", fault("F7 at 00370")),
+    ("0 put under 1", b"\x0e\x00\x01", NUMBERS, "I5 at 00370", fault("F6 at 00370")),
+    ("1 put under 3", b"\x0e\x01\x03", NUMBERS, "I5 at 00370", fault("F6 at 00370")),
+    ("1 put under what may be 0", b"\x2e\x01\x10", NUMBERS, "I5 at 00370", fault("F6 at 00370")),
+    ("0 taken out", b"\x99\x00", NUMBERS, "I5 at 00370", fault("F6 at 00370")),
+    ("3 taken out", b"\x99\x03", NUMBERS, "I5 at 00370", fault("F6 at 00370")),
     ("a parent that a global may not be", b"\x93\x02\x10", (0, 1), "I16 at 00370", printed(b"1")),
 ]
 
@@ -64,7 +108,14 @@ def see_objects(program, count):
         plays.answers(name, files(conditional(instruction, b"yn"), NUMBERS, others), printed(answer))
     for name, instruction, text in LINKS:
         plays.answers(name, files([instruction, PRINT_FIRST, QUIT], NUMBERS), printed(text))
+    for name, instructions, text in MOVES:
+        plays.answers(name, files([*instructions, PRINT_FIRST, QUIT], NUMBERS), printed(text))
+    for name, instruction, others, question, answer in MARKS:
+        plays.answers(name, files([instruction, *conditional(question, b"yn")], NUMBERS, others), printed(answer))
     for name, instruction, values, rule, played in REFUSED:
         given = files([instruction, PRINT_FIRST, QUIT], values)
         plays.refuses(name, given, rule)
         count.is_answer(f"{name}, checked", plays.play(given, []), played)
+    orphan = files([TAKE_2_OUT, QUIT], NUMBERS, {SECOND + 4: 3})
+    plays.refuses("a parent that is no object", orphan, "S6")
+    count.is_answer("a parent that is no object, checked", plays.play(orphan, []), fault("F6 at 00370"))

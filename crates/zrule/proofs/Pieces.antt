@@ -79,6 +79,14 @@ two_asked q (x ∷ y ∷ []) e = or_false (holds q x y)
     or_false false = refl
 two_asked q (x ∷ y ∷ z ∷ values) e = absurd (omega (arith, e))
 
+pub not_below_one : (n : ℕ) → (n == 0) ≡ false → 1 ≤ n
+not_below_one zero e = absurd cc
+not_below_one (suc n) e = omega arith
+
+-- where there is an object there are some
+pub not_none : (objects x : ℕ) → 1 ≤ x → x ≤ objects → (objects == 0) ≡ false
+not_none objects x first most = ne_eqb objects 0 (λ e. omega (arith, e, first, most))
+
 -- an object's number is known for one
 pub object_known : (objects x : ℕ) → (1 ≤ x) × (x ≤ objects) → (nat_le 1 x && nat_le x objects) ≡ true
 object_known objects x h = let a = le-leb 1 x h.0 in let b = le-leb x objects h.1 in rw (a, b) refl

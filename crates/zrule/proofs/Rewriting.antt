@@ -1,6 +1,6 @@
 -- What is said of every memory of a play stays so when attributes, or links of objects, are written.
-use Rattle.std.proofs.Common.{◌≡◌, ◌⊎◌, inl, inr, ℕ, ◌+◌, ◌*◌, ◌/◌, ◌<◌, ◌≤◌, Bool, true, false, List, length, Result, Ok, Err, Some, refl, sym, subst, ◌∙◌, arith}
-use Rattle.std.specs.Prelude.{slice_get, IfOk}
+use Rattle.std.proofs.Common.{◌≡◌, inl, inr, ℕ, ◌+◌, ◌*◌, ◌/◌, ◌<◌, ◌≤◌, Bool, List, length, Result, Ok, Err, refl, sym, subst, ◌∙◌, arith}
+use Rattle.std.specs.Prelude.{IfOk}
 use Rattle.std.specs.Result.{IsOkAnd}
 use Rattle.std.proofs.lemmas.Option.{slice_get_within}
 use Rattle.zstory.specs.Bytes.{byte_at, word_at}
@@ -20,7 +20,7 @@ use Rattle.zdomain.specs.Domain.{SetOperations, In}
 use Rattle.zrule.specs.Bytes.{IsFixed, IsWithin}
 use Rattle.zrule.specs.Claims.{Claims}
 use Rattle.zrule.specs.Rules.{HasDisjointTables, HasGlobals}
-use Rattle.zrule.specs.Described.{DescribedMemory, IsLoadedStory}
+use Rattle.zrule.specs.Described.{DescribedMemory}
 
 module _ {V : Type 0} (o : SetOperations V) (claims : Claims V) (story : LoadedStory) (tables : HasDisjointTables story claims.is_frozen) (few : length claims.globals ≤ 240) (memory : List ℕ) (d : DescribedMemory o claims story memory) (has : HasTable memory story.objects) (same : header.object_table memory ≡ object_table story) where
   module _ (after : List ℕ) (first size : ℕ) (inside : first + size ≤ 7) (differs : DiffersOnly (IsEntryByte memory story.objects first size) memory after) where

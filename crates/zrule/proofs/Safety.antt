@@ -1,9 +1,9 @@
 -- A step from a described state is safe, by the parts of its effect.
-use Rattle.std.proofs.Common.{◌≡◌, ◌⊎◌, inl, inr, ℕ, zero, suc, ◌+◌, ◌-◌, ◌<◌, ◌≤◌, Bool, true, false, List, [], ◌∷◌, ◌++◌, length, drop, Option, Some, None, Result, Ok, Err, refl, sym, ap, subst, ◌∙◌, arith, nat_lt, nat_le, slice_set, if◌then◌else◌}
-use Rattle.std.specs.Prelude.{ℤ, pos, ◌+ℤ◌, IsOk, IfSome, MatchOption, IsTrue, is_some, not, option_map, slice_get, ◌==◌, ◌&&◌, ◌||◌}
+use Rattle.std.proofs.Common.{◌≡◌, ◌⊎◌, inl, inr, ℕ, suc, ◌+◌, ◌-◌, ◌<◌, ◌≤◌, Bool, true, false, List, [], ◌∷◌, ◌++◌, length, drop, Option, Some, None, Result, Ok, Err, refl, sym, ap, subst, ◌∙◌, arith, nat_lt, slice_set, if◌then◌else◌}
+use Rattle.std.specs.Prelude.{ℤ, pos, ◌+ℤ◌, IsOk, IfSome, MatchOption, IsTrue, is_some, not, option_map, slice_get, ◌==◌, ◌&&◌}
 use Rattle.std.specs.Bool.{OnTrue, MatchBool}
 use Rattle.std.specs.List.{AllZip, AllByRecursion}
-use Rattle.std.proofs.lemmas.Bool.{ltb-false, eqb-true, le-leb, lt-ltb}
+use Rattle.std.proofs.lemmas.Bool.{ltb-false, eqb-true, lt-ltb}
 use Rattle.std.proofs.lemmas.List.{length-drop}
 use Rattle.zword.specs.declared.question.Question.{Question}
 use Rattle.zword.specs.declared.question.Question.TheVariants.{Equal}
@@ -59,7 +59,7 @@ use Rattle.zrule.proofs.Fitting.{IsIn, exists_in, named_in, length_with, given_f
 use Rattle.zrule.proofs.Memory.{global_put}
 use Rattle.zrule.proofs.Parts.{Hold, HoldsOne, narrowed_fits, variable_there, small_is}
 use Rattle.zrule.proofs.Stepping.{fetch_is, done_at, made_by, step_is}
-use Rattle.zrule.proofs.Pieces.{not_both, not_zero, object_known, on_true, two_asked, first_there, assigned_local, length_assigned, edge_of, defined_where, kept_holds}
+use Rattle.zrule.proofs.Pieces.{not_below_one, not_both, not_none, not_zero, object_known, on_true, two_asked, first_there, assigned_local, length_assigned, edge_of, defined_where, kept_holds}
 use Rattle.zrule.proofs.Rewriting.{inserted_described, marked_described, unlinked_described}
 
 module _ {V : Type 0} (o : SetOperations V) (lawful : AreSound o) (claims : Claims V) (m : Setting) (loaded : IsLoadedStory m.story) (supports : Supports o claims m.story) (listed : IsListedIn o claims m.scope) (s : State) (d : Described o claims m.limit m.story s) (i : Instruction) (there : IsThere m.story d.at i) where
@@ -472,17 +472,9 @@ module _ {V : Type 0} (o : SetOperations V) (lawful : AreSound o) (claims : Clai
   unfolding outcome_of
   follows link x most few = by (x == 0) refl
     where
-      least : (n : ℕ) → (n == 0) ≡ false → 1 ≤ n
-      least zero e = absurd cc
-      least (suc n) e = omega arith
-
-      some : (b : Bool) → (m.story.objects == 0) ≡ b → 1 ≤ x → b ≡ false
-      some true e first = absurd (let none = eqb-true m.story.objects 0 e in omega (arith, none, first, most))
-      some false e first = refl
-
       by : (b : Bool) → (x == 0) ≡ b → Expected (Some (Follow link)) (Ok (following x))
       by true e = let none = eqb-true x 0 e in follows_expected (Follow link) false (o.single 0) x (false, refl) (subst (In o (o.single 0)) (sym none) (lawful.single 0 (omega arith))) (ap not e)
-      by false e = let first = least x e in follows_expected (Follow link) true (o.between 1 m.story.objects) x (to_object link (some (m.story.objects == 0) refl first)) (lawful.between 1 m.story.objects x first most (omega (arith, most, few))) (ap not e)
+      by false e = let first = not_below_one x e in follows_expected (Follow link) true (o.between 1 m.story.objects) x (to_object link (not_none m.story.objects x first most)) (lawful.between 1 m.story.objects x first most (omega (arith, most, few))) (ap not e)
 
   -- what rewrites memory so that it stays as is said
   rewrites : (k : Operation) (after : List ℕ) → ComesOf (Some k) goes_on → DescribedMemory o claims m.story after → Expected (Some k) (Ok (rewriting after))
@@ -543,7 +535,6 @@ module _ {V : Type 0} (o : SetOperations V) (lawful : AreSound o) (claims : Clai
       let object = rule.object.0 (arg all.values 0) (all.members 0) in
       let known = object_known m.story.objects (arg all.values 0) object in
       rw known (follows link _ (d.memory.tree.small link (arg all.values 0) object.0 object.1) d.is_state.objects.few)
-
   by_operation SetAttribute rule begins = marks SetAttribute true (true, refl) (rule.object.0 (arg all.values 0) (all.members 0)) (rule.attribute (arg all.values 1) (all.members 1))
   by_operation ClearAttribute rule begins = marks ClearAttribute false (true, refl) (rule.object.0 (arg all.values 0) (all.members 0)) (rule.attribute (arg all.values 1) (all.members 1))
   by_operation Insert rule begins =
