@@ -6,6 +6,7 @@ pub mod Calls
 pub mod ObjectThere
 pub mod StepLemmas
 pub mod Reading
+pub mod Changes
 pub mod Families
 pub mod Full
 pub mod Quiet

@@ -1,10 +1,12 @@
-//! Questions of objects.
+//! Questions of objects, and what changes them.
 
 ghost use Rattle.std.specs.Prelude.{◌≡◌, ◌<◌};
-ghost use Rattle.zobj.specs.Attributes.{has_attribute};
-ghost use Rattle.zobj.specs.Entries.{HasEntry};
+ghost use Rattle.zobj.specs.Attributes.{has_attribute, with_attribute};
+ghost use Rattle.zobj.specs.Entries.{HasEntry, HasTable};
+ghost use Rattle.zobj.specs.Moves.{inserted, unlinked};
 ghost use Rattle.zobj.specs.Tree.{linked};
-ghost use Rattle.zboard.specs.Deed.{CanAsk, after_asking, follow, holding, is_in, test_attribute};
+ghost use Rattle.zboard.specs.Deed.{CanAsk, CanInsert, CanMark, CanRemove, IsOneOf, after_asking, follow, holding, is_in, marked, put_under, rearranged, taken_out, test_attribute};
+ghost use Rattle.zboard.specs.Position.{moved};
 ghost use Rattle.zboard.specs.View.{position_of};
 
 use crate::board::Board;
@@ -49,9 +51,44 @@ impl Board {
         to.put(self, u16::from(other));
         other != 0
     }
+
+    /// Sets, or clears, the attribute of the number `b` of the object of the number `a` (Z 15 set_attr, clear_attr).
+    #[inline(always)]
+    pub(crate) fn do_mark(&mut self, next: u32, sets: bool, a: Slot, b: Slot)
+        requires { CanMark a b (position_of self.old) }
+        ensures { position_of self.new ≡ moved next (marked sets a b (position_of self.old)) }
+    {
+        let object = a.read(self);
+        let attribute = b.read(self);
+        mark(&mut self.memory, sets, object as u8, attribute as u8);
+        self.at = next as usize;
+    }
+
+    /// Puts the object of the number `a` under that of `b`, where there are so many objects (Z 15 insert_obj).
+    #[inline(always)]
+    pub(crate) fn do_insert(&mut self, next: u32, objects: u8, a: Slot, b: Slot)
+        requires { CanInsert objects a b (position_of self.old) }
+        ensures { position_of self.new ≡ moved next (put_under objects a b (position_of self.old)) }
+    {
+        let object = a.read(self);
+        let under = b.read(self);
+        insert(&mut self.memory, objects, object as u8, under as u8);
+        self.at = next as usize;
+    }
+
+    /// Takes the object of the number `a` out of the tree, where there are so many objects (Z 15 remove_obj).
+    #[inline(always)]
+    pub(crate) fn do_remove(&mut self, next: u32, objects: u8, a: Slot)
+        requires { CanRemove objects a (position_of self.old) }
+        ensures { position_of self.new ≡ moved next (taken_out objects a (position_of self.old)) }
+    {
+        let object = a.read(self);
+        unlink(&mut self.memory, objects, object as u8);
+        self.at = next as usize;
+    }
 }
 
-// What is asked of memory is asked in a function of its own, so that `step` stays small enough to be inlined.
+// What is asked of memory, or done to it, stands in a function of its own, so that `step` stays small enough to be inlined.
 
 /// The number of the object that a link of an object leads to.
 #[inline(never)]
@@ -70,4 +107,39 @@ fn has_attribute(memory: &[u8], object: u8, attribute: u8) -> bool
     ensures { result ≡ has_attribute memory.now object attribute }
 {
     zobj::has_attribute(memory, object, attribute)
+}
+
+/// Sets, or clears, an attribute of an object.
+#[inline(never)]
+fn mark(memory: &mut [u8], sets: bool, object: u8, attribute: u8)
+    requires entry { HasEntry memory.old object }
+    requires attribute { attribute < 32 }
+    ensures { memory.new ≡ with_attribute sets object attribute memory.old }
+{
+    if sets {
+        zobj::set_attribute(memory, object, attribute);
+    } else {
+        zobj::clear_attribute(memory, object, attribute);
+    }
+}
+
+/// Puts an object under another; where a number that is none of the objects is met on the way, which no step meets, nothing is changed.
+#[inline(never)]
+fn insert(memory: &mut [u8], objects: u8, object: u8, under: u8)
+    requires table { HasTable memory.old objects }
+    requires object { IsOneOf objects object }
+    requires under { IsOneOf objects under }
+    ensures { memory.new ≡ rearranged memory.old (inserted objects object under memory.old) }
+{
+    let _moved = zobj::insert(memory, objects, object, under);
+}
+
+/// Takes an object out of the tree; otherwise as [`insert`].
+#[inline(never)]
+fn unlink(memory: &mut [u8], objects: u8, object: u8)
+    requires table { HasTable memory.old objects }
+    requires object { IsOneOf objects object }
+    ensures { memory.new ≡ rearranged memory.old (unlinked objects object memory.old) }
+{
+    let _moved = zobj::unlink(memory, objects, object);
 }
