@@ -5,6 +5,7 @@ mod Keeping
 mod Needless
 pub mod Running
 mod Plain
+mod Rewriting
 mod Short
 mod Stepping
 mod Worked

@@ -15,13 +15,15 @@ use Rattle.zcode.specs.Instruction.{Instruction}
 use Rattle.zcode.specs.Reading.{instruction_at}
 use Rattle.ztext.specs.declared.error.TextError.{TextError}
 use Rattle.ztext.specs.Output.{output_at}
+use Rattle.zobj.specs.declared.error.ObjectError.{ObjectError}
+use Rattle.zobj.specs.Moves.{inserted, unlinked}
 use Rattle.zstory.specs.LoadedStory.{LoadedStory}
 use Rattle.zstate.specs.declared.halt.Halt.{Halt}
 use Rattle.zstate.specs.declared.halt.Halt.TheVariants as halts
 use Rattle.zstate.specs.InTurn.{◌>>=◌, in_turn}
 use Rattle.zstate.specs.State.{State, Scope, Setting, exists, has_room, fault, pop, found, read_named, read_variable, read_operand, read_in_place}
 use Rattle.zstate.specs.Run.{need_in, awaited}
-use Rattle.zstate.specs.Step.{Effect, Move, Done, closing, expects, giving, course, has_caller, is_taken, is_roomy, decoded, fetch, arg, printed, print_at, is_object, effect_of, effect_if, asked, waits, admits, pauses, settle, plan, step}
+use Rattle.zstate.specs.Step.{Effect, Move, Done, closing, expects, giving, course, has_caller, is_taken, is_roomy, decoded, fetch, arg, printed, print_at, is_object, rearranging, effect_of, effect_if, asked, waits, admits, pauses, settle, plan, step}
 
 abbrev pub IsNeedless : {A : Type 0} → Result A Halt → Type 0
 IsNeedless (Ok x) = Unit {0}
@@ -120,6 +122,10 @@ of_attribute : (b : Bool) (e : Effect) → e.needs ≡ None → NeedsNothing (if
 of_attribute true e h = h
 of_attribute false e h = tt
 
+of_rearranging : (r : Result (List ℕ) ObjectError) → NeedsNothing (rearranging r)
+of_rearranging (Ok memory) = refl
+of_rearranging (Err e) = tt
+
 of_operation : (m : Setting) (o : Operation) (values : List ℕ) (s : State) → NeedsNothing (effect_of m o values s)
 unfolding effect_of
 of_operation m (operations.Binary op) values s = of_division (is_defined op (arg values 1)) _ refl
@@ -132,6 +138,10 @@ of_operation m operations.Call values s = of_call (arg values 0 == 0) _ _ refl
 of_operation m operations.Inside values s = of_object (is_object m.story (arg values 0)) _ refl
 of_operation m operations.TestAttribute values s = of_object (is_object m.story (arg values 0)) _ (of_attribute (nat_lt (arg values 1) 32) _ refl)
 of_operation m (operations.Follow link) values s = of_object (is_object m.story (arg values 0)) _ refl
+of_operation m operations.SetAttribute values s = of_object (is_object m.story (arg values 0)) _ (of_attribute (nat_lt (arg values 1) 32) _ refl)
+of_operation m operations.ClearAttribute values s = of_object (is_object m.story (arg values 0)) _ (of_attribute (nat_lt (arg values 1) 32) _ refl)
+of_operation m operations.Insert values s = of_object (is_object m.story (arg values 0)) _ (of_object (is_object m.story (arg values 1)) _ (of_rearranging (inserted m.story.objects (arg values 0) (arg values 1) s.memory)))
+of_operation m operations.Remove values s = of_object (is_object m.story (arg values 0)) _ (of_rearranging (unlinked m.story.objects (arg values 0) s.memory))
 of_operation m _ values s = refl
 
 of_effect : (m : Setting) (o : Option Operation) (values : List ℕ) (s : State) → NeedsNothing (effect_if m o values s)

@@ -1,3 +1,4 @@
+pub mod Changes
 pub mod Machine
 pub mod Plan
 pub mod Row

@@ -3,6 +3,7 @@
 
 mod act;
 mod cache;
+mod changes;
 mod effect;
 mod families;
 mod machine;

@@ -1,10 +1,10 @@
 //! What the operations do that ask of objects, the test of the object's number first.
 
-ghost use Rattle.std.specs.Prelude.{◌≡◌, ◌≤◌, ◌==◌, ◌&&◌, nat_le, IsTrue, List, ℕ, [], Ok, None, true, false, IfOk, IfErr};
+ghost use Rattle.std.specs.Prelude.{◌≡◌, ◌<◌, ◌≤◌, ◌==◌, ◌&&◌, nat_le, nat_lt, IsTrue, List, ℕ, [], Ok, None, true, false, IfOk, IfErr};
 ghost use Rattle.zobj.specs.Attributes.{has_attribute};
 ghost use Rattle.zobj.specs.Entries.{HasEntry, HasTable};
 ghost use Rattle.zobj.specs.Tree.{linked, parent};
-ghost use Rattle.zfault.specs.declared.fault.Fault.TheVariants.{AbsentObject};
+ghost use Rattle.zfault.specs.declared.fault.Fault.TheVariants.{AbsentAttribute, AbsentObject};
 ghost use Rattle.zstate.specs.declared.halt.Halt.TheVariants as halts;
 ghost use Rattle.zstate.specs.Gives.{Gives};
 ghost use Rattle.zstate.specs.Step.{following, is_object, of_attribute, of_object, testing};
@@ -47,10 +47,8 @@ pub(crate) fn attribute(
     ensures apart { IfOk result IsApart }
 {
     let object = object_of(number, story)?;
-    if attribute >= ATTRIBUTES {
-        return Err(Halt::Fault(Fault::AbsentAttribute));
-    }
-    let has = has_attribute(state.memory(), object, attribute as u8);
+    let attribute = attribute_of(attribute)?;
+    let has = has_attribute(state.memory(), object, attribute);
     Ok(testing(has))
 }
 
@@ -80,7 +78,7 @@ fn following(number: u8) -> Effect
 
 /// The object of a number, where it is that of one of the story's objects.
 #[inline(always)]
-fn object_of(number: u16, story: &Story) -> Result<u8, Halt>
+pub(crate) fn object_of(number: u16, story: &Story) -> Result<u8, Halt>
     ensures same { IfOk result (λ object. object ≡ number) }
     ensures there { IfOk result (λ _. is_object story.now number ≡ true) }
     ensures entry { (memory : List ℕ) → HasTable memory story.now.objects → IfOk result (HasEntry memory) }
@@ -88,6 +86,19 @@ fn object_of(number: u16, story: &Story) -> Result<u8, Halt>
 {
     if !is_among(number, story.objects()) {
         return Err(Halt::Fault(Fault::AbsentObject));
+    }
+    Ok(number as u8)
+}
+
+/// The attribute of a number, where it is that of one.
+#[inline(always)]
+pub(crate) fn attribute_of(number: u16) -> Result<u8, Halt>
+    ensures same { IfOk result (λ attribute. attribute ≡ number) }
+    ensures there { IfOk result (λ attribute. attribute < 32) }
+    ensures absent { IfErr result (λ halt. (halt ≡ halts.Fault AbsentAttribute) × (nat_lt number 32 ≡ false)) }
+{
+    if number >= ATTRIBUTES {
+        return Err(Halt::Fault(Fault::AbsentAttribute));
     }
     Ok(number as u8)
 }
