@@ -1,0 +1,82 @@
+#!/usr/bin/env python3
+"""Writes a story of version 3 with 255 objects that goes round a loop of object instructions for ever, and its certificate.
+
+    objects.py KIND COUNT STORY CERTIFICATE
+
+KIND is ask (jin, test_attr and the three that follow a link), mark (set_attr, clear_attr), move (insert_obj, remove_obj) or all of them in
+turn; COUNT says how many there are in the loop; where they are more than a jump can go back over, they are played once. Each takes its objects and attributes from globals, which may be any of them by the
+certificate. Objects 1 and 2 are asked for, of which the second is in the first.
+"""
+import struct
+import sys
+from itertools import cycle, islice
+
+import straight
+
+OBJECTS = 255
+OBJECT, OTHER, ATTRIBUTE, RESULT = 16, 17, 18, 19  # globals
+VALUES = {OBJECT: (1, OBJECTS), OTHER: (1, OBJECTS), ATTRIBUTE: (0, 31), RESULT: (0, OBJECTS)}
+FIRST = {OBJECT: 1, OTHER: 2, ATTRIBUTE: 9}
+BRANCH = 0xC2  # where the condition holds, to the next instruction
+
+KINDS = {
+    "ask": [
+        bytes([0x66, OTHER, OBJECT, BRANCH]),
+        bytes([0x6A, OBJECT, ATTRIBUTE, BRANCH]),
+        bytes([0xA1, OBJECT, RESULT, BRANCH]),
+        bytes([0xA2, OBJECT, RESULT, BRANCH]),
+        bytes([0xA3, OBJECT, RESULT]),
+    ],
+    "mark": [bytes([0x6B, OBJECT, ATTRIBUTE]), bytes([0x6C, OBJECT, ATTRIBUTE])],
+    "move": [bytes([0x6E, OTHER, OBJECT]), bytes([0xA9, OTHER])],
+}
+KINDS["all"] = KINDS["ask"] + KINDS["mark"] + KINDS["move"]
+
+TABLE = straight.DEFAULTS
+ENTRIES = TABLE + 62
+PROPERTIES = ENTRIES + 9 * OBJECTS  # one list, of no name and no property, for all
+STATIC = PROPERTIES + 3
+DICTIONARY = STATIC + 2 * 96 + 2
+CODE = DICTIONARY + 4
+
+
+def story(code):
+    """The whole story with this code, and its checksum."""
+    values = b"".join(struct.pack(">H", FIRST.get(number, 0)) for number in range(16, 256))
+    links = {1: (0, 0, 2), 2: (1, 0, 0)}
+    entries = b"".join(bytes(4) + bytes(links.get(number, (0, 0, 0))) + struct.pack(">H", PROPERTIES) for number in range(1, OBJECTS + 1))
+    rest = values + bytes(62) + entries + bytes(3) + struct.pack(">H", (DICTIONARY - 2) // 2) * 96 + b"\x94\xa5" + bytes([0, 4, 0, 0]) + code
+    rest += bytes(len(rest) % 2)
+    checksum = sum(rest) % 65536
+    head = struct.pack(
+        ">BBHHHHHHHH6sHHH",
+        3, 0, straight.RELEASE, CODE, CODE, DICTIONARY, TABLE, straight.GLOBALS, STATIC, 0, straight.SERIAL, STATIC, (64 + len(rest)) // 2, checksum,
+    )
+    return head.ljust(64, b"\0") + rest, checksum
+
+
+def certificate(length, checksum, addresses):
+    """One that lists these addresses in the main code, with an empty stack."""
+    head = struct.pack(">4sBH6sHI", b"ZPCC", 1, straight.RELEASE, straight.SERIAL, checksum, length)
+    values = b"".join(struct.pack(">hh", *VALUES.get(number, (0, 0))) for number in range(16, 256))
+    entries = b"".join(struct.pack(">IHB", address, 0, 0) for address in addresses)
+    return head + struct.pack(">H", 0) + values + struct.pack(">H", 0) + struct.pack(">I", len(addresses)) + entries
+
+
+def main(kind, count, story_name, certificate_name):
+    code, addresses = b"", []
+    for instruction in islice(cycle(KINDS[kind]), int(count)):
+        addresses.append(CODE + len(code))
+        code += instruction
+    addresses.append(CODE + len(code))
+    back = 2 - 3 - len(code)
+    code += b"\x8c" + struct.pack(">h", back) if back >= -32768 else straight.QUIT
+    whole, checksum = story(code)
+    with open(story_name, "wb") as file:
+        file.write(whole)
+    with open(certificate_name, "wb") as file:
+        file.write(certificate(len(whole), checksum, addresses))
+
+
+if __name__ == "__main__":
+    main(*sys.argv[1:])
