@@ -1,6 +1,6 @@
 //! The sets of the arguments of a call.
 
-ghost use Rattle.std.specs.Prelude.{◌≡◌, ◌≤◌, take};
+ghost use Rattle.std.specs.Prelude.{◌≡◌, slice_get};
 ghost use Rattle.zflow.specs.Kept.{shape_of};
 ghost use Rattle.zflow.specs.Transfer.{argument_sets};
 
@@ -8,42 +8,27 @@ use crate::view::View;
 use zcode::Instr;
 use zdomain::Domain;
 
-/// The sets of the arguments of a call: of at most three.
-#[derive(Clone, Copy)]
-pub struct ArgumentSets<V> {
-    sets: [V; 3],
-    count: usize,
-}
-
-impl<V: Domain> ArgumentSets<V> {
-    /// The sets of the arguments of a call before which this is known: sets of the globals, of the frame's locals and of its slots,
-    /// the top slot last.
-    pub fn new(globals: &[V], locals: &[V], slots: &[V], instruction: &Instr) -> ArgumentSets<V>
-        ensures few { result.count ≤ 3 }
-        ensures value { take result.count result.sets ≡ argument_sets V.operations globals.now instruction.now (shape_of locals.now slots.now) }
-    {
-        let before = View {
-            globals,
-            locals,
-            slots,
-        };
-        let inputs = instruction.inputs();
-        let operands = inputs.as_slice();
-        ArgumentSets {
-            sets: [
-                before.set_at(operands, 1),
-                before.set_at(operands, 2),
-                before.set_at(operands, 3),
-            ],
-            count: operands.len().saturating_sub(1),
-        }
-    }
-
-    /// The sets, in order.
-    pub fn as_slice(&self) -> &[V]
-        requires { self.now.count ≤ 3 }
-        ensures { result.now ≡ take self.now.count self.now.sets }
-    {
-        &self.sets[..self.count]
+/// The set of an argument of a call, by its place among them, if there is one; a call has at most three. What is known before it: sets
+/// of the globals, of the frame's locals and of its slots, the top slot last.
+pub fn argument_set<V: Domain>(
+    globals: &[V],
+    locals: &[V],
+    slots: &[V],
+    instruction: &Instr,
+    index: usize,
+) -> Option<V>
+    ensures { result ≡ slice_get (argument_sets V.operations globals.now instruction.now (shape_of locals.now slots.now)) index }
+{
+    let before = View {
+        globals,
+        locals,
+        slots,
+    };
+    let inputs = instruction.inputs();
+    let operands = inputs.as_slice();
+    if index < operands.len().saturating_sub(1) {
+        Some(before.set_at(operands, index + 1))
+    } else {
+        None
     }
 }

@@ -11,7 +11,7 @@ mod parts;
 mod slot_sets;
 mod view;
 
-pub use arguments::ArgumentSets;
+pub use arguments::argument_set;
 pub use flow::{Edge, Flow, first_known, flow_of};
 pub use known::Known;
 pub use parts::{Demands, Kept, Lead, Outcome};

@@ -1,6 +1,6 @@
 -- What the code asks of a routine that is called, by the definitions.
 use Rattle.std.proofs.Common.{◌≡◌, ◌↔◌, ◌⊎◌, inl, inr, ℕ, zero, suc, ◌+◌, ◌-◌, ◌*◌, ◌<◌, ◌≤◌, Bool, List, [], ◌∷◌, length, drop, take, take_all, Option, Some, None, refl, sym, ap, subst, ◌∙◌, arith}
-use Rattle.std.specs.Prelude.{IsTrue, IfSome, ◌==◌, slice_index_or}
+use Rattle.std.specs.Prelude.{IsTrue, IfSome, MatchOption, ◌==◌, slice_get, slice_index_or}
 use Rattle.std.proofs.lemmas.Bool.{cases_lt, eqb-true}
 use Rattle.std.proofs.lemmas.Option.{same_Some}
 use Rattle.zstory.specs.Bytes.{byte_at, word_at}
@@ -27,29 +27,34 @@ module _ {V : Type 0} (o : SetOperations V) (claims : Claims V) where
   starts_short args memory at (suc count) locals more none s = absurd (omega (arith, none))
 
   -- a local that no argument is given for has its initial word
-  pub starts_free : (args : List V) (memory : List ℕ) (at count word : ℕ) (locals : List V) (b : V) → length args < 1 → 1 ≤ length locals → b ≡ slice_index_or locals 0 b → (count ≡ 0 → ⊥) → word ≡ word_at memory at
-      → Starts o claims args (words_from memory at count) locals ↔ (In o b word × Starts o claims [] (words_from memory (at + 2) (count - 1)) (take (length locals - 1) (drop 1 locals)))
+  free : (memory : List ℕ) (at count : ℕ) (locals : List V) (b : V) → 1 ≤ length locals → b ≡ slice_index_or locals 0 b → (count ≡ 0 → ⊥)
+      → Starts o claims [] (words_from memory at count) locals ↔ (In o b (word_at memory at) × Starts o claims [] (words_from memory (at + 2) (count - 1)) (take (length locals - 1) (drop 1 locals)))
   unfolding words_from
-  starts_free (a ∷ args) memory at count word locals b none more first some is = absurd (omega (arith, none))
-  starts_free [] memory at count word [] b none more first some is = absurd (omega (arith, more))
-  starts_free [] memory at zero word (x ∷ locals) b none more first some is = absurd (some refl)
-  starts_free [] memory at (suc count) word (x ∷ locals) b none more first some is =
+  free memory at count [] b more first some = absurd (omega (arith, more))
+  free memory at zero (x ∷ locals) b more first some = absurd (some refl)
+  free memory at (suc count) (x ∷ locals) b more first some =
       let all : take (length (x ∷ locals) - 1) locals ≡ locals = take_all (length (x ∷ locals) - 1) locals (omega arith) in
       let next : suc count - 1 ≡ count = omega arith in
-      rw (is, first, all, next) (λ s. s, λ s. s)
+      rw (first, all, next) (λ s. s, λ s. s)
 
   -- and one that is given one has that
-  pub starts_given : (args : List V) (memory : List ℕ) (at count : ℕ) (locals : List V) (a b : V) → 1 ≤ length args → a ≡ slice_index_or args 0 a → 1 ≤ length locals → b ≡ slice_index_or locals 0 b → (count ≡ 0 → ⊥)
-      → Starts o claims args (words_from memory at count) locals ↔ (Within o a b × Starts o claims (take (length args - 1) (drop 1 args)) (words_from memory (at + 2) (count - 1)) (take (length locals - 1) (drop 1 locals)))
+  given : (args : List V) (memory : List ℕ) (at count : ℕ) (locals : List V) (a b : V) → 1 ≤ length locals → b ≡ slice_index_or locals 0 b → (count ≡ 0 → ⊥)
+      → Starts o claims (a ∷ args) (words_from memory at count) locals ↔ (Within o a b × Starts o claims args (words_from memory (at + 2) (count - 1)) (take (length locals - 1) (drop 1 locals)))
   unfolding words_from
-  starts_given [] memory at count locals a b there given more first some = absurd (omega (arith, there))
-  starts_given (y ∷ args) memory at count [] a b there given more first some = absurd (omega (arith, more))
-  starts_given (y ∷ args) memory at zero (x ∷ locals) a b there given more first some = absurd (some refl)
-  starts_given (y ∷ args) memory at (suc count) (x ∷ locals) a b there given more first some =
+  given args memory at count [] a b more first some = absurd (omega (arith, more))
+  given args memory at zero (x ∷ locals) a b more first some = absurd (some refl)
+  given args memory at (suc count) (x ∷ locals) a b more first some =
       let all : take (length (x ∷ locals) - 1) locals ≡ locals = take_all (length (x ∷ locals) - 1) locals (omega arith) in
-      let rest : take (length (y ∷ args) - 1) args ≡ args = take_all (length (y ∷ args) - 1) args (omega arith) in
       let next : suc count - 1 ≡ count = omega arith in
-      rw (given, first, all, rest, next) (λ s. s, λ s. s)
+      rw (first, all, next) (λ s. s, λ s. s)
+
+  -- so the first of the locals that are left has the argument that is, if one is
+  pub starts_next : (args : List V) (k : ℕ) (memory : List ℕ) (at count : ℕ) (locals : List V) (b : V) → 1 ≤ length locals → b ≡ slice_index_or locals 0 b → (count ≡ 0 → ⊥)
+      → Starts o claims (drop k args) (words_from memory at count) locals ↔ (MatchOption (slice_get args k) (In o b (word_at memory at)) (λ a. Within o a b) × Starts o claims (drop (k + 1) args) (words_from memory (at + 2) (count - 1)) (take (length locals - 1) (drop 1 locals)))
+  starts_next [] zero memory at count locals b more first some = free memory at count locals b more first some
+  starts_next [] (suc k) memory at count locals b more first some = let step : suc k + 1 ≡ suc (k + 1) = omega arith in rw step (free memory at count locals b more first some)
+  starts_next (a ∷ args) zero memory at count locals b more first some = given args memory at count locals a b more first some
+  starts_next (a ∷ args) (suc k) memory at count locals b more first some = let step : suc k + 1 ≡ suc (k + 1) = omega arith in rw step (starts_next args k memory at count locals b more first some)
 
   -- a routine at a place, of which the first instruction is this
   pub begins_where : (story : LoadedStory) (args : List V) (p index : ℕ) (first : Entry V) → claims.routine_at p ≡ Some index → claims.entry (behind_head story.memory p) ≡ Some first
@@ -62,13 +67,13 @@ module _ {V : Type 0} (o : SetOperations V) (claims : Claims V) where
           let number : begins.index ≡ index = same_Some begins.index index (sym begins.routine ∙ routine) in
           (subst (λ (e : Entry V). e.routine ≡ suc index) same (begins.same ∙ ap (λ (k : ℕ). suc k) number), subst (λ (e : Entry V). e.shape.slots ≡ []) same begins.empty, subst (λ (e : Entry V). Starts o claims args (initial story.memory p) e.shape.locals) same begins.starts)
 
-  -- as the code reads its head
+  -- as the code reads its head, from a list that is the memory
   pub begins_by : (story : LoadedStory) (args : List V) (p index : ℕ) (first : Entry V) (memory : List ℕ) (count code : ℕ) → memory ≡ story.memory → count ≡ byte_at memory p → code ≡ p + 1 + 2 * count → claims.routine_at p ≡ Some index → claims.entry code ≡ Some first
-      → Begins o claims story args p ↔ (((first.routine ≡ suc index) × (first.shape.slots ≡ [])) × Starts o claims args (words_from memory (p + 1) count) first.shape.locals)
+      → Begins o claims story args p ↔ (((first.routine ≡ suc index) × (first.shape.slots ≡ [])) × Starts o claims args (words_from story.memory (p + 1) count) first.shape.locals)
   begins_by story args p index first memory count code memory_is count_is code_is routine listed =
       let code_there : code ≡ behind_head story.memory p = rw (code_is, count_is, memory_is) refl in
       let told = begins_where story args p index first routine (subst (λ (n : ℕ). claims.entry n ≡ Some first) code_there listed) in
-      let words : words_from memory (p + 1) count ≡ initial story.memory p = rw (count_is, memory_is) refl in
+      let words : words_from story.memory (p + 1) count ≡ initial story.memory p = rw (count_is, memory_is) refl in
       (λ b. let parts = told.0 b in ((parts.0, parts.1), subst (λ (ws : List ℕ). Starts o claims args ws first.shape.locals) (sym words) parts.2), λ h. told.1 (h.0.0, h.0.1, subst (λ (ws : List ℕ). Starts o claims args ws first.shape.locals) words h.1))
 
   pub begins_nowhere : (story : LoadedStory) (args : List V) (p : ℕ) → claims.routine_at p ≡ None → Begins o claims story args p → ⊥

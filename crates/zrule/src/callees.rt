@@ -1,38 +1,37 @@
 //! What rules ask of each routine that an instruction may call.
 
-ghost use Rattle.std.specs.Prelude.{◌≡◌, ◌↔◌, ◌*◌, ◌+◌, ◌≤◌, IsTrue, Some, [], length, reverse, suc};
-ghost use Rattle.zdomain.specs.declared.interval.Interval.{Interval as AnInterval};
-ghost use Rattle.zdomain.specs.Interval.{interval_operations};
+ghost use Rattle.std.specs.Prelude.{◌≡◌, ◌↔◌, ◌*◌, ◌+◌, ◌≤◌, IsTrue, MatchOption, Some, [], drop, length, reverse, slice_get, suc};
 ghost use Rattle.zstory.specs.Bytes.{byte_at, word_at};
+ghost use Rattle.zdomain.specs.Domain.{In, Within};
 ghost use Rattle.zcode.specs.Operation.{target};
 ghost use Rattle.zstate.specs.Step.{behind_head, words_from};
-ghost use Rattle.zflow.specs.Transfer.{with_result};
-ghost use Rattle.zrule.specs.Claims.{Claims, claims_of};
+ghost use Rattle.zflow.specs.Transfer.{argument_sets, with_result};
+ghost use Rattle.zcert.specs.Listed.{seen};
+ghost use Rattle.zrule.specs.Claims.{Claims, claims_of, entry_of};
 ghost use Rattle.zrule.specs.Edges.{CalleeKeeps, IsNextAbove};
 ghost use Rattle.zrule.specs.Rules.{Begins, EachCallee, Leads, Starts, result_at};
 
 use crate::edges::{leads_given, takes};
 use crate::rule::Rule;
 use crate::site::Site;
-use zcert::{Certificate, Instruction};
-use zdomain::{Domain, Interval};
+use zcert::{Certificate, Instruction, Spelled};
+use zdomain::Domain;
 use zflow::Known;
 
 /// Whether each routine at a packed address of the set keeps a rule, where `after` is known of the caller behind the call, before
 /// what comes back.
-pub(crate) fn callees_keep(
-    site: Site<'_>,
-    arguments: &[Interval],
-    set: Interval,
-    after: &Known<'_, Interval>,
+pub(crate) fn callees_keep<V: Spelled>(
+    site: Site<'_, V>,
+    set: V,
+    after: &Known<'_, V>,
     rule: Rule,
 ) -> bool
     requires { site.listed.now.address + site.instruction.now.size ≤ 131072 }
-    ensures { IsTrue result ↔ EachCallee interval_operations (claims_of interval_operations site.entry.certificate.now) set (CalleeKeeps interval_operations (claims_of interval_operations site.entry.certificate.now) site.entry.story.now arguments.now site.entry.listed.now.routine (site.entry.listed.now.address + site.entry.instruction.now.size) (target site.entry.instruction.now) rule after.now) }
+    ensures { IsTrue result ↔ EachCallee V.operations (claims_of V.operations site.entry.certificate.now) set (CalleeKeeps V.operations (claims_of V.operations site.entry.certificate.now) site.entry.story.now (argument_sets V.operations site.entry.certificate.now.globals site.entry.instruction.now (entry_of (seen site.entry.listed.now)).shape) site.entry.listed.now.routine (site.entry.listed.now.address + site.entry.instruction.now.size) (target site.entry.instruction.now) rule after.now) }
 {
     let mut callee = next_above(set, 0);
     while let Some(word) = callee {
-        if !callee_keeps(site, arguments, word, after, rule) {
+        if !callee_keeps(site, word, after, rule) {
             return false;
         }
         callee = next_above(set, word);
@@ -41,26 +40,25 @@ pub(crate) fn callees_keep(
 }
 
 /// The least word of a set above a word.
-fn next_above(set: Interval, word: u16) -> Option<u16>
-    ensures { IsNextAbove interval_operations set word result }
+fn next_above<V: Spelled>(set: V, word: u16) -> Option<u16>
+    ensures { IsNextAbove V.operations set word result }
 {
     set.least_from(word.checked_add(1)?)
 }
 
 /// Whether the routine at a packed address does.
-fn callee_keeps(
-    site: Site<'_>,
-    arguments: &[Interval],
+fn callee_keeps<V: Spelled>(
+    site: Site<'_, V>,
     packed: u16,
-    after: &Known<'_, Interval>,
+    after: &Known<'_, V>,
     rule: Rule,
 ) -> bool
     requires { site.listed.now.address + site.instruction.now.size ≤ 131072 }
-    ensures { IsTrue result ↔ CalleeKeeps interval_operations (claims_of interval_operations site.entry.certificate.now) site.entry.story.now arguments.now site.entry.listed.now.routine (site.entry.listed.now.address + site.entry.instruction.now.size) (target site.entry.instruction.now) rule after.now (2 * packed) }
+    ensures { IsTrue result ↔ CalleeKeeps V.operations (claims_of V.operations site.entry.certificate.now) site.entry.story.now (argument_sets V.operations site.entry.certificate.now.globals site.entry.instruction.now (entry_of (seen site.entry.listed.now)).shape) site.entry.listed.now.routine (site.entry.listed.now.address + site.entry.instruction.now.size) (target site.entry.instruction.now) rule after.now (2 * packed) }
 {
     let place = 2 * u32::from(packed);
     match rule {
-        Rule::Called => begins(site, arguments, place),
+        Rule::Called => begins(site, place),
         Rule::Successor => leads_given(site, after, result_at(site.certificate, place)),
         Rule::Stored => takes(
             site.certificate,
@@ -72,33 +70,32 @@ fn callee_keeps(
 }
 
 /// The values that the routine at a place may give: any, where none begins there.
-fn result_at(certificate: &Certificate, place: u32) -> Interval
-    ensures { result ≡ result_at interval_operations (claims_of interval_operations certificate.now) place }
+fn result_at<V: Spelled>(certificate: &Certificate<V>, place: u32) -> V
+    ensures { result ≡ result_at V.operations (claims_of V.operations certificate.now) place }
 {
     match certificate.routine_index(place) {
         Some(index) => result_of(certificate, index),
-        None => Interval::any(),
+        None => V::any(),
     }
 }
 
 /// The values that a routine may give, by its index: any, where there is none of the index.
-pub(crate) fn result_of(certificate: &Certificate, index: usize) -> Interval
-    ensures { result ≡ (claims_of interval_operations certificate.now).result (index + 1) }
+pub(crate) fn result_of<V: Spelled>(certificate: &Certificate<V>, index: usize) -> V
+    ensures { result ≡ (claims_of V.operations certificate.now).result (index + 1) }
 {
     match certificate.routines().get(index) {
         Some(listed) => listed.result,
-        None => Interval::any(),
+        None => V::any(),
     }
 }
 
-/// Whether a routine begins at a place, with these arguments.
-fn begins(site: Site<'_>, arguments: &[Interval], place: u32) -> bool
+/// Whether a routine begins at a place, with the arguments of the instruction.
+fn begins<V: Spelled>(site: Site<'_, V>, place: u32) -> bool
     requires { place ≤ 131070 }
-    ensures { IsTrue result ↔ Begins interval_operations (claims_of interval_operations site.entry.certificate.now) site.entry.story.now arguments.now place }
+    ensures { IsTrue result ↔ Begins V.operations (claims_of V.operations site.entry.certificate.now) site.entry.story.now (argument_sets V.operations site.entry.certificate.now.globals site.entry.instruction.now (entry_of (seen site.entry.listed.now)).shape) place }
 {
-    let memory = site.story.memory();
     let at = place as usize;
-    let count = byte_at(memory, at);
+    let count = byte_at(site.story.memory(), at);
     let Some(index) = site.certificate.routine_index(place) else {
         return false;
     };
@@ -106,11 +103,11 @@ fn begins(site: Site<'_>, arguments: &[Interval], place: u32) -> bool
     let Some(first) = site.certificate.instruction_at(code) else {
         return false;
     };
-    opens(&first, index) && starts(arguments, memory, at + 1, count, first.locals)
+    opens(&first, index) && starts(site, 0, at + 1, count, first.locals)
 }
 
 /// Whether an instruction is listed in the routine of an index, with an empty stack.
-fn opens(first: &Instruction<'_, Interval>, index: usize) -> bool
+fn opens<V: Spelled>(first: &Instruction<'_, V>, index: usize) -> bool
     ensures { IsTrue result ↔ ((first.now.routine ≡ suc index) × (reverse first.now.slots.now ≡ [])) }
 {
     match usize::from(first.routine).checked_sub(1) {
@@ -119,10 +116,12 @@ fn opens(first: &Instruction<'_, Interval>, index: usize) -> bool
     }
 }
 
-/// Whether the locals that a routine begins with lie in the sets stated, where so many initial words stand from a place on.
-fn starts(arguments: &[Interval], memory: &[u8], at: usize, count: u8, locals: &[Interval]) -> bool
-    requires { at + 2 * count ≤ 1000000 }
-    ensures { (claims : Claims AnInterval) → IsTrue result ↔ Starts interval_operations claims arguments.now (words_from memory.now at count) locals.now }
+/// Whether the locals that a routine begins with lie in the sets stated, from that on which the argument `given` goes to. So many
+/// initial words stand from a place on.
+fn starts<V: Spelled>(site: Site<'_, V>, given: usize, at: usize, count: u8, locals: &[V]) -> bool
+    requires words { at + 2 * count ≤ 1000000 }
+    requires arguments { given + count ≤ 1000000 }
+    ensures { (claims : Claims V) → IsTrue result ↔ Starts V.operations claims (drop given (argument_sets V.operations site.entry.certificate.now.globals site.entry.instruction.now (entry_of (seen site.entry.listed.now)).shape)) (words_from site.entry.story.now.memory at count) locals.now }
 {
     let [local, locals @ ..] = locals else {
         return count == 0;
@@ -130,11 +129,18 @@ fn starts(arguments: &[Interval], memory: &[u8], at: usize, count: u8, locals: &
     if count == 0 {
         return false;
     }
-    match arguments {
-        [argument, arguments @ ..] => {
-            argument.is_within(*local) && starts(arguments, memory, at + 2, count - 1, locals)
-        }
-        [] => local.contains(word_at(memory, at)) && starts(&[], memory, at + 2, count - 1, locals),
+    has_first(site, given, at, *local) && starts(site, given + 1, at + 2, count - 1, locals)
+}
+
+/// Whether what a local first has lies in the set stated: an argument, by its place among them, or the initial word at a place, where
+/// none is supplied (Z 6.4.4).
+fn has_first<V: Spelled>(site: Site<'_, V>, given: usize, at: usize, local: V) -> bool
+    requires { at ≤ 1000000 }
+    ensures { IsTrue result ↔ MatchOption (slice_get (argument_sets V.operations site.entry.certificate.now.globals site.entry.instruction.now (entry_of (seen site.entry.listed.now)).shape) given) (In V.operations local (word_at site.entry.story.now.memory at)) (λ a. Within V.operations a local) }
+{
+    match site.argument(given) {
+        Some(argument) => argument.is_within(local),
+        None => local.contains(word_at(site.story.memory(), at)),
     }
 }
 

@@ -1,8 +1,6 @@
 //! What rules ask of an edge of an instruction.
 
 ghost use Rattle.std.specs.Prelude.{◌≡◌, ◌↔◌, ◌+◌, ◌<◌, ◌≤◌, ℕ, IfSome, IsTrue, Some, length, option_map};
-ghost use Rattle.zdomain.specs.declared.interval.Interval.{Interval as AnInterval};
-ghost use Rattle.zdomain.specs.Interval.{interval_operations};
 ghost use Rattle.zcode.specs.Operation.{target};
 ghost use Rattle.zflow.specs.declared.parts.Lead.TheVariants.{Ahead, Returning};
 ghost use Rattle.zflow.specs.Transfer.{Shape, argument_sets, with_result};
@@ -14,16 +12,16 @@ ghost use Rattle.zrule.specs.Rules.{Covers, Enters, GoesOn, Leads, Returns, Take
 use crate::callees::{callees_keep, result_of};
 use crate::rule::Rule;
 use crate::site::Site;
-use zcert::{Certificate, Instruction};
-use zdomain::{Domain, Interval};
-use zflow::{ArgumentSets, Edge, Known, Lead};
+use zcert::{Certificate, Instruction, Spelled};
+use zdomain::Domain;
+use zflow::{Edge, Known, Lead};
 
 /// The greatest height of a stack behind an edge.
 const MAX_HEIGHT: usize = 64;
 
 /// Whether the stack stays low on an edge, if that can be taken, with what comes back. `target` is the variable that takes the result.
-pub(crate) fn is_low(edge: &Edge<'_, Interval>, target: u8) -> bool
-    ensures { (claims : Claims AnInterval) → IsTrue result ↔ IfSome edge.now.after (StaysLow interval_operations claims target edge.now.lead) }
+pub(crate) fn is_low<V: Spelled>(edge: &Edge<'_, V>, target: u8) -> bool
+    ensures { (claims : Claims V) → IsTrue result ↔ IfSome edge.now.after (StaysLow V.operations claims target edge.now.lead) }
 {
     match &edge.after {
         Some(after) => after.is_at_most(most_before(edge.lead, target)),
@@ -32,8 +30,8 @@ pub(crate) fn is_low(edge: &Edge<'_, Interval>, target: u8) -> bool
 }
 
 /// How high a stack may be before what comes back.
-fn most_before(lead: Lead<Interval>, target: u8) -> usize
-    ensures { (claims : Claims AnInterval) (f : Shape AnInterval) → StaysLow interval_operations claims target lead f ↔ (length f.slots ≤ result) }
+fn most_before<V: Spelled>(lead: Lead<V>, target: u8) -> usize
+    ensures { (claims : Claims V) (f : Shape V) → StaysLow V.operations claims target lead f ↔ (length f.slots ≤ result) }
 {
     match lead {
         Lead::Entering(_) if target == 0 => MAX_HEIGHT - 1,
@@ -42,42 +40,32 @@ fn most_before(lead: Lead<Interval>, target: u8) -> usize
 }
 
 /// Whether an edge leads on, if it can be taken.
-pub(crate) fn goes_on(site: Site<'_>, edge: &Edge<'_, Interval>) -> bool
+pub(crate) fn goes_on<V: Spelled>(site: Site<'_, V>, edge: &Edge<'_, V>) -> bool
     requires { site.listed.now.address + site.instruction.now.size ≤ 131072 }
-    ensures { IsTrue result ↔ IfSome edge.now.after (λ f. GoesOn interval_operations (claims_of interval_operations site.entry.certificate.now) site.entry.listed.now.routine (target site.entry.instruction.now) f (site.entry.listed.now.address + site.entry.instruction.now.size) edge.now.lead) }
+    ensures { IsTrue result ↔ IfSome edge.now.after (λ f. GoesOn V.operations (claims_of V.operations site.entry.certificate.now) site.entry.listed.now.routine (target site.entry.instruction.now) f (site.entry.listed.now.address + site.entry.instruction.now.size) edge.now.lead) }
 {
     match (&edge.after, edge.lead) {
         (Some(after), Lead::Ahead(distance)) => leads_ahead(site, after, distance),
-        (Some(after), Lead::Entering(set)) => {
-            callees_keep(site, &[], set, after, Rule::Successor)
-        }
+        (Some(after), Lead::Entering(set)) => { callees_keep(site, set, after, Rule::Successor) }
         _ => true,
     }
 }
 
 /// Whether each routine that an edge calls begins as is said, if that can be taken.
-pub(crate) fn enters(site: Site<'_>, edge: &Edge<'_, Interval>) -> bool
+pub(crate) fn enters<V: Spelled>(site: Site<'_, V>, edge: &Edge<'_, V>) -> bool
     requires { site.listed.now.address + site.instruction.now.size ≤ 131072 }
-    ensures { IsTrue result ↔ IfSome edge.now.after (λ f. Enters interval_operations (claims_of interval_operations site.entry.certificate.now) site.entry.story.now (argument_sets interval_operations site.entry.certificate.now.globals site.entry.instruction.now (entry_of (seen site.entry.listed.now)).shape) edge.now.lead) }
+    ensures { IsTrue result ↔ IfSome edge.now.after (λ f. Enters V.operations (claims_of V.operations site.entry.certificate.now) site.entry.story.now (argument_sets V.operations site.entry.certificate.now.globals site.entry.instruction.now (entry_of (seen site.entry.listed.now)).shape) edge.now.lead) }
 {
     match (&edge.after, edge.lead) {
-        (Some(after), Lead::Entering(set)) => {
-            let sets = ArgumentSets::new(
-                site.certificate.globals(),
-                site.listed.locals,
-                site.listed.slots,
-                site.instruction,
-            );
-            callees_keep(site, sets.as_slice(), set, after, Rule::Called)
-        }
+        (Some(after), Lead::Entering(set)) => { callees_keep(site, set, after, Rule::Called) }
         _ => true,
     }
 }
 
 /// Whether what is known leads on to the place so many bytes behind the instruction.
-fn leads_ahead(site: Site<'_>, after: &Known<'_, Interval>, distance: i32) -> bool
+fn leads_ahead<V: Spelled>(site: Site<'_, V>, after: &Known<'_, V>, distance: i32) -> bool
     requires { site.listed.now.address + site.instruction.now.size ≤ 131072 }
-    ensures { IsTrue result ↔ GoesOn interval_operations (claims_of interval_operations site.entry.certificate.now) site.entry.listed.now.routine (target site.entry.instruction.now) after.now (site.entry.listed.now.address + site.entry.instruction.now.size) (Ahead distance) }
+    ensures { IsTrue result ↔ GoesOn V.operations (claims_of V.operations site.entry.certificate.now) site.entry.listed.now.routine (target site.entry.instruction.now) after.now (site.entry.listed.now.address + site.entry.instruction.now.size) (Ahead distance) }
 {
     match u32::try_from(i64::from(site.next()) + i64::from(distance)) {
         Ok(to) => leads(site, after, to),
@@ -86,8 +74,8 @@ fn leads_ahead(site: Site<'_>, after: &Known<'_, Interval>, distance: i32) -> bo
 }
 
 /// Whether a place is listed in the routine, at equal height, with sets that contain what is known.
-fn leads(site: Site<'_>, after: &Known<'_, Interval>, to: u32) -> bool
-    ensures { IsTrue result ↔ Leads interval_operations (claims_of interval_operations site.entry.certificate.now) site.entry.listed.now.routine after.now to }
+fn leads<V: Spelled>(site: Site<'_, V>, after: &Known<'_, V>, to: u32) -> bool
+    ensures { IsTrue result ↔ Leads V.operations (claims_of V.operations site.entry.certificate.now) site.entry.listed.now.routine after.now to }
 {
     match listed_near(site.certificate, site.near, to) {
         Some(next) => next.routine == site.listed.routine && covers(after, &next),
@@ -96,9 +84,9 @@ fn leads(site: Site<'_>, after: &Known<'_, Interval>, to: u32) -> bool
 }
 
 /// Whether the place behind the instruction is, once its result variable is given a value of the set.
-pub(crate) fn leads_given(site: Site<'_>, after: &Known<'_, Interval>, set: Interval) -> bool
+pub(crate) fn leads_given<V: Spelled>(site: Site<'_, V>, after: &Known<'_, V>, set: V) -> bool
     requires { site.listed.now.address + site.instruction.now.size ≤ 131072 }
-    ensures { IsTrue result ↔ Leads interval_operations (claims_of interval_operations site.entry.certificate.now) site.entry.listed.now.routine (with_result (Some set) (target site.entry.instruction.now) after.now) (site.entry.listed.now.address + site.entry.instruction.now.size) }
+    ensures { IsTrue result ↔ Leads V.operations (claims_of V.operations site.entry.certificate.now) site.entry.listed.now.routine (with_result (Some set) (target site.entry.instruction.now) after.now) (site.entry.listed.now.address + site.entry.instruction.now.size) }
 {
     match listed_near(site.certificate, site.near, site.next()) {
         Some(next) => {
@@ -109,11 +97,11 @@ pub(crate) fn leads_given(site: Site<'_>, after: &Known<'_, Interval>, set: Inte
 }
 
 /// The instruction that is listed at an address, if one is. No search is made where it has the index `near`.
-fn listed_near(
-    certificate: &Certificate,
+fn listed_near<V: Spelled>(
+    certificate: &Certificate<V>,
     near: usize,
     address: u32,
-) -> Option<Instruction<'_, Interval>>
+) -> Option<Instruction<'_, V>>
     ensures { option_map seen result ≡ listed_at certificate.now.instructions address }
 {
     if near < certificate.instruction_count() {
@@ -126,27 +114,31 @@ fn listed_near(
 }
 
 /// Whether the sets of a place contain what is known.
-fn covers(after: &Known<'_, Interval>, to: &Instruction<'_, Interval>) -> bool
-    ensures { IsTrue result ↔ Covers interval_operations after.now (entry_of (seen to.now)).shape }
+fn covers<V: Spelled>(after: &Known<'_, V>, to: &Instruction<'_, V>) -> bool
+    ensures { IsTrue result ↔ Covers V.operations after.now (entry_of (seen to.now)).shape }
 {
     after.is_within(to.locals, to.slots)
 }
 
 /// Whether they do once a variable is given a value of the set.
-fn covers_given(
-    after: &Known<'_, Interval>,
-    set: Interval,
+fn covers_given<V: Spelled>(
+    after: &Known<'_, V>,
+    set: V,
     variable: u8,
-    to: &Instruction<'_, Interval>,
+    to: &Instruction<'_, V>,
 ) -> bool
-    ensures { IsTrue result ↔ Covers interval_operations (with_result (Some set) variable after.now) (entry_of (seen to.now)).shape }
+    ensures { IsTrue result ↔ Covers V.operations (with_result (Some set) variable after.now) (entry_of (seen to.now)).shape }
 {
     after.is_within_given(set, variable, to.locals, to.slots)
 }
 
 /// Whether what an edge returns, if it can be taken, lies in what the routine may give; the main code gives nothing.
-pub(crate) fn returns(certificate: &Certificate, routine: u16, edge: &Edge<'_, Interval>) -> bool
-    ensures { IsTrue result ↔ IfSome edge.now.after (λ f. Returns interval_operations (claims_of interval_operations certificate.now) routine edge.now.lead) }
+pub(crate) fn returns<V: Spelled>(
+    certificate: &Certificate<V>,
+    routine: u16,
+    edge: &Edge<'_, V>,
+) -> bool
+    ensures { IsTrue result ↔ IfSome edge.now.after (λ f. Returns V.operations (claims_of V.operations certificate.now) routine edge.now.lead) }
 {
     match (&edge.after, edge.lead) {
         (Some(_), Lead::Returning(set)) => may_return(certificate, routine, set),
@@ -155,16 +147,16 @@ pub(crate) fn returns(certificate: &Certificate, routine: u16, edge: &Edge<'_, I
 }
 
 /// Whether a routine may return these values.
-fn may_return(certificate: &Certificate, routine: u16, set: Interval) -> bool
-    ensures { IsTrue result ↔ Returns interval_operations (claims_of interval_operations certificate.now) routine (Returning set) }
+fn may_return<V: Spelled>(certificate: &Certificate<V>, routine: u16, set: V) -> bool
+    ensures { IsTrue result ↔ Returns V.operations (claims_of V.operations certificate.now) routine (Returning set) }
 {
     routine > 0 && set.is_within(result_of(certificate, usize::from(routine) - 1))
 }
 
 /// Whether what an edge stores to globals lies in their sets, if it can be taken, and what the routines give that it calls.
-pub(crate) fn stores(site: Site<'_>, edge: &Edge<'_, Interval>) -> bool
+pub(crate) fn stores<V: Spelled>(site: Site<'_, V>, edge: &Edge<'_, V>) -> bool
     requires { site.listed.now.address + site.instruction.now.size ≤ 131072 }
-    ensures { IsTrue result ↔ IfSome edge.now.after (λ f. Takes interval_operations (claims_of interval_operations site.entry.certificate.now) edge.now.outcome.gives (target site.entry.instruction.now) × TakesInPlace interval_operations (claims_of interval_operations site.entry.certificate.now) edge.now.outcome.assigns × TakesBack interval_operations (claims_of interval_operations site.entry.certificate.now) (target site.entry.instruction.now) edge.now.lead) }
+    ensures { IsTrue result ↔ IfSome edge.now.after (λ f. Takes V.operations (claims_of V.operations site.entry.certificate.now) edge.now.outcome.gives (target site.entry.instruction.now) × TakesInPlace V.operations (claims_of V.operations site.entry.certificate.now) edge.now.outcome.assigns × TakesBack V.operations (claims_of V.operations site.entry.certificate.now) (target site.entry.instruction.now) edge.now.lead) }
 {
     let Some(after) = &edge.after else {
         return true;
@@ -175,19 +167,23 @@ pub(crate) fn stores(site: Site<'_>, edge: &Edge<'_, Interval>) -> bool
 }
 
 /// Whether the result variable takes what comes back.
-fn takes_back(site: Site<'_>, after: &Known<'_, Interval>, lead: Lead<Interval>) -> bool
+fn takes_back<V: Spelled>(site: Site<'_, V>, after: &Known<'_, V>, lead: Lead<V>) -> bool
     requires { site.listed.now.address + site.instruction.now.size ≤ 131072 }
-    ensures { IsTrue result ↔ TakesBack interval_operations (claims_of interval_operations site.entry.certificate.now) (target site.entry.instruction.now) lead }
+    ensures { IsTrue result ↔ TakesBack V.operations (claims_of V.operations site.entry.certificate.now) (target site.entry.instruction.now) lead }
 {
     match lead {
-        Lead::Entering(set) => callees_keep(site, &[], set, after, Rule::Stored),
+        Lead::Entering(set) => callees_keep(site, set, after, Rule::Stored),
         Lead::Ahead(_) | Lead::Returning(_) => true,
     }
 }
 
 /// Whether what is given to a variable lies in its set, if that is a global.
-pub(crate) fn takes(certificate: &Certificate, gives: Option<Interval>, variable: u8) -> bool
-    ensures { IsTrue result ↔ Takes interval_operations (claims_of interval_operations certificate.now) gives variable }
+pub(crate) fn takes<V: Spelled>(
+    certificate: &Certificate<V>,
+    gives: Option<V>,
+    variable: u8,
+) -> bool
+    ensures { IsTrue result ↔ Takes V.operations (claims_of V.operations certificate.now) gives variable }
 {
     match gives {
         Some(set) if variable >= 16 => {
@@ -198,8 +194,8 @@ pub(crate) fn takes(certificate: &Certificate, gives: Option<Interval>, variable
 }
 
 /// Whether a variable takes what it is given in place, if that is a global.
-fn takes_in_place(certificate: &Certificate, assigns: Option<(u8, Interval)>) -> bool
-    ensures { IsTrue result ↔ TakesInPlace interval_operations (claims_of interval_operations certificate.now) assigns }
+fn takes_in_place<V: Spelled>(certificate: &Certificate<V>, assigns: Option<(u8, V)>) -> bool
+    ensures { IsTrue result ↔ TakesInPlace V.operations (claims_of V.operations certificate.now) assigns }
 {
     match assigns {
         Some((variable, set)) => takes(certificate, Some(set), variable),

@@ -2,9 +2,8 @@
 
 ghost use Rattle.std.specs.Prelude.{◌≡◌, ◌↔◌, ◌+◌, ◌≤◌, ℕ, Bool, IsTrue, IfSome, IfNone, IfOk, IfErr, MatchOption, Some, length};
 ghost use Rattle.std.specs.Bool.{OnTrue};
-ghost use Rattle.zdomain.specs.Interval.{interval_operations};
 ghost use Rattle.zcert.specs.Listed.{seen};
-ghost use Rattle.zcode.specs.Instruction.{Instruction as Spelled};
+ghost use Rattle.zcode.specs.Instruction.{Instruction as AnInstruction};
 ghost use Rattle.zcode.specs.Operation.{target};
 ghost use Rattle.zcode.specs.Opcodes.{prints_text};
 ghost use Rattle.zdomain.specs.Domain.{In};
@@ -21,9 +20,9 @@ use crate::objects::{names_attribute, names_object};
 use crate::operands::{has_height, has_locals, is_known};
 use crate::rule::Rule;
 use crate::site::Site;
-use zcert::{Certificate, Instruction};
+use zcert::{Certificate, Instruction, Spelled};
 use zcode::{Instr, decode_by, text_ends_instruction};
-use zdomain::{Domain, Interval};
+use zdomain::Domain;
 use zflow::{Demands, Edge, Flow, flow_of};
 use zstory::Story;
 use ztext::TextEnds;
@@ -47,7 +46,7 @@ const RULES: [Rule; 12] = [
 /// The instruction at an address, and `None` where none decodes there or the address lies below the base of static memory,
 /// since an instruction in dynamic memory might change (own).
 pub fn instruction_there(story: &Story, address: u32) -> Option<Instr>
-    ensures none { IfNone result ((i : Spelled) → IsThere story.now address i → ⊥) }
+    ensures none { IfNone result ((i : AnInstruction) → IsThere story.now address i → ⊥) }
     ensures some { IfSome result (λ i. IsThere story.now address i) }
     ensures within { IfSome result (λ i. address + i.size ≤ 131072) }
 {
@@ -58,7 +57,7 @@ pub fn instruction_there(story: &Story, address: u32) -> Option<Instr>
 fn spelled_there(story: &Story, address: u32, ends: &mut TextEnds<'_>) -> Option<Instr>
     requires { ends.old ≡ story.now.memory }
     ensures memory { ends.new ≡ ends.old }
-    ensures none { IfNone result ((i : Spelled) → IsThere story.now address i → ⊥) }
+    ensures none { IfNone result ((i : AnInstruction) → IsThere story.now address i → ⊥) }
     ensures some { IfSome result (λ i. IsThere story.now address i) }
     ensures within { IfSome result (λ i. address + i.size ≤ 131072) }
 {
@@ -71,8 +70,8 @@ fn spelled_there(story: &Story, address: u32, ends: &mut TextEnds<'_>) -> Option
 }
 
 /// Whether nothing is divided by 0.
-fn divides(demands: &Demands<Interval>) -> bool
-    ensures { IsTrue result ↔ IfSome demands.now.divisor (λ a. In interval_operations a 0 → ⊥) }
+fn divides<V: Spelled>(demands: &Demands<V>) -> bool
+    ensures { IsTrue result ↔ IfSome demands.now.divisor (λ a. In V.operations a 0 → ⊥) }
 {
     match demands.divisor {
         Some(set) => !set.contains(0),
@@ -81,9 +80,9 @@ fn divides(demands: &Demands<Interval>) -> bool
 }
 
 /// Whether an edge keeps a rule.
-fn edge_keeps(site: Site<'_>, edge: &Edge<'_, Interval>, rule: Rule) -> bool
+fn edge_keeps<V: Spelled>(site: Site<'_, V>, edge: &Edge<'_, V>, rule: Rule) -> bool
     requires { site.listed.now.address + site.instruction.now.size ≤ 131072 }
-    ensures { IsTrue result ↔ EdgeKeeps interval_operations (claims_of interval_operations site.entry.certificate.now) site.entry.story.now (argument_sets interval_operations site.entry.certificate.now.globals site.entry.instruction.now (entry_of (seen site.entry.listed.now)).shape) site.entry.listed.now.routine (site.entry.listed.now.address + site.entry.instruction.now.size) (target site.entry.instruction.now) rule edge.now }
+    ensures { IsTrue result ↔ EdgeKeeps V.operations (claims_of V.operations site.entry.certificate.now) site.entry.story.now (argument_sets V.operations site.entry.certificate.now.globals site.entry.instruction.now (entry_of (seen site.entry.listed.now)).shape) site.entry.listed.now.routine (site.entry.listed.now.address + site.entry.instruction.now.size) (target site.entry.instruction.now) rule edge.now }
 {
     match rule {
         Rule::Successor => !is_low(edge, site.target()) || goes_on(site, edge),
@@ -96,9 +95,9 @@ fn edge_keeps(site: Site<'_>, edge: &Edge<'_, Interval>, rule: Rule) -> bool
 }
 
 /// Whether both edges do, where they can be taken.
-fn edges_keep(site: Site<'_>, flow: &Flow<'_, Interval>, rule: Rule) -> bool
+fn edges_keep<V: Spelled>(site: Site<'_, V>, flow: &Flow<'_, V>, rule: Rule) -> bool
     requires { site.listed.now.address + site.instruction.now.size ≤ 131072 }
-    ensures { IsTrue result ↔ EdgesKeep interval_operations (claims_of interval_operations site.entry.certificate.now) site.entry.story.now (argument_sets interval_operations site.entry.certificate.now.globals site.entry.instruction.now (entry_of (seen site.entry.listed.now)).shape) site.entry.listed.now.routine (site.entry.listed.now.address + site.entry.instruction.now.size) (target site.entry.instruction.now) rule flow.now }
+    ensures { IsTrue result ↔ EdgesKeep V.operations (claims_of V.operations site.entry.certificate.now) site.entry.story.now (argument_sets V.operations site.entry.certificate.now.globals site.entry.instruction.now (entry_of (seen site.entry.listed.now)).shape) site.entry.listed.now.routine (site.entry.listed.now.address + site.entry.instruction.now.size) (target site.entry.instruction.now) rule flow.now }
 {
     let held = match &flow.held {
         Some(edge) => edge_keeps(site, edge, rule),
@@ -113,7 +112,7 @@ fn edges_keep(site: Site<'_>, flow: &Flow<'_, Interval>, rule: Rule) -> bool
 /// The text behind the opcode byte of an instruction that is there ends in memory, since that was decoded, and no play changes a
 /// byte of it, since it's static.
 fn texts_are_fixed(story: &Story)
-    ensures { (is_frozen : ℕ → Bool) (p : ℕ) (i : Spelled) → IsThere story.now p i → OnTrue (prints_text i.opcode) (HasFixedText story.now is_frozen (p + 1)) }
+    ensures { (is_frozen : ℕ → Bool) (p : ℕ) (i : AnInstruction) → IsThere story.now p i → OnTrue (prints_text i.opcode) (HasFixedText story.now is_frozen (p + 1)) }
 {
     let _memory = story.memory(); // which is sound
     text_ends_instruction();
@@ -121,11 +120,11 @@ fn texts_are_fixed(story: &Story)
 
 /// Whether each edge of an instruction that is there leads on, as far as that is asked: not where something may be divided by 0, or what
 /// it calls doesn't begin as is said.
-fn has_successors(site: Site<'_>, flow: &Flow<'_, Interval>) -> bool
+fn has_successors<V: Spelled>(site: Site<'_, V>, flow: &Flow<'_, V>) -> bool
     requires there { IsThere site.story.now site.listed.now.address site.instruction.now }
     requires near { site.listed.now.address + site.instruction.now.size ≤ 131072 }
-    requires flow { IsFlow interval_operations site.certificate.now.globals site.story.now site.instruction.now (entry_of (seen site.listed.now)).shape flow.now }
-    ensures { IsTrue result ↔ Asks interval_operations (claims_of interval_operations site.entry.certificate.now) site.entry.story.now site.entry.listed.now.address (entry_of (seen site.entry.listed.now)) site.entry.instruction.now Successor }
+    requires flow { IsFlow V.operations site.certificate.now.globals site.story.now site.instruction.now (entry_of (seen site.listed.now)).shape flow.now }
+    ensures { IsTrue result ↔ Asks V.operations (claims_of V.operations site.entry.certificate.now) site.entry.story.now site.entry.listed.now.address (entry_of (seen site.entry.listed.now)) site.entry.instruction.now Successor }
 {
     if !divides(&flow.demands) {
         return true;
@@ -137,11 +136,11 @@ fn has_successors(site: Site<'_>, flow: &Flow<'_, Interval>) -> bool
 }
 
 /// Whether an instruction that is there does what a rule asks of it.
-fn asks(site: Site<'_>, flow: &Flow<'_, Interval>, rule: Rule) -> bool
+fn asks<V: Spelled>(site: Site<'_, V>, flow: &Flow<'_, V>, rule: Rule) -> bool
     requires there { IsThere site.story.now site.listed.now.address site.instruction.now }
     requires near { site.listed.now.address + site.instruction.now.size ≤ 131072 }
-    requires flow { IsFlow interval_operations site.certificate.now.globals site.story.now site.instruction.now (entry_of (seen site.listed.now)).shape flow.now }
-    ensures { IsTrue result ↔ Asks interval_operations (claims_of interval_operations site.entry.certificate.now) site.entry.story.now site.entry.listed.now.address (entry_of (seen site.entry.listed.now)) site.entry.instruction.now rule }
+    requires flow { IsFlow V.operations site.certificate.now.globals site.story.now site.instruction.now (entry_of (seen site.listed.now)).shape flow.now }
+    ensures { IsTrue result ↔ Asks V.operations (claims_of V.operations site.entry.certificate.now) site.entry.story.now site.entry.listed.now.address (entry_of (seen site.entry.listed.now)) site.entry.instruction.now rule }
 {
     let Site {
         story,
@@ -178,23 +177,23 @@ fn asks(site: Site<'_>, flow: &Flow<'_, Interval>, rule: Rule) -> bool
 }
 
 /// Whether a place where an instruction is keeps a rule.
-fn keeps(site: Site<'_>, flow: &Flow<'_, Interval>, rule: Rule) -> bool
+fn keeps<V: Spelled>(site: Site<'_, V>, flow: &Flow<'_, V>, rule: Rule) -> bool
     requires there { IsThere site.story.now site.listed.now.address site.instruction.now }
     requires near { site.listed.now.address + site.instruction.now.size ≤ 131072 }
-    requires flow { IsFlow interval_operations site.certificate.now.globals site.story.now site.instruction.now (entry_of (seen site.listed.now)).shape flow.now }
-    ensures { IsTrue result ↔ Keeps interval_operations (claims_of interval_operations site.entry.certificate.now) site.entry.story.now site.entry.listed.now.address (entry_of (seen site.entry.listed.now)) rule }
+    requires flow { IsFlow V.operations site.certificate.now.globals site.story.now site.instruction.now (entry_of (seen site.listed.now)).shape flow.now }
+    ensures { IsTrue result ↔ Keeps V.operations (claims_of V.operations site.entry.certificate.now) site.entry.story.now site.entry.listed.now.address (entry_of (seen site.entry.listed.now)) rule }
 {
     asks(site, flow, rule)
 }
 
 /// The lowest rule that a listed instruction breaks, and `None` where it keeps all (own). No other rule is asked of a
 /// place where no instruction is.
-fn broken_rule(
+fn broken_rule<V: Spelled>(
     story: &Story,
-    certificate: &Certificate,
-    listed: &Instruction<'_, Interval>,
+    certificate: &Certificate<V>,
+    listed: &Instruction<'_, V>,
 ) -> Option<Rule>
-    ensures { MatchOption result ((rule : ARule) → Keeps interval_operations (claims_of interval_operations certificate.now) story.now listed.now.address (entry_of (seen listed.now)) rule) (IsLowestBroken interval_operations (claims_of interval_operations certificate.now) story.now listed.now.address (entry_of (seen listed.now))) }
+    ensures { MatchOption result ((rule : ARule) → Keeps V.operations (claims_of V.operations certificate.now) story.now listed.now.address (entry_of (seen listed.now)) rule) (IsLowestBroken V.operations (claims_of V.operations certificate.now) story.now listed.now.address (entry_of (seen listed.now))) }
 {
     let mut ends = TextEnds::new(story.memory());
     match judge(
@@ -212,18 +211,18 @@ fn broken_rule(
 /// A listed instruction as the story spells it, where it keeps all rules, and else the lowest rule that it breaks (own).
 /// `ends` are those of the texts of the story's memory. The instruction behind it is looked for at the index `near` first, and
 /// searched for where another is listed there.
-pub fn judge(
+pub fn judge<V: Spelled>(
     story: &Story,
-    certificate: &Certificate,
-    listed: &Instruction<'_, Interval>,
+    certificate: &Certificate<V>,
+    listed: &Instruction<'_, V>,
     near: usize,
     ends: &mut TextEnds<'_>,
 ) -> Result<Instr, Rule>
     requires ends { ends.old ≡ story.now.memory }
     ensures memory { ends.new ≡ ends.old }
     ensures there { IfOk result (λ i. IsThere story.now listed.now.address i) }
-    ensures kept { IfOk result (λ i. (rule : ARule) → Keeps interval_operations (claims_of interval_operations certificate.now) story.now listed.now.address (entry_of (seen listed.now)) rule) }
-    ensures broken { IfErr result (IsLowestBroken interval_operations (claims_of interval_operations certificate.now) story.now listed.now.address (entry_of (seen listed.now))) }
+    ensures kept { IfOk result (λ i. (rule : ARule) → Keeps V.operations (claims_of V.operations certificate.now) story.now listed.now.address (entry_of (seen listed.now)) rule) }
+    ensures broken { IfErr result (IsLowestBroken V.operations (claims_of V.operations certificate.now) story.now listed.now.address (entry_of (seen listed.now))) }
 {
     let Some(instruction) = spelled_there(story, listed.address, ends) else {
         return Err(Rule::Decodes);
@@ -252,9 +251,13 @@ pub fn judge(
 
 /// The lowest rule that is broken at an address, where an instruction is listed there (own). `None` where all are kept,
 /// or nothing is listed.
-pub fn rule_at(story: &Story, certificate: &Certificate, address: u32) -> Option<Rule>
-    ensures kept { IfNone result ((entry : Entry Interval) → (claims_of interval_operations certificate.now).entry address ≡ Some entry → (rule : ARule) → Keeps interval_operations (claims_of interval_operations certificate.now) story.now address entry rule) }
-    ensures broken { IfSome result (λ rule. (entry : Entry Interval) × ((claims_of interval_operations certificate.now).entry address ≡ Some entry) × IsLowestBroken interval_operations (claims_of interval_operations certificate.now) story.now address entry rule) }
+pub fn rule_at<V: Spelled>(
+    story: &Story,
+    certificate: &Certificate<V>,
+    address: u32,
+) -> Option<Rule>
+    ensures kept { IfNone result ((entry : Entry V) → (claims_of V.operations certificate.now).entry address ≡ Some entry → (rule : ARule) → Keeps V.operations (claims_of V.operations certificate.now) story.now address entry rule) }
+    ensures broken { IfSome result (λ rule. (entry : Entry V) × ((claims_of V.operations certificate.now).entry address ≡ Some entry) × IsLowestBroken V.operations (claims_of V.operations certificate.now) story.now address entry rule) }
 {
     let listed = certificate.instruction_at(address)?;
     broken_rule(story, certificate, &listed)

@@ -2,10 +2,10 @@
 
 ghost use Rattle.std.specs.Prelude.{◌↔◌, ◌<◌, ℕ, IfSome, IsTrue};
 ghost use Rattle.zdomain.specs.Domain.{In};
-ghost use Rattle.zdomain.specs.Interval.{interval_operations};
 ghost use Rattle.zrule.specs.Rules.{AreObjects};
 
-use zdomain::{Domain, Interval};
+use zcert::Spelled;
+use zdomain::Domain;
 use zflow::Demands;
 use zstory::Story;
 
@@ -13,15 +13,15 @@ use zstory::Story;
 const ATTRIBUTES: u16 = 32;
 
 /// Whether each value that is taken for an object's number is that of one of the story's objects.
-pub(crate) fn names_object(story: &Story, demands: &Demands<Interval>) -> bool
-    ensures { IsTrue result ↔ IfSome demands.now.object (AreObjects interval_operations story.now) × IfSome demands.now.under (AreObjects interval_operations story.now) }
+pub(crate) fn names_object<V: Spelled>(story: &Story, demands: &Demands<V>) -> bool
+    ensures { IsTrue result ↔ IfSome demands.now.object (AreObjects V.operations story.now) × IfSome demands.now.under (AreObjects V.operations story.now) }
 {
     are_objects_if(story, demands.object) && are_objects_if(story, demands.under)
 }
 
 /// Whether each value of a set is the number of one of the story's objects, where there is a set.
-fn are_objects_if(story: &Story, values: Option<Interval>) -> bool
-    ensures { IsTrue result ↔ IfSome values (AreObjects interval_operations story.now) }
+fn are_objects_if<V: Spelled>(story: &Story, values: Option<V>) -> bool
+    ensures { IsTrue result ↔ IfSome values (AreObjects V.operations story.now) }
 {
     match values {
         Some(set) => are_objects(story, set),
@@ -30,15 +30,15 @@ fn are_objects_if(story: &Story, values: Option<Interval>) -> bool
 }
 
 /// Whether each value of a set is the number of one of the story's objects.
-fn are_objects(story: &Story, set: Interval) -> bool
-    ensures { IsTrue result ↔ AreObjects interval_operations story.now set }
+fn are_objects<V: Spelled>(story: &Story, set: V) -> bool
+    ensures { IsTrue result ↔ AreObjects V.operations story.now set }
 {
     !set.contains(0) && are_below(set, u16::from(story.objects()) + 1)
 }
 
 /// Whether each value that is taken for an attribute's number is 0 to 31.
-pub(crate) fn names_attribute(demands: &Demands<Interval>) -> bool
-    ensures { IsTrue result ↔ IfSome demands.now.attribute (λ a. (x : ℕ) → In interval_operations a x → x < 32) }
+pub(crate) fn names_attribute<V: Spelled>(demands: &Demands<V>) -> bool
+    ensures { IsTrue result ↔ IfSome demands.now.attribute (λ a. (x : ℕ) → In V.operations a x → x < 32) }
 {
     match demands.attribute {
         Some(set) => are_below(set, ATTRIBUTES),
@@ -47,8 +47,8 @@ pub(crate) fn names_attribute(demands: &Demands<Interval>) -> bool
 }
 
 /// Whether each word of a set is below a word.
-fn are_below(set: Interval, bound: u16) -> bool
-    ensures { IsTrue result ↔ ((x : ℕ) → In interval_operations set x → x < bound) }
+fn are_below<V: Spelled>(set: V, bound: u16) -> bool
+    ensures { IsTrue result ↔ ((x : ℕ) → In V.operations set x → x < bound) }
 {
     set.least_from(bound).is_none()
 }

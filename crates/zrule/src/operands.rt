@@ -2,33 +2,35 @@
 
 ghost use Rattle.std.specs.Prelude.{◌≡◌, ◌↔◌, ◌≤◌, IfSome, IsTrue, length};
 ghost use Rattle.std.specs.List.{AllByRecursion};
-ghost use Rattle.zdomain.specs.Interval.{interval_operations};
 ghost use Rattle.zcode.specs.Operation.{inputs, target};
 ghost use Rattle.zcert.specs.Listed.{seen};
 ghost use Rattle.zflow.specs.Transfer.{mid_shape, pops};
 ghost use Rattle.zrule.specs.Claims.{claims_of, entry_of};
 ghost use Rattle.zrule.specs.Rules.{demands_at, FirstThere, HasTop, IsKnown, IsNamed, IsVariable};
 
-use zcert::{Certificate, Instruction};
+use zcert::{Certificate, Instruction, Spelled};
 use zcode::{Instr, Operand};
-use zdomain::Interval;
 use zflow::Demands;
 
 /// Whether a variable exists.
-fn is_variable(certificate: &Certificate, listed: &Instruction<'_, Interval>, variable: u8) -> bool
-    ensures { IsTrue result ↔ IsVariable interval_operations (claims_of interval_operations certificate.now) (entry_of (seen listed.now)).shape variable }
+fn is_variable<V: Spelled>(
+    certificate: &Certificate<V>,
+    listed: &Instruction<'_, V>,
+    variable: u8,
+) -> bool
+    ensures { IsTrue result ↔ IsVariable V.operations (claims_of V.operations certificate.now) (entry_of (seen listed.now)).shape variable }
 {
     let _globals = certificate.globals(); // 240
     variable >= 16 || usize::from(variable) <= listed.locals.len()
 }
 
 /// Whether a variable exists, if there is one.
-fn is_variable_if(
-    certificate: &Certificate,
-    listed: &Instruction<'_, Interval>,
+fn is_variable_if<V: Spelled>(
+    certificate: &Certificate<V>,
+    listed: &Instruction<'_, V>,
     variable: Option<u8>,
 ) -> bool
-    ensures { IsTrue result ↔ IfSome variable (IsVariable interval_operations (claims_of interval_operations certificate.now) (entry_of (seen listed.now)).shape) }
+    ensures { IsTrue result ↔ IfSome variable (IsVariable V.operations (claims_of V.operations certificate.now) (entry_of (seen listed.now)).shape) }
 {
     match variable {
         Some(variable) => is_variable(certificate, listed, variable),
@@ -37,8 +39,12 @@ fn is_variable_if(
 }
 
 /// Whether an operand is a word or names a variable that exists.
-fn is_named(certificate: &Certificate, listed: &Instruction<'_, Interval>, operand: Operand) -> bool
-    ensures { IsTrue result ↔ IsNamed interval_operations (claims_of interval_operations certificate.now) (entry_of (seen listed.now)).shape operand }
+fn is_named<V: Spelled>(
+    certificate: &Certificate<V>,
+    listed: &Instruction<'_, V>,
+    operand: Operand,
+) -> bool
+    ensures { IsTrue result ↔ IsNamed V.operations (claims_of V.operations certificate.now) (entry_of (seen listed.now)).shape operand }
 {
     match operand {
         Operand::Constant(_) => true,
@@ -47,12 +53,12 @@ fn is_named(certificate: &Certificate, listed: &Instruction<'_, Interval>, opera
 }
 
 /// Whether each operand does.
-fn are_named(
-    certificate: &Certificate,
-    listed: &Instruction<'_, Interval>,
+fn are_named<V: Spelled>(
+    certificate: &Certificate<V>,
+    listed: &Instruction<'_, V>,
     operands: &[Operand],
 ) -> bool
-    ensures { IsTrue result ↔ AllByRecursion (IsNamed interval_operations (claims_of interval_operations certificate.now) (entry_of (seen listed.now)).shape) operands.now }
+    ensures { IsTrue result ↔ AllByRecursion (IsNamed V.operations (claims_of V.operations certificate.now) (entry_of (seen listed.now)).shape) operands.now }
 {
     match operands {
         [] => true,
@@ -63,13 +69,13 @@ fn are_named(
 }
 
 /// Whether every variable exists that an instruction names.
-pub(crate) fn has_locals(
-    certificate: &Certificate,
-    listed: &Instruction<'_, Interval>,
+pub(crate) fn has_locals<V: Spelled>(
+    certificate: &Certificate<V>,
+    listed: &Instruction<'_, V>,
     instruction: &Instr,
-    demands: &Demands<Interval>,
+    demands: &Demands<V>,
 ) -> bool
-    ensures { IsTrue result ↔ (AllByRecursion (IsNamed interval_operations (claims_of interval_operations certificate.now) (entry_of (seen listed.now)).shape) (inputs instruction.now) × IsVariable interval_operations (claims_of interval_operations certificate.now) (entry_of (seen listed.now)).shape (target instruction.now) × IfSome demands.now.variable (IsVariable interval_operations (claims_of interval_operations certificate.now) (entry_of (seen listed.now)).shape)) }
+    ensures { IsTrue result ↔ (AllByRecursion (IsNamed V.operations (claims_of V.operations certificate.now) (entry_of (seen listed.now)).shape) (inputs instruction.now) × IsVariable V.operations (claims_of V.operations certificate.now) (entry_of (seen listed.now)).shape (target instruction.now) × IfSome demands.now.variable (IsVariable V.operations (claims_of V.operations certificate.now) (entry_of (seen listed.now)).shape)) }
 {
     are_named(certificate, listed, instruction.inputs().as_slice())
         && is_variable(certificate, listed, instruction.target())
@@ -77,15 +83,15 @@ pub(crate) fn has_locals(
 }
 
 /// Whether the stack has what an instruction takes off it, and then what it uses in place.
-pub(crate) fn has_height(
-    certificate: &Certificate,
-    listed: &Instruction<'_, Interval>,
+pub(crate) fn has_height<V: Spelled>(
+    certificate: &Certificate<V>,
+    listed: &Instruction<'_, V>,
     instruction: &Instr,
     popped: usize,
-    demands: &Demands<Interval>,
+    demands: &Demands<V>,
 ) -> bool
     requires { popped ≡ pops (inputs instruction.now) }
-    ensures { IsTrue result ↔ ((pops (inputs instruction.now) ≤ length (entry_of (seen listed.now)).shape.slots) × IfSome demands.now.variable (HasTop interval_operations (claims_of interval_operations certificate.now) (mid_shape interval_operations certificate.now.globals instruction.now (entry_of (seen listed.now)).shape))) }
+    ensures { IsTrue result ↔ ((pops (inputs instruction.now) ≤ length (entry_of (seen listed.now)).shape.slots) × IfSome demands.now.variable (HasTop V.operations (claims_of V.operations certificate.now) (mid_shape V.operations certificate.now.globals instruction.now (entry_of (seen listed.now)).shape))) }
 {
     let height = listed.slots.len();
     match demands.variable {
@@ -95,12 +101,12 @@ pub(crate) fn has_height(
 }
 
 /// Whether the first operand has a value, if there is one.
-fn is_first_there(
-    certificate: &Certificate,
-    listed: &Instruction<'_, Interval>,
+fn is_first_there<V: Spelled>(
+    certificate: &Certificate<V>,
+    listed: &Instruction<'_, V>,
     instruction: &Instr,
 ) -> bool
-    ensures { IsTrue result ↔ FirstThere interval_operations (claims_of interval_operations certificate.now) instruction.now (entry_of (seen listed.now)).shape }
+    ensures { IsTrue result ↔ FirstThere V.operations (claims_of V.operations certificate.now) instruction.now (entry_of (seen listed.now)).shape }
 {
     match instruction.inputs().as_slice() {
         [] => true,
@@ -110,14 +116,14 @@ fn is_first_there(
 }
 
 /// Whether a variable is known that an operand names, where that operand has a value.
-pub(crate) fn is_known(
-    certificate: &Certificate,
-    listed: &Instruction<'_, Interval>,
+pub(crate) fn is_known<V: Spelled>(
+    certificate: &Certificate<V>,
+    listed: &Instruction<'_, V>,
     instruction: &Instr,
-    demands: &Demands<Interval>,
+    demands: &Demands<V>,
 ) -> bool
-    requires { demands.now ≡ demands_at interval_operations (claims_of interval_operations certificate.now) instruction.now (entry_of (seen listed.now)).shape }
-    ensures { IsTrue result ↔ IsKnown interval_operations (claims_of interval_operations certificate.now) instruction.now (entry_of (seen listed.now)).shape }
+    requires { demands.now ≡ demands_at V.operations (claims_of V.operations certificate.now) instruction.now (entry_of (seen listed.now)).shape }
+    ensures { IsTrue result ↔ IsKnown V.operations (claims_of V.operations certificate.now) instruction.now (entry_of (seen listed.now)).shape }
 {
     !demands.indirect
         || demands.variable.is_some()

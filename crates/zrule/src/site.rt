@@ -1,24 +1,27 @@
 //! Where the rules are asked.
 
-use zcert::{Certificate, Instruction};
+use zcert::{Certificate, Instruction, Spelled};
 use zcode::Instr;
-use zdomain::Interval;
+use zflow::argument_set;
 use zstory::Story;
 
 /// A listed instruction that is there, with what the rules look at beside it.
 #[derive(Clone, Copy)]
-pub(crate) struct Site<'s> {
+pub(crate) struct Site<'s, V: Spelled> {
     pub(crate) story: &'s Story,
-    pub(crate) certificate: &'s Certificate,
-    pub(crate) listed: &'s Instruction<'s, Interval>,
+    pub(crate) certificate: &'s Certificate<V>,
+    pub(crate) listed: &'s Instruction<'s, V>,
     pub(crate) instruction: &'s Instr,
     /// A listed instruction is looked for at this index first.
     pub(crate) near: usize,
 }
 
-impl<'s> Site<'s> {
-    ghost use Rattle.std.specs.Prelude.{◌≡◌, ◌+◌, ◌≤◌};
+impl<'s, V: Spelled> Site<'s, V> {
+    ghost use Rattle.std.specs.Prelude.{◌≡◌, ◌+◌, ◌≤◌, slice_get};
     ghost use Rattle.zcode.specs.Operation.{target};
+    ghost use Rattle.zflow.specs.Transfer.{argument_sets};
+    ghost use Rattle.zcert.specs.Listed.{seen};
+    ghost use Rattle.zrule.specs.Claims.{entry_of};
 
     /// The variable that takes its result.
     pub(crate) fn target(self) -> u8
@@ -33,5 +36,18 @@ impl<'s> Site<'s> {
         ensures { result ≡ self.entry.listed.now.address + self.entry.instruction.now.size }
     {
         self.listed.address + self.instruction.length() as u32
+    }
+
+    /// The set of an argument that it calls a routine with, by its place among them, if there is one.
+    pub(crate) fn argument(self, index: usize) -> Option<V>
+        ensures { result ≡ slice_get (argument_sets V.operations self.entry.certificate.now.globals self.entry.instruction.now (entry_of (seen self.entry.listed.now)).shape) index }
+    {
+        argument_set(
+            self.certificate.globals(),
+            self.listed.locals,
+            self.listed.slots,
+            self.instruction,
+            index,
+        )
     }
 }

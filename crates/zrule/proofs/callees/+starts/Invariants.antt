@@ -2,4 +2,4 @@ use Rattle.std.proofs.Common.{length}
 use Rattle.zrule.proofs.callees.+starts.Given as goal
 
 abbrev pub decreases-starts : goal.decreases-starts
-decreases-starts l = length l.locals.now
+decreases-starts g l = length l.locals.now

@@ -1,29 +1,28 @@
 use Rattle.std.proofs.Common.{refl}
 use Rattle.zcert.specs.Listed.{seen}
-use Rattle.zdomain.specs.Interval.{interval_operations}
 use Rattle.zrule.specs.Claims.{claims_of, entry_of}
 use Rattle.zrule.proofs.Asking.{height_unknown, local_unknown, text_fixed, called_asked, returned_asked, stored_asked, high_asked}
 use Rattle.zrule.proofs.judging.asks.Goals as goal
 
 pub returns-then-not-is_known : goal.returns-then-not-is_known
-returns-then-not-is_known c = height_unknown interval_operations (claims_of interval_operations c.args.site.certificate.now) c.args.site.story.now c.args.site.listed.now.address (entry_of (seen c.args.site.listed.now)) c.args.site.instruction.now c.requires.there c.args.rule c.is_known.result c.in-Height.is c.is_known.ensures.1 c.if-not-is_known.true
+returns-then-not-is_known g c = height_unknown g.V.Domain.operations (claims_of g.V.Domain.operations c.args.site.certificate.now) c.args.site.story.now c.args.site.listed.now.address (entry_of (seen c.args.site.listed.now)) c.args.site.instruction.now c.requires.there c.args.rule c.is_known.result c.in-Height.is c.is_known.ensures.1 c.if-not-is_known.true
 
 pub returns-then-not-is_known-2 : goal.returns-then-not-is_known-2
-returns-then-not-is_known-2 c = local_unknown interval_operations (claims_of interval_operations c.args.site.certificate.now) c.args.site.story.now c.args.site.listed.now.address (entry_of (seen c.args.site.listed.now)) c.args.site.instruction.now c.requires.there c.args.rule c.is_known-in-Local.result c.in-Local.is c.is_known-in-Local.ensures.1 c.if-not-is_known-2.true
+returns-then-not-is_known-2 g c = local_unknown g.V.Domain.operations (claims_of g.V.Domain.operations c.args.site.certificate.now) c.args.site.story.now c.args.site.listed.now.address (entry_of (seen c.args.site.listed.now)) c.args.site.instruction.now c.requires.there c.args.rule c.is_known-in-Local.result c.in-Local.is c.is_known-in-Local.ensures.1 c.if-not-is_known-2.true
 
 pub returns-in-Text : goal.returns-in-Text
-returns-in-Text c =
-    let told = text_fixed interval_operations (claims_of interval_operations c.args.site.certificate.now) c.args.site.story.now c.args.site.listed.now.address (entry_of (seen c.args.site.listed.now)) c.args.site.instruction.now c.requires.there c.args.rule c.in-Text.is (c.texts_are_fixed.ensures (claims_of interval_operations c.args.site.certificate.now).is_frozen c.args.site.listed.now.address c.args.site.instruction.now c.requires.there) in
+returns-in-Text g c =
+    let told = text_fixed g.V.Domain.operations (claims_of g.V.Domain.operations c.args.site.certificate.now) c.args.site.story.now c.args.site.listed.now.address (entry_of (seen c.args.site.listed.now)) c.args.site.instruction.now c.requires.there c.args.rule c.in-Text.is (c.texts_are_fixed.ensures (claims_of g.V.Domain.operations c.args.site.certificate.now).is_frozen c.args.site.listed.now.address c.args.site.instruction.now c.requires.there) in
     (λ t. told, λ a. refl)
 
 pub returns-in-Returned : goal.returns-in-Returned
-returns-in-Returned c = returned_asked interval_operations (claims_of interval_operations c.args.site.certificate.now) c.args.site.story.now c.args.site.listed.now.address (entry_of (seen c.args.site.listed.now)) c.args.site.instruction.now c.requires.there c.args.flow.now c.requires.flow c.args.rule c.edges_keep-in-Returned.result c.edges_keep-in-Returned.ensures c.in-Returned.is
+returns-in-Returned g c = returned_asked g.V.Domain.operations (claims_of g.V.Domain.operations c.args.site.certificate.now) c.args.site.story.now c.args.site.listed.now.address (entry_of (seen c.args.site.listed.now)) c.args.site.instruction.now c.requires.there c.args.flow.now c.requires.flow c.args.rule c.edges_keep-in-Returned.result c.edges_keep-in-Returned.ensures c.in-Returned.is
 
 pub returns-in-Stored : goal.returns-in-Stored
-returns-in-Stored c = stored_asked interval_operations (claims_of interval_operations c.args.site.certificate.now) c.args.site.story.now c.args.site.listed.now.address (entry_of (seen c.args.site.listed.now)) c.args.site.instruction.now c.requires.there c.args.flow.now c.requires.flow c.args.rule c.edges_keep-in-Stored.result c.edges_keep-in-Stored.ensures c.in-Stored.is
+returns-in-Stored g c = stored_asked g.V.Domain.operations (claims_of g.V.Domain.operations c.args.site.certificate.now) c.args.site.story.now c.args.site.listed.now.address (entry_of (seen c.args.site.listed.now)) c.args.site.instruction.now c.requires.there c.args.flow.now c.requires.flow c.args.rule c.edges_keep-in-Stored.result c.edges_keep-in-Stored.ensures c.in-Stored.is
 
 pub returns-in-High : goal.returns-in-High
-returns-in-High c = high_asked interval_operations (claims_of interval_operations c.args.site.certificate.now) c.args.site.story.now c.args.site.listed.now.address (entry_of (seen c.args.site.listed.now)) c.args.site.instruction.now c.requires.there c.args.flow.now c.requires.flow c.args.rule c.edges_keep-in-High.result c.edges_keep-in-High.ensures c.in-High.is
+returns-in-High g c = high_asked g.V.Domain.operations (claims_of g.V.Domain.operations c.args.site.certificate.now) c.args.site.story.now c.args.site.listed.now.address (entry_of (seen c.args.site.listed.now)) c.args.site.instruction.now c.requires.there c.args.flow.now c.requires.flow c.args.rule c.edges_keep-in-High.result c.edges_keep-in-High.ensures c.in-High.is
 
 pub returns-in-Called : goal.returns-in-Called
-returns-in-Called c = called_asked interval_operations (claims_of interval_operations c.args.site.certificate.now) c.args.site.story.now c.args.site.listed.now.address (entry_of (seen c.args.site.listed.now)) c.args.site.instruction.now c.requires.there c.args.flow.now c.requires.flow c.args.rule c.edges_keep.result c.edges_keep.ensures c.in-Called.is
+returns-in-Called g c = called_asked g.V.Domain.operations (claims_of g.V.Domain.operations c.args.site.certificate.now) c.args.site.story.now c.args.site.listed.now.address (entry_of (seen c.args.site.listed.now)) c.args.site.instruction.now c.requires.there c.args.flow.now c.requires.flow c.args.rule c.edges_keep.result c.edges_keep.ensures c.in-Called.is

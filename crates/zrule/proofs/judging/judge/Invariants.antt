@@ -1,12 +1,11 @@
 use Rattle.std.proofs.Common.{take}
 use Rattle.std.specs.List.{AllByRecursion}
 use Rattle.zcert.specs.Listed.{seen}
-use Rattle.zdomain.specs.Interval.{interval_operations}
 use Rattle.zrule.specs.Claims.{claims_of, entry_of}
 use Rattle.zrule.specs.Rules.{Keeps}
 use Rattle.zrule.proofs.Order.{asked}
 use Rattle.zrule.proofs.judging.judge.Given as goal
 
 abbrev pub invariant-loop-rule : goal.invariant-loop-rule
-invariant-loop-rule l =
-    AllByRecursion (Keeps interval_operations (claims_of interval_operations l.certificate) l.story l.fn.listed.address (entry_of (seen l.fn.listed))) (take l.rule-index asked)
+invariant-loop-rule g l =
+    AllByRecursion (Keeps g.V.Domain.operations (claims_of g.V.Domain.operations l.certificate) l.story l.fn.listed.address (entry_of (seen l.fn.listed))) (take l.rule-index asked)
