@@ -10,7 +10,7 @@ use Rattle.zstory.specs.LoadedStory.{LoadedStory, static_base, abbreviations}
 use Rattle.ztext.specs.Abbreviations.{readable_word, abbreviation_at, IsPlainAbbreviation}
 use Rattle.zcert.specs.declared.parts.Range.{Range}
 use Rattle.zcert.specs.Spelling.{IsRange}
-use Rattle.zrule.specs.Bytes.{IsWithin, IsChanging, IsUnchanging, read_length}
+use Rattle.zplace.specs.Bytes.{IsWithin, IsChanging, IsUnchanging, read_length}
 use Rattle.zrule.specs.Claims.{is_inside}
 use Rattle.zrule.proofs.Unchanged.{IsRead, read_where}
 use Rattle.zrule.specs.Rules.{HasAbbreviations, HasDisjointTables}

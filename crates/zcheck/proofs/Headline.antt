@@ -16,7 +16,7 @@ use Rattle.zstate.specs.State.{Scope, Setting, opening, scope_all, scope_only, u
 use Rattle.zstate.specs.Run.{run}
 use Rattle.zrule.specs.Claims.{Entry, claims_of}
 use Rattle.zrule.specs.Rules.{Supports}
-use Rattle.zrule.specs.Bytes.{IsFixed, frozen}
+use Rattle.zplace.specs.Bytes.{IsFixed, frozen}
 use Rattle.zrule.specs.Described.{Described, IsListedIn, IsLoadedStory, IsNoFault}
 use Rattle.zrule.proofs.Listed.{entry_listed, few_there}
 use Rattle.zrule.proofs.Runs.{all_listed, run_safe}

@@ -2,7 +2,7 @@
 use Rattle.std.proofs.Common.{◌≡◌, ℕ, ◌<◌, ◌≤◌, List, [], ◌∷◌, ◌++◌, replicate, inl, inr, refl, arith}
 use Rattle.zstory.specs.Header as header
 use Rattle.zstory.specs.LoadedStory.{LoadedStory}
-use Rattle.zrule.specs.Bytes.{IsChanging}
+use Rattle.zplace.specs.Bytes.{IsChanging}
 use Rattle.zcheck.specs.declared.refusal.StoryRule.TheVariants.{Identity, FirstPlace, RoutineHeads, FirstGlobals, Abbreviations, Tables}
 use Rattle.zcheck.specs.Numbers.{number_of}
 use Rattle.zcheck.specs.Passes.{HasHead}

@@ -12,7 +12,7 @@ use Rattle.zdomain.specs.declared.interval.Interval.{Interval}
 use Rattle.zdomain.specs.Interval.{interval_operations}
 use Rattle.zstate.specs.State.{Scope, opening, scope_all, scope_only, usual_limit}
 use Rattle.zstate.specs.Run.{run}
-use Rattle.zrule.specs.Bytes.{IsFixed}
+use Rattle.zplace.specs.Bytes.{IsFixed}
 use Rattle.zrule.specs.Claims.{claims_of}
 use Rattle.zrule.specs.Described.{IsNoFault}
 

@@ -3,7 +3,7 @@ use Rattle.std.specs.Prelude.{◌≡◌, ℕ, ◌+◌, ◌*◌, ◌-◌, ◌<◌
 use Rattle.zstory.specs.LoadedStory.{LoadedStory, globals, object_table, static_base}
 use Rattle.ztext.specs.Abbreviations.{IsPlainAbbreviation}
 use Rattle.zcert.specs.declared.parts.Range.{Range}
-use Rattle.zrule.specs.Bytes.{IsWithin, IsChanging, IsUnchanging, IsAbbreviation}
+use Rattle.zplace.specs.Bytes.{IsWithin, IsChanging, IsUnchanging, IsAbbreviation}
 
 -- it is whole and uses none, and no instruction changes a byte of its text or of the word that leads to it
 pub record HasAbbreviation (story : LoadedStory) (number : ℕ) : Type 0 where

@@ -5,13 +5,13 @@ ghost use Rattle.std.specs.List.{All};
 ghost use Rattle.zdomain.specs.Interval.{interval_operations};
 ghost use Rattle.zrule.specs.Claims.{claims_of};
 ghost use Rattle.zstory.specs.LoadedStory.{abbreviations};
-ghost use Rattle.zrule.specs.Bytes.{IsUnchanging};
+ghost use Rattle.zplace.specs.Bytes.{IsUnchanging};
 ghost use Rattle.zrule.specs.Rules.{global_in, HasAbbreviations, HasDisjointTables, HasGlobals};
 ghost use Rattle.zcheck.specs.Tables.{HasAbbreviation, IsFrozenApart, AreApart};
 
 use zcert::{Certificate, Range};
 use zdomain::Domain;
-use zrule::is_unchanging;
+use zplace::is_unchanging;
 use zstory::{DEFAULTS_LENGTH, GLOBALS_LENGTH, OBJECT_ENTRY_LENGTH, Story};
 use ztext::plain_abbreviation;
 

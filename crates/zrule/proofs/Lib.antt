@@ -1,6 +1,5 @@
 pub mod Below
 pub mod Unchanged
-mod Changing
 mod Covering
 pub mod Ordered
 mod Order

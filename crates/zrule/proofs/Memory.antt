@@ -15,7 +15,7 @@ use Rattle.zobj.specs.Tree.{IsTree, link_byte}
 use Rattle.zobj.proofs.Bytes.{no_zero}
 use Rattle.zdomain.specs.Domain.{SetOperations, In, Within}
 use Rattle.zstate.specs.State.{write_word}
-use Rattle.zrule.specs.Bytes.{IsFixed, IsFlags, IsWithin}
+use Rattle.zplace.specs.Bytes.{IsFixed, IsFlags, IsWithin}
 use Rattle.zrule.specs.Claims.{Claims}
 use Rattle.zrule.specs.Rules.{HasDisjointTables, HasGlobals}
 use Rattle.zrule.specs.Described.{DescribedMemory, IsLoadedStory}

@@ -17,7 +17,7 @@ use Rattle.zobj.specs.Tree.{IsTree, link_byte, linked}
 use Rattle.zobj.proofs.Bytes.{differs_there, entry_byte_is, entry_byte_rests}
 use Rattle.zobj.proofs.Keeping.{inserted_only, inserted_tree, unlinked_only, unlinked_stays}
 use Rattle.zdomain.specs.Domain.{SetOperations, In}
-use Rattle.zrule.specs.Bytes.{IsFixed, IsWithin}
+use Rattle.zplace.specs.Bytes.{IsFixed, IsWithin}
 use Rattle.zrule.specs.Claims.{Claims}
 use Rattle.zrule.specs.Rules.{HasDisjointTables, HasGlobals}
 use Rattle.zrule.specs.Described.{DescribedMemory}

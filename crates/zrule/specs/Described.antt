@@ -18,7 +18,7 @@ use Rattle.zstory.specs.Objects.{IsObjectCount}
 use Rattle.zobj.specs.Tree.{IsTree}
 use Rattle.zflow.specs.Transfer.{Shape}
 use Rattle.zrule.specs.Claims.{Entry, Claims}
-use Rattle.zrule.specs.Bytes.{IsFixed}
+use Rattle.zplace.specs.Bytes.{IsFixed}
 use Rattle.zrule.specs.Rules.{HasGlobals, Supports}
 
 module _ {V : Type 0} (o : SetOperations V) (claims : Claims V) where

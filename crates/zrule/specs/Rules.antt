@@ -19,7 +19,7 @@ use Rattle.zrule.specs.declared.rule.Rule.{Rule}
 use Rattle.zrule.specs.declared.rule.Rule.TheVariants as rules
 use Rattle.zrule.specs.Numbers.{number_of}
 use Rattle.zrule.specs.Claims.{Entry, Claims}
-use Rattle.zrule.specs.Bytes.{IsWithin, IsChanging, IsFixed, IsAbbreviation}
+use Rattle.zplace.specs.Bytes.{IsWithin, IsChanging, IsFixed, IsAbbreviation}
 use Rattle.zflow.specs.declared.parts.Lead.{Lead}
 use Rattle.zflow.specs.declared.parts.Lead.TheVariants.{Ahead, Returning, Entering}
 use Rattle.zflow.specs.declared.parts.Demands.{Demands}

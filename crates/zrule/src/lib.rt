@@ -1,7 +1,6 @@
 //! What a certificate must say of a story, and why a story of which it is true never faults.
 #![tactic(auto)]
 
-mod bytes;
 mod callees;
 mod edges;
 mod judging;
@@ -11,7 +10,6 @@ mod operands;
 mod rule;
 mod site;
 
-pub use bytes::{is_changing, is_unchanging};
 pub use judging::{instruction_there, judge, rule_at};
 pub use laws::each_step_is_safe;
 pub use rule::Rule;

@@ -1,7 +1,7 @@
 -- Bytes that a test of unchanging ones tells apart.
 use Rattle.std.specs.Prelude.{ℕ}
 use Rattle.zstory.specs.LoadedStory.{LoadedStory}
-use Rattle.zrule.specs.Bytes.{IsWithin, IsObjectState}
+use Rattle.zplace.specs.Bytes.{IsWithin, IsObjectState}
 
 -- two pieces of memory share no byte
 abbrev pub AreApart : ℕ → ℕ → ℕ → ℕ → Type 0

@@ -3,6 +3,7 @@ use Rattle.std.specs.Prelude.{◌≡◌, ◌≢◌, ℕ, ◌+◌, ◌-◌, ◌*�
 use Rattle.zstory.specs.Bytes.{byte_at}
 use Rattle.zstory.specs.LoadedStory.{LoadedStory, globals, object_table, static_base, abbreviations}
 use Rattle.zstory.specs.Objects.{object_place, property_table}
+use Rattle.zobj.specs.Properties.{list_place, data_length}
 use Rattle.ztext.specs.Words.{length_at}
 use Rattle.ztext.specs.Abbreviations.{readable_word}
 
@@ -39,14 +40,6 @@ pub record IsObjectEntry (story : LoadedStory) (p : ℕ) : Type 0 where
   pub first : 1 ≤ object
   pub last : object ≤ story.objects
   pub inside : IsWithin (object_place story.memory object) 9 p
-
--- where the list of a property table begins: after the length of the name in words, and the name (Z 12.4)
-abbrev pub list_place : List ℕ → ℕ → ℕ
-list_place memory table = table + 1 + 2 * byte_at memory table
-
--- how many data bytes a property has, by its size byte (Z 12.4.1)
-abbrev pub data_length : ℕ → ℕ
-data_length size = size / 32 + 1
 
 -- A size byte of a property table, the zero byte at its end among them: the first, or the one behind a property.
 -- Outside memory there is none.

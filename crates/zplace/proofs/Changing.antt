@@ -3,8 +3,8 @@ use Rattle.std.proofs.Common.{◌≡◌, ◌↔◌, ◌⊎◌, inl, inr, ℕ, �
 use Rattle.std.proofs.lemmas.Bool.{cases_lt}
 use Rattle.zstory.specs.LoadedStory.{LoadedStory, globals, object_table}
 use Rattle.zstory.specs.Objects.{object_place}
-use Rattle.zrule.specs.Bytes.{IsWithin, IsObjectState, IsChanging, IsUnchanging}
-use Rattle.zrule.specs.Apart.{AreApart, HasNoObjectState}
+use Rattle.zplace.specs.Bytes.{IsWithin, IsObjectState, IsChanging, IsUnchanging}
+use Rattle.zplace.specs.Apart.{AreApart, HasNoObjectState}
 
 pub state_here : (story : LoadedStory) (place behind : ℕ) → place ≡ object_place story.memory 1 + behind → behind / 9 < story.objects → behind % 9 < 7 → IsObjectState story place
 state_here story place behind is few inside = record {

@@ -3,8 +3,8 @@
 ghost use Rattle.std.specs.Prelude.{◌≡◌, ◌↔◌, ◌+◌, ◌-◌, ◌*◌, ◌/◌, ◌%◌, ◌≤◌, ◌<◌, IsTrue, MatchOption};
 ghost use Rattle.zstory.specs.LoadedStory.{object_table};
 ghost use Rattle.zstory.specs.Objects.{object_place};
-ghost use Rattle.zrule.specs.Bytes.{IsWithin, IsObjectState, IsChanging, IsUnchanging};
-ghost use Rattle.zrule.specs.Apart.{AreApart, HasNoObjectState};
+ghost use Rattle.zplace.specs.Bytes.{IsWithin, IsObjectState, IsChanging, IsUnchanging};
+ghost use Rattle.zplace.specs.Apart.{AreApart, HasNoObjectState};
 
 use zstory::{DEFAULTS_LENGTH, GLOBALS_LENGTH, OBJECT_ENTRY_LENGTH, Story};
 
