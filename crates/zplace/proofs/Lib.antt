@@ -1,2 +1,4 @@
 mod Changing
-mod Worked
+mod Tables
+mod Lists
+mod Each

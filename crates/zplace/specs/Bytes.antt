@@ -1,9 +1,9 @@
 -- Which bytes of a story a play may change, and which stay as they were loaded (own). Each is a set of places.
-use Rattle.std.specs.Prelude.{◌≡◌, ◌≢◌, ℕ, ◌+◌, ◌-◌, ◌*◌, ◌/◌, ◌<◌, ◌≤◌, ◌⊎◌, Bool, true, List, length, Some, unwrap_or}
+use Rattle.std.specs.Prelude.{◌≡◌, ◌≢◌, ℕ, ◌+◌, ◌-◌, ◌*◌, ◌<◌, ◌≤◌, ◌⊎◌, Bool, true, List, length, Some, unwrap_or}
 use Rattle.zstory.specs.Bytes.{byte_at}
 use Rattle.zstory.specs.LoadedStory.{LoadedStory, globals, object_table, static_base, abbreviations}
 use Rattle.zstory.specs.Objects.{object_place, property_table}
-use Rattle.zobj.specs.Properties.{list_place, data_length}
+use Rattle.zobj.specs.Properties.{list_place, data_end}
 use Rattle.ztext.specs.Words.{length_at}
 use Rattle.ztext.specs.Abbreviations.{readable_word}
 
@@ -41,15 +41,14 @@ pub record IsObjectEntry (story : LoadedStory) (p : ℕ) : Type 0 where
   pub last : object ≤ story.objects
   pub inside : IsWithin (object_place story.memory object) 9 p
 
--- A size byte of a property table, the zero byte at its end among them: the first, or the one behind a property.
--- Outside memory there is none.
-pub data IsSizePlace (memory : List ℕ) (table : ℕ) : ℕ → Type 0 where
-  first : (p : ℕ) → p ≡ list_place memory table → p < length memory → IsSizePlace memory table p
-  next : (p q : ℕ) → IsSizePlace memory table q → byte_at memory q ≢ 0 → p ≡ q + 1 + data_length (byte_at memory q) → p < length memory → IsSizePlace memory table p
+-- a size byte of the list of properties from a place on, the zero byte at its end among them; outside memory there is none
+pub data IsSizePlace (memory : List ℕ) (p : ℕ) : ℕ → Type 0 where
+  here : (at : ℕ) → p ≡ at → p < length memory → IsSizePlace memory p at
+  behind : (at : ℕ) → byte_at memory at ≢ 0 → IsSizePlace memory p (data_end memory at) → IsSizePlace memory p at
 
 -- what a property table is beside its data: the length of its name, the name, size bytes and its end
 abbrev pub IsTableFrame : List ℕ → ℕ → ℕ → Type 0
-IsTableFrame memory table p = IsWithin table (1 + 2 * byte_at memory table) p ⊎ IsSizePlace memory table p
+IsTableFrame memory table p = IsWithin table (1 + 2 * byte_at memory table) p ⊎ IsSizePlace memory p (list_place memory table)
 
 pub record IsPropertyFrame (story : LoadedStory) (p : ℕ) : Type 0 where
   pub object : ℕ

@@ -1,2 +1,4 @@
 pub mod Bytes
 pub mod Apart
+pub mod Tables
+pub mod Places

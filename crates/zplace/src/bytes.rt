@@ -30,7 +30,7 @@ pub fn is_unchanging(story: &Story, from: usize, size: usize) -> bool
 
 /// Whether so many bytes from one place on, and so many from another on, have none in common.
 #[tactic(auto, using(crate::proofs::Changing::apart_where))]
-fn is_apart(from: usize, size: usize, other: usize, others: usize) -> bool
+pub(crate) fn is_apart(from: usize, size: usize, other: usize, others: usize) -> bool
     requires { 0 < others }
     ensures { IsTrue result ↔ AreApart from size other others }
 {

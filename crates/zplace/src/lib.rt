@@ -1,6 +1,9 @@
-//! Which bytes of a story a play may change, and which stay as they were loaded.
+//! Which bytes of a story a play may change, which stay as they were loaded, and where the data of properties are.
 #![tactic(auto)]
 
 mod bytes;
+mod places;
+mod property_tables;
 
 pub use bytes::{is_changing, is_unchanging};
+pub use property_tables::has_property_tables;
