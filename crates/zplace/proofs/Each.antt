@@ -1,8 +1,9 @@
 -- What holds of each object, of each part of a table and of each abbreviation.
-use Rattle.std.proofs.Common.{◌≡◌, ◌↔◌, ◌⊎◌, inl, inr, ℕ, ◌+◌, ◌*◌, ◌-◌, ◌/◌, ◌<◌, ◌≤◌, List, Some, refl, sym, subst, ◌∙◌, arith}
-use Rattle.std.proofs.lemmas.Bool.{cases_lt}
+use Rattle.std.proofs.Common.{◌≡◌, ◌↔◌, ◌⊎◌, inl, inr, ℕ, ◌+◌, ◌*◌, ◌-◌, ◌/◌, ◌<◌, ◌≤◌, List, length, Some, None, refl, sym, subst, ◌∙◌, arith}
+use Rattle.std.specs.Prelude.{min}
+use Rattle.std.proofs.lemmas.Bool.{cases_lt, lt-ltb, le-ltb}
 use Rattle.std.proofs.lemmas.Option.{same_Some}
-use Rattle.zstory.specs.Bytes.{byte_at}
+use Rattle.zstory.specs.Bytes.{byte_at, word_at}
 use Rattle.zstory.specs.LoadedStory.{LoadedStory, globals, object_table, static_base, abbreviations}
 use Rattle.zstory.specs.Objects.{object_place, property_table}
 use Rattle.ztext.specs.Abbreviations.{readable_word}
@@ -55,6 +56,42 @@ module _ (story : LoadedStory) where
       by_part both p (inl inside) = both.0 p (inside.0, omega (arith, inside.1, long))
       by_part both p (inr is_size) = both.1 p (subst (IsSizePlace story.memory p) (sym at) is_size)
 
+  -- the same, by what is read of a memory that is the same
+  pub frame_read : (S : ℕ → Type 0) (read : List ℕ) (table words list : ℕ) → read ≡ story.memory → words ≡ byte_at read table → list ≡ list_place read table → ((p : ℕ) → IsTableFrame story.memory table p → S p → ⊥) ↔ (((p : ℕ) → IsWithin table (1 + 2 * words) p → S p → ⊥) × ((p : ℕ) → IsSizePlace story.memory p list → S p → ⊥))
+  frame_read S read table words list same counted at =
+      let here : words ≡ byte_at story.memory table = subst (λ (m : List ℕ). words ≡ byte_at m table) same counted in
+      frame_where S table (1 + 2 * words) list (omega (arith, here)) (subst (λ (m : List ℕ). list ≡ list_place m table) same at)
+
+  -- a text by where it lies
+  pub text_where : (read : List ℕ) (entry place size : ℕ) → read ≡ story.memory → entry + 1 < min (length read) 65536 → place ≡ 2 * word_at read entry → size ≡ read_length read place → LeavesData story (Run place size) ↔ TextLeavesData story entry
+  text_where read entry place size same inside at long =
+      let within : entry + 1 < min (length story.memory) 65536 = subst (λ (m : List ℕ). entry + 1 < min (length m) 65536) same inside in
+      let at_word : place ≡ 2 * word_at story.memory entry = subst (λ (m : List ℕ). place ≡ 2 * word_at m entry) same at in
+      let long_there : size ≡ read_length story.memory (2 * word_at story.memory entry) = subst (λ (k : ℕ). size ≡ read_length story.memory k) at_word (subst (λ (m : List ℕ). size ≡ read_length m place) same long) in
+      let found : readable_word story.memory entry ≡ Some (word_at story.memory entry) = readable within in
+      (
+        λ leaves p word is_word there. leaves p (of_word at_word long_there p word (same_Some word (word_at story.memory entry) (sym is_word ∙ found)) there),
+        λ leaves p there. leaves p (word_at story.memory entry) found (omega (arith, at_word, there.0), omega (arith, at_word, long_there, there.1)),
+      )
+    where
+      readable : entry + 1 < min (length story.memory) 65536 → readable_word story.memory entry ≡ Some (word_at story.memory entry)
+      readable within = let e = lt-ltb (entry + 1) (min (length story.memory) 65536) within in rw e refl
+
+      of_word : place ≡ 2 * word_at story.memory entry → size ≡ read_length story.memory (2 * word_at story.memory entry) → (p word : ℕ) → word ≡ word_at story.memory entry → IsWithin (2 * word) (read_length story.memory (2 * word)) p → IsWithin place size p
+      of_word at_word long_there p word is there =
+          let here = subst (λ (w : ℕ). IsWithin (2 * w) (read_length story.memory (2 * w)) p) is there in
+          (omega (arith, at_word, here.0), omega (arith, at_word, long_there, here.1))
+
+  pub no_text_where : (read : List ℕ) (entry : ℕ) → read ≡ story.memory → min (length read) 65536 ≤ entry + 1 → TextLeavesData story entry
+  no_text_where read entry same outside p word is_word there =
+      let beyond : min (length story.memory) 65536 ≤ entry + 1 = subst (λ (m : List ℕ). min (length m) 65536 ≤ entry + 1) same outside in
+      let e = le-ltb (entry + 1) (min (length story.memory) 65536) beyond in
+      let none : readable_word story.memory entry ≡ None = rw e refl in
+      absurd (no_Some word (sym is_word ∙ none))
+    where
+      no_Some : (w : ℕ) → Some w ≡ None → ⊥
+      no_Some w e = cc
+
   -- abbreviations, number by number
   pub abbreviations_where : ((p : ℕ) → IsAbbreviation story p → IsPropertyData story p → ⊥) ↔ ((number : ℕ) → number < 96 → AbbreviationLeavesData story number)
   abbreviations_where = (
@@ -82,7 +119,7 @@ module _ (story : LoadedStory) where
 
     still : AreDataApart story → (p : ℕ) → IsPropertyData story p → IsChanging story p → ⊥
     still apart p its (inl flags) = let high = above p its in omega (arith, high, flags.1)
-    still apart p its (inr (inl a_global)) = apart.of_globals p a_global its
+    still apart p its (inr (inl global)) = apart.of_globals p global its
     still apart p its (inr (inr state)) =
         apart.of_objects p (omega (arith, state.first, state.inside.0), omega (arith, state.first, state.last, state.inside.1)) its
 

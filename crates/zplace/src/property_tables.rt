@@ -1,11 +1,11 @@
 //! What is asked of the property tables of a story's objects.
 
 ghost use Rattle.std.specs.Prelude.{◌≡◌, ◌↔◌, ◌+◌, ◌*◌, ◌≤◌, ◌<◌, ℕ, IsTrue, length};
-ghost use Rattle.zstory.specs.LoadedStory.{object_table};
+ghost use Rattle.zstory.specs.LoadedStory.{globals, object_table};
 ghost use Rattle.zstory.specs.Objects.{property_table};
 ghost use Rattle.zobj.specs.Properties.{list_place};
 ghost use Rattle.zplace.specs.Bytes.{IsAbbreviation, IsChanging, IsPropertyFrame, IsSizePlace, IsTableFrame, read_length};
-ghost use Rattle.zplace.specs.Places.{AbbreviationLeavesData, AreDataApart, TextLeavesData};
+ghost use Rattle.zplace.specs.Places.{AbbreviationLeavesData, AreDataApart, LeavesData, TextLeavesData};
 ghost use Rattle.zplace.specs.declared.places.Places.TheVariants.{Run};
 ghost use Rattle.zplace.specs.Tables.{HasName, HasPropertyTables, IsList, IsPropertyData, IsPropertyTable};
 
@@ -32,7 +32,10 @@ const READABLE_LENGTH: usize = 65_536;
 pub fn has_property_tables(story: &Story) -> bool
     ensures { IsTrue result ↔ HasPropertyTables story.now }
 {
-    are_tables(story) && are_frames_still(story) && are_data_apart(story)
+    if !are_tables(story) {
+        return false;
+    }
+    are_frames_still(story) && are_data_apart(story)
 }
 
 /// Whether each object has a property table.
@@ -137,11 +140,18 @@ fn is_still(story: &Story, at: usize) -> bool
 fn are_data_apart(story: &Story) -> bool
     ensures { IsTrue result ↔ AreDataApart story.now }
 {
-    let globals = Places::Run(story.globals(), GLOBALS_LENGTH);
-    leaves_data(story, globals)
+    if !tables_leave_data(story) {
+        return false;
+    }
+    abbreviations_leave_data(story) && frames_leave_data(story)
+}
+
+/// Whether they lie apart from the globals and the object table.
+fn tables_leave_data(story: &Story) -> bool
+    ensures { IsTrue result ↔ (LeavesData story.now (Run (globals story.now) 480) × LeavesData story.now (Run (object_table story.now) (62 + 9 * story.now.objects))) }
+{
+    leaves_data(story, Places::Run(story.globals(), GLOBALS_LENGTH))
         && leaves_data(story, object_entries(story))
-        && abbreviations_leave_data(story)
-        && frames_leave_data(story)
 }
 
 /// The object table with its entries.
@@ -170,8 +180,8 @@ fn frame_leaves_data(story: &Story, table: usize) -> bool
     ensures { IsTrue result ↔ ((p : ℕ) → IsTableFrame story.now.memory table p → IsPropertyData story.now p → ⊥) }
 {
     let memory = story.memory();
-    let name = 1 + 2 * usize::from(name_words(memory, table));
-    leaves_data(story, Places::Run(table, name))
+    let words = usize::from(name_words(memory, table));
+    leaves_data(story, Places::Run(table, 1 + 2 * words))
         && leaves_data(story, Places::Sizes(list_place(memory, table)))
 }
 
