@@ -4,15 +4,15 @@ use Rattle.std.specs.Prelude.{min}
 use Rattle.std.proofs.lemmas.Bool.{cases_lt, lt-ltb, le-ltb}
 use Rattle.std.proofs.lemmas.Option.{same_Some}
 use Rattle.zstory.specs.Bytes.{byte_at, word_at}
-use Rattle.zstory.specs.LoadedStory.{LoadedStory, globals, object_table, static_base, abbreviations}
-use Rattle.zstory.specs.Objects.{object_place, property_table}
+use Rattle.zstory.specs.LoadedStory.{LoadedStory, object_table, static_base, abbreviations}
+use Rattle.zstory.specs.Objects.{property_table}
 use Rattle.ztext.specs.Abbreviations.{readable_word}
 use Rattle.zobj.specs.Properties.{list_place}
-use Rattle.zplace.specs.Bytes.{IsWithin, IsChanging, IsUnchanging, IsSizePlace, IsTableFrame, IsPropertyFrame, IsAbbreviation, IsClosed, header, a_global, a_default, an_entry, a_property, an_abbreviation, frozen, static, read_length}
-use Rattle.zplace.specs.Tables.{IsDataPlace, IsPropertyTable, IsPropertyData, HasPropertyTables, none_frozen}
+use Rattle.zplace.specs.Bytes.{IsWithin, IsChanging, IsSizePlace, IsTableFrame, IsPropertyFrame, IsAbbreviation, IsClosed, header, a_global, a_default, an_entry, a_property, an_abbreviation, frozen, static, read_length}
+use Rattle.zplace.specs.Tables.{IsPropertyTable, IsPropertyData, HasPropertyTables, none_frozen}
 use Rattle.zplace.specs.declared.places.Places.{Places}
-use Rattle.zplace.specs.declared.places.Places.TheVariants.{Run, Sizes}
-use Rattle.zplace.specs.Places.{IsAmong, MeetsNoData, LeavesData, TextLeavesData, AbbreviationLeavesData, AreDataApart}
+use Rattle.zplace.specs.declared.places.Places.TheVariants.{Run}
+use Rattle.zplace.specs.Places.{MeetsNoData, LeavesData, TextLeavesData, AbbreviationLeavesData, AreDataApart}
 use Rattle.zplace.proofs.Lists.{data_behind, data_inside}
 
 -- of one more
@@ -48,9 +48,9 @@ module _ (story : LoadedStory) where
   -- and part by part
   pub frame_where : (S : ℕ → Type 0) (table size list : ℕ) → size ≡ 1 + 2 * byte_at story.memory table → list ≡ list_place story.memory table → ((p : ℕ) → IsTableFrame story.memory table p → S p → ⊥) ↔ (((p : ℕ) → IsWithin table size p → S p → ⊥) × ((p : ℕ) → IsSizePlace story.memory p list → S p → ⊥))
   frame_where S table size list long at = (
-      λ all. (λ p inside. all p (inl (inside.0, omega (arith, inside.1, long))), λ p is_size. all p (inr (subst (IsSizePlace story.memory p) at is_size))),
-      by_part,
-    )
+    λ all. (λ p inside. all p (inl (inside.0, omega (arith, inside.1, long))), λ p is_size. all p (inr (subst (IsSizePlace story.memory p) at is_size))),
+    by_part,
+  )
     where
       by_part : ((p : ℕ) → IsWithin table size p → S p → ⊥) × ((p : ℕ) → IsSizePlace story.memory p list → S p → ⊥) → (p : ℕ) → IsTableFrame story.memory table p → S p → ⊥
       by_part both p (inl inside) = both.0 p (inside.0, omega (arith, inside.1, long))
@@ -68,8 +68,7 @@ module _ (story : LoadedStory) where
       let within : entry + 1 < min (length story.memory) 65536 = subst (λ (m : List ℕ). entry + 1 < min (length m) 65536) same inside in
       let at_word : place ≡ 2 * word_at story.memory entry = subst (λ (m : List ℕ). place ≡ 2 * word_at m entry) same at in
       let long_there : size ≡ read_length story.memory (2 * word_at story.memory entry) = subst (λ (k : ℕ). size ≡ read_length story.memory k) at_word (subst (λ (m : List ℕ). size ≡ read_length m place) same long) in
-      let found : readable_word story.memory entry ≡ Some (word_at story.memory entry) = readable within in
-      (
+      let found : readable_word story.memory entry ≡ Some (word_at story.memory entry) = readable within in (
         λ leaves p word is_word there. leaves p (of_word at_word long_there p word (same_Some word (word_at story.memory entry) (sym is_word ∙ found)) there),
         λ leaves p there. leaves p (word_at story.memory entry) found (omega (arith, at_word, there.0), omega (arith, at_word, long_there, there.1)),
       )
@@ -95,12 +94,12 @@ module _ (story : LoadedStory) where
   -- abbreviations, number by number
   pub abbreviations_where : ((p : ℕ) → IsAbbreviation story p → IsPropertyData story p → ⊥) ↔ ((number : ℕ) → number < 96 → AbbreviationLeavesData story number)
   abbreviations_where = (
-      λ all number few. record {
-        entry = λ p inside. all p (record { number = number; last = few; inside = inl inside });
-        text = λ p word found inside. all p (record { number = number; last = few; inside = inr (word, found, inside) });
-      },
-      λ each p abbreviation. by_part (each abbreviation.number abbreviation.last) p abbreviation.inside,
-    )
+    λ all number few. record {
+      entry = λ p inside. all p (record { number = number; last = few; inside = inl inside });
+      text = λ p word found inside. all p (record { number = number; last = few; inside = inr (word, found, inside) });
+    },
+    λ each p abbreviation. by_part (each abbreviation.number abbreviation.last) p abbreviation.inside,
+  )
     where
       by_part : {number : ℕ} → AbbreviationLeavesData story number → (p : ℕ) → IsWithin (abbreviations story + 2 * number) 2 p ⊎ ((word : ℕ) × (readable_word story.memory (abbreviations story + 2 * number) ≡ Some word) × IsWithin (2 * word) (read_length story.memory (2 * word)) p) → IsPropertyData story p → ⊥
       by_part leaves p (inl inside) = leaves.entry p inside

@@ -2,3 +2,4 @@ mod Changing
 mod Tables
 mod Lists
 mod Each
+mod Worked

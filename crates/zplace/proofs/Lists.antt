@@ -1,7 +1,6 @@
 -- Lists of properties, from one size byte to the next.
-use Rattle.std.proofs.Common.{◌≡◌, ◌↔◌, ◌⊎◌, inl, inr, ℕ, zero, suc, ◌+◌, ◌*◌, ◌-◌, ◌/◌, ◌<◌, ◌≤◌, List, length, refl, arith, subst, sym}
+use Rattle.std.proofs.Common.{◌≡◌, ◌↔◌, ◌⊎◌, inl, inr, ℕ, ◌+◌, ◌-◌, ◌<◌, ◌≤◌, List, length, refl, arith, subst, sym}
 use Rattle.std.specs.Prelude.{◌≢◌}
-use Rattle.std.proofs.lemmas.Bool.{cases_lt}
 use Rattle.zstory.specs.Bytes.{byte_at}
 use Rattle.zobj.specs.Properties.{data_end, data_length, property_number}
 use Rattle.zplace.specs.Bytes.{IsWithin, IsSizePlace, here, behind}
@@ -49,9 +48,9 @@ module _ (memory : List ℕ) (places : Places) (at : ℕ) where
 
   pub none_where : byte_at memory at ≢ 0 → MeetsNoData memory places at ↔ (((p : ℕ) → IsAmong memory places p → IsWithin (at + 1) (data_length (byte_at memory at)) p → ⊥) × MeetsNoData memory places (data_end memory at))
   none_where some = (
-      λ none. (λ p among inside. none p among (in_data at some inside), λ p among rest. none p among (in_rest at some rest)),
-      λ both p among data_there. by_part both p among (data_split memory p at data_there),
-    )
+    λ none. (λ p among inside. none p among (in_data at some inside), λ p among rest. none p among (in_rest at some rest)),
+    λ both p among data_there. by_part both p among (data_split memory p at data_there),
+  )
     where
       by_part : ((p : ℕ) → IsAmong memory places p → IsWithin (at + 1) (data_length (byte_at memory at)) p → ⊥) × MeetsNoData memory places (data_end memory at) → (p : ℕ) → IsAmong memory places p → IsWithin (at + 1) (data_length (byte_at memory at)) p ⊎ IsDataPlace memory p (data_end memory at) → ⊥
       by_part both p among (inl inside) = both.0 p among inside
@@ -61,8 +60,7 @@ module _ (memory : List ℕ) (places : Places) (at : ℕ) where
 pub run_where : (memory : List ℕ) (from size at end : ℕ) → byte_at memory at ≢ 0 → end ≡ data_end memory at → MeetsNoData memory (Run from size) at ↔ (AreApart from size (at + 1) (end - at - 1) × MeetsNoData memory (Run from size) end)
 run_where memory from size at end some is =
     let both = none_where memory (Run from size) at some in
-    let long : end - at - 1 ≡ data_length (byte_at memory at) = omega (arith, is) in
-    (
+    let long : end - at - 1 ≡ data_length (byte_at memory at) = omega (arith, is) in (
       λ none. (λ p among inside. (both.0 none).0 p among (omega (arith, inside.0), omega (arith, inside.1, long)), subst (MeetsNoData memory (Run from size)) (sym is) (both.0 none).1),
       λ parts. both.1 (λ p among inside. parts.0 p among (omega (arith, inside.0), omega (arith, inside.1, long)), subst (MeetsNoData memory (Run from size)) is parts.1),
     )
@@ -72,8 +70,7 @@ module _ (memory : List ℕ) (size at : ℕ) where
   -- the other's first data end before or at the size byte
   pub sizes_later : (end : ℕ) → byte_at memory at ≢ 0 → end ≡ data_end memory at → end ≤ size → MeetsNoData memory (Sizes size) at ↔ MeetsNoData memory (Sizes size) end
   sizes_later end some is low =
-      let both = none_where memory (Sizes size) at some in
-      (
+      let both = none_where memory (Sizes size) at some in (
         λ none. subst (MeetsNoData memory (Sizes size)) (sym is) (both.0 none).1,
         λ rest. both.1 (λ p among inside. before p (size_from memory p size among) inside, subst (MeetsNoData memory (Sizes size)) is rest),
       )
@@ -92,9 +89,9 @@ module _ (memory : List ℕ) (size at : ℕ) where
   -- it lies before all of them
   pub size_passed : (next : ℕ) → byte_at memory size ≢ 0 → next ≡ data_end memory size → size ≤ at → MeetsNoData memory (Sizes size) at ↔ MeetsNoData memory (Sizes next) at
   size_passed next some is low = (
-      λ none p among data_there. none p (behind size some (subst (IsSizePlace memory p) is among)) data_there,
-      λ none p among data_there. by_part none p data_there (size_split memory p size among),
-    )
+    λ none p among data_there. none p (behind size some (subst (IsSizePlace memory p) is among)) data_there,
+    λ none p among data_there. by_part none p data_there (size_split memory p size among),
+  )
     where
       by_part : MeetsNoData memory (Sizes next) at → (p : ℕ) → IsDataPlace memory p at → (p ≡ size) ⊎ IsSizePlace memory p (data_end memory size) → ⊥
       by_part none p data_there (inl e) = let later = data_behind memory p at data_there in omega (arith, e, later, low)
@@ -133,8 +130,7 @@ module _ (S : ℕ → Type 0) (memory read : List ℕ) (same : read ≡ memory) 
   pub still_where : (end : ℕ) → byte_at read at ≢ 0 → end ≡ data_end read at → at < length read → ((p : ℕ) → IsSizePlace memory p at → S p → ⊥) ↔ ((at < length memory → S at → ⊥) × ((p : ℕ) → IsSizePlace memory p end → S p → ⊥))
   still_where end something is inside =
       let there : byte_at memory at ≢ 0 = subst (λ (m : List ℕ). byte_at m at ≢ 0) same something in
-      let ends : end ≡ data_end memory at = subst (λ (m : List ℕ). end ≡ data_end m at) same is in
-      (
+      let ends : end ≡ data_end memory at = subst (λ (m : List ℕ). end ≡ data_end m at) same is in (
         λ all. (λ within is_one. all at (here at refl within) is_one, λ p further is_one. all p (behind at there (subst (IsSizePlace memory p) ends further)) is_one),
         λ both p size is_one. by_part ends both p is_one (size_inside memory p at size) (size_split memory p at size),
       )
@@ -145,8 +141,7 @@ module _ (S : ℕ → Type 0) (memory read : List ℕ) (same : read ≡ memory) 
 
   pub last_still_where : byte_at read at ≡ 0 → ((p : ℕ) → IsSizePlace memory p at → S p → ⊥) ↔ (at < length memory → S at → ⊥)
   last_still_where end =
-      let there : byte_at memory at ≡ 0 = subst (λ (m : List ℕ). byte_at m at ≡ 0) same end in
-      (
+      let there : byte_at memory at ≡ 0 = subst (λ (m : List ℕ). byte_at m at ≡ 0) same end in (
         λ all within is_one. all at (here at refl within) is_one,
         λ none p size is_one. let e = one_size_at_end memory p at there size in none (subst (λ (k : ℕ). k < length memory) e (size_inside memory p at size)) (subst S e is_one),
       )

@@ -1,8 +1,7 @@
 -- Property tables of a loaded story.
-use Rattle.std.proofs.Common.{◌≡◌, ◌↔◌, ◌⊎◌, inl, inr, ℕ, zero, suc, ◌+◌, ◌*◌, ◌-◌, ◌<◌, ◌≤◌, List, length, arith}
-use Rattle.zstory.specs.LoadedStory.{LoadedStory, IsSound}
+use Rattle.std.proofs.Common.{ℕ, ◌+◌, ◌≤◌, List, length}
+use Rattle.zstory.specs.LoadedStory.{IsSound}
 use Rattle.zstory.specs.Objects.{object_place, IsObjectCount}
-use Rattle.zobj.specs.Entries.{HasEntry}
 use Rattle.zobj.proofs.Tables.{story_table, entry_there}
 
 -- the entry of an object is whole in memory

@@ -125,7 +125,7 @@ fn are_sizes_still(story: &Story, first: usize) -> bool
         }
         at = end;
     }
-    is_still(story, at)
+    is_still(story, at) // the zero byte at its end
 }
 
 /// Whether none changes the byte at a place, or it lies outside memory.

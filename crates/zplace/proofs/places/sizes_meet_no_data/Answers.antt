@@ -1,4 +1,4 @@
-use Rattle.std.proofs.Common.{rules, ◌≡◌, ◌⊎◌, inl, inr, ◌≤◌, ◌<◌, length, refl, arith}
+use Rattle.std.proofs.Common.{rules, ◌⊎◌, inl, inr, ◌≤◌, ◌<◌, length, refl, arith}
 use Rattle.std.specs.Prelude.{IsTrue, nat_le}
 use Rattle.std.proofs.lemmas.Bool.{cases_lt, leb-true, le-leb}
 use Rattle.zplace.proofs.Lists.{sizes_later, sizes_met, sizes_outside, size_passed, last_size_passed, none_at_end}

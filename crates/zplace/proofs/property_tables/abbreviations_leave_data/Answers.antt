@@ -1,4 +1,4 @@
-use Rattle.std.proofs.Common.{◌≤◌, refl, arith}
+use Rattle.std.proofs.Common.{refl, arith}
 use Rattle.zplace.specs.Places.{AbbreviationLeavesData}
 use Rattle.zplace.proofs.Each.{abbreviations_where, one_more_below}
 use Rattle.zplace.proofs.property_tables.abbreviations_leave_data.Goals as goal

@@ -1,4 +1,4 @@
-use Rattle.std.proofs.Common.{ℕ, ◌+◌, refl, subst}
+use Rattle.std.proofs.Common.{refl, subst}
 use Rattle.zstory.specs.Objects.{property_table}
 use Rattle.zplace.specs.Tables.{IsPropertyTable}
 use Rattle.zplace.proofs.Each.{one_more}

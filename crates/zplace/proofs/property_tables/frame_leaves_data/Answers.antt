@@ -1,4 +1,4 @@
-use Rattle.std.proofs.Common.{◌≡◌, refl, ◌∙◌}
+use Rattle.std.proofs.Common.{refl, ◌∙◌}
 use Rattle.zplace.specs.Tables.{IsPropertyData}
 use Rattle.zplace.proofs.Each.{frame_read}
 use Rattle.zplace.proofs.property_tables.frame_leaves_data.Goals as goal

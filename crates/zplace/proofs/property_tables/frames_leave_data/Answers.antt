@@ -1,4 +1,4 @@
-use Rattle.std.proofs.Common.{ℕ, ◌+◌, ◌≤◌, refl, sym, subst, arith}
+use Rattle.std.proofs.Common.{ℕ, ◌+◌, refl, sym, subst, arith}
 use Rattle.zstory.specs.Objects.{property_table}
 use Rattle.zplace.specs.Bytes.{IsTableFrame}
 use Rattle.zplace.specs.Tables.{IsPropertyData}

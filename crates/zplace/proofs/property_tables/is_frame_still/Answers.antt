@@ -1,4 +1,4 @@
-use Rattle.std.proofs.Common.{◌≡◌, refl, ◌∙◌}
+use Rattle.std.proofs.Common.{refl, ◌∙◌}
 use Rattle.zplace.specs.Bytes.{IsChanging}
 use Rattle.zplace.proofs.Each.{frame_read}
 use Rattle.zplace.proofs.property_tables.is_frame_still.Goals as goal

@@ -1,4 +1,4 @@
-use Rattle.std.proofs.Common.{rules, ◌≡◌, ◌+◌, ◌/◌, ◌%◌, ◌≤◌, ◌<◌, length, refl, arith}
+use Rattle.std.proofs.Common.{◌+◌, ◌%◌, refl, arith}
 use Rattle.zstory.specs.Bytes.{byte_at}
 use Rattle.zplace.proofs.Lists.{list_inside, list_where}
 use Rattle.zplace.specs.Tables.{ended}

@@ -1,5 +1,4 @@
 use Rattle.std.proofs.Common.{ℕ, refl, sym, subst}
-use Rattle.zplace.specs.declared.places.Places.{Places}
 use Rattle.zplace.specs.declared.places.Places.TheVariants.{Run}
 use Rattle.zplace.specs.Places.{LeavesData}
 use Rattle.zplace.proofs.property_tables.tables_leave_data.Goals as goal

@@ -1,4 +1,4 @@
-use Rattle.std.proofs.Common.{◌≡◌, ◌*◌, ◌∙◌, refl, ap, arith, rules}
+use Rattle.std.proofs.Common.{◌*◌, arith, rules}
 use Rattle.zplace.proofs.Each.{text_where}
 use Rattle.zplace.proofs.property_tables.text_leaves_data.Goals as goal
 
