@@ -11,6 +11,7 @@ use Rattle.zrule.specs.declared.rule.Rule.{Rule}
 use Rattle.zrule.specs.declared.rule.Rule.TheVariants as instruction_rules
 use Rattle.zrule.specs.Rules.{Keeps}
 use Rattle.zrule.proofs.Instances.{memory, story, certificate_at, claims_at, claims, at_bare, bare, bare_entry, each_listed, hello, line, stop, reads, no_first_place, supports, alone, loaded, plain, abbreviations_stay}
+use Rattle.zplace.specs.Tables.{HasPropertyTables}
 use Rattle.zcheck.specs.declared.refusal.StoryRule.{StoryRule}
 use Rattle.zcheck.specs.declared.refusal.StoryRule.TheVariants as rules
 use Rattle.zcheck.specs.declared.refusal.Refusal.TheVariants as refusals
@@ -25,12 +26,23 @@ use Rattle.zcheck.proofs.Headline.{never_faults}
 unfoldable pub all_listed : List ℕ
 all_listed = 798 ∷ 803 ∷ 804 ∷ []
 
+-- it has no objects, and so no property tables
+property_tables : HasPropertyTables story
+unfolding story
+property_tables = record {
+  tables = λ object first last. absurd (omega (arith, first, last));
+  frames_still = λ p frame. absurd (omega (arith, frame.first, frame.last));
+  data_still = λ p its. absurd (omega (arith, its.first, its.last));
+  data_open = λ p its. absurd (omega (arith, its.first, its.last));
+}
+
 keeps_story : (rule : StoryRule) → KeepsStory interval_operations story (certificate_at all_listed) rule
 unfolding all_listed certificate_at claims claims_at
 keeps_story rules.Identity = refl
 keeps_story rules.FirstPlace = supports.first
 keeps_story rules.RoutineHeads = tt
 keeps_story rules.FirstGlobals = supports.values
+keeps_story rules.PropertyTables = property_tables
 keeps_story rules.Tree = supports.tree
 keeps_story rules.Abbreviations = supports.abbreviations
 keeps_story rules.Tables = supports.tables
@@ -94,6 +106,7 @@ lowest = record { broken = no_first_place; before = before }
     before rules.FirstPlace less = absurd (omega (arith, less))
     before rules.RoutineHeads less = absurd (omega (arith, less))
     before rules.FirstGlobals less = absurd (omega (arith, less))
+    before rules.PropertyTables less = absurd (omega (arith, less))
     before rules.Tree less = absurd (omega (arith, less))
     before rules.Abbreviations less = absurd (omega (arith, less))
     before rules.Tables less = absurd (omega (arith, less))
@@ -112,6 +125,7 @@ keeps_alone rules.Identity = refl
 keeps_alone rules.FirstPlace = record { entry = record { routine = 0; shape = record { locals = []; slots = [] } }; listed = refl; main = refl; no_locals = refl; no_slots = refl }
 keeps_alone rules.RoutineHeads = tt
 keeps_alone rules.FirstGlobals = supports.values
+keeps_alone rules.PropertyTables = property_tables
 keeps_alone rules.Tree = supports.tree
 keeps_alone rules.Abbreviations = supports.abbreviations
 keeps_alone rules.Tables = supports.tables

@@ -4,11 +4,11 @@ use Rattle.std.specs.Prelude.{slice_get}
 use Rattle.std.specs.List.{AllByRecursion}
 use Rattle.zrule.proofs.Ordered.{IsAmong, Rises, among_kept, more_kept, lower_kept}
 use Rattle.zcheck.specs.declared.refusal.StoryRule.{StoryRule}
-use Rattle.zcheck.specs.declared.refusal.StoryRule.TheVariants.{Identity, FirstPlace, RoutineHeads, FirstGlobals, Tree, Abbreviations, Tables}
+use Rattle.zcheck.specs.declared.refusal.StoryRule.TheVariants.{Identity, FirstPlace, RoutineHeads, FirstGlobals, PropertyTables, Tree, Abbreviations, Tables}
 use Rattle.zcheck.specs.Numbers.{number_of}
 
 abbrev pub asked : List StoryRule
-asked = Identity ∷ FirstPlace ∷ RoutineHeads ∷ FirstGlobals ∷ Tree ∷ Abbreviations ∷ Tables ∷ []
+asked = Identity ∷ FirstPlace ∷ RoutineHeads ∷ FirstGlobals ∷ PropertyTables ∷ Tree ∷ Abbreviations ∷ Tables ∷ []
 
 -- every rule is one of them
 all_asked : (q : StoryRule) → IsAmong q asked
@@ -16,13 +16,14 @@ all_asked Identity = inl refl
 all_asked FirstPlace = inr (inl refl)
 all_asked RoutineHeads = inr (inr (inl refl))
 all_asked FirstGlobals = inr (inr (inr (inl refl)))
-all_asked Tree = inr (inr (inr (inr (inl refl))))
-all_asked Abbreviations = inr (inr (inr (inr (inr (inl refl)))))
-all_asked Tables = inr (inr (inr (inr (inr (inr (inl refl))))))
+all_asked PropertyTables = inr (inr (inr (inr (inl refl))))
+all_asked Tree = inr (inr (inr (inr (inr (inl refl)))))
+all_asked Abbreviations = inr (inr (inr (inr (inr (inr (inl refl))))))
+all_asked Tables = inr (inr (inr (inr (inr (inr (inr (inl refl)))))))
 
 -- and their numbers rise
 rising : Rises number_of 0 asked
-rising = (omega arith, (omega arith, (omega arith, (omega arith, (omega arith, (omega arith, (omega arith, tt)))))))
+rising = (omega arith, (omega arith, (omega arith, (omega arith, (omega arith, (omega arith, (omega arith, (omega arith, tt))))))))
 
 module _ (P : StoryRule → Type 0) where
   pub kept_all : AllByRecursion P asked → (q : StoryRule) → P q

@@ -3,14 +3,14 @@ use Rattle.std.proofs.Common.{◌≡◌, ℕ, ◌<◌, ◌≤◌, List, [], ◌�
 use Rattle.zstory.specs.Header as header
 use Rattle.zstory.specs.LoadedStory.{LoadedStory}
 use Rattle.zplace.specs.Bytes.{IsChanging}
-use Rattle.zcheck.specs.declared.refusal.StoryRule.TheVariants.{Identity, FirstPlace, RoutineHeads, FirstGlobals, Abbreviations, Tables}
+use Rattle.zcheck.specs.declared.refusal.StoryRule.TheVariants.{Identity, FirstPlace, RoutineHeads, FirstGlobals, PropertyTables, Tree, Abbreviations, Tables}
 use Rattle.zcheck.specs.Numbers.{number_of}
 use Rattle.zcheck.specs.Passes.{HasHead}
 use Rattle.zcheck.specs.Tables.{AreApart, IsFrozenApart}
 use Rattle.zcert.specs.declared.parts.Routine.{Routine}
 
-numbers : (number_of Identity ≡ 1) × (number_of FirstPlace ≡ 2) × (number_of RoutineHeads ≡ 3) × (number_of FirstGlobals ≡ 4) × (number_of Abbreviations ≡ 7) × (number_of Tables ≡ 8)
-numbers = (refl, refl, refl, refl, refl, refl)
+numbers : (number_of Identity ≡ 1) × (number_of FirstPlace ≡ 2) × (number_of RoutineHeads ≡ 3) × (number_of FirstGlobals ≡ 4) × (number_of PropertyTables ≡ 5) × (number_of Tree ≡ 6) × (number_of Abbreviations ≡ 7) × (number_of Tables ≡ 8)
+numbers = (refl, refl, refl, refl, refl, refl, refl, refl)
 
 -- an object table below 256, globals from 160 to 639, static memory from 656 on
 memory : ℕ → List ℕ

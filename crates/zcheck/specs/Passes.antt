@@ -4,6 +4,7 @@ use Rattle.std.specs.List.{AllByRecursion}
 use Rattle.zstory.specs.Bytes.{byte_at}
 use Rattle.zstory.specs.LoadedStory.{LoadedStory, identity_of, static_base}
 use Rattle.zobj.specs.Tree.{IsTree}
+use Rattle.zplace.specs.Tables.{HasPropertyTables}
 use Rattle.zdomain.specs.Domain.{SetOperations}
 use Rattle.zcert.specs.declared.parts.Routine.{Routine}
 use Rattle.zcert.specs.Certificate.{Certificate}
@@ -35,6 +36,8 @@ module _ {V : Type 0} (o : SetOperations V) (story : LoadedStory) (c : Certifica
   KeepsStory rules.RoutineHeads = AllByRecursion (HasHead story) c.routines
   -- S4: each global is in its set as it is loaded
   KeepsStory rules.FirstGlobals = HasGlobals o (claims_of o c) story story.memory
+  -- S5: each object has a property table, whose data stores may write
+  KeepsStory rules.PropertyTables = HasPropertyTables story
   -- S6: each link of an object leads to an object, or to none
   KeepsStory rules.Tree = IsTree story.memory story.objects
   -- S7: abbreviations are whole, plain, and stay as they are

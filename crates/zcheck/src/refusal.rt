@@ -18,6 +18,9 @@ pub enum StoryRule {
     RoutineHeads,
     /// S4: the loaded value of each global lies in its set.
     FirstGlobals,
+    /// S5: each object has a property table: in dynamic memory, with falling numbers and a name of the stated length. No
+    /// instruction changes a byte of it without asking, and stores may write each byte of its data that isn't frozen.
+    PropertyTables,
     /// S6: parent, sibling and child of each object are objects, or none.
     Tree,
     /// S7: the 96 abbreviations are whole in memory, none uses another, and no instruction changes a byte of them.
@@ -39,6 +42,7 @@ impl StoryRule {
             StoryRule::FirstPlace => 2,
             StoryRule::RoutineHeads => 3,
             StoryRule::FirstGlobals => 4,
+            StoryRule::PropertyTables => 5,
             StoryRule::Tree => 6,
             StoryRule::Abbreviations => 7,
             StoryRule::Tables => 8,

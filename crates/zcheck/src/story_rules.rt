@@ -14,14 +14,16 @@ use crate::refusal::StoryRule;
 use crate::tables::{has_abbreviations, has_disjoint_tables, has_globals};
 use zcert::{Certificate, Instruction, Routine};
 use zdomain::Interval;
+use zplace::has_property_tables;
 use zstory::Story;
 
 /// The rules by their numbers.
-const RULES: [StoryRule; 7] = [
+const RULES: [StoryRule; 8] = [
     StoryRule::Identity,
     StoryRule::FirstPlace,
     StoryRule::RoutineHeads,
     StoryRule::FirstGlobals,
+    StoryRule::PropertyTables,
     StoryRule::Tree,
     StoryRule::Abbreviations,
     StoryRule::Tables,
@@ -48,6 +50,7 @@ fn keeps(story: &Story, certificate: &Certificate, rule: StoryRule) -> bool
         StoryRule::FirstPlace => has_first_place(story, certificate),
         StoryRule::RoutineHeads => has_heads(story, certificate),
         StoryRule::FirstGlobals => has_globals(story, certificate),
+        StoryRule::PropertyTables => has_property_tables(story),
         StoryRule::Tree => has_tree(story),
         StoryRule::Abbreviations => has_abbreviations(story),
         StoryRule::Tables => has_disjoint_tables(story, certificate),

@@ -361,6 +361,16 @@ not_stored : (FitsWith interval_operations (claims_of interval_operations certif
 unfolding certificate frame
 not_stored = (λ fits. omega (arith, fits.0), λ fits. omega (arith, fits.0))
 
+-- ---- globals of a memory
+
+-- the globals are at 16, and the first two are 0x102 and 0x304
+with_globals : LoadedStory
+with_globals = record { memory = replicate 12 0 ++ 0 ∷ 16 ∷ 0 ∷ 0 ∷ 1 ∷ 2 ∷ 3 ∷ 4 ∷ []; objects = 0 }
+
+loaded_values : (global_in with_globals with_globals.memory 0 ≡ 0x102) × (global_in with_globals with_globals.memory 1 ≡ 0x304)
+unfolding with_globals
+loaded_values = (refl, refl)
+
 -- ---- routines that are called
 
 -- at 4 a routine begins with two locals, of 7 and 9 at first, and its code at 9; it gives 5
