@@ -50,6 +50,63 @@ pub fn spread(n: u32) -> u32
     let doubled = n + n;
     doubled
 }
+
+/// What is done with a number.
+#[derive(Clone, Copy)]
+pub enum Deed {
+    Keep,
+    Raise,
+    Double,
+    Treble,
+    Halve,
+    Third,
+    Clear,
+    Least,
+    Both(u32),
+    Other(u32),
+}
+
+/// A number that no deed makes more than thrice as large, or than twenty.
+pub fn done(deed: Deed, n: u32) -> u32
+    requires { n < 1000 }
+    ensures { result ≤ 3 * n + 20 }
+{
+    let first = match deed {
+        Deed::Keep => n,
+        Deed::Raise => successor(n),
+        Deed::Double => n + n,
+        Deed::Treble => n + n + n,
+        Deed::Halve => n / 2,
+        Deed::Third => n / 3,
+        Deed::Clear => 0,
+        Deed::Least => {
+            let least = small(n);
+            least
+        }
+        Deed::Both(m) => small(m),
+        Deed::Other(m) => small(m) + 1,
+    };
+    first
+}
+
+/// A number less ten, or none.
+pub fn lowered(n: u32) -> u32
+    ensures { result ≤ n }
+{
+    match n {
+        0 => 0,
+        1 => 1,
+        2 => 1,
+        3 => 1,
+        4 => 1,
+        5 => 1,
+        6 => 1,
+        7 => 1,
+        8 | 9 => 1,
+        10 => 1,
+        _ => n - 10,
+    }
+}
 """
 
 ANSWERS = """use Rattle.std.proofs.Common.{arith}
@@ -72,6 +129,12 @@ EDITS = {
     "spread_harmlessly": (False, [("    let doubled = n + n;", "    let doubled = n + (n);")]),
     # proved, but for an answer that names what is gone
     "name_gone": (False, [("let doubled = n + n;", "let twice = n + n;"), ("    doubled", "    twice")]),
+    "most_is_one_less": (False, [("u32 = 20", "u32 = 19")]),
+    # in an arm of a long match: it makes more, it makes no more than it may, and it rests on what the arms above leave
+    "one_more_raised": (True, [("        Deed::Raise => successor(n),", "        Deed::Raise => successor(n) + 2000,")]),
+    "other_unbounded": (True, [("small(m) + 1", "m")]),
+    "harmless_arm": (False, [("Deed::Halve => n / 2", "Deed::Halve => n")]),
+    "harmless_last_arm": (False, [("_ => n - 10", "_ => n - 11")]),
     # no longer there, there twice, and no text that can be read
     "stale": (False, [("n + 7", "n")]),
     "there_twice": (False, [("successor", "small")]),
