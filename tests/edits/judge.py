@@ -25,6 +25,8 @@ import tempfile
 import time
 
 sys.dont_write_bytecode = True
+sys.path.insert(0, os.path.dirname(os.path.abspath(__file__)))
+import arms
 
 
 def kit():
@@ -85,21 +87,38 @@ def functions_of(source, text):
         body = body_of(text, match, following) if is_plain else None
         path = f"{owner}::{match[2]}".removeprefix("::")
         is_of_trait = bool(match[1] and (block[1] or block[4]))
-        names_itself = bool(re.search(rf"\b{match[2]}\b", text[match.end() : end]))
-        found.append(Function(path, match.start(), end, (body, end) if body else None, is_of_trait, names_itself))
+        inside = text[brace_of(text, match, following) : end]
+        found.append(Function(path, match.start(), end, (body, end) if body else None, is_of_trait, calls_itself(path, module, bool(match[1]), inside)))
     return found
 
 
-def body_of(text, match, following):
-    """Where a function's body begins: behind clauses at a brace alone on its line, else at the first that ends a line. None where it has
-    no body, and where that is more than code: of a constant function, or of one that returns some type."""
+def brace_of(text, match, following):
+    """Where a function's body begins: behind clauses at a brace alone on its line, else at the first that ends a line; where it has none,
+    its end."""
     brace = re.compile(rf"^{match[1]}\{{\n" if CLAUSE.search(text, match.end(), following) else r"\{\n", re.M).search(text, match.end(), following)
-    if not brace:
+    return brace.end() - len("{\n") if brace else following
+
+
+def body_of(text, match, following):
+    """Where a function's body begins. None where it has no body, and where that is more than code: of a constant function, or of one that
+    returns some type."""
+    at = brace_of(text, match, following)
+    begun = text[match.start() : at]
+    if at == following or "const fn" in begun or re.search(r"-> impl\b", begun) or ";\n" in begun:
         return None
-    begun = text[match.start() : brace.start()]
-    if "const fn" in begun or re.search(r"-> impl\b", begun) or ";\n" in begun:
-        return None
-    return brace.start() + text[brace.start() :].index("{")
+    return at
+
+
+def calls_itself(path, module, is_method, body):
+    """Whether a body calls its own function, by how such a call is written: a method by its type or on what it is a method of, another
+    function by its name or its module. What else has the same name belongs to another type or module."""
+    owner, _, name = path.rpartition("::")
+    if is_method:
+        written = rf"(?:\bself\.|\b(?:Self|{re.escape(owner)})(?:::<[^()]*>)?::){name}\b"
+    else:
+        last = module.rpartition("::")[2] or "crate"
+        written = rf"(?<![\w.:]){name}\b|\b(?:self|{re.escape(last)})::{name}\b"
+    return bool(re.search(rf"(?:{written})\s*(?:::<[^()]*>)?\(", body))
 
 
 def module_of(source):
@@ -114,6 +133,8 @@ class Edit:
         self.name, self.why, self.pairs, self.places = name, why, pairs, places
         # In which twin of its function it is planted, where that isn't the function itself.
         self.number = 0
+        # The arm of its function's longest match that it stands in, with the match's other ones left out where it is planted.
+        self.arm = None
 
     def is_within_functions(self):
         return None not in self.places
@@ -213,8 +234,8 @@ def rename(path, old, new):
 
 
 def check(crate, texts, only, kept):
-    """What the prover says of these functions, in a copy of the crate with these texts in place of its own and all other functions
-    emptied."""
+    """What the prover says of these functions, and where they stand, in a copy of the crate with these texts in place of its own and all
+    other functions emptied."""
     with tempfile.TemporaryDirectory(prefix="judge-edit-") as room:
         for part in RT.rtlib.PARTS:
             if os.path.isdir(f"{crate.folder}/{part}"):
@@ -224,9 +245,20 @@ def check(crate, texts, only, kept):
                 file.write(text)
         prove_twins(room)
         emptied(crate, room, only)
+        spans = spans_of(room, only)
         flags = ["--jobs", "1", "--allow-holes", "--progress", *(word for path in sorted(only) for word in ("--only", path))]
         words = [RT.rtlib.RATTLE, "check", *crate.words(flags, keeps=False), *(["--incremental", kept] if kept else [])]
-        return run(crate, [*RT.rtlib.guarded(), *words], room)
+        return run(crate, [*RT.rtlib.guarded(), *words], room), spans
+
+
+def spans_of(room, only):
+    """Where functions stand in a copy: the file, and the first and last line."""
+    spans = {}
+    for source, text in sources_of(room)[0].items():
+        for it in functions_of(source, text):
+            if it.path in only:
+                spans[it.path] = source, text.count("\n", 0, it.start) + 1, text.count("\n", 0, it.end) + 1
+    return spans
 
 
 def run(crate, words, room):
@@ -259,7 +291,8 @@ def twin(path, number):
 
 def planted(crate, edits):
     """The texts of the files that edits change: each edit in the text of its function, as one may write what another one looks for, and
-    all edits of a function but the first in twins of it."""
+    all edits of a function but the first in twins of it. Of a function whose arms are left out no edit is the first: it has the arms of
+    its edits, as they are."""
     texts, made = {}, {}
     for edit in edits:
         for source, old, new in edit.pairs:
@@ -269,12 +302,20 @@ def planted(crate, edits):
             function = function_at(functions_of(source, texts[source]), texts[source].find(old))
             begin = with_attributes(texts[source], function) if edit.number else function.start
             key = source, function.end, edit.number, begin, function.path
-            made[key] = made.get(key, texts[source][begin : function.end]).replace(old, new)
+            text = texts[source][begin : function.end]
+            if edit.arm is not None:
+                body, kept = function.body[0], {it.arm for it in edits if it.places == edit.places}
+                text = texts[source][begin:body] + arms.with_arms(texts[source][body : function.end], {edit.arm})
+                first = texts[source][function.start : body] + arms.with_arms(texts[source][body : function.end], kept)
+                made[source, function.end, 0, function.start, function.path] = first
+            made[key] = made.get(key, text).replace(old, new)
     for (source, end, number, begin, path), text in sorted(made.items(), reverse=True):
         name = path.rpartition("::")[2]
         if number:
             text = "\n\n" + re.sub(rf"\bfn {name}\b", f"fn {twin(name, number)}", text, count=1)
         texts[source] = texts[source][: end if number else begin] + text + texts[source][end:]
+    for source in {source for edit in edits if edit.arm is not None for source, _, _ in edit.pairs}:
+        texts[source] += arms.LEFT_OUT
     return texts
 
 
@@ -297,9 +338,15 @@ def lines_of(place, said):
     return [(path.replace("::", "/"), text) for path, text in found]
 
 
-def is_refused_here(place, said):
+# What is said of a goal that has been found false: where its function stands, or its closure or call.
+FALSE = re.compile(r"(?m)^note: (src/\S+?):(\d+):\d+: .*; the facts known there allow values at which this goal is false$")
+
+
+def is_refused_here(place, said, spans):
     """Whether it is said of a function itself that it isn't proved, and not because of another one, or of a name in a proof file. A goal
     of its own takes the contracts of what it calls as given, so it counts whatever else isn't proved."""
+    source, first, last = spans.get(place, ("", 0, 0))
+    is_false = any(file == source and first <= int(line) <= last for file, line in FALSE.findall(said))
     for folder, line in lines_of(place, said):
         if line.startswith("no proof: ") and "`search` did not prove" in line:
             return True
@@ -307,39 +354,111 @@ def is_refused_here(place, said):
         # (one that calls itself has a folder with a plus)
         own = rf"{re.escape(f'{above}/' if above else '')}\+?{re.escape(name)}"
         errors = re.findall(rf"(?m)^\./proofs/{own}/\S+: error: (.*)$", said)
-        if line.startswith("not proved") and any(not OF_NAMES.search(it) for it in errors):
+        if line.startswith("not proved") and (is_false or any(not OF_NAMES.search(it) for it in errors)):
             return True
     return False
 
 
+def arm_of(crate, edit, functions, texts):
+    """The arm that an edit stands in of its function's longest match, where the other arms can be left out. They stay where the function has
+    proof files, since these may name goals of any arm, and where it can't have a twin."""
+    if len(edit.places) != 1 or not edit.is_within_functions():
+        return None
+    homes = {name: module_of(source) for source, text in texts.items() for name in TYPE.findall(text)}
+    found = set()
+    for source, old, new in edit.pairs:
+        function = function_at(functions[source], texts[source].find(old))
+        folder = f"{crate.folder}/proofs/{function.folder(source, homes)}"
+        if not function.body or function.is_single or os.path.isdir(folder):
+            return None
+        body = texts[source][function.body[0] : function.body[1]]
+        found.add(arms.arm_of(arms.longest(body), body.find(old), old, new))
+    return found.pop() if len(found) == 1 else None
+
+
+def is_as_it_was(place, said):
+    """Whether a function is as good as proved, with holes for what it calls."""
+    lines = [text for _, text in lines_of(place, said)]
+    return bool(lines) and all(text.startswith(("proved", "no holes", "depends on a hole")) for text in lines)
+
+
 def refused_together(crate, edits, kept):
-    """Of the edits that are planted together, those that are refused by a line of their own. None where nothing was judged, as where one
-    doesn't compile."""
-    said = check(crate, planted(crate, edits), {place for edit in edits for place in edit.planted_at()}, kept)
+    """Of the edits that are planted together, those that are refused by a line of their own; where arms are left out, only if what is left
+    is proved without the edit. None where nothing was judged, as where one doesn't compile."""
+    places = {place for edit in edits for place in edit.planted_at()}
+    shorter = {place for edit in edits if edit.arm is not None for place in edit.places}
+    said, spans = check(crate, planted(crate, edits), places | shorter, kept)
     if not re.search(r"(?m)^only=", said) or RT.rtlib.STALE.search(said):
         return None
-    return {edit.name for edit in edits if any(is_refused_here(place, said) for place in edit.planted_at())}
+    sound = [edit for edit in edits if all(is_as_it_was(place, said) for place in edit.places & shorter)]
+    return {edit.name for edit in sound if any(is_refused_here(place, said, spans) for place in edit.planted_at())}
 
 
 def in_rounds(crate, edits, functions, kept):
     """Plants edits together, one in each function and the further ones in twins of it; where it can't have one, as a method of a trait,
-    they wait for a later round. Answers which are refused, and which are left to be tried over the whole crate."""
+    they wait for a later round. What isn't refused with arms left out is planted in the whole function. Answers which are refused, and
+    which are left to be tried over the whole crate."""
     bound = {it.path for found in functions.values() for it in found if it.is_single}
     refused, alone, left = [], [], edits
     while left:
-        chosen, taken = [], {}
+        chosen, taken = [], {place: 1 for edit in left if edit.arm is not None for place in edit.places}
+        shorter = {*taken}
         for edit in left:
-            if not edit.places & taken.keys() or len(edit.places) == 1 and not edit.places & bound:
+            is_twin = len(edit.places) == 1 and not edit.places & bound
+            if is_twin or not edit.places & taken.keys():
                 edit.number = max(taken.get(place, 0) for place in edit.places)
                 chosen.append(edit)
                 taken.update((place, edit.number + 1) for place in edit.places)
         well = refused_together(crate, chosen, kept)
-        if well is None:
+        again = [edit for edit in chosen if edit.arm is not None and edit.name not in (well or ())]
+        if well is None and not again:
             well = {edit.name for edit in chosen if refused_together(crate, [edit], kept)}
+        for edit in again:
+            edit.arm = None
+        if well is None:
+            continue
         refused += [edit for edit in chosen if edit.name in well]
-        alone += [edit for edit in chosen if edit.name not in well]
-        left = [edit for edit in left if edit not in chosen]
+        alone += [edit for edit in chosen if edit.name not in well and edit not in again]
+        left = [edit for edit in left if edit not in chosen or edit in again]
     return refused, alone
+
+
+CONSTANT = re.compile(r"^[ ]*(?:pub(?:\([^)]*\))? )?const (\w+):", re.M)
+
+
+def users_of(edit, functions, texts):
+    """The functions that use the constant that an edit stands in; none where that can't be told, as where another constant uses it."""
+    found = set()
+    for source, old, _ in edit.pairs:
+        code, at = arms.blanked(texts[source]), texts[source].find(old)
+        items = [it for it in CONSTANT.finditer(code) if it.start() <= at < arms.first_outside(code, ";", it.end(), len(code))]
+        found.update((source, it[1], it.start(1)) for it in items)
+    if len(found) != 1:
+        return set()
+    home, name, place = found.pop()
+    users = set()
+    for source, text in texts.items():
+        code = arms.blanked(text)
+        for it in re.finditer(rf"\b{name}\b", code):
+            function = function_at(functions[source], it.start())
+            begun = code[code.rfind("\n", 0, it.start()) + 1 : it.start()]
+            if function and function.body:
+                users.add(function.path)
+            elif (source, it.start()) != (home, place) and not re.match(r"(pub(\([^)]*\))? |ghost )?use ", begun):
+                return set()
+    return users
+
+
+def is_refused_by_users(crate, edit, users, kept):
+    """Whether an edit of a constant is refused by a line of a function that uses it. It is planted by itself, since proofs of other
+    functions may speak of the constant too."""
+    texts = {}
+    for source, old, new in edit.pairs:
+        with open(f"{crate.folder}/{source}", encoding="utf-8") as file:
+            texts[source] = texts.get(source, file.read()).replace(old, new)
+    said, spans = check(crate, texts, users, kept)
+    is_judged = re.search(r"(?m)^only=", said) and not RT.rtlib.STALE.search(said)
+    return bool(is_judged) and any(is_refused_here(place, said, spans) for place in users)
 
 
 def judge_alone(crate, path, kept):
@@ -348,14 +467,21 @@ def judge_alone(crate, path, kept):
     return refused and "only because a proof file names" not in text, text
 
 
-def judge_harmless(crate, edits):
-    """The functions that the edits stand in, with whether they are as good as proved while no edit is planted."""
+def judge_harmless(crate, edits, functions, texts):
+    """The functions that edits stand in, or whose constants, and each further form in which they are planted, with whether it is as good as
+    proved while no edit is planted."""
     places = {place for edit in edits for place in edit.places if place}
-    said = check(crate, {}, places, None) if places else ""
-    for place in sorted(places):
-        lines = [text for _, text in lines_of(place, said)]
-        well = bool(lines) and all(text.startswith(("proved", "no holes", "depends on a hole")) for text in lines)
-        yield place, well, "; ".join(lines) or "nothing is said of it"
+    places |= {place for edit in edits if not edit.is_within_functions() for place in users_of(edit, functions, texts)}
+    said, _ = check(crate, {}, places, None) if places else ("", {})
+    shorter = [edit for edit in edits if edit.arm is not None]
+    for number, edit in enumerate(shorter):
+        edit.pairs, edit.number = [(source, old, old) for source, old, _ in edit.pairs], number + 1
+    forms = {place for edit in shorter for place in {*edit.planted_at(), *edit.places}}
+    said_of_forms, _ = check(crate, planted(crate, shorter), forms, None) if forms else ("", {})
+    for what, told in [(places, said), (forms, said_of_forms)]:
+        for place in sorted(what):
+            text = "; ".join(text for _, text in lines_of(place, told)) or "nothing is said of it"
+            yield place if told is said else f"{place}, shorter", is_as_it_was(place, told), text
 
 
 def judge(crate, folder, is_harmless):
@@ -373,12 +499,17 @@ def judge(crate, folder, is_harmless):
     told = [(name, False, "no edit has such a name") for name in names if not re.fullmatch(r"[a-z0-9_]+\.edit", name)]
     told += [(edit.name, False, f"it can't be planted: {edit.why}") for edit in edits if edit.why]
     good = [edit for edit in edits if not edit.why]
+    for edit in good:
+        edit.arm = arm_of(crate, edit, functions, texts)
     if is_harmless:
-        return [*judge_harmless(crate, good)]
+        return [*judge_harmless(crate, good, functions, texts)]
     with tempfile.TemporaryDirectory(prefix="judge-") as kept:
         refused, alone = in_rounds(crate, [edit for edit in good if edit.is_within_functions()], functions, kept)
+        for edit in (it for it in good if not it.is_within_functions()):
+            users = users_of(edit, functions, texts)
+            (refused if users and is_refused_by_users(crate, edit, users, kept) else alone).append(edit)
         told += [(edit.name, True, "refused") for edit in refused]
-        for edit in [*alone, *(it for it in good if not it.is_within_functions())]:
+        for edit in alone:
             well, text = judge_alone(crate, f"{where}/{edit.name}.edit", kept)
             told.append((edit.name, well, f"{'refused' if well else 'NOT REFUSED'}, alone: {text}"))
     return sorted(told)

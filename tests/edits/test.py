@@ -9,6 +9,9 @@ import sys
 import tempfile
 
 HERE = os.path.dirname(os.path.abspath(__file__))
+sys.path.insert(0, HERE)
+import arms
+import judge
 
 LIBRARY = """//! A library for the tests of the judge.
 #![tactic(auto)]
@@ -50,6 +53,63 @@ pub fn spread(n: u32) -> u32
     let doubled = n + n;
     doubled
 }
+
+/// What is done with a number.
+#[derive(Clone, Copy)]
+pub enum Deed {
+    Keep,
+    Raise,
+    Double,
+    Treble,
+    Halve,
+    Third,
+    Clear,
+    Least,
+    Both(u32),
+    Other(u32),
+}
+
+/// A number that no deed makes more than thrice as large, or than twenty.
+pub fn done(deed: Deed, n: u32) -> u32
+    requires { n < 1000 }
+    ensures { result ≤ 3 * n + 20 }
+{
+    let first = match deed {
+        Deed::Keep => n,
+        Deed::Raise => successor(n),
+        Deed::Double => n + n,
+        Deed::Treble => n + n + n,
+        Deed::Halve => n / 2,
+        Deed::Third => n / 3,
+        Deed::Clear => 0,
+        Deed::Least => {
+            let least = small(n);
+            least
+        }
+        Deed::Both(m) => small(m),
+        Deed::Other(other) => small(other),
+    };
+    first
+}
+
+/// A number less ten, or none.
+pub fn lowered(n: u32) -> u32
+    ensures { result ≤ n }
+{
+    match n {
+        0 => 0,
+        1 => 1,
+        2 => 1,
+        3 => 1,
+        4 => 1,
+        5 => 1,
+        6 => 1,
+        7 => 1,
+        8 | 9 => 1,
+        10 => 1,
+        _ => n - 10,
+    }
+}
 """
 
 ANSWERS = """use Rattle.std.proofs.Common.{arith}
@@ -72,6 +132,12 @@ EDITS = {
     "spread_harmlessly": (False, [("    let doubled = n + n;", "    let doubled = n + (n);")]),
     # proved, but for an answer that names what is gone
     "name_gone": (False, [("let doubled = n + n;", "let twice = n + n;"), ("    doubled", "    twice")]),
+    "most_is_one_less": (False, [("u32 = 20", "u32 = 19")]),
+    # in an arm of a long match: it makes more, it makes no more than it may, and it rests on what the arms above leave
+    "one_more_raised": (True, [("        Deed::Raise => successor(n),", "        Deed::Raise => successor(n) + 2000,")]),
+    "other_unbounded": (True, [("=> small(other)", "=> other")]),
+    "harmless_arm": (False, [("Deed::Halve => n / 2", "Deed::Halve => n")]),
+    "harmless_last_arm": (False, [("_ => n - 10", "_ => n - 11")]),
     # no longer there, there twice, and no text that can be read
     "stale": (False, [("n + 7", "n")]),
     "there_twice": (False, [("successor", "small")]),
@@ -109,6 +175,62 @@ def judged(root):
     return told, is_counted, ran.stdout + ran.stderr
 
 
+# What is called in a method of `Own`, and in a function of a module `own`, with whether that calls itself.
+CALLS = [
+    ("self.same(n)", True, False),
+    ("Self::same(self, n)", True, False),
+    ("Own::same(self, n)", True, False),
+    ("self.other.same(n)", False, False),
+    ("Other::same(n)", False, False),
+    ("same(n)", False, True),
+    ("crate::own::same(n)", False, True),
+    ("other::same(n)", False, False),
+    ("self.same", False, False),
+]
+
+
+def calls_are_told():
+    """Whether a function's calls of itself are told from those of what shares its name."""
+    clause = "    ensures { result ≡ same n }\n"
+    for called, as_method, as_function in CALLS:
+        method = f"impl Own {{\n    fn same(&self, n: u8) -> u8\n    {clause}    {{\n        {called}\n    }}\n}}\n"
+        function = f"fn same(n: u8) -> u8\n{clause}{{\n    {called}\n}}\n"
+        for text, wanted in [(method, as_method), (function, as_function)]:
+            if [it.is_single for it in judge.functions_of("src/own.rt", text)] != [wanted]:
+                return False
+    return True
+
+
+def rests_on_the_unedited():
+    """Whether an edit with arms left out counts only where what is left is proved without it."""
+    edit = judge.Edit("some", None, [], {"own::same"})
+    edit.arm, edit.number = 3, 1
+    refused = "fn low::own::same_edited_1: no proof: `search` did not prove `returns`\nonly=2\n"
+    answers = []
+    for unedited in ["depends on a hole in `x`", "no holes", "no proof: `search` did not prove `returns`", "not proved"]:
+        judge.planted = lambda *_: {}
+        judge.check = lambda *_, said=f"fn low::own::same: {unedited}\n{refused}": (said, {})
+        answers.append(judge.refused_together(None, [edit], None))
+    return answers == [{"some"}, {"some"}, set(), set()]
+
+
+def arms_are_told():
+    """Whether only an edit of an arm's body has an arm, and a pattern stays where it may take what the edited arm takes."""
+    named = "".join(f"        Kind::Case{it}(n) => n + {it},\n" for it in "ABCDEFGHIJ")
+    text = f"{{\n    match kind {{\n{named}    }}\n}}"
+    found = arms.longest(text)
+    arm = lambda old, new: arms.arm_of(found, text.find(old), old, new)
+    numbers = "".join(f"        {it} => n + {it},\n" for it in range(10))
+    counted = arms.with_arms(f"{{\n    match kind {{\n{numbers}        _ => n,\n    }}\n}}", {10})
+    return (
+        (arm("Kind::CaseC(n) => n + C", "Kind::CaseC(n) => n"), arm("match kind", "match other")) == (2, None)
+        and (arm("CaseC(n) =>", "CaseC(_) =>"), arm("n + C,\n        Kind::CaseD(n) => n + D", "0, _ => 1")) == (None, None)
+        and arms.with_arms(text, {2}).split() == "{ match kind { Kind::CaseC(n) => n + C, _ => left_out(), } }".split()
+        and all(f"{it} => left_out()," in counted for it in range(10))
+        and "_ => n," in counted
+    )
+
+
 def main():
     passed = failed = 0
     with tempfile.TemporaryDirectory(prefix="judged-") as root:
@@ -129,6 +251,9 @@ def main():
             (harmless.returncode == 0 and unplanted.keys() >= {"successor", "after_next", "small", "spread"}, harmless.stdout),
             (second == {"one_more_forgotten": True, "unreadable": False}, said_too),
             (is_counted_too, said_too),
+            (calls_are_told(), "a call is told wrongly"),
+            (arms_are_told(), "an arm is told wrongly"),
+            (rests_on_the_unedited(), "an edit counts though what is left isn't proved without it"),
         ]:
             passed, failed = passed + well, failed + (not well)
             if not well:
