@@ -12,9 +12,11 @@ ghost use Rattle.zflow.specs.Flow.{IsFlow};
 ghost use Rattle.zflow.specs.Transfer.{argument_sets};
 ghost use Rattle.zrule.specs.declared.rule.Rule.{Rule as ARule};
 ghost use Rattle.zrule.specs.declared.rule.Rule.TheVariants.{Successor};
+ghost use Rattle.zrule.specs.Blocks.{AreBlocks};
 ghost use Rattle.zrule.specs.Claims.{claims_of, entry_of, Entry};
 ghost use Rattle.zrule.specs.Rules.{Asks, IsThere, HasFixedText, Keeps, IsLowestBroken};
 
+use crate::blocks::Blocks;
 use crate::edges::{enters, goes_on, is_low, returns, stores};
 use crate::objects::{names_attribute, names_object};
 use crate::operands::{has_height, has_locals, is_known};
@@ -148,6 +150,7 @@ fn asks<V: Spelled>(site: Site<'_, V>, flow: &Flow<'_, V>, rule: Rule) -> bool
         listed,
         instruction,
         near: _,
+        blocks: _,
     } = site;
     let demands = &flow.demands;
     match rule {
@@ -202,6 +205,7 @@ fn broken_rule<V: Spelled>(
         listed,
         certificate.instruction_count(),
         &mut ends,
+        None,
     ) {
         Ok(_) => None,
         Err(rule) => Some(rule),
@@ -210,15 +214,18 @@ fn broken_rule<V: Spelled>(
 
 /// A listed instruction as the story spells it, where it keeps all rules, and else the lowest rule that it breaks (own).
 /// `ends` are those of the texts of the story's memory. The instruction behind it is looked for at the index `near` first, and
-/// searched for where another is listed there.
+/// searched for where another is listed there. `blocks` is what is known of the certificate's routines for the story: with it a call
+/// asks once for all routines of a block, and else for each that it may enter. The answer is the same.
 pub fn judge<V: Spelled>(
     story: &Story,
     certificate: &Certificate<V>,
     listed: &Instruction<'_, V>,
     near: usize,
     ends: &mut TextEnds<'_>,
+    blocks: Option<&Blocks<V>>,
 ) -> Result<Instr, Rule>
     requires ends { ends.old ≡ story.now.memory }
+    requires blocks { IfSome blocks (λ b. AreBlocks V.operations (claims_of V.operations certificate.now) story.now b.now) }
     ensures memory { ends.new ≡ ends.old }
     ensures there { IfOk result (λ i. IsThere story.now listed.now.address i) }
     ensures kept { IfOk result (λ i. (rule : ARule) → Keeps V.operations (claims_of V.operations certificate.now) story.now listed.now.address (entry_of (seen listed.now)) rule) }
@@ -240,6 +247,7 @@ pub fn judge<V: Spelled>(
         listed,
         instruction: &instruction,
         near,
+        blocks,
     };
     for rule in RULES {
         if !keeps(site, &flow, rule) {
