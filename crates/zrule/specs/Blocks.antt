@@ -1,6 +1,5 @@
 -- What is known of routines that begin at packed addresses side by side, so that a rule is asked of all of them at once (own).
-use Rattle.std.specs.Prelude.{◌≡◌, ℕ, ◌+◌, ◌*◌, ◌<◌, ◌≤◌, List, [], ◌∷◌, Some, slice_get}
-use Rattle.std.specs.Bool.{OnTrue}
+use Rattle.std.specs.Prelude.{◌≡◌, ℕ, ◌+◌, ◌*◌, ◌<◌, ◌≤◌, List, [], ◌∷◌, IfSome, Some, slice_get}
 use Rattle.zstory.specs.LoadedStory.{LoadedStory}
 use Rattle.zdomain.specs.Domain.{SetOperations, Within}
 use Rattle.zstate.specs.Step.{unpacked}
@@ -34,10 +33,10 @@ module _ {V : Type 0} (o : SetOperations V) (claims : Claims V) where
     -- what a block says is so, from its base on
     pub record IsBlock (base : ℕ) (block : Block V) : Type 0 where
       pub gives : EachGives base block.gives
-      pub zero : OnTrue block.zero (EachBegins base Zero)
-      pub one : OnTrue block.one (EachBegins base (One block.first))
-      pub two : OnTrue block.two (EachBegins base (Two block.first block.second))
-      pub three : OnTrue block.three (EachBegins base (Three block.first block.second block.third))
+      pub zero : IfSome block.zero (EachBegins base)
+      pub one : IfSome block.one (EachBegins base)
+      pub two : IfSome block.two (EachBegins base)
+      pub three : IfSome block.three (EachBegins base)
 
     -- the first block begins at 0, and each other behind the one before
     abbrev pub AreBlocks : List (Block V) → Type 0

@@ -1,6 +1,8 @@
 //! The arguments that a routine is called with.
 
-ghost use Rattle.std.specs.Prelude.{◌≡◌, drop, slice_get};
+ghost use Rattle.std.specs.Prelude.{◌≡◌, ◌↔◌, IsTrue, drop, slice_get};
+ghost use Rattle.std.specs.List.{AllZip};
+ghost use Rattle.zdomain.specs.Domain.{Within};
 ghost use Rattle.zcert.specs.Listed.{seen};
 ghost use Rattle.zflow.specs.Transfer.{argument_sets};
 ghost use Rattle.zrule.specs.Blocks.{sets_of};
@@ -41,6 +43,23 @@ impl<V: Domain> Arguments<V> {
             Arguments::One(_) => Arguments::Zero,
             Arguments::Two(_, second) => Arguments::One(second),
             Arguments::Three(_, second, third) => Arguments::Two(second, third),
+        }
+    }
+
+    /// Whether there are as many others, and each set lies in that of the other.
+    pub(crate) fn are_within(self, others: Arguments<V>) -> bool
+        ensures { IsTrue result ↔ AllZip (Within V.operations) (sets_of self) (sets_of others) }
+    {
+        match (self, others) {
+            (Arguments::Zero, Arguments::Zero) => true,
+            (Arguments::One(first), Arguments::One(other)) => first.is_within(other),
+            (Arguments::Two(first, second), Arguments::Two(other, next)) => {
+                first.is_within(other) && second.is_within(next)
+            }
+            (Arguments::Three(first, second, third), Arguments::Three(other, next, last)) => {
+                first.is_within(other) && second.is_within(next) && third.is_within(last)
+            }
+            _ => false,
         }
     }
 }

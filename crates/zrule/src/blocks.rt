@@ -3,9 +3,11 @@
 ghost use Rattle.std.specs.Prelude.{◌≡◌, ◌↔◌, ◌*◌, ◌/◌, ◌≤◌, IfOk, IfSome, IsTrue, Some, length, slice_get};
 ghost use Rattle.zrule.specs.Blocks.{AreBlocks, EachBegins, EachGives, IsBlock, sets_of};
 ghost use Rattle.zrule.specs.Claims.{claims_of};
+ghost use Rattle.zrule.specs.Rules.{result_at};
+ghost use Rattle.zstate.specs.Step.{unpacked};
 
 use crate::arguments::Arguments;
-use crate::callees::{begins, result_at, result_of};
+use crate::callees::{begins, result_of};
 use crate::choosing::tried_set;
 use std::alloc::{AllocError, Global};
 use std::marker::Model;
@@ -24,37 +26,38 @@ const BLOCKS: u16 = 1024;
 pub struct Block<V> {
     /// A set that has whatever they give.
     pub gives: V,
-    /// Whether one begins at each address with no argument, and with the first one, two and three of the sets.
-    pub zero: bool,
-    pub one: bool,
-    pub two: bool,
-    pub three: bool,
-    pub first: V,
-    pub second: V,
-    pub third: V,
+    /// Arguments with which one begins at each address, where such are known: none, one, two and three of them.
+    pub zero: Option<Arguments<V>>,
+    pub one: Option<Arguments<V>>,
+    pub two: Option<Arguments<V>>,
+    pub three: Option<Arguments<V>>,
 }
 
 impl<V: Domain> Block<V> {
-    ghost use Rattle.std.specs.Prelude.{ℕ};
+    ghost use Rattle.std.specs.Prelude.{ℕ, IfSome, IsTrue};
     ghost use Rattle.zstory.specs.LoadedStory.{LoadedStory};
+    ghost use Rattle.zrule.specs.Blocks.{EachBegins, IsBlock};
     ghost use Rattle.zrule.specs.Claims.{Claims};
+
+    /// Arguments with which a routine is known to begin at each address, as many as these, if there are some.
+    fn widest(&self, arguments: Arguments<V>) -> Option<Arguments<V>>
+        ensures { (claims : Claims V) (story : LoadedStory) (base : ℕ) → IsBlock V.operations claims story base self.now → IfSome result (EachBegins V.operations claims story base) }
+    {
+        match arguments {
+            Arguments::Zero => self.zero,
+            Arguments::One(_) => self.one,
+            Arguments::Two(_, _) => self.two,
+            Arguments::Three(_, _, _) => self.three,
+        }
+    }
 
     /// Whether a routine is known to begin at each address with these arguments.
     pub(crate) fn begins_with(&self, arguments: Arguments<V>) -> bool
         ensures { (claims : Claims V) (story : LoadedStory) (base : ℕ) → IsTrue result → IsBlock V.operations claims story base self.now → EachBegins V.operations claims story base arguments }
     {
-        match arguments {
-            Arguments::Zero => self.zero,
-            Arguments::One(first) => self.one && first.is_within(self.first),
-            Arguments::Two(first, second) => {
-                self.two && first.is_within(self.first) && second.is_within(self.second)
-            }
-            Arguments::Three(first, second, third) => {
-                self.three
-                    && first.is_within(self.first)
-                    && second.is_within(self.second)
-                    && third.is_within(self.third)
-            }
+        match self.widest(arguments) {
+            Some(wide) => arguments.are_within(wide),
+            None => false,
         }
     }
 }
@@ -67,6 +70,7 @@ pub struct Blocks<V> {
 
 impl<V> Model for Blocks<V> {
     ghost use Rattle.std.specs.Prelude.{List};
+    ghost use Rattle.zrule.specs.declared.blocks.Block.{Block};
 
     ghost Value = { List (Block V) };
 
@@ -101,7 +105,7 @@ impl<V: Spelled> Blocks<V> {
     }
 }
 
-/// What is known of the routines of the block from a packed address on. Nothing is taken of the sets that are tried but what comes of it.
+/// What is known of the routines of the block from a packed address on.
 fn block_from<V: Spelled>(story: &Story, certificate: &Certificate<V>, base: u16) -> Block<V>
     requires { base ≤ 65472 }
     ensures { IsBlock V.operations (claims_of V.operations certificate.now) story.now base result }
@@ -109,20 +113,13 @@ fn block_from<V: Spelled>(story: &Story, certificate: &Certificate<V>, base: u16
     let first = tried_set(story, certificate, base, 0);
     let second = tried_set(story, certificate, base, 1);
     let third = tried_set(story, certificate, base, 2);
+    let three = Arguments::Three(first, second, third);
     Block {
         gives: given_by_each(certificate, base),
-        zero: each_begins(story, certificate, base, Arguments::Zero),
-        one: each_begins(story, certificate, base, Arguments::One(first)),
-        two: each_begins(story, certificate, base, Arguments::Two(first, second)),
-        three: each_begins(
-            story,
-            certificate,
-            base,
-            Arguments::Three(first, second, third),
-        ),
-        first,
-        second,
-        third,
+        zero: if_each_begins(story, certificate, base, Arguments::Zero),
+        one: if_each_begins(story, certificate, base, Arguments::One(first)),
+        two: if_each_begins(story, certificate, base, Arguments::Two(first, second)),
+        three: if_each_begins(story, certificate, base, three),
     }
 }
 
@@ -131,30 +128,42 @@ fn given_by_each<V: Spelled>(certificate: &Certificate<V>, base: u16) -> V
     requires { base ≤ 65472 }
     ensures { EachGives V.operations (claims_of V.operations certificate.now) base result }
 {
-    let mut gives = result_at(certificate, 2 * u32::from(base));
+    let Some(mut gives) = given_at(certificate, base) else {
+        return V::any();
+    };
     for offset in 1..BLOCK_LENGTH {
-        let Some(index) = certificate.routine_index(2 * u32::from(base + offset)) else {
+        let Some(given) = given_at(certificate, base + offset) else {
             return V::any();
         };
-        gives = gives.join(result_of(certificate, index));
+        gives = gives.join(given);
     }
     gives
 }
 
-/// Whether a routine begins at each address of a block, with these arguments.
-fn each_begins<V: Spelled>(
+/// The values that the routine at a packed address may give, if one begins there.
+fn given_at<V: Spelled>(certificate: &Certificate<V>, packed: u16) -> Option<V>
+    ensures { IfSome result (λ given. given ≡ result_at V.operations (claims_of V.operations certificate.now) (unpacked packed)) }
+{
+    match certificate.routine_index(2 * u32::from(packed)) {
+        Some(index) => Some(result_of(certificate, index)),
+        None => None,
+    }
+}
+
+/// Arguments, where a routine begins with them at each address of a block.
+fn if_each_begins<V: Spelled>(
     story: &Story,
     certificate: &Certificate<V>,
     base: u16,
     arguments: Arguments<V>,
-) -> bool
+) -> Option<Arguments<V>>
     requires { base ≤ 65472 }
-    ensures { IsTrue result ↔ EachBegins V.operations (claims_of V.operations certificate.now) story.now base arguments }
+    ensures { IfSome result (EachBegins V.operations (claims_of V.operations certificate.now) story.now base) }
 {
     for offset in 0..BLOCK_LENGTH {
-        if !begins(story, certificate, arguments, 2 * u32::from(base + offset)) {
-            return false;
+        if !begins(story, certificate, arguments, base + offset) {
+            return None;
         }
     }
-    true
+    Some(arguments)
 }

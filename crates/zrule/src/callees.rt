@@ -7,7 +7,7 @@ ghost use Rattle.zcode.specs.Operation.{target};
 ghost use Rattle.zstate.specs.Step.{behind_head, unpacked, words_from};
 ghost use Rattle.zflow.specs.Transfer.{argument_sets, with_result};
 ghost use Rattle.zcert.specs.Listed.{seen};
-ghost use Rattle.zrule.specs.Blocks.{InBlock, IsBlock, sets_of};
+ghost use Rattle.zrule.specs.Blocks.{AreBlocks, InBlock, IsBlock, sets_of};
 ghost use Rattle.zrule.specs.Claims.{Claims, claims_of, entry_of};
 ghost use Rattle.zrule.specs.Edges.{CalleeKeeps, IsNextAbove};
 ghost use Rattle.zrule.specs.Rules.{Begins, EachCallee, Leads, Starts, result_at};
@@ -30,7 +30,8 @@ pub(crate) fn callees_keep<V: Spelled>(
     after: &Known<'_, V>,
     rule: Rule,
 ) -> bool
-    requires { site.listed.now.address + site.instruction.now.size ≤ 131072 }
+    requires near { site.listed.now.address + site.instruction.now.size ≤ 131072 }
+    requires told { IfSome site.blocks (λ b. AreBlocks V.operations (claims_of V.operations site.certificate.now) site.story.now b.now) }
     ensures { IsTrue result ↔ EachCallee V.operations (claims_of V.operations site.entry.certificate.now) set (CalleeKeeps V.operations (claims_of V.operations site.entry.certificate.now) site.entry.story.now (argument_sets V.operations site.entry.certificate.now.globals site.entry.instruction.now (entry_of (seen site.entry.listed.now)).shape) site.entry.listed.now.routine (site.entry.listed.now.address + site.entry.instruction.now.size) (target site.entry.instruction.now) rule after.now) }
 {
     let arguments = arguments_of(site);
@@ -60,7 +61,8 @@ fn kept_to<V: Spelled>(
     after: &Known<'_, V>,
     rule: Rule,
 ) -> Option<u16>
-    requires { site.listed.now.address + site.instruction.now.size ≤ 131072 }
+    requires near { site.listed.now.address + site.instruction.now.size ≤ 131072 }
+    requires told { IfSome site.blocks (λ b. AreBlocks V.operations (claims_of V.operations site.certificate.now) site.story.now b.now) }
     ensures kept { IfSome result (λ last. (packed ≤ last) × ((x : ℕ) → packed ≤ x → x ≤ last → CalleeKeeps V.operations (claims_of V.operations site.entry.certificate.now) site.entry.story.now (sets_of arguments) site.entry.listed.now.routine (site.entry.listed.now.address + site.entry.instruction.now.size) (target site.entry.instruction.now) rule after.now (unpacked x))) }
     ensures broken { IfNone result (CalleeKeeps V.operations (claims_of V.operations site.entry.certificate.now) site.entry.story.now (sets_of arguments) site.entry.listed.now.routine (site.entry.listed.now.address + site.entry.instruction.now.size) (target site.entry.instruction.now) rule after.now (unpacked packed) → ⊥) }
 {
@@ -81,7 +83,8 @@ fn is_block_kept<V: Spelled>(
     after: &Known<'_, V>,
     rule: Rule,
 ) -> bool
-    requires { site.listed.now.address + site.instruction.now.size ≤ 131072 }
+    requires near { site.listed.now.address + site.instruction.now.size ≤ 131072 }
+    requires told { IfSome site.blocks (λ b. AreBlocks V.operations (claims_of V.operations site.certificate.now) site.story.now b.now) }
     ensures room { IsTrue result → packed ≤ 65472 }
     ensures kept { IsTrue result → InBlock packed (λ x. CalleeKeeps V.operations (claims_of V.operations site.entry.certificate.now) site.entry.story.now (sets_of arguments) site.entry.listed.now.routine (site.entry.listed.now.address + site.entry.instruction.now.size) (target site.entry.instruction.now) rule after.now (unpacked x)) }
 {
@@ -123,7 +126,7 @@ fn callee_keeps<V: Spelled>(
 {
     let place = 2 * u32::from(packed);
     match rule {
-        Rule::Called => begins(site.story, site.certificate, arguments, place),
+        Rule::Called => begins(site.story, site.certificate, arguments, packed),
         Rule::Successor => leads_given(site, after, result_at(site.certificate, place)),
         Rule::Stored => takes(
             site.certificate,
@@ -154,8 +157,20 @@ pub(crate) fn result_of<V: Spelled>(certificate: &Certificate<V>, index: usize) 
     }
 }
 
-/// Whether a routine begins at a place, with these arguments.
+/// Whether a routine begins at a packed address, with these arguments.
 pub(crate) fn begins<V: Spelled>(
+    story: &Story,
+    certificate: &Certificate<V>,
+    arguments: Arguments<V>,
+    packed: u16,
+) -> bool
+    ensures { IsTrue result ↔ Begins V.operations (claims_of V.operations certificate.now) story.now (sets_of arguments) (unpacked packed) }
+{
+    begins_at(story, certificate, arguments, 2 * u32::from(packed))
+}
+
+/// Whether a routine begins at a place, with these arguments.
+fn begins_at<V: Spelled>(
     story: &Story,
     certificate: &Certificate<V>,
     arguments: Arguments<V>,

@@ -1,5 +1,7 @@
 //! The sets that the routines of a block are tried with: they decide how often a rule is asked, and never what is answered.
 
+ghost use Rattle.std.specs.Prelude.{◌≤◌};
+
 use crate::blocks::BLOCK_LENGTH;
 use crate::callees::byte_at;
 use zcert::{Certificate, Spelled};

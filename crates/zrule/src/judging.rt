@@ -83,7 +83,8 @@ fn divides<V: Spelled>(demands: &Demands<V>) -> bool
 
 /// Whether an edge keeps a rule.
 fn edge_keeps<V: Spelled>(site: Site<'_, V>, edge: &Edge<'_, V>, rule: Rule) -> bool
-    requires { site.listed.now.address + site.instruction.now.size ≤ 131072 }
+    requires near { site.listed.now.address + site.instruction.now.size ≤ 131072 }
+    requires told { IfSome site.blocks (λ b. AreBlocks V.operations (claims_of V.operations site.certificate.now) site.story.now b.now) }
     ensures { IsTrue result ↔ EdgeKeeps V.operations (claims_of V.operations site.entry.certificate.now) site.entry.story.now (argument_sets V.operations site.entry.certificate.now.globals site.entry.instruction.now (entry_of (seen site.entry.listed.now)).shape) site.entry.listed.now.routine (site.entry.listed.now.address + site.entry.instruction.now.size) (target site.entry.instruction.now) rule edge.now }
 {
     match rule {
@@ -98,7 +99,8 @@ fn edge_keeps<V: Spelled>(site: Site<'_, V>, edge: &Edge<'_, V>, rule: Rule) -> 
 
 /// Whether both edges do, where they can be taken.
 fn edges_keep<V: Spelled>(site: Site<'_, V>, flow: &Flow<'_, V>, rule: Rule) -> bool
-    requires { site.listed.now.address + site.instruction.now.size ≤ 131072 }
+    requires near { site.listed.now.address + site.instruction.now.size ≤ 131072 }
+    requires told { IfSome site.blocks (λ b. AreBlocks V.operations (claims_of V.operations site.certificate.now) site.story.now b.now) }
     ensures { IsTrue result ↔ EdgesKeep V.operations (claims_of V.operations site.entry.certificate.now) site.entry.story.now (argument_sets V.operations site.entry.certificate.now.globals site.entry.instruction.now (entry_of (seen site.entry.listed.now)).shape) site.entry.listed.now.routine (site.entry.listed.now.address + site.entry.instruction.now.size) (target site.entry.instruction.now) rule flow.now }
 {
     let held = match &flow.held {
@@ -126,6 +128,7 @@ fn has_successors<V: Spelled>(site: Site<'_, V>, flow: &Flow<'_, V>) -> bool
     requires there { IsThere site.story.now site.listed.now.address site.instruction.now }
     requires near { site.listed.now.address + site.instruction.now.size ≤ 131072 }
     requires flow { IsFlow V.operations site.certificate.now.globals site.story.now site.instruction.now (entry_of (seen site.listed.now)).shape flow.now }
+    requires told { IfSome site.blocks (λ b. AreBlocks V.operations (claims_of V.operations site.certificate.now) site.story.now b.now) }
     ensures { IsTrue result ↔ Asks V.operations (claims_of V.operations site.entry.certificate.now) site.entry.story.now site.entry.listed.now.address (entry_of (seen site.entry.listed.now)) site.entry.instruction.now Successor }
 {
     if !divides(&flow.demands) {
@@ -142,6 +145,7 @@ fn asks<V: Spelled>(site: Site<'_, V>, flow: &Flow<'_, V>, rule: Rule) -> bool
     requires there { IsThere site.story.now site.listed.now.address site.instruction.now }
     requires near { site.listed.now.address + site.instruction.now.size ≤ 131072 }
     requires flow { IsFlow V.operations site.certificate.now.globals site.story.now site.instruction.now (entry_of (seen site.listed.now)).shape flow.now }
+    requires told { IfSome site.blocks (λ b. AreBlocks V.operations (claims_of V.operations site.certificate.now) site.story.now b.now) }
     ensures { IsTrue result ↔ Asks V.operations (claims_of V.operations site.entry.certificate.now) site.entry.story.now site.entry.listed.now.address (entry_of (seen site.entry.listed.now)) site.entry.instruction.now rule }
 {
     let Site {
@@ -184,6 +188,7 @@ fn keeps<V: Spelled>(site: Site<'_, V>, flow: &Flow<'_, V>, rule: Rule) -> bool
     requires there { IsThere site.story.now site.listed.now.address site.instruction.now }
     requires near { site.listed.now.address + site.instruction.now.size ≤ 131072 }
     requires flow { IsFlow V.operations site.certificate.now.globals site.story.now site.instruction.now (entry_of (seen site.listed.now)).shape flow.now }
+    requires told { IfSome site.blocks (λ b. AreBlocks V.operations (claims_of V.operations site.certificate.now) site.story.now b.now) }
     ensures { IsTrue result ↔ Keeps V.operations (claims_of V.operations site.entry.certificate.now) site.entry.story.now site.entry.listed.now.address (entry_of (seen site.entry.listed.now)) rule }
 {
     asks(site, flow, rule)
@@ -199,13 +204,14 @@ fn broken_rule<V: Spelled>(
     ensures { MatchOption result ((rule : ARule) → Keeps V.operations (claims_of V.operations certificate.now) story.now listed.now.address (entry_of (seen listed.now)) rule) (IsLowestBroken V.operations (claims_of V.operations certificate.now) story.now listed.now.address (entry_of (seen listed.now))) }
 {
     let mut ends = TextEnds::new(story.memory());
+    let unknown: Option<&Blocks<V>> = None;
     match judge(
         story,
         certificate,
         listed,
         certificate.instruction_count(),
         &mut ends,
-        None,
+        unknown,
     ) {
         Ok(_) => None,
         Err(rule) => Some(rule),
