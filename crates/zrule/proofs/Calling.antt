@@ -67,11 +67,11 @@ module _ {V : Type 0} (o : SetOperations V) (claims : Claims V) where
 
   -- as the code reads its head, from a list that is the memory
   pub begins_by : (story : LoadedStory) (args : List V) (p index : ℕ) (first : Entry V) (memory : List ℕ) (count code : ℕ) → memory ≡ story.memory → count ≡ byte_at memory p → code ≡ p + 1 + 2 * count → claims.routine_at p ≡ Some index → claims.entry code ≡ Some first
-      → Begins o claims story args p ↔ (((first.routine ≡ suc index) × (first.shape.slots ≡ [])) × Starts o claims args (words_from story.memory (p + 1) count) first.shape.locals)
+      → Begins o claims story args p ↔ (((first.routine ≡ suc index) × (first.shape.slots ≡ [])) × Starts o claims args (words_from memory (p + 1) count) first.shape.locals)
   begins_by story args p index first memory count code memory_is count_is code_is routine listed =
       let code_there : code ≡ behind_head story.memory p = rw (code_is, count_is, memory_is) refl in
       let told = begins_where story args p index first routine (subst (λ (n : ℕ). claims.entry n ≡ Some first) code_there listed) in
-      let words : words_from story.memory (p + 1) count ≡ initial story.memory p = rw (count_is, memory_is) refl in
+      let words : words_from memory (p + 1) count ≡ initial story.memory p = rw (count_is, memory_is) refl in
       (λ b. let parts = told.0 b in ((parts.0, parts.1), subst (λ (ws : List ℕ). Starts o claims args ws first.shape.locals) (sym words) parts.2), λ h. told.1 (h.0.0, h.0.1, subst (λ (ws : List ℕ). Starts o claims args ws first.shape.locals) words h.1))
 
   pub begins_nowhere : (story : LoadedStory) (args : List V) (p : ℕ) → claims.routine_at p ≡ None → Begins o claims story args p → ⊥

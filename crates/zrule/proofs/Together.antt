@@ -1,14 +1,20 @@
 -- What holds of a block holds of each routine in it.
-use Rattle.std.proofs.Common.{◌≡◌, ◌⊎◌, inl, inr, ℕ, zero, suc, ◌+◌, ◌-◌, ◌<◌, ◌≤◌, arith, subst, sym, Bool, true, false, List, [], ◌∷◌, Option, Some, None}
-use Rattle.std.specs.Prelude.{◌==◌, nat_lt, if◌then◌else◌, MatchOption, slice_get, slice_set}
+use Rattle.std.proofs.Common.{◌≡◌, ◌⊎◌, inl, inr, ℕ, zero, suc, ◌+◌, ◌-◌, ◌<◌, ◌≤◌, arith, subst, sym, Bool, true, false, List, [], ◌∷◌, ◌++◌, ◌*◌, ◌/◌, length, Option, Some, None, refl, ap, ◌∙◌}
+use Rattle.std.specs.Prelude.{◌==◌, nat_lt, if◌then◌else◌, IfSome, MatchOption, slice_get, slice_set}
 use Rattle.std.specs.Bool.{MatchBool}
 use Rattle.std.specs.List.{AllZip}
 use Rattle.zstory.specs.LoadedStory.{LoadedStory}
 use Rattle.std.proofs.lemmas.Bool.{cases_lt}
+use Rattle.std.proofs.lemmas.Option.{same_Some}
+use Rattle.zrule.specs.declared.blocks.Block.{Block}
+use Rattle.zrule.specs.Blocks.{AreBlocks, IsBlock}
 use Rattle.zdomain.specs.Domain.{AreSound, In, SetOperations, Within}
 use Rattle.zflow.specs.Transfer.{Shape, locals_with, slots_with, with_result}
 use Rattle.zrule.specs.Claims.{Claims}
-use Rattle.zrule.specs.Rules.{Begins, Covers, Leads, Starts, Takes}
+use Rattle.zrule.specs.declared.rule.Rule.{Rule}
+use Rattle.zrule.specs.declared.rule.Rule.TheVariants as rules
+use Rattle.zrule.specs.Edges.{CalleeKeeps}
+use Rattle.zrule.specs.Rules.{Begins, Leads, Starts, Takes, result_at}
 
 module _ {V : Type 0} (o : SetOperations V) (claims : Claims V) where
   -- with fewer values for each argument a routine begins as well
@@ -63,6 +69,10 @@ module _ {V : Type 0} (o : SetOperations V) (claims : Claims V) where
     };
   }
 
+  -- where each value that the block's routines give may come back, that of one of them may
+  pub successor_kept : (story : LoadedStory) (args : List V) (routine next v : ℕ) (rule : Rule) → rule ≡ rules.Successor → (f : Shape V) (p : ℕ) (gives : V) → Leads o claims routine (with_result (Some gives) v f) next → Within o (result_at o claims p) gives → CalleeKeeps o claims story args routine next v rule f p
+  successor_kept story args routine next v rule is f p gives leads within = rw is (leads_narrower routine f v next (result_at o claims p) gives within leads)
+
 -- what holds of so many places from a base on, and of the next, holds of one more
 pub one_further : (P : ℕ → Type 0) (base offset : ℕ) → ((x : ℕ) → base ≤ x → x < base + offset → P x) → P (base + offset) → (x : ℕ) → base ≤ x → x < base + (offset + 1) → P x
 one_further P base offset before here x above below = by_case (cases_lt x (base + offset))
@@ -85,3 +95,30 @@ module _ {V : Type 0} (o : SetOperations V) (sound : AreSound o) (given : ℕ �
 
   pub gives_any : (x : ℕ) (a : V) → a ≡ o.any → Within o (given x) a
   gives_any x a is y inside = subst (λ v. In o v y) (sym is) (sound.any y inside.word)
+
+-- ---- blocks in their order
+
+module _ {V : Type 0} (o : SetOperations V) (claims : Claims V) (story : LoadedStory) where
+  pub block_there : (blocks : List (Block V)) (packed : ℕ) (found : Option (Block V)) → AreBlocks o claims story blocks → IfSome found (λ block. (slice_get blocks (packed / 64) ≡ Some block) × (packed ≡ 64 * (packed / 64))) → IfSome found (IsBlock o claims story packed)
+  block_there blocks packed None are is = tt
+  block_there blocks packed (Some block) are is = subst (λ p. IsBlock o claims story p block) (sym is.1) (are (packed / 64) block is.0)
+
+  pub none_yet : AreBlocks o claims story []
+  none_yet k block is = absurd cc
+
+  at_end : (blocks : List (Block V)) (new : Block V) (k : ℕ) (block : Block V) → slice_get (blocks ++ new ∷ []) k ≡ Some block → (slice_get blocks k ≡ Some block) ⊎ ((k ≡ length blocks) × (new ≡ block))
+  at_end [] new zero block is = inr (refl, same_Some new block is)
+  at_end [] new (suc k) block is = absurd cc
+  at_end (b ∷ blocks) new zero block is = inl is
+  at_end (b ∷ blocks) new (suc k) block is = by_case (at_end blocks new k block is)
+    where
+      by_case : (slice_get blocks k ≡ Some block) ⊎ ((k ≡ length blocks) × (new ≡ block)) → (slice_get (b ∷ blocks) (suc k) ≡ Some block) ⊎ ((suc k ≡ length (b ∷ blocks)) × (new ≡ block))
+      by_case (inl e) = inl e
+      by_case (inr e) = inr (ap (λ n. suc n) e.0, e.1)
+
+  pub one_more_block : (blocks : List (Block V)) (new : Block V) (number : ℕ) → length blocks ≡ number → IsBlock o claims story (64 * number) new → AreBlocks o claims story blocks → AreBlocks o claims story (blocks ++ new ∷ [])
+  one_more_block blocks new number count is are k block found = by_case (at_end blocks new k block found)
+    where
+      by_case : (slice_get blocks k ≡ Some block) ⊎ ((k ≡ length blocks) × (new ≡ block)) → IsBlock o claims story (64 * k) block
+      by_case (inl e) = are k block e
+      by_case (inr e) = let same : number ≡ k = sym (e.0 ∙ count) in subst (λ b. IsBlock o claims story (64 * k) b) e.1 (subst (λ n. IsBlock o claims story (64 * n) new) same is)

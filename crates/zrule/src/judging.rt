@@ -204,14 +204,13 @@ fn broken_rule<V: Spelled>(
     ensures { MatchOption result ((rule : ARule) → Keeps V.operations (claims_of V.operations certificate.now) story.now listed.now.address (entry_of (seen listed.now)) rule) (IsLowestBroken V.operations (claims_of V.operations certificate.now) story.now listed.now.address (entry_of (seen listed.now))) }
 {
     let mut ends = TextEnds::new(story.memory());
-    let unknown: Option<&Blocks<V>> = None;
     match judge(
         story,
         certificate,
         listed,
         certificate.instruction_count(),
         &mut ends,
-        unknown,
+        None,
     ) {
         Ok(_) => None,
         Err(rule) => Some(rule),
@@ -222,13 +221,13 @@ fn broken_rule<V: Spelled>(
 /// `ends` are those of the texts of the story's memory. The instruction behind it is looked for at the index `near` first, and
 /// searched for where another is listed there. `blocks` is what is known of the certificate's routines for the story: with it a call
 /// asks once for all routines of a block, and else for each that it may enter. The answer is the same.
-pub fn judge<V: Spelled>(
+pub fn judge<'c, V: Spelled>(
     story: &Story,
-    certificate: &Certificate<V>,
+    certificate: &'c Certificate<V>,
     listed: &Instruction<'_, V>,
     near: usize,
     ends: &mut TextEnds<'_>,
-    blocks: Option<&Blocks<V>>,
+    blocks: Option<&'c Blocks<V>>,
 ) -> Result<Instr, Rule>
     requires ends { ends.old ≡ story.now.memory }
     requires blocks { IfSome blocks (λ b. AreBlocks V.operations (claims_of V.operations certificate.now) story.now b.now) }

@@ -61,6 +61,9 @@ impl<'s, V: Spelled> Site<'s, V> {
         ensures told { IfSome result (IsBlock V.operations (claims_of V.operations self.entry.certificate.now) self.entry.story.now packed) }
         ensures room { IfSome result (λ _. packed ≤ 65472) }
     {
-        self.blocks?.beginning_at(packed)
+        match self.blocks {
+            Some(blocks) => blocks.beginning_at(packed),
+            None => None,
+        }
     }
 }

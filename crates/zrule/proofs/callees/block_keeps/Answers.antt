@@ -1,16 +1,11 @@
-use Rattle.std.proofs.Common.{rules, ◌≡◌, ◌↔◌, ◌*◌, ◌+◌, ◌≤◌, ℕ, IfNone, IfSome, IsTrue, MatchOption, Some, [], length, reverse, slice_get, suc, ◌-◌, ◌<◌, ◌/◌, ◌%◌, Bool, true, false, nat_eq, nat_lt, List, ◌∷◌, ◌++◌, slice_index_or, slice_set, bit_and, bit_or, Fits, w8, w32, w64, Bor, MutBor}
-use Rattle.zstory.specs.Bytes.{byte_at, word_at}
-use Rattle.zdomain.specs.Domain.{In, Within}
+use Rattle.std.proofs.Common.{◌+◌}
 use Rattle.zcode.specs.Operation.{target}
-use Rattle.zstate.specs.Step.{behind_head, unpacked, words_from}
-use Rattle.zflow.specs.Transfer.{argument_sets, with_result}
-use Rattle.zcert.specs.Listed.{seen}
-use Rattle.zrule.specs.Blocks.{AreBlocks, InBlock, IsBlock, sets_of}
-use Rattle.zrule.specs.Claims.{Claims, claims_of, entry_of}
-use Rattle.zrule.specs.Edges.{CalleeKeeps, IsNextAbove}
-use Rattle.zrule.specs.Rules.{Begins, EachCallee, Leads, Starts, result_at}
+use Rattle.zstate.specs.Step.{unpacked}
+use Rattle.zrule.specs.Blocks.{sets_of}
+use Rattle.zrule.specs.Claims.{claims_of}
+use Rattle.zrule.proofs.Together.{successor_kept}
 use Rattle.zrule.proofs.callees.block_keeps.Goals as goal
 
--- src/callees.rt:98:1
 pub returns-in-Successor : goal.returns-in-Successor
-returns-in-Successor g c = ?
+returns-in-Successor g c = λ base yes is x above below.
+    successor_kept g.V.Domain.operations (claims_of g.V.Domain.operations c.args.site.certificate.now) c.args.site.story.now (sets_of c.args.arguments) c.args.site.listed.now.routine (c.args.site.listed.now.address + c.args.site.instruction.now.size) (target c.args.site.instruction.now) c.args.rule c.in-Successor.is c.args.after.now (unpacked x) c.args.block.now.gives (c.leads_given.ensures.0 yes) (is.gives x above below)

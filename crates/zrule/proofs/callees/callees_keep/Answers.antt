@@ -1,16 +1,14 @@
-use Rattle.std.proofs.Common.{rules, ◌≡◌, ◌↔◌, ◌*◌, ◌+◌, ◌≤◌, ℕ, IfNone, IfSome, IsTrue, MatchOption, Some, [], length, reverse, slice_get, suc, ◌-◌, ◌<◌, ◌/◌, ◌%◌, Bool, true, false, nat_eq, nat_lt, List, ◌∷◌, ◌++◌, slice_index_or, slice_set, bit_and, bit_or, Fits, w8, w32, w64, Bor, MutBor}
-use Rattle.zstory.specs.Bytes.{byte_at, word_at}
-use Rattle.zdomain.specs.Domain.{In, Within}
+use Rattle.std.proofs.Common.{◌+◌}
 use Rattle.zcode.specs.Operation.{target}
-use Rattle.zstate.specs.Step.{behind_head, unpacked, words_from}
-use Rattle.zflow.specs.Transfer.{argument_sets, with_result}
-use Rattle.zcert.specs.Listed.{seen}
-use Rattle.zrule.specs.Blocks.{AreBlocks, InBlock, IsBlock, sets_of}
-use Rattle.zrule.specs.Claims.{Claims, claims_of, entry_of}
-use Rattle.zrule.specs.Edges.{CalleeKeeps, IsNextAbove}
-use Rattle.zrule.specs.Rules.{Begins, EachCallee, Leads, Starts, result_at}
+use Rattle.zstate.specs.Step.{unpacked}
+use Rattle.zrule.specs.Blocks.{sets_of}
+use Rattle.zrule.specs.Claims.{claims_of}
+use Rattle.zrule.specs.Edges.{CalleeKeeps}
+use Rattle.zrule.proofs.Calling.{Told, told_next}
+use Rattle.std.proofs.Common.{subst}
 use Rattle.zrule.proofs.callees.callees_keep.Goals as goal
 
--- src/callees.rt:39:5
 pub loop-callee-preserved : goal.loop-callee-preserved
-loop-callee-preserved g c = ?
+loop-callee-preserved g c =
+    let kept = c.in-Some-kept_to.ensures.kept in
+    told_next g.V.Domain.operations c.args.set _ c.in-Some.word c.in-Some-kept_to.last c.next_above-callee-in-Some.result (subst (λ n. Told g.V.Domain.operations c.args.set _ n) c.in-Some.is c.loop-callee.invariant) kept.0 kept.1 c.next_above-callee-in-Some.ensures

@@ -1,16 +1,5 @@
-use Rattle.std.proofs.Common.{rules, ◌≡◌, ◌↔◌, ◌*◌, ◌+◌, ◌≤◌, ℕ, IfNone, IfSome, IsTrue, MatchOption, Some, [], length, reverse, slice_get, suc, ◌-◌, ◌<◌, ◌/◌, ◌%◌, Bool, true, false, nat_eq, nat_lt, List, ◌∷◌, ◌++◌, slice_index_or, slice_set, bit_and, bit_or, Fits, w8, w32, w64, Bor, MutBor}
-use Rattle.zstory.specs.Bytes.{byte_at, word_at}
-use Rattle.zdomain.specs.Domain.{In, Within}
-use Rattle.zcode.specs.Operation.{target}
-use Rattle.zstate.specs.Step.{behind_head, unpacked, words_from}
-use Rattle.zflow.specs.Transfer.{argument_sets, with_result}
-use Rattle.zcert.specs.Listed.{seen}
-use Rattle.zrule.specs.Blocks.{AreBlocks, InBlock, IsBlock, sets_of}
-use Rattle.zrule.specs.Claims.{Claims, claims_of, entry_of}
-use Rattle.zrule.specs.Edges.{CalleeKeeps, IsNextAbove}
-use Rattle.zrule.specs.Rules.{Begins, EachCallee, Leads, Starts, result_at}
+use Rattle.std.proofs.Common.{arith}
 use Rattle.zrule.proofs.callees.kept_to.Goals as goal
 
--- src/callees.rt:70:9
 pub returns-then-is_block_kept-clause-kept : goal.returns-then-is_block_kept-clause-kept
-returns-then-is_block_kept-clause-kept g c = ?
+returns-then-is_block_kept-clause-kept g c = (omega arith, λ x above most. c.is_block_kept.ensures.kept c.if-is_block_kept.true x above (omega (arith, most)))
