@@ -48,13 +48,11 @@ module _ {V : Type 0} (o : SetOperations V) (claims : Claims V) where
       let next : suc count - 1 ≡ count = omega arith in
       rw (first, all, next) (λ s. s, λ s. s)
 
-  -- so the first of the locals that are left has the argument that is, if one is
-  pub starts_next : (args : List V) (k : ℕ) (memory : List ℕ) (at count : ℕ) (locals : List V) (b : V) → 1 ≤ length locals → b ≡ slice_index_or locals 0 b → (count ≡ 0 → ⊥)
-      → Starts o claims (drop k args) (words_from memory at count) locals ↔ (MatchOption (slice_get args k) (In o b (word_at memory at)) (λ a. Within o a b) × Starts o claims (drop (k + 1) args) (words_from memory (at + 2) (count - 1)) (take (length locals - 1) (drop 1 locals)))
-  starts_next [] zero memory at count locals b more first some = free memory at count locals b more first some
-  starts_next [] (suc k) memory at count locals b more first some = let step : suc k + 1 ≡ suc (k + 1) = omega arith in rw step (free memory at count locals b more first some)
-  starts_next (a ∷ args) zero memory at count locals b more first some = given args memory at count locals a b more first some
-  starts_next (a ∷ args) (suc k) memory at count locals b more first some = let step : suc k + 1 ≡ suc (k + 1) = omega arith in rw step (starts_next args k memory at count locals b more first some)
+  -- so the first of the locals has the first argument, if there is one, and the rest those behind it
+  pub starts_next : (args rest : List V) (memory : List ℕ) (at count : ℕ) (locals : List V) (b : V) → rest ≡ drop 1 args → 1 ≤ length locals → b ≡ slice_index_or locals 0 b → (count ≡ 0 → ⊥)
+      → Starts o claims args (words_from memory at count) locals ↔ (MatchOption (slice_get args 0) (In o b (word_at memory at)) (λ a. Within o a b) × Starts o claims rest (words_from memory (at + 2) (count - 1)) (take (length locals - 1) (drop 1 locals)))
+  starts_next [] rest memory at count locals b is more first some = rw is (free memory at count locals b more first some)
+  starts_next (a ∷ args) rest memory at count locals b is more first some = rw is (given args memory at count locals a b more first some)
 
   -- a routine at a place, of which the first instruction is this
   pub begins_where : (story : LoadedStory) (args : List V) (p index : ℕ) (first : Entry V) → claims.routine_at p ≡ Some index → claims.entry (behind_head story.memory p) ≡ Some first
@@ -69,11 +67,11 @@ module _ {V : Type 0} (o : SetOperations V) (claims : Claims V) where
 
   -- as the code reads its head, from a list that is the memory
   pub begins_by : (story : LoadedStory) (args : List V) (p index : ℕ) (first : Entry V) (memory : List ℕ) (count code : ℕ) → memory ≡ story.memory → count ≡ byte_at memory p → code ≡ p + 1 + 2 * count → claims.routine_at p ≡ Some index → claims.entry code ≡ Some first
-      → Begins o claims story args p ↔ (((first.routine ≡ suc index) × (first.shape.slots ≡ [])) × Starts o claims args (words_from story.memory (p + 1) count) first.shape.locals)
+      → Begins o claims story args p ↔ (((first.routine ≡ suc index) × (first.shape.slots ≡ [])) × Starts o claims args (words_from memory (p + 1) count) first.shape.locals)
   begins_by story args p index first memory count code memory_is count_is code_is routine listed =
       let code_there : code ≡ behind_head story.memory p = rw (code_is, count_is, memory_is) refl in
       let told = begins_where story args p index first routine (subst (λ (n : ℕ). claims.entry n ≡ Some first) code_there listed) in
-      let words : words_from story.memory (p + 1) count ≡ initial story.memory p = rw (count_is, memory_is) refl in
+      let words : words_from memory (p + 1) count ≡ initial story.memory p = rw (count_is, memory_is) refl in
       (λ b. let parts = told.0 b in ((parts.0, parts.1), subst (λ (ws : List ℕ). Starts o claims args ws first.shape.locals) (sym words) parts.2), λ h. told.1 (h.0.0, h.0.1, subst (λ (ws : List ℕ). Starts o claims args ws first.shape.locals) words h.1))
 
   pub begins_nowhere : (story : LoadedStory) (args : List V) (p : ℕ) → claims.routine_at p ≡ None → Begins o claims story args p → ⊥
@@ -105,32 +103,34 @@ module _ {V : Type 0} (o : SetOperations V) (set : V) (P : ℕ → Type 0) where
     here = (least.0, least.1);
   }
 
-  one_below : (w x : ℕ) → P w → ((y : ℕ) → In o set y → (y ≡ 0 → ⊥) → y < w → P y) → In o set x → (x ≡ 0 → ⊥) → x ≤ w → P x
-  one_below w x here before inside some most = by_case (cases_lt x w)
+  pub told_next : (w last : ℕ) (next : Option ℕ) → Told (Some w) → w ≤ last → ((x : ℕ) → w ≤ x → x ≤ last → P x) → IsNextAbove o set last next → Told next
+  told_next w last next told more kept least = of next least
     where
-      by_case : (x < w) ⊎ (w ≤ x) → P x
-      by_case (inl less) = before x inside some less
-      by_case (inr more) = let same : w ≡ x = omega (arith, more, most) in subst P same here
-
-  pub told_next : (w : ℕ) (next : Option ℕ) → Told (Some w) → P w → IsNextAbove o set w next → Told next
-  told_next w None told here none = record { before = λ x inside some t. one_below w x here told.before inside some (none x inside); here = tt }
-  told_next w (Some n) told here least = record {
-    before = λ x inside some below. one_below w x here told.before inside some (not_above x inside below);
-    here = (least.0, (let more = least.1 in omega (arith, more)));
-  }
-    where
-      not_above : (x : ℕ) → In o set x → x < n → x ≤ w
-      not_above x inside below = by_case (cases_lt w x)
+      up_to : (x : ℕ) → In o set x → (x ≡ 0 → ⊥) → x ≤ last → P x
+      up_to x inside some most = by_case (cases_lt x w)
         where
-          by_case : (w < x) ⊎ (x ≤ w) → x ≤ w
-          by_case (inl more) = absurd (let above = least.2 x inside more in omega (arith, above, below))
-          by_case (inr most) = most
+          by_case : (x < w) ⊎ (w ≤ x) → P x
+          by_case (inl less) = told.before x inside some less
+          by_case (inr enough) = kept x enough most
+      of : (next : Option ℕ) → IsNextAbove o set last next → Told next
+      of None none = record { before = λ x inside some t. up_to x inside some (none x inside); here = tt }
+      of (Some n) least = record {
+        before = λ x inside some below. up_to x inside some (not_above x inside below);
+        here = (least.0, (let above = least.1 in omega (arith, above)));
+      }
+        where
+          not_above : (x : ℕ) → In o set x → x < n → x ≤ last
+          not_above x inside below = by_case (cases_lt last x)
+            where
+              by_case : (last < x) ⊎ (x ≤ last) → x ≤ last
+              by_case (inl past) = absurd (let above = least.2 x inside past in omega (arith, above, below))
+              by_case (inr most) = most
 
 -- how many words may come
 abbrev pub words_left : Option ℕ → ℕ
 words_left None = 0
 words_left (Some w) = 65536 - w
 
-pub fewer_left : {V : Type 0} (o : SetOperations V) (set : V) (w : ℕ) (next : Option ℕ) → In o set w → IsNextAbove o set w next → words_left next < words_left (Some w)
-fewer_left o set w None inside none = let word = inside.word in omega (arith, word)
-fewer_left o set w (Some n) inside least = let word = inside.word in let more = least.1 in omega (arith, word, more)
+pub fewer_left : {V : Type 0} (o : SetOperations V) (set : V) (w last : ℕ) (next : Option ℕ) → In o set w → w ≤ last → IsNextAbove o set last next → words_left next < words_left (Some w)
+fewer_left o set w last None inside more none = let word = inside.word in omega (arith, word)
+fewer_left o set w last (Some n) inside more least = let word = inside.word in let above = least.1 in omega (arith, word, more, above)

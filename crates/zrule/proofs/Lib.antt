@@ -15,6 +15,8 @@ mod Parts
 pub mod Stepping
 pub mod Called
 mod Calling
+mod Together
+mod Supplied
 mod Pieces
 pub mod Opening
 pub mod Safety

@@ -1,22 +1,26 @@
 //! What rules ask of each routine that an instruction may call.
 
-ghost use Rattle.std.specs.Prelude.{◌≡◌, ◌↔◌, ◌*◌, ◌+◌, ◌≤◌, IsTrue, MatchOption, Some, [], drop, length, reverse, slice_get, suc};
+ghost use Rattle.std.specs.Prelude.{◌≡◌, ◌↔◌, ◌*◌, ◌+◌, ◌≤◌, ℕ, IfNone, IfSome, IsTrue, MatchOption, Some, [], length, reverse, slice_get, suc};
 ghost use Rattle.zstory.specs.Bytes.{byte_at, word_at};
 ghost use Rattle.zdomain.specs.Domain.{In, Within};
 ghost use Rattle.zcode.specs.Operation.{target};
-ghost use Rattle.zstate.specs.Step.{behind_head, words_from};
+ghost use Rattle.zstate.specs.Step.{behind_head, unpacked, words_from};
 ghost use Rattle.zflow.specs.Transfer.{argument_sets, with_result};
 ghost use Rattle.zcert.specs.Listed.{seen};
+ghost use Rattle.zrule.specs.Blocks.{AreBlocks, InBlock, IsBlock, sets_of};
 ghost use Rattle.zrule.specs.Claims.{Claims, claims_of, entry_of};
 ghost use Rattle.zrule.specs.Edges.{CalleeKeeps, IsNextAbove};
 ghost use Rattle.zrule.specs.Rules.{Begins, EachCallee, Leads, Starts, result_at};
 
+use crate::arguments::{Arguments, arguments_of};
+use crate::blocks::Block;
 use crate::edges::{leads_given, takes};
 use crate::rule::Rule;
 use crate::site::Site;
 use zcert::{Certificate, Instruction, Spelled};
 use zdomain::Domain;
 use zflow::Known;
+use zstory::Story;
 
 /// Whether each routine at a packed address of the set keeps a rule, where `after` is known of the caller behind the call, before
 /// what comes back.
@@ -26,15 +30,17 @@ pub(crate) fn callees_keep<V: Spelled>(
     after: &Known<'_, V>,
     rule: Rule,
 ) -> bool
-    requires { site.listed.now.address + site.instruction.now.size ≤ 131072 }
+    requires near { site.listed.now.address + site.instruction.now.size ≤ 131072 }
+    requires told { IfSome site.blocks (λ b. AreBlocks V.operations (claims_of V.operations site.certificate.now) site.story.now b.now) }
     ensures { IsTrue result ↔ EachCallee V.operations (claims_of V.operations site.entry.certificate.now) set (CalleeKeeps V.operations (claims_of V.operations site.entry.certificate.now) site.entry.story.now (argument_sets V.operations site.entry.certificate.now.globals site.entry.instruction.now (entry_of (seen site.entry.listed.now)).shape) site.entry.listed.now.routine (site.entry.listed.now.address + site.entry.instruction.now.size) (target site.entry.instruction.now) rule after.now) }
 {
+    let arguments = arguments_of(site);
     let mut callee = next_above(set, 0);
     while let Some(word) = callee {
-        if !callee_keeps(site, word, after, rule) {
+        let Some(last) = kept_to(site, arguments, word, after, rule) else {
             return false;
-        }
-        callee = next_above(set, word);
+        };
+        callee = next_above(set, last);
     }
     true
 }
@@ -46,19 +52,81 @@ fn next_above<V: Spelled>(set: V, word: u16) -> Option<u16>
     set.least_from(word.checked_add(1)?)
 }
 
-/// Whether the routine at a packed address does.
+/// The last packed address up to which each from one on is known to keep a rule: that of the block that begins there, where the rule is
+/// kept for the whole block, and else the address itself. `None` where that doesn't keep it.
+fn kept_to<V: Spelled>(
+    site: Site<'_, V>,
+    arguments: Arguments<V>,
+    packed: u16,
+    after: &Known<'_, V>,
+    rule: Rule,
+) -> Option<u16>
+    requires near { site.listed.now.address + site.instruction.now.size ≤ 131072 }
+    requires told { IfSome site.blocks (λ b. AreBlocks V.operations (claims_of V.operations site.certificate.now) site.story.now b.now) }
+    ensures kept { IfSome result (λ last. (packed ≤ last) × ((x : ℕ) → packed ≤ x → x ≤ last → CalleeKeeps V.operations (claims_of V.operations site.entry.certificate.now) site.entry.story.now (sets_of arguments) site.entry.listed.now.routine (site.entry.listed.now.address + site.entry.instruction.now.size) (target site.entry.instruction.now) rule after.now (unpacked x))) }
+    ensures broken { IfNone result (CalleeKeeps V.operations (claims_of V.operations site.entry.certificate.now) site.entry.story.now (sets_of arguments) site.entry.listed.now.routine (site.entry.listed.now.address + site.entry.instruction.now.size) (target site.entry.instruction.now) rule after.now (unpacked packed) → ⊥) }
+{
+    if is_block_kept(site, arguments, packed, after, rule) {
+        return Some(packed + 63);
+    }
+    if callee_keeps(site, arguments, packed, after, rule) {
+        return Some(packed);
+    }
+    None
+}
+
+/// Whether a block begins at a packed address that keeps a rule as a whole.
+fn is_block_kept<V: Spelled>(
+    site: Site<'_, V>,
+    arguments: Arguments<V>,
+    packed: u16,
+    after: &Known<'_, V>,
+    rule: Rule,
+) -> bool
+    requires near { site.listed.now.address + site.instruction.now.size ≤ 131072 }
+    requires told { IfSome site.blocks (λ b. AreBlocks V.operations (claims_of V.operations site.certificate.now) site.story.now b.now) }
+    ensures room { IsTrue result → packed ≤ 65472 }
+    ensures kept { IsTrue result → InBlock packed (λ x. CalleeKeeps V.operations (claims_of V.operations site.entry.certificate.now) site.entry.story.now (sets_of arguments) site.entry.listed.now.routine (site.entry.listed.now.address + site.entry.instruction.now.size) (target site.entry.instruction.now) rule after.now (unpacked x)) }
+{
+    match site.block_at(packed) {
+        Some(block) => block_keeps(site, arguments, &block, after, rule),
+        None => false,
+    }
+}
+
+/// Whether a block keeps a rule as a whole: never, where one of its routines doesn't keep it.
+fn block_keeps<V: Spelled>(
+    site: Site<'_, V>,
+    arguments: Arguments<V>,
+    block: &Block<V>,
+    after: &Known<'_, V>,
+    rule: Rule,
+) -> bool
+    requires { site.listed.now.address + site.instruction.now.size ≤ 131072 }
+    ensures { (base : ℕ) → IsTrue result → IsBlock V.operations (claims_of V.operations site.entry.certificate.now) site.entry.story.now base block.now → InBlock base (λ x. CalleeKeeps V.operations (claims_of V.operations site.entry.certificate.now) site.entry.story.now (sets_of arguments) site.entry.listed.now.routine (site.entry.listed.now.address + site.entry.instruction.now.size) (target site.entry.instruction.now) rule after.now (unpacked x)) }
+{
+    match rule {
+        Rule::Called => block.begins_with(arguments),
+        Rule::Successor => leads_given(site, after, block.gives),
+        Rule::Stored => takes(site.certificate, Some(block.gives), site.target()),
+        _ => true,
+    }
+}
+
+/// Whether the routine at a packed address keeps a rule.
 fn callee_keeps<V: Spelled>(
     site: Site<'_, V>,
+    arguments: Arguments<V>,
     packed: u16,
     after: &Known<'_, V>,
     rule: Rule,
 ) -> bool
     requires { site.listed.now.address + site.instruction.now.size ≤ 131072 }
-    ensures { IsTrue result ↔ CalleeKeeps V.operations (claims_of V.operations site.entry.certificate.now) site.entry.story.now (argument_sets V.operations site.entry.certificate.now.globals site.entry.instruction.now (entry_of (seen site.entry.listed.now)).shape) site.entry.listed.now.routine (site.entry.listed.now.address + site.entry.instruction.now.size) (target site.entry.instruction.now) rule after.now (2 * packed) }
+    ensures { IsTrue result ↔ CalleeKeeps V.operations (claims_of V.operations site.entry.certificate.now) site.entry.story.now (sets_of arguments) site.entry.listed.now.routine (site.entry.listed.now.address + site.entry.instruction.now.size) (target site.entry.instruction.now) rule after.now (2 * packed) }
 {
     let place = 2 * u32::from(packed);
     match rule {
-        Rule::Called => begins(site, place),
+        Rule::Called => begins(site.story, site.certificate, arguments, packed),
         Rule::Successor => leads_given(site, after, result_at(site.certificate, place)),
         Rule::Stored => takes(
             site.certificate,
@@ -70,7 +138,7 @@ fn callee_keeps<V: Spelled>(
 }
 
 /// The values that the routine at a place may give: any, where none begins there.
-fn result_at<V: Spelled>(certificate: &Certificate<V>, place: u32) -> V
+pub(crate) fn result_at<V: Spelled>(certificate: &Certificate<V>, place: u32) -> V
     ensures { result ≡ result_at V.operations (claims_of V.operations certificate.now) place }
 {
     match certificate.routine_index(place) {
@@ -89,21 +157,39 @@ pub(crate) fn result_of<V: Spelled>(certificate: &Certificate<V>, index: usize) 
     }
 }
 
-/// Whether a routine begins at a place, with the arguments of the instruction.
-fn begins<V: Spelled>(site: Site<'_, V>, place: u32) -> bool
-    requires { place ≤ 131070 }
-    ensures { IsTrue result ↔ Begins V.operations (claims_of V.operations site.entry.certificate.now) site.entry.story.now (argument_sets V.operations site.entry.certificate.now.globals site.entry.instruction.now (entry_of (seen site.entry.listed.now)).shape) place }
+/// Whether a routine begins at a packed address, with these arguments.
+pub(crate) fn begins<V: Spelled>(
+    story: &Story,
+    certificate: &Certificate<V>,
+    arguments: Arguments<V>,
+    packed: u16,
+) -> bool
+    ensures { IsTrue result ↔ Begins V.operations (claims_of V.operations certificate.now) story.now (sets_of arguments) (unpacked packed) }
 {
+    begins_at(story, certificate, arguments, 2 * u32::from(packed))
+}
+
+/// Whether a routine begins at a place, with these arguments.
+fn begins_at<V: Spelled>(
+    story: &Story,
+    certificate: &Certificate<V>,
+    arguments: Arguments<V>,
+    place: u32,
+) -> bool
+    requires { place ≤ 131070 }
+    ensures { IsTrue result ↔ Begins V.operations (claims_of V.operations certificate.now) story.now (sets_of arguments) place }
+{
+    let memory = story.memory();
     let at = place as usize;
-    let count = byte_at(site.story.memory(), at);
-    let Some(index) = site.certificate.routine_index(place) else {
+    let count = byte_at(memory, at);
+    let Some(index) = certificate.routine_index(place) else {
         return false;
     };
     let code = place + 1 + 2 * u32::from(count);
-    let Some(first) = site.certificate.instruction_at(code) else {
+    let Some(first) = certificate.instruction_at(code) else {
         return false;
     };
-    opens(&first, index) && starts(site, 0, at + 1, count, first.locals)
+    opens(&first, index) && starts(memory, arguments, at + 1, count, first.locals)
 }
 
 /// Whether an instruction is listed in the routine of an index, with an empty stack.
@@ -116,12 +202,17 @@ fn opens<V: Spelled>(first: &Instruction<'_, V>, index: usize) -> bool
     }
 }
 
-/// Whether the locals that a routine begins with lie in the sets stated, from that on which the argument `given` goes to. So many
-/// initial words stand from a place on.
-fn starts<V: Spelled>(site: Site<'_, V>, given: usize, at: usize, count: u8, locals: &[V]) -> bool
-    requires words { at + 2 * count ≤ 1000000 }
-    requires arguments { given + count ≤ 1000000 }
-    ensures { (claims : Claims V) → IsTrue result ↔ Starts V.operations claims (drop given (argument_sets V.operations site.entry.certificate.now.globals site.entry.instruction.now (entry_of (seen site.entry.listed.now)).shape)) (words_from site.entry.story.now.memory at count) locals.now }
+/// Whether the locals that a routine begins with lie in the sets stated: the arguments, and behind them initial words, of which so many
+/// stand from a place on, one for each local.
+fn starts<V: Spelled>(
+    memory: &[u8],
+    arguments: Arguments<V>,
+    at: usize,
+    count: u8,
+    locals: &[V],
+) -> bool
+    requires { at + 2 * count ≤ 1000000 }
+    ensures { (claims : Claims V) → IsTrue result ↔ Starts V.operations claims (sets_of arguments) (words_from memory.now at count) locals.now }
 {
     let [local, locals @ ..] = locals else {
         return count == 0;
@@ -129,18 +220,19 @@ fn starts<V: Spelled>(site: Site<'_, V>, given: usize, at: usize, count: u8, loc
     if count == 0 {
         return false;
     }
-    has_first(site, given, at, *local) && starts(site, given + 1, at + 2, count - 1, locals)
+    has_first(memory, arguments, at, *local)
+        && starts(memory, arguments.rest(), at + 2, count - 1, locals)
 }
 
-/// Whether what a local first has lies in the set stated: an argument, by its place among them, or the initial word at a place, where
-/// none is supplied (Z 6.4.4).
-fn has_first<V: Spelled>(site: Site<'_, V>, given: usize, at: usize, local: V) -> bool
+/// Whether what a local first has lies in the set stated: the first argument, or the initial word at a place, where none is supplied
+/// (Z 6.4.4).
+fn has_first<V: Spelled>(memory: &[u8], arguments: Arguments<V>, at: usize, local: V) -> bool
     requires { at ≤ 1000000 }
-    ensures { IsTrue result ↔ MatchOption (slice_get (argument_sets V.operations site.entry.certificate.now.globals site.entry.instruction.now (entry_of (seen site.entry.listed.now)).shape) given) (In V.operations local (word_at site.entry.story.now.memory at)) (λ a. Within V.operations a local) }
+    ensures { IsTrue result ↔ MatchOption (slice_get (sets_of arguments) 0) (In V.operations local (word_at memory.now at)) (λ a. Within V.operations a local) }
 {
-    match site.argument(given) {
+    match arguments.first() {
         Some(argument) => argument.is_within(local),
-        None => local.contains(word_at(site.story.memory(), at)),
+        None => local.contains(word_at(memory, at)),
     }
 }
 
@@ -153,7 +245,7 @@ fn word_at(memory: &[u8], at: usize) -> u16
 }
 
 /// The byte at a place, 0 outside memory.
-fn byte_at(memory: &[u8], at: usize) -> u8
+pub(crate) fn byte_at(memory: &[u8], at: usize) -> u8
     ensures { result ≡ byte_at memory.now at }
 {
     match memory.get(at) {

@@ -5,6 +5,7 @@ ghost use Rattle.zcode.specs.Operation.{target};
 ghost use Rattle.zflow.specs.declared.parts.Lead.TheVariants.{Ahead, Returning};
 ghost use Rattle.zflow.specs.Transfer.{Shape, argument_sets, with_result};
 ghost use Rattle.zcert.specs.Listed.{listed_at, seen};
+ghost use Rattle.zrule.specs.Blocks.{AreBlocks};
 ghost use Rattle.zrule.specs.Claims.{Claims, claims_of, entry_of};
 ghost use Rattle.zrule.specs.Edges.{StaysLow};
 ghost use Rattle.zrule.specs.Rules.{Covers, Enters, GoesOn, Leads, Returns, Takes, TakesBack, TakesInPlace};
@@ -41,7 +42,8 @@ fn most_before<V: Spelled>(lead: Lead<V>, target: u8) -> usize
 
 /// Whether an edge leads on, if it can be taken.
 pub(crate) fn goes_on<V: Spelled>(site: Site<'_, V>, edge: &Edge<'_, V>) -> bool
-    requires { site.listed.now.address + site.instruction.now.size ≤ 131072 }
+    requires near { site.listed.now.address + site.instruction.now.size ≤ 131072 }
+    requires told { IfSome site.blocks (λ b. AreBlocks V.operations (claims_of V.operations site.certificate.now) site.story.now b.now) }
     ensures { IsTrue result ↔ IfSome edge.now.after (λ f. GoesOn V.operations (claims_of V.operations site.entry.certificate.now) site.entry.listed.now.routine (target site.entry.instruction.now) f (site.entry.listed.now.address + site.entry.instruction.now.size) edge.now.lead) }
 {
     match (&edge.after, edge.lead) {
@@ -53,7 +55,8 @@ pub(crate) fn goes_on<V: Spelled>(site: Site<'_, V>, edge: &Edge<'_, V>) -> bool
 
 /// Whether each routine that an edge calls begins as is said, if that can be taken.
 pub(crate) fn enters<V: Spelled>(site: Site<'_, V>, edge: &Edge<'_, V>) -> bool
-    requires { site.listed.now.address + site.instruction.now.size ≤ 131072 }
+    requires near { site.listed.now.address + site.instruction.now.size ≤ 131072 }
+    requires told { IfSome site.blocks (λ b. AreBlocks V.operations (claims_of V.operations site.certificate.now) site.story.now b.now) }
     ensures { IsTrue result ↔ IfSome edge.now.after (λ f. Enters V.operations (claims_of V.operations site.entry.certificate.now) site.entry.story.now (argument_sets V.operations site.entry.certificate.now.globals site.entry.instruction.now (entry_of (seen site.entry.listed.now)).shape) edge.now.lead) }
 {
     match (&edge.after, edge.lead) {
@@ -155,7 +158,8 @@ fn may_return<V: Spelled>(certificate: &Certificate<V>, routine: u16, set: V) ->
 
 /// Whether what an edge stores to globals lies in their sets, if it can be taken, and what the routines give that it calls.
 pub(crate) fn stores<V: Spelled>(site: Site<'_, V>, edge: &Edge<'_, V>) -> bool
-    requires { site.listed.now.address + site.instruction.now.size ≤ 131072 }
+    requires near { site.listed.now.address + site.instruction.now.size ≤ 131072 }
+    requires told { IfSome site.blocks (λ b. AreBlocks V.operations (claims_of V.operations site.certificate.now) site.story.now b.now) }
     ensures { IsTrue result ↔ IfSome edge.now.after (λ f. Takes V.operations (claims_of V.operations site.entry.certificate.now) edge.now.outcome.gives (target site.entry.instruction.now) × TakesInPlace V.operations (claims_of V.operations site.entry.certificate.now) edge.now.outcome.assigns × TakesBack V.operations (claims_of V.operations site.entry.certificate.now) (target site.entry.instruction.now) edge.now.lead) }
 {
     let Some(after) = &edge.after else {
@@ -168,7 +172,8 @@ pub(crate) fn stores<V: Spelled>(site: Site<'_, V>, edge: &Edge<'_, V>) -> bool
 
 /// Whether the result variable takes what comes back.
 fn takes_back<V: Spelled>(site: Site<'_, V>, after: &Known<'_, V>, lead: Lead<V>) -> bool
-    requires { site.listed.now.address + site.instruction.now.size ≤ 131072 }
+    requires near { site.listed.now.address + site.instruction.now.size ≤ 131072 }
+    requires told { IfSome site.blocks (λ b. AreBlocks V.operations (claims_of V.operations site.certificate.now) site.story.now b.now) }
     ensures { IsTrue result ↔ TakesBack V.operations (claims_of V.operations site.entry.certificate.now) (target site.entry.instruction.now) lead }
 {
     match lead {

@@ -12,9 +12,11 @@ ghost use Rattle.zflow.specs.Flow.{IsFlow};
 ghost use Rattle.zflow.specs.Transfer.{argument_sets};
 ghost use Rattle.zrule.specs.declared.rule.Rule.{Rule as ARule};
 ghost use Rattle.zrule.specs.declared.rule.Rule.TheVariants.{Successor};
+ghost use Rattle.zrule.specs.Blocks.{AreBlocks};
 ghost use Rattle.zrule.specs.Claims.{claims_of, entry_of, Entry};
 ghost use Rattle.zrule.specs.Rules.{Asks, IsThere, HasFixedText, Keeps, IsLowestBroken};
 
+use crate::blocks::Blocks;
 use crate::edges::{enters, goes_on, is_low, returns, stores};
 use crate::objects::{names_attribute, names_object};
 use crate::operands::{has_height, has_locals, is_known};
@@ -81,7 +83,8 @@ fn divides<V: Spelled>(demands: &Demands<V>) -> bool
 
 /// Whether an edge keeps a rule.
 fn edge_keeps<V: Spelled>(site: Site<'_, V>, edge: &Edge<'_, V>, rule: Rule) -> bool
-    requires { site.listed.now.address + site.instruction.now.size ≤ 131072 }
+    requires near { site.listed.now.address + site.instruction.now.size ≤ 131072 }
+    requires told { IfSome site.blocks (λ b. AreBlocks V.operations (claims_of V.operations site.certificate.now) site.story.now b.now) }
     ensures { IsTrue result ↔ EdgeKeeps V.operations (claims_of V.operations site.entry.certificate.now) site.entry.story.now (argument_sets V.operations site.entry.certificate.now.globals site.entry.instruction.now (entry_of (seen site.entry.listed.now)).shape) site.entry.listed.now.routine (site.entry.listed.now.address + site.entry.instruction.now.size) (target site.entry.instruction.now) rule edge.now }
 {
     match rule {
@@ -96,7 +99,8 @@ fn edge_keeps<V: Spelled>(site: Site<'_, V>, edge: &Edge<'_, V>, rule: Rule) -> 
 
 /// Whether both edges do, where they can be taken.
 fn edges_keep<V: Spelled>(site: Site<'_, V>, flow: &Flow<'_, V>, rule: Rule) -> bool
-    requires { site.listed.now.address + site.instruction.now.size ≤ 131072 }
+    requires near { site.listed.now.address + site.instruction.now.size ≤ 131072 }
+    requires told { IfSome site.blocks (λ b. AreBlocks V.operations (claims_of V.operations site.certificate.now) site.story.now b.now) }
     ensures { IsTrue result ↔ EdgesKeep V.operations (claims_of V.operations site.entry.certificate.now) site.entry.story.now (argument_sets V.operations site.entry.certificate.now.globals site.entry.instruction.now (entry_of (seen site.entry.listed.now)).shape) site.entry.listed.now.routine (site.entry.listed.now.address + site.entry.instruction.now.size) (target site.entry.instruction.now) rule flow.now }
 {
     let held = match &flow.held {
@@ -124,6 +128,7 @@ fn has_successors<V: Spelled>(site: Site<'_, V>, flow: &Flow<'_, V>) -> bool
     requires there { IsThere site.story.now site.listed.now.address site.instruction.now }
     requires near { site.listed.now.address + site.instruction.now.size ≤ 131072 }
     requires flow { IsFlow V.operations site.certificate.now.globals site.story.now site.instruction.now (entry_of (seen site.listed.now)).shape flow.now }
+    requires told { IfSome site.blocks (λ b. AreBlocks V.operations (claims_of V.operations site.certificate.now) site.story.now b.now) }
     ensures { IsTrue result ↔ Asks V.operations (claims_of V.operations site.entry.certificate.now) site.entry.story.now site.entry.listed.now.address (entry_of (seen site.entry.listed.now)) site.entry.instruction.now Successor }
 {
     if !divides(&flow.demands) {
@@ -140,6 +145,7 @@ fn asks<V: Spelled>(site: Site<'_, V>, flow: &Flow<'_, V>, rule: Rule) -> bool
     requires there { IsThere site.story.now site.listed.now.address site.instruction.now }
     requires near { site.listed.now.address + site.instruction.now.size ≤ 131072 }
     requires flow { IsFlow V.operations site.certificate.now.globals site.story.now site.instruction.now (entry_of (seen site.listed.now)).shape flow.now }
+    requires told { IfSome site.blocks (λ b. AreBlocks V.operations (claims_of V.operations site.certificate.now) site.story.now b.now) }
     ensures { IsTrue result ↔ Asks V.operations (claims_of V.operations site.entry.certificate.now) site.entry.story.now site.entry.listed.now.address (entry_of (seen site.entry.listed.now)) site.entry.instruction.now rule }
 {
     let Site {
@@ -148,6 +154,7 @@ fn asks<V: Spelled>(site: Site<'_, V>, flow: &Flow<'_, V>, rule: Rule) -> bool
         listed,
         instruction,
         near: _,
+        blocks: _,
     } = site;
     let demands = &flow.demands;
     match rule {
@@ -181,6 +188,7 @@ fn keeps<V: Spelled>(site: Site<'_, V>, flow: &Flow<'_, V>, rule: Rule) -> bool
     requires there { IsThere site.story.now site.listed.now.address site.instruction.now }
     requires near { site.listed.now.address + site.instruction.now.size ≤ 131072 }
     requires flow { IsFlow V.operations site.certificate.now.globals site.story.now site.instruction.now (entry_of (seen site.listed.now)).shape flow.now }
+    requires told { IfSome site.blocks (λ b. AreBlocks V.operations (claims_of V.operations site.certificate.now) site.story.now b.now) }
     ensures { IsTrue result ↔ Keeps V.operations (claims_of V.operations site.entry.certificate.now) site.entry.story.now site.entry.listed.now.address (entry_of (seen site.entry.listed.now)) rule }
 {
     asks(site, flow, rule)
@@ -202,6 +210,7 @@ fn broken_rule<V: Spelled>(
         listed,
         certificate.instruction_count(),
         &mut ends,
+        None,
     ) {
         Ok(_) => None,
         Err(rule) => Some(rule),
@@ -210,15 +219,18 @@ fn broken_rule<V: Spelled>(
 
 /// A listed instruction as the story spells it, where it keeps all rules, and else the lowest rule that it breaks (own).
 /// `ends` are those of the texts of the story's memory. The instruction behind it is looked for at the index `near` first, and
-/// searched for where another is listed there.
-pub fn judge<V: Spelled>(
+/// searched for where another is listed there. `blocks` is what is known of the certificate's routines for the story: with it a call
+/// asks once for all routines of a block, and else for each that it may enter. The answer is the same.
+pub fn judge<'c, V: Spelled>(
     story: &Story,
-    certificate: &Certificate<V>,
+    certificate: &'c Certificate<V>,
     listed: &Instruction<'_, V>,
     near: usize,
     ends: &mut TextEnds<'_>,
+    blocks: Option<&'c Blocks<V>>,
 ) -> Result<Instr, Rule>
     requires ends { ends.old ≡ story.now.memory }
+    requires blocks { IfSome blocks (λ b. AreBlocks V.operations (claims_of V.operations certificate.now) story.now b.now) }
     ensures memory { ends.new ≡ ends.old }
     ensures there { IfOk result (λ i. IsThere story.now listed.now.address i) }
     ensures kept { IfOk result (λ i. (rule : ARule) → Keeps V.operations (claims_of V.operations certificate.now) story.now listed.now.address (entry_of (seen listed.now)) rule) }
@@ -240,6 +252,7 @@ pub fn judge<V: Spelled>(
         listed,
         instruction: &instruction,
         near,
+        blocks,
     };
     for rule in RULES {
         if !keeps(site, &flow, rule) {

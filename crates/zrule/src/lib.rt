@@ -1,7 +1,10 @@
 //! What a certificate must say of a story, and why a story of which it is true never faults.
 #![tactic(auto)]
 
+mod arguments;
+mod blocks;
 mod callees;
+mod choosing;
 mod edges;
 mod judging;
 mod laws;
@@ -10,6 +13,7 @@ mod operands;
 mod rule;
 mod site;
 
+pub use blocks::Blocks;
 pub use judging::{instruction_there, judge, rule_at};
 pub use laws::each_step_is_safe;
 pub use rule::Rule;

@@ -1,5 +1,6 @@
 //! Where the rules are asked.
 
+use crate::blocks::{Block, Blocks};
 use zcert::{Certificate, Instruction, Spelled};
 use zcode::Instr;
 use zflow::argument_set;
@@ -14,14 +15,17 @@ pub(crate) struct Site<'s, V: Spelled> {
     pub(crate) instruction: &'s Instr,
     /// A listed instruction is looked for at this index first.
     pub(crate) near: usize,
+    /// What is known of the certificate's routines block by block, if anything.
+    pub(crate) blocks: Option<&'s Blocks<V>>,
 }
 
 impl<'s, V: Spelled> Site<'s, V> {
-    ghost use Rattle.std.specs.Prelude.{◌≡◌, ◌+◌, ◌≤◌, slice_get};
+    ghost use Rattle.std.specs.Prelude.{◌≡◌, ◌+◌, ◌≤◌, IfSome, slice_get};
     ghost use Rattle.zcode.specs.Operation.{target};
     ghost use Rattle.zflow.specs.Transfer.{argument_sets};
     ghost use Rattle.zcert.specs.Listed.{seen};
-    ghost use Rattle.zrule.specs.Claims.{entry_of};
+    ghost use Rattle.zrule.specs.Blocks.{AreBlocks, IsBlock};
+    ghost use Rattle.zrule.specs.Claims.{claims_of, entry_of};
 
     /// The variable that takes its result.
     pub(crate) fn target(self) -> u8
@@ -49,5 +53,17 @@ impl<'s, V: Spelled> Site<'s, V> {
             self.instruction,
             index,
         )
+    }
+
+    /// The block that begins at a packed address, if one is known.
+    pub(crate) fn block_at(self, packed: u16) -> Option<Block<V>>
+        requires { IfSome self.blocks (λ b. AreBlocks V.operations (claims_of V.operations self.certificate.now) self.story.now b.now) }
+        ensures told { IfSome result (IsBlock V.operations (claims_of V.operations self.entry.certificate.now) self.entry.story.now packed) }
+        ensures room { IfSome result (λ _. packed ≤ 65472) }
+    {
+        match self.blocks {
+            Some(blocks) => blocks.beginning_at(packed),
+            None => None,
+        }
     }
 }

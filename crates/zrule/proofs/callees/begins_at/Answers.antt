@@ -1,17 +1,17 @@
 use Rattle.std.proofs.Common.{◌≡◌, ◌+◌, ◌*◌, Some, arith, ap, sym}
 use Rattle.std.specs.Prelude.{option_map}
 use Rattle.zcert.specs.Listed.{seen}
-use Rattle.zflow.specs.Transfer.{argument_sets}
+use Rattle.zrule.specs.Blocks.{sets_of}
 use Rattle.zrule.specs.Claims.{claims_of, entry_of}
 use Rattle.zrule.proofs.Calling.{begins_by}
-use Rattle.zrule.proofs.callees.begins.Goals as goal
+use Rattle.zrule.proofs.callees.begins_at.Goals as goal
 
 pub returns-then-opens : goal.returns-then-opens
 returns-then-opens g c =
-    let claims = claims_of g.V.Domain.operations c.args.site.certificate.now in
-    let arguments = argument_sets g.V.Domain.operations c.args.site.certificate.now.globals c.args.site.instruction.now (entry_of (seen c.args.site.listed.now)).shape in
+    let claims = claims_of g.V.Domain.operations c.args.certificate.now in
+    let arguments = sets_of c.args.arguments in
     let first = entry_of (seen c.in-Some-instruction_at.first) in
     let code = c.args.place + 1 + 2 * c.from.result in
     let listed : claims.entry code ≡ Some first = ap (option_map entry_of) (sym c.in-Some-instruction_at.ensures.value) in
-    let told = begins_by g.V.Domain.operations claims c.args.site.story.now arguments c.args.place c.in-Some.index first c.memory.result.now c.byte_at-count.result code c.memory.ensures.value c.byte_at-count.ensures (let e = c.from.ensures in omega (arith, e)) (sym c.in-Some.ensures.value) listed in
+    let told = begins_by g.V.Domain.operations claims c.args.story.now arguments c.args.place c.in-Some.index first c.memory-memory.result.now c.byte_at-count.result code c.memory-memory.ensures.value c.byte_at-count.ensures (let e = c.from.ensures in omega (arith, e)) (sym c.in-Some.ensures.value) listed in
     (λ t. told.1 (c.opens.ensures.0 c.if-opens.true, (c.starts.ensures claims).0 t), λ b. (c.starts.ensures claims).1 (told.0 b).1)

@@ -1,0 +1,48 @@
+//! The sets that the routines of a block are tried with: they decide how often a rule is asked, and never what is answered.
+
+ghost use Rattle.std.specs.Prelude.{◌≤◌};
+
+use crate::blocks::BLOCK_LENGTH;
+use crate::callees::byte_at;
+use zcert::{Certificate, Spelled};
+use zdomain::Domain;
+use zstory::Story;
+
+/// A set in which an argument may lie for each routine of a block: what their locals of an index have in common.
+pub(crate) fn tried_set<V: Spelled>(
+    story: &Story,
+    certificate: &Certificate<V>,
+    base: u16,
+    index: usize,
+) -> V
+    requires { base ≤ 65472 }
+{
+    let mut set = V::any();
+    for offset in 0..BLOCK_LENGTH {
+        let place = 2 * u32::from(base + offset);
+        let Some(common) = common_with(story, certificate, place, index, set) else {
+            return set;
+        };
+        set = common;
+    }
+    set
+}
+
+/// What a set has in common with the local of an index, if the routine at a place has it, of the words that this may begin with.
+fn common_with<V: Spelled>(
+    story: &Story,
+    certificate: &Certificate<V>,
+    place: u32,
+    index: usize,
+    set: V,
+) -> Option<V>
+    requires { place ≤ 131070 }
+{
+    certificate.routine_index(place)?;
+    let words = u32::from(byte_at(story.memory(), place as usize));
+    let first = certificate.instruction_at(place + 1 + 2 * words)?;
+    match first.locals.get(index) {
+        Some(local) => set.meet(*local),
+        None => Some(set),
+    }
+}
