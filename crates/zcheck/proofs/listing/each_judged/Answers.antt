@@ -1,8 +1,6 @@
-use Rattle.std.proofs.Common.{rules, arith, length, ◌≤◌, ◌+◌, ◌∙◌, sym, refl, subst, take, List}
-use Rattle.std.specs.List.{AllZip}
+use Rattle.std.proofs.Common.{rules, arith, length, ◌≤◌, ◌∙◌, refl}
 use Rattle.std.proofs.lemmas.Option.{slice_get_within}
 use Rattle.zcert.specs.Listed.{seen}
-use Rattle.zlist.specs.declared.record.Record.{Record}
 use Rattle.zcheck.specs.Acceptance.{IsRecordOf}
 use Rattle.zcheck.proofs.Lists.{zip_more}
 use Rattle.zcheck.proofs.Places.{first_broken, first_more, passes_where}
@@ -19,7 +17,7 @@ loop-index-preserved g c =
     let made = zip_more (IsRecordOf c.args.story.now) c.args.certificate.now.instructions c.loop-index.records.items c.loop-index.index (seen c.instruction-listed.result) _ c.instruction-listed.ensures.value c.loop-index.invariant.made here in
     record {
       kept = first_more g.V.Domain.operations c.args.story.now c.args.certificate.now c.loop-index.index (seen c.instruction-listed.result) c.instruction-listed.ensures.value c.loop-index.invariant.kept c.in-Ok.ensures.kept;
-      made = subst (λ (rs : List Record). AllZip (IsRecordOf c.args.story.now) (take (c.loop-index.index + 1) c.args.certificate.now.instructions) rs) (sym c.push_reserved.ensures.items) made;
+      made = rw c.push_reserved.ensures.items made;
       count = search rules;
       room = search rules;
       same = c.judge.ensures.memory ∙ c.loop-index.invariant.same;
