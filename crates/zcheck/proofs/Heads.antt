@@ -1,6 +1,6 @@
 -- Routines whose heads are there can be called.
-use Rattle.std.proofs.Common.{◌≡◌, ℕ, zero, suc, ◌+◌, ◌*◌, ◌%◌, ◌≤◌, Bool, true, false, nat_lt, nat_le, List, [], ◌∷◌, length, map, Option, Some, None, arith, refl, subst, if◌then◌else◌}
-use Rattle.std.specs.Prelude.{◌==◌, ◌||◌, slice_get, option_map}
+use Rattle.std.proofs.Common.{◌≡◌, ◌↔◌, ℕ, zero, suc, ◌+◌, ◌*◌, ◌%◌, ◌≤◌, Bool, true, false, nat_lt, nat_le, List, [], ◌∷◌, length, map, Option, Some, None, arith, refl, subst, if◌then◌else◌}
+use Rattle.std.specs.Prelude.{◌==◌, ◌||◌, All, slice_get, option_map}
 use Rattle.std.specs.List.{list_any, AllByRecursion}
 use Rattle.std.proofs.lemmas.Bool.{lt-ltb, le-leb}
 use Rattle.std.proofs.lemmas.Option.{same_Some}
@@ -17,11 +17,19 @@ use Rattle.zstate.specs.State.{has_head}
 use Rattle.zrule.specs.Claims.{claims_of}
 use Rattle.zrule.specs.Rules.{HasHeads}
 use Rattle.zcheck.specs.Passes.{HasHead}
+use Rattle.zcheck.proofs.Apart.{each_of}
 
 each_at : {A : Type 0} (P : A → Type 0) (xs : List A) (k : ℕ) (x : A) → AllByRecursion P xs → slice_get xs k ≡ Some x → P x
 each_at P [] k x each e = absurd cc
 each_at P (y ∷ xs) zero x each e = subst P (same_Some y x e) each.0
 each_at P (y ∷ xs) (suc k) x each e = each_at P xs k x each.1 e
+
+-- whatever says that each of these has its head says so of the same routines by recursion
+pub heads_told : {V : Type 0} {A : Type 0} (story : LoadedStory) (rs us : List (Routine V)) → us ≡ rs → A ↔ All (HasHead story) us → A ↔ AllByRecursion (HasHead story) rs
+heads_told {V} {A} story rs us same told =
+    let each = each_of (HasHead {V = V} story) rs in
+    let here = subst (λ (xs : List (Routine V)). A ↔ All (HasHead story) xs) same told in
+    (λ a. each.0 (here.0 a), λ all. here.1 (each.1 all))
 
 eq_test : (n : ℕ) → n ≡ 0 → (n == 0) ≡ true
 eq_test n e = rw e refl

@@ -1,6 +1,7 @@
 mod Apart
 mod Order
 mod First
+mod Globals
 mod Places
 mod Lists
 mod Heads

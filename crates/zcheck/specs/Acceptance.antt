@@ -9,18 +9,22 @@ use Rattle.zlist.specs.declared.record.Record.{Record}
 use Rattle.zlist.specs.Listing.{ListedCode}
 use Rattle.zcert.specs.Certificate.{Instruction, Certificate}
 use Rattle.zdomain.specs.declared.interval.Interval.{Interval}
-use Rattle.zdomain.specs.Interval.{interval_operations}
+use Rattle.zdomain.specs.Domain.{SetOperations}
 use Rattle.zstate.specs.State.{Scope, opening, scope_all, scope_only, usual_limit}
 use Rattle.zstate.specs.Run.{run}
 use Rattle.zplace.specs.Bytes.{IsFixed}
 use Rattle.zrule.specs.Claims.{claims_of}
 use Rattle.zrule.specs.Described.{IsNoFault}
 
--- a story, its certificate, and the certificate's listing
-pub record Acceptance : Type 0 where
+-- a story, its certificate over a type V of sets of words, and the certificate's listing
+pub record AcceptanceOver (V : Type 0) : Type 0 where
   pub story : LoadedStory
-  pub certificate : Certificate Interval
+  pub certificate : Certificate V
   pub listing : ListedCode
+
+-- the certificate being one of intervals
+abbrev pub Acceptance : Type 0
+Acceptance = AcceptanceOver Interval
 
 -- a record is of the listed instruction, as the story spells it
 pub record IsRecordOf {V : Type 0} (story : LoadedStory) (i : Instruction V) (r : Record) : Type 0 where
@@ -45,7 +49,7 @@ abbrev pub RunsWithoutFault : LoadedStory → Scope → Type 0
 RunsWithoutFault story scope = (events : List Event) (n : ℕ) → IsNoFault (run (record { story = story; scope = scope; limit = usual_limit }) events n (opening story)).stop
 
 -- with the certificate's listing as with every place of the story
-pub record NeverFaults (a : Acceptance) : Type 0 where
+pub record NeverFaults {V : Type 0} (a : AcceptanceOver V) : Type 0 where
   pub listed : RunsWithoutFault a.story (scope_only a.listing)
   pub everywhere : RunsWithoutFault a.story (scope_all a.story)
 
@@ -55,6 +59,6 @@ RunsWithoutChange story is_frozen scope =
     (events : List Event) (n p : ℕ) → IsFixed story is_frozen p ⊎ (is_frozen p ≡ true) → byte_at (run (record { story = story; scope = scope; limit = usual_limit }) events n (opening story)).state.memory p ≡ byte_at story.memory p
 
 -- with the one listing as with the other
-pub record NeverChanges (a : Acceptance) : Type 0 where
-  pub listed : RunsWithoutChange a.story (claims_of interval_operations a.certificate).is_frozen (scope_only a.listing)
-  pub everywhere : RunsWithoutChange a.story (claims_of interval_operations a.certificate).is_frozen (scope_all a.story)
+pub record NeverChanges {V : Type 0} (o : SetOperations V) (a : AcceptanceOver V) : Type 0 where
+  pub listed : RunsWithoutChange a.story (claims_of o a.certificate).is_frozen (scope_only a.listing)
+  pub everywhere : RunsWithoutChange a.story (claims_of o a.certificate).is_frozen (scope_all a.story)

@@ -1,8 +1,6 @@
 //! The checker.
 
 ghost use Rattle.std.specs.Prelude.{◌≡◌, IfOk, IfErr};
-ghost use Rattle.zdomain.specs.Interval.{interval_operations};
-ghost use Rattle.zcert.specs.Format.{interval_format};
 ghost use Rattle.zcert.specs.Spelling.{HasSpelling};
 ghost use Rattle.zrule.specs.Described.{IsLoadedStory};
 ghost use Rattle.zcheck.specs.Acceptance.{IsListingOf, NeverChanges, NeverFaults};
@@ -12,7 +10,7 @@ use crate::accepted::Accepted;
 use crate::listing::judged_listing;
 use crate::refusal::Refusal;
 use std::alloc::Global;
-use zcert::Certificate;
+use zcert::{Certificate, Spelled};
 use zstory::Story;
 
 /// Accepts a story with a certificate that passes, and else says what is wrong first (own).
@@ -20,14 +18,18 @@ use zstory::Story;
 /// Whatever is typed, drawn or answered, and however long it is played, a story that is accepted meets no fault, and no
 /// byte changes that is fixed or that the certificate says is frozen. Both are taken over; a refusal hands nothing
 /// back. `OutOfMemory` is answered only for a certificate that passes.
-pub fn check(alloc: Global, story: Story, certificate: Certificate) -> Result<Accepted, Refusal>
+pub fn check<V: Spelled>(
+    alloc: Global,
+    story: Story,
+    certificate: Certificate<V>,
+) -> Result<Accepted<V>, Refusal>
     ensures story { IfOk result (λ a. a.story ≡ story) }
     ensures certificate { IfOk result (λ a. a.certificate ≡ certificate) }
     ensures lists { IfOk result (λ a. IsListingOf story certificate a.listing) }
-    ensures passes { IfOk result (λ a. Passes interval_operations story certificate) }
-    ensures refused { IfErr result (IsRefused interval_operations story certificate) }
+    ensures passes { IfOk result (λ a. Passes V.operations story certificate) }
+    ensures refused { IfErr result (IsRefused V.operations story certificate) }
     ensures never_faults { IfOk result NeverFaults }
-    ensures never_changes { IfOk result NeverChanges }
+    ensures never_changes { IfOk result (NeverChanges V.operations) }
 {
     let listing = judged_listing(alloc, &story, &certificate)?;
     loaded_soundly(&story);
@@ -43,8 +45,8 @@ fn loaded_soundly(story: &Story)
 }
 
 /// Every certificate has a spelling.
-fn well_spelled(certificate: &Certificate)
-    ensures { HasSpelling interval_format certificate.now }
+fn well_spelled<V: Spelled>(certificate: &Certificate<V>)
+    ensures { HasSpelling V.format certificate.now }
 {
     let _ranges = certificate.ranges();
 }

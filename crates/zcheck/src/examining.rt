@@ -1,20 +1,19 @@
 //! What is wrong first with a certificate.
 
 ghost use Rattle.std.specs.Prelude.{MatchOption};
-ghost use Rattle.zdomain.specs.Interval.{interval_operations};
 ghost use Rattle.zcheck.specs.Passes.{IsCause, IsRefused, Passes};
 
 use crate::refusal::Refusal;
 use crate::story_rules::broken_story_rule;
-use zcert::Certificate;
+use zcert::{Certificate, Spelled};
 use zrule::judge;
 use zstory::Story;
 use ztext::TextEnds;
 
 /// What is wrong first with a certificate for a story, and `None` where it passes (own). It takes no memory, and is
 /// never `OutOfMemory`.
-pub fn examine(story: &Story, certificate: &Certificate) -> Option<Refusal>
-    ensures { MatchOption result (Passes interval_operations story.now certificate.now) (IsCause interval_operations story.now certificate.now) }
+pub fn examine<V: Spelled>(story: &Story, certificate: &Certificate<V>) -> Option<Refusal>
+    ensures { MatchOption result (Passes V.operations story.now certificate.now) (IsCause V.operations story.now certificate.now) }
 {
     if let Some(rule) = broken_story_rule(story, certificate) {
         return Some(Refusal::Story(rule));
@@ -22,7 +21,7 @@ pub fn examine(story: &Story, certificate: &Certificate) -> Option<Refusal>
     let mut ends = TextEnds::new(story.memory());
     for index in 0..certificate.instruction_count() {
         let listed = certificate.instruction(index);
-        if let Err(rule) = judge(story, certificate, &listed, index + 1, &mut ends) {
+        if let Err(rule) = judge(story, certificate, &listed, index + 1, &mut ends, None) {
             return Some(Refusal::Instruction(listed.address, rule));
         }
     }
@@ -30,8 +29,11 @@ pub fn examine(story: &Story, certificate: &Certificate) -> Option<Refusal>
 }
 
 /// What is answered for want of memory: what is wrong first, where something is.
-pub(crate) fn refusal_without_memory(story: &Story, certificate: &Certificate) -> Refusal
-    ensures { IsRefused interval_operations story.now certificate.now result }
+pub(crate) fn refusal_without_memory<V: Spelled>(
+    story: &Story,
+    certificate: &Certificate<V>,
+) -> Refusal
+    ensures { IsRefused V.operations story.now certificate.now result }
 {
     match examine(story, certificate) {
         Some(refusal) => refusal,

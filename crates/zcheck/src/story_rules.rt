@@ -3,7 +3,6 @@
 ghost use Rattle.std.specs.Prelude.{◌≡◌, ◌↔◌, [], IsTrue, MatchOption};
 ghost use Rattle.std.specs.List.{All, AllByRecursion};
 ghost use Rattle.zstory.specs.LoadedStory.{first_instruction};
-ghost use Rattle.zdomain.specs.Interval.{interval_operations};
 ghost use Rattle.zrule.specs.Claims.{claims_of};
 ghost use Rattle.zrule.specs.Rules.{HasFirstPlace};
 ghost use Rattle.zcheck.specs.declared.refusal.StoryRule.{StoryRule as ARule};
@@ -12,8 +11,7 @@ ghost use Rattle.zcheck.specs.Passes.{HasHead, KeepsStory, IsLowestStoryRule};
 use crate::objects::has_tree;
 use crate::refusal::StoryRule;
 use crate::tables::{has_abbreviations, has_disjoint_tables, has_globals};
-use zcert::{Certificate, Instruction, Routine};
-use zdomain::Interval;
+use zcert::{Certificate, Instruction, Routine, Spelled};
 use zplace::has_property_tables;
 use zstory::Story;
 
@@ -30,8 +28,11 @@ const RULES: [StoryRule; 8] = [
 ];
 
 /// The lowest rule that the story breaks.
-pub(crate) fn broken_story_rule(story: &Story, certificate: &Certificate) -> Option<StoryRule>
-    ensures { MatchOption result ((rule : ARule) → KeepsStory interval_operations story.now certificate.now rule) (IsLowestStoryRule interval_operations story.now certificate.now) }
+pub(crate) fn broken_story_rule<V: Spelled>(
+    story: &Story,
+    certificate: &Certificate<V>,
+) -> Option<StoryRule>
+    ensures { MatchOption result ((rule : ARule) → KeepsStory V.operations story.now certificate.now rule) (IsLowestStoryRule V.operations story.now certificate.now) }
 {
     for rule in RULES {
         if !keeps(story, certificate, rule) {
@@ -42,8 +43,8 @@ pub(crate) fn broken_story_rule(story: &Story, certificate: &Certificate) -> Opt
 }
 
 /// Whether the story keeps a rule.
-fn keeps(story: &Story, certificate: &Certificate, rule: StoryRule) -> bool
-    ensures { IsTrue result ↔ KeepsStory interval_operations story.now certificate.now rule }
+fn keeps<V: Spelled>(story: &Story, certificate: &Certificate<V>, rule: StoryRule) -> bool
+    ensures { IsTrue result ↔ KeepsStory V.operations story.now certificate.now rule }
 {
     match rule {
         StoryRule::Identity => certificate.identity() == story.identity(),
@@ -58,8 +59,8 @@ fn keeps(story: &Story, certificate: &Certificate, rule: StoryRule) -> bool
 }
 
 /// Whether the first place is listed as the main code begins.
-fn has_first_place(story: &Story, certificate: &Certificate) -> bool
-    ensures { IsTrue result ↔ HasFirstPlace interval_operations (claims_of interval_operations certificate.now) story.now }
+fn has_first_place<V: Spelled>(story: &Story, certificate: &Certificate<V>) -> bool
+    ensures { IsTrue result ↔ HasFirstPlace V.operations (claims_of V.operations certificate.now) story.now }
 {
     match certificate.instruction_at(first_place(story)) {
         Some(first) => is_bare(&first),
@@ -76,28 +77,28 @@ fn first_place(story: &Story) -> u32
 }
 
 /// Whether an instruction is in the main code, with no local and an empty stack.
-fn is_bare(listed: &Instruction<'_, Interval>) -> bool
+fn is_bare<V: Spelled>(listed: &Instruction<'_, V>) -> bool
     ensures { IsTrue result ↔ ((listed.now.routine ≡ 0) × (listed.now.locals.now ≡ []) × (listed.now.slots.now ≡ [])) }
 {
     listed.routine == 0 && listed.locals.is_empty() && listed.slots.is_empty()
 }
 
 /// Whether each routine's head is where it is stated.
-fn has_heads(story: &Story, certificate: &Certificate) -> bool
+fn has_heads<V: Spelled>(story: &Story, certificate: &Certificate<V>) -> bool
     ensures { IsTrue result ↔ AllByRecursion (HasHead story.now) certificate.now.routines }
 {
     has_each_head(story, certificate.routines())
 }
 
 /// Whether each of these routines has its head.
-fn has_each_head(story: &Story, routines: &[Routine<Interval>]) -> bool
+fn has_each_head<V: Spelled>(story: &Story, routines: &[Routine<V>]) -> bool
     ensures { IsTrue result ↔ All (HasHead story.now) routines.now }
 {
     routines.iter().all(|routine| has_head(story, *routine))
 }
 
 /// Whether a routine's head lies at an even place of static memory, whole and with the stated count of locals.
-fn has_head(story: &Story, routine: Routine<Interval>) -> bool
+fn has_head<V: Spelled>(story: &Story, routine: Routine<V>) -> bool
     ensures { IsTrue result ↔ HasHead story.now routine }
 {
     let memory = story.memory();

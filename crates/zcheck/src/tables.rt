@@ -2,15 +2,13 @@
 
 ghost use Rattle.std.specs.Prelude.{◌≡◌, ◌↔◌, ◌+◌, ◌*◌, ◌≤◌, ◌<◌, IsTrue};
 ghost use Rattle.std.specs.List.{All};
-ghost use Rattle.zdomain.specs.Interval.{interval_operations};
 ghost use Rattle.zrule.specs.Claims.{claims_of};
 ghost use Rattle.zstory.specs.LoadedStory.{abbreviations};
 ghost use Rattle.zplace.specs.Bytes.{IsUnchanging};
 ghost use Rattle.zrule.specs.Rules.{global_in, HasAbbreviations, HasDisjointTables, HasGlobals};
 ghost use Rattle.zcheck.specs.Tables.{HasAbbreviation, IsFrozenApart, AreApart};
 
-use zcert::{Certificate, Range};
-use zdomain::Domain;
+use zcert::{Certificate, Range, Spelled};
 use zplace::is_unchanging;
 use zstory::{DEFAULTS_LENGTH, GLOBALS_LENGTH, OBJECT_ENTRY_LENGTH, Story};
 use ztext::plain_abbreviation;
@@ -22,8 +20,8 @@ const ABBREVIATIONS: u8 = 96;
 const HEADER_LENGTH: usize = 64;
 
 /// Whether each global lies in its set as it is loaded.
-pub(crate) fn has_globals(story: &Story, certificate: &Certificate) -> bool
-    ensures { IsTrue result ↔ HasGlobals interval_operations (claims_of interval_operations certificate.now) story.now story.now.memory }
+pub(crate) fn has_globals<V: Spelled>(story: &Story, certificate: &Certificate<V>) -> bool
+    ensures { IsTrue result ↔ HasGlobals V.operations (claims_of V.operations certificate.now) story.now story.now.memory }
 {
     let sets = certificate.globals();
     for index in 0..sets.len() {
@@ -79,8 +77,8 @@ fn is_entry_unchanging(story: &Story, number: u8) -> bool
 }
 
 /// Whether the globals and the object table share no byte, and each range lies where it may be frozen.
-pub(crate) fn has_disjoint_tables(story: &Story, certificate: &Certificate) -> bool
-    ensures { IsTrue result ↔ HasDisjointTables story.now (claims_of interval_operations certificate.now).is_frozen }
+pub(crate) fn has_disjoint_tables<V: Spelled>(story: &Story, certificate: &Certificate<V>) -> bool
+    ensures { IsTrue result ↔ HasDisjointTables story.now (claims_of V.operations certificate.now).is_frozen }
 {
     are_tables_apart(story) && are_frozen_apart(story, certificate.ranges())
 }

@@ -11,15 +11,13 @@ use Rattle.zlist.specs.Listing.{is_routine}
 use Rattle.zcert.specs.Certificate.{Instruction, Certificate}
 use Rattle.zcert.specs.declared.parts.Routine.{Routine}
 use Rattle.zcert.specs.Listed.{listed_at, routine_at}
-use Rattle.zdomain.specs.Domain.{SetOperations}
-use Rattle.zdomain.specs.Interval.{interval_operations}
-use Rattle.zdomain.specs.IntervalLaw.{interval_sound}
-use Rattle.zcert.specs.Format.{interval_format}
+use Rattle.zdomain.specs.Domain.{SetOperations, AreSound}
+use Rattle.zcert.specs.Format.{Format}
 use Rattle.zstate.specs.State.{has_head, scope_only}
 use Rattle.zrule.specs.Described.{IsListedIn}
 use Rattle.zrule.specs.Claims.{claims_of, entry_of}
 use Rattle.zrule.specs.Rules.{Supports}
-use Rattle.zcheck.specs.Acceptance.{Acceptance, IsRecordOf}
+use Rattle.zcheck.specs.Acceptance.{AcceptanceOver, IsRecordOf}
 use Rattle.zcheck.proofs.Headline.{lists_where, supports_where}
 use Rattle.zplay.specs.Accepted.{IsJudged, IsAccepted, claims}
 
@@ -82,20 +80,20 @@ one_more {A} {B} {C} f g ys zs xs k d y more made within is =
     let right : map f (take (k + 1) xs) ≡ map f (take k xs) ++ (f (get_or xs k d) ∷ []) = ap (map f) next ∙ map-append f (take k xs) (get_or xs k d ∷ []) in
     left ∙ ap (λ (cs : List C). cs ++ (g y ∷ [])) made ∙ ap (λ (c : C). map f (take k xs) ++ (c ∷ [])) is ∙ sym right
 
-module _ (a : Acceptance) (accepted : IsAccepted a) where
+module _ {V : Type 0} (o : SetOperations V) (lawful : AreSound o) (format : Format V) (a : AcceptanceOver V) (accepted : IsAccepted o format a) where
   -- each record is of an instruction of which something is said,
-  pub judged_each : All (λ r. IsJudged a.story (claims a) r) a.listing.records
-  judged_each = each_judged interval_operations a.story a.certificate a.listing.records accepted.lists.records
+  pub judged_each : All (λ r. IsJudged a.story (claims o a) r) a.listing.records
+  judged_each = each_judged o a.story a.certificate a.listing.records accepted.lists.records
 
   -- and each place of which something is said is listed
-  pub listed_each : IsListedIn interval_operations (claims a) (scope_only a.listing)
-  listed_each = lists_where interval_operations interval_sound interval_format a.story a.certificate accepted.spelling a.listing accepted.lists
+  pub listed_each : IsListedIn o (claims o a) (scope_only a.listing)
+  listed_each = lists_where o lawful format a.story a.certificate accepted.spelling a.listing accepted.lists
 
-  pub supported : Supports interval_operations (claims a) a.story
-  supported = supports_where interval_operations interval_sound interval_format a.story a.certificate accepted.spelling accepted.passes
+  pub supported : Supports o (claims o a) a.story
+  supported = supports_where o lawful format a.story a.certificate accepted.spelling accepted.passes
 
   -- each routine that is listed is one of which something is said, and has a head
-  pub claimed : (p : ℕ) → is_routine a.listing p ≡ true → (k : ℕ) × ((claims a).routine_at p ≡ Some k)
+  pub claimed : (p : ℕ) → is_routine a.listing p ≡ true → (k : ℕ) × ((claims o a).routine_at p ≡ Some k)
   claimed p there = routine_among a.certificate.routines p (subst (λ (ps : List ℕ). list_any (λ q. q == p) ps ≡ true) accepted.lists.routines there)
 
   pub each_headed : All (λ p. has_head a.story.memory p ≡ true) a.listing.routines

@@ -7,7 +7,7 @@ use Rattle.zcode.specs.Playable.{playable}
 use Rattle.zcode.specs.Operation.{operation_of}
 use Rattle.zcert.specs.Certificate.{Certificate}
 use Rattle.zdomain.specs.declared.interval.Interval.{Interval}
-use Rattle.zdomain.specs.Interval.{point}
+use Rattle.zdomain.specs.Interval.{point, interval_operations}
 use Rattle.zstate.specs.State.{opening}
 use Rattle.zcheck.specs.Acceptance.{Acceptance}
 use Rattle.zplay.specs.Session.{first_at, game_of, stands_in}
@@ -37,11 +37,11 @@ a : Acceptance
 a = record { story = story; certificate = certificate; listing = record { records = []; routines = [] } }
 
 -- a jump whose certificate leaves it one word, one of two, one that isn't listed, and what is no jump
-firsts : (first_at a 64 ≡ Some 5) × (first_at a 66 ≡ None) × (first_at a 68 ≡ None) × (first_at a 70 ≡ None)
+firsts : (first_at interval_operations a 64 ≡ Some 5) × (first_at interval_operations a 66 ≡ None) × (first_at interval_operations a 68 ≡ None) × (first_at interval_operations a 70 ≡ None)
 unfolding a certificate either story memory operation_of playable instruction_by head_at short_head played_opcode checked_head operand_at operands_at store_if branch_if text_if
 firsts = (refl, refl, refl, refl)
 
 -- it is played as it opens, where only what is listed is played, with the usual limit of frames
-games : ((game_of a).other ≡ opening story) × ((game_of a).setting.limit ≡ 1024) × ((game_of a).setting.scope.instructions 70 ≡ false) × ((game_of a).first 64 ≡ first_at a 64) × (stands_in a None ≡ opening story)
+games : ((game_of interval_operations a).other ≡ opening story) × ((game_of interval_operations a).setting.limit ≡ 1024) × ((game_of interval_operations a).setting.scope.instructions 70 ≡ false) × ((game_of interval_operations a).first 64 ≡ first_at interval_operations a 64) × (stands_in interval_operations a None ≡ opening story)
 unfolding a
 games = (refl, refl, refl, refl, refl)

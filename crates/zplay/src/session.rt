@@ -18,6 +18,7 @@ use crate::rows::{callees_of, rows_of};
 use std::alloc::{AllocError, Global};
 use std::marker::Model;
 use zboard::{Board, Callee, Row, play};
+use zcert::Spelled;
 use zcheck::Accepted;
 use zdomain::Interval;
 use zfault::{Event, Items, Need, Pause};
@@ -33,8 +34,8 @@ const FRAME_LIMIT: u16 = 1024;
 /// Any sequence of calls of `run` and `give` is one run over a list of events, by the law `zstate::runs_join`: its
 /// premises are what `run` says of the steps that were made, and what `give` asks for.
 #[derive(Drop)]
-pub struct Session<'a> {
-    accepted: &'a Accepted,
+pub struct Session<'a, V: Spelled = Interval> {
+    accepted: &'a Accepted<V>,
     /// The listed instructions, as they are played.
     rows: Vec<Row>,
     /// The listed routines, as they are called.
@@ -45,25 +46,25 @@ pub struct Session<'a> {
     text: Vec<u8>,
 }
 
-impl<'a> Model for Session<'a> {
+impl<'a, V: Spelled> Model for Session<'a, V> {
     ghost use Rattle.std.specs.Prelude.{map};
     ghost use Rattle.zboard.specs.Head.{head_of};
-    ghost use Rattle.zplay.specs.Session.{Playing, IsPlayed, stands_in};
+    ghost use Rattle.zplay.specs.Session.{PlayingOver, IsPlayed, stands_in};
 
-    ghost Value = { Playing };
+    ghost Value = { PlayingOver V };
 
-    ghost view = { λ p. record { accepted = p.accepted.now; state = stands_in p.accepted.now p.board } };
+    ghost view = { λ p. record { accepted = p.accepted.now; state = stands_in V.operations p.accepted.now p.board } };
 
-    ghost invariant = { λ p. IsPlayed p.accepted.now p.rows.items (map head_of p.callees.items) p.board };
+    ghost invariant = { λ p. IsPlayed V.operations V.format p.accepted.now p.rows.items (map head_of p.callees.items) p.board };
 }
 
-impl<'a> Session<'a> {
+impl<'a, V: Spelled> Session<'a, V> {
     /// The session that stands where the story opens (Z 6.1.3). All its frames are reserved here. Want of memory is the only
     /// error.
-    pub fn start(alloc: Global, accepted: &'a Accepted) -> Result<Session<'a>, AllocError>
+    pub fn start(alloc: Global, accepted: &'a Accepted<V>) -> Result<Session<'a, V>, AllocError>
         ensures { IfOk result (λ p. p ≡ record { accepted = accepted.now; state = opening accepted.now.story }) }
     {
-        each_step_is_safe::<Interval>();
+        each_step_is_safe::<V>();
         known_of(accepted);
         let story = accepted.story();
         let Some(index) = accepted.listing().index_of(story.first_instruction()) else {
@@ -87,8 +88,8 @@ impl<'a> Session<'a> {
 
     /// What steps move.
     fn board(&self) -> &Board
-        ensures state { self.now.state ≡ state_in (game_of self.now.accepted) (position_of result.now) }
-        ensures play { (rows : List ARow) × (heads : List Head) × IsInPlay self.now.accepted rows heads (position_of result.now) }
+        ensures state { self.now.state ≡ state_in (game_of V.operations self.now.accepted) (position_of result.now) }
+        ensures play { (rows : List ARow) × (heads : List Head) × IsInPlay V.operations V.format self.now.accepted rows heads (position_of result.now) }
     {
         match &self.board {
             Some(board) => board,
@@ -174,14 +175,14 @@ impl<'a> Session<'a> {
     pub fn never_faults(&self)
         ensures { (events : List AnEvent) (n : ℕ) → IsNoFault (run (setting self.now) events n self.now.state).stop }
     {
-        each_step_is_safe::<Interval>();
+        each_step_is_safe::<V>();
         let _board = self.board();
     }
 }
 
 /// What is known of an accepted story.
-fn known_of(accepted: &Accepted)
-    ensures { IsAccepted accepted.now }
+fn known_of<V: Spelled>(accepted: &Accepted<V>)
+    ensures { IsAccepted V.operations V.format accepted.now }
 {
     let _memory = accepted.story().memory();
     let _listing = accepted.listing();

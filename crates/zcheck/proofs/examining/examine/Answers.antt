@@ -1,23 +1,21 @@
 use Rattle.std.proofs.Common.{rules, arith, length, ◌≤◌, ◌∙◌}
 use Rattle.std.proofs.lemmas.Option.{slice_get_within}
-use Rattle.zcert.specs.Format.{interval_format}
 use Rattle.zcert.specs.Listed.{seen}
-use Rattle.zdomain.specs.Interval.{interval_operations}
 use Rattle.zcheck.proofs.Places.{first_broken, first_more, passes_where}
 use Rattle.zcheck.proofs.examining.examine.Goals as goal
 
 pub returns-in-Err : goal.returns-in-Err
-returns-in-Err c =
+returns-in-Err g c =
     let listed = c.instruction-listed.ensures in
-    first_broken interval_operations c.args.story.now c.args.certificate.now interval_format listed.keeps c.in_default.ensures c.loop-index.index (seen c.instruction-listed.result) c.in-Err.rule listed.value listed.listed c.loop-index.invariant.kept c.in-Err.ensures.broken
+    first_broken g.V.Domain.operations c.args.story.now c.args.certificate.now g.V.Spelled.format listed.keeps c.in_default.ensures c.loop-index.index (seen c.instruction-listed.result) c.in-Err.rule listed.value listed.listed c.loop-index.invariant.kept c.in-Err.ensures.broken
 
 pub loop-index-preserved : goal.loop-index-preserved
-loop-index-preserved c = record {
-  kept = first_more interval_operations c.args.story.now c.args.certificate.now c.loop-index.index (seen c.instruction-listed.result) c.instruction-listed.ensures.value c.loop-index.invariant.kept c.in_default-judge.ensures.kept;
+loop-index-preserved g c = record {
+  kept = first_more g.V.Domain.operations c.args.story.now c.args.certificate.now c.loop-index.index (seen c.instruction-listed.result) c.instruction-listed.ensures.value c.loop-index.invariant.kept c.in_default-judge.ensures.kept;
   same = c.judge.ensures.memory ∙ c.loop-index.invariant.same;
 }
 
 pub returns : goal.returns
-returns c =
+returns g c =
     let end : length c.args.certificate.now.instructions ≤ c.loop-index.index = search (rules, arith) in
-    passes_where interval_operations c.args.story.now c.args.certificate.now c.in_default.ensures (λ k i found. let l = slice_get_within c.args.certificate.now.instructions k i found in c.loop-index.invariant.kept k (omega (arith, l, end)) i found)
+    passes_where g.V.Domain.operations c.args.story.now c.args.certificate.now c.in_default.ensures (λ k i found. let l = slice_get_within c.args.certificate.now.instructions k i found in c.loop-index.invariant.kept k (omega (arith, l, end)) i found)

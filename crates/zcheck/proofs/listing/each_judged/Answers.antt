@@ -1,33 +1,29 @@
-use Rattle.std.proofs.Common.{rules, arith, length, ◌≤◌, ◌+◌, ◌∙◌, sym, refl, subst, take, List}
-use Rattle.std.specs.List.{AllZip}
+use Rattle.std.proofs.Common.{rules, arith, length, ◌≤◌, ◌∙◌, refl}
 use Rattle.std.proofs.lemmas.Option.{slice_get_within}
-use Rattle.zcert.specs.Format.{interval_format}
 use Rattle.zcert.specs.Listed.{seen}
-use Rattle.zdomain.specs.Interval.{interval_operations}
-use Rattle.zlist.specs.declared.record.Record.{Record}
 use Rattle.zcheck.specs.Acceptance.{IsRecordOf}
 use Rattle.zcheck.proofs.Lists.{zip_more}
 use Rattle.zcheck.proofs.Places.{first_broken, first_more, passes_where}
 use Rattle.zcheck.proofs.listing.each_judged.Goals as goal
 
 pub returns-in-Err-clause-refused : goal.returns-in-Err-clause-refused
-returns-in-Err-clause-refused c =
+returns-in-Err-clause-refused g c =
     let listed = c.instruction-listed.ensures in
-    first_broken interval_operations c.args.story.now c.args.certificate.now interval_format listed.keeps c.requires.story_rules c.loop-index.index (seen c.instruction-listed.result) c.in-Err.rule listed.value listed.listed c.loop-index.invariant.kept c.in-Err.ensures.broken
+    first_broken g.V.Domain.operations c.args.story.now c.args.certificate.now g.V.Spelled.format listed.keeps c.requires.story_rules c.loop-index.index (seen c.instruction-listed.result) c.in-Err.rule listed.value listed.listed c.loop-index.invariant.kept c.in-Err.ensures.broken
 
 pub loop-index-preserved : goal.loop-index-preserved
-loop-index-preserved c =
+loop-index-preserved g c =
     let here : IsRecordOf c.args.story.now (seen c.instruction-listed.result) (record { address = c.instruction-listed.result.address; routine = c.instruction-listed.result.routine; instruction = c.in-Ok.instruction }) = record { address = refl; routine = refl; instruction = c.in-Ok.ensures.there.decodes } in
     let made = zip_more (IsRecordOf c.args.story.now) c.args.certificate.now.instructions c.loop-index.records.items c.loop-index.index (seen c.instruction-listed.result) _ c.instruction-listed.ensures.value c.loop-index.invariant.made here in
     record {
-      kept = first_more interval_operations c.args.story.now c.args.certificate.now c.loop-index.index (seen c.instruction-listed.result) c.instruction-listed.ensures.value c.loop-index.invariant.kept c.in-Ok.ensures.kept;
-      made = subst (λ (rs : List Record). AllZip (IsRecordOf c.args.story.now) (take (c.loop-index.index + 1) c.args.certificate.now.instructions) rs) (sym c.push_reserved.ensures.items) made;
+      kept = first_more g.V.Domain.operations c.args.story.now c.args.certificate.now c.loop-index.index (seen c.instruction-listed.result) c.instruction-listed.ensures.value c.loop-index.invariant.kept c.in-Ok.ensures.kept;
+      made = rw c.push_reserved.ensures.items made;
       count = search rules;
       room = search rules;
       same = c.judge.ensures.memory ∙ c.loop-index.invariant.same;
     }
 
 pub returns-clause-passes : goal.returns-clause-passes
-returns-clause-passes c =
+returns-clause-passes g c =
     let end : length c.args.certificate.now.instructions ≤ c.loop-index.index = search (rules, arith) in
-    passes_where interval_operations c.args.story.now c.args.certificate.now c.requires.story_rules (λ k i found. let l = slice_get_within c.args.certificate.now.instructions k i found in c.loop-index.invariant.kept k (omega (arith, l, end)) i found)
+    passes_where g.V.Domain.operations c.args.story.now c.args.certificate.now c.requires.story_rules (λ k i found. let l = slice_get_within c.args.certificate.now.instructions k i found in c.loop-index.invariant.kept k (omega (arith, l, end)) i found)

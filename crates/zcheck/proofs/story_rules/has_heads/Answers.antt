@@ -1,10 +1,5 @@
-use Rattle.std.proofs.Common.{rules}
-use Rattle.zdomain.specs.declared.interval.Interval.{Interval}
-use Rattle.zcheck.specs.Passes.{HasHead}
-use Rattle.zcheck.proofs.Apart.{each_of}
+use Rattle.zcheck.proofs.Heads.{heads_told}
 use Rattle.zcheck.proofs.story_rules.has_heads.Goals as goal
 
 pub returns : goal.returns
-returns c =
-    let each = each_of (HasHead {V = Interval} c.args.story.now) c.args.certificate.now.routines in
-    search (rules, each)
+returns g c = heads_told c.args.story.now _ _ c.routines.ensures.value c.has_each_head.ensures

@@ -6,4 +6,4 @@ use Rattle.zplay.proofs.Playing.{none_waited}
 use Rattle.zplay.proofs.session.Session.awaits.Goals as goal
 
 pub returns : goal.returns
-returns c = sym (ap (λ (s : State). awaited (setting c.args.self.now) s) c.board-board.ensures.state ∙ none_waited c.args.self.now.accepted c.board-board.ensures.play.0 c.board-board.ensures.play.1 _ c.board-board.ensures.play.2)
+returns g c = sym (ap (λ (s : State). awaited (setting c.args.self.now) s) c.board-board.ensures.state ∙ none_waited g.V.Domain.operations g.met.V.Domain.sound g.V.Spelled.format c.args.self.now.accepted c.board-board.ensures.play.0 c.board-board.ensures.play.1 _ c.board-board.ensures.play.2)

@@ -1,0 +1,18 @@
+-- Globals that lie in their sets, one after another.
+use Rattle.std.proofs.Common.{◌≡◌, ℕ, ◌+◌, ◌<◌, Some, sym, ◌∙◌, subst}
+use Rattle.std.specs.Prelude.{slice_get}
+use Rattle.std.proofs.lemmas.Option.{same_Some}
+use Rattle.zstory.specs.LoadedStory.{LoadedStory}
+use Rattle.zdomain.specs.Domain.{SetOperations, In}
+use Rattle.zcert.specs.Certificate.{Certificate}
+use Rattle.zrule.specs.Rules.{global_in}
+use Rattle.zrule.proofs.Below.{one_more}
+
+module _ {V : Type 0} (o : SetOperations V) (story : LoadedStory) (c : Certificate V) where
+  -- each of the first globals is in its set as it is loaded
+  abbrev pub HasFirstGlobals : ℕ → Type 0
+  HasFirstGlobals end = (k : ℕ) → k < end → (values : V) → slice_get c.globals k ≡ Some values → In o values (global_in story story.memory k)
+
+  pub global_more : (n : ℕ) (values : V) → slice_get c.globals n ≡ Some values → HasFirstGlobals n → In o values (global_in story story.memory n) → HasFirstGlobals (n + 1)
+  global_more n values at before here =
+      one_more (λ k. (v : V) → slice_get c.globals k ≡ Some v → In o v (global_in story story.memory k)) n before (λ v found. subst (λ (w : V). In o w (global_in story story.memory n)) (same_Some values v (sym at ∙ found)) here)
