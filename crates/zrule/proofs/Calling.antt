@@ -112,6 +112,7 @@ module _ {V : Type 0} (o : SetOperations V) (set : V) (P : ℕ → Type 0) where
           by_case : (x < w) ⊎ (w ≤ x) → P x
           by_case (inl less) = told.before x inside some less
           by_case (inr enough) = kept x enough most
+
       of : (next : Option ℕ) → IsNextAbove o set last next → Told next
       of None none = record { before = λ x inside some t. up_to x inside some (none x inside); here = tt }
       of (Some n) least = record {

@@ -37,6 +37,7 @@ module _ {V : Type 0} (o : SetOperations V) (claims : Claims V) where
       in_global : (values : Option V) → MatchOption values ⊥ (Within o wide) → MatchOption values ⊥ (Within o narrow)
       in_global None t = t
       in_global (Some values) t = λ x inside. t x (within x inside)
+
       by_kind : (c : Bool) (values : Option V) → MatchBool c (Unit {0}) (MatchOption values ⊥ (Within o wide)) → MatchBool c (Unit {0}) (MatchOption values ⊥ (Within o narrow))
       by_kind true values t = t
       by_kind false values t = in_global values t
