@@ -5,6 +5,7 @@ ghost use Rattle.zstate.specs.State.{Setting, State};
 ghost use Rattle.zstate.specs.Run.{run, Ends, GivesOut, Makes, Stands, WantsMemory};
 
 use std::alloc::AllocError;
+use zcert::Spelled;
 use zfault::{Items, Pause};
 use zplay::Session;
 use zref::CheckedMachine;
@@ -72,7 +73,7 @@ impl<'a> Machine for CheckedMachine<'a> {
     ghost same_setting = { same_setting_of_checked };
 }
 
-impl<'a> Machine for Session<'a> {
+impl<'a, V: Spelled> Machine for Session<'a, V> {
     ghost use Rattle.std.specs.Prelude.{refl};
     ghost use Rattle.std.proofs.Common.{◌∙◌, ap};
     ghost use Rattle.zplay.specs.Session.{setting as setting_of_session, setting_of};

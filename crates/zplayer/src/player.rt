@@ -15,6 +15,7 @@ use crate::machine::Machine;
 use crate::outside::{SaveStore, Words};
 use crate::screen::write_items;
 use std::alloc::Global;
+use zcert::Spelled;
 use zfault::{Failed, Items, Pause, Sink, Source};
 use zplay::Session;
 use zref::CheckedMachine;
@@ -57,9 +58,9 @@ pub fn play_checked<R: Source, W: Sink, S: SaveStore, G: Words>(
 }
 
 /// Plays the session from the state that it is in, as `play_checked` does a machine. It meets no fault.
-pub fn play_story<R: Source, W: Sink, S: SaveStore, G: Words>(
+pub fn play_story<V: Spelled, R: Source, W: Sink, S: SaveStore, G: Words>(
     alloc: Global,
-    session: &mut Session,
+    session: &mut Session<'_, V>,
     _reader: &mut R,
     writer: &mut W,
     _store: &mut S,

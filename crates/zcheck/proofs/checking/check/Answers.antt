@@ -1,14 +1,12 @@
-use Rattle.std.proofs.Common.{sym, subst}
-use Rattle.zcheck.specs.Acceptance.{NeverChanges, NeverFaults}
 use Rattle.zcheck.proofs.Headline.{never_changes, never_faults}
 use Rattle.zcheck.proofs.checking.check.Goals as goal
 
 pub returns-clause-never_faults : goal.returns-clause-never_faults
 returns-clause-never_faults g c =
     let safe = never_faults g.V.Domain.operations g.met.V.Domain.sound g.V.Spelled.format c.args.story c.args.certificate c.well_spelled.ensures c.in_ok-listing.listing c.loaded_soundly.ensures c.in_ok-listing.ensures.passes c.in_ok-listing.ensures.lists in
-    subst NeverFaults (sym c.new.ensures) (record { listed = safe.0; everywhere = safe.1 })
+    rw c.new.ensures (record { listed = safe.0; everywhere = safe.1 })
 
 pub returns-clause-never_changes : goal.returns-clause-never_changes
 returns-clause-never_changes g c =
     let same = never_changes g.V.Domain.operations g.met.V.Domain.sound g.V.Spelled.format c.args.story c.args.certificate c.well_spelled.ensures c.in_ok-listing.listing c.loaded_soundly.ensures c.in_ok-listing.ensures.passes c.in_ok-listing.ensures.lists in
-    subst (NeverChanges g.V.Domain.operations) (sym c.new.ensures) (record { listed = same.0; everywhere = same.1 })
+    rw c.new.ensures (record { listed = same.0; everywhere = same.1 })

@@ -1,10 +1,7 @@
-use Rattle.std.proofs.Common.{◌≡◌, Some, map, sym, ap, subst, ◌∙◌}
+use Rattle.std.proofs.Common.{◌≡◌, Some, map, sym, ap, ◌∙◌}
 use Rattle.zboard.specs.Head.{head_of}
-use Rattle.zboard.specs.Play.{IsPlayable, SoFar, state_in}
+use Rattle.zboard.specs.Play.{IsPlayable, SoFar}
 use Rattle.zboard.specs.View.{position_of}
-use Rattle.std.specs.Prelude.{IfOk}
-use Rattle.zstate.specs.declared.halt.Stop.TheVariants.{Paused}
-use Rattle.zstate.specs.Run.{Stands}
 use Rattle.zplay.specs.Session.{IsInPlay, game_of}
 use Rattle.zplay.proofs.Playing.{played_there, in_play_after, ends_if, same_accepted, stands_as}
 use Rattle.zplay.proofs.session.Session.run_down.Goals as goal
