@@ -10,7 +10,8 @@ use zdomain::Interval;
 use zlist::Listing;
 use zstory::Story;
 
-/// A story with a certificate that passes, and the certificate's listing. Contracts see it as an `AcceptanceOver V`.
+/// A story with a certificate that passes, of any kind of sets, and the certificate's listing. Contracts see it as an
+/// `AcceptanceOver V`.
 #[derive(Drop)]
 pub struct Accepted<V: Spelled = Interval> {
     story: Story,
