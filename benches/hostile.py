@@ -10,13 +10,14 @@ KIND says what fills the story:
     pairs          the same in stretches, where those at even places and those at odd ones take turns
     abbreviations  one text, in which the 96 abbreviations begin at places behind one another
     both           that text, with an instruction that prints the rest of it at every second place
+    calls          30,000 routines that only return, and behind them calls, each of which may enter any of the routines
 
 Each story is accepted with its certificate.
 """
 import struct
 import sys
 
-from straight import CODE, QUIT, certificate, story
+from straight import CODE, GLOBALS, QUIT, RELEASE, SERIAL, certificate, story
 
 LONGEST = 131070
 END_WORD = b"\x94\xa5"
@@ -61,24 +62,56 @@ def abbreviations(with_prints):
     return code, listed, [text // 2 + number for number in range(96)]
 
 
+ROUTINES = 30000
+# No local, and rtrue.
+ROUTINE = b"\x00\xb0"
+# A call of the routine that global 16 names, whose result goes to global 17.
+CALL = b"\xe0\xbf\x10\x11"
+
+
+def calls():
+    """The story and its certificate: the main code begins behind the routines."""
+    first = CODE + len(ROUTINE) * ROUTINES
+    count = (LONGEST - first - len(QUIT)) // len(CALL)
+    made = bytearray(story(ROUTINE * ROUTINES + CALL * count + QUIT)[0])
+    made[6:8] = struct.pack(">H", first)
+    made[GLOBALS : GLOBALS + 2] = struct.pack(">H", CODE // 2)
+    checksum = sum(made[64:]) % 65536
+    made[0x1C:0x1E] = struct.pack(">H", checksum)
+    parts = [b"ZPCC\x01", struct.pack(">H6sHI", RELEASE, SERIAL, checksum, len(made)), struct.pack(">H", 0)]
+    parts.append(struct.pack(">hhhh", CODE // 2, CODE // 2 + ROUTINES - 1, 0, 1) + struct.pack(">hh", 0, 0) * 238)
+    parts.append(struct.pack(">H", ROUTINES))
+    parts.extend(struct.pack(">IBhh", CODE + 2 * number, 0, 1, 1) for number in range(ROUTINES))
+    parts.append(struct.pack(">I", ROUTINES + count + 1))
+    parts.extend(struct.pack(">IHB", CODE + 2 * number + 1, number + 1, 0) for number in range(ROUTINES))
+    parts.extend(struct.pack(">IHB", first + len(CALL) * number, 0, 0) for number in range(count + 1))
+    return bytes(made), b"".join(parts)
+
+
+def listed_alone(code, listed, texts):
+    """The story of this code, with the certificate that lists these places in the main code."""
+    whole, checksum = story(code, texts)
+    return whole, certificate(len(whole), checksum, listed)
+
+
 KINDS = {
-    "nops": nops,
-    "prints": lambda: stretches((LONGEST - CODE - 4) // 2),
-    "pairs": lambda: stretches(50),
-    "abbreviations": lambda: abbreviations(False),
-    "both": lambda: abbreviations(True),
+    "nops": lambda: listed_alone(*nops()),
+    "prints": lambda: listed_alone(*stretches((LONGEST - CODE - 4) // 2)),
+    "pairs": lambda: listed_alone(*stretches(50)),
+    "abbreviations": lambda: listed_alone(*abbreviations(False)),
+    "both": lambda: listed_alone(*abbreviations(True)),
+    "calls": calls,
 }
 
 
 def main():
     if len(sys.argv) != 4 or sys.argv[1] not in KINDS:
         sys.exit(__doc__)
-    code, listed, texts = KINDS[sys.argv[1]]()
-    whole, checksum = story(code, texts)
+    made, its_certificate = KINDS[sys.argv[1]]()
     with open(sys.argv[2], "wb") as file:
-        file.write(whole)
+        file.write(made)
     with open(sys.argv[3], "wb") as file:
-        file.write(certificate(len(whole), checksum, listed))
+        file.write(its_certificate)
 
 
 main()

@@ -23,6 +23,6 @@ check() {
 }
 
 printf '%-14s %10s %12s %14s\n' kind story certificate host
-for kind in nops prints pairs abbreviations both; do
+for kind in nops prints pairs abbreviations both calls; do
     check "$kind"
 done
