@@ -75,6 +75,12 @@ def with_links(*links):
     return files(made, certificate(made, [0x370]))
 
 
+def with_any_globals(*bytes_there):
+    """The same, where the globals may have any value."""
+    made = with_links(*bytes_there)["story"]
+    return files(made, certificate(made, [0x370], values=(-32768, 32767)))
+
+
 ONE, TWO, WIDE = interval(1, 1), interval(2, 2), interval(-32768, 32767)
 
 # ---- words: name, words, answer
@@ -257,6 +263,11 @@ COMMANDS = [
     ("a property over another's table", CHECK, with_links((0x275, 0xC3)), refused("S5")),
     ("properties up to the static base", CHECK, with_links((0x27C, 0xFF), (0x285, 0xFE), (0x28E, 0xFD), (0x297, 0x1C)), done(b"accepted\n")),
     ("no end below the static base", CHECK, with_links((0x27C, 0xFF), (0x285, 0xFE), (0x28E, 0xFD), (0x297, 0x3C)), refused("S5")),
+    ("globals up to a property table", CHECK, with_any_globals((0x0D, 0x90)), refused("S8")),
+    ("globals over a property table's first byte", CHECK, with_any_globals((0x0D, 0x91)), refused("S5")),
+    ("abbreviations behind the last property data", CHECK, with_links((0x18, 0x02), (0x19, 0x78)), refused("S7")),
+    ("abbreviations over property data", CHECK, with_links((0x18, 0x02), (0x19, 0x77)), refused("S5")),
+    ("an abbreviation's text over property data", CHECK, with_links((0x29A, 0x01), (0x29B, 0x3A)), refused("S5")),
     ("a parent that is no object", CHECK, with_links((0x262, 3)), refused("S6")),
     ("a sibling that is no object", CHECK, with_links((0x26C, 3)), refused("S6")),
     ("a child that is no object", CHECK, with_links((0x26D, 255)), refused("S6")),

@@ -45,6 +45,14 @@ module _ (story : LoadedStory) where
     λ each p frame. each frame.object frame.first frame.last p frame.inside,
   )
 
+  -- that of one object by where its table is, and that of one more
+  module _ (S : ℕ → Type 0) (below table : ℕ) (at : table ≡ property_table story.memory (below + 1)) where
+    pub frame_of : below < story.objects → ((p : ℕ) → IsPropertyFrame story p → S p → ⊥) → (p : ℕ) → IsTableFrame story.memory table p → S p → ⊥
+    frame_of more all = subst (λ (k : ℕ). (p : ℕ) → IsTableFrame story.memory k p → S p → ⊥) (sym at) ((frames_where S).0 all (below + 1) (omega arith) (omega (arith, more)))
+
+    pub frames_more : ((object : ℕ) → 1 ≤ object → object ≤ below → (p : ℕ) → IsTableFrame story.memory (property_table story.memory object) p → S p → ⊥) → ((p : ℕ) → IsTableFrame story.memory table p → S p → ⊥) → (object : ℕ) → 1 ≤ object → object ≤ below + 1 → (p : ℕ) → IsTableFrame story.memory (property_table story.memory object) p → S p → ⊥
+    frames_more each next = one_more (λ object. (p : ℕ) → IsTableFrame story.memory (property_table story.memory object) p → S p → ⊥) below each (subst (λ (k : ℕ). (p : ℕ) → IsTableFrame story.memory k p → S p → ⊥) at next)
+
   -- and part by part
   pub frame_where : (S : ℕ → Type 0) (table size list : ℕ) → size ≡ 1 + 2 * byte_at story.memory table → list ≡ list_place story.memory table → ((p : ℕ) → IsTableFrame story.memory table p → S p → ⊥) ↔ (((p : ℕ) → IsWithin table size p → S p → ⊥) × ((p : ℕ) → IsSizePlace story.memory p list → S p → ⊥))
   frame_where S table size list long at = (
