@@ -6,7 +6,7 @@ ghost use Rattle.zcode.specs.Operation.{implied, inputs, operation_of, target};
 use crate::instr::{Instr, Operand};
 use crate::opcode::Opcode;
 use arrayvec::ArrayVec;
-use zobj::Link;
+use zobj::{Link, PropertyQuestion};
 use zword::{BinaryOp, CountOp, Question, UnaryOp};
 
 /// What an opcode does, by its family (Z 15). Every layer goes by these.
@@ -60,6 +60,14 @@ pub enum Operation {
     Insert,
     /// The object of the value is taken out of the tree.
     Remove,
+    /// The answer to a question about the object of the first value and the property number of the second goes to the result variable.
+    Property(PropertyQuestion),
+    /// How many bytes of property data there are at the address of the value goes to the result variable.
+    PropertyLength,
+    /// The property of the object of the first value whose number is the second is given the third.
+    SetProperty,
+    /// The short name of the object of the value is printed.
+    PrintObject,
 }
 
 impl Opcode {

@@ -72,9 +72,9 @@ unsound sound = (sound.single 0 (omega arith)).member
 abbrev from : (lo hi : ℤ) → int_le lo hi ≡ true → Interval
 from lo hi e = record { lo = lo; hi = hi; ordered = in_order lo hi e }
 
--- from one word to another; where the second has a sign, or they aren't in order, any word
-ranges : (interval_operations.between 0 31 ≡ from (pos 0) (pos 31) refl) × (interval_operations.between 7 7 ≡ point 7) × (interval_operations.between 1 32767 ≡ from (pos 1) (pos 32767) refl) × (interval_operations.between 1 32768 ≡ all_words) × (interval_operations.between 2 1 ≡ all_words)
-ranges = (refl, refl, refl, refl, refl)
+-- from one word to another, by their signed readings; where they aren't in order, any word
+ranges : (interval_operations.between 0 31 ≡ from (pos 0) (pos 31) refl) × (interval_operations.between 7 7 ≡ point 7) × (interval_operations.between 1 32767 ≡ from (pos 1) (pos 32767) refl) × (interval_operations.between 1 32768 ≡ all_words) × (interval_operations.between 2 1 ≡ all_words) × (interval_operations.between 65535 1 ≡ from (negsuc 0) (pos 1) refl)
+ranges = (refl, refl, refl, refl, refl, refl)
 
 abbrev IsFrom : Interval → ℤ → ℤ → Type 0
 IsFrom i lo hi = (i.lo ≡ lo) × (i.hi ≡ hi)

@@ -1,10 +1,10 @@
 -- Sets of words, by what a domain offers. A word is a natural number below 65,536 (Z 2.1).
-use Rattle.std.specs.Prelude.{◌≡◌, ℕ, ◌<◌, ◌≤◌, Bool, Option, Some, MatchOption}
+use Rattle.std.specs.Prelude.{◌≡◌, ℕ, ◌<◌, ◌≤ℤ◌, Bool, Option, Some, MatchOption}
 use Rattle.zword.specs.declared.unary.UnaryOp.{UnaryOp}
 use Rattle.zword.specs.declared.binary.BinaryOp.{BinaryOp}
 use Rattle.zword.specs.declared.question.Question.{Question}
 use Rattle.zword.specs.Unary.{transform}
-use Rattle.zword.specs.Binary.{apply}
+use Rattle.zword.specs.Binary.{apply, signed}
 use Rattle.zword.specs.Question.{holds}
 
 -- which words a set of the domain has, and what its operations answer
@@ -12,7 +12,7 @@ pub record SetOperations (V : Type 0) : Type 1 where
   pub has : V → ℕ → Type 0
   pub single : ℕ → V
   pub any : V
-  -- the words from one to another, taken without sign
+  -- the words from one to another, by their signed readings
   pub between : ℕ → ℕ → V
   -- the word, where the set has but one
   pub known : V → Option ℕ
@@ -38,7 +38,7 @@ Within o a b = (x : ℕ) → In o a x → In o b x
 pub record AreSound {V : Type 0} (o : SetOperations V) : Type 0 where
   pub single : (x : ℕ) → x < 65536 → In o (o.single x) x
   pub any : (x : ℕ) → x < 65536 → In o o.any x
-  pub between : (lo hi x : ℕ) → lo ≤ x → x ≤ hi → x < 65536 → In o (o.between lo hi) x
+  pub between : (lo hi x : ℕ) → signed lo ≤ℤ signed x → signed x ≤ℤ signed hi → x < 65536 → In o (o.between lo hi) x
   pub known : (a : V) (n x : ℕ) → o.known a ≡ Some n → In o a x → x ≡ n
   pub known_single : (x : ℕ) → x < 65536 → o.known (o.single x) ≡ Some x
   pub join_left : (a b : V) (x : ℕ) → In o a x → In o (o.join a b) x

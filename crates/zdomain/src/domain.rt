@@ -20,7 +20,7 @@ pub trait Domain: Copy + Drop {
     fn any() -> Self
         ensures { result ≡ operations.any };
 
-    /// A set that has each word from one to another, words taken without sign.
+    /// A set that has each word from one to another, by their signed readings.
     fn between(least: u16, greatest: u16) -> Self
         ensures { result ≡ operations.between least greatest };
 

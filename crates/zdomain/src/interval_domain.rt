@@ -26,7 +26,10 @@ impl Domain for Interval {
     }
 
     fn between(least: u16, greatest: u16) -> Interval {
-        arithmetic::fitting(i32::from(least), i32::from(greatest))
+        match Interval::new(least.cast_signed(), greatest.cast_signed()) {
+            Some(interval) => interval,
+            None => Interval::all(),
+        }
     }
 
     fn contains(self, word: u16) -> bool {

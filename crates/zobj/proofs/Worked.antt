@@ -15,6 +15,8 @@ use Rattle.zobj.specs.Moves.{row, lead_of, unlinked, inserted}
 use Rattle.zobj.specs.Properties.{IsReadable, list_place, data_length, property_number, is_property, first_properties, properties_from, properties, has_number, property_of, after_number, next_in}
 use Rattle.zobj.specs.Values.{IsDataByte, default_word, value_of, property_value, with_value, with_property, length_before}
 use Rattle.zobj.specs.Kept.{DiffersOnly}
+use Rattle.zobj.specs.declared.answers.PropertyQuestion.TheVariants.{Value, Address, Next}
+use Rattle.zobj.specs.Answers.{answer_of}
 use Rattle.zobj.specs.Names.{name_in, short_name}
 use Rattle.zobj.proofs.Lists.{property_inside}
 
@@ -268,6 +270,21 @@ twins = 0x05 ∷ 0x0A ∷ 0x06 ∷ 0x0B ∷ 0x05 ∷ 0x0C ∷ 0x04 ∷ 0x0D ∷ 
 first_of_equals : (find (has_number 5) (properties_from twins 0) ≡ Some (record { number = 5; place = 1; length = 1 })) × (next_in (properties_from twins 0) 5 ≡ Some 6) × (next_in (properties_from twins 0) 6 ≡ Some 5) × (next_in (properties_from twins 0) 4 ≡ Some 0) × (next_in (properties_from twins 0) 7 ≡ None)
 unfolding twins first_properties after_number
 first_of_equals = (refl, refl, refl, refl, refl)
+
+-- ---- answers
+
+-- object 1 has the properties 5, of one byte, and 3, of two
+asked_values : (answer_of Value story 1 5 ≡ Ok 7) × (answer_of Value story 1 3 ≡ Ok 4660) × (answer_of Value story 1 9 ≡ Ok 0) × (answer_of Value story 1 0 ≡ Err AbsentProperty) × (answer_of Value story 1 32 ≡ Err AbsentProperty) × (answer_of Value family 1 31 ≡ Ok 8167)
+unfolding story story_with state front tables family four grove node first_properties
+asked_values = (refl, refl, refl, refl, refl, refl)
+
+asked_addresses : (answer_of Address story 1 3 ≡ Ok 630) × (answer_of Address story 1 5 ≡ Ok 628) × (answer_of Address story 1 4 ≡ Ok 0) × (answer_of Address story 1 259 ≡ Ok 0)
+unfolding story story_with state front tables first_properties
+asked_addresses = (refl, refl, refl, refl)
+
+asked_next : (answer_of Next story 1 0 ≡ Ok 5) × (answer_of Next story 1 5 ≡ Ok 3) × (answer_of Next story 1 3 ≡ Ok 0) × (answer_of Next story 1 9 ≡ Err AbsentProperty) × (answer_of Next story 2 0 ≡ Ok 0)
+unfolding story story_with state front tables first_properties after_number
+asked_next = (refl, refl, refl, refl, refl)
 
 -- ---- values
 

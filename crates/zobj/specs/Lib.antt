@@ -4,5 +4,6 @@ pub mod Tree
 pub mod Moves
 pub mod Properties
 pub mod Values
+pub mod Answers
 pub mod Names
 pub mod Kept

@@ -1,6 +1,7 @@
 //! Objects: attributes, the tree and properties, as they stand in a memory.
 #![tactic(auto)]
 
+mod answers;
 mod attributes;
 mod entry;
 mod error;
@@ -11,6 +12,7 @@ mod property;
 mod tree;
 mod values;
 
+pub use answers::{PropertyQuestion, answer_of};
 pub use attributes::{clear_attribute, has_attribute, set_attribute};
 pub use error::ObjectError;
 pub use laws::{

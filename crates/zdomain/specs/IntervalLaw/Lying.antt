@@ -1,5 +1,5 @@
 -- A proof of the law, first part: numbers between ends, and words whose numbers lie there.
-use Rattle.std.proofs.Common.{◌≡◌, ℕ, ◌<◌, ◌≤◌, Bool, true, false, ◌||◌, if◌then◌else◌, Option, Some, None, ℤ, pos, negsuc, ◌≤ℤ◌, ◌<ℤ◌, int_le, int_lt, arith, refl, sym, ◌∙◌}
+use Rattle.std.proofs.Common.{◌≡◌, ℕ, ◌<◌, Bool, true, false, ◌||◌, if◌then◌else◌, Option, Some, None, ℤ, pos, negsuc, ◌≤ℤ◌, ◌<ℤ◌, int_le, int_lt, arith, refl, sym, ◌∙◌}
 use Rattle.std.specs.Prelude.{MatchOption, unwrap_or}
 use Rattle.std.specs.Int.{w16, int_wrap, int_min, int_max}
 use Rattle.std.proofs.lemmas.Int.{ints, int_wrap_fits, clamps}
@@ -65,14 +65,9 @@ module _ (x : ℕ) (z : ℤ) (word : x < 65536) (wraps : signed x ≡ int_wrap w
 pub lying_has : (x : ℕ) (lo hi : ℤ) → x < 65536 → Lies lo hi (signed x) → Has (fitting lo hi) x
 lying_has x lo hi word l = fitting_has x (signed x) word (sym (int_wrap_fits w16 (signed x) (omega (arith, ints)))) lo hi l
 
--- a word from one to another, without sign
-pub between_has : (lo hi x : ℕ) → lo ≤ x → x ≤ hi → x < 65536 → Has (fitting (pos lo) (pos hi)) x
-between_has lo hi x least most word = by (outside (pos lo)) (outside (pos hi)) refl
-  where
-    by : (p q : Bool) → outside (pos hi) ≡ q → Has (if p || q then all_words else unwrap_or (interval_of (pos lo) (pos hi)) all_words) x
-    by true q e = any_has x word
-    by false true e = any_has x word
-    by false false e = let high = (fits_is (pos hi) e).1 in or_all_has (interval_of (pos lo) (pos hi)) x (between (pos lo) (pos hi) x word (omega (arith, ints), omega (arith, ints)))
+-- a word from one to another, by their signed readings
+pub between_has : (lo hi x : ℕ) → signed lo ≤ℤ signed x → signed x ≤ℤ signed hi → x < 65536 → Has (unwrap_or (interval_of (signed lo) (signed hi)) all_words) x
+between_has lo hi x least most word = or_all_has (interval_of (signed lo) (signed hi)) x (between (signed lo) (signed hi) x word (least, most))
 
 -- what lies between the results at the ends of each operand lies between the least and the greatest of the four
 pub ends_lie : (f : ℤ → ℤ → ℤ) (a b : Interval) (x y : ℤ)
