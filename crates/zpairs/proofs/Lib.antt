@@ -4,3 +4,4 @@ mod Tests
 mod Each
 mod Hulls
 mod Lying
+mod Regrouped
