@@ -4,4 +4,5 @@ mod Tests
 mod Each
 mod Hulls
 mod Lying
+mod Marks
 mod Regrouped
