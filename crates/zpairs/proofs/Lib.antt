@@ -6,3 +6,4 @@ mod Hulls
 mod Lying
 mod Marks
 mod Regrouped
+mod Worked
