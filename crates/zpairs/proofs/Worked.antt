@@ -1,21 +1,17 @@
 -- Values of the definitions, computed.
-use Rattle.std.proofs.Common.{◌≡◌, ℕ, ◌+◌, ◌<◌, ◌≤◌, Bool, true, false, List, [], ◌∷◌, ◌++◌, replicate, Some, None, refl, arith, lit<, lit≤}
-use Rattle.std.specs.Prelude.{◌==◌}
-use Rattle.zdomain.specs.Domain.{In}
-use Rattle.zdomain.specs.Interval.{interval_operations, interval_of, point}
+use Rattle.std.proofs.Common.{◌≡◌, ℕ, true, false, List, [], ◌∷◌, ◌++◌, replicate, Some, None, refl}
+use Rattle.zdomain.specs.Interval.{interval_operations}
 use Rattle.zdomain.specs.declared.interval.Interval.{Interval}
 use Rattle.zstory.specs.LoadedStory.{LoadedStory}
 use Rattle.zcert.specs.declared.parts.Range.{Range}
 use Rattle.zobj.specs.declared.property.Property.{Property}
 use Rattle.zobj.specs.declared.answers.PropertyQuestion.TheVariants.{Value, Address, Next}
 use Rattle.zobj.specs.Properties.{first_properties, property_of}
-use Rattle.zpairs.specs.declared.ends.Ends.{Ends}
-use Rattle.zpairs.specs.declared.cell.Cell.{Cell}
 use Rattle.zpairs.specs.declared.cell.Test.TheVariants.{Answered, Put, Unfrozen}
 use Rattle.zpairs.specs.Frozen.{FrozenStory, frozen_by}
 use Rattle.zpairs.specs.Ends.{turned, exactly, a_byte, any_word, no_word, joined, value_ends, address_ends}
 use Rattle.zpairs.specs.Cells.{is_unfrozen, cell_of, cell_at, no_cell, merged, passes}
-use Rattle.zpairs.specs.Pairs.{may_have, may_exceed, is_asked, ends_below, number_ends, all_ends, answers}
+use Rattle.zpairs.specs.Pairs.{may_exceed, is_asked, ends_below, answers}
 
 -- ---- the order of signed readings
 

@@ -1,6 +1,6 @@
 -- What is known of all pairs, by blocks of 16 objects and one number: a table that is asked in the place of the objects (own).
-use Rattle.std.specs.Prelude.{◌≡◌, ℕ, zero, suc, ◌+◌, ◌*◌, ◌/◌, ◌%◌, ◌<◌, ◌≤◌, nat_lt, if◌then◌else◌, List, slice_index_or}
-use Rattle.zdomain.specs.Domain.{SetOperations, In}
+use Rattle.std.specs.Prelude.{◌≡◌, ℕ, zero, suc, ◌+◌, ◌*◌, ◌/◌, ◌%◌, ◌<◌, nat_lt, if◌then◌else◌, List, slice_index_or}
+use Rattle.zdomain.specs.Domain.{SetOperations}
 use Rattle.zobj.specs.declared.answers.PropertyQuestion.{PropertyQuestion}
 use Rattle.zpairs.specs.declared.ends.Ends.{Ends}
 use Rattle.zpairs.specs.declared.cell.Cell.{Cell}

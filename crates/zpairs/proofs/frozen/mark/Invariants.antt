@@ -1,4 +1,4 @@
-use Rattle.std.proofs.Common.{◌≡◌, ◌+◌, ◌<◌, ◌≤◌, ◌&&◌, ◌||◌, ℕ, false, length}
+use Rattle.std.proofs.Common.{◌≡◌, ◌+◌, ◌≤◌, ◌&&◌, ◌||◌, ℕ, false, length}
 use Rattle.std.specs.Prelude.{nat_le, nat_lt, max, slice_index_or}
 use Rattle.zpairs.proofs.frozen.mark.Given as goal
 

@@ -1,4 +1,4 @@
-use Rattle.std.proofs.Common.{◌≡◌, ◌≤◌, length, ap, sym, subst, ◌∙◌, rules, arith}
+use Rattle.std.proofs.Common.{◌≡◌, ◌≤◌, length, rules, arith}
 use Rattle.zpairs.specs.Blocks.{AreCells}
 use Rattle.zpairs.proofs.Regrouped.{cell_read}
 use Rattle.zpairs.proofs.properties.Properties.cell.Goals as goal
