@@ -8,7 +8,7 @@ use crate::ends::Ends;
 use zobj::PropertyQuestion;
 
 /// What is asked of each pair of an object and the number of a property.
-#[derive(Clone, Copy, PartialEq, Eq)]
+#[derive(Clone, Copy)]
 pub(crate) enum Test {
     /// A question about it has an answer.
     Answered(PropertyQuestion),
@@ -31,7 +31,7 @@ impl Test {
 }
 
 /// What is known of some objects and the number of a property.
-#[derive(Clone, Copy, PartialEq, Eq)]
+#[derive(Clone, Copy)]
 pub struct Cell {
     /// Each has the property.
     pub has: bool,

@@ -5,7 +5,7 @@ ghost use Rattle.zpairs.specs.Ends.{a_byte, any_word, exactly, joined, no_word, 
 
 /// The least and the greatest of some words, in the order of their signed readings. Each end is the place of a word in that order,
 /// so that both rise as numbers do.
-#[derive(Clone, Copy, Debug, PartialEq, Eq)]
+#[derive(Clone, Copy)]
 pub struct Ends {
     pub least: u16,
     pub greatest: u16,
