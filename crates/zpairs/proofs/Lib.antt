@@ -6,4 +6,5 @@ mod Hulls
 mod Lying
 mod Marks
 mod Regrouped
+mod ByNumber
 mod Worked

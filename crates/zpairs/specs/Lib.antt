@@ -3,3 +3,4 @@ pub mod Ends
 pub mod Cells
 pub mod Pairs
 pub mod Blocks
+pub mod Rows

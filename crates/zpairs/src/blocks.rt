@@ -3,10 +3,13 @@
 ghost use Rattle.std.specs.Prelude.{◌≡◌, ◌+◌, ◌*◌, ◌/◌, ◌%◌, ◌<◌, ◌≤◌, ℕ, length, slice_index_or};
 ghost use Rattle.zpairs.specs.Blocks.{AreCells, merged_in, object_cell};
 ghost use Rattle.zpairs.specs.Cells.{no_cell};
+ghost use Rattle.zpairs.specs.Rows.{IsObjectRow};
 
 use crate::cell::Cell;
-use crate::finding::cell_at;
+use crate::finding::cell_of;
 use crate::frozen::Frozen;
+use crate::rows::row_for;
+use zobj::Property;
 use zstory::Story;
 
 /// How many objects a block has.
@@ -26,18 +29,35 @@ pub(crate) fn object_cells(story: &Story, frozen: Frozen<'_>) -> [Cell; OBJECT_C
     ensures { AreCells (record { story = story.now; ranges = frozen.entry.ranges.now }) result }
 {
     let mut cells = [Cell::NONE; OBJECT_CELLS];
+    let mut row = [None; COLUMNS];
     for k in 0..OBJECT_CELLS {
-        cells[k] = object_cell(story, frozen, (k / COLUMNS) as u8, (k % COLUMNS) as u16);
+        row = row_for(story, row, k);
+        cells[k] = object_cell(
+            story,
+            frozen,
+            &row,
+            (k / COLUMNS) as u8,
+            (k % COLUMNS) as u16,
+        );
     }
     cells
 }
 
-/// What is known of an object, less 1, and a number, if the story has it.
-fn object_cell(story: &Story, frozen: Frozen<'_>, below: u8, number: u16) -> Cell
+/// What is known of an object, less 1, and a number, if the story has it, by the row of its properties.
+#[tactic(auto, using(crate::proofs::Found::found_readable, crate::proofs::Tables::defaults_there))]
+fn object_cell(
+    story: &Story,
+    frozen: Frozen<'_>,
+    row: &[Option<Property>; COLUMNS],
+    below: u8,
+    number: u16,
+) -> Cell
+    requires small { number < 33 }
+    requires there { IsObjectRow story.now below row.now }
     ensures { result ≡ object_cell (record { story = story.now; ranges = frozen.entry.ranges.now }) below number }
 {
     if below < story.objects() {
-        cell_at(story, frozen, below + 1, number)
+        cell_of(story.memory(), frozen, number, row[usize::from(number)])
     } else {
         Cell::NONE
     }

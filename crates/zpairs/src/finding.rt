@@ -4,25 +4,26 @@ ghost use Rattle.std.specs.Prelude.{◌≡◌, ◌≤◌, ◌<◌, ◌+◌, IfSo
 ghost use Rattle.zobj.specs.Answers.{address_of};
 ghost use Rattle.zobj.specs.Entries.{HasDefaults};
 ghost use Rattle.zobj.specs.Properties.{IsReadable};
-ghost use Rattle.zpairs.specs.Cells.{are_unfrozen, asked_values, cell_at, is_unfrozen, is_short};
+ghost use Rattle.zpairs.specs.Cells.{are_unfrozen, asked_values, cell_of, is_unfrozen, is_short};
 ghost use Rattle.zpairs.specs.Ends.{byte_ends, data_ends, word_ends};
 ghost use Rattle.zpairs.specs.Frozen.{frozen_by};
 
 use crate::cell::Cell;
 use crate::ends::Ends;
 use crate::frozen::Frozen;
-use zobj::{Property, default_word, find_property};
-use zstory::Story;
+use zobj::{Property, default_word};
 
-/// What is known of an object's property of a number.
-#[tactic(auto, using(crate::proofs::Tables::entry_there, crate::proofs::Tables::defaults_there))]
-pub(crate) fn cell_at(story: &Story, frozen: Frozen<'_>, object: u8, number: u16) -> Cell
-    requires least { 1 ≤ object }
-    requires most { object ≤ story.now.objects }
-    ensures { result ≡ cell_at (record { story = story.now; ranges = frozen.entry.ranges.now }) object number }
+/// What is known of an object's property of a number, by the one that it has.
+pub(crate) fn cell_of(
+    memory: &[u8],
+    frozen: Frozen<'_>,
+    number: u16,
+    found: Option<Property>,
+) -> Cell
+    requires table { HasDefaults memory.now }
+    requires there { IfSome found (IsReadable memory.now) }
+    ensures { result ≡ cell_of (frozen_by frozen.entry.ranges.now) memory.now number found }
 {
-    let memory = story.memory();
-    let found = find_property(memory, object, number);
     Cell {
         has: found.is_some(),
         short: is_short(found),

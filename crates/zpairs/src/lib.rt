@@ -8,6 +8,7 @@ mod finding;
 mod frozen;
 mod laws;
 mod properties;
+mod rows;
 
 pub use laws::answers_lie_in_their_sets;
 pub use properties::Properties;
