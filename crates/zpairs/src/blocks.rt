@@ -8,7 +8,7 @@ ghost use Rattle.zpairs.specs.Rows.{IsObjectRow};
 use crate::cell::Cell;
 use crate::finding::cell_of;
 use crate::frozen::Frozen;
-use crate::rows::row_for;
+use crate::rows::renew;
 use zobj::Property;
 use zstory::Story;
 
@@ -31,7 +31,7 @@ pub(crate) fn object_cells(story: &Story, frozen: Frozen<'_>) -> [Cell; OBJECT_C
     let mut cells = [Cell::NONE; OBJECT_CELLS];
     let mut row = [None; COLUMNS];
     for k in 0..OBJECT_CELLS {
-        row = row_for(story, row, k);
+        renew(story, &mut row, k);
         cells[k] = object_cell(
             story,
             frozen,

@@ -91,19 +91,13 @@ pub(crate) fn object_row(story: &Story, below: u8) -> [Option<Property>; COLUMNS
     }
 }
 
-/// The row for a cell: that of the cell before, or that of the next object.
-pub(crate) fn row_for(
-    story: &Story,
-    row: [Option<Property>; COLUMNS],
-    k: usize,
-) -> [Option<Property>; COLUMNS]
+/// Makes a row that of a cell: it is that of the cell before, or else of the next object.
+pub(crate) fn renew(story: &Story, row: &mut [Option<Property>; COLUMNS], k: usize)
     requires few { k < 8448 }
-    requires same { (k % 33 ≡ 0 → ⊥) → IsObjectRow story.now (k / 33) row }
-    ensures { IsObjectRow story.now (k / 33) result }
+    requires same { (k % 33 ≡ 0 → ⊥) → IsObjectRow story.now (k / 33) row.old }
+    ensures { IsObjectRow story.now (k / 33) row.new }
 {
     if k % COLUMNS == 0 {
-        object_row(story, (k / COLUMNS) as u8)
-    } else {
-        row
+        *row = object_row(story, (k / COLUMNS) as u8);
     }
 }
