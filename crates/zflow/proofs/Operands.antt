@@ -3,7 +3,7 @@ use Rattle.std.proofs.Common.{◌≡◌, ℕ, Bool, List, Some, None, refl}
 use Rattle.zstory.specs.LoadedStory.{LoadedStory}
 use Rattle.zcode.specs.declared.instr.Operand.{Operand}
 use Rattle.zcode.specs.declared.operation.Operation.{Operation}
-use Rattle.zcode.specs.declared.operation.Operation.TheVariants.{Unary, Binary, Compare, Count, Store, Load, Jump, Verify, PrintChar, PrintNumber, Print, NewLine, Nop, Quit, Return, PrintReturn, Call, Inside, TestAttribute, Follow, SetAttribute, ClearAttribute, Insert, Remove}
+use Rattle.zcode.specs.declared.operation.Operation.TheVariants.{Unary, Binary, Compare, Count, Store, Load, Jump, Verify, PrintChar, PrintNumber, Print, NewLine, Nop, Quit, Return, PrintReturn, Call, Inside, TestAttribute, Follow, SetAttribute, ClearAttribute, Insert, Remove, Property, PropertyLength, SetProperty, PrintObject}
 use Rattle.zdomain.specs.Domain.{SetOperations}
 use Rattle.zflow.specs.Transfer.{Shape, demands_of, outcome_of}
 use Rattle.zflow.specs.Kept.{both}
@@ -35,31 +35,39 @@ module _ {V : Type 0} (o : SetOperations V) where
   demands_read ClearAttribute arg = refl
   demands_read Insert arg = refl
   demands_read Remove arg = refl
+  demands_read (Property question) arg = refl
+  demands_read PropertyLength arg = refl
+  demands_read SetProperty arg = refl
+  demands_read PrintObject arg = refl
 
-  pub outcome_read : (globals : List V) (story : LoadedStory) (operation : Operation) (operands : List Operand) (arg : ℕ → V) (e : Shape V) (c : Bool) → outcome_of o globals story operation operands arg e c ≡ outcome_of o globals story operation operands (both (arg 0) (arg 1)) e c
+  pub outcome_read : (globals : List V) (story : LoadedStory) (is_frozen : ℕ → Bool) (operation : Operation) (operands : List Operand) (arg : ℕ → V) (e : Shape V) (c : Bool) → outcome_of o globals story is_frozen operation operands arg e c ≡ outcome_of o globals story is_frozen operation operands (both (arg 0) (arg 1)) e c
   unfolding outcome_of
-  outcome_read globals story (Unary op) operands arg e c = refl
-  outcome_read globals story (Binary op) operands arg e c = refl
-  outcome_read globals story (Compare q) operands arg e c = refl
-  outcome_read globals story (Count op None) operands arg e c = refl
-  outcome_read globals story (Count op (Some q)) operands arg e c = refl
-  outcome_read globals story Store operands arg e c = refl
-  outcome_read globals story Load operands arg e c = refl
-  outcome_read globals story Jump operands arg e c = refl
-  outcome_read globals story Verify operands arg e c = refl
-  outcome_read globals story PrintChar operands arg e c = refl
-  outcome_read globals story PrintNumber operands arg e c = refl
-  outcome_read globals story Print operands arg e c = refl
-  outcome_read globals story NewLine operands arg e c = refl
-  outcome_read globals story Nop operands arg e c = refl
-  outcome_read globals story Quit operands arg e c = refl
-  outcome_read globals story Return operands arg e c = refl
-  outcome_read globals story PrintReturn operands arg e c = refl
-  outcome_read globals story Call operands arg e c = refl
-  outcome_read globals story Inside operands arg e c = refl
-  outcome_read globals story TestAttribute operands arg e c = refl
-  outcome_read globals story (Follow link) operands arg e c = refl
-  outcome_read globals story SetAttribute operands arg e c = refl
-  outcome_read globals story ClearAttribute operands arg e c = refl
-  outcome_read globals story Insert operands arg e c = refl
-  outcome_read globals story Remove operands arg e c = refl
+  outcome_read globals story is_frozen (Unary op) operands arg e c = refl
+  outcome_read globals story is_frozen (Binary op) operands arg e c = refl
+  outcome_read globals story is_frozen (Compare q) operands arg e c = refl
+  outcome_read globals story is_frozen (Count op None) operands arg e c = refl
+  outcome_read globals story is_frozen (Count op (Some q)) operands arg e c = refl
+  outcome_read globals story is_frozen Store operands arg e c = refl
+  outcome_read globals story is_frozen Load operands arg e c = refl
+  outcome_read globals story is_frozen Jump operands arg e c = refl
+  outcome_read globals story is_frozen Verify operands arg e c = refl
+  outcome_read globals story is_frozen PrintChar operands arg e c = refl
+  outcome_read globals story is_frozen PrintNumber operands arg e c = refl
+  outcome_read globals story is_frozen Print operands arg e c = refl
+  outcome_read globals story is_frozen NewLine operands arg e c = refl
+  outcome_read globals story is_frozen Nop operands arg e c = refl
+  outcome_read globals story is_frozen Quit operands arg e c = refl
+  outcome_read globals story is_frozen Return operands arg e c = refl
+  outcome_read globals story is_frozen PrintReturn operands arg e c = refl
+  outcome_read globals story is_frozen Call operands arg e c = refl
+  outcome_read globals story is_frozen Inside operands arg e c = refl
+  outcome_read globals story is_frozen TestAttribute operands arg e c = refl
+  outcome_read globals story is_frozen (Follow link) operands arg e c = refl
+  outcome_read globals story is_frozen SetAttribute operands arg e c = refl
+  outcome_read globals story is_frozen ClearAttribute operands arg e c = refl
+  outcome_read globals story is_frozen Insert operands arg e c = refl
+  outcome_read globals story is_frozen Remove operands arg e c = refl
+  outcome_read globals story is_frozen (Property question) operands arg e c = refl
+  outcome_read globals story is_frozen PropertyLength operands arg e c = refl
+  outcome_read globals story is_frozen SetProperty operands arg e c = refl
+  outcome_read globals story is_frozen PrintObject operands arg e c = refl
