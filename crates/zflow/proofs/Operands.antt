@@ -1,6 +1,6 @@
 -- No operation reads more than two operands.
 use Rattle.std.proofs.Common.{◌≡◌, ℕ, Bool, List, Some, None, refl}
-use Rattle.zstory.specs.LoadedStory.{LoadedStory}
+use Rattle.zpairs.specs.Frozen.{FrozenStory}
 use Rattle.zcode.specs.declared.instr.Operand.{Operand}
 use Rattle.zcode.specs.declared.operation.Operation.{Operation}
 use Rattle.zcode.specs.declared.operation.Operation.TheVariants.{Unary, Binary, Compare, Count, Store, Load, Jump, Verify, PrintChar, PrintNumber, Print, NewLine, Nop, Quit, Return, PrintReturn, Call, Inside, TestAttribute, Follow, SetAttribute, ClearAttribute, Insert, Remove, Property, PropertyLength, SetProperty, PrintObject}
@@ -40,34 +40,34 @@ module _ {V : Type 0} (o : SetOperations V) where
   demands_read SetProperty arg = refl
   demands_read PrintObject arg = refl
 
-  pub outcome_read : (globals : List V) (story : LoadedStory) (is_frozen : ℕ → Bool) (operation : Operation) (operands : List Operand) (arg : ℕ → V) (e : Shape V) (c : Bool) → outcome_of o globals story is_frozen operation operands arg e c ≡ outcome_of o globals story is_frozen operation operands (both (arg 0) (arg 1)) e c
+  pub outcome_read : (globals : List V) (told : FrozenStory) (operation : Operation) (operands : List Operand) (arg : ℕ → V) (e : Shape V) (c : Bool) → outcome_of o globals told operation operands arg e c ≡ outcome_of o globals told operation operands (both (arg 0) (arg 1)) e c
   unfolding outcome_of
-  outcome_read globals story is_frozen (Unary op) operands arg e c = refl
-  outcome_read globals story is_frozen (Binary op) operands arg e c = refl
-  outcome_read globals story is_frozen (Compare q) operands arg e c = refl
-  outcome_read globals story is_frozen (Count op None) operands arg e c = refl
-  outcome_read globals story is_frozen (Count op (Some q)) operands arg e c = refl
-  outcome_read globals story is_frozen Store operands arg e c = refl
-  outcome_read globals story is_frozen Load operands arg e c = refl
-  outcome_read globals story is_frozen Jump operands arg e c = refl
-  outcome_read globals story is_frozen Verify operands arg e c = refl
-  outcome_read globals story is_frozen PrintChar operands arg e c = refl
-  outcome_read globals story is_frozen PrintNumber operands arg e c = refl
-  outcome_read globals story is_frozen Print operands arg e c = refl
-  outcome_read globals story is_frozen NewLine operands arg e c = refl
-  outcome_read globals story is_frozen Nop operands arg e c = refl
-  outcome_read globals story is_frozen Quit operands arg e c = refl
-  outcome_read globals story is_frozen Return operands arg e c = refl
-  outcome_read globals story is_frozen PrintReturn operands arg e c = refl
-  outcome_read globals story is_frozen Call operands arg e c = refl
-  outcome_read globals story is_frozen Inside operands arg e c = refl
-  outcome_read globals story is_frozen TestAttribute operands arg e c = refl
-  outcome_read globals story is_frozen (Follow link) operands arg e c = refl
-  outcome_read globals story is_frozen SetAttribute operands arg e c = refl
-  outcome_read globals story is_frozen ClearAttribute operands arg e c = refl
-  outcome_read globals story is_frozen Insert operands arg e c = refl
-  outcome_read globals story is_frozen Remove operands arg e c = refl
-  outcome_read globals story is_frozen (Property question) operands arg e c = refl
-  outcome_read globals story is_frozen PropertyLength operands arg e c = refl
-  outcome_read globals story is_frozen SetProperty operands arg e c = refl
-  outcome_read globals story is_frozen PrintObject operands arg e c = refl
+  outcome_read globals told (Unary op) operands arg e c = refl
+  outcome_read globals told (Binary op) operands arg e c = refl
+  outcome_read globals told (Compare q) operands arg e c = refl
+  outcome_read globals told (Count op None) operands arg e c = refl
+  outcome_read globals told (Count op (Some q)) operands arg e c = refl
+  outcome_read globals told Store operands arg e c = refl
+  outcome_read globals told Load operands arg e c = refl
+  outcome_read globals told Jump operands arg e c = refl
+  outcome_read globals told Verify operands arg e c = refl
+  outcome_read globals told PrintChar operands arg e c = refl
+  outcome_read globals told PrintNumber operands arg e c = refl
+  outcome_read globals told Print operands arg e c = refl
+  outcome_read globals told NewLine operands arg e c = refl
+  outcome_read globals told Nop operands arg e c = refl
+  outcome_read globals told Quit operands arg e c = refl
+  outcome_read globals told Return operands arg e c = refl
+  outcome_read globals told PrintReturn operands arg e c = refl
+  outcome_read globals told Call operands arg e c = refl
+  outcome_read globals told Inside operands arg e c = refl
+  outcome_read globals told TestAttribute operands arg e c = refl
+  outcome_read globals told (Follow link) operands arg e c = refl
+  outcome_read globals told SetAttribute operands arg e c = refl
+  outcome_read globals told ClearAttribute operands arg e c = refl
+  outcome_read globals told Insert operands arg e c = refl
+  outcome_read globals told Remove operands arg e c = refl
+  outcome_read globals told (Property question) operands arg e c = refl
+  outcome_read globals told PropertyLength operands arg e c = refl
+  outcome_read globals told SetProperty operands arg e c = refl
+  outcome_read globals told PrintObject operands arg e c = refl

@@ -8,7 +8,6 @@ use Rattle.zword.specs.declared.question.Question.TheVariants.{Equal}
 use Rattle.zword.specs.declared.count.CountOp.{CountOp}
 use Rattle.zword.specs.Binary.{signed}
 use Rattle.zword.specs.Count.{counting}
-use Rattle.zstory.specs.LoadedStory.{LoadedStory}
 use Rattle.zcode.specs.declared.instr.Operand.{Operand}
 use Rattle.zcode.specs.declared.instr.Operand.TheVariants.{Constant, Variable}
 use Rattle.zcode.specs.declared.instr.Branch.{Branch}
@@ -20,6 +19,7 @@ use Rattle.zcode.specs.Instruction.{Instruction}
 use Rattle.zcode.specs.Operation.{operation_of, inputs, target}
 use Rattle.zdomain.specs.Domain.{SetOperations}
 use Rattle.zstate.specs.Step.{way, arguments}
+use Rattle.zpairs.specs.Frozen.{FrozenStory}
 use Rattle.zpairs.specs.Pairs.{answers}
 use Rattle.zflow.specs.declared.parts.Asked.TheVariants.{Answered, Filled}
 use Rattle.zflow.specs.declared.parts.Demands.{Demands}
@@ -203,9 +203,9 @@ module _ {V : Type 0} (o : SetOperations V) (globals : List V) where
   followed_outcome objects true = if objects == 0 then None else Some (follows_in true (o.between 1 objects))
   followed_outcome objects false = Some (follows_in false (o.single 0))
 
-module _ {V : Type 0} (o : SetOperations V) (globals : List V) (story : LoadedStory) (is_frozen : ℕ → Bool) where
+module _ {V : Type 0} (o : SetOperations V) (globals : List V) (told : FrozenStory) where
   -- What may come of an operation where its condition is answered so, from the sets of what it reads; e is what is known
-  -- once that was read, and a play leaves the places as they are that are frozen. None comes of an edge that can't be taken, and of `quit`.
+  -- once that was read, and what is frozen stays as it is. None comes of an edge that can't be taken, and of `quit`.
   unfoldable pub outcome_of : Operation → List Operand → (ℕ → V) → Shape V → Bool → Option (Outcome V)
   outcome_of (Unary op) operands arg e c = once c (gives_in (o.unary op (arg 0)))
   outcome_of (Binary op) operands arg e c = once c (gives_in (o.binary op (arg 0) (arg 1)))
@@ -227,12 +227,12 @@ module _ {V : Type 0} (o : SetOperations V) (globals : List V) (story : LoadedSt
   outcome_of Call operands arg e c = called_outcome o globals c (arg 0)
   outcome_of Inside operands arg e c = Some (asks c untold)
   outcome_of TestAttribute operands arg e c = Some (asks c untold)
-  outcome_of (Follow link) operands arg e c = followed_outcome o globals story.objects c
+  outcome_of (Follow link) operands arg e c = followed_outcome o globals told.story.objects c
   outcome_of SetAttribute operands arg e c = once c goes_on
   outcome_of ClearAttribute operands arg e c = once c goes_on
   outcome_of Insert operands arg e c = once c goes_on
   outcome_of Remove operands arg e c = once c goes_on
-  outcome_of (Property question) operands arg e c = once c (gives_in (answers o story is_frozen question (arg 0) (arg 1)))
+  outcome_of (Property question) operands arg e c = once c (gives_in (answers o told question (arg 0) (arg 1)))
   outcome_of PropertyLength operands arg e c = once c (gives_in (o.between 0 8))
   outcome_of SetProperty operands arg e c = once c goes_on
   outcome_of PrintObject operands arg e c = once c goes_on
@@ -312,8 +312,8 @@ module _ {V : Type 0} (o : SetOperations V) (globals : List V) (i : Instruction)
   abbrev pub demands_at : Demands V
   demands_at = demands_if o (operation_of i.opcode) read_set
 
-  abbrev pub outcome_at : LoadedStory → (ℕ → Bool) → Bool → Option (Outcome V)
-  outcome_at story is_frozen c = outcome_if o globals story is_frozen (operation_of i.opcode) (inputs i) read_set mid_shape c
+  abbrev pub outcome_at : FrozenStory → Bool → Option (Outcome V)
+  outcome_at told c = outcome_if o globals told (operation_of i.opcode) (inputs i) read_set mid_shape c
 
   -- what is known after it came to this, before what a branch says of locals
   abbrev pub changed_by : Outcome V → Shape V

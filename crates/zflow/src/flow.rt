@@ -48,7 +48,7 @@ pub fn flow_of<'a, V: Domain>(
     slots: &'a [V],
     instruction: &Instr,
 ) -> Flow<'a, V>
-    ensures { IsFlow V.operations globals.now properties.now.story properties.now.is_frozen instruction.now (shape_of locals.now slots.now) result }
+    ensures { IsFlow V.operations globals.now properties.now instruction.now (shape_of locals.now slots.now) result }
 {
     let before = View {
         globals,

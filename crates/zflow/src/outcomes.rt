@@ -1,12 +1,12 @@
 //! What may come of an operation, by families.
 
-ghost use Rattle.std.specs.Prelude.{◌≡◌, ℕ, Bool, List, [], Some, None, true, false, option_map};
+ghost use Rattle.std.specs.Prelude.{◌≡◌, List, [], Some, None, true, false, option_map};
 ghost use Rattle.zcode.specs.declared.instr.Operand.{Operand as AnOperand};
 ghost use Rattle.zcode.specs.declared.operation.Operation.TheVariants.{Count};
 ghost use Rattle.zflow.specs.Transfer.{asks, assigns_in, called_outcome, compared_kept, counted_kept, counts_in, followed_outcome, follows_in, gives_in, goes_on, jumps, local_kept, once_known, operand_kept, outcome_if, outcome_of, returns_in, small, untold, variable_set};
 ghost use Rattle.zflow.specs.Kept.{both};
 ghost use Rattle.zflow.specs.View.{seen};
-ghost use Rattle.zstory.specs.LoadedStory.{LoadedStory};
+ghost use Rattle.zpairs.specs.Frozen.{FrozenStory};
 
 use crate::asking::named;
 use crate::parts::{Kept, Lead, Outcome};
@@ -37,8 +37,8 @@ pub(crate) fn outcomes_if<V: Domain>(
     second: V,
     view: View<'_, V>,
 ) -> Outcomes<V>
-    ensures held { result.held ≡ outcome_if V.operations view.entry.globals.now properties.now.story properties.now.is_frozen operation operands.now (both first second) (seen view.entry) true }
-    ensures failed { result.failed ≡ outcome_if V.operations view.entry.globals.now properties.now.story properties.now.is_frozen operation operands.now (both first second) (seen view.entry) false }
+    ensures held { result.held ≡ outcome_if V.operations view.entry.globals.now properties.now operation operands.now (both first second) (seen view.entry) true }
+    ensures failed { result.failed ≡ outcome_if V.operations view.entry.globals.now properties.now operation operands.now (both first second) (seen view.entry) false }
 {
     match operation {
         None => never(),
@@ -56,8 +56,8 @@ fn outcomes_of<V: Domain>(
     second: V,
     view: View<'_, V>,
 ) -> Outcomes<V>
-    ensures held { result.held ≡ outcome_of V.operations view.entry.globals.now properties.now.story properties.now.is_frozen operation operands.now (both first second) (seen view.entry) true }
-    ensures failed { result.failed ≡ outcome_of V.operations view.entry.globals.now properties.now.story properties.now.is_frozen operation operands.now (both first second) (seen view.entry) false }
+    ensures held { result.held ≡ outcome_of V.operations view.entry.globals.now properties.now operation operands.now (both first second) (seen view.entry) true }
+    ensures failed { result.failed ≡ outcome_of V.operations view.entry.globals.now properties.now operation operands.now (both first second) (seen view.entry) false }
 {
     match operation {
         Operation::Unary(op) => once(gives_in(V::unary(op, first))),
@@ -241,8 +241,8 @@ fn counted<V: Domain>(
     second: V,
     view: View<'_, V>,
 ) -> Outcomes<V>
-    ensures held { (story : LoadedStory) (is_frozen : ℕ → Bool) (operands : List AnOperand) → result.held ≡ outcome_of V.operations view.entry.globals.now story is_frozen (Count op question) operands (both first second) (seen view.entry) true }
-    ensures failed { (story : LoadedStory) (is_frozen : ℕ → Bool) (operands : List AnOperand) → result.failed ≡ outcome_of V.operations view.entry.globals.now story is_frozen (Count op question) operands (both first second) (seen view.entry) false }
+    ensures held { (told : FrozenStory) (operands : List AnOperand) → result.held ≡ outcome_of V.operations view.entry.globals.now told (Count op question) operands (both first second) (seen view.entry) true }
+    ensures failed { (told : FrozenStory) (operands : List AnOperand) → result.failed ≡ outcome_of V.operations view.entry.globals.now told (Count op question) operands (both first second) (seen view.entry) false }
 {
     let Some(variable) = named(first) else {
         return never();

@@ -2,7 +2,7 @@
 use Rattle.std.proofs.Common.{◌≡◌, ◌⊎◌, inl, inr, ℕ, zero, suc, ◌+◌, ◌*◌, ◌-◌, ◌<◌, ◌≤◌, Bool, true, false, if◌then◌else◌, nat_lt, List, [], ◌∷◌, length, Option, Some, None, refl, sym, ap, subst, ◌∙◌, arith, min}
 use Rattle.std.specs.Prelude.{◌≢◌, ◌==◌, option_map}
 use Rattle.std.specs.List.{find}
-use Rattle.std.proofs.lemmas.Bool.{cases_lt, eqb-true}
+use Rattle.std.proofs.lemmas.Bool.{cases_lt, lt-ltb}
 use Rattle.std.proofs.lemmas.Option.{same_Some}
 use Rattle.zstory.specs.Bytes.{byte_at, word_at, readable_end}
 use Rattle.zstory.specs.Header as header
@@ -20,7 +20,7 @@ use Rattle.ztext.specs.Words.{length_at, text_at}
 use Rattle.ztext.proofs.Sameness.{text_at-same}
 use Rattle.zplace.specs.Bytes.{IsChanging, IsClosed, IsFixed, IsFlags, IsPropertyFrame, IsSizePlace, IsWithin, header, a_global, a_default, an_entry, a_property, an_abbreviation, frozen, static, here, behind}
 use Rattle.zplace.specs.Tables.{HasName, HasPropertyTables, IsDataPlace, IsPropertyData, in_data, in_rest, none_frozen}
-use Rattle.zplace.proofs.Lists.{data_behind, data_inside}
+use Rattle.zplace.proofs.Lists.{data_behind, data_inside, list_inside}
 
 -- a property has a size byte that isn't 0
 property_some : (memory : List ℕ) (at : ℕ) → is_property memory at ≡ true → byte_at memory at ≢ 0
@@ -168,6 +168,24 @@ module _ (story : LoadedStory) (is_frozen : ℕ → Bool) (sound : IsSound story
       rw (table, words, long, list) refl
 
   -- ---- short names
+
+  -- a name stands in memory
+  pub name_there : (object : ℕ) → 1 ≤ object → object ≤ story.objects → short_name story.memory object ≡ Outside → ⊥
+  name_there object first last e =
+      let table = property_table story.memory object in
+      let below = list_inside story.memory (static_base story) 32 (list_place story.memory table) (tables.tables object first last).listed in
+      let within = sound.static_base_within in
+      let small = static_small in
+      by table (nat_lt table (readable_end story.memory)) (nat_lt (table + 1) (readable_end story.memory)) (lt-ltb table (readable_end story.memory) (omega (arith, below, within, small))) (lt-ltb (table + 1) (readable_end story.memory) (omega (arith, below, within, small))) (byte_at story.memory table == 0) (subst (λ (b : Bool). (if b then Empty else name_in story.memory (property_table story.memory object)) ≡ Outside) (no_zero object first) e)
+    where
+      static_small : static_base story < 65536
+      static_small = let high = sound.bytes 0x0e in let low = sound.bytes 0x0f in omega (arith, high, low)
+
+      by : (table : ℕ) (inside more : Bool) → inside ≡ true → more ≡ true → (empty : Bool) → (if inside then (if empty then Empty else (if more then At (table + 1) else Outside)) else Outside) ≡ Outside → ⊥
+      by table true true i m true is = absurd cc
+      by table true true i m false is = absurd cc
+      by table false more i m empty is = absurd cc
+      by table true false i m empty is = absurd cc
 
   pub name_same : (object : ℕ) → 1 ≤ object → object ≤ story.objects → short_name now object ≡ short_name story.memory object
   name_same object first last =

@@ -30,7 +30,7 @@ use Rattle.zrule.specs.Numbers.{number_of}
 use Rattle.zflow.specs.declared.parts.Lead.TheVariants.{Ahead}
 use Rattle.zflow.specs.declared.parts.Outcome.{Outcome}
 use Rattle.zflow.specs.Transfer.{Shape, below, demands_of, outcome_of, outcome_at, goes_on}
-use Rattle.zrule.specs.Claims.{Entry, Claims, claims_of, entry_of}
+use Rattle.zrule.specs.Claims.{Entry, Claims, claims_of, entry_of, frozen_in}
 use Rattle.zplace.specs.Bytes.{IsWithin, IsChanging, IsAbbreviation, IsFixed, static, read_length}
 use Rattle.zrule.specs.Rules.{Covers, HasFirstPlace, HasGlobals, HasDisjointTables, HasFixedText, IsThere, Whatever, Leads, GoesOn, Asks, Keeps, IsLowestBroken, Supports}
 use Rattle.zrule.specs.Described.{Callers, Described, IsLoadedStory}
@@ -218,7 +218,7 @@ by_answers c i e P held failed w (true, comes) = subst (λ (x : Option (Outcome 
 by_answers c i e P held failed w (false, comes) = subst (λ (x : Option (Outcome Interval)). IfSome x P) comes failed
 
 -- what each rule asks of `print`
-asks_hello : (c : Claims Interval) → Leads interval_operations c 0 bare 803 → HasFixedText story c.is_frozen 799 → (rule : Rule) → Asks interval_operations c story 798 bare_entry hello rule
+asks_hello : (c : Claims Interval) → Leads interval_operations c 0 bare 803 → HasFixedText story (frozen_in c) 799 → (rule : Rule) → Asks interval_operations c story 798 bare_entry hello rule
 unfolding hello bare bare_entry operation_of demands_of outcome_of
 asks_hello c leads text rules.Decodes = tt
 asks_hello c leads text rules.Height = λ known. (omega arith, tt)
@@ -401,7 +401,7 @@ not_covered = (λ covers. (covers.locals.0 5 (interval_sound.any 5 (omega arith)
 
 -- routine 1 gives 5, which its caller takes at 900 as its only slot
 calling : Claims Interval
-calling = record { is_frozen = λ p. false; globals = []; entry = λ p. if p == 900 then Some (record { routine = 0; shape = record { locals = []; slots = point 5 ∷ [] } }) else None; result = λ r. point 5; routine_at = λ p. None }
+calling = record { ranges = []; globals = []; entry = λ p. if p == 900 then Some (record { routine = 0; shape = record { locals = []; slots = point 5 ∷ [] } }) else None; result = λ r. point 5; routine_at = λ p. None }
 
 caller : Frame
 caller = record { return_place = 0; result = 0; supplied = 0; locals = []; stack = [] }

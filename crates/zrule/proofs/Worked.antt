@@ -27,7 +27,7 @@ use Rattle.zcert.specs.Certificate.{Certificate}
 use Rattle.zrule.specs.declared.rule.Rule.{Rule}
 use Rattle.zrule.specs.declared.rule.Rule.TheVariants.{Decodes, Height, Local, Successor, Divisor, Text, Called, Returned, Known, Stored, High}
 use Rattle.zrule.specs.Numbers.{number_of}
-use Rattle.zrule.specs.Claims.{Entry, Claims, is_inside, claims_of}
+use Rattle.zrule.specs.Claims.{Entry, Claims, is_inside, claims_of, frozen_in}
 use Rattle.zrule.specs.Described.{Fits, FitsWith}
 use Rattle.zrule.specs.Rules.{global_in, IsNamed, Covers, Leads, GoesOn, Asks, Begins, Starts, TakesBack, comes_back, result_at}
 use Rattle.zstate.specs.Step.{words_from}
@@ -66,7 +66,7 @@ entries : ((claims_of interval_operations certificate).entry 0x305 ≡ Some (rec
 unfolding certificate shape
 entries = (refl, refl, refl)
 
-stays : ((claims_of interval_operations certificate).is_frozen 64 ≡ true) × ((claims_of interval_operations certificate).is_frozen 67 ≡ false) × ((claims_of interval_operations certificate).is_frozen 70 ≡ true)
+stays : ((frozen_in (claims_of interval_operations certificate)) 64 ≡ true) × ((frozen_in (claims_of interval_operations certificate)) 67 ≡ false) × ((frozen_in (claims_of interval_operations certificate)) 70 ≡ true)
 unfolding certificate range
 stays = (refl, refl, refl)
 
@@ -93,7 +93,7 @@ abbrev listed_at_place : ℕ → Option (Entry Interval)
 listed_at_place p = if p == 13 then Some (of_one (from (pos 1) (pos 5) refl)) else (if p == 8 || p == 21 then Some (of_one all_words) else None)
 
 small : Claims Interval
-small = record { is_frozen = λ p. false; globals = from (pos 0) (pos 5) refl ∷ []; entry = listed_at_place; result = λ r. point 0; routine_at = λ p. None }
+small = record { ranges = []; globals = from (pos 0) (pos 5) refl ∷ []; entry = listed_at_place; result = λ r. point 0; routine_at = λ p. None }
 
 -- the instructions stand at 10, and are of three bytes
 abbrev plain : Opcode → List Operand → Instruction
@@ -380,7 +380,7 @@ abbrev begun : Entry Interval
 begun = record { routine = 1; shape = before (from (pos 0) (pos 7) refl ∷ point 9 ∷ []) [] }
 
 routines : Claims Interval
-routines = record { is_frozen = λ p. false; globals = from (pos 0) (pos 4) refl ∷ []; entry = λ p. if p == 9 then Some begun else None; result = λ r. point 5; routine_at = λ p. if p == 4 then Some 0 else None }
+routines = record { ranges = []; globals = from (pos 0) (pos 4) refl ∷ []; entry = λ p. if p == 9 then Some begun else None; result = λ r. point 5; routine_at = λ p. if p == 4 then Some 0 else None }
 
 seven : In interval_operations (from (pos 0) (pos 7) refl) 7
 seven = record { word = omega arith; member = (record { le = tt }, record { le = tt }) }

@@ -1,6 +1,6 @@
 use Rattle.std.proofs.Common.{refl}
 use Rattle.zcert.specs.Listed.{seen}
-use Rattle.zrule.specs.Claims.{claims_of, entry_of}
+use Rattle.zrule.specs.Claims.{claims_of, entry_of, frozen_in}
 use Rattle.zrule.proofs.Asking.{height_unknown, local_unknown, text_fixed, called_asked, returned_asked, stored_asked, high_asked}
 use Rattle.zrule.proofs.judging.asks.Goals as goal
 
@@ -12,7 +12,7 @@ returns-then-not-is_known-2 g c = local_unknown g.V.Domain.operations (claims_of
 
 pub returns-in-Text : goal.returns-in-Text
 returns-in-Text g c =
-    let told = text_fixed g.V.Domain.operations (claims_of g.V.Domain.operations c.args.site.certificate.now) c.args.site.story.now c.args.site.listed.now.address (entry_of (seen c.args.site.listed.now)) c.args.site.instruction.now c.requires.there c.args.rule c.in-Text.is (c.texts_are_fixed.ensures (claims_of g.V.Domain.operations c.args.site.certificate.now).is_frozen c.args.site.listed.now.address c.args.site.instruction.now c.requires.there) in
+    let told = text_fixed g.V.Domain.operations (claims_of g.V.Domain.operations c.args.site.certificate.now) c.args.site.story.now c.args.site.listed.now.address (entry_of (seen c.args.site.listed.now)) c.args.site.instruction.now c.requires.there c.args.rule c.in-Text.is (c.texts_are_fixed.ensures (frozen_in (claims_of g.V.Domain.operations c.args.site.certificate.now)) c.args.site.listed.now.address c.args.site.instruction.now c.requires.there) in
     (λ t. told, λ a. refl)
 
 pub returns-in-Returned : goal.returns-in-Returned
