@@ -1,0 +1,6 @@
+mod Tables
+mod Found
+mod Tests
+mod Each
+mod Hulls
+mod Lying

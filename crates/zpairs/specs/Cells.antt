@@ -1,0 +1,64 @@
+-- What is known of an object and the number of a property, and of several objects with the same number (own).
+use Rattle.std.specs.Prelude.{ℕ, zero, suc, ◌+◌, Bool, true, false, ◌&&◌, ◌||◌, not, ◌==◌, nat_le, if◌then◌else◌, List, Option, Some, None, is_some}
+use Rattle.zobj.specs.declared.property.Property.{Property}
+use Rattle.zobj.specs.declared.answers.PropertyQuestion.TheVariants.{Value, Address, Next}
+use Rattle.zobj.specs.Properties.{property_of}
+use Rattle.zobj.specs.Answers.{is_property_number}
+use Rattle.zpairs.specs.declared.cell.Cell.{Cell}
+use Rattle.zpairs.specs.declared.cell.Test.{Test}
+use Rattle.zpairs.specs.declared.cell.Test.TheVariants.{Answered, Put, Unfrozen}
+use Rattle.zpairs.specs.declared.ends.Ends.{Ends}
+use Rattle.zpairs.specs.Frozen.{FrozenStory, frozen_by}
+use Rattle.zpairs.specs.Ends.{value_ends, address_ends, joined, no_word}
+
+-- none of so many places from one on is frozen
+unfoldable pub is_unfrozen : (ℕ → Bool) → ℕ → ℕ → Bool
+is_unfrozen is_frozen place zero = true
+is_unfrozen is_frozen place (suc k) = is_unfrozen is_frozen place k && not (is_frozen (place + k))
+
+-- at most two bytes; no frozen byte
+abbrev pub is_short : Option Property → Bool
+is_short None = true
+is_short (Some property) = nat_le property.length 2
+
+abbrev pub are_unfrozen : (ℕ → Bool) → Option Property → Bool
+are_unfrozen is_frozen None = true
+are_unfrozen is_frozen (Some property) = is_unfrozen is_frozen property.place property.length
+
+-- what its value may be; that is asked of the numbers of properties alone
+abbrev pub asked_values : (ℕ → Bool) → List ℕ → ℕ → Option Property → Ends
+asked_values is_frozen memory number property = if is_property_number number then value_ends is_frozen memory number property else no_word
+
+-- what is known of an object's property of a number
+abbrev pub cell_of : (ℕ → Bool) → List ℕ → ℕ → Option Property → Cell
+cell_of is_frozen memory number property = record {
+  has = is_some property;
+  short = is_short property;
+  unfrozen = are_unfrozen is_frozen property;
+  values = asked_values is_frozen memory number property;
+  addresses = address_ends property;
+}
+
+abbrev pub cell_at : FrozenStory → ℕ → ℕ → Cell
+cell_at told object number = cell_of (frozen_by told.ranges) told.story.memory number (property_of told.story.memory object number)
+
+-- what is known of none of the objects, and of those of either
+abbrev pub no_cell : Cell
+no_cell = record { has = true; short = true; unfrozen = true; values = no_word; addresses = no_word }
+
+abbrev pub merged : Cell → Cell → Cell
+merged a b = record {
+  has = a.has && b.has;
+  short = a.short && b.short;
+  unfrozen = a.unfrozen && b.unfrozen;
+  values = joined a.values b.values;
+  addresses = joined a.addresses b.addresses;
+}
+
+-- each of the objects passes a test with the number
+abbrev pub passes : Test → ℕ → Cell → Bool
+passes (Answered Value) number cell = is_property_number number && cell.short
+passes (Answered Address) number cell = true
+passes (Answered Next) number cell = (number == 0) || cell.has
+passes Put number cell = cell.has && cell.short
+passes Unfrozen number cell = cell.unfrozen

@@ -1,0 +1,4 @@
+pub mod Frozen
+pub mod Ends
+pub mod Cells
+pub mod Pairs

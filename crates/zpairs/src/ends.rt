@@ -1,0 +1,62 @@
+//! The ends of what an answer may be.
+
+ghost use Rattle.std.specs.Prelude.{◌≡◌};
+ghost use Rattle.zpairs.specs.Ends.{a_byte, any_word, exactly, joined, no_word, turned};
+
+/// The least and the greatest of some words, in the order of their signed readings. Each end is the place of a word in that order,
+/// so that both rise as numbers do.
+#[derive(Clone, Copy, Debug, PartialEq, Eq)]
+pub struct Ends {
+    pub least: u16,
+    pub greatest: u16,
+}
+
+/// Where a word stands in the order of signed readings, and the word that stands at a place of it.
+#[inline(always)]
+pub(crate) fn turned(word: u16) -> u16
+    ensures { result ≡ turned word }
+{
+    word.wrapping_add(0x8000)
+}
+
+impl Ends {
+    /// Those of no word.
+    pub(crate) const NONE: Ends = Ends {
+        least: 0xffff,
+        greatest: 0,
+    };
+
+    /// Those of the words below 256.
+    pub(crate) const BYTE: Ends = Ends {
+        least: 0x8000,
+        greatest: 0x80ff,
+    };
+
+    /// Those of all words.
+    pub(crate) const ANY: Ends = Ends {
+        least: 0,
+        greatest: 0xffff,
+    };
+
+    /// Those of one word.
+    pub(crate) fn exactly(word: u16) -> Ends
+        ensures { result ≡ exactly word }
+    {
+        let place = turned(word);
+        Ends {
+            least: place,
+            greatest: place,
+        }
+    }
+
+    /// Those of the words of either.
+    #[inline(always)]
+    pub(crate) fn join(self, other: Ends) -> Ends
+        ensures { result ≡ joined self other }
+    {
+        Ends {
+            least: self.least.min(other.least),
+            greatest: self.greatest.max(other.greatest),
+        }
+    }
+}

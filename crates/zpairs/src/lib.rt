@@ -1,0 +1,12 @@
+//! What comes of asking any object of a set for the property of any number of a set.
+#![tactic(auto)]
+
+mod cell;
+mod ends;
+mod finding;
+mod frozen;
+mod laws;
+mod properties;
+
+pub use laws::answers_lie_in_their_sets;
+pub use properties::Properties;

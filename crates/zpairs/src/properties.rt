@@ -1,0 +1,260 @@
+//! What comes of asking objects for properties.
+
+ghost use Rattle.std.specs.Prelude.{◌≡◌, ◌↔◌, ◌≤◌, ◌<◌, ◌+◌, ℕ, IsTrue, if◌then◌else◌};
+ghost use Rattle.zdomain.specs.Domain.{In};
+ghost use Rattle.zpairs.specs.Cells.{cell_at, passes};
+ghost use Rattle.zpairs.specs.Ends.{no_word};
+ghost use Rattle.zpairs.specs.Frozen.{FrozenStory, frozen_by};
+ghost use Rattle.zpairs.specs.Pairs.{EachPair, all_ends, between_ends, is_asked, may_exceed, may_have, object_ends, pair_ends};
+
+use crate::cell::{Cell, Test};
+use crate::ends::{Ends, turned};
+use crate::finding::cell_at;
+use std::marker::Model;
+use zcert::Range;
+use zdomain::Domain;
+use zobj::PropertyQuestion;
+use zstory::Story;
+
+/// How many numbers a size byte can have (Z 12.4.1).
+const NUMBERS: u16 = 32;
+
+/// The properties of a story's objects, with the ranges of bytes that stay as they are.
+#[derive(Drop)]
+pub struct Properties<'a> {
+    story: &'a Story,
+    ranges: &'a [Range],
+}
+
+impl<'a> Model for Properties<'a> {
+    ghost use Rattle.zpairs.specs.Frozen.{FrozenStory};
+
+    ghost Value = { FrozenStory };
+
+    ghost view = { λ p. record { story = p.story.now; ranges = p.ranges.now } };
+}
+
+impl<'a> Properties<'a> {
+    ghost use Rattle.std.specs.Prelude.{◌≡◌, ◌↔◌, ◌≤◌, ◌<◌, ◌+◌, ℕ, IsTrue};
+    ghost use Rattle.zdomain.specs.Domain.{In};
+    ghost use Rattle.zpairs.specs.Cells.{cell_at, passes};
+    ghost use Rattle.zpairs.specs.Frozen.{frozen_by};
+    ghost use Rattle.zpairs.specs.Pairs.{AreAnswered, AreUnfrozen, CanBePut, EachPair, all_ends, answers, number_ends, object_ends, pair_ends};
+
+    /// Those of a story, of which the bytes in some ranges stay as they are.
+    pub fn new(story: &'a Story, ranges: &'a [Range]) -> Properties<'a>
+        ensures { result ≡ record { story = story.now; ranges = ranges.now } }
+    {
+        Properties { story, ranges }
+    }
+
+    /// The story.
+    pub fn story(&self) -> &'a Story
+        ensures { result.now ≡ self.now.story }
+    {
+        self.story
+    }
+
+    /// Whether a question has an answer, whatever object of the story and whatever number of two sets it is asked of
+    /// (Z 15 get_prop, get_prop_addr, get_next_prop).
+    pub fn are_answered<V: Domain>(
+        &self,
+        question: PropertyQuestion,
+        objects: V,
+        numbers: V,
+    ) -> bool
+        ensures { IsTrue result ↔ AreAnswered V.operations self.now.story question objects numbers }
+    {
+        self.pass(Test::Answered(question), objects, numbers)
+    }
+
+    /// Whether each object of a set has the property of each number of a set, with at most two bytes of data, so that it can be given
+    /// a word (Z 15 put_prop).
+    pub fn can_be_put<V: Domain>(&self, objects: V, numbers: V) -> bool
+        ensures { IsTrue result ↔ CanBePut V.operations self.now.story objects numbers }
+    {
+        self.pass(Test::Put, objects, numbers)
+    }
+
+    /// Whether no byte of the data of such properties is frozen.
+    pub fn are_unfrozen<V: Domain>(&self, objects: V, numbers: V) -> bool
+        ensures { IsTrue result ↔ AreUnfrozen V.operations self.now.story (frozen_by self.now.ranges) objects numbers }
+    {
+        self.pass(Test::Unfrozen, objects, numbers)
+    }
+
+    /// A set of whatever may be answered of an object of the story and a number of two sets: the words from the least to the greatest,
+    /// by their signed readings. A value is known where it is a default, or its bytes are frozen.
+    pub fn answers<V: Domain>(&self, question: PropertyQuestion, objects: V, numbers: V) -> V
+        ensures { result ≡ answers V.operations self.now question objects numbers }
+    {
+        match question {
+            PropertyQuestion::Value | PropertyQuestion::Address => {
+                let ends = self.all_ends(question, objects, numbers);
+                V::between(turned(ends.least), turned(ends.greatest))
+            }
+            PropertyQuestion::Next => V::between(0, NUMBERS - 1),
+        }
+    }
+
+    /// Whether each object of a set passes a test with each number of a set.
+    fn pass<V: Domain>(&self, test: Test, objects: V, numbers: V) -> bool
+        ensures { IsTrue result ↔ EachPair V.operations self.now.story objects numbers (λ x n. IsTrue (passes test n (cell_at self.now x n))) }
+    {
+        for below in 0..self.story.objects() {
+            if !self.object_passes(test, below + 1, objects, numbers) {
+                return false;
+            }
+        }
+        true
+    }
+
+    /// Whether an object passes a test with each number of a set, where another set has it.
+    fn object_passes<V: Domain>(&self, test: Test, object: u8, objects: V, numbers: V) -> bool
+        requires least { 1 ≤ object }
+        requires most { object ≤ self.now.story.objects }
+        ensures { IsTrue result ↔ (In V.operations objects object → (n : ℕ) → In V.operations numbers n → IsTrue (passes test n (cell_at self.now object n))) }
+    {
+        if objects.contains(u16::from(object)) {
+            self.numbers_pass(test, object, numbers)
+        } else {
+            true
+        }
+    }
+
+    /// Whether it passes it with each number of a set.
+    fn numbers_pass<V: Domain>(&self, test: Test, object: u8, numbers: V) -> bool
+        requires least { 1 ≤ object }
+        requires most { object ≤ self.now.story.objects }
+        ensures { IsTrue result ↔ ((n : ℕ) → In V.operations numbers n → IsTrue (passes test n (cell_at self.now object n))) }
+    {
+        for number in 0..NUMBERS {
+            if !self.number_passes(test, object, number, numbers) {
+                return false;
+            }
+        }
+        self.others_pass(test, object, numbers)
+    }
+
+    /// Whether it passes it with a number, where a set has it.
+    fn number_passes<V: Domain>(&self, test: Test, object: u8, number: u16, numbers: V) -> bool
+        requires least { 1 ≤ object }
+        requires most { object ≤ self.now.story.objects }
+        ensures { IsTrue result ↔ (In V.operations numbers number → IsTrue (passes test number (cell_at self.now object number))) }
+    {
+        if numbers.contains(number) {
+            self.cell(object, number).passes(test, number)
+        } else {
+            true
+        }
+    }
+
+    /// Whether it passes it with each number of a set that no property has: with one as with all.
+    fn others_pass<V: Domain>(&self, test: Test, object: u8, numbers: V) -> bool
+        requires least { 1 ≤ object }
+        requires most { object ≤ self.now.story.objects }
+        ensures { IsTrue result ↔ ((n : ℕ) → 32 ≤ n → In V.operations numbers n → IsTrue (passes test n (cell_at self.now object n))) }
+    {
+        match numbers.least_from(NUMBERS) {
+            Some(number) => self.cell(object, number).passes(test, number),
+            None => true,
+        }
+    }
+
+    /// What is known of an object and a number.
+    fn cell(&self, object: u8, number: u16) -> Cell
+        requires least { 1 ≤ object }
+        requires most { object ≤ self.now.story.objects }
+        ensures { result ≡ cell_at self.now object number }
+    {
+        cell_at(self.story, self.ranges, object, number)
+    }
+
+    /// The ends of what may be answered of objects and numbers of two sets.
+    #[tactic(auto, unfolding(crate::specs::Pairs::ends_below))]
+    fn all_ends<V: Domain>(&self, question: PropertyQuestion, objects: V, numbers: V) -> Ends
+        ensures { result ≡ all_ends V.operations self.now question objects numbers }
+    {
+        let mut ends = Ends::NONE;
+        for below in 0..self.story.objects() {
+            ends = ends.join(self.object_ends(question, below + 1, objects, numbers));
+        }
+        ends
+    }
+
+    /// Those of one object, where it may be asked.
+    fn object_ends<V: Domain>(
+        &self,
+        question: PropertyQuestion,
+        object: u8,
+        objects: V,
+        numbers: V,
+    ) -> Ends
+        requires least { 1 ≤ object }
+        requires most { object ≤ self.now.story.objects }
+        ensures { result ≡ object_ends V.operations self.now question objects numbers object }
+    {
+        if may_have(objects, u16::from(object)) {
+            self.number_ends(question, object, numbers)
+        } else {
+            Ends::NONE
+        }
+    }
+
+    /// Those of one object with each number that may be asked for.
+    #[tactic(auto, unfolding(crate::specs::Pairs::ends_below))]
+    fn number_ends<V: Domain>(&self, question: PropertyQuestion, object: u8, numbers: V) -> Ends
+        requires least { 1 ≤ object }
+        requires most { object ≤ self.now.story.objects }
+        ensures { result ≡ number_ends V.operations self.now question numbers object }
+    {
+        let mut ends = Ends::NONE;
+        for number in 0..NUMBERS + 1 {
+            ends = ends.join(self.pair_ends(question, object, number, numbers));
+        }
+        ends
+    }
+
+    /// Those of one object and a number, where it may be asked for.
+    fn pair_ends<V: Domain>(
+        &self,
+        question: PropertyQuestion,
+        object: u8,
+        number: u16,
+        numbers: V,
+    ) -> Ends
+        requires least { 1 ≤ object }
+        requires most { object ≤ self.now.story.objects }
+        ensures { result ≡ pair_ends V.operations self.now question numbers object number }
+    {
+        if is_asked(numbers, number) {
+            self.cell(object, number).answer_ends(question)
+        } else {
+            Ends::NONE
+        }
+    }
+}
+
+/// Whether a set may have a word.
+fn may_have<V: Domain>(set: V, word: u16) -> bool
+    ensures { result ≡ may_have V.operations set word }
+{
+    set.meet(V::single(word)).is_some()
+}
+
+/// Whether a set may have a number above those of all properties.
+fn may_exceed<V: Domain>(set: V) -> bool
+    ensures { result ≡ may_exceed V.operations set }
+{
+    set.meet(V::between(32, 0x7fff)).is_some() || set.meet(V::between(0x8000, 0xffff)).is_some()
+}
+
+/// Whether a number of properties may be asked for; 32 stands for all that no property has.
+fn is_asked<V: Domain>(numbers: V, number: u16) -> bool
+    ensures { result ≡ is_asked V.operations numbers number }
+{
+    if number == NUMBERS {
+        return may_exceed(numbers);
+    }
+    may_have(numbers, number)
+}
