@@ -29,7 +29,7 @@ use Rattle.zplace.specs.Bytes.{frozen}
 use Rattle.zplace.specs.Tables.{IsPropertyData}
 use Rattle.zplace.proofs.Staying.{data_dynamic, default_same, name_same, name_text, name_there, properties_same, property_data}
 use Rattle.zpairs.specs.Pairs.{answers}
-use Rattle.zpairs.proofs.Law.{value_lies, address_lies, next_lies}
+use Rattle.zpairs.proofs.Lying.{value_lies, address_lies, next_lies}
 use Rattle.zrule.specs.Claims.{Claims, frozen_in, told_of}
 use Rattle.zrule.specs.Rules.{Supports}
 use Rattle.zrule.specs.Described.{DescribedMemory, IsLoadedStory}
@@ -101,7 +101,7 @@ module _ {V : Type 0} (o : SetOperations V) (lawful : AreSound o) (claims : Clai
   pub answer_lies : AreBytes now → (question : PropertyQuestion) (objects numbers : V) (number x : ℕ) → In o objects object → In o numbers number → answer_of question now object number ≡ Ok x → In o (answers o (told_of claims story) question objects numbers) x
   answer_lies are Value objects numbers number x in_objects in_numbers e =
       let same = default_same story (frozen_in claims) loaded.sound loaded.counted supports.tables.apart supports.properties now d.long d.fixed number (number_low number x e) in
-      value_lies o lawful (told_of claims story) now objects numbers object number x first last in_objects in_numbers (found_same number) same frozen_same are loaded.sound.bytes e
+      value_lies o lawful (told_of claims story) now objects numbers object number x first last in_objects in_numbers (found_same number) same frozen_same are e
   answer_lies are Address objects numbers number x in_objects in_numbers e =
       address_lies o lawful (told_of claims story) now objects numbers object number x first last in_objects in_numbers (found_same number) e
   answer_lies are Next objects numbers number x in_objects in_numbers e =

@@ -129,6 +129,7 @@ fn texts_are_fixed(story: &Story)
 
 /// Whether what an instruction gives is known: nothing is divided by 0, a length is read where there is one, and properties answer.
 fn gives_known<V: Spelled>(site: Site<'_, V>, flow: &Flow<'_, V>) -> bool
+    requires properties { site.properties.now ≡ record { story = site.story.now; ranges = site.certificate.now.ranges } }
     requires flow { IsFlow V.operations site.certificate.now.globals (told_of (claims_of V.operations site.certificate.now) site.story.now) site.instruction.now (entry_of (seen site.listed.now)).shape flow.now }
     ensures divides { IsTrue result → Divides V.operations (claims_of V.operations site.entry.certificate.now) site.entry.instruction.now (entry_of (seen site.entry.listed.now)).shape }
     ensures reads { IsTrue result → ReadsLength V.operations (claims_of V.operations site.entry.certificate.now) site.entry.story.now site.entry.instruction.now (entry_of (seen site.entry.listed.now)).shape }
@@ -150,6 +151,7 @@ fn gives_known<V: Spelled>(site: Site<'_, V>, flow: &Flow<'_, V>) -> bool
 fn has_successors<V: Spelled>(site: Site<'_, V>, flow: &Flow<'_, V>) -> bool
     requires there { IsThere site.story.now site.listed.now.address site.instruction.now }
     requires near { site.listed.now.address + site.instruction.now.size ≤ 131072 }
+    requires properties { site.properties.now ≡ record { story = site.story.now; ranges = site.certificate.now.ranges } }
     requires flow { IsFlow V.operations site.certificate.now.globals (told_of (claims_of V.operations site.certificate.now) site.story.now) site.instruction.now (entry_of (seen site.listed.now)).shape flow.now }
     requires told { IfSome site.blocks (λ b. AreBlocks V.operations (claims_of V.operations site.certificate.now) site.story.now b.now) }
     ensures { IsTrue result ↔ Asks V.operations (claims_of V.operations site.entry.certificate.now) site.entry.story.now site.entry.listed.now.address (entry_of (seen site.entry.listed.now)) site.entry.instruction.now Successor }
@@ -167,6 +169,7 @@ fn has_successors<V: Spelled>(site: Site<'_, V>, flow: &Flow<'_, V>) -> bool
 fn asks<V: Spelled>(site: Site<'_, V>, flow: &Flow<'_, V>, rule: Rule) -> bool
     requires there { IsThere site.story.now site.listed.now.address site.instruction.now }
     requires near { site.listed.now.address + site.instruction.now.size ≤ 131072 }
+    requires properties { site.properties.now ≡ record { story = site.story.now; ranges = site.certificate.now.ranges } }
     requires flow { IsFlow V.operations site.certificate.now.globals (told_of (claims_of V.operations site.certificate.now) site.story.now) site.instruction.now (entry_of (seen site.listed.now)).shape flow.now }
     requires told { IfSome site.blocks (λ b. AreBlocks V.operations (claims_of V.operations site.certificate.now) site.story.now b.now) }
     ensures { IsTrue result ↔ Asks V.operations (claims_of V.operations site.entry.certificate.now) site.entry.story.now site.entry.listed.now.address (entry_of (seen site.entry.listed.now)) site.entry.instruction.now rule }
@@ -214,6 +217,7 @@ fn asks<V: Spelled>(site: Site<'_, V>, flow: &Flow<'_, V>, rule: Rule) -> bool
 fn keeps<V: Spelled>(site: Site<'_, V>, flow: &Flow<'_, V>, rule: Rule) -> bool
     requires there { IsThere site.story.now site.listed.now.address site.instruction.now }
     requires near { site.listed.now.address + site.instruction.now.size ≤ 131072 }
+    requires properties { site.properties.now ≡ record { story = site.story.now; ranges = site.certificate.now.ranges } }
     requires flow { IsFlow V.operations site.certificate.now.globals (told_of (claims_of V.operations site.certificate.now) site.story.now) site.instruction.now (entry_of (seen site.listed.now)).shape flow.now }
     requires told { IfSome site.blocks (λ b. AreBlocks V.operations (claims_of V.operations site.certificate.now) site.story.now b.now) }
     ensures { IsTrue result ↔ Keeps V.operations (claims_of V.operations site.entry.certificate.now) site.entry.story.now site.entry.listed.now.address (entry_of (seen site.entry.listed.now)) rule }
@@ -233,6 +237,7 @@ fn broken_rule<V: Spelled>(
     let properties = Properties::new(story, certificate.ranges());
     let mut ends = TextEnds::new(story.memory());
     match judge(
+        story,
         &properties,
         certificate,
         listed,
@@ -251,6 +256,7 @@ fn broken_rule<V: Spelled>(
 /// asks once for all routines of a block, and else for each that it may enter. The answer is the same. `properties` are those of the
 /// story, with the ranges of the certificate.
 pub fn judge<'c, V: Spelled>(
+    story: &'c Story,
     properties: &'c Properties<'c>,
     certificate: &'c Certificate<V>,
     listed: &Instruction<'_, V>,
@@ -258,15 +264,14 @@ pub fn judge<'c, V: Spelled>(
     ends: &mut TextEnds<'_>,
     blocks: Option<&'c Blocks<V>>,
 ) -> Result<Instr, Rule>
-    requires ends { ends.old ≡ properties.now.story.memory }
-    requires ranges { properties.now.ranges ≡ certificate.now.ranges }
-    requires blocks { IfSome blocks (λ b. AreBlocks V.operations (claims_of V.operations certificate.now) properties.now.story b.now) }
+    requires ends { ends.old ≡ story.now.memory }
+    requires properties { properties.now ≡ record { story = story.now; ranges = certificate.now.ranges } }
+    requires blocks { IfSome blocks (λ b. AreBlocks V.operations (claims_of V.operations certificate.now) story.now b.now) }
     ensures memory { ends.new ≡ ends.old }
-    ensures there { IfOk result (λ i. IsThere properties.now.story listed.now.address i) }
-    ensures kept { IfOk result (λ i. (rule : ARule) → Keeps V.operations (claims_of V.operations certificate.now) properties.now.story listed.now.address (entry_of (seen listed.now)) rule) }
-    ensures broken { IfErr result (IsLowestBroken V.operations (claims_of V.operations certificate.now) properties.now.story listed.now.address (entry_of (seen listed.now))) }
+    ensures there { IfOk result (λ i. IsThere story.now listed.now.address i) }
+    ensures kept { IfOk result (λ i. (rule : ARule) → Keeps V.operations (claims_of V.operations certificate.now) story.now listed.now.address (entry_of (seen listed.now)) rule) }
+    ensures broken { IfErr result (IsLowestBroken V.operations (claims_of V.operations certificate.now) story.now listed.now.address (entry_of (seen listed.now))) }
 {
-    let story = properties.story();
     let Some(instruction) = spelled_there(story, listed.address, ends) else {
         return Err(Rule::Decodes);
     };

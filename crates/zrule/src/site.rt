@@ -1,7 +1,5 @@
 //! Where the rules are asked.
 
-ghost use Rattle.std.specs.Prelude.{◌≡◌};
-
 use crate::blocks::{Block, Blocks};
 use zcert::{Certificate, Instruction, Spelled};
 use zcode::Instr;
@@ -15,7 +13,6 @@ pub(crate) struct Site<'s, V: Spelled> {
     pub(crate) story: &'s Story,
     /// What comes of asking the story's objects for properties.
     pub(crate) properties: &'s Properties<'s>,
-    pub(crate) ghost told: { properties.now ≡ record { story = story.now; ranges = certificate.now.ranges } },
     pub(crate) certificate: &'s Certificate<V>,
     pub(crate) listed: &'s Instruction<'s, V>,
     pub(crate) instruction: &'s Instr,
