@@ -1,11 +1,11 @@
 -- What holds of each object and each number.
-use Rattle.std.proofs.Common.{◌≡◌, ◌↔◌, ◌⊎◌, inl, inr, ℕ, ◌+◌, ◌<◌, ◌≤◌, subst, sym, arith}
+use Rattle.std.proofs.Common.{◌≡◌, ◌↔◌, ◌⊎◌, inl, inr, ℕ, ◌+◌, ◌<◌, ◌≤◌, subst, sym, ◌∙◌, arith}
 use Rattle.std.specs.Prelude.{IsTrue}
 use Rattle.std.proofs.lemmas.Bool.{cases_lt}
 use Rattle.zdomain.specs.Domain.{SetOperations, In}
 use Rattle.zpairs.specs.declared.cell.Test.{Test}
 use Rattle.zpairs.specs.Frozen.{FrozenStory}
-use Rattle.zpairs.specs.Cells.{cell_at, passes}
+use Rattle.zpairs.specs.Cells.{absent_passes, cell_at, passes}
 use Rattle.zpairs.specs.Pairs.{EachPair}
 use Rattle.zpairs.proofs.Tests.{Meets, meets, above_passes}
 
@@ -32,10 +32,6 @@ module _ {V : Type 0} (o : SetOperations V) (told : FrozenStory) (test : Test) w
     λ meet x n first last has asked. (meets told test x n).1 (meet x n first last has asked),
   )
 
-  -- with a number that no property has, all are passed
-  pub others_as : (x n m : ℕ) → 32 ≤ n → 32 ≤ m → IsTrue (passes test n (cell_at told x n)) → IsTrue (passes test m (cell_at told x m))
-  others_as x n m high above passed = let one = above_passes told test x n high in let other = above_passes told test x m above in rw (other, ← one) passed
-
   -- numbers below 32 and the others
   pub all_numbers : (numbers : V) (x : ℕ) → ((n : ℕ) → n < 32 → In o numbers n → IsTrue (passes test n (cell_at told x n))) → ((n : ℕ) → 32 ≤ n → In o numbers n → IsTrue (passes test n (cell_at told x n))) → (n : ℕ) → In o numbers n → IsTrue (passes test n (cell_at told x n))
   all_numbers numbers x low high n = by_order (cases_lt n 32)
@@ -43,3 +39,7 @@ module _ {V : Type 0} (o : SetOperations V) (told : FrozenStory) (test : Test) w
       by_order : (n < 32) ⊎ (32 ≤ n) → In o numbers n → IsTrue (passes test n (cell_at told x n))
       by_order (inl below) = low n below
       by_order (inr above) = high n above
+
+  -- with a number that no property has, a test is passed or not, whatever the object
+  pub absent_there : (x n : ℕ) → 32 ≤ n → IsTrue (absent_passes test) ↔ IsTrue (passes test n (cell_at told x n))
+  absent_there x n above = let same = above_passes told test x n above in (λ absent. same ∙ absent, λ passed. sym same ∙ passed)

@@ -3,4 +3,5 @@ mod Found
 mod Tests
 mod Each
 mod Hulls
-mod Lying
+pub mod Lying
+mod Regrouped

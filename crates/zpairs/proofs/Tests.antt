@@ -16,7 +16,7 @@ use Rattle.zobj.specs.Answers.{answer_of, if_there, is_property_number}
 use Rattle.zpairs.specs.declared.cell.Test.{Test}
 use Rattle.zpairs.specs.declared.cell.Test.TheVariants.{Answered, Put, Unfrozen}
 use Rattle.zpairs.specs.Frozen.{FrozenStory, frozen_by}
-use Rattle.zpairs.specs.Cells.{is_unfrozen, is_short, are_unfrozen, cell_of, cell_at, passes}
+use Rattle.zpairs.specs.Cells.{is_unfrozen, is_short, are_unfrozen, cell_of, cell_at, passes, absent_passes}
 use Rattle.zpairs.proofs.Found.{IsSmall, found_small, none_above, followed}
 
 -- what is asked for by a test
@@ -133,15 +133,7 @@ meets told Unfrozen x n = unfrozen_data (frozen_by told.ranges) (property_of tol
 
 -- ---- numbers that no property has
 
--- with such a number a test is passed or not, whichever it is
-abbrev pub passes_none : Test → Bool
-passes_none (Answered Value) = false
-passes_none (Answered Address) = true
-passes_none (Answered Next) = false
-passes_none Put = false
-passes_none Unfrozen = true
-
-pub above_passes : (told : FrozenStory) (test : Test) (x n : ℕ) → 32 ≤ n → passes test n (cell_at told x n) ≡ passes_none test
+pub above_passes : (told : FrozenStory) (test : Test) (x n : ℕ) → 32 ≤ n → passes test n (cell_at told x n) ≡ absent_passes test
 above_passes told test x n above =
     let none = none_above told.story.memory x n above in
     let no_number : is_property_number n ≡ false = no_property in
@@ -151,7 +143,7 @@ above_passes told test x n above =
     no_property : is_property_number n ≡ false
     no_property = grind (arith, above)
 
-    by : property_of told.story.memory x n ≡ None → is_property_number n ≡ false → (n == 0) ≡ false → (test : Test) → passes test n (cell_at told x n) ≡ passes_none test
+    by : property_of told.story.memory x n ≡ None → is_property_number n ≡ false → (n == 0) ≡ false → (test : Test) → passes test n (cell_at told x n) ≡ absent_passes test
     by none no_number no_zero (Answered Value) = rw no_number refl
     by none no_number no_zero (Answered Address) = refl
     by none no_number no_zero (Answered Next) = rw (no_zero, none) refl

@@ -62,3 +62,11 @@ passes (Answered Address) number cell = true
 passes (Answered Next) number cell = (number == 0) || cell.has
 passes Put number cell = cell.has && cell.short
 passes Unfrozen number cell = cell.unfrozen
+
+-- with a number that no property has, all objects pass a test or none does
+abbrev pub absent_passes : Test → Bool
+absent_passes (Answered Value) = false
+absent_passes (Answered Address) = true
+absent_passes (Answered Next) = false
+absent_passes Put = false
+absent_passes Unfrozen = true

@@ -1,7 +1,7 @@
 //! What is known of objects, each asked for the property of one number.
 
 ghost use Rattle.std.specs.Prelude.{◌≡◌};
-ghost use Rattle.zpairs.specs.Cells.{merged, passes};
+ghost use Rattle.zpairs.specs.Cells.{absent_passes, merged, passes};
 ghost use Rattle.zpairs.specs.Pairs.{answer_ends};
 
 use crate::ends::Ends;
@@ -16,6 +16,18 @@ pub(crate) enum Test {
     Put,
     /// No byte of its data is frozen.
     Unfrozen,
+}
+
+impl Test {
+    /// Whether it is passed with a number that no property has.
+    pub(crate) fn absent_passes(self) -> bool
+        ensures { result ≡ absent_passes self }
+    {
+        match self {
+            Test::Answered(PropertyQuestion::Address) | Test::Unfrozen => true,
+            Test::Answered(_) | Test::Put => false,
+        }
+    }
 }
 
 /// What is known of some objects and the number of a property.

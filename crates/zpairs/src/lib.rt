@@ -1,6 +1,7 @@
 //! What comes of asking any object of a set for the property of any number of a set.
 #![tactic(auto)]
 
+mod blocks;
 mod cell;
 mod ends;
 mod finding;

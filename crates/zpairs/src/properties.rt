@@ -1,12 +1,13 @@
 //! What comes of asking objects for properties.
 
-ghost use Rattle.std.specs.Prelude.{◌≡◌, ◌↔◌, ◌≤◌, ◌<◌, ◌+◌, ℕ, IsTrue, if◌then◌else◌};
+ghost use Rattle.std.specs.Prelude.{◌≡◌, ◌↔◌, ◌≤◌, ℕ, IsTrue};
 ghost use Rattle.zdomain.specs.Domain.{In};
-ghost use Rattle.zpairs.specs.Cells.{cell_at, passes};
+ghost use Rattle.zpairs.specs.Cells.{absent_passes, cell_at, passes};
 ghost use Rattle.zpairs.specs.Ends.{no_word};
 ghost use Rattle.zpairs.specs.Frozen.{FrozenStory, frozen_by};
 ghost use Rattle.zpairs.specs.Pairs.{EachPair, all_ends, between_ends, is_asked, may_exceed, may_have, object_ends, pair_ends};
 
+use crate::blocks::{BLOCK_LENGTH, CELLS, COLUMNS, blocks_of};
 use crate::cell::{Cell, Test};
 use crate::ends::{Ends, turned};
 use crate::finding::cell_at;
@@ -24,6 +25,7 @@ const NUMBERS: u16 = 32;
 pub struct Properties<'a> {
     story: &'a Story,
     ranges: &'a [Range],
+    blocks: [Cell; CELLS],
 }
 
 impl<'a> Model for Properties<'a> {
@@ -32,20 +34,30 @@ impl<'a> Model for Properties<'a> {
     ghost Value = { FrozenStory };
 
     ghost view = { λ p. record { story = p.story.now; ranges = p.ranges.now } };
+
+    ghost use Rattle.zpairs.specs.Blocks.{AreBlocks};
+
+    ghost invariant = { λ p. AreBlocks (record { story = p.story.now; ranges = p.ranges.now }) p.blocks };
 }
 
 impl<'a> Properties<'a> {
-    ghost use Rattle.std.specs.Prelude.{◌≡◌, ◌↔◌, ◌≤◌, ◌<◌, ◌+◌, ℕ, IsTrue};
+    ghost use Rattle.std.specs.Prelude.{◌≡◌, ◌↔◌, ◌≤◌, ◌<◌, ◌+◌, ◌*◌, ℕ, IsTrue, nat_lt, if◌then◌else◌};
     ghost use Rattle.zdomain.specs.Domain.{In};
+    ghost use Rattle.zpairs.specs.Blocks.{EachInBlock, block_cell, block_ends, row_end};
     ghost use Rattle.zpairs.specs.Cells.{cell_at, passes};
+    ghost use Rattle.zpairs.specs.Ends.{no_word};
     ghost use Rattle.zpairs.specs.Frozen.{frozen_by};
-    ghost use Rattle.zpairs.specs.Pairs.{AreAnswered, AreUnfrozen, CanBePut, EachPair, all_ends, answers, number_ends, object_ends, pair_ends};
+    ghost use Rattle.zpairs.specs.Pairs.{AreAnswered, AreUnfrozen, CanBePut, EachPair, all_ends, answers, ends_below, number_ends, object_ends, pair_ends};
 
     /// Those of a story, of which the bytes in some ranges stay as they are.
     pub fn new(story: &'a Story, ranges: &'a [Range]) -> Properties<'a>
         ensures { result ≡ record { story = story.now; ranges = ranges.now } }
     {
-        Properties { story, ranges }
+        Properties {
+            story,
+            ranges,
+            blocks: blocks_of(story, ranges),
+        }
     }
 
     /// The story.
@@ -101,12 +113,106 @@ impl<'a> Properties<'a> {
     fn pass<V: Domain>(&self, test: Test, objects: V, numbers: V) -> bool
         ensures { IsTrue result ↔ EachPair V.operations self.now.story objects numbers (λ x n. IsTrue (passes test n (cell_at self.now x n))) }
     {
-        for below in 0..self.story.objects() {
-            if !self.object_passes(test, below + 1, objects, numbers) {
+        for block in 0..self.block_count() {
+            if !self.block_passes(test, block, objects, numbers) {
                 return false;
             }
         }
         true
+    }
+
+    /// How many blocks have an object.
+    fn block_count(&self) -> u8
+        ensures few { result ≤ 16 }
+        ensures all { self.now.story.objects ≤ 16 * result }
+        ensures needed { (block : ℕ) → block < result → 16 * block < self.now.story.objects }
+    {
+        let objects = u16::from(self.story.objects());
+        ((objects + 15) / 16) as u8
+    }
+
+    /// Whether each object of a block that a set has passes a test with each number of a set.
+    fn block_passes<V: Domain>(&self, test: Test, block: u8, objects: V, numbers: V) -> bool
+        requires few { block < 16 }
+        requires some { 16 * block < self.now.story.objects }
+        ensures { IsTrue result ↔ EachInBlock self.now block (λ x. In V.operations objects x → (n : ℕ) → In V.operations numbers n → IsTrue (passes test n (cell_at self.now x n))) }
+    {
+        if self.has_whole(block, objects) {
+            self.row_passes(test, block, numbers)
+        } else {
+            self.some_pass(test, block, objects, numbers)
+        }
+    }
+
+    /// Whether a set has each object of a block.
+    fn has_whole<V: Domain>(&self, block: u8, objects: V) -> bool
+        requires few { block < 16 }
+        ensures { IsTrue result → EachInBlock self.now block (In V.operations objects) }
+    {
+        let before = u16::from(BLOCK_LENGTH) * u16::from(block);
+        let last = u16::from(self.story.objects()).min(before + u16::from(BLOCK_LENGTH));
+        V::between(before + 1, last).is_within(objects)
+    }
+
+    /// Whether each object of a block passes a test with each number of a set.
+    fn row_passes<V: Domain>(&self, test: Test, block: u8, numbers: V) -> bool
+        requires few { block < 16 }
+        requires some { 16 * block < self.now.story.objects }
+        ensures { IsTrue result ↔ EachInBlock self.now block (λ x. (n : ℕ) → In V.operations numbers n → IsTrue (passes test n (cell_at self.now x n))) }
+    {
+        for number in 0..NUMBERS {
+            if !self.column_passes(test, block, number, numbers) {
+                return false;
+            }
+        }
+        absent_pass(test, numbers)
+    }
+
+    /// Whether each passes it with a number, where a set has it.
+    fn column_passes<V: Domain>(&self, test: Test, block: u8, number: u16, numbers: V) -> bool
+        requires few { block < 16 }
+        requires some { 16 * block < self.now.story.objects }
+        requires small { number < 32 }
+        ensures { IsTrue result ↔ (In V.operations numbers number → EachInBlock self.now block (λ x. IsTrue (passes test number (cell_at self.now x number)))) }
+    {
+        if numbers.contains(number) {
+            self.block_cell(block, number).passes(test, number)
+        } else {
+            true
+        }
+    }
+
+    /// What is known of the objects of a block and a number.
+    fn block_cell(&self, block: u8, number: u16) -> Cell
+        requires few { block < 16 }
+        requires small { number ≤ 32 }
+        ensures { result ≡ block_cell self.now block number }
+    {
+        self.blocks[COLUMNS * usize::from(block) + usize::from(number)]
+    }
+
+    /// Whether each object of a block that a set has passes a test with each number of a set, object by object.
+    fn some_pass<V: Domain>(&self, test: Test, block: u8, objects: V, numbers: V) -> bool
+        requires { block < 16 }
+        ensures { IsTrue result ↔ EachInBlock self.now block (λ x. In V.operations objects x → (n : ℕ) → In V.operations numbers n → IsTrue (passes test n (cell_at self.now x n))) }
+    {
+        for place in 0..BLOCK_LENGTH {
+            if !self.place_passes(test, BLOCK_LENGTH * block + place, objects, numbers) {
+                return false;
+            }
+        }
+        true
+    }
+
+    /// Whether an object, less 1, does, if the story has it.
+    fn place_passes<V: Domain>(&self, test: Test, below: u8, objects: V, numbers: V) -> bool
+        ensures { IsTrue result ↔ (below < self.now.story.objects → In V.operations objects (below + 1) → (n : ℕ) → In V.operations numbers n → IsTrue (passes test n (cell_at self.now (below + 1) n))) }
+    {
+        if below < self.story.objects() {
+            self.object_passes(test, below + 1, objects, numbers)
+        } else {
+            true
+        }
     }
 
     /// Whether an object passes a test with each number of a set, where another set has it.
@@ -133,7 +239,7 @@ impl<'a> Properties<'a> {
                 return false;
             }
         }
-        self.others_pass(test, object, numbers)
+        absent_pass(test, numbers)
     }
 
     /// Whether it passes it with a number, where a set has it.
@@ -146,18 +252,6 @@ impl<'a> Properties<'a> {
             self.cell(object, number).passes(test, number)
         } else {
             true
-        }
-    }
-
-    /// Whether it passes it with each number of a set that no property has: with one as with all.
-    fn others_pass<V: Domain>(&self, test: Test, object: u8, numbers: V) -> bool
-        requires least { 1 ≤ object }
-        requires most { object ≤ self.now.story.objects }
-        ensures { IsTrue result ↔ ((n : ℕ) → 32 ≤ n → In V.operations numbers n → IsTrue (passes test n (cell_at self.now object n))) }
-    {
-        match numbers.least_from(NUMBERS) {
-            Some(number) => self.cell(object, number).passes(test, number),
-            None => true,
         }
     }
 
@@ -176,10 +270,101 @@ impl<'a> Properties<'a> {
         ensures { result ≡ all_ends V.operations self.now question objects numbers }
     {
         let mut ends = Ends::NONE;
-        for below in 0..self.story.objects() {
-            ends = ends.join(self.object_ends(question, below + 1, objects, numbers));
+        for block in 0..self.block_count() {
+            ends = ends.join(self.block_ends(question, block, objects, numbers));
         }
         ends
+    }
+
+    /// Those of the objects of a block.
+    fn block_ends<V: Domain>(
+        &self,
+        question: PropertyQuestion,
+        block: u8,
+        objects: V,
+        numbers: V,
+    ) -> Ends
+        requires few { block < 16 }
+        ensures { result ≡ block_ends V.operations self.now question objects numbers block }
+    {
+        if self.has_whole(block, objects) {
+            self.row_ends(question, block, numbers)
+        } else {
+            self.some_ends(question, block, objects, numbers)
+        }
+    }
+
+    /// Those of a whole block.
+    #[tactic(auto, unfolding(crate::specs::Pairs::ends_below))]
+    fn row_ends<V: Domain>(&self, question: PropertyQuestion, block: u8, numbers: V) -> Ends
+        requires few { block < 16 }
+        ensures { result ≡ ends_below 33 (row_end V.operations self.now question numbers block) }
+    {
+        let mut ends = Ends::NONE;
+        for number in 0..NUMBERS + 1 {
+            ends = ends.join(self.column_ends(question, block, number, numbers));
+        }
+        ends
+    }
+
+    /// Those of a whole block and a number, where it may be asked for.
+    fn column_ends<V: Domain>(
+        &self,
+        question: PropertyQuestion,
+        block: u8,
+        number: u16,
+        numbers: V,
+    ) -> Ends
+        requires few { block < 16 }
+        requires small { number ≤ 32 }
+        ensures { result ≡ row_end V.operations self.now question numbers block number }
+    {
+        if is_asked(numbers, number) {
+            self.block_cell(block, number).answer_ends(question)
+        } else {
+            Ends::NONE
+        }
+    }
+
+    /// Those of a block, object by object.
+    #[tactic(auto, unfolding(crate::specs::Pairs::ends_below))]
+    fn some_ends<V: Domain>(
+        &self,
+        question: PropertyQuestion,
+        block: u8,
+        objects: V,
+        numbers: V,
+    ) -> Ends
+        requires few { block < 16 }
+        ensures { result ≡ block_ends V.operations self.now question objects numbers block }
+    {
+        let mut ends = Ends::NONE;
+        for place in 0..BLOCK_LENGTH {
+            ends = ends.join(self.place_ends(
+                question,
+                BLOCK_LENGTH * block + place,
+                objects,
+                numbers,
+            ));
+        }
+        ends
+    }
+
+    /// Those of an object, less 1, if the story has it.
+    fn place_ends<V: Domain>(
+        &self,
+        question: PropertyQuestion,
+        below: u8,
+        objects: V,
+        numbers: V,
+    ) -> Ends
+        ensures { result ≡ (if nat_lt below self.now.story.objects then object_ends V.operations self.now question objects numbers (below + 1) else no_word) }
+    {
+        if below < self.story.objects() {
+            self.object_ends(question, below + 1, objects, numbers)
+        } else {
+            Ends::NONE
+        }
     }
 
     /// Those of one object, where it may be asked.
@@ -257,4 +442,14 @@ fn is_asked<V: Domain>(numbers: V, number: u16) -> bool
         return may_exceed(numbers);
     }
     may_have(numbers, number)
+}
+
+/// Whether a test is passed with each number of a set that no property has.
+fn absent_pass<V: Domain>(test: Test, numbers: V) -> bool
+    ensures { IsTrue result ↔ ((n : ℕ) → 32 ≤ n → In V.operations numbers n → IsTrue (absent_passes test)) }
+{
+    match numbers.least_from(NUMBERS) {
+        Some(_) => test.absent_passes(),
+        None => true,
+    }
 }

@@ -1,6 +1,6 @@
 //! Which rule an instruction breaks.
 
-ghost use Rattle.std.specs.Prelude.{◌≡◌, ◌↔◌, ◌+◌, ◌≤◌, ℕ, Bool, IsTrue, IfSome, IfNone, IfOk, IfErr, MatchOption, Some, length};
+ghost use Rattle.std.specs.Prelude.{◌≡◌, ◌↔◌, ◌+◌, ◌≤◌, ℕ, Bool, false, IsTrue, IfSome, IfNone, IfOk, IfErr, MatchOption, Some, length};
 ghost use Rattle.std.specs.Bool.{OnTrue};
 ghost use Rattle.zcert.specs.Listed.{seen};
 ghost use Rattle.zcode.specs.Instruction.{Instruction as AnInstruction};

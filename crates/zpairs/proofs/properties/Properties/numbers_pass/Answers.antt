@@ -2,7 +2,7 @@ use Rattle.std.proofs.Common.{refl, arith}
 use Rattle.std.specs.Prelude.{IsTrue}
 use Rattle.zdomain.specs.Domain.{In}
 use Rattle.zpairs.specs.Cells.{cell_at, passes}
-use Rattle.zpairs.proofs.Each.{one_more_below, all_numbers}
+use Rattle.zpairs.proofs.Each.{one_more_below, all_numbers, absent_there}
 use Rattle.zpairs.proofs.properties.Properties.numbers_pass.Goals as goal
 
 pub loop-number-preserved : goal.loop-number-preserved
@@ -10,7 +10,8 @@ loop-number-preserved g c = one_more_below (λ n. In g.V.Domain.operations c.arg
 
 pub returns : goal.returns
 returns g c =
+    let o = g.V.Domain.operations in
     let last = c.loop-number-test.false in (
-      λ yes. all_numbers g.V.Domain.operations c.args.self.now c.args.test c.args.numbers c.args.object (λ n below. c.loop-number.invariant n (omega (arith, below, last))) (c.others_pass.ensures.0 yes),
-      λ all. c.others_pass.ensures.1 (λ n above. all n),
+      λ absent. all_numbers o c.args.self.now c.args.test c.args.numbers c.args.object (λ n below. c.loop-number.invariant n (omega (arith, below, last))) (λ n above has. (absent_there o c.args.self.now c.args.test c.args.object n above).0 (c.absent_pass.ensures.0 absent n above has)),
+      λ all. c.absent_pass.ensures.1 (λ n above has. (absent_there o c.args.self.now c.args.test c.args.object n above).1 (all n has)),
     )
