@@ -1,6 +1,6 @@
 -- What objects answer about their properties in a memory that claims describe.
-use Rattle.std.proofs.Common.{◌≡◌, ◌⊎◌, inl, inr, ℕ, zero, suc, ◌+◌, ◌-◌, ◌<◌, ◌≤◌, nat_lt, nat_le, Bool, true, false, if◌then◌else◌, List, length, Option, Some, None, Result, Ok, Err, refl, sym, ap, subst, ◌∙◌, arith}
-use Rattle.std.specs.Prelude.{◌==◌, ◌&&◌, IfOk, IfSome, IsOk, IsTrue, is_some}
+use Rattle.std.proofs.Common.{◌≡◌, ◌⊎◌, inl, inr, ℕ, zero, suc, ◌+◌, ◌-◌, ◌/◌, ◌%◌, ◌<◌, ◌≤◌, nat_lt, nat_le, Bool, true, false, if◌then◌else◌, List, length, Option, Some, None, Result, Ok, Err, refl, sym, ap, subst, ◌∙◌, arith}
+use Rattle.std.specs.Prelude.{slice_set, ◌==◌, ◌&&◌, IfOk, IfSome, IsOk, IsTrue, is_some}
 use Rattle.std.specs.List.{find}
 use Rattle.std.proofs.lemmas.Bool.{ltb-true, lt-ltb, le-leb, eqb-true}
 use Rattle.zstory.specs.Bytes.{AreBytes, byte_at, word_at, readable_end}
@@ -119,8 +119,8 @@ module _ {V : Type 0} (o : SetOperations V) (lawful : AreSound o) (claims : Clai
     pub there : (p : ℕ) → IsDataByte property p → IsPropertyData story p
 
   put_length : (property : Property) (word : ℕ) (one two : Bool) → IsOk (with_value 0 story.memory property) → (property.length == 1) ≡ one → (property.length == 2) ≡ two → (after : List ℕ) × (with_value word now property ≡ Ok after)
-  put_length property word true two ok e f = (_, rw e refl)
-  put_length property word false true ok e f = (_, rw (e, f) refl)
+  put_length property word true two ok e f = (slice_set now property.place (word % 256), rw e refl)
+  put_length property word false true ok e f = (slice_set (slice_set now property.place (word / 256)) (property.place + 1) (word % 256), rw (e, f) refl)
   put_length property word false false ok e f = absurd (let none : with_value 0 story.memory property ≡ Err PropertyTooLong = rw (e, f) refl in cc)
 
   filled_by : (number word : ℕ) (found : Option Property) → property_of story.memory object number ≡ found → IsOk (with_found 0 story.memory found) → Filled number word
@@ -166,5 +166,5 @@ length_there story now long zero there = (0, refl)
 length_there story now long (suc at) there = by (nat_lt at (readable_end story.memory)) refl there
   where
     by : (b : Bool) → nat_lt at (readable_end story.memory) ≡ b → IsTrue (is_some (if b then Some (data_length (byte_at story.memory at)) else None)) → (n : ℕ) × (length_before now (suc at) ≡ Some n)
-    by true is t = (_, rw (long, is) refl)
+    by true is t = (data_length (byte_at now at), rw (long, is) refl)
     by false is t = absurd cc

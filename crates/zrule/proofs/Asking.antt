@@ -37,6 +37,10 @@ on_true true false P follows h = absurd (let f = follows refl in cc)
 on_true false c P follows h = tt
 
 module _ {V : Type 0} (o : SetOperations V) (claims : Claims V) (story : LoadedStory) (p : ℕ) (e : Entry V) (i : Instruction) (there : IsThere story p i) where
+  -- what one rule asks is what a rule asks that is the same
+  pub same_asked : (rule other : Rule) (b : Bool) → rule ≡ other → IsTrue b ↔ Asks o claims story p e i other → IsTrue b ↔ Asks o claims story p e i rule
+  same_asked rule other b is asked = subst (λ (r : Rule). IsTrue b ↔ Asks o claims story p e i r) (sym is) asked
+
   -- where a variable isn't known, nothing is asked of heights and locals
   pub height_unknown : (rule : Rule) (b : Bool) → rule ≡ Height → (IsKnown o claims i e.shape → IsTrue b) → b ≡ false → IsTrue (not b) ↔ Asks o claims story p e i rule
   height_unknown rule b is known unknown = rw (is, unknown) (λ t k. absurd (let f = known k in cc), λ a. refl)

@@ -69,7 +69,7 @@ module _ (P : Rule → Type 0) where
       by_others (inr among) = let above = among_above number_of (number_of Decodes) asked q rising among in omega (arith, l, above)
 
 -- the first that doesn't hold is the lowest that is broken
-pub lowest_broken : {V : Type 0} (o : SetOperations V) (claims : Claims V) (story : LoadedStory) (p : ℕ) (e : Entry V) (k : ℕ) (default : Rule) → k < 12 → (Keeps o claims story p e (slice_index_or asked k default) → ⊥) → Keeps o claims story p e Decodes → AllByRecursion (Keeps o claims story p e) (take k asked) → IsLowestBroken o claims story p e (slice_index_or asked k default)
+pub lowest_broken : {V : Type 0} (o : SetOperations V) (claims : Claims V) (story : LoadedStory) (p : ℕ) (e : Entry V) (k : ℕ) (default : Rule) → k < 15 → (Keeps o claims story p e (slice_index_or asked k default) → ⊥) → Keeps o claims story p e Decodes → AllByRecursion (Keeps o claims story p e) (take k asked) → IsLowestBroken o claims story p e (slice_index_or asked k default)
 lowest_broken o claims story p e k default within broken there kept =
     let at = some_at asked k within in
     let same : slice_index_or asked k default ≡ at.0 = get_or_from_slice_get asked k at.0 default at.1 in
