@@ -1,10 +1,9 @@
 -- Properties that are found in a list.
-use Rattle.std.proofs.Common.{◌≡◌, ◌⊎◌, inl, inr, ℕ, zero, suc, ◌+◌, ◌<◌, ◌≤◌, Bool, true, false, ◌==◌, if◌then◌else◌, List, [], ◌∷◌, Option, Some, None, refl, sym, subst, ap, ◌∙◌, arith}
+use Rattle.std.proofs.Common.{◌≡◌, ℕ, zero, suc, ◌<◌, ◌≤◌, Bool, true, false, ◌==◌, if◌then◌else◌, List, [], ◌∷◌, Option, Some, None, refl, subst, arith}
 use Rattle.std.specs.Prelude.{is_some, option_map}
 use Rattle.std.specs.List.{find}
 use Rattle.std.proofs.lemmas.Bool.{eqb-true}
 use Rattle.std.proofs.lemmas.Option.{same_Some}
-use Rattle.zstory.specs.Bytes.{byte_at}
 use Rattle.zstory.specs.Objects.{property_table}
 use Rattle.zobj.specs.declared.property.Property.{Property}
 use Rattle.zobj.specs.Properties.{is_property, property_there, data_end, first_properties, properties_from, properties, has_number, property_of, after_number, first_number, next_in, list_place}

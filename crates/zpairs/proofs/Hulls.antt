@@ -1,8 +1,8 @@
 -- Ends of many words.
-use Rattle.std.proofs.Common.{◌≡◌, ◌⊎◌, inl, inr, ℕ, zero, suc, ◌+◌, ◌<◌, ◌≤◌, refl, sym, subst, arith}
+use Rattle.std.proofs.Common.{◌≡◌, ◌⊎◌, inl, inr, ℕ, zero, suc, ◌+◌, ◌<◌, ◌≤◌, refl, subst, arith}
 use Rattle.std.proofs.lemmas.Bool.{cases_lt}
 use Rattle.zpairs.specs.declared.ends.Ends.{Ends}
-use Rattle.zpairs.specs.Ends.{joined, no_word, turned}
+use Rattle.zpairs.specs.Ends.{joined}
 use Rattle.zpairs.specs.Pairs.{ends_below}
 
 -- those of one more

@@ -4,4 +4,6 @@ mod Tests
 mod Each
 mod Hulls
 pub mod Lying
+mod Marks
 mod Regrouped
+mod Worked

@@ -1,13 +1,12 @@
 -- Whatever is answered lies in the set of answers.
-use Rattle.std.proofs.Common.{◌≡◌, ◌⊎◌, inl, inr, ℕ, zero, suc, ◌+◌, ◌-◌, ◌*◌, ◌<◌, ◌≤◌, ◌≤ℤ◌, Bool, true, false, ◌==◌, ◌&&◌, ◌||◌, if◌then◌else◌, List, Option, Some, None, Result, Ok, Err, refl, sym, subst, ap, ◌∙◌, arith}
-use Rattle.std.specs.Prelude.{is_some, MatchOption, nat_le, nat_lt}
+use Rattle.std.proofs.Common.{◌≡◌, ◌⊎◌, inl, inr, ℕ, ◌+◌, ◌-◌, ◌*◌, ◌<◌, ◌≤◌, ◌≤ℤ◌, Bool, true, false, ◌==◌, ◌&&◌, ◌||◌, if◌then◌else◌, List, Option, Some, None, Result, Ok, Err, refl, sym, subst, ap, ◌∙◌, arith}
+use Rattle.std.specs.Prelude.{is_some, MatchOption}
 use Rattle.std.proofs.lemmas.Bool.{cases_lt, ne_eqb}
 use Rattle.std.proofs.lemmas.Int.{ints}
 use Rattle.zstory.specs.Bytes.{AreBytes, byte_at, word_at}
 use Rattle.zstory.specs.Header.{object_table}
 use Rattle.zword.specs.Binary.{signed}
 use Rattle.zdomain.specs.Domain.{SetOperations, AreSound, In}
-use Rattle.zobj.specs.declared.error.ObjectError.{ObjectError}
 use Rattle.zobj.specs.declared.error.ObjectError.TheVariants.{AbsentProperty, PropertyTooLong}
 use Rattle.zobj.specs.declared.property.Property.{Property}
 use Rattle.zobj.specs.declared.answers.PropertyQuestion.{PropertyQuestion}
@@ -17,9 +16,9 @@ use Rattle.zobj.specs.Values.{default_word, value_of, value_or_default}
 use Rattle.zobj.specs.Answers.{address_of, answer_of, if_there, is_property_number}
 use Rattle.zpairs.specs.declared.ends.Ends.{Ends}
 use Rattle.zpairs.specs.Frozen.{FrozenStory, frozen_by}
-use Rattle.zpairs.specs.Ends.{turned, exactly, a_byte, any_word, no_word, byte_ends, word_ends, data_ends, value_ends, address_ends}
-use Rattle.zpairs.specs.Cells.{cell_at, asked_values}
-use Rattle.zpairs.specs.Pairs.{may_have, may_exceed, is_asked, answer_ends, ends_below, pair_ends, number_ends, object_ends, all_ends, between_ends, answers}
+use Rattle.zpairs.specs.Ends.{turned, exactly, a_byte, any_word, no_word, byte_ends, word_ends, data_ends, value_ends}
+use Rattle.zpairs.specs.Cells.{cell_at}
+use Rattle.zpairs.specs.Pairs.{may_have, may_exceed, is_asked, answer_ends, pair_ends, number_ends, object_ends, all_ends, between_ends, answers}
 use Rattle.zpairs.proofs.Found.{found_small, none_above, next_below}
 use Rattle.zpairs.proofs.Hulls.{IsInside, IsPlace, inside_all, places_below}
 

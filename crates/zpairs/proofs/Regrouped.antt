@@ -1,9 +1,8 @@
 -- Blocks of objects in the place of objects.
-use Rattle.std.proofs.Common.{◌≡◌, ◌≢◌, ◌↔◌, ◌⊎◌, inl, inr, ℕ, zero, suc, ◌+◌, ◌-◌, ◌*◌, ◌/◌, ◌%◌, ◌<◌, ◌≤◌, Bool, true, false, ◌==◌, ◌&&◌, ◌||◌, if◌then◌else◌, List, length, refl, sym, subst, ap, ◌∙◌, arith}
-use Rattle.std.specs.Prelude.{IsTrue, nat_lt, slice_index_or, slice_set, min, max}
+use Rattle.std.proofs.Common.{◌≡◌, ◌↔◌, ◌⊎◌, inl, inr, ℕ, zero, suc, ◌+◌, ◌-◌, ◌*◌, ◌/◌, ◌%◌, ◌<◌, ◌≤◌, Bool, true, false, ◌==◌, ◌&&◌, ◌||◌, if◌then◌else◌, List, length, refl, sym, subst, ap, ◌∙◌, arith}
+use Rattle.std.specs.Prelude.{IsTrue, nat_lt, slice_index_or, slice_set}
 use Rattle.std.proofs.lemmas.Bool.{cases_lt, lt-ltb, ltb-true}
-use Rattle.std.proofs.lemmas.Int.{ints}
-use Rattle.std.proofs.lemmas.List.{get_or-set_same, get_or-set_other}
+use Rattle.std.proofs.lemmas.List.{get_or_default, get_or-set_same, get_or-set_other}
 use Rattle.zdomain.specs.Domain.{SetOperations, AreSound, In}
 use Rattle.zobj.specs.declared.answers.PropertyQuestion.{PropertyQuestion}
 use Rattle.zobj.specs.declared.answers.PropertyQuestion.TheVariants.{Value, Address, Next}
@@ -16,7 +15,7 @@ use Rattle.zpairs.specs.Frozen.{FrozenStory}
 use Rattle.zpairs.specs.Ends.{joined, no_word}
 use Rattle.zpairs.specs.Cells.{cell_at, no_cell, merged, passes}
 use Rattle.zpairs.specs.Pairs.{ends_below, may_have, is_asked, answer_ends, pair_ends, number_ends, object_ends, all_ends}
-use Rattle.zpairs.specs.Blocks.{merged_below, object_in, place_cell, block_cell, EachInBlock, place_ends, block_ends, row_end}
+use Rattle.zpairs.specs.Blocks.{AreCells, AreBlocks, merged_below, merged_in, cell_in, object_in, object_cell, place_cell, block_cell, EachInBlock, place_ends, block_ends, row_end}
 use Rattle.zpairs.proofs.Each.{one_more_below}
 use Rattle.zpairs.proofs.Lying.{may}
 
@@ -28,11 +27,32 @@ all_merged k m f cell same is = subst (λ (n : ℕ). cell ≡ merged_below n f) 
 pub one_more_cell : (cells : List Cell) (f : ℕ → Cell) (k : ℕ) (cell : Cell) → k < length cells → cell ≡ f k → ((j : ℕ) → j < k → slice_index_or cells j no_cell ≡ f j) → (j : ℕ) → j < k + 1 → slice_index_or (slice_set cells k cell) j no_cell ≡ f j
 one_more_cell cells f k cell inside is before = one_more_below (λ j. slice_index_or (slice_set cells k cell) j no_cell ≡ f j) k (λ j below. get_or-set_other cells k j cell no_cell (λ e. omega (arith, e, below)) ∙ before j below) (get_or-set_same cells k cell no_cell inside ∙ is)
 
-pub block_in_table : (told : FrozenStory) (cells : List Cell) (block number k : ℕ) → block < 16 → number ≤ 32 → k ≡ 33 * block + number → ((j : ℕ) → j < 528 → slice_index_or cells j no_cell ≡ block_cell told (j / 33) (j % 33)) → slice_index_or cells k no_cell ≡ block_cell told block number
-block_in_table told cells block number k few small at are =
-    let row : k / 33 ≡ block = omega (arith, at, small) in
-    let column : k % 33 ≡ number = omega (arith, at, small) in
-    are k (omega (arith, at, few, small)) ∙ ap (λ (b : ℕ). block_cell told b (k % 33)) row ∙ ap (block_cell told block) column
+-- what stands at the place of a row and a column
+module _ (f : ℕ → ℕ → Cell) (cells : List Cell) (rows : ℕ) (are : (k : ℕ) → k < 33 * rows → slice_index_or cells k no_cell ≡ f (k / 33) (k % 33)) where
+  pub in_table : (row column k : ℕ) → row < rows → column < 33 → k ≡ 33 * row + column → slice_index_or cells k no_cell ≡ f row column
+  in_table row column k few small at =
+      let r : k / 33 ≡ row = omega (arith, at, small) in
+      let c : k % 33 ≡ column = omega (arith, at, small) in
+      are k (omega (arith, at, few, small)) ∙ ap (λ (b : ℕ). f b (k % 33)) r ∙ ap (f row) c
+
+-- an object is read
+pub cell_read : (told : FrozenStory) (cells : List Cell) (object number k : ℕ) (otherwise : Cell) → AreCells told cells → length cells ≡ 8448 → 1 ≤ object → object ≤ told.story.objects → object ≤ 256 → number ≤ 32 → k ≡ 33 * (object - 1) + number → slice_index_or cells k otherwise ≡ cell_at told object number
+cell_read told cells object number k otherwise are long first last few small at =
+    let there : nat_lt (object - 1) told.story.objects ≡ true = lt-ltb (object - 1) told.story.objects (omega (arith, first, last)) in
+    let same : object - 1 + 1 ≡ object = omega (arith, first) in
+    get_or_default cells k otherwise no_cell (omega (arith, long, first, few, small, at))
+    ∙ in_table (object_cell told) cells 256 are (object - 1) number k (omega (arith, first, few)) (omega (arith, small)) at
+    ∙ rw there (ap (λ (x : ℕ). cell_at told x number) same)
+
+same_merged : (k : ℕ) (f g : ℕ → Cell) → ((i : ℕ) → i < k → f i ≡ g i) → merged_below k f ≡ merged_below k g
+unfolding merged_below
+same_merged zero f g same = refl
+same_merged (suc k) f g same = let before = same_merged k f g (λ i below. same i (omega (arith, below))) in let last = same k (omega arith) in rw (before, last) refl
+
+-- a table of blocks that is made of one of objects
+pub merged_blocks : (told : FrozenStory) (objects blocks : List Cell) → AreCells told objects → ((k : ℕ) → k < 528 → slice_index_or blocks k no_cell ≡ merged_in objects (k / 33) (k % 33)) → AreBlocks told blocks
+merged_blocks told objects blocks are made k few =
+    made k few ∙ same_merged 16 (cell_in objects (k / 33) (k % 33)) (place_cell told (k / 33) (k % 33)) (λ place near. in_table (object_cell told) objects 256 are (16 * (k / 33) + place) (k % 33) (33 * (16 * (k / 33) + place) + k % 33) (omega (arith, few, near)) (omega arith) refl)
 
 -- ---- tests of merged cells
 

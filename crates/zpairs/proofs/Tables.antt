@@ -1,5 +1,5 @@
 -- Entries and property defaults of a loaded story.
-use Rattle.std.proofs.Common.{ℕ, ◌+◌, ◌≤◌, List, arith}
+use Rattle.std.proofs.Common.{ℕ, ◌≤◌, List, arith}
 use Rattle.zstory.specs.LoadedStory.{IsSound}
 use Rattle.zstory.specs.Objects.{IsObjectCount}
 use Rattle.zobj.specs.Entries.{HasEntry, HasDefaults}

@@ -1,14 +1,12 @@
 -- What tests of cells mean.
-use Rattle.std.proofs.Common.{◌≡◌, ◌↔◌, ◌⊎◌, inl, inr, ℕ, zero, suc, ◌+◌, ◌<◌, ◌≤◌, Bool, true, false, not, ◌==◌, ◌&&◌, ◌||◌, if◌then◌else◌, List, Option, Some, None, Result, Ok, Err, refl, sym, subst, ap, ◌∙◌, arith}
-use Rattle.std.specs.Prelude.{is_some, is_ok, nat_le, nat_lt, option_map, IfSome, IsTrue, slice_set}
+use Rattle.std.proofs.Common.{◌≡◌, ◌↔◌, ◌⊎◌, inl, inr, ℕ, zero, suc, ◌+◌, ◌<◌, ◌≤◌, Bool, true, false, not, ◌==◌, ◌&&◌, ◌||◌, if◌then◌else◌, List, Option, Some, None, Ok, Err, refl, sym, subst, ◌∙◌, arith}
+use Rattle.std.specs.Prelude.{is_some, is_ok, nat_le, option_map, IfSome, IsTrue, slice_set}
 use Rattle.std.specs.Result.{IsOk}
-use Rattle.std.proofs.lemmas.Bool.{eqb-true, cases_lt, le-ltb, ne_eqb}
+use Rattle.std.proofs.lemmas.Bool.{cases_lt, ne_eqb}
 use Rattle.std.proofs.lemmas.Bool.Decides.{eqb_tells}
 use Rattle.zstory.specs.Bytes.{byte_at, word_at}
-use Rattle.zobj.specs.declared.error.ObjectError.{ObjectError}
 use Rattle.zobj.specs.declared.error.ObjectError.TheVariants.{AbsentProperty, PropertyTooLong}
 use Rattle.zobj.specs.declared.property.Property.{Property}
-use Rattle.zobj.specs.declared.answers.PropertyQuestion.{PropertyQuestion}
 use Rattle.zobj.specs.declared.answers.PropertyQuestion.TheVariants.{Value, Address, Next}
 use Rattle.zobj.specs.Properties.{properties, property_of, next_in, first_number}
 use Rattle.zobj.specs.Values.{IsDataByte, value_of, value_or_default, with_value, with_found, with_property}
@@ -16,8 +14,8 @@ use Rattle.zobj.specs.Answers.{answer_of, if_there, is_property_number}
 use Rattle.zpairs.specs.declared.cell.Test.{Test}
 use Rattle.zpairs.specs.declared.cell.Test.TheVariants.{Answered, Put, Unfrozen}
 use Rattle.zpairs.specs.Frozen.{FrozenStory, frozen_by}
-use Rattle.zpairs.specs.Cells.{is_unfrozen, is_short, are_unfrozen, cell_of, cell_at, passes, absent_passes}
-use Rattle.zpairs.proofs.Found.{IsSmall, found_small, none_above, followed}
+use Rattle.zpairs.specs.Cells.{is_unfrozen, is_short, are_unfrozen, cell_at, passes, absent_passes}
+use Rattle.zpairs.proofs.Found.{found_small, none_above, followed}
 
 -- what is asked for by a test
 abbrev pub Meets : FrozenStory → Test → ℕ → ℕ → Type 0

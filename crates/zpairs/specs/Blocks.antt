@@ -1,6 +1,6 @@
 -- What is known of all pairs, by blocks of 16 objects and one number: a table that is asked in the place of the objects (own).
-use Rattle.std.specs.Prelude.{◌≡◌, ℕ, zero, suc, ◌+◌, ◌*◌, ◌/◌, ◌%◌, ◌<◌, ◌≤◌, nat_lt, if◌then◌else◌, List, slice_index_or}
-use Rattle.zdomain.specs.Domain.{SetOperations, In}
+use Rattle.std.specs.Prelude.{◌≡◌, ℕ, zero, suc, ◌+◌, ◌*◌, ◌/◌, ◌%◌, ◌<◌, nat_lt, if◌then◌else◌, List, slice_index_or}
+use Rattle.zdomain.specs.Domain.{SetOperations}
 use Rattle.zobj.specs.declared.answers.PropertyQuestion.{PropertyQuestion}
 use Rattle.zpairs.specs.declared.ends.Ends.{Ends}
 use Rattle.zpairs.specs.declared.cell.Cell.{Cell}
@@ -18,16 +18,31 @@ merged_below (suc k) f = merged (merged_below k f) (f k)
 abbrev pub object_in : ℕ → ℕ → ℕ
 object_in block place = 16 * block + place + 1
 
+-- what is known of an object, less 1, and a number, if the story has it
+abbrev pub object_cell : FrozenStory → ℕ → ℕ → Cell
+object_cell told below number = if nat_lt below told.story.objects then cell_at told (below + 1) number else no_cell
+
 abbrev pub place_cell : FrozenStory → ℕ → ℕ → ℕ → Cell
-place_cell told block number place = if nat_lt (16 * block + place) told.story.objects then cell_at told (object_in block place) number else no_cell
+place_cell told block number place = object_cell told (16 * block + place) number
+
+-- a table of as many objects as there can be, each with the numbers up to 32 in their order
+abbrev pub AreCells : FrozenStory → List Cell → Type 0
+AreCells told cells = (k : ℕ) → k < 8448 → slice_index_or cells k no_cell ≡ object_cell told (k / 33) (k % 33)
 
 -- of the 16 objects of a block, as far as they are there
 abbrev pub block_cell : FrozenStory → ℕ → ℕ → Cell
 block_cell told block number = merged_below 16 (place_cell told block number)
 
--- a table of all blocks, each with the numbers up to 32 in their order
+-- a table of all blocks, with the same numbers
 abbrev pub AreBlocks : FrozenStory → List Cell → Type 0
 AreBlocks told cells = (k : ℕ) → k < 528 → slice_index_or cells k no_cell ≡ block_cell told (k / 33) (k % 33)
+
+-- what stands in a table of objects at a place of a block, and what that makes of the block
+abbrev pub cell_in : List Cell → ℕ → ℕ → ℕ → Cell
+cell_in cells block number place = slice_index_or cells (33 * (16 * block + place) + number) no_cell
+
+abbrev pub merged_in : List Cell → ℕ → ℕ → Cell
+merged_in cells block number = merged_below 16 (cell_in cells block number)
 
 -- something holds of each object of a block
 abbrev pub EachInBlock : FrozenStory → ℕ → (ℕ → Type 0) → Type 0

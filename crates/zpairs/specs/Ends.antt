@@ -1,5 +1,5 @@
 -- The ends of what an answer may be, in the order of signed readings (own).
-use Rattle.std.specs.Prelude.{ℕ, zero, suc, ◌+◌, ◌%◌, Bool, ◌&&◌, ◌==◌, if◌then◌else◌, min, max, List, Option, Some, None}
+use Rattle.std.specs.Prelude.{ℕ, ◌+◌, ◌%◌, Bool, ◌&&◌, ◌==◌, if◌then◌else◌, min, max, List, Option, Some, None}
 use Rattle.zstory.specs.Bytes.{byte_at, word_at}
 use Rattle.zobj.specs.declared.property.Property.{Property}
 use Rattle.zobj.specs.Values.{default_word}

@@ -1,5 +1,5 @@
 -- What comes of asking any object of a set for the property of any number of a set (own).
-use Rattle.std.specs.Prelude.{◌≡◌, ℕ, zero, suc, ◌+◌, ◌≤◌, Bool, false, ◌||◌, ◌==◌, if◌then◌else◌, List, is_some, IfSome}
+use Rattle.std.specs.Prelude.{◌≡◌, ℕ, zero, suc, ◌+◌, ◌≤◌, Bool, false, ◌||◌, ◌==◌, if◌then◌else◌, is_some, IfSome}
 use Rattle.std.specs.Result.{IsOk}
 use Rattle.zstory.specs.LoadedStory.{LoadedStory}
 use Rattle.zdomain.specs.Domain.{SetOperations, In}
@@ -10,7 +10,7 @@ use Rattle.zobj.specs.Values.{IsDataByte, with_property}
 use Rattle.zobj.specs.Answers.{answer_of}
 use Rattle.zpairs.specs.declared.ends.Ends.{Ends}
 use Rattle.zpairs.specs.declared.cell.Cell.{Cell}
-use Rattle.zpairs.specs.Frozen.{FrozenStory, frozen_by}
+use Rattle.zpairs.specs.Frozen.{FrozenStory}
 use Rattle.zpairs.specs.Ends.{turned, no_word, joined}
 use Rattle.zpairs.specs.Cells.{cell_at}
 

@@ -1,57 +1,69 @@
-//! What is known of objects, block by block.
+//! Tables of what is known of objects, one by one and block by block.
 
-ghost use Rattle.std.specs.Prelude.{◌≡◌, ◌+◌, ◌<◌, nat_lt, if◌then◌else◌};
-ghost use Rattle.zpairs.specs.Blocks.{AreBlocks, block_cell};
-ghost use Rattle.zpairs.specs.Cells.{cell_at, no_cell};
+ghost use Rattle.std.specs.Prelude.{◌≡◌, ◌+◌, ◌*◌, ◌/◌, ◌%◌, ◌<◌, ◌≤◌, ℕ, length, slice_index_or};
+ghost use Rattle.zpairs.specs.Blocks.{AreCells, merged_in, object_cell};
+ghost use Rattle.zpairs.specs.Cells.{no_cell};
 
 use crate::cell::Cell;
 use crate::finding::cell_at;
-use zcert::Range;
+use crate::frozen::Frozen;
 use zstory::Story;
 
 /// How many objects a block has.
 pub(crate) const BLOCK_LENGTH: u8 = 16;
 
-/// How many blocks there are: each object lies in one.
-pub(crate) const BLOCKS: u8 = 16;
-
-/// How many numbers a block is asked for: those that a size byte can have, and one more, which no property has.
+/// How many numbers each object is asked for: those that a size byte can have, and one more, which no property has.
 pub(crate) const COLUMNS: usize = 33;
 
-/// How many cells all blocks have.
-pub(crate) const CELLS: usize = 528;
+/// How many cells as many objects have as 16 blocks.
+pub(crate) const OBJECT_CELLS: usize = 8448;
 
-/// What is known of each block and each number.
-pub(crate) fn blocks_of(story: &Story, ranges: &[Range]) -> [Cell; CELLS]
-    ensures { AreBlocks (record { story = story.now; ranges = ranges.now }) result }
+/// How many cells 16 blocks have: each object lies in one of them.
+pub(crate) const BLOCK_CELLS: usize = 528;
+
+/// What is known of each object and each number.
+pub(crate) fn object_cells(story: &Story, frozen: Frozen<'_>) -> [Cell; OBJECT_CELLS]
+    ensures { AreCells (record { story = story.now; ranges = frozen.entry.ranges.now }) result }
 {
-    let mut cells = [Cell::NONE; CELLS];
-    for k in 0..CELLS {
-        cells[k] = block_cell(story, ranges, (k / COLUMNS) as u8, (k % COLUMNS) as u16);
+    let mut cells = [Cell::NONE; OBJECT_CELLS];
+    for k in 0..OBJECT_CELLS {
+        cells[k] = object_cell(story, frozen, (k / COLUMNS) as u8, (k % COLUMNS) as u16);
+    }
+    cells
+}
+
+/// What is known of an object, less 1, and a number, if the story has it.
+fn object_cell(story: &Story, frozen: Frozen<'_>, below: u8, number: u16) -> Cell
+    ensures { result ≡ object_cell (record { story = story.now; ranges = frozen.entry.ranges.now }) below number }
+{
+    if below < story.objects() {
+        cell_at(story, frozen, below + 1, number)
+    } else {
+        Cell::NONE
+    }
+}
+
+/// What is known of each block and each number, by the cells of its objects.
+pub(crate) fn block_cells(objects: &[Cell; OBJECT_CELLS]) -> [Cell; BLOCK_CELLS]
+    ensures { (k : ℕ) → k < 528 → slice_index_or result k no_cell ≡ merged_in objects.now (k / 33) (k % 33) }
+{
+    let mut cells = [Cell::NONE; BLOCK_CELLS];
+    for k in 0..BLOCK_CELLS {
+        cells[k] = merged_in(objects, k / COLUMNS, k % COLUMNS);
     }
     cells
 }
 
 /// What is known of the objects of a block and a number.
 #[tactic(auto, unfolding(crate::specs::Blocks::merged_below))]
-fn block_cell(story: &Story, ranges: &[Range], block: u8, number: u16) -> Cell
-    requires { block < 16 }
-    ensures { result ≡ block_cell (record { story = story.now; ranges = ranges.now }) block number }
+fn merged_in(objects: &[Cell; OBJECT_CELLS], block: usize, number: usize) -> Cell
+    requires few { block < 16 }
+    requires small { number < 33 }
+    ensures { result ≡ merged_in objects.now block number }
 {
     let mut cell = Cell::NONE;
-    for place in 0..BLOCK_LENGTH {
-        cell = cell.merge(place_cell(story, ranges, BLOCK_LENGTH * block + place, number));
+    for place in 0..usize::from(BLOCK_LENGTH) {
+        cell = cell.merge(objects[COLUMNS * (usize::from(BLOCK_LENGTH) * block + place) + number]);
     }
     cell
-}
-
-/// What is known of an object, less 1, and a number, if the story has it.
-fn place_cell(story: &Story, ranges: &[Range], below: u8, number: u16) -> Cell
-    ensures { result ≡ (if nat_lt below story.now.objects then cell_at (record { story = story.now; ranges = ranges.now }) (below + 1) number else no_cell) }
-{
-    if below < story.objects() {
-        cell_at(story, ranges, below + 1, number)
-    } else {
-        Cell::NONE
-    }
 }

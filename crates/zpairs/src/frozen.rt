@@ -1,20 +1,52 @@
 //! Places that stay as they are.
 
-ghost use Rattle.std.specs.Prelude.{◌≡◌};
-ghost use Rattle.zpairs.specs.Frozen.{frozen_by, is_inside};
+ghost use Rattle.std.specs.Prelude.{◌≡◌, ◌<◌, ◌||◌, ℕ, false, slice_index_or};
+ghost use Rattle.zpairs.specs.Frozen.{AreMarked, frozen_by, is_inside};
 
 use zcert::Range;
 
-/// Whether a place lies in a range, both ends included.
-fn is_inside(place: usize, range: Range) -> bool
-    ensures { result ≡ is_inside place range }
-{
-    usize::from(range.first) <= place && place <= usize::from(range.last)
+/// How many places ranges can reach.
+pub(crate) const PLACES: usize = 65_536;
+
+/// Ranges, with a mark for each place that they reach whether it lies in one.
+#[derive(Clone, Copy)]
+pub(crate) struct Frozen<'a> {
+    pub(crate) ranges: &'a [Range],
+    pub(crate) marks: &'a [bool; PLACES],
+    pub(crate) ghost marked: { AreMarked ranges.now marks.now },
 }
 
-/// Whether a place lies in one of the ranges.
-pub(crate) fn is_frozen(ranges: &[Range], place: usize) -> bool
-    ensures { result ≡ frozen_by ranges.now place }
+impl<'a> Frozen<'a> {
+    ghost use Rattle.std.specs.Prelude.{◌≡◌, ◌<◌};
+    ghost use Rattle.zpairs.specs.Frozen.{frozen_by};
+
+    /// Whether a place lies in one of the ranges.
+    pub(crate) fn has(self, place: usize) -> bool
+        requires { place < 65536 }
+        ensures { result ≡ frozen_by self.entry.ranges.now place }
+    {
+        self.marks[place]
+    }
+}
+
+/// The marks of ranges. Each place of each range is gone over once.
+pub(crate) fn marks_of(ranges: &[Range]) -> [bool; PLACES]
+    ensures { AreMarked ranges.now result }
 {
-    ranges.iter().any(|range| is_inside(place, *range))
+    let mut marks = [false; PLACES];
+    let mut left = ranges;
+    while let [range, rest @ ..] = left {
+        mark(&mut marks, *range);
+        left = rest;
+    }
+    marks
+}
+
+/// Marks the places of a range.
+fn mark(marks: &mut [bool; PLACES], range: Range)
+    ensures { (p : ℕ) → p < 65536 → slice_index_or marks.new p false ≡ (slice_index_or marks.old p false || is_inside p range) }
+{
+    for place in usize::from(range.first)..usize::from(range.last) + 1 {
+        marks[place] = true;
+    }
 }

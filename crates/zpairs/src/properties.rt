@@ -7,10 +7,10 @@ ghost use Rattle.zpairs.specs.Ends.{no_word};
 ghost use Rattle.zpairs.specs.Frozen.{FrozenStory, frozen_by};
 ghost use Rattle.zpairs.specs.Pairs.{EachPair, all_ends, between_ends, is_asked, may_exceed, may_have, object_ends, pair_ends};
 
-use crate::blocks::{BLOCK_LENGTH, CELLS, COLUMNS, blocks_of};
+use crate::blocks::{BLOCK_CELLS, BLOCK_LENGTH, COLUMNS, OBJECT_CELLS, block_cells, object_cells};
 use crate::cell::{Cell, Test};
 use crate::ends::{Ends, turned};
-use crate::finding::cell_at;
+use crate::frozen::{Frozen, marks_of};
 use std::marker::Model;
 use zcert::Range;
 use zdomain::Domain;
@@ -25,7 +25,8 @@ const NUMBERS: u16 = 32;
 pub struct Properties<'a> {
     story: &'a Story,
     ranges: &'a [Range],
-    blocks: [Cell; CELLS],
+    objects: [Cell; OBJECT_CELLS],
+    blocks: [Cell; BLOCK_CELLS],
 }
 
 impl<'a> Model for Properties<'a> {
@@ -35,9 +36,9 @@ impl<'a> Model for Properties<'a> {
 
     ghost view = { λ p. record { story = p.story.now; ranges = p.ranges.now } };
 
-    ghost use Rattle.zpairs.specs.Blocks.{AreBlocks};
+    ghost use Rattle.zpairs.specs.Blocks.{AreBlocks, AreCells};
 
-    ghost invariant = { λ p. AreBlocks (record { story = p.story.now; ranges = p.ranges.now }) p.blocks };
+    ghost invariant = { λ p. AreCells (record { story = p.story.now; ranges = p.ranges.now }) p.objects × AreBlocks (record { story = p.story.now; ranges = p.ranges.now }) p.blocks };
 }
 
 impl<'a> Properties<'a> {
@@ -53,10 +54,17 @@ impl<'a> Properties<'a> {
     pub fn new(story: &'a Story, ranges: &'a [Range]) -> Properties<'a>
         ensures { result ≡ record { story = story.now; ranges = ranges.now } }
     {
+        let marks = marks_of(ranges);
+        let frozen = Frozen {
+            ranges,
+            marks: &marks,
+        };
+        let objects = object_cells(story, frozen);
         Properties {
             story,
             ranges,
-            blocks: blocks_of(story, ranges),
+            blocks: block_cells(&objects),
+            objects,
         }
     }
 
@@ -246,6 +254,7 @@ impl<'a> Properties<'a> {
     fn number_passes<V: Domain>(&self, test: Test, object: u8, number: u16, numbers: V) -> bool
         requires least { 1 ≤ object }
         requires most { object ≤ self.now.story.objects }
+        requires small { number ≤ 32 }
         ensures { IsTrue result ↔ (In V.operations numbers number → IsTrue (passes test number (cell_at self.now object number))) }
     {
         if numbers.contains(number) {
@@ -259,9 +268,10 @@ impl<'a> Properties<'a> {
     fn cell(&self, object: u8, number: u16) -> Cell
         requires least { 1 ≤ object }
         requires most { object ≤ self.now.story.objects }
+        requires small { number ≤ 32 }
         ensures { result ≡ cell_at self.now object number }
     {
-        cell_at(self.story, self.ranges, object, number)
+        self.objects[COLUMNS * (usize::from(object) - 1) + usize::from(number)]
     }
 
     /// The ends of what may be answered of objects and numbers of two sets.
@@ -410,6 +420,7 @@ impl<'a> Properties<'a> {
     ) -> Ends
         requires least { 1 ≤ object }
         requires most { object ≤ self.now.story.objects }
+        requires small { number ≤ 32 }
         ensures { result ≡ pair_ends V.operations self.now question numbers object number }
     {
         if is_asked(numbers, number) {

@@ -4,4 +4,4 @@ use Rattle.zpairs.specs.Frozen.{frozen_by}
 use Rattle.zpairs.proofs.finding.is_unfrozen.Given as goal
 
 abbrev pub invariant-loop-behind : goal.invariant-loop-behind
-invariant-loop-behind l = l.unfrozen ≡ is_unfrozen (frozen_by l.ranges) l.place l.behind
+invariant-loop-behind l = l.unfrozen ≡ is_unfrozen (frozen_by l.frozen.ranges.now) l.place l.behind

@@ -1,0 +1,114 @@
+-- Values of the definitions, computed.
+use Rattle.std.proofs.Common.{◌≡◌, ℕ, true, false, List, [], ◌∷◌, ◌++◌, replicate, Some, None, refl}
+use Rattle.zdomain.specs.Interval.{interval_operations}
+use Rattle.zdomain.specs.declared.interval.Interval.{Interval}
+use Rattle.zstory.specs.LoadedStory.{LoadedStory}
+use Rattle.zcert.specs.declared.parts.Range.{Range}
+use Rattle.zobj.specs.declared.property.Property.{Property}
+use Rattle.zobj.specs.declared.answers.PropertyQuestion.TheVariants.{Value, Address, Next}
+use Rattle.zobj.specs.Properties.{first_properties, property_of}
+use Rattle.zpairs.specs.declared.cell.Test.TheVariants.{Answered, Put, Unfrozen}
+use Rattle.zpairs.specs.Frozen.{FrozenStory, frozen_by}
+use Rattle.zpairs.specs.Ends.{turned, exactly, a_byte, any_word, no_word, joined, value_ends, address_ends}
+use Rattle.zpairs.specs.Cells.{is_unfrozen, cell_of, cell_at, no_cell, merged, passes}
+use Rattle.zpairs.specs.Pairs.{may_exceed, is_asked, ends_below, answers}
+
+-- ---- the order of signed readings
+
+-- -32768, -1, 0, 1 and 32767, and there and back
+order : (turned 0x8000 ≡ 0) × (turned 0xFFFF ≡ 0x7FFF) × (turned 0 ≡ 0x8000) × (turned 1 ≡ 0x8001) × (turned 0x7FFF ≡ 0xFFFF) × (turned (turned 0x8001) ≡ 0x8001)
+order = (refl, refl, refl, refl, refl, refl)
+
+-- the words below 256, and -1 with 1: the least by sign is no unsigned least
+bytes : (exactly 0 ≡ record { least = 0x8000; greatest = 0x8000 }) × (joined (exactly 0) (exactly 255) ≡ a_byte) × (joined (exactly 1) (exactly 0xFFFF) ≡ record { least = 0x7FFF; greatest = 0x8001 }) × (joined (exactly 0x8000) (exactly 0x7FFF) ≡ any_word) × (joined no_word (exactly 7) ≡ exactly 7)
+bytes = (refl, refl, refl, refl, refl)
+
+-- ---- ranges, both ends included
+
+ranges : List Range
+ranges = record { first = 4; last = 5 } ∷ record { first = 9; last = 9 } ∷ []
+
+frozen_places : (frozen_by ranges 3 ≡ false) × (frozen_by ranges 4 ≡ true) × (frozen_by ranges 5 ≡ true) × (frozen_by ranges 6 ≡ false) × (frozen_by ranges 9 ≡ true) × (frozen_by ranges 10 ≡ false)
+unfolding ranges
+frozen_places = (refl, refl, refl, refl, refl, refl)
+
+unfrozen_runs : (is_unfrozen (frozen_by ranges) 6 3 ≡ true) × (is_unfrozen (frozen_by ranges) 6 4 ≡ false) × (is_unfrozen (frozen_by ranges) 5 1 ≡ false) × (is_unfrozen (frozen_by ranges) 5 0 ≡ true)
+unfolding is_unfrozen ranges
+unfrozen_runs = (refl, refl, refl, refl)
+
+-- ---- values of data
+
+ten : List ℕ
+ten = 0x10 ∷ 0x11 ∷ 0x12 ∷ 0x13 ∷ 0xFF ∷ 0x15 ∷ 0x16 ∷ 0x17 ∷ 0x18 ∷ 0xFE ∷ []
+
+data_at : ℕ → ℕ → Property
+data_at place length = record { number = 1; place = place; length = length }
+
+-- a frozen byte is known, and one that isn't is any byte; a word is known where both of its bytes are frozen, and longer data never
+values : (value_ends (frozen_by ranges) ten 1 (Some (data_at 9 1)) ≡ exactly 0xFE) × (value_ends (frozen_by ranges) ten 1 (Some (data_at 3 1)) ≡ a_byte) × (value_ends (frozen_by ranges) ten 1 (Some (data_at 4 2)) ≡ exactly 0xFF15) × (value_ends (frozen_by ranges) ten 1 (Some (data_at 5 2)) ≡ any_word) × (value_ends (frozen_by ranges) ten 1 (Some (data_at 3 2)) ≡ any_word) × (value_ends (frozen_by ranges) ten 1 (Some (data_at 4 3)) ≡ any_word)
+unfolding ranges ten data_at
+values = (refl, refl, refl, refl, refl, refl)
+
+addresses : (address_ends (Some (data_at 9 1)) ≡ exactly 9) × (address_ends None ≡ exactly 0)
+unfolding data_at
+addresses = (refl, refl)
+
+-- ---- a story with two objects
+
+-- up to the entries at 0x25E; the default of property 3 is -2, the word at 0x224, and that of property 7 is 300, at 0x22C
+front : List ℕ
+front = 0x03 ∷ 0x00 ∷ 0x00 ∷ 0x01 ∷ 0x03 ∷ 0x70 ∷ 0x03 ∷ 0x70 ∷ 0x03 ∷ 0x5C ∷ 0x02 ∷ 0x20 ∷ 0x00 ∷ 0x40 ∷ 0x02 ∷ 0x9A
+    ∷ replicate 528 0 ++ 0x00 ∷ 0x00 ∷ 0x00 ∷ 0x00 ∷ 0xFF ∷ 0xFE ∷ 0x00 ∷ 0x00 ∷ 0x00 ∷ 0x00 ∷ 0x00 ∷ 0x00 ∷ 0x01 ∷ 0x2C ∷ replicate 48 0
+
+-- object 1, named `a`, has properties 5, of one byte at 0x274, 3, of two at 0x276, and 2, of three at 0x279; object 2 has 5, at
+-- 0x281
+tables : List ℕ
+tables = 0x01 ∷ 0x98 ∷ 0xA5 ∷ 0x05 ∷ 0x07 ∷ 0x23 ∷ 0x12 ∷ 0x34 ∷ 0x42 ∷ 0x01 ∷ 0x02 ∷ 0x03 ∷ 0x00 ∷ 0x01 ∷ 0x9C ∷ 0xA5 ∷ 0x05 ∷ 0x09 ∷ 0x00 ∷ []
+
+story : LoadedStory
+story = record { memory = front ++ replicate 7 0 ++ 0x02 ∷ 0x70 ∷ replicate 7 0 ++ 0x02 ∷ 0x7D ∷ tables; objects = 2 }
+
+-- the data of property 3 are frozen, and the byte of object 2's property 5
+told : FrozenStory
+told = record { story = story; ranges = record { first = 0x276; last = 0x277 } ∷ record { first = 0x281; last = 0x281 } ∷ [] }
+
+found : (property_of story.memory 1 5 ≡ Some (record { number = 5; place = 0x274; length = 1 })) × (property_of story.memory 1 3 ≡ Some (record { number = 3; place = 0x276; length = 2 })) × (property_of story.memory 1 2 ≡ Some (record { number = 2; place = 0x279; length = 3 })) × (property_of story.memory 2 5 ≡ Some (record { number = 5; place = 0x281; length = 1 })) × (property_of story.memory 2 3 ≡ None)
+unfolding story front tables first_properties
+found = (refl, refl, refl, refl, refl)
+
+-- what is known of a pair, and of both objects with a number
+cells : (cell_at told 1 3 ≡ record { has = true; short = true; unfrozen = false; values = exactly 0x1234; addresses = exactly 0x276 }) × (cell_at told 2 3 ≡ record { has = false; short = true; unfrozen = true; values = exactly 0xFFFE; addresses = exactly 0 }) × (cell_at told 1 2 ≡ record { has = true; short = false; unfrozen = true; values = any_word; addresses = exactly 0x279 }) × (cell_at told 1 0 ≡ record { has = false; short = true; unfrozen = true; values = no_word; addresses = exactly 0 }) × (cell_at told 1 32 ≡ cell_at told 1 0)
+unfolding told story front tables first_properties is_unfrozen
+cells = (refl, refl, refl, refl, refl)
+
+both_cells : merged (cell_at told 1 3) (cell_at told 2 3) ≡ record { has = false; short = true; unfrozen = false; values = record { least = 0x7FFE; greatest = 0x9234 }; addresses = record { least = 0x8000; greatest = 0x8276 } }
+unfolding told story front tables first_properties is_unfrozen
+both_cells = refl
+
+tests : (passes (Answered Value) 1 no_cell ≡ true) × (passes (Answered Value) 31 no_cell ≡ true) × (passes (Answered Value) 0 no_cell ≡ false) × (passes (Answered Value) 32 no_cell ≡ false) × (passes (Answered Next) 0 (cell_of (frozen_by ranges) ten 0 None) ≡ true) × (passes (Answered Next) 1 (cell_of (frozen_by ranges) ten 1 None) ≡ false) × (passes Put 1 (cell_of (frozen_by ranges) ten 1 None) ≡ false) × (passes Unfrozen 1 (cell_of (frozen_by ranges) ten 1 None) ≡ true) × (passes (Answered Address) 40 (cell_of (frozen_by ranges) ten 40 None) ≡ true)
+tests = (refl, refl, refl, refl, refl, refl, refl, refl, refl)
+
+-- ---- intervals
+
+between : ℕ → ℕ → Interval
+between = interval_operations.between
+
+asked_numbers : (is_asked interval_operations (between 3 5) 2 ≡ false) × (is_asked interval_operations (between 3 5) 3 ≡ true) × (is_asked interval_operations (between 3 5) 5 ≡ true) × (is_asked interval_operations (between 3 31) 32 ≡ false) × (is_asked interval_operations (between 3 32) 32 ≡ true) × (may_exceed interval_operations (between 0xFFFF 0) ≡ true) × (may_exceed interval_operations (between 33 33) ≡ true)
+unfolding between
+asked_numbers = (refl, refl, refl, refl, refl, refl, refl)
+
+-- both objects with property 3: from the default, -2, to the frozen value; object 2 alone; property 5, of a byte that isn't frozen
+-- and of one that is; all numbers
+hulls : (answers interval_operations told Value (between 1 2) (between 3 3) ≡ between 0xFFFE 0x1234) × (answers interval_operations told Value (between 2 2) (between 3 3) ≡ between 0xFFFE 0xFFFE) × (answers interval_operations told Value (between 1 1) (between 5 5) ≡ between 0 255) × (answers interval_operations told Value (between 2 9) (between 5 5) ≡ between 9 9) × (answers interval_operations told Value (between 2 2) (between 5 7) ≡ between 0 300) × (answers interval_operations told Value (between 0 5) (between 2 3) ≡ interval_operations.any)
+unfolding between told story front tables first_properties is_unfrozen ends_below
+hulls = (refl, refl, refl, refl, refl, refl)
+
+-- addresses, with 0 where an object doesn't have the property, as none has 32
+address_hulls : (answers interval_operations told Address (between 1 1) (between 3 3) ≡ between 0x276 0x276) × (answers interval_operations told Address (between 1 2) (between 5 5) ≡ between 0x274 0x281) × (answers interval_operations told Address (between 1 1) (between 5 6) ≡ between 0 0x274) × (answers interval_operations told Address (between 1 1) (between 32 32) ≡ between 0 0) × (answers interval_operations told Next (between 1 1) (between 3 3) ≡ between 0 31)
+unfolding between told story front tables first_properties is_unfrozen ends_below
+address_hulls = (refl, refl, refl, refl, refl)
+
+-- where nothing may be asked, nothing is known
+nothing : answers interval_operations told Value (between 3 9) (between 3 3) ≡ interval_operations.any
+unfolding between told story front tables first_properties is_unfrozen ends_below
+nothing = refl

@@ -1,6 +1,0 @@
-use Rattle.std.proofs.Common.{◌≡◌}
-use Rattle.zpairs.specs.Blocks.{merged_below, place_cell}
-use Rattle.zpairs.proofs.blocks.block_cell.Given as goal
-
-abbrev pub invariant-loop-place : goal.invariant-loop-place
-invariant-loop-place l = l.cell ≡ merged_below l.place (place_cell (record { story = l.story; ranges = l.ranges }) l.block l.number)
