@@ -7,6 +7,7 @@ pub mod ObjectThere
 pub mod StepLemmas
 pub mod Reading
 pub mod Changes
+pub mod Onward
 pub mod Families
 pub mod Full
 pub mod Quiet

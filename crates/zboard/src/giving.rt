@@ -5,11 +5,14 @@ ghost use Rattle.zfault.specs.declared.item.Item.TheVariants.{Text};
 ghost use Rattle.std.specs.Fmt.{signed_decimal};
 ghost use Rattle.zword.specs.Binary.{signed};
 ghost use Rattle.ztext.specs.Output.{output_at, output_of_code};
-ghost use Rattle.zboard.specs.Deed.{bytes_in};
+ghost use Rattle.zobj.specs.Entries.{HasEntry};
+ghost use Rattle.zobj.specs.Names.{short_name};
+ghost use Rattle.zboard.specs.Deed.{bytes_in, text_of};
 
 use itoa::Buffer;
 use std::alloc::AllocError;
 use zfault::Items;
+use zobj::{ShortName, short_name};
 use ztext::{TextError, decode_into, output_byte};
 
 /// Gives out the text at a place, all or none. Only a text that prints something can be refused memory.
@@ -29,6 +32,27 @@ pub(crate) fn give_decoded(
         Ok(_) => items.give_text(text.as_slice()),
         Err(TextError::OutOfMemory) => Err(AllocError),
         Err(_) => unreachable!(),
+    }
+}
+
+/// Gives out the short name of an object, all or none. Only one that prints something can be refused memory.
+#[inline(never)]
+pub(crate) fn give_name(
+    memory: &[u8],
+    object: u8,
+    text: &mut Vec<u8>,
+    items: &mut Items,
+) -> Result<(), AllocError>
+    requires entry { HasEntry memory.now object }
+    requires name { IsOk (text_of (short_name memory.now object) memory.now) }
+    ensures ok { OnOk result (items.new.items ≡ items.old.items ++ map Text (bytes_in (text_of (short_name memory.now object) memory.now))) }
+    ensures err { OnErr result (0 < length (bytes_in (text_of (short_name memory.now object) memory.now))) }
+    ensures kept { OnErr result (items.new.items ≡ items.old.items) }
+{
+    match short_name(memory, object) {
+        ShortName::Empty => Ok(()),
+        ShortName::At(place) => give_decoded(memory, usize::from(place), text, items),
+        ShortName::Outside => unreachable!(),
     }
 }
 

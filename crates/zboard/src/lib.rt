@@ -8,6 +8,7 @@ mod giving;
 mod in_place;
 mod objects;
 mod place;
+mod properties;
 mod quick;
 mod returning;
 mod row;

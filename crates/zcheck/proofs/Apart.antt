@@ -11,7 +11,7 @@ use Rattle.ztext.specs.Abbreviations.{readable_word, abbreviation_at, IsPlainAbb
 use Rattle.zcert.specs.declared.parts.Range.{Range}
 use Rattle.zcert.specs.Spelling.{IsRange}
 use Rattle.zplace.specs.Bytes.{IsWithin, IsChanging, IsUnchanging, read_length}
-use Rattle.zrule.specs.Claims.{is_inside}
+use Rattle.zpairs.specs.Frozen.{is_inside}
 use Rattle.zrule.proofs.Unchanged.{IsRead, read_where}
 use Rattle.zrule.specs.Rules.{HasAbbreviations, HasDisjointTables}
 use Rattle.zcheck.specs.Tables.{HasAbbreviation, IsFrozenApart, AreApart}

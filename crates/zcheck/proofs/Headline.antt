@@ -14,7 +14,7 @@ use Rattle.zcert.specs.Spelling.{HasSpelling}
 use Rattle.zfault.specs.declared.event.Event.{Event}
 use Rattle.zstate.specs.State.{Scope, Setting, opening, scope_all, scope_only, usual_limit}
 use Rattle.zstate.specs.Run.{run}
-use Rattle.zrule.specs.Claims.{Entry, claims_of}
+use Rattle.zrule.specs.Claims.{Entry, claims_of, frozen_in}
 use Rattle.zrule.specs.Rules.{Supports}
 use Rattle.zplace.specs.Bytes.{IsFixed, frozen}
 use Rattle.zrule.specs.Described.{Described, IsListedIn, IsLoadedStory, IsNoFault}
@@ -43,6 +43,7 @@ module _ {V : Type 0} (o : SetOperations V) (lawful : AreSound o) (format : Form
     values = passes.story_rules rules.FirstGlobals;
     low = low;
     few = let count = spelling.globals in omega (arith, count);
+    properties = passes.story_rules rules.PropertyTables;
     tree = passes.story_rules rules.Tree;
     abbreviations = passes.story_rules rules.Abbreviations;
     tables = passes.story_rules rules.Tables;
@@ -88,11 +89,11 @@ module _ {V : Type 0} (o : SetOperations V) (lawful : AreSound o) (format : Form
     safe_in events n = (runs events n).0
 
     -- what is frozen is fixed
-    fixed_where : (p : ℕ) → IsFixed story (claims_of o c).is_frozen p ⊎ ((claims_of o c).is_frozen p ≡ true) → IsFixed story (claims_of o c).is_frozen p
+    fixed_where : (p : ℕ) → IsFixed story (frozen_in (claims_of o c)) p ⊎ ((frozen_in (claims_of o c)) p ≡ true) → IsFixed story (frozen_in (claims_of o c)) p
     fixed_where p (inl fixed) = fixed
     fixed_where p (inr is) = record { closed = frozen is; unchanging = (passes.story_rules rules.Tables).unchanging p is }
 
-    same_in : RunsWithoutChange story (claims_of o c).is_frozen scope
+    same_in : RunsWithoutChange story (frozen_in (claims_of o c)) scope
     unfolding setting
     same_in events n p stays = (runs events n).1.memory.fixed p (fixed_where p stays)
 
@@ -100,6 +101,6 @@ module _ {V : Type 0} (o : SetOperations V) (lawful : AreSound o) (format : Form
   never_faults listing loaded passes lists =
       (safe_in loaded passes (scope_only listing) (lists_where listing lists), safe_in loaded passes (scope_all story) (all_listed o (claims_of o c) story (supports_where passes)))
 
-  pub never_changes : (listing : ListedCode) → IsLoadedStory story → Passes o story c → IsListingOf story c listing → RunsWithoutChange story (claims_of o c).is_frozen (scope_only listing) × RunsWithoutChange story (claims_of o c).is_frozen (scope_all story)
+  pub never_changes : (listing : ListedCode) → IsLoadedStory story → Passes o story c → IsListingOf story c listing → RunsWithoutChange story (frozen_in (claims_of o c)) (scope_only listing) × RunsWithoutChange story (frozen_in (claims_of o c)) (scope_all story)
   never_changes listing loaded passes lists =
       (same_in loaded passes (scope_only listing) (lists_where listing lists), same_in loaded passes (scope_all story) (all_listed o (claims_of o c) story (supports_where passes)))

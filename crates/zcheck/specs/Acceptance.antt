@@ -13,7 +13,7 @@ use Rattle.zdomain.specs.Domain.{SetOperations}
 use Rattle.zstate.specs.State.{Scope, opening, scope_all, scope_only, usual_limit}
 use Rattle.zstate.specs.Run.{run}
 use Rattle.zplace.specs.Bytes.{IsFixed}
-use Rattle.zrule.specs.Claims.{claims_of}
+use Rattle.zrule.specs.Claims.{claims_of, frozen_in}
 use Rattle.zrule.specs.Described.{IsNoFault}
 
 -- a story, its certificate over a type V of sets of words, and the certificate's listing
@@ -60,5 +60,5 @@ RunsWithoutChange story is_frozen scope =
 
 -- with the one listing as with the other
 pub record NeverChanges {V : Type 0} (o : SetOperations V) (a : AcceptanceOver V) : Type 0 where
-  pub listed : RunsWithoutChange a.story (claims_of o a.certificate).is_frozen (scope_only a.listing)
-  pub everywhere : RunsWithoutChange a.story (claims_of o a.certificate).is_frozen (scope_all a.story)
+  pub listed : RunsWithoutChange a.story (frozen_in (claims_of o a.certificate)) (scope_only a.listing)
+  pub everywhere : RunsWithoutChange a.story (frozen_in (claims_of o a.certificate)) (scope_all a.story)

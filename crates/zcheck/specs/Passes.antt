@@ -9,7 +9,7 @@ use Rattle.zdomain.specs.Domain.{SetOperations}
 use Rattle.zcert.specs.declared.parts.Routine.{Routine}
 use Rattle.zcert.specs.Certificate.{Certificate}
 use Rattle.zrule.specs.declared.rule.Rule.{Rule}
-use Rattle.zrule.specs.Claims.{Entry, claims_of}
+use Rattle.zrule.specs.Claims.{Entry, claims_of, frozen_in}
 use Rattle.zrule.specs.Rules.{HasAbbreviations, HasDisjointTables, HasFirstPlace, HasGlobals, Keeps, IsLowestBroken}
 use Rattle.zcheck.specs.declared.refusal.StoryRule.{StoryRule}
 use Rattle.zcheck.specs.declared.refusal.StoryRule.TheVariants as rules
@@ -43,7 +43,7 @@ module _ {V : Type 0} (o : SetOperations V) (story : LoadedStory) (c : Certifica
   -- S7: abbreviations are whole, plain, and stay as they are
   KeepsStory rules.Abbreviations = HasAbbreviations story
   -- S8: tables share no byte, and what is frozen could be
-  KeepsStory rules.Tables = HasDisjointTables story (claims_of o c).is_frozen
+  KeepsStory rules.Tables = HasDisjointTables story (frozen_in (claims_of o c))
 
   -- each listed place below an address keeps each rule
   abbrev pub KeepsBelow : ℕ → Type 0

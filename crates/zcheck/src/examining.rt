@@ -6,6 +6,7 @@ ghost use Rattle.zcheck.specs.Passes.{IsCause, IsRefused, Passes};
 use crate::refusal::Refusal;
 use crate::story_rules::broken_story_rule;
 use zcert::{Certificate, Spelled};
+use zpairs::Properties;
 use zrule::judge;
 use zstory::Story;
 use ztext::TextEnds;
@@ -18,10 +19,19 @@ pub fn examine<V: Spelled>(story: &Story, certificate: &Certificate<V>) -> Optio
     if let Some(rule) = broken_story_rule(story, certificate) {
         return Some(Refusal::Story(rule));
     }
+    let properties = Properties::new(story, certificate.ranges());
     let mut ends = TextEnds::new(story.memory());
     for index in 0..certificate.instruction_count() {
         let listed = certificate.instruction(index);
-        if let Err(rule) = judge(story, certificate, &listed, index + 1, &mut ends, None) {
+        if let Err(rule) = judge(
+            story,
+            &properties,
+            certificate,
+            &listed,
+            index + 1,
+            &mut ends,
+            None,
+        ) {
             return Some(Refusal::Instruction(listed.address, rule));
         }
     }

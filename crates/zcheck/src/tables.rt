@@ -2,7 +2,7 @@
 
 ghost use Rattle.std.specs.Prelude.{◌≡◌, ◌↔◌, ◌+◌, ◌*◌, ◌≤◌, ◌<◌, IsTrue};
 ghost use Rattle.std.specs.List.{All};
-ghost use Rattle.zrule.specs.Claims.{claims_of};
+ghost use Rattle.zrule.specs.Claims.{claims_of, frozen_in};
 ghost use Rattle.zstory.specs.LoadedStory.{abbreviations};
 ghost use Rattle.zplace.specs.Bytes.{IsUnchanging};
 ghost use Rattle.zrule.specs.Rules.{global_in, HasAbbreviations, HasDisjointTables, HasGlobals};
@@ -78,7 +78,7 @@ fn is_entry_unchanging(story: &Story, number: u8) -> bool
 
 /// Whether the globals and the object table share no byte, and each range lies where it may be frozen.
 pub(crate) fn has_disjoint_tables<V: Spelled>(story: &Story, certificate: &Certificate<V>) -> bool
-    ensures { IsTrue result ↔ HasDisjointTables story.now (claims_of V.operations certificate.now).is_frozen }
+    ensures { IsTrue result ↔ HasDisjointTables story.now (frozen_in (claims_of V.operations certificate.now)) }
 {
     are_tables_apart(story) && are_frozen_apart(story, certificate.ranges())
 }

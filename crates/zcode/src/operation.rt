@@ -116,6 +116,12 @@ impl Opcode {
             Opcode::ClearAttr => Operation::ClearAttribute,
             Opcode::InsertObj => Operation::Insert,
             Opcode::RemoveObj => Operation::Remove,
+            Opcode::GetProp => Operation::Property(PropertyQuestion::Value),
+            Opcode::GetPropAddr => Operation::Property(PropertyQuestion::Address),
+            Opcode::GetNextProp => Operation::Property(PropertyQuestion::Next),
+            Opcode::GetPropLen => Operation::PropertyLength,
+            Opcode::PutProp => Operation::SetProperty,
+            Opcode::PrintObj => Operation::PrintObject,
             _ => return None,
         })
     }

@@ -1,9 +1,9 @@
 -- No operation reads more than two operands.
 use Rattle.std.proofs.Common.{◌≡◌, ℕ, Bool, List, Some, None, refl}
-use Rattle.zstory.specs.LoadedStory.{LoadedStory}
+use Rattle.zpairs.specs.Frozen.{FrozenStory}
 use Rattle.zcode.specs.declared.instr.Operand.{Operand}
 use Rattle.zcode.specs.declared.operation.Operation.{Operation}
-use Rattle.zcode.specs.declared.operation.Operation.TheVariants.{Unary, Binary, Compare, Count, Store, Load, Jump, Verify, PrintChar, PrintNumber, Print, NewLine, Nop, Quit, Return, PrintReturn, Call, Inside, TestAttribute, Follow, SetAttribute, ClearAttribute, Insert, Remove}
+use Rattle.zcode.specs.declared.operation.Operation.TheVariants.{Unary, Binary, Compare, Count, Store, Load, Jump, Verify, PrintChar, PrintNumber, Print, NewLine, Nop, Quit, Return, PrintReturn, Call, Inside, TestAttribute, Follow, SetAttribute, ClearAttribute, Insert, Remove, Property, PropertyLength, SetProperty, PrintObject}
 use Rattle.zdomain.specs.Domain.{SetOperations}
 use Rattle.zflow.specs.Transfer.{Shape, demands_of, outcome_of}
 use Rattle.zflow.specs.Kept.{both}
@@ -35,31 +35,39 @@ module _ {V : Type 0} (o : SetOperations V) where
   demands_read ClearAttribute arg = refl
   demands_read Insert arg = refl
   demands_read Remove arg = refl
+  demands_read (Property question) arg = refl
+  demands_read PropertyLength arg = refl
+  demands_read SetProperty arg = refl
+  demands_read PrintObject arg = refl
 
-  pub outcome_read : (globals : List V) (story : LoadedStory) (operation : Operation) (operands : List Operand) (arg : ℕ → V) (e : Shape V) (c : Bool) → outcome_of o globals story operation operands arg e c ≡ outcome_of o globals story operation operands (both (arg 0) (arg 1)) e c
+  pub outcome_read : (globals : List V) (told : FrozenStory) (operation : Operation) (operands : List Operand) (arg : ℕ → V) (e : Shape V) (c : Bool) → outcome_of o globals told operation operands arg e c ≡ outcome_of o globals told operation operands (both (arg 0) (arg 1)) e c
   unfolding outcome_of
-  outcome_read globals story (Unary op) operands arg e c = refl
-  outcome_read globals story (Binary op) operands arg e c = refl
-  outcome_read globals story (Compare q) operands arg e c = refl
-  outcome_read globals story (Count op None) operands arg e c = refl
-  outcome_read globals story (Count op (Some q)) operands arg e c = refl
-  outcome_read globals story Store operands arg e c = refl
-  outcome_read globals story Load operands arg e c = refl
-  outcome_read globals story Jump operands arg e c = refl
-  outcome_read globals story Verify operands arg e c = refl
-  outcome_read globals story PrintChar operands arg e c = refl
-  outcome_read globals story PrintNumber operands arg e c = refl
-  outcome_read globals story Print operands arg e c = refl
-  outcome_read globals story NewLine operands arg e c = refl
-  outcome_read globals story Nop operands arg e c = refl
-  outcome_read globals story Quit operands arg e c = refl
-  outcome_read globals story Return operands arg e c = refl
-  outcome_read globals story PrintReturn operands arg e c = refl
-  outcome_read globals story Call operands arg e c = refl
-  outcome_read globals story Inside operands arg e c = refl
-  outcome_read globals story TestAttribute operands arg e c = refl
-  outcome_read globals story (Follow link) operands arg e c = refl
-  outcome_read globals story SetAttribute operands arg e c = refl
-  outcome_read globals story ClearAttribute operands arg e c = refl
-  outcome_read globals story Insert operands arg e c = refl
-  outcome_read globals story Remove operands arg e c = refl
+  outcome_read globals told (Unary op) operands arg e c = refl
+  outcome_read globals told (Binary op) operands arg e c = refl
+  outcome_read globals told (Compare q) operands arg e c = refl
+  outcome_read globals told (Count op None) operands arg e c = refl
+  outcome_read globals told (Count op (Some q)) operands arg e c = refl
+  outcome_read globals told Store operands arg e c = refl
+  outcome_read globals told Load operands arg e c = refl
+  outcome_read globals told Jump operands arg e c = refl
+  outcome_read globals told Verify operands arg e c = refl
+  outcome_read globals told PrintChar operands arg e c = refl
+  outcome_read globals told PrintNumber operands arg e c = refl
+  outcome_read globals told Print operands arg e c = refl
+  outcome_read globals told NewLine operands arg e c = refl
+  outcome_read globals told Nop operands arg e c = refl
+  outcome_read globals told Quit operands arg e c = refl
+  outcome_read globals told Return operands arg e c = refl
+  outcome_read globals told PrintReturn operands arg e c = refl
+  outcome_read globals told Call operands arg e c = refl
+  outcome_read globals told Inside operands arg e c = refl
+  outcome_read globals told TestAttribute operands arg e c = refl
+  outcome_read globals told (Follow link) operands arg e c = refl
+  outcome_read globals told SetAttribute operands arg e c = refl
+  outcome_read globals told ClearAttribute operands arg e c = refl
+  outcome_read globals told Insert operands arg e c = refl
+  outcome_read globals told Remove operands arg e c = refl
+  outcome_read globals told (Property question) operands arg e c = refl
+  outcome_read globals told PropertyLength operands arg e c = refl
+  outcome_read globals told SetProperty operands arg e c = refl
+  outcome_read globals told PrintObject operands arg e c = refl

@@ -1,7 +1,7 @@
 -- Values of the definitions, computed over intervals.
 use Rattle.std.proofs.Common.{◌≡◌, ℕ, ℤ, pos, negsuc, int_le, Bool, true, false, List, [], ◌∷◌, map, Option, Some, None, option_map, refl}
 use Rattle.std.specs.Option.{option_and_then}
-use Rattle.zstory.specs.LoadedStory.{LoadedStory}
+use Rattle.zpairs.specs.Frozen.{FrozenStory}
 use Rattle.zcode.specs.declared.opcode.Opcode.{Opcode}
 use Rattle.zcode.specs.declared.opcode.Opcode.TheVariants as opcodes
 use Rattle.zcode.specs.declared.operation.Operation.TheVariants as operations
@@ -11,6 +11,10 @@ use Rattle.zcode.specs.Instruction.{Instruction}
 use Rattle.zcode.specs.Operation.{operation_of, inputs}
 use Rattle.zdomain.specs.declared.interval.Interval.{Interval}
 use Rattle.zdomain.specs.Interval.{in_order, interval_operations}
+use Rattle.zobj.specs.declared.answers.PropertyQuestion.TheVariants.{Value, Address, Next}
+use Rattle.zflow.specs.declared.parts.Asked.{Asked}
+use Rattle.zflow.specs.declared.parts.Asked.TheVariants.{Answered, Filled}
+use Rattle.zflow.specs.declared.parts.Pairs.{Pairs}
 use Rattle.zflow.specs.declared.parts.Demands.{Demands}
 use Rattle.zflow.specs.declared.parts.Lead.{Lead}
 use Rattle.zflow.specs.declared.parts.Lead.TheVariants.{Ahead, Returning, Entering}
@@ -58,8 +62,8 @@ abbrev branching : Opcode → List Operand → ℤ → Instruction
 branching opcode operands offset = record (plain opcode operands) { branch = Some (record { sense = true; offset = offset }) }
 
 -- of a story of so many objects
-abbrev with_objects : ℕ → LoadedStory
-with_objects n = record { memory = []; objects = n }
+abbrev with_objects : ℕ → FrozenStory
+with_objects n = record { story = record { memory = []; objects = n }; ranges = [] }
 
 abbrev outcome_on : Instruction → Bool → Option (Outcome Interval)
 outcome_on i c = outcome_at interval_operations globals i shape (with_objects 200) c
@@ -282,6 +286,26 @@ asked = (refl, refl, refl, refl, refl, refl)
 moved_objects : (option_map ends (demands_on (plain opcodes.InsertObj (Variable 1 ∷ Variable 2 ∷ []))).object ≡ Some (span 0 9)) × (option_map ends (demands_on (plain opcodes.InsertObj (Variable 1 ∷ Variable 2 ∷ []))).under ≡ Some (only 1)) × (option_map ends (demands_on (plain opcodes.RemoveObj (Variable 2 ∷ []))).object ≡ Some (only 1)) × (option_map ends (demands_on (plain opcodes.RemoveObj (Variable 2 ∷ []))).under ≡ None) × (option_map ends (demands_on (plain opcodes.SetAttr (Variable 1 ∷ Variable 2 ∷ []))).object ≡ Some (span 0 9)) × (option_map ends (demands_on (plain opcodes.ClearAttr (Variable 1 ∷ Variable 2 ∷ []))).attribute ≡ Some (only 1))
 unfolding operation_of demands_of shape globals
 moved_objects = (refl, refl, refl, refl, refl, refl)
+
+-- of a property, what is asked of each pair of an object and a number; of a length, its address alone
+abbrev pair_seen : Pairs Interval → Asked × Ends × Ends
+pair_seen p = (p.asked, ends p.objects, ends p.numbers)
+
+abbrev pairs_on : Instruction → Option (Asked × Ends × Ends)
+pairs_on i = option_map pair_seen (demands_on i).property
+
+property_asked : (pairs_on (storing opcodes.GetProp (Variable 1 ∷ Variable 2 ∷ []) 0) ≡ Some (Answered Value, span 0 9, only 1)) × (pairs_on (storing opcodes.GetPropAddr (Variable 1 ∷ Variable 2 ∷ []) 0) ≡ Some (Answered Address, span 0 9, only 1)) × (pairs_on (storing opcodes.GetNextProp (Variable 1 ∷ Variable 2 ∷ []) 0) ≡ Some (Answered Next, span 0 9, only 1)) × (pairs_on (plain opcodes.PutProp (Variable 1 ∷ Variable 2 ∷ Constant 9 ∷ [])) ≡ Some (Filled, span 0 9, only 1)) × (pairs_on (storing opcodes.GetPropLen (Variable 1 ∷ []) 0) ≡ None)
+unfolding operation_of demands_of shape globals
+property_asked = (refl, refl, refl, refl, refl)
+
+property_objects : (option_map ends (demands_on (plain opcodes.PutProp (Variable 1 ∷ Variable 2 ∷ Constant 9 ∷ []))).object ≡ Some (span 0 9)) × (option_map ends (demands_on (storing opcodes.GetProp (Variable 1 ∷ Variable 2 ∷ []) 0)).object ≡ Some (span 0 9)) × (option_map ends (demands_on (storing opcodes.GetPropLen (Variable 1 ∷ []) 0)).address ≡ Some (span 0 9)) × (option_map ends (demands_on (storing opcodes.GetPropLen (Variable 1 ∷ []) 0)).object ≡ None) × (option_map ends (demands_on (plain opcodes.PrintObj (Variable 1 ∷ []))).object ≡ Some (span 0 9))
+unfolding operation_of demands_of shape globals
+property_objects = (refl, refl, refl, refl, refl)
+
+-- a length is at most 8, and the number of a property at most 31
+lengths : (slots_on (storing opcodes.GetPropLen (Constant 9 ∷ []) 0) true ≡ Some (span 0 8 ∷ only 7 ∷ span 20 30 ∷ [])) × (slots_on (storing opcodes.GetNextProp (Constant 1 ∷ Constant 1 ∷ []) 0) true ≡ Some (span 0 31 ∷ only 7 ∷ span 20 30 ∷ [])) × (slots_on (plain opcodes.PutProp (Constant 1 ∷ Constant 1 ∷ Variable 0 ∷ [])) true ≡ Some (span 20 30 ∷ [])) × (outcome_on (plain opcodes.PrintObj (Constant 1 ∷ [])) false ≡ nothing)
+unfolding operation_of outcome_of shape globals
+lengths = (refl, refl, refl, refl)
 
 -- ---- what prints or does nothing
 

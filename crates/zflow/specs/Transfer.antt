@@ -8,18 +8,20 @@ use Rattle.zword.specs.declared.question.Question.TheVariants.{Equal}
 use Rattle.zword.specs.declared.count.CountOp.{CountOp}
 use Rattle.zword.specs.Binary.{signed}
 use Rattle.zword.specs.Count.{counting}
-use Rattle.zstory.specs.LoadedStory.{LoadedStory}
 use Rattle.zcode.specs.declared.instr.Operand.{Operand}
 use Rattle.zcode.specs.declared.instr.Operand.TheVariants.{Constant, Variable}
 use Rattle.zcode.specs.declared.instr.Branch.{Branch}
 use Rattle.zcode.specs.declared.instr.Destination.{Destination}
 use Rattle.zcode.specs.declared.instr.Destination.TheVariants.{ReturnFalse, ReturnTrue, Relative}
 use Rattle.zcode.specs.declared.operation.Operation.{Operation}
-use Rattle.zcode.specs.declared.operation.Operation.TheVariants.{Unary, Binary, Compare, Count, Store, Load, Jump, Verify, PrintChar, PrintNumber, Print, NewLine, Nop, Quit, Return, PrintReturn, Call, Inside, TestAttribute, Follow, SetAttribute, ClearAttribute, Insert, Remove}
+use Rattle.zcode.specs.declared.operation.Operation.TheVariants.{Unary, Binary, Compare, Count, Store, Load, Jump, Verify, PrintChar, PrintNumber, Print, NewLine, Nop, Quit, Return, PrintReturn, Call, Inside, TestAttribute, Follow, SetAttribute, ClearAttribute, Insert, Remove, Property, PropertyLength, SetProperty, PrintObject}
 use Rattle.zcode.specs.Instruction.{Instruction}
 use Rattle.zcode.specs.Operation.{operation_of, inputs, target}
 use Rattle.zdomain.specs.Domain.{SetOperations}
 use Rattle.zstate.specs.Step.{way, arguments}
+use Rattle.zpairs.specs.Frozen.{FrozenStory}
+use Rattle.zpairs.specs.Pairs.{answers}
+use Rattle.zflow.specs.declared.parts.Asked.TheVariants.{Answered, Filled}
 use Rattle.zflow.specs.declared.parts.Demands.{Demands}
 use Rattle.zflow.specs.declared.parts.Lead.{Lead}
 use Rattle.zflow.specs.declared.parts.Lead.TheVariants.{Ahead, Returning, Entering}
@@ -69,7 +71,7 @@ module _ {V : Type 0} (o : SetOperations V) (globals : List V) where
 -- ---- what an operation asks for, once for an instruction
 
 abbrev pub nothing : {V : Type 0} → Demands V
-nothing = record { indirect = false; variable = None; divisor = None; object = None; under = None; attribute = None; certain = true; has_text = false }
+nothing = record { indirect = false; variable = None; divisor = None; object = None; under = None; attribute = None; property = None; address = None; certain = true; has_text = false }
 
 abbrev pub naming : {V : Type 0} → Option ℕ → Demands V
 naming variable = record nothing { indirect = true; variable = variable }
@@ -111,6 +113,10 @@ module _ {V : Type 0} (o : SetOperations V) where
   demands_of ClearAttribute arg = record nothing { object = Some (arg 0); attribute = Some (arg 1) }
   demands_of Insert arg = record nothing { object = Some (arg 0); under = Some (arg 1) }
   demands_of Remove arg = record nothing { object = Some (arg 0) }
+  demands_of (Property question) arg = record nothing { object = Some (arg 0); property = Some (record { asked = Answered question; objects = arg 0; numbers = arg 1 }) }
+  demands_of PropertyLength arg = record nothing { address = Some (arg 0) }
+  demands_of SetProperty arg = record nothing { object = Some (arg 0); property = Some (record { asked = Filled; objects = arg 0; numbers = arg 1 }) }
+  demands_of PrintObject arg = record nothing { object = Some (arg 0) }
 
   abbrev pub demands_if : Option Operation → (ℕ → V) → Demands V
   demands_if None arg = nothing
@@ -197,9 +203,9 @@ module _ {V : Type 0} (o : SetOperations V) (globals : List V) where
   followed_outcome objects true = if objects == 0 then None else Some (follows_in true (o.between 1 objects))
   followed_outcome objects false = Some (follows_in false (o.single 0))
 
-module _ {V : Type 0} (o : SetOperations V) (globals : List V) (story : LoadedStory) where
+module _ {V : Type 0} (o : SetOperations V) (globals : List V) (told : FrozenStory) where
   -- What may come of an operation where its condition is answered so, from the sets of what it reads; e is what is known
-  -- once that was read. None comes of an edge that can't be taken, and of `quit`.
+  -- once that was read, and what is frozen stays as it is. None comes of an edge that can't be taken, and of `quit`.
   unfoldable pub outcome_of : Operation → List Operand → (ℕ → V) → Shape V → Bool → Option (Outcome V)
   outcome_of (Unary op) operands arg e c = once c (gives_in (o.unary op (arg 0)))
   outcome_of (Binary op) operands arg e c = once c (gives_in (o.binary op (arg 0) (arg 1)))
@@ -221,11 +227,15 @@ module _ {V : Type 0} (o : SetOperations V) (globals : List V) (story : LoadedSt
   outcome_of Call operands arg e c = called_outcome o globals c (arg 0)
   outcome_of Inside operands arg e c = Some (asks c untold)
   outcome_of TestAttribute operands arg e c = Some (asks c untold)
-  outcome_of (Follow link) operands arg e c = followed_outcome o globals story.objects c
+  outcome_of (Follow link) operands arg e c = followed_outcome o globals told.story.objects c
   outcome_of SetAttribute operands arg e c = once c goes_on
   outcome_of ClearAttribute operands arg e c = once c goes_on
   outcome_of Insert operands arg e c = once c goes_on
   outcome_of Remove operands arg e c = once c goes_on
+  outcome_of (Property question) operands arg e c = once c (gives_in (answers o told question (arg 0) (arg 1)))
+  outcome_of PropertyLength operands arg e c = once c (gives_in (o.between 0 8))
+  outcome_of SetProperty operands arg e c = once c goes_on
+  outcome_of PrintObject operands arg e c = once c goes_on
 
   abbrev pub outcome_if : Option Operation → List Operand → (ℕ → V) → Shape V → Bool → Option (Outcome V)
   outcome_if None operands arg e c = None
@@ -302,8 +312,8 @@ module _ {V : Type 0} (o : SetOperations V) (globals : List V) (i : Instruction)
   abbrev pub demands_at : Demands V
   demands_at = demands_if o (operation_of i.opcode) read_set
 
-  abbrev pub outcome_at : LoadedStory → Bool → Option (Outcome V)
-  outcome_at story c = outcome_if o globals story (operation_of i.opcode) (inputs i) read_set mid_shape c
+  abbrev pub outcome_at : FrozenStory → Bool → Option (Outcome V)
+  outcome_at told c = outcome_if o globals told (operation_of i.opcode) (inputs i) read_set mid_shape c
 
   -- what is known after it came to this, before what a branch says of locals
   abbrev pub changed_by : Outcome V → Shape V

@@ -4,7 +4,7 @@ ghost use Rattle.std.specs.Prelude.{◌≡◌};
 ghost use Rattle.zflow.specs.Transfer.{demands_if, demands_of, divisor_of, naming, nothing, small};
 ghost use Rattle.zflow.specs.Kept.{both};
 
-use crate::parts::Demands;
+use crate::parts::{Asked, Demands, Pairs};
 use zcode::Operation;
 use zdomain::Domain;
 use zword::BinaryOp;
@@ -20,9 +20,21 @@ fn demands_of<V: Domain>(operation: Operation, first: V, second: V) -> Demands<V
         Operation::Count(..) | Operation::Store | Operation::Load => return naming(named(first)),
         Operation::Jump => demands.certain = first.known().is_some(),
         Operation::Print | Operation::PrintReturn => demands.has_text = true,
-        Operation::Inside | Operation::Follow(_) | Operation::Remove => {
+        Operation::Inside
+        | Operation::Follow(_)
+        | Operation::Remove
+        | Operation::PrintObject => {
             demands.object = Some(first);
         }
+        Operation::Property(question) => {
+            demands.object = Some(first);
+            demands.property = Some(pairs(Asked::Answered(question), first, second));
+        }
+        Operation::SetProperty => {
+            demands.object = Some(first);
+            demands.property = Some(pairs(Asked::Filled, first, second));
+        }
+        Operation::PropertyLength => demands.address = Some(first),
         Operation::Insert => {
             demands.object = Some(first);
             demands.under = Some(second);
@@ -76,6 +88,8 @@ fn nothing<V: Domain>() -> Demands<V>
         object: None,
         under: None,
         attribute: None,
+        property: None,
+        address: None,
         certain: true,
         has_text: false,
     }
@@ -89,6 +103,17 @@ fn naming<V: Domain>(variable: Option<u8>) -> Demands<V>
         indirect: true,
         variable,
         ..nothing()
+    }
+}
+
+/// What is asked of each property of an object of one set with a number of another.
+fn pairs<V: Domain>(asked: Asked, objects: V, numbers: V) -> Pairs<V>
+    ensures { result ≡ record { asked = asked; objects = objects; numbers = numbers } }
+{
+    Pairs {
+        asked,
+        objects,
+        numbers,
     }
 }
 

@@ -13,7 +13,7 @@ use crate::parts::{Demands, Lead, Outcome};
 use crate::view::{View, below, pops};
 use zcode::{Branch, Destination, Instr};
 use zdomain::Domain;
-use zstory::Story;
+use zpairs::Properties;
 
 /// What comes of an instruction where its condition is answered so.
 #[derive(Drop)]
@@ -40,15 +40,15 @@ pub struct Flow<'a, V> {
 }
 
 /// What may come of an instruction of a story before which this is known: sets of the globals, of the frame's locals and of its slots,
-/// the top slot last. Each set is computed once.
+/// the top slot last. Each set is computed once. What properties answer is taken from `properties`.
 pub fn flow_of<'a, V: Domain>(
-    story: &Story,
+    properties: &Properties<'_>,
     globals: &[V],
     locals: &'a [V],
     slots: &'a [V],
     instruction: &Instr,
 ) -> Flow<'a, V>
-    ensures { IsFlow V.operations globals.now story.now instruction.now (shape_of locals.now slots.now) result }
+    ensures { IsFlow V.operations globals.now properties.now instruction.now (shape_of locals.now slots.now) result }
 {
     let before = View {
         globals,
@@ -61,7 +61,7 @@ pub fn flow_of<'a, V: Domain>(
     let operation = instruction.opcode().operation();
     let (first, second) = before.read(operands);
     let outcomes = outcomes_if(
-        story,
+        properties,
         operation,
         operands,
         first,

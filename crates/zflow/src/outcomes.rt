@@ -6,15 +6,18 @@ ghost use Rattle.zcode.specs.declared.operation.Operation.TheVariants.{Count};
 ghost use Rattle.zflow.specs.Transfer.{asks, assigns_in, called_outcome, compared_kept, counted_kept, counts_in, followed_outcome, follows_in, gives_in, goes_on, jumps, local_kept, once_known, operand_kept, outcome_if, outcome_of, returns_in, small, untold, variable_set};
 ghost use Rattle.zflow.specs.Kept.{both};
 ghost use Rattle.zflow.specs.View.{seen};
-ghost use Rattle.zstory.specs.LoadedStory.{LoadedStory};
+ghost use Rattle.zpairs.specs.Frozen.{FrozenStory};
 
 use crate::asking::named;
 use crate::parts::{Kept, Lead, Outcome};
 use crate::view::View;
 use zcode::{Operand, Operation};
 use zdomain::Domain;
-use zstory::Story;
+use zpairs::Properties;
 use zword::{CountOp, Question};
+
+/// How many bytes of data a property has at most (Z 12.4.1).
+const LONGEST_DATA: u16 = 8;
 
 /// What may come of an operation, by the answers of its condition.
 #[derive(Clone, Copy)]
@@ -27,34 +30,34 @@ pub(crate) struct Outcomes<V> {
 
 /// What may come of an instruction, by what it does; of one that does nothing, nothing.
 pub(crate) fn outcomes_if<V: Domain>(
-    story: &Story,
+    properties: &Properties<'_>,
     operation: Option<Operation>,
     operands: &[Operand],
     first: V,
     second: V,
     view: View<'_, V>,
 ) -> Outcomes<V>
-    ensures held { result.held ≡ outcome_if V.operations view.entry.globals.now story.now operation operands.now (both first second) (seen view.entry) true }
-    ensures failed { result.failed ≡ outcome_if V.operations view.entry.globals.now story.now operation operands.now (both first second) (seen view.entry) false }
+    ensures held { result.held ≡ outcome_if V.operations view.entry.globals.now properties.now operation operands.now (both first second) (seen view.entry) true }
+    ensures failed { result.failed ≡ outcome_if V.operations view.entry.globals.now properties.now operation operands.now (both first second) (seen view.entry) false }
 {
     match operation {
         None => never(),
-        Some(operation) => outcomes_of(story, operation, operands, first, second, view),
+        Some(operation) => outcomes_of(properties, operation, operands, first, second, view),
     }
 }
 
 /// What may come of an operation on operands whose first two have these sets. `view` is what is known once they were read.
 #[tactic(auto, unfolding(crate::specs::Transfer::outcome_of))]
 fn outcomes_of<V: Domain>(
-    story: &Story,
+    properties: &Properties<'_>,
     operation: Operation,
     operands: &[Operand],
     first: V,
     second: V,
     view: View<'_, V>,
 ) -> Outcomes<V>
-    ensures held { result.held ≡ outcome_of V.operations view.entry.globals.now story.now operation operands.now (both first second) (seen view.entry) true }
-    ensures failed { result.failed ≡ outcome_of V.operations view.entry.globals.now story.now operation operands.now (both first second) (seen view.entry) false }
+    ensures held { result.held ≡ outcome_of V.operations view.entry.globals.now properties.now operation operands.now (both first second) (seen view.entry) true }
+    ensures failed { result.failed ≡ outcome_of V.operations view.entry.globals.now properties.now operation operands.now (both first second) (seen view.entry) false }
 {
     match operation {
         Operation::Unary(op) => once(gives_in(V::unary(op, first))),
@@ -73,13 +76,17 @@ fn outcomes_of<V: Domain>(
         | Operation::SetAttribute
         | Operation::ClearAttribute
         | Operation::Insert
-        | Operation::Remove => once(goes_on()),
+        | Operation::Remove
+        | Operation::SetProperty
+        | Operation::PrintObject => once(goes_on()),
         Operation::Quit => never(),
         Operation::Return => once(returns_in(first)),
         Operation::PrintReturn => once(returns_in(V::single(1))),
         Operation::Call => called(first),
         Operation::Inside | Operation::TestAttribute => either(),
-        Operation::Follow(_) => followed(story.objects()),
+        Operation::Follow(_) => followed(properties.story().objects()),
+        Operation::Property(question) => once(gives_in(properties.answers(question, first, second))),
+        Operation::PropertyLength => once(gives_in(V::between(0, LONGEST_DATA))),
     }
 }
 
@@ -234,8 +241,8 @@ fn counted<V: Domain>(
     second: V,
     view: View<'_, V>,
 ) -> Outcomes<V>
-    ensures held { (story : LoadedStory) (operands : List AnOperand) → result.held ≡ outcome_of V.operations view.entry.globals.now story (Count op question) operands (both first second) (seen view.entry) true }
-    ensures failed { (story : LoadedStory) (operands : List AnOperand) → result.failed ≡ outcome_of V.operations view.entry.globals.now story (Count op question) operands (both first second) (seen view.entry) false }
+    ensures held { (told : FrozenStory) (operands : List AnOperand) → result.held ≡ outcome_of V.operations view.entry.globals.now told (Count op question) operands (both first second) (seen view.entry) true }
+    ensures failed { (told : FrozenStory) (operands : List AnOperand) → result.failed ≡ outcome_of V.operations view.entry.globals.now told (Count op question) operands (both first second) (seen view.entry) false }
 {
     let Some(variable) = named(first) else {
         return never();

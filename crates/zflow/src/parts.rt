@@ -1,5 +1,7 @@
 //! The parts of what may come of an instruction.
 
+use zobj::PropertyQuestion;
+
 /// What an operation asks for, once for an instruction.
 #[derive(Clone, Copy)]
 pub struct Demands<V> {
@@ -15,10 +17,34 @@ pub struct Demands<V> {
     pub under: Option<V>,
     /// The values that it takes for the number of an attribute.
     pub attribute: Option<V>,
+    /// What it asks of the properties of objects.
+    pub property: Option<Pairs<V>>,
+    /// The values that it takes for the address of a property's data, of which it asks the length.
+    pub address: Option<V>,
     /// It is known how far it jumps, if it jumps.
     pub certain: bool,
     /// A text stands behind the opcode byte.
     pub has_text: bool,
+}
+
+/// What is asked of a property.
+#[derive(Clone, Copy)]
+pub enum Asked {
+    /// A question about it has an answer.
+    Answered(PropertyQuestion),
+    /// It is given a word.
+    Filled,
+}
+
+/// What is asked of each property that an object of one set and a number of another make together.
+#[derive(Clone, Copy)]
+pub struct Pairs<V> {
+    /// What is asked.
+    pub asked: Asked,
+    /// The numbers of the objects.
+    pub objects: V,
+    /// The numbers of the properties.
+    pub numbers: V,
 }
 
 /// Where an instruction leads.

@@ -5,4 +5,5 @@ pub mod Keeping
 pub mod Puts
 pub mod Lists
 pub mod Rows
+pub mod Answering
 mod Worked

@@ -1,6 +1,6 @@
 //! Laws of the definitions: the contracts of these functions, which do nothing.
 
-ghost use Rattle.std.specs.Prelude.{◌≡◌, ◌+◌, ◌*◌, ◌==◌, ◌&&◌, ◌≤◌, ◌<◌, ℕ, Bool, List, [], ◌∷◌, drop, if◌then◌else◌, slice_set, IfOk};
+ghost use Rattle.std.specs.Prelude.{◌≡◌, ◌+◌, ◌*◌, ◌==◌, ◌&&◌, ◌≤◌, ◌<◌, ℕ, Bool, List, [], ◌∷◌, Some, drop, if◌then◌else◌, slice_set, IfOk, IfSome};
 ghost use Rattle.std.specs.Result.{IsOkAnd};
 ghost use Rattle.zstory.specs.Header.{object_table};
 ghost use Rattle.zstory.specs.LoadedStory.{IsSound};
@@ -10,9 +10,11 @@ ghost use Rattle.zobj.specs.Entries.{HasTable, HasEntry, HasDefaults, IsEntryByt
 ghost use Rattle.zobj.specs.Attributes.{has_attribute, with_attribute};
 ghost use Rattle.zobj.specs.Tree.{linked, with_link, IsTree};
 ghost use Rattle.zobj.specs.Moves.{unlinked, inserted};
-ghost use Rattle.zobj.specs.Properties.{is_property, property_there, data_end, properties_from};
+ghost use Rattle.zobj.specs.declared.answers.PropertyQuestion.{PropertyQuestion};
+ghost use Rattle.zobj.specs.Answers.{answer_of};
+ghost use Rattle.zobj.specs.Properties.{IsReadable, is_property, property_of, property_there, data_end, properties_from};
 ghost use Rattle.zobj.specs.declared.property.Property.{Property};
-ghost use Rattle.zobj.specs.Values.{with_value, IsDataByte};
+ghost use Rattle.zobj.specs.Values.{length_before, with_value, IsDataByte};
 ghost use Rattle.zobj.specs.Kept.{DiffersOnly};
 ghost use Rattle.zstory.specs.Bytes.{AreBytes};
 
@@ -52,6 +54,15 @@ pub fn moves_keep_the_tree()
 /// What is put into a property changes its data alone.
 pub fn values_stay_in_their_data()
     ensures { (memory : List ℕ) (word : ℕ) (property : Property) → IfOk (with_value word memory property) (DiffersOnly (IsDataByte property) memory) }
+{}
+
+/// Each answer to a question about a property is a word, a number is at most 31, a length at most 8, and the data of a property that is
+/// found can be read.
+pub fn answers_are_words()
+    ensures words { (memory : List ℕ) (question : PropertyQuestion) (object number : ℕ) → AreBytes memory → IfOk (answer_of question memory object number) (λ x. x < 65536) }
+    ensures numbers { (memory : List ℕ) (object number : ℕ) → IfOk (answer_of PropertyQuestion.Next memory object number) (λ x. x < 32) }
+    ensures lengths { (memory : List ℕ) (address : ℕ) → AreBytes memory → IfSome (length_before memory address) (λ n. n ≤ 8) }
+    ensures readable { (memory : List ℕ) (object number : ℕ) (property : Property) → property_of memory object number ≡ Some property → IsReadable memory property }
 {}
 
 /// What is written are bytes.

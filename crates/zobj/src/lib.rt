@@ -16,8 +16,8 @@ pub use answers::{PropertyQuestion, answer_of};
 pub use attributes::{clear_attribute, has_attribute, set_attribute};
 pub use error::ObjectError;
 pub use laws::{
-    attributes_are_a_set, bytes_stay_bytes, links_are_functions, lists_go_on, moves_keep_the_tree,
-    objects_have_entries, parts_stay_apart, values_stay_in_their_data,
+    answers_are_words, attributes_are_a_set, bytes_stay_bytes, links_are_functions, lists_go_on,
+    moves_keep_the_tree, objects_have_entries, parts_stay_apart, values_stay_in_their_data,
 };
 pub use moves::{Lead, insert, lead_of, lead_past, put_first, unlink};
 pub use name::{ShortName, short_name};

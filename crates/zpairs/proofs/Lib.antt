@@ -3,7 +3,7 @@ mod Found
 mod Tests
 mod Each
 mod Hulls
-mod Lying
+pub mod Lying
 mod Marks
 mod Regrouped
 mod ByNumber

@@ -2,4 +2,5 @@ mod Changing
 mod Tables
 mod Lists
 mod Each
+pub mod Staying
 mod Worked

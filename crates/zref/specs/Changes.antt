@@ -1,10 +1,15 @@
--- Changes of what objects keep: of their attributes, and of the tree.
-use Rattle.std.specs.Prelude.{◌≡◌, ℕ, ◌<◌, ◌≤◌, true, false, List, Option, IfSome, Ok}
+-- Changes of what objects keep: of their attributes, of the tree, and of what their properties hold.
+use Rattle.std.specs.Prelude.{◌≡◌, ℕ, ◌+◌, ◌<◌, ◌≤◌, true, false, List, Option, IfSome, Ok}
+use Rattle.std.specs.Result.{result_unwrap_or}
+use Rattle.zstory.specs.LoadedStory.{LoadedStory, static_base}
 use Rattle.zobj.specs.Attributes.{with_attribute}
 use Rattle.zobj.specs.declared.moves.Lead.{Lead}
+use Rattle.zobj.specs.declared.property.Property.{Property}
 use Rattle.zobj.specs.Moves.{IsLead, lead_of, led_past, alone, first_under}
+use Rattle.zobj.specs.Properties.{IsReadable}
+use Rattle.zobj.specs.Values.{with_value}
 use Rattle.zcode.specs.declared.operation.Operation.{Operation}
-use Rattle.zcode.specs.declared.operation.Operation.TheVariants.{SetAttribute, ClearAttribute, Insert, Remove}
+use Rattle.zcode.specs.declared.operation.Operation.TheVariants.{SetAttribute, ClearAttribute, Insert, Remove, SetProperty}
 use Rattle.zref.specs.declared.changes.Change.{Change}
 use Rattle.zref.specs.declared.changes.Change.TheVariants as changes
 
@@ -14,7 +19,12 @@ Rewrites SetAttribute = Unit {0}
 Rewrites ClearAttribute = Unit {0}
 Rewrites Insert = Unit {0}
 Rewrites Remove = Unit {0}
+Rewrites SetProperty = Unit {0}
 Rewrites operation = ⊥
+
+-- the memory with a word in a property's data; one whose data is too long stays as it is
+abbrev pub filled : Property → ℕ → List ℕ → List ℕ
+filled property word memory = result_unwrap_or (with_value word memory property) memory
 
 -- the memory that a change makes of the one before
 abbrev pub changed_by : Change → List ℕ → List ℕ
@@ -22,6 +32,7 @@ changed_by (changes.SetAttribute object attribute) memory = with_attribute true 
 changed_by (changes.ClearAttribute object attribute) memory = with_attribute false object attribute memory
 changed_by (changes.Insert object lead under) memory = first_under object under (alone object (led_past object lead memory))
 changed_by (changes.Remove object lead) memory = alone object (led_past object lead memory)
+changed_by (changes.SetProperty property word) memory = filled property word memory
 
 abbrev pub IsAmong : ℕ → ℕ → Type 0
 IsAmong objects object = (1 ≤ object) × (object ≤ objects)
@@ -32,9 +43,16 @@ pub record IsLedTo (objects : ℕ) (memory : List ℕ) (object : ℕ) (lead : Op
   pub found : lead_of objects memory object ≡ Ok lead
   pub within : IfSome lead (IsLead objects)
 
+-- a property has one or two bytes of data, wholly in memory below a place
+pub record IsFillable (memory : List ℕ) (base : ℕ) (property : Property) : Type 0 where
+  pub readable : IsReadable memory property
+  pub few : property.length ≤ 2
+  pub below : property.place + property.length ≤ base
+
 -- all that was tested of a change and that its doing relies on
-abbrev pub IsTested : ℕ → List ℕ → Change → Type 0
-IsTested objects memory (changes.SetAttribute object attribute) = IsAmong objects object × (attribute < 32)
-IsTested objects memory (changes.ClearAttribute object attribute) = IsAmong objects object × (attribute < 32)
-IsTested objects memory (changes.Insert object lead under) = IsLedTo objects memory object lead × IsAmong objects under
-IsTested objects memory (changes.Remove object lead) = IsLedTo objects memory object lead
+abbrev pub IsTested : LoadedStory → List ℕ → Change → Type 0
+IsTested story memory (changes.SetAttribute object attribute) = IsAmong story.objects object × (attribute < 32)
+IsTested story memory (changes.ClearAttribute object attribute) = IsAmong story.objects object × (attribute < 32)
+IsTested story memory (changes.Insert object lead under) = IsLedTo story.objects memory object lead × IsAmong story.objects under
+IsTested story memory (changes.Remove object lead) = IsLedTo story.objects memory object lead
+IsTested story memory (changes.SetProperty property word) = IsFillable memory (static_base story) property

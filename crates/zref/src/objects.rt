@@ -1,19 +1,24 @@
 //! What the operations do that ask of objects, the test of the object's number first.
 
 ghost use Rattle.std.specs.Prelude.{◌≡◌, ◌<◌, ◌≤◌, ◌==◌, ◌&&◌, nat_le, nat_lt, IsTrue, List, ℕ, [], Ok, None, true, false, IfOk, IfErr};
+ghost use Rattle.zobj.specs.Answers.{answer_of};
 ghost use Rattle.zobj.specs.Attributes.{has_attribute};
 ghost use Rattle.zobj.specs.Entries.{HasEntry, HasTable};
 ghost use Rattle.zobj.specs.Tree.{linked, parent};
+ghost use Rattle.zobj.specs.Values.{length_before};
 ghost use Rattle.zfault.specs.declared.fault.Fault.TheVariants.{AbsentAttribute, AbsentObject};
 ghost use Rattle.zstate.specs.declared.halt.Halt.TheVariants as halts;
 ghost use Rattle.zstate.specs.Gives.{Gives};
-ghost use Rattle.zstate.specs.Step.{following, is_object, of_attribute, of_object, testing};
+ghost use Rattle.zstate.specs.Step.{answering, fault_of, following, is_object, measuring, of_attribute, of_object, testing};
 ghost use Rattle.zref.specs.Plan.{IsApart, effect_with};
 
 use crate::effect::Effect;
 use crate::families::{giving, testing};
 use zfault::Fault;
-use zobj::{Link, has_attribute, linked};
+use zobj::{
+    Link, ObjectError, PropertyQuestion, answer_of, data_length_before, has_attribute, linked,
+    objects_have_entries,
+};
 use zstate::{Halt, State};
 use zstory::Story;
 
@@ -62,6 +67,52 @@ pub(crate) fn follow(link: Link, number: u16, story: &Story, state: &State) -> R
 {
     let object = object_of(number, story)?;
     Ok(following(linked(state.memory(), link, object)))
+}
+
+/// What is asked of the object of a number and a property number.
+#[inline(always)]
+pub(crate) fn property(
+    question: PropertyQuestion,
+    number: u16,
+    property: u16,
+    story: &Story,
+    state: &State,
+) -> Result<Effect, Halt>
+    requires objects { HasTable state.now.memory story.now.objects }
+    ensures value { Gives (λ e. effect_with e []) result (of_object story.now number (answering (answer_of question state.now.memory number property))) }
+    ensures there { IfOk result (λ e. e.assigns ≡ None) }
+    ensures apart { IfOk result IsApart }
+{
+    objects_have_entries();
+    let object = object_of(number, story)?;
+    match answer_of(question, state.memory(), object, property) {
+        Ok(answer) => Ok(giving(answer)),
+        Err(error) => Err(Halt::Fault(fault_of(error))),
+    }
+}
+
+/// How many bytes of property data there are at an address.
+#[inline(always)]
+pub(crate) fn property_length(address: u16, state: &State) -> Result<Effect, Halt>
+    ensures value { Gives (λ e. effect_with e []) result (measuring (length_before state.now.memory address)) }
+    ensures there { IfOk result (λ e. e.assigns ≡ None) }
+    ensures apart { IfOk result IsApart }
+{
+    match data_length_before(state.memory(), address) {
+        Some(length) => Ok(giving(u16::from(length))),
+        None => Err(Halt::Fault(Fault::ReadOutside)),
+    }
+}
+
+/// What keeps a call on objects from being made.
+pub(crate) fn fault_of(error: ObjectError) -> Fault
+    ensures { result ≡ fault_of error }
+{
+    match error {
+        ObjectError::AbsentObject => Fault::AbsentObject,
+        ObjectError::AbsentProperty => Fault::AbsentProperty,
+        ObjectError::PropertyTooLong => Fault::PropertyTooLong,
+    }
 }
 
 /// A number goes to the result variable, and the branch data ask whether it is that of an object.

@@ -14,9 +14,9 @@ use Rattle.zflow.specs.declared.flow.Flow.{Flow}
 use Rattle.zflow.specs.Transfer.{demands_of, demands_if, read_set, argument_sets}
 use Rattle.zflow.specs.Flow.{IsFlow}
 use Rattle.zrule.specs.declared.rule.Rule.{Rule}
-use Rattle.zrule.specs.declared.rule.Rule.TheVariants.{Decodes, Height, Local, Successor, Object, Attribute, Divisor, Text, Called, Returned, Known, Stored, High}
-use Rattle.zrule.specs.Claims.{Entry, Claims}
-use Rattle.zrule.specs.Rules.{IsThere, demands_at, IsKnown, Divides, CallsBegin, HasFixedText, Asks, Keeps}
+use Rattle.zrule.specs.declared.rule.Rule.TheVariants.{Decodes, Height, Local, Successor, Object, Attribute, Property, Divisor, Write, Read, Text, Called, Returned, Known, Stored, High}
+use Rattle.zrule.specs.Claims.{Entry, Claims, frozen_in, told_of}
+use Rattle.zrule.specs.Rules.{IsThere, demands_at, IsKnown, Divides, KnowsAnswers, ReadsLength, CallsBegin, HasFixedText, Asks, Keeps}
 use Rattle.zrule.specs.Edges.{EdgesKeep}
 use Rattle.zrule.proofs.Whatever.{leads_on, called, returned, stored, high}
 
@@ -37,6 +37,10 @@ on_true true false P follows h = absurd (let f = follows refl in cc)
 on_true false c P follows h = tt
 
 module _ {V : Type 0} (o : SetOperations V) (claims : Claims V) (story : LoadedStory) (p : ℕ) (e : Entry V) (i : Instruction) (there : IsThere story p i) where
+  -- what one rule asks is what a rule asks that is the same
+  pub same_asked : (rule other : Rule) (b : Bool) → rule ≡ other → IsTrue b ↔ Asks o claims story p e i other → IsTrue b ↔ Asks o claims story p e i rule
+  same_asked rule other b is asked = subst (λ (r : Rule). IsTrue b ↔ Asks o claims story p e i r) (sym is) asked
+
   -- where a variable isn't known, nothing is asked of heights and locals
   pub height_unknown : (rule : Rule) (b : Bool) → rule ≡ Height → (IsKnown o claims i e.shape → IsTrue b) → b ≡ false → IsTrue (not b) ↔ Asks o claims story p e i rule
   height_unknown rule b is known unknown = rw (is, unknown) (λ t k. absurd (let f = known k in cc), λ a. refl)
@@ -45,28 +49,26 @@ module _ {V : Type 0} (o : SetOperations V) (claims : Claims V) (story : LoadedS
   local_unknown rule b is known unknown = rw (is, unknown) (λ t k. absurd (let f = known k in cc), λ a. refl)
 
   -- and what a text is asked is so of every opcode that prints one
-  pub text_fixed : (rule : Rule) → rule ≡ Text → OnTrue (prints_text i.opcode) (HasFixedText story claims.is_frozen (p + 1)) → Asks o claims story p e i rule
+  pub text_fixed : (rule : Rule) → rule ≡ Text → OnTrue (prints_text i.opcode) (HasFixedText story (frozen_in claims) (p + 1)) → Asks o claims story p e i rule
   text_fixed rule is fixed = rw is (on_true _ _ _ (text_asked o (read_set o claims.globals i e.shape) i.opcode) fixed)
 
   -- what is asked of edges
-  module _ (flow : Flow V) (are : IsFlow o claims.globals story i e.shape flow) (rule : Rule) (b : Bool) (keep : IsTrue b ↔ EdgesKeep o claims story (argument_sets o claims.globals i e.shape) e.routine (p + i.size) (target i) rule flow) where
+  module _ (flow : Flow V) (are : IsFlow o claims.globals (told_of claims story) i e.shape flow) (rule : Rule) (b : Bool) (keep : IsTrue b ↔ EdgesKeep o claims story (argument_sets o claims.globals i e.shape) e.routine (p + i.size) (target i) rule flow) where
     as_is : (r : Rule) → rule ≡ r → IsTrue b ↔ EdgesKeep o claims story (argument_sets o claims.globals i e.shape) e.routine (p + i.size) (target i) r flow
     as_is r is = subst (λ (r : Rule). IsTrue b ↔ EdgesKeep o claims story (argument_sets o claims.globals i e.shape) e.routine (p + i.size) (target i) r flow) is keep
 
-    pub successor_asked : rule ≡ Successor → (d g : Bool) → (IsTrue d → IfSome flow.demands.divisor (λ a. In o a 0 → ⊥)) → d ≡ true → (IsTrue g → CallsBegin o claims story i e.shape) → g ≡ true → flow.demands.certain ≡ true → IsTrue b ↔ Asks o claims story p e i rule
-    successor_asked is d g divides there begin begun certain =
+    pub successor_asked : rule ≡ Successor → (d g : Bool) → (IsTrue d → Divides o claims i e.shape) → (IsTrue d → ReadsLength o claims story i e.shape) → (IsTrue d → KnowsAnswers o claims story i e.shape) → d ≡ true → (IsTrue g → CallsBegin o claims story i e.shape) → g ≡ true → flow.demands.certain ≡ true → IsTrue b ↔ Asks o claims story p e i rule
+    successor_asked is d g divides reads knows there begin begun certain =
         let kept = as_is Successor is in
         let edges = leads_on o claims story i e.shape flow are (argument_sets o claims.globals i e.shape) e.routine (p + i.size) in
         let known : demands_at o claims i e.shape ≡ flow.demands = sym are.demands in
-        let divided : Divides o claims i e.shape = subst (λ (x : Demands V). IfSome x.divisor (λ a. In o a 0 → ⊥)) are.demands (divides there) in
         let sure : (demands_at o claims i e.shape).certain ≡ true = ap (λ (x : Demands V). x.certain) known ∙ certain in
-        subst (λ (r : Rule). IsTrue b ↔ Asks o claims story p e i r) (sym is) (λ t _ _. (sure, edges.0 (kept.0 t)), λ h. kept.1 (edges.1 (h divided (begin begun)).1))
+        subst (λ (r : Rule). IsTrue b ↔ Asks o claims story p e i r) (sym is) (λ t _ _ _ _. (sure, edges.0 (kept.0 t)), λ h. kept.1 (edges.1 (h (divides there) (reads there) (knows there) (begin begun)).1))
 
     -- where it isn't known how far a jump goes
-    pub uncertain_asked : (d g : Bool) → (IsTrue d → IfSome flow.demands.divisor (λ a. In o a 0 → ⊥)) → d ≡ true → (IsTrue g → CallsBegin o claims story i e.shape) → g ≡ true → flow.demands.certain ≡ false → IsTrue flow.demands.certain ↔ Asks o claims story p e i Successor
-    uncertain_asked d g divides there begin begun uncertain =
-        let divided : Divides o claims i e.shape = subst (λ (x : Demands V). IfSome x.divisor (λ a. In o a 0 → ⊥)) are.demands (divides there) in
-        (λ t. absurd (let u = uncertain in cc), λ h. subst (λ (x : Demands V). IsTrue x.certain) (sym are.demands) (h divided (begin begun)).0)
+    pub uncertain_asked : (d g : Bool) → (IsTrue d → Divides o claims i e.shape) → (IsTrue d → ReadsLength o claims story i e.shape) → (IsTrue d → KnowsAnswers o claims story i e.shape) → d ≡ true → (IsTrue g → CallsBegin o claims story i e.shape) → g ≡ true → flow.demands.certain ≡ false → IsTrue flow.demands.certain ↔ Asks o claims story p e i Successor
+    uncertain_asked d g divides reads knows there begin begun uncertain =
+        (λ t. absurd (let u = uncertain in cc), λ h. subst (λ (x : Demands V). IsTrue x.certain) (sym are.demands) (h (divides there) (reads there) (knows there) (begin begun)).0)
 
     -- what is called
     pub calls_asked : rule ≡ Called → IsTrue b ↔ CallsBegin o claims story i e.shape
@@ -107,7 +109,10 @@ module _ {V : Type 0} (o : SetOperations V) (claims : Claims V) (story : LoadedS
   asks_keeps Successor = every (λ j. Asks o claims story p e j Successor)
   asks_keeps Object = every (λ j. Asks o claims story p e j Object)
   asks_keeps Attribute = every (λ j. Asks o claims story p e j Attribute)
+  asks_keeps Property = every (λ j. Asks o claims story p e j Property)
   asks_keeps Divisor = every (λ j. Asks o claims story p e j Divisor)
+  asks_keeps Write = every (λ j. Asks o claims story p e j Write)
+  asks_keeps Read = every (λ j. Asks o claims story p e j Read)
   asks_keeps Text = every (λ j. Asks o claims story p e j Text)
   asks_keeps Called = every (λ j. Asks o claims story p e j Called)
   asks_keeps Returned = every (λ j. Asks o claims story p e j Returned)

@@ -10,7 +10,7 @@ use Rattle.zdomain.specs.Domain.{SetOperations, In, Within}
 use Rattle.zstate.specs.State.{Frame, State, with_stack, with_locals, with_memory, write_word, global, put, put_named, exists}
 use Rattle.zstate.specs.Step.{stored}
 use Rattle.zflow.specs.Transfer.{Shape, with_result, locals_with}
-use Rattle.zrule.specs.Claims.{Claims}
+use Rattle.zrule.specs.Claims.{Claims, frozen_in}
 use Rattle.zrule.specs.Rules.{HasDisjointTables, Covers, IsVariable, Takes}
 use Rattle.zrule.specs.Described.{Callers, DescribedMemory, Fits, FitsWith, IsLoadedStory}
 use Rattle.zrule.proofs.Sets.{zip_set}
@@ -98,7 +98,7 @@ module _ {V : Type 0} (o : SetOperations V) (claims : Claims V) where
       by_kind false true h = h.0
       by_kind false false h = h.0
 
-  module _ (story : LoadedStory) (loaded : IsLoadedStory story) (tables : HasDisjointTables story claims.is_frozen) where
+  module _ (story : LoadedStory) (loaded : IsLoadedStory story) (tables : HasDisjointTables story (frozen_in claims)) where
     -- a state in mid-instruction, of which this is known
     pub record Mid (routine : ℕ) (e : Shape V) (u : State) : Type 0 where
       pub memory : DescribedMemory o claims story u.memory

@@ -30,7 +30,7 @@ use Rattle.zrule.specs.Numbers.{number_of}
 use Rattle.zflow.specs.declared.parts.Lead.TheVariants.{Ahead}
 use Rattle.zflow.specs.declared.parts.Outcome.{Outcome}
 use Rattle.zflow.specs.Transfer.{Shape, below, demands_of, outcome_of, outcome_at, goes_on}
-use Rattle.zrule.specs.Claims.{Entry, Claims, claims_of, entry_of}
+use Rattle.zrule.specs.Claims.{Entry, Claims, claims_of, entry_of, frozen_in, told_of}
 use Rattle.zplace.specs.Bytes.{IsWithin, IsChanging, IsAbbreviation, IsFixed, static, read_length}
 use Rattle.zrule.specs.Rules.{Covers, HasFirstPlace, HasGlobals, HasDisjointTables, HasFixedText, IsThere, Whatever, Leads, GoesOn, Asks, Keeps, IsLowestBroken, Supports}
 use Rattle.zrule.specs.Described.{Callers, Described, IsLoadedStory}
@@ -213,20 +213,23 @@ same_ok : {A E : Type 0} (x y : A) → ◌≡◌ {A = Result A E} (Ok x) (Ok y) 
 same_ok x y e = cc
 
 -- whatever may come of an instruction, by the answer of its condition
-pub by_answers : (c : Claims Interval) (i : Instruction) (e : Shape Interval) (P : Outcome Interval → Type 0) → IfSome (outcome_at interval_operations c.globals i e story true) P → IfSome (outcome_at interval_operations c.globals i e story false) P → Whatever interval_operations c story i e P
+pub by_answers : (c : Claims Interval) (i : Instruction) (e : Shape Interval) (P : Outcome Interval → Type 0) → IfSome (outcome_at interval_operations c.globals i e (told_of c story) true) P → IfSome (outcome_at interval_operations c.globals i e (told_of c story) false) P → Whatever interval_operations c story i e P
 by_answers c i e P held failed w (true, comes) = subst (λ (x : Option (Outcome Interval)). IfSome x P) comes held
 by_answers c i e P held failed w (false, comes) = subst (λ (x : Option (Outcome Interval)). IfSome x P) comes failed
 
 -- what each rule asks of `print`
-asks_hello : (c : Claims Interval) → Leads interval_operations c 0 bare 803 → HasFixedText story c.is_frozen 799 → (rule : Rule) → Asks interval_operations c story 798 bare_entry hello rule
+asks_hello : (c : Claims Interval) → Leads interval_operations c 0 bare 803 → HasFixedText story (frozen_in c) 799 → (rule : Rule) → Asks interval_operations c story 798 bare_entry hello rule
 unfolding hello bare bare_entry operation_of demands_of outcome_of
 asks_hello c leads text rules.Decodes = tt
 asks_hello c leads text rules.Height = λ known. (omega arith, tt)
 asks_hello c leads text rules.Local = λ known. (tt, tt, tt)
-asks_hello c leads text rules.Successor = λ divides begins. (refl, by_answers c hello bare _ (λ low. (803, refl, leads)) tt)
+asks_hello c leads text rules.Successor = λ divides reads knows begins. (refl, by_answers c hello bare _ (λ low. (803, refl, leads)) tt)
 asks_hello c leads text rules.Object = (tt, tt)
 asks_hello c leads text rules.Attribute = tt
+asks_hello c leads text rules.Property = tt
 asks_hello c leads text rules.Divisor = tt
+asks_hello c leads text rules.Write = tt
+asks_hello c leads text rules.Read = tt
 asks_hello c leads text rules.Text = text
 asks_hello c leads text rules.Called = by_answers c hello bare _ tt tt
 asks_hello c leads text rules.Returned = by_answers c hello bare _ tt tt
@@ -240,10 +243,13 @@ unfolding line bare bare_entry operation_of demands_of outcome_of
 asks_line c leads rules.Decodes = tt
 asks_line c leads rules.Height = λ known. (omega arith, tt)
 asks_line c leads rules.Local = λ known. (tt, tt, tt)
-asks_line c leads rules.Successor = λ divides begins. (refl, by_answers c line bare _ (λ low. (804, refl, leads)) tt)
+asks_line c leads rules.Successor = λ divides reads knows begins. (refl, by_answers c line bare _ (λ low. (804, refl, leads)) tt)
 asks_line c leads rules.Object = (tt, tt)
 asks_line c leads rules.Attribute = tt
+asks_line c leads rules.Property = tt
 asks_line c leads rules.Divisor = tt
+asks_line c leads rules.Write = tt
+asks_line c leads rules.Read = tt
 asks_line c leads rules.Text = tt
 asks_line c leads rules.Called = by_answers c line bare _ tt tt
 asks_line c leads rules.Returned = by_answers c line bare _ tt tt
@@ -257,10 +263,13 @@ unfolding stop bare bare_entry operation_of demands_of outcome_of
 asks_stop c rules.Decodes = tt
 asks_stop c rules.Height = λ known. (omega arith, tt)
 asks_stop c rules.Local = λ known. (tt, tt, tt)
-asks_stop c rules.Successor = λ divides begins. (refl, by_answers c stop bare _ tt tt)
+asks_stop c rules.Successor = λ divides reads knows begins. (refl, by_answers c stop bare _ tt tt)
 asks_stop c rules.Object = (tt, tt)
 asks_stop c rules.Attribute = tt
+asks_stop c rules.Property = tt
 asks_stop c rules.Divisor = tt
+asks_stop c rules.Write = tt
+asks_stop c rules.Read = tt
 asks_stop c rules.Text = tt
 asks_stop c rules.Called = by_answers c stop bare _ tt tt
 asks_stop c rules.Returned = by_answers c stop bare _ tt tt
@@ -294,7 +303,7 @@ unfolding claims_at certificate_at at_bare bare_entry bare hello operation_of de
 alone = record {
   broken = λ keeps.
       let asks : Asks interval_operations (claims_at (798 ∷ [])) story 798 bare_entry hello rules.Successor = keeps hello (there_at 798 hello (omega arith) reads.0) in
-      let edge : GoesOn interval_operations (claims_at (798 ∷ [])) 0 0 bare 803 (Ahead (pos 0)) = (asks tt (by_answers (claims_at (798 ∷ [])) hello bare _ tt tt)).1 goes_on (true, refl) (omega arith) in
+      let edge : GoesOn interval_operations (claims_at (798 ∷ [])) 0 0 bare 803 (Ahead (pos 0)) = (asks tt tt tt (by_answers (claims_at (798 ∷ [])) hello bare _ tt tt)).1 goes_on (true, refl) (omega arith) in
       unlisted edge;
   before = before;
 }
@@ -309,7 +318,10 @@ alone = record {
     before rules.Successor less = absurd (omega (arith, less))
     before rules.Object less = absurd (omega (arith, less))
     before rules.Attribute less = absurd (omega (arith, less))
+    before rules.Property less = absurd (omega (arith, less))
     before rules.Divisor less = absurd (omega (arith, less))
+    before rules.Write less = absurd (omega (arith, less))
+    before rules.Read less = absurd (omega (arith, less))
     before rules.Text less = absurd (omega (arith, less))
     before rules.Called less = absurd (omega (arith, less))
     before rules.Returned less = absurd (omega (arith, less))
@@ -337,6 +349,12 @@ supports = record {
   values = values;
   low = low;
   few = omega arith;
+  properties = record {
+    tables = λ object first last. absurd (omega (arith, first, last));
+    frames_still = λ p frame changing. absurd (let first = frame.first in let last = frame.last in omega (arith, first, last));
+    data_still = λ p inside changing. absurd (let first = inside.first in let last = inside.last in omega (arith, first, last));
+    data_open = λ p inside closed. absurd (let first = inside.first in let last = inside.last in omega (arith, first, last));
+  };
   tree = record { small = λ link object least most. absurd (omega (arith, least, most)) };
   abbreviations = record { plain = plain; unchanging = abbreviations_stay };
   tables = tables;
@@ -401,7 +419,7 @@ not_covered = (λ covers. (covers.locals.0 5 (interval_sound.any 5 (omega arith)
 
 -- routine 1 gives 5, which its caller takes at 900 as its only slot
 calling : Claims Interval
-calling = record { is_frozen = λ p. false; globals = []; entry = λ p. if p == 900 then Some (record { routine = 0; shape = record { locals = []; slots = point 5 ∷ [] } }) else None; result = λ r. point 5; routine_at = λ p. None }
+calling = record { ranges = []; globals = []; entry = λ p. if p == 900 then Some (record { routine = 0; shape = record { locals = []; slots = point 5 ∷ [] } }) else None; result = λ r. point 5; routine_at = λ p. None }
 
 caller : Frame
 caller = record { return_place = 0; result = 0; supplied = 0; locals = []; stack = [] }

@@ -5,6 +5,7 @@ pub mod Ordered
 mod Order
 pub mod Listed
 mod Whatever
+pub mod Answering
 mod Asking
 pub mod Sets
 mod Memory

@@ -16,7 +16,7 @@ use Rattle.zobj.proofs.Bytes.{no_zero}
 use Rattle.zdomain.specs.Domain.{SetOperations, In, Within}
 use Rattle.zstate.specs.State.{write_word}
 use Rattle.zplace.specs.Bytes.{IsFixed, IsFlags, IsWithin}
-use Rattle.zrule.specs.Claims.{Claims}
+use Rattle.zrule.specs.Claims.{Claims, frozen_in}
 use Rattle.zrule.specs.Rules.{HasDisjointTables, HasGlobals}
 use Rattle.zrule.specs.Described.{DescribedMemory, IsLoadedStory}
 use Rattle.zrule.proofs.Unchanged.{header_fixed}
@@ -40,7 +40,7 @@ word_written memory p x within =
     let l : byte_at (write_word memory p x) (p + 1) ≡ x % 256 = get_or-set_same (slice_set memory p (x / 256)) (p + 1) (x % 256) 0 (rw (length-set memory p (x / 256)) within) in
     rw (h, l) (omega arith)
 
-module _ {V : Type 0} (o : SetOperations V) (claims : Claims V) (story : LoadedStory) (loaded : IsLoadedStory story) (tables : HasDisjointTables story claims.is_frozen) (v x : ℕ) (a : V) (memory : List ℕ) (long : length memory ≡ length story.memory) (above : 16 ≤ v) (below_end : v < 256) (member : In o a x) (found : MatchOption (slice_get claims.globals (v - 16)) ⊥ (Within o a)) where
+module _ {V : Type 0} (o : SetOperations V) (claims : Claims V) (story : LoadedStory) (loaded : IsLoadedStory story) (tables : HasDisjointTables story (frozen_in claims)) (v x : ℕ) (a : V) (memory : List ℕ) (long : length memory ≡ length story.memory) (above : 16 ≤ v) (below_end : v < 256) (member : In o a x) (found : MatchOption (slice_get claims.globals (v - 16)) ⊥ (Within o a)) where
   inside : globals story + 2 * (v - 16) + 1 < length memory
   inside = let g = loaded.sound.globals_within in let h = loaded.sound.static_base_within in omega (arith, g, h, long, above, below_end)
 
@@ -64,7 +64,7 @@ module _ {V : Type 0} (o : SetOperations V) (claims : Claims V) (story : LoadedS
   other q outside = byte_other memory (globals story + 2 * (v - 16)) x q (λ e. outside (omega (arith, e), omega (arith, e, above, below_end))) (λ e. outside (omega (arith, e), omega (arith, e, above, below_end)))
 
   -- no link of an object is changed
-  module _ (fixed : (q : ℕ) → IsFixed story claims.is_frozen q → byte_at memory q ≡ byte_at story.memory q) where
+  module _ (fixed : (q : ℕ) → IsFixed story (frozen_in claims) q → byte_at memory q ≡ byte_at story.memory q) where
     table_same : (after : List ℕ) → ((q : ℕ) → q < 64 → (IsFlags q → ⊥) → byte_at after q ≡ byte_at story.memory q) → header.object_table after ≡ object_table story
     table_same after same =
         let high = same 0x0A (omega arith) (λ f. omega (arith, f.0)) in
@@ -72,7 +72,7 @@ module _ {V : Type 0} (o : SetOperations V) (claims : Claims V) (story : LoadedS
         omega (arith, high, low)
 
     was : (q : ℕ) → q < 64 → (IsFlags q → ⊥) → byte_at memory q ≡ byte_at story.memory q
-    was q low no_flags = fixed q (header_fixed story loaded.sound loaded.counted claims.is_frozen q low no_flags)
+    was q low no_flags = fixed q (header_fixed story loaded.sound loaded.counted (frozen_in claims) q low no_flags)
 
     behind : (q : ℕ) → q < 64 → IsWithin (globals story) 480 q → ⊥
     behind q low within = let above = loaded.sound.globals_above in omega (arith, above, low, within.0)

@@ -4,6 +4,7 @@ use Rattle.std.specs.Prelude.{IfSome, MatchOption, slice_get, slice_index, ◌==
 use Rattle.std.specs.Bool.{OnTrue}
 use Rattle.std.specs.List.{AllByRecursion}
 use Rattle.std.proofs.lemmas.Bool.{le-leb, ltb-true, lt-ltb, ne_eqb}
+use Rattle.std.proofs.lemmas.Int.{ints}
 use Rattle.std.proofs.lemmas.List.{get_or-set_same, length-set}
 use Rattle.zword.specs.declared.binary.BinaryOp.{BinaryOp}
 use Rattle.zword.specs.declared.binary.BinaryOp.TheVariants.{Add, Sub, Mul, Div, Mod, Or, And}
@@ -26,6 +27,10 @@ use Rattle.zrule.proofs.Parts.{HoldsOne}
 pub not_both : (b : Bool) → b ≡ true → b ≡ false → ⊥
 not_both true e f = cc
 not_both false e f = cc
+
+-- among words without a sign, signed readings are in the same order
+pub between_small : {V : Type 0} (o : SetOperations V) → AreSound o → (lo hi x : ℕ) → lo ≤ x → x ≤ hi → hi < 32768 → In o (o.between lo hi) x
+between_small o lawful lo hi x least most few = lawful.between lo hi x (omega (arith, ints, least, most, few)) (omega (arith, ints, least, most, few)) (omega (arith, most, few))
 
 pub on_true : (b : Bool) (A B : Type 0) → OnTrue b (A → B) → A → OnTrue b B
 on_true true A B f a = f a

@@ -1,28 +1,33 @@
--- What is said of every memory of a play stays so when attributes, or links of objects, are written.
-use Rattle.std.proofs.Common.{◌≡◌, inl, inr, ℕ, ◌+◌, ◌*◌, ◌/◌, ◌<◌, ◌≤◌, Bool, List, length, Result, Ok, Err, refl, sym, subst, ◌∙◌, arith}
+-- What is said of every memory of a play stays so when attributes, links of objects or properties are written.
+use Rattle.std.proofs.Common.{◌≡◌, inl, inr, ℕ, ◌+◌, ◌*◌, ◌/◌, ◌<◌, ◌≤◌, Bool, false, List, length, Result, Ok, Err, refl, sym, ap, subst, ◌∙◌, arith}
 use Rattle.std.specs.Prelude.{IfOk}
 use Rattle.std.specs.Result.{IsOkAnd}
 use Rattle.std.proofs.lemmas.Option.{slice_get_within}
 use Rattle.zstory.specs.Bytes.{byte_at, word_at}
 use Rattle.zstory.specs.Header as header
 use Rattle.zstory.specs.LoadedStory.{LoadedStory, globals, object_table}
+use Rattle.zstory.specs.Objects.{object_place}
 use Rattle.zobj.specs.declared.error.ObjectError.{ObjectError}
 use Rattle.zobj.specs.declared.tree.Link.{Link}
 use Rattle.zobj.specs.declared.tree.Link.TheVariants.{Parent, Sibling, Child}
+use Rattle.zobj.specs.declared.property.Property.{Property}
 use Rattle.zobj.specs.Attributes.{with_attribute}
 use Rattle.zobj.specs.Entries.{HasTable, IsEntryByte, IsLinkByte}
 use Rattle.zobj.specs.Kept.{DiffersOnly}
 use Rattle.zobj.specs.Moves.{inserted, unlinked}
 use Rattle.zobj.specs.Tree.{IsTree, link_byte, linked}
+use Rattle.zobj.specs.Values.{IsDataByte}
 use Rattle.zobj.proofs.Bytes.{differs_there, entry_byte_is, entry_byte_rests}
 use Rattle.zobj.proofs.Keeping.{inserted_only, inserted_tree, unlinked_only, unlinked_stays}
 use Rattle.zdomain.specs.Domain.{SetOperations, In}
-use Rattle.zplace.specs.Bytes.{IsFixed, IsWithin}
-use Rattle.zrule.specs.Claims.{Claims}
+use Rattle.zplace.specs.Bytes.{IsChanging, IsFixed, IsWithin}
+use Rattle.zplace.specs.Tables.{HasPropertyTables, IsPropertyData}
+use Rattle.zplace.proofs.Staying.{data_unfixed}
+use Rattle.zrule.specs.Claims.{Claims, frozen_in}
 use Rattle.zrule.specs.Rules.{HasDisjointTables, HasGlobals}
 use Rattle.zrule.specs.Described.{DescribedMemory}
 
-module _ {V : Type 0} (o : SetOperations V) (claims : Claims V) (story : LoadedStory) (tables : HasDisjointTables story claims.is_frozen) (few : length claims.globals ≤ 240) (memory : List ℕ) (d : DescribedMemory o claims story memory) (has : HasTable memory story.objects) (same : header.object_table memory ≡ object_table story) where
+module _ {V : Type 0} (o : SetOperations V) (claims : Claims V) (story : LoadedStory) (tables : HasDisjointTables story (frozen_in claims)) (few : length claims.globals ≤ 240) (memory : List ℕ) (d : DescribedMemory o claims story memory) (has : HasTable memory story.objects) (same : header.object_table memory ≡ object_table story) where
   module _ (after : List ℕ) (first size : ℕ) (inside : first + size ≤ 7) (differs : DiffersOnly (IsEntryByte memory story.objects first size) memory after) where
     -- a byte that no entry has is as it was
     byte_stays : (p : ℕ) → (IsEntryByte memory story.objects first size p → ⊥) → byte_at after p ≡ byte_at memory p
@@ -41,7 +46,7 @@ module _ {V : Type 0} (o : SetOperations V) (claims : Claims V) (story : LoadedS
         word_is : byte_at after (globals story + 2 * k) ≡ byte_at memory (globals story + 2 * k) → byte_at after (globals story + 2 * k + 1) ≡ byte_at memory (globals story + 2 * k + 1) → word_at after (globals story + 2 * k) ≡ word_at memory (globals story + 2 * k)
         word_is high low = rw (high, low) refl
 
-    fixed_stays : (p : ℕ) → IsFixed story claims.is_frozen p → byte_at after p ≡ byte_at story.memory p
+    fixed_stays : (p : ℕ) → IsFixed story (frozen_in claims) p → byte_at after p ≡ byte_at story.memory p
     fixed_stays p fixed = byte_stays p (λ is. fixed.unchanging (inr (inr (record { object = is.object; first = is.least; last = is.most; inside = (omega (arith, is.from, same), omega (arith, is.below, inside, same)) })))) ∙ d.fixed p fixed
 
     described : IsTree after story.objects → DescribedMemory o claims story after
@@ -84,3 +89,51 @@ module _ {V : Type 0} (o : SetOperations V) (claims : Claims V) (story : LoadedS
 
   pub inserted_described : (object under : ℕ) → 1 ≤ object → object ≤ story.objects → 1 ≤ under → under ≤ story.objects → IsOkAnd (inserted story.objects object under memory) (DescribedMemory o claims story)
   inserted_described object under least most first last = moved_described _ (inserted_only story.objects memory has object least most under first last) (inserted_tree story.objects memory has object least most under first last d.tree)
+
+  -- a property is given a word: its data are neither globals nor links, and nothing of them is fixed
+  module _ (properties : HasPropertyTables story) (property : Property) (there : (p : ℕ) → IsDataByte property p → IsPropertyData story p) (unfrozen : (p : ℕ) → IsDataByte property p → (frozen_in claims) p ≡ false) (after : List ℕ) (differs : DiffersOnly (IsDataByte property) memory after) where
+    other_stays : (p : ℕ) → (IsDataByte property p → ⊥) → byte_at after p ≡ byte_at memory p
+    other_stays p outside = elim (differs.rest p) [ inl e ↦ e | inr is ↦ absurd (outside is) ]
+
+    changing_stays : (p : ℕ) → IsChanging story p → byte_at after p ≡ byte_at memory p
+    changing_stays p changing = other_stays p (λ is. properties.data_still p (there p is) changing)
+
+    filled_values : HasGlobals o claims story after
+    filled_values k values is =
+        let below = slice_get_within claims.globals k values is in
+        let high = changing_stays (globals story + 2 * k) (inr (inl (omega arith, omega (arith, below, few)))) in
+        let low = changing_stays (globals story + 2 * k + 1) (inr (inl (omega arith, omega (arith, below, few)))) in
+        subst (In o values) (sym (word_is high low)) (d.values k values is)
+      where
+        word_is : byte_at after (globals story + 2 * k) ≡ byte_at memory (globals story + 2 * k) → byte_at after (globals story + 2 * k + 1) ≡ byte_at memory (globals story + 2 * k + 1) → word_at after (globals story + 2 * k) ≡ word_at memory (globals story + 2 * k)
+        word_is high low = rw (high, low) refl
+
+    filled_fixed : (p : ℕ) → IsFixed story (frozen_in claims) p → byte_at after p ≡ byte_at story.memory p
+    filled_fixed p fixed = other_stays p (λ is. data_unfixed story (frozen_in claims) properties p (there p is) (unfrozen p is) fixed.closed) ∙ d.fixed p fixed
+
+    link_low : (link : Link) → (link_byte link < 7) × (4 ≤ link_byte link)
+    link_low Parent = (omega arith, omega arith)
+    link_low Sibling = (omega arith, omega arith)
+    link_low Child = (omega arith, omega arith)
+
+    -- the object table is where it was, since the header is as loaded
+    table_stays : header.object_table after ≡ object_table story → (object : ℕ) → object_place after object ≡ object_place story.memory object
+    table_stays e object = rw e refl
+
+    filled_tree : header.object_table after ≡ object_table story → IsTree after story.objects
+    filled_tree place = record {
+      small = λ link object from to.
+          let k = link_low link in
+          let now_place = table_stays place object in
+          let was_place : object_place memory object ≡ object_place story.memory object = rw same refl in
+          let stays = changing_stays (object_place story.memory object + link_byte link) (inr (inr (record { object = object; first = from; last = to; inside = (omega arith, omega (arith, k.0)) }))) in
+          let now = entry_byte_is after object (link_byte link) from in
+          let was = entry_byte_is memory object (link_byte link) from in
+          let small : linked link memory object ≤ story.objects = d.tree.small link object from to in
+          let now_is : byte_at after (object_place after object + link_byte link) ≡ byte_at after (object_place story.memory object + link_byte link) = ap (λ (p : ℕ). byte_at after (p + link_byte link)) now_place in
+          let was_is : byte_at memory (object_place memory object + link_byte link) ≡ byte_at memory (object_place story.memory object + link_byte link) = ap (λ (p : ℕ). byte_at memory (p + link_byte link)) was_place in
+          omega (arith, stays, now, was, small, now_is, was_is);
+    }
+
+    pub filled_described : header.object_table after ≡ object_table story → DescribedMemory o claims story after
+    filled_described place = record { long = differs.size ∙ d.long; values = filled_values; tree = filled_tree place; fixed = filled_fixed }

@@ -22,7 +22,7 @@ use Rattle.zcode.specs.declared.instr.Operand.TheVariants.{Constant, Variable}
 use Rattle.zcode.specs.declared.instr.Destination.{Destination}
 use Rattle.zcode.specs.declared.instr.Destination.TheVariants.{ReturnFalse, ReturnTrue, Relative}
 use Rattle.zcode.specs.declared.operation.Operation.{Operation}
-use Rattle.zcode.specs.declared.operation.Operation.TheVariants.{Unary, Binary, Compare, Count, Store, Load, Jump, Verify, PrintChar, PrintNumber, Print, NewLine, Nop, Quit, Return, PrintReturn, Call, Inside, TestAttribute, Follow, SetAttribute, ClearAttribute, Insert, Remove}
+use Rattle.zcode.specs.declared.operation.Operation.TheVariants.{Unary, Binary, Compare, Count, Store, Load, Jump, Verify, PrintChar, PrintNumber, Print, NewLine, Nop, Quit, Return, PrintReturn, Call, Inside, TestAttribute, Follow, SetAttribute, ClearAttribute, Insert, Remove, Property, PropertyLength, SetProperty, PrintObject}
 use Rattle.zcode.specs.Instruction.{Instruction}
 use Rattle.zcode.specs.Operation.{operation_of, inputs, target}
 use Rattle.zcode.specs.Playable.{playable}
@@ -32,23 +32,35 @@ use Rattle.zcode.proofs.Operating.{played_operate}
 use Rattle.std.specs.Result.{IsOkAnd}
 use Rattle.zobj.specs.declared.error.ObjectError.{ObjectError}
 use Rattle.zobj.specs.declared.tree.Link.{Link}
+use Rattle.zobj.specs.declared.name.ShortName.{ShortName}
+use Rattle.zobj.specs.declared.name.ShortName.TheVariants.{Empty, At}
+use Rattle.zobj.specs.declared.property.Property.{Property as AProperty}
+use Rattle.zobj.specs.declared.answers.PropertyQuestion.{PropertyQuestion}
+use Rattle.zobj.specs.Answers.{answer_of}
+use Rattle.zobj.specs.Names.{short_name}
+use Rattle.zobj.specs.Properties.{property_of}
+use Rattle.zobj.specs.Values.{IsDataByte, length_before, with_property}
+use Rattle.zobj.proofs.Answering.{length_small}
 use Rattle.zdomain.specs.Domain.{SetOperations, AreSound, In, Within}
 use Rattle.zstate.specs.declared.halt.Halt.{Halt}
 use Rattle.zstate.specs.declared.halt.Halt.TheVariants as halts
 use Rattle.zstate.specs.InTurn.{◌>>=◌}
 use Rattle.zstate.specs.State.{Frame, State, Setting, IsState, at_place, popped, with_stack, with_locals, with_memory, write_word, global, has_room, exists, put_named, put_in_place, read_in_place, has_head, fault}
 use Rattle.zstate.specs.Run.{IsFull}
-use Rattle.zstate.specs.Step.{Called, Move, on, back, into, calling, closing, called_at, call_of, unpacked, arguments, initial, behind_head, place_of, entered, Effect, Done, way, arg, asked_of, giving, assigning, testing, printing, jumping, following, marking, rearranging, rewriting, rewritten, fetch, printed, print_at, effect_of, effect_if, has_caller, is_taken, is_roomy, turned, course, admits, pauses, assigned, changed, stored, left, moved, advance, act, step}
+use Rattle.zstate.specs.Step.{Called, Move, on, back, into, calling, closing, called_at, call_of, unpacked, arguments, initial, behind_head, place_of, entered, Effect, Done, way, arg, asked_of, giving, assigning, testing, printing, jumping, following, marking, rearranging, rewriting, rewritten, answering, measuring, filling, naming, is_data_writable, fetch, printed, print_at, effect_of, effect_if, has_caller, is_taken, is_roomy, turned, course, admits, pauses, assigned, changed, stored, left, moved, advance, act, step}
+use Rattle.zstate.proofs.Effects.{table_place}
 use Rattle.zstate.proofs.Keeps.{put_aside, changed_aside, step_keeps}
 use Rattle.zflow.specs.declared.parts.Lead.{Lead}
 use Rattle.zflow.specs.declared.parts.Lead.TheVariants.{Ahead, Returning, Entering}
 use Rattle.zflow.specs.declared.parts.Kept.{Kept}
 use Rattle.zflow.specs.declared.parts.Outcome.{Outcome}
 use Rattle.zflow.specs.declared.parts.Demands.{Demands}
+use Rattle.zflow.specs.declared.parts.Pairs.{Pairs}
+use Rattle.zpairs.specs.Pairs.{AreUnfrozen}
 use Rattle.zflow.specs.Transfer.{Shape, pops, variable_set, small, local_kept, operand_kept, both_kept, untold, counted_set, demands_of, demands_if, goes_on, gives_in, assigns_in, asks, counts_in, follows_in, returns_in, enters_in, argument_sets, jumps, outcome_of, outcome_if, leading, turned_to, named_with, with_result, with_assigned, narrowed, read_set, mid_shape, changed_by, after}
 use Rattle.zrule.specs.declared.rule.Rule.TheVariants as rules
-use Rattle.zrule.specs.Claims.{Claims}
-use Rattle.zrule.specs.Rules.{Begins, Enters, TakesBack, result_if, result_at, Leads, IsThere, HasFixedText, IsKnown, IsNamed, IsVariable, HasTop, Supports, Takes, TakesInPlace, GoesOn, Returns, OnEdge, demands_at, AreObjects}
+use Rattle.zrule.specs.Claims.{Claims, frozen_in, told_of}
+use Rattle.zrule.specs.Rules.{Begins, Enters, TakesBack, result_if, result_at, Leads, IsThere, HasFixedText, IsKnown, IsNamed, IsVariable, HasTop, Supports, Takes, TakesInPlace, GoesOn, Returns, OnEdge, Whatever, IsLow, demands_at, AreObjects, NamesObject, Finds, FindsProperty, Spares, KnowsAnswers, gives_by_property}
 use Rattle.zrule.specs.Described.{Callers, Described, DescribedMemory, Fits, FitsWith, IsSafe, IsListedIn, IsLoadedStory}
 use Rattle.zrule.proofs.Sets.{ReadsAll, reads_all, fits_popped, zip_set, zip_length}
 use Rattle.zrule.proofs.Unchanged.{static_fixed, drop_same, abbreviation_same}
@@ -59,8 +71,9 @@ use Rattle.zrule.proofs.Fitting.{IsIn, exists_in, named_in, length_with, given_f
 use Rattle.zrule.proofs.Memory.{global_put}
 use Rattle.zrule.proofs.Parts.{Hold, HoldsOne, narrowed_fits, variable_there, small_is}
 use Rattle.zrule.proofs.Stepping.{fetch_is, done_at, made_by, step_is}
-use Rattle.zrule.proofs.Pieces.{not_below_one, not_both, not_none, not_zero, object_known, on_true, two_asked, first_there, assigned_local, length_assigned, edge_of, defined_where, kept_holds}
-use Rattle.zrule.proofs.Rewriting.{inserted_described, marked_described, unlinked_described}
+use Rattle.zrule.proofs.Pieces.{between_small, not_below_one, not_both, not_none, not_zero, object_known, on_true, two_asked, first_there, assigned_local, length_assigned, edge_of, defined_where, kept_holds}
+use Rattle.zrule.proofs.Answering.{Filled, answer_lies, answered, filled, found_same, length_there, name_printed}
+use Rattle.zrule.proofs.Rewriting.{filled_described, inserted_described, marked_described, unlinked_described}
 
 module _ {V : Type 0} (o : SetOperations V) (lawful : AreSound o) (claims : Claims V) (m : Setting) (loaded : IsLoadedStory m.story) (supports : Supports o claims m.story) (listed : IsListedIn o claims m.scope) (s : State) (d : Described o claims m.limit m.story s) (i : Instruction) (there : IsThere m.story d.at i) where
   abbrev operands : List Operand
@@ -77,7 +90,7 @@ module _ {V : Type 0} (o : SetOperations V) (lawful : AreSound o) (claims : Clai
 
   -- what may come of an operation there, where its condition is answered so
   abbrev pub ComesOf : Option Operation → Outcome V → Type 0
-  ComesOf k w = (c : Bool) × (outcome_if o claims.globals m.story k operands args mid c ≡ Some w)
+  ComesOf k w = (c : Bool) × (outcome_if o claims.globals (told_of claims m.story) k operands args mid c ≡ Some w)
 
   -- a state in mid-instruction, of which this is known
   abbrev Known_in : Shape V → State → Type 0
@@ -113,8 +126,25 @@ module _ {V : Type 0} (o : SetOperations V) (lawful : AreSound o) (claims : Clai
     divides : IfSome out.divisor (λ a. In o a 0 → ⊥)
     pub object : IfSome out.object (AreObjects o m.story) × IfSome out.under (AreObjects o m.story)
     pub attribute : IfSome out.attribute (λ a. (x : ℕ) → In o a x → x < 32)
+    pub property : IfSome out.property (λ p. Finds o m.story p.asked p.objects p.numbers)
+    pub spares : IfSome out.property (λ p. Spares o m.story (frozen_in claims) p.asked p.objects p.numbers)
+    pub address : IfSome out.address (λ a. (x : ℕ) → In o a x → IsTrue (is_some (length_before m.story.memory x)))
     pub certain : IsTrue out.certain
-    text : OnTrue out.has_text (HasFixedText m.story claims.is_frozen (d.at + 1))
+    text : OnTrue out.has_text (HasFixedText m.story (frozen_in claims) (d.at + 1))
+
+  -- what get_prop and get_prop_addr give is known, since what they ask for is found
+  answers_known : KnowsAnswers o claims m.story i d.entry.shape
+  answers_known = by (demands_at o claims i d.entry.shape).property (supports.each d.at d.entry d.listed rules.Property i there)
+    where
+      on : (b : Bool) (P : Type 0) → P → OnTrue b P
+      on true P h = h
+      on false P h = tt
+      by : (p : Option (Pairs V)) → IfSome p (λ q. Finds o m.story q.asked q.objects q.numbers) → IfSome p (λ q. OnTrue (gives_by_property q.asked) (NamesObject o claims m.story i d.entry.shape × FindsProperty o claims m.story i d.entry.shape))
+      by None h = tt
+      by (Some q) h = on (gives_by_property q.asked) _ (supports.each d.at d.entry d.listed rules.Object i there, supports.each d.at d.entry d.listed rules.Property i there)
+
+  abbrev successor : IsTrue (demands_at o claims i d.entry.shape).certain × Whatever o claims m.story i d.entry.shape (λ w. IsLow o claims i d.entry.shape w → OnEdge o claims w i d.entry.shape (λ f. GoesOn o claims d.entry.routine (target i) f (d.at + i.size) (leading o w i.branch)))
+  successor = supports.each d.at d.entry d.listed rules.Successor i there (supports.each d.at d.entry d.listed rules.Divisor i there) (supports.each d.at d.entry d.listed rules.Read i there) answers_known (supports.each d.at d.entry d.listed rules.Called i there)
 
   pub asked : Asked (demands_if o (operation_of i.opcode) args)
   asked = record {
@@ -124,7 +154,10 @@ module _ {V : Type 0} (o : SetOperations V) (lawful : AreSound o) (claims : Clai
     divides = supports.each d.at d.entry d.listed rules.Divisor i there;
     object = supports.each d.at d.entry d.listed rules.Object i there;
     attribute = supports.each d.at d.entry d.listed rules.Attribute i there;
-    certain = (supports.each d.at d.entry d.listed rules.Successor i there (supports.each d.at d.entry d.listed rules.Divisor i there) (supports.each d.at d.entry d.listed rules.Called i there)).0;
+    property = supports.each d.at d.entry d.listed rules.Property i there;
+    spares = supports.each d.at d.entry d.listed rules.Write i there;
+    address = supports.each d.at d.entry d.listed rules.Read i there;
+    certain = successor.0;
     text = supports.each d.at d.entry d.listed rules.Text i there;
   }
 
@@ -346,12 +379,12 @@ module _ {V : Type 0} (o : SetOperations V) (lawful : AreSound o) (claims : Clai
   printed_expected (Err e) ok comes = absurd cc
 
   -- the text behind the opcode byte prints something
-  prints : HasFixedText m.story claims.is_frozen (d.at + 1) → IsOk (output_at s.memory (d.at + 1))
+  prints : HasFixedText m.story (frozen_in claims) (d.at + 1) → IsOk (output_at s.memory (d.at + 1))
   prints rule =
       let above : static_base m.story ≤ d.at + 1 = let h = there.static in omega (arith, h) in
-      let same : drop (d.at + 1) s.memory ≡ drop (d.at + 1) m.story.memory = drop_same m.story loaded.sound loaded.counted claims.is_frozen s.memory d.memory.long d.memory.fixed (d.at + 1) above in
+      let same : drop (d.at + 1) s.memory ≡ drop (d.at + 1) m.story.memory = drop_same m.story loaded.sound loaded.counted (frozen_in claims) s.memory d.memory.long d.memory.fixed (d.at + 1) above in
       let found : text_at s.memory (d.at + 1) ≡ Some rule.text = ap front_text same ∙ rule.found in
-      output_at-ok s.memory (d.at + 1) rule.text (λ n few. abbreviation_same m.story loaded.sound loaded.counted claims.is_frozen s.memory d.memory.long d.memory.fixed supports.abbreviations n few) found
+      output_at-ok s.memory (d.at + 1) rule.text (λ n few. abbreviation_same m.story loaded.sound loaded.counted (frozen_in claims) s.memory d.memory.long d.memory.fixed supports.abbreviations n few) found
 
   compared_two : (q : Question) (c : Bool) (p : V × V) → (length operands == 2) ≡ true → o.narrow q c (args 0) (args 1) ≡ Some p → ComesOf (Some (Compare q)) (asks c (both_kept operands p))
   unfolding outcome_of
@@ -422,7 +455,7 @@ module _ {V : Type 0} (o : SetOperations V) (lawful : AreSound o) (claims : Clai
   can_be_called : (p : ℕ) → Begins o claims m.story given_args p → (m.scope.routines p ≡ true) × (has_head s.memory p ≡ true) × (called_at s.memory p (arguments all.values) ≡ called_at m.story.memory p (arguments all.values))
   can_be_called p begins =
       let static = supports.heads.static p begins.index begins.routine in
-      let same : (q : ℕ) → p ≤ q → byte_at s.memory q ≡ byte_at m.story.memory q = λ q above. d.memory.fixed q (static_fixed m.story loaded.sound loaded.counted claims.is_frozen q (omega (arith, static, above))) in
+      let same : (q : ℕ) → p ≤ q → byte_at s.memory q ≡ byte_at m.story.memory q = λ q above. d.memory.fixed q (static_fixed m.story loaded.sound loaded.counted (frozen_in claims) q (omega (arith, static, above))) in
       (listed.routines p begins.index begins.routine, head_same s.memory m.story.memory p d.memory.long (same p (omega arith)) (supports.heads.there p begins.index begins.routine), called_same s.memory m.story.memory p (arguments all.values) same)
 
   -- the edge on which a routine is called
@@ -474,7 +507,7 @@ module _ {V : Type 0} (o : SetOperations V) (lawful : AreSound o) (claims : Clai
     where
       by : (b : Bool) → (x == 0) ≡ b → Expected (Some (Follow link)) (Ok (following x))
       by true e = let none = eqb-true x 0 e in follows_expected (Follow link) false (o.single 0) x (false, refl) (subst (In o (o.single 0)) (sym none) (lawful.single 0 (omega arith))) (ap not e)
-      by false e = let first = not_below_one x e in follows_expected (Follow link) true (o.between 1 m.story.objects) x (to_object link (not_none m.story.objects x first most)) (lawful.between 1 m.story.objects x first most (omega (arith, most, few))) (ap not e)
+      by false e = let first = not_below_one x e in follows_expected (Follow link) true (o.between 1 m.story.objects) x (to_object link (not_none m.story.objects x first most)) (between_small o lawful 1 m.story.objects x first most (omega (arith, few))) (ap not e)
 
   -- what rewrites memory so that it stays as is said
   rewrites : (k : Operation) (after : List ℕ) → ComesOf (Some k) goes_on → DescribedMemory o claims m.story after → Expected (Some k) (Ok (rewriting after))
@@ -490,6 +523,37 @@ module _ {V : Type 0} (o : SetOperations V) (lawful : AreSound o) (claims : Clai
       let known = object_known m.story.objects (arg all.values 0) object in
       let few = lt-ltb (arg all.values 1) 32 low in
       rw (known, few) (rewrites k _ comes (marked_described o claims m.story supports.tables supports.few s.memory d.memory d.is_state.objects d.is_state.tables sets (arg all.values 0) (arg all.values 1) object.0 object.1 low))
+
+  -- an answer about a property lies in the set of the answers
+  answers_expected : (question : PropertyQuestion) (x : ℕ) → answer_of question s.memory (arg all.values 0) (arg all.values 1) ≡ Ok x → (1 ≤ arg all.values 0) × (arg all.values 0 ≤ m.story.objects) → Expected (Some (Property question)) (answering (answer_of question s.memory (arg all.values 0) (arg all.values 1)))
+  unfolding outcome_of
+  answers_expected question x is object =
+      subst (λ (r : Result ℕ ObjectError). Expected (Some (Property question)) (answering r)) (sym is)
+      (gives_expected (Property question) _ x (true, refl) (answer_lies o lawful claims m.story loaded supports s.memory d.memory (arg all.values 0) object.0 object.1 d.is_state.bytes question (args 0) (args 1) (arg all.values 1) x (all.members 0) (all.members 1) is))
+
+  measures_expected : IsTrue (is_some (length_before m.story.memory (arg all.values 0))) → Expected (Some PropertyLength) (measuring (length_before s.memory (arg all.values 0)))
+  unfolding outcome_of
+  measures_expected readable =
+      let n = length_there m.story s.memory d.memory.long (arg all.values 0) readable in
+      let few : n.0 ≤ 8 = subst (λ (r : Option ℕ). IfSome r (λ n. n ≤ 8)) n.1 (length_small s.memory (arg all.values 0) d.is_state.bytes) in
+      subst (λ (r : Option ℕ). Expected (Some PropertyLength) (measuring r)) (sym n.1) (gives_expected PropertyLength _ n.0 (true, refl) (between_small o lawful 0 8 n.0 (omega arith) few (omega arith)))
+
+  fills_expected : (object : (1 ≤ arg all.values 0) × (arg all.values 0 ≤ m.story.objects)) → Filled o lawful claims m.story loaded supports s.memory d.memory (arg all.values 0) object.0 object.1 (arg all.values 1) (arg all.values 2) → AreUnfrozen o m.story (frozen_in claims) (args 0) (args 1) → Expected (Some SetProperty) (filling (with_property (arg all.values 0) (arg all.values 1) (arg all.values 2) s.memory) (is_data_writable m.story (property_of s.memory (arg all.values 0) (arg all.values 1))))
+  unfolding outcome_of
+  fills_expected object f spared =
+      let is = f.is in
+      let writable = f.writable in
+      let frozen = spared (arg all.values 0) (arg all.values 1) object.0 object.1 (all.members 0) (all.members 1) in
+      let was : property_of m.story.memory (arg all.values 0) (arg all.values 1) ≡ Some f.property = sym (found_same o lawful claims m.story loaded supports s.memory d.memory (arg all.values 0) object.0 object.1 (arg all.values 1)) ∙ f.found in
+      let unfrozen : (p : ℕ) → IsDataByte f.property p → (frozen_in claims) p ≡ false = subst (λ (r : Option AProperty). IfSome r (λ property. (p : ℕ) → IsDataByte property p → (frozen_in claims) p ≡ false)) was frozen in
+      let place = table_place m.story s.memory f.after f.property (sym (ap (is_data_writable m.story) f.found) ∙ f.writable) f.differs ∙ d.is_state.tables in
+      rw (is, writable) (rewrites SetProperty f.after (true, refl) (filled_described o claims m.story supports.tables supports.few s.memory d.memory d.is_state.objects d.is_state.tables supports.properties f.property f.there unfrozen f.after f.differs place))
+
+  names_expected : (name : ShortName) → (name ≡ Empty) ⊎ ((at : ℕ) × (bytes : List ℕ) × (name ≡ At at) × (output_at s.memory at ≡ Ok bytes)) → Expected (Some PrintObject) (naming name s.memory)
+  unfolding outcome_of
+  names_expected name (inl is) = subst (λ (n : ShortName). Expected (Some PrintObject) (naming n s.memory)) (sym is) (goes_expected PrintObject [] (true, refl))
+  names_expected name (inr (at, bytes, is, printed_is)) =
+      subst (λ (n : ShortName). Expected (Some PrintObject) (naming n s.memory)) (sym is) (subst (λ (r : Result (List ℕ) TextError). Expected (Some PrintObject) (printed r)) (sym printed_is) (goes_expected PrintObject bytes (true, refl)))
 
   by_operation : (k : Operation) → Asked (demands_of o k args) → CallsOf (Some k) → Expected (Some k) (effect_of m k all.values t)
   unfolding Expected demands_of outcome_of effect_of
@@ -547,6 +611,20 @@ module _ {V : Type 0} (o : SetOperations V) (lawful : AreSound o) (claims : Clai
       let object = rule.object.0 (arg all.values 0) (all.members 0) in
       let known = object_known m.story.objects (arg all.values 0) object in
       rw known (rearranges Remove _ (true, refl) (unlinked_described o claims m.story supports.tables supports.few s.memory d.memory d.is_state.objects d.is_state.tables (arg all.values 0) object.0 object.1))
+  by_operation (Property question) rule begins =
+      let object = rule.object.0 (arg all.values 0) (all.members 0) in
+      let known = object_known m.story.objects (arg all.values 0) object in
+      let there = answered o lawful claims m.story loaded supports s.memory d.memory (arg all.values 0) object.0 object.1 question (arg all.values 1) (rule.property (arg all.values 0) (arg all.values 1) object.0 object.1 (all.members 0) (all.members 1)) in
+      rw known (answers_expected question there.0 there.1 object)
+  by_operation PropertyLength rule begins = measures_expected (rule.address (arg all.values 0) (all.members 0))
+  by_operation SetProperty rule begins =
+      let object = rule.object.0 (arg all.values 0) (all.members 0) in
+      let known = object_known m.story.objects (arg all.values 0) object in
+      rw known (fills_expected object (filled o lawful claims m.story loaded supports s.memory d.memory (arg all.values 0) object.0 object.1 (arg all.values 1) (arg all.values 2) (rule.property (arg all.values 0) (arg all.values 1) object.0 object.1 (all.members 0) (all.members 1))) rule.spares)
+  by_operation PrintObject rule begins =
+      let object = rule.object.0 (arg all.values 0) (all.members 0) in
+      let known = object_known m.story.objects (arg all.values 0) object in
+      rw known (names_expected (short_name s.memory (arg all.values 0)) (name_printed o lawful claims m.story loaded supports s.memory d.memory (arg all.values 0) object.0 object.1 (short_name s.memory (arg all.values 0)) refl))
 
   by_played : (k : Option Operation) → IsTrue (is_some k) → Asked (demands_if o k args) → CallsOf k → Expected k (effect_if m k all.values t)
   by_played None played rule begins = absurd cc
@@ -676,7 +754,7 @@ module _ {V : Type 0} (o : SetOperations V) (lawful : AreSound o) (claims : Clai
     acted : IsState m.limit m.story (act m.story i effect t) → Described o claims m.limit m.story (act m.story i effect t)
     unfolding act
     acted state =
-        let follows = (supports.each d.at d.entry d.listed rules.Successor i there (supports.each d.at d.entry d.listed rules.Divisor i there) (supports.each d.at d.entry d.listed rules.Called i there)).1 w comes (supports.each d.at d.entry d.listed rules.High i there w comes) in
+        let follows = successor.1 w comes (supports.each d.at d.entry d.listed rules.High i there w comes) in
         let exists = still_there shape u (length_with o claims w.gives (target i) (with_assigned w.assigns mid).locals ∙ length_assigned w.assigns mid) known_there in
         let goes = by_edge (λ f. GoesOn o claims d.entry.routine (target i) f (d.at + i.size) (leading o w i.branch)) follows in
         let place : u.place +ℤ pos i.size ≡ pos (d.at + i.size) = ap (λ (p : ℤ). p +ℤ pos i.size) ((changed_aside m.story i effect t).place ∙ d.place) in
@@ -689,7 +767,7 @@ module _ {V : Type 0} (o : SetOperations V) (lawful : AreSound o) (claims : Clai
 
   -- the instruction that stands there now
   reads : instruction_at (drop d.at s.memory) ≡ Ok i
-  reads = ap instruction_at (drop_same m.story loaded.sound loaded.counted claims.is_frozen s.memory d.memory.long d.memory.fixed d.at there.static) ∙ there.decodes
+  reads = ap instruction_at (drop_same m.story loaded.sound loaded.counted (frozen_in claims) s.memory d.memory.long d.memory.fixed d.at there.static) ∙ there.decodes
 
   pub fetches : fetch m.scope s.place s.memory ≡ Ok i
   fetches = fetch_is m.scope s.place d.at s.memory i d.place (listed.places d.at d.entry d.listed) reads

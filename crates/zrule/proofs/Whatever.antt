@@ -14,12 +14,12 @@ use Rattle.zflow.specs.declared.flow.Flow.{Flow}
 use Rattle.zflow.specs.Transfer.{Shape, slots_with, outcome_at, after, leading}
 use Rattle.zflow.specs.Flow.{IsEdge, IsFlow}
 use Rattle.zrule.specs.declared.rule.Rule.TheVariants as rules
-use Rattle.zrule.specs.Claims.{Claims}
+use Rattle.zrule.specs.Claims.{Claims, told_of}
 use Rattle.zrule.specs.Rules.{Enters, GoesOn, Returns, Takes, TakesInPlace, TakesBack, comes_back, Whatever, OnEdge, IsLow}
 use Rattle.zrule.specs.Edges.{EdgesKeep}
 use Rattle.zrule.proofs.Sets.{some_at}
 
-module _ {V : Type 0} (o : SetOperations V) (claims : Claims V) (story : LoadedStory) (i : Instruction) (e : Shape V) (flow : Flow V) (is : IsFlow o claims.globals story i e flow) where
+module _ {V : Type 0} (o : SetOperations V) (claims : Claims V) (story : LoadedStory) (i : Instruction) (e : Shape V) (flow : Flow V) (is : IsFlow o claims.globals (told_of claims story) i e flow) where
   -- something that is asked of what is known after an edge, of where it leads, and of what came to it
   module _ (P : Option (Shape V) → Lead V → Outcome V → Type 0) where
     Asked : Option (Edge V) → Type 0
@@ -32,12 +32,12 @@ module _ {V : Type 0} (o : SetOperations V) (claims : Claims V) (story : LoadedS
     unfolding Holds
     same x a l = (λ p. subst (λ (k : Lead V). P (after o claims.globals i e x.outcome) k x.outcome) l (subst (λ (f : Option (Shape V)). P f x.lead x.outcome) a p), λ h. subst (λ (f : Option (Shape V)). P f x.lead x.outcome) (sym a) (subst (λ (k : Lead V). P (after o claims.globals i e x.outcome) k x.outcome) (sym l) h))
 
-    there : (c : Bool) (edge : Option (Edge V)) → IsEdge o claims.globals story i e c edge → Asked edge → (w : Outcome V) → outcome_at o claims.globals i e story c ≡ Some w → Holds w
+    there : (c : Bool) (edge : Option (Edge V)) → IsEdge o claims.globals (told_of claims story) i e c edge → Asked edge → (w : Outcome V) → outcome_at o claims.globals i e (told_of claims story) c ≡ Some w → Holds w
     unfolding Asked
     there c None is asked w comes = absurd (let none = is.outcome ∙ comes in cc)
     there c (Some x) is asked w comes = subst Holds (same_Some x.outcome w (is.outcome ∙ comes)) ((same x is.behind is.lead).0 asked)
 
-    back : (c : Bool) (edge : Option (Edge V)) → IsEdge o claims.globals story i e c edge → ((w : Outcome V) → outcome_at o claims.globals i e story c ≡ Some w → Holds w) → Asked edge
+    back : (c : Bool) (edge : Option (Edge V)) → IsEdge o claims.globals (told_of claims story) i e c edge → ((w : Outcome V) → outcome_at o claims.globals i e (told_of claims story) c ≡ Some w → Holds w) → Asked edge
     unfolding Asked
     back c None is all = tt
     back c (Some x) is all = (same x is.behind is.lead).1 (all x.outcome (sym is.outcome))

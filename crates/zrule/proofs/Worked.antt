@@ -25,9 +25,10 @@ use Rattle.zstate.specs.State.{Frame}
 use Rattle.zcert.specs.declared.parts.Range.{Range}
 use Rattle.zcert.specs.Certificate.{Certificate}
 use Rattle.zrule.specs.declared.rule.Rule.{Rule}
-use Rattle.zrule.specs.declared.rule.Rule.TheVariants.{Decodes, Height, Local, Successor, Divisor, Text, Called, Returned, Known, Stored, High}
+use Rattle.zrule.specs.declared.rule.Rule.TheVariants.{Decodes, Height, Local, Successor, Property, Divisor, Write, Read, Text, Called, Returned, Known, Stored, High}
 use Rattle.zrule.specs.Numbers.{number_of}
-use Rattle.zrule.specs.Claims.{Entry, Claims, is_inside, claims_of}
+use Rattle.zpairs.specs.Frozen.{is_inside}
+use Rattle.zrule.specs.Claims.{Entry, Claims, claims_of, frozen_in}
 use Rattle.zrule.specs.Described.{Fits, FitsWith}
 use Rattle.zrule.specs.Rules.{global_in, IsNamed, Covers, Leads, GoesOn, Asks, Begins, Starts, TakesBack, comes_back, result_at}
 use Rattle.zstate.specs.Step.{words_from}
@@ -35,8 +36,8 @@ use Rattle.zrule.proofs.Instances.{by_answers}
 
 -- ---- numbers of rules
 
-numbers : (number_of Decodes ≡ 1) × (number_of Height ≡ 2) × (number_of Local ≡ 3) × (number_of Successor ≡ 4) × (number_of Divisor ≡ 8) × (number_of Text ≡ 11) × (number_of Called ≡ 12) × (number_of Returned ≡ 13) × (number_of Known ≡ 15) × (number_of Stored ≡ 16) × (number_of High ≡ 17)
-numbers = (refl, refl, refl, refl, refl, refl, refl, refl, refl, refl, refl)
+numbers : (number_of Decodes ≡ 1) × (number_of Height ≡ 2) × (number_of Local ≡ 3) × (number_of Successor ≡ 4) × (number_of Property ≡ 7) × (number_of Divisor ≡ 8) × (number_of Write ≡ 9) × (number_of Read ≡ 10) × (number_of Text ≡ 11) × (number_of Called ≡ 12) × (number_of Returned ≡ 13) × (number_of Known ≡ 15) × (number_of Stored ≡ 16) × (number_of High ≡ 17)
+numbers = (refl, refl, refl, refl, refl, refl, refl, refl, refl, refl, refl, refl, refl, refl)
 
 -- ---- claims
 
@@ -66,7 +67,7 @@ entries : ((claims_of interval_operations certificate).entry 0x305 ≡ Some (rec
 unfolding certificate shape
 entries = (refl, refl, refl)
 
-stays : ((claims_of interval_operations certificate).is_frozen 64 ≡ true) × ((claims_of interval_operations certificate).is_frozen 67 ≡ false) × ((claims_of interval_operations certificate).is_frozen 70 ≡ true)
+stays : ((frozen_in (claims_of interval_operations certificate)) 64 ≡ true) × ((frozen_in (claims_of interval_operations certificate)) 67 ≡ false) × ((frozen_in (claims_of interval_operations certificate)) 70 ≡ true)
 unfolding certificate range
 stays = (refl, refl, refl)
 
@@ -93,7 +94,7 @@ abbrev listed_at_place : ℕ → Option (Entry Interval)
 listed_at_place p = if p == 13 then Some (of_one (from (pos 1) (pos 5) refl)) else (if p == 8 || p == 21 then Some (of_one all_words) else None)
 
 small : Claims Interval
-small = record { is_frozen = λ p. false; globals = from (pos 0) (pos 5) refl ∷ []; entry = listed_at_place; result = λ r. point 0; routine_at = λ p. None }
+small = record { ranges = []; globals = from (pos 0) (pos 5) refl ∷ []; entry = listed_at_place; result = λ r. point 0; routine_at = λ p. None }
 
 -- the instructions stand at 10, and are of three bytes
 abbrev plain : Opcode → List Operand → Instruction
@@ -292,17 +293,17 @@ covered a b p listed within = record { entry = of_one b; listed = listed; same =
 -- of a branch that is never taken only what follows has to be listed, and else where it leads too
 one_edge : asks Successor low_local [] (jz (pos 500))
 unfolding jz low_local operation_of demands_of outcome_of small
-one_edge = λ divides begins. (refl, by_answers small (jz (pos 500)) (before low_local []) _ tt (λ low. (13, refl, covered (from (pos 1) (pos 5) refl) (from (pos 1) (pos 5) refl) 13 refl (λ x inside. inside))))
+one_edge = λ divides reads knows begins. (refl, by_answers small (jz (pos 500)) (before low_local []) _ tt (λ low. (13, refl, covered (from (pos 1) (pos 5) refl) (from (pos 1) (pos 5) refl) 13 refl (λ x inside. inside))))
 
 both_edges : asks Successor any_local [] (jz (pos 500)) → ⊥
 unfolding jz any_local operation_of demands_of outcome_of small
-both_edges s = unlisted _ 13 (pos 498) 511 refl refl ((s tt (by_answers small (jz (pos 500)) (before any_local []) _ tt tt)).1 _ (true, refl) (omega arith))
+both_edges s = unlisted _ 13 (pos 498) 511 refl refl ((s tt tt tt (by_answers small (jz (pos 500)) (before any_local []) _ tt tt)).1 _ (true, refl) (omega arith))
 
 -- what is listed for one routine isn't for another
 elsewhere : of_routine 2 Successor low_local [] (jz (pos 500)) → ⊥
 unfolding jz low_local operation_of demands_of outcome_of small
 elsewhere s =
-    let leads = leads_there 2 _ 13 (pos 0) 13 refl ((s tt (by_answers small (jz (pos 500)) (before low_local []) _ tt tt)).1 _ (false, refl) (omega arith)) in
+    let leads = leads_there 2 _ 13 (pos 0) 13 refl ((s tt tt tt (by_answers small (jz (pos 500)) (before low_local []) _ tt tt)).1 _ (false, refl) (omega arith)) in
     let is : leads.entry ≡ of_one (from (pos 1) (pos 5) refl) = same_Some leads.entry (of_one (from (pos 1) (pos 5) refl)) (sym leads.listed) in
     omega (arith, ap (λ (e : Entry Interval). e.routine) is, leads.same)
 
@@ -312,18 +313,18 @@ longer i = record i { size = 5 }
 
 not_taken : asks Successor any_local [] (longer (jz (pos 8))) → ⊥
 unfolding jz any_local operation_of demands_of outcome_of small
-not_taken s = unlisted _ 15 (pos 0) 15 refl refl ((s tt (by_answers small (longer (jz (pos 8))) (before any_local []) _ tt tt)).1 _ (false, refl) (omega arith))
+not_taken s = unlisted _ 15 (pos 0) 15 refl refl ((s tt tt tt (by_answers small (longer (jz (pos 8))) (before any_local []) _ tt tt)).1 _ (false, refl) (omega arith))
 
 -- with all that the branch leaves of a local: [0, 5] without 0, and not [0, 6]
 narrowed : asks Successor (from (pos 0) (pos 5) refl ∷ []) [] (jz (pos 10))
 unfolding jz operation_of demands_of outcome_of small
-narrowed = λ divides begins. (refl, by_answers small (jz (pos 10)) (before (from (pos 0) (pos 5) refl ∷ []) []) _ (λ low. (21, refl, covered (point 0) all_words 21 refl (λ x inside. interval_sound.any x inside.word))) (λ low. (13, refl, covered (from (pos 1) (pos 5) refl) (from (pos 1) (pos 5) refl) 13 refl (λ x inside. inside))))
+narrowed = λ divides reads knows begins. (refl, by_answers small (jz (pos 10)) (before (from (pos 0) (pos 5) refl ∷ []) []) _ (λ low. (21, refl, covered (point 0) all_words 21 refl (λ x inside. interval_sound.any x inside.word))) (λ low. (13, refl, covered (from (pos 1) (pos 5) refl) (from (pos 1) (pos 5) refl) 13 refl (λ x inside. inside))))
 
 not_narrowed : asks Successor (from (pos 0) (pos 6) refl ∷ []) [] (jz (pos 10)) → ⊥
 unfolding jz operation_of demands_of outcome_of small
 not_narrowed s =
     uncovered (from (pos 1) (pos 6) refl) (from (pos 1) (pos 5) refl) 13 (pos 0) 13 6 refl refl (record { word = omega arith; member = (record { le = tt }, record { le = tt }) }) (λ inside. inside.member.1.le)
-    ((s tt (by_answers small (jz (pos 10)) (before (from (pos 0) (pos 6) refl ∷ []) []) _ tt tt)).1 _ (false, refl) (omega arith))
+    ((s tt tt tt (by_answers small (jz (pos 10)) (before (from (pos 0) (pos 6) refl ∷ []) []) _ tt tt)).1 _ (false, refl) (omega arith))
 
 -- a jump goes one known way: back to 8, but not before the first byte, and of two values nowhere
 jump : Operand → Instruction
@@ -331,19 +332,19 @@ jump operand = plain opcodes.Jump (operand ∷ [])
 
 goes_back : asks Successor any_local [] (jump (Constant 0xFFFD))
 unfolding jump any_local operation_of demands_of outcome_of small
-goes_back = λ divides begins. (refl, by_answers small (jump (Constant 0xFFFD)) (before any_local []) _ (λ low. (8, refl, covered all_words all_words 8 refl (λ x inside. inside))) tt)
+goes_back = λ divides reads knows begins. (refl, by_answers small (jump (Constant 0xFFFD)) (before any_local []) _ (λ low. (8, refl, covered all_words all_words 8 refl (λ x inside. inside))) tt)
 
 goes_nowhere : (asks Successor any_local [] (jump (Constant 0xFFF3)) → ⊥) × (asks Successor (from (pos 1) (pos 2) refl ∷ []) [] (jump (Variable 1)) → ⊥)
 unfolding jump any_local operation_of demands_of outcome_of small
-goes_nowhere = (λ s. let place = ((s tt (by_answers small (jump (Constant 0xFFF3)) (before any_local []) _ tt tt)).1 _ (true, refl) (omega arith)).1 in cc, λ s. let certain = (s tt (by_answers small (jump (Variable 1)) (before (from (pos 1) (pos 2) refl ∷ []) []) _ tt tt)).0 in cc)
+goes_nowhere = (λ s. let place = ((s tt tt tt (by_answers small (jump (Constant 0xFFF3)) (before any_local []) _ tt tt)).1 _ (true, refl) (omega arith)).1 in cc, λ s. let certain = (s tt tt tt (by_answers small (jump (Variable 1)) (before (from (pos 1) (pos 2) refl ∷ []) []) _ tt tt)).0 in cc)
 
 -- nothing has to follow `quit`, what may divide by 0, or what makes the stack too high: other rules refuse the last two
 nothing_follows : asks Successor [] [] (longer (plain opcodes.Quit [])) × asks Successor (from (pos 0) (pos 5) refl ∷ []) [] (longer divide) × asks Successor [] (replicate 64 (point 7)) (longer push)
 unfolding divide push operation_of demands_of outcome_of small
 nothing_follows = (
-  λ divides begins. (refl, by_answers small (longer (plain opcodes.Quit [])) (before [] []) _ tt tt),
-  λ divides begins. absurd (divides (record { word = omega arith; member = (record { le = tt }, record { le = tt }) })),
-  λ divides begins. (refl, by_answers small (longer push) (before [] (replicate 64 (point 7))) _ (λ low. absurd (omega (arith, low))) tt),
+  λ divides reads knows begins. (refl, by_answers small (longer (plain opcodes.Quit [])) (before [] []) _ tt tt),
+  λ divides reads knows begins. absurd (divides (record { word = omega arith; member = (record { le = tt }, record { le = tt }) })),
+  λ divides reads knows begins. (refl, by_answers small (longer push) (before [] (replicate 64 (point 7))) _ (λ low. absurd (omega (arith, low))) tt),
 )
 
 -- ---- values that are stored
@@ -380,7 +381,7 @@ abbrev begun : Entry Interval
 begun = record { routine = 1; shape = before (from (pos 0) (pos 7) refl ∷ point 9 ∷ []) [] }
 
 routines : Claims Interval
-routines = record { is_frozen = λ p. false; globals = from (pos 0) (pos 4) refl ∷ []; entry = λ p. if p == 9 then Some begun else None; result = λ r. point 5; routine_at = λ p. if p == 4 then Some 0 else None }
+routines = record { ranges = []; globals = from (pos 0) (pos 4) refl ∷ []; entry = λ p. if p == 9 then Some begun else None; result = λ r. point 5; routine_at = λ p. if p == 4 then Some 0 else None }
 
 seven : In interval_operations (from (pos 0) (pos 7) refl) 7
 seven = record { word = omega arith; member = (record { le = tt }, record { le = tt }) }

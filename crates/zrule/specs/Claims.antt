@@ -1,12 +1,13 @@
 -- What a certificate says of a story, as the rules see it: over a type V of sets of words (own).
 use Rattle.std.specs.Prelude.{ℕ, zero, suc, ◌&&◌, Bool, List, reverse, Option, Some, None, option_map, nat_le, slice_get}
-use Rattle.std.specs.List.{list_any}
 use Rattle.zdomain.specs.Domain.{SetOperations}
-use Rattle.zcert.specs.declared.parts.Range.{Range}
 use Rattle.zcert.specs.declared.parts.Routine.{Routine}
 use Rattle.zcert.specs.Certificate.{Instruction as Listed, Certificate}
 use Rattle.zcert.specs.Listed.{listed_at, routine_at}
 use Rattle.zflow.specs.Transfer.{Shape}
+use Rattle.zcert.specs.declared.parts.Range.{Range}
+use Rattle.zstory.specs.LoadedStory.{LoadedStory}
+use Rattle.zpairs.specs.Frozen.{FrozenStory, frozen_by}
 
 -- what is said of a listed place: its routine, numbered from 1, with 0 for the main code, and the newest frame before it
 pub record Entry (V : Type 0) : Type 0 where
@@ -14,8 +15,8 @@ pub record Entry (V : Type 0) : Type 0 where
   pub shape : Shape V
 
 pub record Claims (V : Type 0) : Type 0 where
-  -- the places that stay as they are, beside those that nothing could change
-  pub is_frozen : ℕ → Bool
+  -- the ranges of places that stay as they are, beside those that nothing could change
+  pub ranges : List Range
   -- the values that each global may have, from variable 16 on
   pub globals : List V
   -- what is said of a place, where it is listed
@@ -25,11 +26,15 @@ pub record Claims (V : Type 0) : Type 0 where
   -- the index of the routine that begins at a place, if one does; its number is one more
   pub routine_at : ℕ → Option ℕ
 
--- ---- the claims of a certificate
+-- a place that is said to stay as it is
+abbrev pub frozen_in : {V : Type 0} → Claims V → ℕ → Bool
+frozen_in claims = frozen_by claims.ranges
 
--- the place lies in the range, both ends included
-abbrev pub is_inside : ℕ → Range → Bool
-is_inside p range = nat_le range.first p && nat_le p range.last
+-- a story, with those places
+abbrev pub told_of : {V : Type 0} → Claims V → LoadedStory → FrozenStory
+told_of claims story = record { story = story; ranges = claims.ranges }
+
+-- ---- the claims of a certificate
 
 -- what is said of a listed instruction; a certificate has the bottom slot first
 abbrev pub entry_of : {V : Type 0} → Listed V → Entry V
@@ -46,7 +51,7 @@ result_of unknown routines (suc r) = result_or unknown (slice_get routines r)
 
 abbrev pub claims_of : {V : Type 0} → SetOperations V → Certificate V → Claims V
 claims_of o c = record {
-  is_frozen = λ p. list_any (is_inside p) c.ranges;
+  ranges = c.ranges;
   globals = c.globals;
   entry = λ p. option_map entry_of (listed_at c.instructions p);
   result = result_of o.any c.routines;

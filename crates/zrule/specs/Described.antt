@@ -17,7 +17,7 @@ use Rattle.zstory.specs.LoadedStory.{IsSound}
 use Rattle.zstory.specs.Objects.{IsObjectCount}
 use Rattle.zobj.specs.Tree.{IsTree}
 use Rattle.zflow.specs.Transfer.{Shape}
-use Rattle.zrule.specs.Claims.{Entry, Claims}
+use Rattle.zrule.specs.Claims.{Entry, Claims, frozen_in}
 use Rattle.zplace.specs.Bytes.{IsFixed}
 use Rattle.zrule.specs.Rules.{HasGlobals, Supports}
 
@@ -46,7 +46,7 @@ module _ {V : Type 0} (o : SetOperations V) (claims : Claims V) where
     pub long : length memory ≡ length story.memory
     pub values : HasGlobals o claims story memory
     pub tree : IsTree memory story.objects
-    pub fixed : (p : ℕ) → IsFixed story claims.is_frozen p → byte_at memory p ≡ byte_at story.memory p
+    pub fixed : (p : ℕ) → IsFixed story (frozen_in claims) p → byte_at memory p ≡ byte_at story.memory p
 
   -- a state with at most so many frames above the first
   pub record Described (limit : ℕ) (story : LoadedStory) (s : State) : Type 0 where

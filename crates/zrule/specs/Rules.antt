@@ -1,10 +1,12 @@
 -- What a certificate must say of a story: sentences over its claims (own). A rule has the number that a refusal shows.
-use Rattle.std.specs.Prelude.{◌≡◌, ℕ, suc, ◌∷◌, ◌%◌, ◌+◌, ◌-◌, ◌*◌, ◌<◌, ◌≤◌, Bool, true, List, [], length, drop, take, Option, Some, None, IfSome, MatchOption, IsTrue, is_some, Ok, slice_get, ◌==◌, nat_lt, pos, ◌+ℤ◌}
+use Rattle.std.specs.Prelude.{◌≡◌, ℕ, suc, ◌∷◌, ◌%◌, ◌+◌, ◌-◌, ◌*◌, ◌<◌, ◌≤◌, Bool, true, false, List, [], length, drop, take, Option, Some, None, IfSome, MatchOption, IsTrue, is_some, Ok, slice_get, ◌==◌, nat_lt, pos, ◌+ℤ◌}
 use Rattle.std.specs.Bool.{OnTrue, MatchBool}
 use Rattle.std.specs.List.{AllZip, AllByRecursion}
 use Rattle.zstory.specs.Bytes.{word_at}
 use Rattle.zstory.specs.LoadedStory.{LoadedStory, first_instruction, globals, object_table, static_base}
+use Rattle.zobj.specs.declared.answers.PropertyQuestion.TheVariants.{Value, Address, Next}
 use Rattle.zobj.specs.Tree.{IsTree}
+use Rattle.zobj.specs.Values.{length_before}
 use Rattle.ztext.specs.Words.{text_at}
 use Rattle.ztext.specs.Abbreviations.{IsPlainAbbreviation}
 use Rattle.zcode.specs.declared.instr.Operand.{Operand}
@@ -18,10 +20,14 @@ use Rattle.zstate.specs.Step.{initial, behind_head, unpacked}
 use Rattle.zrule.specs.declared.rule.Rule.{Rule}
 use Rattle.zrule.specs.declared.rule.Rule.TheVariants as rules
 use Rattle.zrule.specs.Numbers.{number_of}
-use Rattle.zrule.specs.Claims.{Entry, Claims}
+use Rattle.zrule.specs.Claims.{Entry, Claims, frozen_in, told_of}
 use Rattle.zplace.specs.Bytes.{IsWithin, IsChanging, IsFixed, IsAbbreviation}
+use Rattle.zplace.specs.Tables.{HasPropertyTables}
+use Rattle.zpairs.specs.Pairs.{AreAnswered, AreUnfrozen, CanBePut}
 use Rattle.zflow.specs.declared.parts.Lead.{Lead}
 use Rattle.zflow.specs.declared.parts.Lead.TheVariants.{Ahead, Returning, Entering}
+use Rattle.zflow.specs.declared.parts.Asked.{Asked}
+use Rattle.zflow.specs.declared.parts.Asked.TheVariants.{Answered, Filled}
 use Rattle.zflow.specs.declared.parts.Demands.{Demands}
 use Rattle.zflow.specs.declared.parts.Outcome.{Outcome}
 use Rattle.zflow.specs.Transfer.{Shape, pops, leading, slots_with, with_result, demands_at as asked_for, outcome_at, argument_sets, mid_shape, after}
@@ -61,6 +67,23 @@ pub record HasFixedText (story : LoadedStory) (is_frozen : ℕ → Bool) (at : �
 abbrev pub AreObjects : {V : Type 0} → SetOperations V → LoadedStory → V → Type 0
 AreObjects o story a = (x : ℕ) → In o a x → (1 ≤ x) × (x ≤ story.objects)
 
+-- what is asked of the property of an object and a number: a question has an answer, or it can be given a word
+abbrev pub Finds : {V : Type 0} → SetOperations V → LoadedStory → Asked → V → V → Type 0
+Finds o story (Answered question) objects numbers = AreAnswered o story question objects numbers
+Finds o story Filled objects numbers = CanBePut o story objects numbers
+
+-- a word that one is given leaves what is frozen as it is
+abbrev pub Spares : {V : Type 0} → SetOperations V → LoadedStory → (ℕ → Bool) → Asked → V → V → Type 0
+Spares o story is_frozen (Answered question) objects numbers = Unit {0}
+Spares o story is_frozen Filled objects numbers = AreUnfrozen o story is_frozen objects numbers
+
+-- get_prop and get_prop_addr give what is found of a property
+abbrev pub gives_by_property : Asked → Bool
+gives_by_property (Answered Value) = true
+gives_by_property (Answered Address) = true
+gives_by_property (Answered Next) = false
+gives_by_property Filled = false
+
 -- one shape says all that the other says
 pub record Covers {V : Type 0} (o : SetOperations V) (from to : Shape V) : Type 0 where
   pub locals : AllZip (Within o) from.locals to.locals
@@ -93,7 +116,7 @@ module _ {V : Type 0} (o : SetOperations V) (claims : Claims V) where
 
   -- one of the things that may come of it
   abbrev pub Comes : LoadedStory → Instruction → Shape V → Outcome V → Type 0
-  Comes story i e w = (c : Bool) × (outcome_at o claims.globals i e story c ≡ Some w)
+  Comes story i e w = (c : Bool) × (outcome_at o claims.globals i e (told_of claims story) c ≡ Some w)
 
   -- a variable exists
   abbrev pub IsVariable : Shape V → ℕ → Type 0
@@ -222,6 +245,22 @@ module _ {V : Type 0} (o : SetOperations V) (claims : Claims V) where
   abbrev pub NamesAttribute : Instruction → Shape V → Type 0
   NamesAttribute i e = IfSome (demands_at i e).attribute (λ a. (x : ℕ) → In o a x → x < 32)
 
+  -- of whatever object and number come together
+  abbrev pub FindsProperty : LoadedStory → Instruction → Shape V → Type 0
+  FindsProperty story i e = IfSome (demands_at i e).property (λ p. Finds o story p.asked p.objects p.numbers)
+
+  -- what is frozen stays as it is
+  abbrev pub SparesFrozen : LoadedStory → Instruction → Shape V → Type 0
+  SparesFrozen story i e = IfSome (demands_at i e).property (λ p. Spares o story (frozen_in claims) p.asked p.objects p.numbers)
+
+  -- the size byte before each address of property data can be read
+  abbrev pub ReadsLength : LoadedStory → Instruction → Shape V → Type 0
+  ReadsLength story i e = IfSome (demands_at i e).address (λ a. (x : ℕ) → In o a x → IsTrue (is_some (length_before story.memory x)))
+
+  -- what get_prop and get_prop_addr give is known only where there are objects, and answers
+  abbrev pub KnowsAnswers : LoadedStory → Instruction → Shape V → Type 0
+  KnowsAnswers story i e = IfSome (demands_at i e).property (λ p. OnTrue (gives_by_property p.asked) (NamesObject story i e × FindsProperty story i e))
+
   -- ---- the rules on a listed place
 
   -- what a rule asks of an instruction that is there
@@ -232,15 +271,21 @@ module _ {V : Type 0} (o : SetOperations V) (claims : Claims V) where
   -- I3: every variable that is named exists
   Asks story p e i rules.Local = IsKnown i e.shape → AllByRecursion (IsNamed e.shape) (inputs i) × IsVariable e.shape (target i) × IfSome (demands_at i e.shape).variable (IsVariable e.shape)
   -- I4: each edge that can be taken leads on, and it is known how far a jump goes
-  Asks story p e i rules.Successor = Divides i e.shape → CallsBegin story i e.shape → IsTrue (demands_at i e.shape).certain × Whatever story i e.shape (λ w. IsLow i e.shape w → OnEdge w i e.shape (λ f. GoesOn e.routine (target i) f (p + i.size) (leading o w i.branch)))
+  Asks story p e i rules.Successor = Divides i e.shape → ReadsLength story i e.shape → KnowsAnswers story i e.shape → CallsBegin story i e.shape → IsTrue (demands_at i e.shape).certain × Whatever story i e.shape (λ w. IsLow i e.shape w → OnEdge w i e.shape (λ f. GoesOn e.routine (target i) f (p + i.size) (leading o w i.branch)))
   -- I5: each object is one
   Asks story p e i rules.Object = NamesObject story i e.shape
   -- I6: each attribute is one
   Asks story p e i rules.Attribute = NamesAttribute i e.shape
+  -- I7: each property that is asked for has an answer, and each that is given a word can be
+  Asks story p e i rules.Property = FindsProperty story i e.shape
   -- I8: nothing is divided by 0
   Asks story p e i rules.Divisor = Divides i e.shape
-  -- I11: the text behind the opcode byte stays as it is
-  Asks story p e i rules.Text = OnTrue (demands_at i e.shape).has_text (HasFixedText story claims.is_frozen (p + 1))
+  -- I9: no property that is given a word has a frozen byte; that all others may be written is S5
+  Asks story p e i rules.Write = SparesFrozen story i e.shape
+  -- I10: the size byte before an address of property data can be read
+  Asks story p e i rules.Read = ReadsLength story i e.shape
+  -- I11: the text behind the opcode byte stays as it is; that short names do is S5
+  Asks story p e i rules.Text = OnTrue (demands_at i e.shape).has_text (HasFixedText story (frozen_in claims) (p + 1))
   -- I12: what is called begins as is said
   Asks story p e i rules.Called = CallsBegin story i e.shape
   -- I13: what is returned lies in the set of the routine
@@ -271,7 +316,8 @@ module _ {V : Type 0} (o : SetOperations V) (claims : Claims V) where
     pub low : (p : ℕ) (e : Entry V) → claims.entry p ≡ Some e → length e.shape.slots ≤ 64
     -- nor are there more globals than variables for them
     pub few : length claims.globals ≤ 240
+    pub properties : HasPropertyTables story
     pub tree : IsTree story.memory story.objects
     pub abbreviations : HasAbbreviations story
-    pub tables : HasDisjointTables story claims.is_frozen
+    pub tables : HasDisjointTables story (frozen_in claims)
     pub each : (p : ℕ) (e : Entry V) → claims.entry p ≡ Some e → (rule : Rule) → Keeps story p e rule

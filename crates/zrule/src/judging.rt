@@ -1,6 +1,6 @@
 //! Which rule an instruction breaks.
 
-ghost use Rattle.std.specs.Prelude.{◌≡◌, ◌↔◌, ◌+◌, ◌≤◌, ℕ, Bool, IsTrue, IfSome, IfNone, IfOk, IfErr, MatchOption, Some, length};
+ghost use Rattle.std.specs.Prelude.{◌≡◌, ◌↔◌, ◌+◌, ◌≤◌, ℕ, Bool, false, IsTrue, IfSome, IfNone, IfOk, IfErr, MatchOption, Some, length};
 ghost use Rattle.std.specs.Bool.{OnTrue};
 ghost use Rattle.zcert.specs.Listed.{seen};
 ghost use Rattle.zcode.specs.Instruction.{Instruction as AnInstruction};
@@ -13,30 +13,35 @@ ghost use Rattle.zflow.specs.Transfer.{argument_sets};
 ghost use Rattle.zrule.specs.declared.rule.Rule.{Rule as ARule};
 ghost use Rattle.zrule.specs.declared.rule.Rule.TheVariants.{Successor};
 ghost use Rattle.zrule.specs.Blocks.{AreBlocks};
-ghost use Rattle.zrule.specs.Claims.{claims_of, entry_of, Entry};
-ghost use Rattle.zrule.specs.Rules.{Asks, IsThere, HasFixedText, Keeps, IsLowestBroken};
+ghost use Rattle.zrule.specs.Claims.{claims_of, entry_of, Entry, frozen_in, told_of};
+ghost use Rattle.zrule.specs.Rules.{Asks, Divides, KnowsAnswers, ReadsLength, IsThere, HasFixedText, Keeps, IsLowestBroken};
 
 use crate::blocks::Blocks;
 use crate::edges::{enters, goes_on, is_low, returns, stores};
 use crate::objects::{names_attribute, names_object};
 use crate::operands::{has_height, has_locals, is_known};
+use crate::properties::{finds_property, knows_answers, reads_length, spares_frozen};
 use crate::rule::Rule;
 use crate::site::Site;
 use zcert::{Certificate, Instruction, Spelled};
 use zcode::{Instr, decode_by, text_ends_instruction};
 use zdomain::Domain;
 use zflow::{Demands, Edge, Flow, flow_of};
+use zpairs::Properties;
 use zstory::Story;
 use ztext::TextEnds;
 
 /// The rules that are asked of an instruction that is there, by their numbers.
-const RULES: [Rule; 12] = [
+const RULES: [Rule; 15] = [
     Rule::Height,
     Rule::Local,
     Rule::Successor,
     Rule::Object,
     Rule::Attribute,
+    Rule::Property,
     Rule::Divisor,
+    Rule::Write,
+    Rule::Read,
     Rule::Text,
     Rule::Called,
     Rule::Returned,
@@ -122,16 +127,36 @@ fn texts_are_fixed(story: &Story)
     text_ends_instruction();
 }
 
-/// Whether each edge of an instruction that is there leads on, as far as that is asked: not where something may be divided by 0, or what
-/// it calls doesn't begin as is said.
+/// Whether what an instruction gives is known: nothing is divided by 0, a length is read where there is one, and properties answer.
+fn gives_known<V: Spelled>(site: Site<'_, V>, flow: &Flow<'_, V>) -> bool
+    requires properties { site.properties.now ≡ record { story = site.story.now; ranges = site.certificate.now.ranges } }
+    requires flow { IsFlow V.operations site.certificate.now.globals (told_of (claims_of V.operations site.certificate.now) site.story.now) site.instruction.now (entry_of (seen site.listed.now)).shape flow.now }
+    ensures divides { IsTrue result → Divides V.operations (claims_of V.operations site.entry.certificate.now) site.entry.instruction.now (entry_of (seen site.entry.listed.now)).shape }
+    ensures reads { IsTrue result → ReadsLength V.operations (claims_of V.operations site.entry.certificate.now) site.entry.story.now site.entry.instruction.now (entry_of (seen site.entry.listed.now)).shape }
+    ensures knows { IsTrue result → KnowsAnswers V.operations (claims_of V.operations site.entry.certificate.now) site.entry.story.now site.entry.instruction.now (entry_of (seen site.entry.listed.now)).shape }
+    ensures none { result ≡ false → Divides V.operations (claims_of V.operations site.entry.certificate.now) site.entry.instruction.now (entry_of (seen site.entry.listed.now)).shape → ReadsLength V.operations (claims_of V.operations site.entry.certificate.now) site.entry.story.now site.entry.instruction.now (entry_of (seen site.entry.listed.now)).shape → KnowsAnswers V.operations (claims_of V.operations site.entry.certificate.now) site.entry.story.now site.entry.instruction.now (entry_of (seen site.entry.listed.now)).shape → ⊥ }
+{
+    let demands = &flow.demands;
+    if !divides(demands) {
+        return false;
+    }
+    if !reads_length(site.story, demands) {
+        return false;
+    }
+    knows_answers(site.properties, demands)
+}
+
+/// Whether each edge of an instruction that is there leads on, as far as that is asked: not where it isn't known what the instruction
+/// gives, or what it calls doesn't begin as is said.
 fn has_successors<V: Spelled>(site: Site<'_, V>, flow: &Flow<'_, V>) -> bool
     requires there { IsThere site.story.now site.listed.now.address site.instruction.now }
     requires near { site.listed.now.address + site.instruction.now.size ≤ 131072 }
-    requires flow { IsFlow V.operations site.certificate.now.globals site.story.now site.instruction.now (entry_of (seen site.listed.now)).shape flow.now }
+    requires properties { site.properties.now ≡ record { story = site.story.now; ranges = site.certificate.now.ranges } }
+    requires flow { IsFlow V.operations site.certificate.now.globals (told_of (claims_of V.operations site.certificate.now) site.story.now) site.instruction.now (entry_of (seen site.listed.now)).shape flow.now }
     requires told { IfSome site.blocks (λ b. AreBlocks V.operations (claims_of V.operations site.certificate.now) site.story.now b.now) }
     ensures { IsTrue result ↔ Asks V.operations (claims_of V.operations site.entry.certificate.now) site.entry.story.now site.entry.listed.now.address (entry_of (seen site.entry.listed.now)) site.entry.instruction.now Successor }
 {
-    if !divides(&flow.demands) {
+    if !gives_known(site, flow) {
         return true;
     }
     if !edges_keep(site, flow, Rule::Called) {
@@ -144,7 +169,8 @@ fn has_successors<V: Spelled>(site: Site<'_, V>, flow: &Flow<'_, V>) -> bool
 fn asks<V: Spelled>(site: Site<'_, V>, flow: &Flow<'_, V>, rule: Rule) -> bool
     requires there { IsThere site.story.now site.listed.now.address site.instruction.now }
     requires near { site.listed.now.address + site.instruction.now.size ≤ 131072 }
-    requires flow { IsFlow V.operations site.certificate.now.globals site.story.now site.instruction.now (entry_of (seen site.listed.now)).shape flow.now }
+    requires properties { site.properties.now ≡ record { story = site.story.now; ranges = site.certificate.now.ranges } }
+    requires flow { IsFlow V.operations site.certificate.now.globals (told_of (claims_of V.operations site.certificate.now) site.story.now) site.instruction.now (entry_of (seen site.listed.now)).shape flow.now }
     requires told { IfSome site.blocks (λ b. AreBlocks V.operations (claims_of V.operations site.certificate.now) site.story.now b.now) }
     ensures { IsTrue result ↔ Asks V.operations (claims_of V.operations site.entry.certificate.now) site.entry.story.now site.entry.listed.now.address (entry_of (seen site.entry.listed.now)) site.entry.instruction.now rule }
 {
@@ -153,6 +179,7 @@ fn asks<V: Spelled>(site: Site<'_, V>, flow: &Flow<'_, V>, rule: Rule) -> bool
         certificate,
         listed,
         instruction,
+        properties: _,
         near: _,
         blocks: _,
     } = site;
@@ -170,7 +197,10 @@ fn asks<V: Spelled>(site: Site<'_, V>, flow: &Flow<'_, V>, rule: Rule) -> bool
         Rule::Successor => has_successors(site, flow),
         Rule::Object => names_object(story, demands),
         Rule::Attribute => names_attribute(demands),
+        Rule::Property => finds_property(site.properties, demands),
         Rule::Divisor => divides(demands),
+        Rule::Write => spares_frozen(site.properties, demands),
+        Rule::Read => reads_length(story, demands),
         Rule::Text => {
             texts_are_fixed(story);
             true
@@ -187,7 +217,8 @@ fn asks<V: Spelled>(site: Site<'_, V>, flow: &Flow<'_, V>, rule: Rule) -> bool
 fn keeps<V: Spelled>(site: Site<'_, V>, flow: &Flow<'_, V>, rule: Rule) -> bool
     requires there { IsThere site.story.now site.listed.now.address site.instruction.now }
     requires near { site.listed.now.address + site.instruction.now.size ≤ 131072 }
-    requires flow { IsFlow V.operations site.certificate.now.globals site.story.now site.instruction.now (entry_of (seen site.listed.now)).shape flow.now }
+    requires properties { site.properties.now ≡ record { story = site.story.now; ranges = site.certificate.now.ranges } }
+    requires flow { IsFlow V.operations site.certificate.now.globals (told_of (claims_of V.operations site.certificate.now) site.story.now) site.instruction.now (entry_of (seen site.listed.now)).shape flow.now }
     requires told { IfSome site.blocks (λ b. AreBlocks V.operations (claims_of V.operations site.certificate.now) site.story.now b.now) }
     ensures { IsTrue result ↔ Keeps V.operations (claims_of V.operations site.entry.certificate.now) site.entry.story.now site.entry.listed.now.address (entry_of (seen site.entry.listed.now)) rule }
 {
@@ -203,9 +234,11 @@ fn broken_rule<V: Spelled>(
 ) -> Option<Rule>
     ensures { MatchOption result ((rule : ARule) → Keeps V.operations (claims_of V.operations certificate.now) story.now listed.now.address (entry_of (seen listed.now)) rule) (IsLowestBroken V.operations (claims_of V.operations certificate.now) story.now listed.now.address (entry_of (seen listed.now))) }
 {
+    let properties = Properties::new(story, certificate.ranges());
     let mut ends = TextEnds::new(story.memory());
     match judge(
         story,
+        &properties,
         certificate,
         listed,
         certificate.instruction_count(),
@@ -220,9 +253,11 @@ fn broken_rule<V: Spelled>(
 /// A listed instruction as the story spells it, where it keeps all rules, and else the lowest rule that it breaks (own).
 /// `ends` are those of the texts of the story's memory. The instruction behind it is looked for at the index `near` first, and
 /// searched for where another is listed there. `blocks` is what is known of the certificate's routines for the story: with it a call
-/// asks once for all routines of a block, and else for each that it may enter. The answer is the same.
+/// asks once for all routines of a block, and else for each that it may enter. The answer is the same. `properties` are those of the
+/// story, with the ranges of the certificate.
 pub fn judge<'c, V: Spelled>(
-    story: &Story,
+    story: &'c Story,
+    properties: &'c Properties<'c>,
     certificate: &'c Certificate<V>,
     listed: &Instruction<'_, V>,
     near: usize,
@@ -230,6 +265,7 @@ pub fn judge<'c, V: Spelled>(
     blocks: Option<&'c Blocks<V>>,
 ) -> Result<Instr, Rule>
     requires ends { ends.old ≡ story.now.memory }
+    requires properties { properties.now ≡ record { story = story.now; ranges = certificate.now.ranges } }
     requires blocks { IfSome blocks (λ b. AreBlocks V.operations (claims_of V.operations certificate.now) story.now b.now) }
     ensures memory { ends.new ≡ ends.old }
     ensures there { IfOk result (λ i. IsThere story.now listed.now.address i) }
@@ -240,7 +276,7 @@ pub fn judge<'c, V: Spelled>(
         return Err(Rule::Decodes);
     };
     let flow = flow_of(
-        story,
+        properties,
         certificate.globals(),
         listed.locals,
         listed.slots,
@@ -248,6 +284,7 @@ pub fn judge<'c, V: Spelled>(
     );
     let site = Site {
         story,
+        properties,
         certificate,
         listed,
         instruction: &instruction,

@@ -10,6 +10,7 @@ mod judging;
 mod laws;
 mod objects;
 mod operands;
+mod properties;
 mod rule;
 mod site;
 

@@ -16,8 +16,14 @@ pub enum Rule {
     Object,
     /// I6: each number that it takes for an attribute's is 0 to 31.
     Attribute,
+    /// I7: each object has each property that is asked for, where it has to, and none is longer than what is read or written as a word.
+    Property,
     /// I8: no value by which it divides is 0.
     Divisor,
+    /// I9: no byte that it writes is frozen.
+    Write,
+    /// I10: the size byte before each address of property data that it takes can be read.
+    Read,
     /// I11: a text that it prints ends in memory, and no play changes a byte of it.
     Text,
     /// I12: each word that it may call is 0 or the packed address of a listed routine, whose first instruction is listed in it
@@ -48,7 +54,10 @@ impl Rule {
             Rule::Successor => 4,
             Rule::Object => 5,
             Rule::Attribute => 6,
+            Rule::Property => 7,
             Rule::Divisor => 8,
+            Rule::Write => 9,
+            Rule::Read => 10,
             Rule::Text => 11,
             Rule::Called => 12,
             Rule::Returned => 13,

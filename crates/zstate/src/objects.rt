@@ -1,13 +1,16 @@
 //! What a state's memory keeps of objects, changed.
 
 ghost use Rattle.std.specs.Prelude.{◌≡◌, ◌≤◌, ◌<◌, IfSome, true, false};
+ghost use Rattle.std.specs.Result.{IsOkAnd};
 ghost use Rattle.zobj.specs.Attributes.{with_attribute};
 ghost use Rattle.zobj.specs.Entries.{HasEntry, HasTable};
 ghost use Rattle.zobj.specs.Moves.{IsLead, alone, first_under, led_past};
+ghost use Rattle.zobj.specs.Properties.{IsReadable};
+ghost use Rattle.zobj.specs.Values.{with_value};
 ghost use Rattle.zstate.specs.State.{with_memory};
 
 use crate::state::State;
-use zobj::Lead;
+use zobj::{Lead, Property};
 
 impl State {
     /// Gives an object an attribute, 0 to 31 (Z 15 set_attr).
@@ -51,5 +54,18 @@ impl State {
         ensures { self.new ≡ with_memory (first_under object under self.old.memory) self.old }
     {
         zobj::put_first(self.memory.as_mut_slice(), object, under);
+    }
+
+    /// Gives a property of one or two bytes of data a word, or the low byte of it (Z 15 put_prop).
+    #[inline(always)]
+    pub fn put_property(&mut self, property: Property, word: u16)
+        requires readable { IsReadable self.old.memory property }
+        requires few { property.length ≤ 2 }
+        ensures { IsOkAnd (with_value word self.old.memory property) (λ memory. self.new ≡ with_memory memory self.old) }
+    {
+        match property.put(self.memory.as_mut_slice(), word) {
+            Ok(()) => (),
+            Err(_) => unreachable!(),
+        }
     }
 }

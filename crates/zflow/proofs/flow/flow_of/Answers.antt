@@ -7,7 +7,7 @@ pub returns : goal.returns
 returns g c =
     let o = g.V.Domain.operations in
     let globals = c.args.globals.now in
-    let story = c.args.story.now in
+    let told = c.args.properties.now in
     let i = c.args.instruction.now in
     let e = shape_of c.args.locals.now c.args.slots.now in
     let operands = c.as_slice-operands.ensures.value ∙ c.inputs-inputs.ensures.value in
@@ -20,6 +20,6 @@ returns g c =
     record {
       popped = rw (← operands) popped;
       demands = demands_are o globals i e _ _ _ _ _ _ c.opcode.ensures c.operation-operation.ensures operands read.first read.second c.demands_if.ensures;
-      held = record { outcome = held.outcome ∙ outcome_is o globals story i e _ _ _ _ _ _ _ _ true _ c.opcode.ensures c.operation-operation.ensures operands read.first read.second c.below.ensures.globals popped c.below.ensures.shape outcomes.held; lead = held.lead; behind = behind_is o globals i e _ _ mid held.after };
-      failed = record { outcome = failed.outcome ∙ outcome_is o globals story i e _ _ _ _ _ _ _ _ false _ c.opcode.ensures c.operation-operation.ensures operands read.first read.second c.below.ensures.globals popped c.below.ensures.shape outcomes.failed; lead = failed.lead; behind = behind_is o globals i e _ _ mid failed.after };
+      held = record { outcome = held.outcome ∙ outcome_is o globals told i e _ _ _ _ _ _ _ _ true _ c.opcode.ensures c.operation-operation.ensures operands read.first read.second c.below.ensures.globals popped c.below.ensures.shape outcomes.held; lead = held.lead; behind = behind_is o globals i e _ _ mid held.after };
+      failed = record { outcome = failed.outcome ∙ outcome_is o globals told i e _ _ _ _ _ _ _ _ false _ c.opcode.ensures c.operation-operation.ensures operands read.first read.second c.below.ensures.globals popped c.below.ensures.shape outcomes.failed; lead = failed.lead; behind = behind_is o globals i e _ _ mid failed.after };
     }

@@ -1,7 +1,8 @@
 use Rattle.std.proofs.Common.{refl}
 use Rattle.zcert.specs.Listed.{seen}
-use Rattle.zrule.specs.Claims.{claims_of, entry_of}
-use Rattle.zrule.proofs.Asking.{height_unknown, local_unknown, text_fixed, called_asked, returned_asked, stored_asked, high_asked}
+use Rattle.zrule.specs.Claims.{claims_of, entry_of, frozen_in}
+use Rattle.zrule.proofs.Asking.{same_asked, height_unknown, local_unknown, text_fixed, called_asked, returned_asked, stored_asked, high_asked}
+use Rattle.zrule.specs.declared.rule.Rule.TheVariants.{Successor}
 use Rattle.zrule.proofs.judging.asks.Goals as goal
 
 pub returns-then-not-is_known : goal.returns-then-not-is_known
@@ -12,7 +13,7 @@ returns-then-not-is_known-2 g c = local_unknown g.V.Domain.operations (claims_of
 
 pub returns-in-Text : goal.returns-in-Text
 returns-in-Text g c =
-    let told = text_fixed g.V.Domain.operations (claims_of g.V.Domain.operations c.args.site.certificate.now) c.args.site.story.now c.args.site.listed.now.address (entry_of (seen c.args.site.listed.now)) c.args.site.instruction.now c.requires.there c.args.rule c.in-Text.is (c.texts_are_fixed.ensures (claims_of g.V.Domain.operations c.args.site.certificate.now).is_frozen c.args.site.listed.now.address c.args.site.instruction.now c.requires.there) in
+    let told = text_fixed g.V.Domain.operations (claims_of g.V.Domain.operations c.args.site.certificate.now) c.args.site.story.now c.args.site.listed.now.address (entry_of (seen c.args.site.listed.now)) c.args.site.instruction.now c.requires.there c.args.rule c.in-Text.is (c.texts_are_fixed.ensures (frozen_in (claims_of g.V.Domain.operations c.args.site.certificate.now)) c.args.site.listed.now.address c.args.site.instruction.now c.requires.there) in
     (λ t. told, λ a. refl)
 
 pub returns-in-Returned : goal.returns-in-Returned
@@ -26,3 +27,6 @@ returns-in-High g c = high_asked g.V.Domain.operations (claims_of g.V.Domain.ope
 
 pub returns-in-Called : goal.returns-in-Called
 returns-in-Called g c = called_asked g.V.Domain.operations (claims_of g.V.Domain.operations c.args.site.certificate.now) c.args.site.story.now c.args.site.listed.now.address (entry_of (seen c.args.site.listed.now)) c.args.site.instruction.now c.requires.there c.args.flow.now c.requires.flow c.args.rule c.edges_keep.result c.edges_keep.ensures c.in-Called.is
+
+pub returns-in-Successor : goal.returns-in-Successor
+returns-in-Successor g c = same_asked g.V.Domain.operations (claims_of g.V.Domain.operations c.args.site.certificate.now) c.args.site.story.now c.args.site.listed.now.address (entry_of (seen c.args.site.listed.now)) c.args.site.instruction.now c.requires.there c.args.rule Successor c.has_successors.result c.in-Successor.is c.has_successors.ensures
