@@ -21,6 +21,6 @@ pub use laws::{
 };
 pub use moves::{Lead, insert, lead_of, lead_past, put_first, unlink};
 pub use name::{ShortName, short_name};
-pub use property::{Property, find_property, next_number};
+pub use property::{Property, find_property, list_place, next_number, property_at};
 pub use tree::{Link, linked, set_link};
 pub use values::{data_length_before, default_word, property_value, put_property};

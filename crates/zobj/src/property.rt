@@ -1,6 +1,6 @@
 //! Properties of objects.
 
-ghost use Rattle.std.specs.Prelude.{◌≡◌, ◌+◌, Some, None, IfSome, IfNone, if◌then◌else◌};
+ghost use Rattle.std.specs.Prelude.{◌≡◌, ◌+◌, ◌<◌, Some, None, IfSome, IfNone, if◌then◌else◌};
 ghost use Rattle.std.specs.List.{find};
 ghost use Rattle.zstory.specs.Objects.{property_table};
 ghost use Rattle.zobj.specs.Entries.{HasEntry};
@@ -23,10 +23,11 @@ pub struct Property {
 }
 
 /// The property whose size byte stands at a place (Z 12.4.1), wholly in readable memory. None where there is none: the list ends.
-fn property_at(memory: &[u8], at: usize) -> Option<Property>
+pub fn property_at(memory: &[u8], at: usize) -> Option<Property>
     ensures value { result ≡ (if is_property memory.now at then Some (property_there memory.now at) else None) }
     ensures readable { IfSome result (IsReadable memory.now) }
     ensures there { IfSome result (λ property. property.place ≡ at + 1) }
+    ensures number { IfSome result (λ property. property.number < 32) }
 {
     let readable = memory.len().min(READABLE_LENGTH);
     if at >= readable {
@@ -45,7 +46,7 @@ fn property_at(memory: &[u8], at: usize) -> Option<Property>
 }
 
 /// Where the list of an object's properties begins: behind the length of its name in words and the name (Z 12.4).
-fn list_place(memory: &[u8], object: u8) -> usize
+pub fn list_place(memory: &[u8], object: u8) -> usize
     requires { HasEntry memory.now object }
     ensures { result ≡ list_place memory.now (property_table memory.now object) }
 {

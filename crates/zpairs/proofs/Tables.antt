@@ -1,7 +1,7 @@
 -- Entries and property defaults of a loaded story.
-use Rattle.std.proofs.Common.{ℕ, ◌+◌, ◌≤◌, List, length, arith}
+use Rattle.std.proofs.Common.{ℕ, ◌≤◌, List, arith}
 use Rattle.zstory.specs.LoadedStory.{IsSound}
-use Rattle.zstory.specs.Objects.{object_place, IsObjectCount}
+use Rattle.zstory.specs.Objects.{IsObjectCount}
 use Rattle.zobj.specs.Entries.{HasEntry, HasDefaults}
 use Rattle.zobj.proofs.Tables as tables
 
@@ -12,6 +12,3 @@ pub defaults_there : (memory : List ℕ) (objects : ℕ) → IsSound memory → 
 defaults_there memory objects sound counted =
     let has = tables.story_table memory objects sound counted in
     record { above = has.above; within = omega (arith, has.within) }
-
-pub entry_inside : (memory : List ℕ) (objects object : ℕ) → IsSound memory → IsObjectCount memory objects → 1 ≤ object → object ≤ objects → object_place memory object + 9 ≤ length memory
-entry_inside memory objects object sound counted least most = (entry_there memory objects object sound counted least most).within
