@@ -3,9 +3,11 @@
 
     objects.py KIND COUNT STORY CERTIFICATE
 
-KIND is ask (jin, test_attr and the three that follow a link), mark (set_attr, clear_attr), move (insert_obj, remove_obj) or all of them in
-turn; COUNT says how many there are in the loop; where they are more than a jump can go back over, they are played once. Each takes its objects and attributes from globals, which may be any of them by the
-certificate. Objects 1 and 2 are asked for, of which the second is in the first.
+KIND is ask (jin, test_attr and the three that follow a link), mark (set_attr, clear_attr), move (insert_obj, remove_obj), property (the
+four that ask for properties, put_prop and print_obj) or all of them in turn; COUNT says how many there are in the loop; where they are
+more than a jump can go back over, they are played once. Each takes its objects, attributes and properties from globals, which may be any
+of them by the certificate. Objects 1 and 2 are asked for, of which the second is in the first, and property 20 of the 31 of two bytes
+that each object has.
 """
 import struct
 import sys
@@ -14,9 +16,17 @@ from itertools import cycle, islice
 import straight
 
 OBJECTS = 255
-OBJECT, OTHER, ATTRIBUTE, RESULT = 16, 17, 18, 19  # globals
-VALUES = {OBJECT: (1, OBJECTS), OTHER: (1, OBJECTS), ATTRIBUTE: (0, 31), RESULT: (0, OBJECTS)}
-FIRST = {OBJECT: 1, OTHER: 2, ATTRIBUTE: 9}
+OBJECT, OTHER, ATTRIBUTE, RESULT, NUMBER, ADDRESS, VALUE = range(16, 23)  # globals
+VALUES = {
+    OBJECT: (1, OBJECTS),
+    OTHER: (1, OBJECTS),
+    ATTRIBUTE: (0, 31),
+    RESULT: (0, OBJECTS),
+    NUMBER: (1, 31),
+    ADDRESS: (0, 1000),
+    VALUE: (-32768, 32767),
+}
+FIRST = {OBJECT: 1, OTHER: 2, ATTRIBUTE: 9, NUMBER: 20, ADDRESS: 1000}
 BRANCH = 0xC2  # where the condition holds, to the next instruction
 
 KINDS = {
@@ -30,12 +40,21 @@ KINDS = {
     "mark": [bytes([0x6B, OBJECT, ATTRIBUTE]), bytes([0x6C, OBJECT, ATTRIBUTE])],
     "move": [bytes([0x6E, OTHER, OBJECT]), bytes([0xA9, OTHER])],
 }
-KINDS["all"] = KINDS["ask"] + KINDS["mark"] + KINDS["move"]
+KINDS["property"] = [
+    bytes([0x71, OBJECT, NUMBER, VALUE]),
+    bytes([0x72, OBJECT, NUMBER, VALUE]),
+    bytes([0x73, OBJECT, NUMBER, VALUE]),
+    bytes([0xA4, ADDRESS, VALUE]),
+    bytes([0xE3, 0xAB, OBJECT, NUMBER, VALUE]),
+    bytes([0xAA, OBJECT]),
+]
+KINDS["all"] = KINDS["ask"] + KINDS["mark"] + KINDS["move"] + KINDS["property"]
 
 TABLE = straight.DEFAULTS
 ENTRIES = TABLE + 62
-PROPERTIES = ENTRIES + 9 * OBJECTS  # one list, of no name and no property, for all
-STATIC = PROPERTIES + 3
+PROPERTIES = ENTRIES + 9 * OBJECTS  # one table, of no name and with all properties, for all
+LIST = bytes(1) + b"".join(bytes([32 + number, 0, number]) for number in range(31, 0, -1)) + bytes(1)
+STATIC = PROPERTIES + len(LIST)
 DICTIONARY = STATIC + 2 * 96 + 2
 CODE = DICTIONARY + 4
 
@@ -45,7 +64,7 @@ def story(code):
     values = b"".join(struct.pack(">H", FIRST.get(number, 0)) for number in range(16, 256))
     links = {1: (0, 0, 2), 2: (1, 0, 0)}
     entries = b"".join(bytes(4) + bytes(links.get(number, (0, 0, 0))) + struct.pack(">H", PROPERTIES) for number in range(1, OBJECTS + 1))
-    rest = values + bytes(62) + entries + bytes(3) + struct.pack(">H", (DICTIONARY - 2) // 2) * 96 + b"\x94\xa5" + bytes([0, 4, 0, 0]) + code
+    rest = values + bytes(62) + entries + LIST + struct.pack(">H", (DICTIONARY - 2) // 2) * 96 + b"\x94\xa5" + bytes([0, 4, 0, 0]) + code
     rest += bytes(len(rest) % 2)
     checksum = sum(rest) % 65536
     head = struct.pack(

@@ -22,7 +22,7 @@ each() {
 }
 
 printf '%-8s %8s %8s\n' kind session checked
-for kind in ask mark move; do
+for kind in ask mark move property; do
     python3 "$here/objects.py" "$kind" 100 "$work/story" "$work/certificate"
     printf '%-8s %8s %8s\n' "$kind" "$(each "$work/story" "$work/certificate")" "$(each "$work/story")"
 done
