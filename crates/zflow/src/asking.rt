@@ -20,10 +20,7 @@ fn demands_of<V: Domain>(operation: Operation, first: V, second: V) -> Demands<V
         Operation::Count(..) | Operation::Store | Operation::Load => return naming(named(first)),
         Operation::Jump => demands.certain = first.known().is_some(),
         Operation::Print | Operation::PrintReturn => demands.has_text = true,
-        Operation::Inside
-        | Operation::Follow(_)
-        | Operation::Remove
-        | Operation::PrintObject => {
+        Operation::Inside | Operation::Follow(_) | Operation::Remove | Operation::PrintObject => {
             demands.object = Some(first);
         }
         Operation::Property(question) => {

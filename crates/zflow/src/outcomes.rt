@@ -85,7 +85,9 @@ fn outcomes_of<V: Domain>(
         Operation::Call => called(first),
         Operation::Inside | Operation::TestAttribute => either(),
         Operation::Follow(_) => followed(properties.story().objects()),
-        Operation::Property(question) => once(gives_in(properties.answers(question, first, second))),
+        Operation::Property(question) => once(gives_in(properties.answers(
+            question, first, second,
+        ))),
         Operation::PropertyLength => once(gives_in(V::between(0, LONGEST_DATA))),
     }
 }

@@ -1,25 +1,24 @@
 -- What a play leaves of objects as it was loaded: property tables but for their data, and the defaults of properties.
-use Rattle.std.proofs.Common.{◌≡◌, ◌⊎◌, inl, inr, ℕ, zero, suc, ◌+◌, ◌*◌, ◌-◌, ◌<◌, ◌≤◌, Bool, true, false, if◌then◌else◌, nat_lt, List, [], ◌∷◌, length, Option, Some, None, refl, sym, ap, subst, ◌∙◌, arith, min}
+use Rattle.std.proofs.Common.{◌≡◌, ◌⊎◌, inl, inr, ℕ, zero, suc, ◌+◌, ◌*◌, ◌-◌, ◌<◌, ◌≤◌, Bool, true, false, if◌then◌else◌, nat_lt, List, [], ◌∷◌, length, Option, Some, None, refl, sym, ap, subst, arith}
 use Rattle.std.specs.Prelude.{◌≢◌, ◌==◌, option_map}
 use Rattle.std.specs.List.{find}
 use Rattle.std.proofs.lemmas.Bool.{cases_lt, lt-ltb}
 use Rattle.std.proofs.lemmas.Option.{same_Some}
-use Rattle.zstory.specs.Bytes.{byte_at, word_at, readable_end}
+use Rattle.zstory.specs.Bytes.{byte_at, readable_end}
 use Rattle.zstory.specs.Header as header
 use Rattle.zstory.specs.LoadedStory.{LoadedStory, IsSound, globals, object_table, static_base}
 use Rattle.zstory.specs.Objects.{IsObjectCount, object_place, property_table}
-use Rattle.zobj.specs.declared.name.ShortName.{ShortName}
 use Rattle.zobj.specs.declared.name.ShortName.TheVariants.{Empty, At, Outside}
 use Rattle.zobj.specs.declared.property.Property.{Property}
 use Rattle.zobj.specs.Names.{name_in, short_name}
-use Rattle.zobj.specs.Properties.{data_end, data_length, first_properties, has_number, is_property, list_place, properties, properties_from, property_of, property_there}
+use Rattle.zobj.specs.Properties.{data_end, first_properties, has_number, is_property, list_place, properties, properties_from, property_of, property_there}
 use Rattle.zobj.specs.Values.{IsDataByte, default_word}
 use Rattle.zobj.proofs.Bytes.{no_zero}
 use Rattle.zobj.proofs.Lists.{property_inside}
-use Rattle.ztext.specs.Words.{length_at, text_at}
+use Rattle.ztext.specs.Words.{text_at}
 use Rattle.ztext.proofs.Sameness.{text_at-same}
-use Rattle.zplace.specs.Bytes.{IsChanging, IsClosed, IsFixed, IsFlags, IsPropertyFrame, IsSizePlace, IsWithin, header, a_global, a_default, an_entry, a_property, an_abbreviation, frozen, static, here, behind}
-use Rattle.zplace.specs.Tables.{HasName, HasPropertyTables, IsDataPlace, IsPropertyData, in_data, in_rest, none_frozen}
+use Rattle.zplace.specs.Bytes.{IsChanging, IsClosed, IsFixed, IsPropertyFrame, IsSizePlace, IsWithin, header, a_global, a_default, an_entry, a_property, an_abbreviation, frozen, static, here, behind}
+use Rattle.zplace.specs.Tables.{HasName, HasPropertyTables, IsDataPlace, IsPropertyData, in_data, in_rest}
 use Rattle.zplace.proofs.Lists.{data_behind, data_inside, list_inside}
 
 -- a property has a size byte that isn't 0
@@ -43,13 +42,16 @@ found_data memory (suc most) at number p property e inside = by (is_property mem
     found : (b : Bool) → is_property memory at ≡ true → (find (has_number number) (first_properties most memory (data_end memory at)) ≡ Some property → IsDataByte property p → IsDataPlace memory p (data_end memory at)) → (if b then Some (property_there memory at) else find (has_number number) (first_properties most memory (data_end memory at))) ≡ Some property → IsDataPlace memory p at
     found true is rest e = in_data at (property_some memory at is) (subst (λ (x : Property). IsDataByte x p) (sym (same_Some (property_there memory at) property e)) inside)
     found false is rest e = in_rest at (property_some memory at is) (rest e inside)
+
     by : (b : Bool) → is_property memory at ≡ b → (find (has_number number) (first_properties most memory (data_end memory at)) ≡ Some property → IsDataByte property p → IsDataPlace memory p (data_end memory at)) → find (has_number number) (if b then property_there memory at ∷ first_properties most memory (data_end memory at) else []) ≡ Some property → IsDataPlace memory p at
     by true is rest e = found (has_number number (property_there memory at)) is rest e
     by false is rest e = absurd cc
 
 pub property_data : (story : LoadedStory) (object number p : ℕ) (property : Property) → 1 ≤ object → object ≤ story.objects → property_of story.memory object number ≡ Some property → IsDataByte property p → IsPropertyData story p
 property_data story object number p property first last e inside = record {
-  object = object; first = first; last = last;
+  object = object;
+  first = first;
+  last = last;
   inside = found_data story.memory (readable_end story.memory) (list_place story.memory (property_table story.memory object)) number p property (subst (λ (b : Bool). find (has_number number) (if b then [] else properties_from story.memory (list_place story.memory (property_table story.memory object))) ≡ Some property) (no_zero object first) e) inside;
 }
 
@@ -79,7 +81,7 @@ data_fixed story is_frozen tables p inside is = record { closed = frozen is; unc
 -- ---- a memory whose fixed bytes are as loaded
 
 module _ (story : LoadedStory) (is_frozen : ℕ → Bool) (sound : IsSound story.memory) (counted : IsObjectCount story.memory story.objects) (apart : (p : ℕ) → IsWithin (globals story) 480 p → IsWithin (object_table story) (62 + 9 * story.objects) p → ⊥) (tables : HasPropertyTables story)
-         (now : List ℕ) (long : length now ≡ length story.memory) (same : (p : ℕ) → IsFixed story is_frozen p → byte_at now p ≡ byte_at story.memory p) where
+    (now : List ℕ) (long : length now ≡ length story.memory) (same : (p : ℕ) → IsFixed story is_frozen p → byte_at now p ≡ byte_at story.memory p) where
   low_fixed : (p : ℕ) → p < 16 → IsFixed story is_frozen p
   low_fixed p low = record { closed = header (omega (arith, low), λ flags. omega (arith, flags.0, low)); unchanging = unchanged }
     where
@@ -198,9 +200,11 @@ module _ (story : LoadedStory) (is_frozen : ℕ → Bool) (sound : IsSound story
   name_text object at first last e =
       let table = property_table story.memory object in
       let place = at_name table (nat_lt table (readable_end story.memory)) (byte_at story.memory table == 0) (nat_lt (table + 1) (readable_end story.memory)) (subst (λ (b : Bool). (if b then Empty else name_in story.memory (property_table story.memory object)) ≡ At at) (no_zero object first) e) in
-      let text = named_text table (tables.tables object first last).named place.1 in
-      (text.0, subst (λ (p : ℕ). text_at now p ≡ Some text.0) (sym place.0) (text_at-same story.memory now (table + 1) text.0 long text.1 (λ p from below.
-      frame_same p (record { object = object; first = first; last = last; inside = inl (omega (arith, from), omega (arith, below, text.2)) }))))
+      let text = named_text table (tables.tables object first last).named place.1 in (
+        text.0,
+        subst (λ (p : ℕ). text_at now p ≡ Some text.0) (sym place.0) (text_at-same story.memory now (table + 1) text.0 long text.1 (λ p from below.
+            frame_same p (record { object = object; first = first; last = last; inside = inl (omega (arith, from), omega (arith, below, text.2)) }))),
+      )
     where
       at_name : (table : ℕ) (inside empty more : Bool) → (if inside then (if empty then Empty else (if more then At (table + 1) else Outside)) else Outside) ≡ At at → (at ≡ table + 1) × (empty ≡ false)
       at_name table true true more is = absurd cc

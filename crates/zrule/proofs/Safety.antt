@@ -139,6 +139,7 @@ module _ {V : Type 0} (o : SetOperations V) (lawful : AreSound o) (claims : Clai
       on : (b : Bool) (P : Type 0) → P → OnTrue b P
       on true P h = h
       on false P h = tt
+
       by : (p : Option (Pairs V)) → IfSome p (λ q. Finds o m.story q.asked q.objects q.numbers) → IfSome p (λ q. OnTrue (gives_by_property q.asked) (NamesObject o claims m.story i d.entry.shape × FindsProperty o claims m.story i d.entry.shape))
       by None h = tt
       by (Some q) h = on (gives_by_property q.asked) _ (supports.each d.at d.entry d.listed rules.Object i there, supports.each d.at d.entry d.listed rules.Property i there)

@@ -19,10 +19,7 @@ use zstory::Story;
 const READABLE_LENGTH: usize = 65_536;
 
 /// Whether each property that is asked for has an answer, and each that is given a word can be.
-pub(crate) fn finds_property<V: Spelled>(
-    properties: &Properties<'_>,
-    demands: &Demands<V>,
-) -> bool
+pub(crate) fn finds_property<V: Spelled>(properties: &Properties<'_>, demands: &Demands<V>) -> bool
     ensures { IsTrue result ↔ IfSome demands.now.property (λ p. Finds V.operations properties.now.story p.asked p.objects p.numbers) }
 {
     match demands.property {
@@ -44,10 +41,7 @@ fn finds<V: Spelled>(properties: &Properties<'_>, pairs: Pairs<V>) -> bool
 }
 
 /// Whether no property that is given a word has a frozen byte.
-pub(crate) fn spares_frozen<V: Spelled>(
-    properties: &Properties<'_>,
-    demands: &Demands<V>,
-) -> bool
+pub(crate) fn spares_frozen<V: Spelled>(properties: &Properties<'_>, demands: &Demands<V>) -> bool
     ensures { IsTrue result ↔ IfSome demands.now.property (λ p. Spares V.operations properties.now.story (frozen_by properties.now.ranges) p.asked p.objects p.numbers) }
 {
     match demands.property {

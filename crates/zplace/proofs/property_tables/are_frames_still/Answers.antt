@@ -1,4 +1,4 @@
-use Rattle.std.proofs.Common.{◌≡◌, ◌<◌, ◌≤◌, refl, arith}
+use Rattle.std.proofs.Common.{refl, arith}
 use Rattle.zplace.specs.Bytes.{IsChanging}
 use Rattle.zplace.proofs.Each.{frame_of, frames_more, frames_where}
 use Rattle.zplace.proofs.property_tables.are_frames_still.Goals as goal

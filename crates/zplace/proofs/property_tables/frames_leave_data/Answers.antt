@@ -1,4 +1,4 @@
-use Rattle.std.proofs.Common.{◌≡◌, ◌<◌, ◌≤◌, refl, arith}
+use Rattle.std.proofs.Common.{refl, arith}
 use Rattle.zplace.specs.Tables.{IsPropertyData}
 use Rattle.zplace.proofs.Each.{frame_of, frames_more, frames_where}
 use Rattle.zplace.proofs.property_tables.frames_leave_data.Goals as goal
