@@ -1,11 +1,10 @@
 -- What objects answer about their properties in a memory that claims describe.
-use Rattle.std.proofs.Common.{◌≡◌, ◌⊎◌, inl, inr, ℕ, zero, suc, ◌+◌, ◌-◌, ◌/◌, ◌%◌, ◌<◌, ◌≤◌, nat_lt, nat_le, Bool, true, false, if◌then◌else◌, List, length, Option, Some, None, Result, Ok, Err, refl, sym, ap, subst, ◌∙◌, arith}
-use Rattle.std.specs.Prelude.{slice_set, ◌==◌, ◌&&◌, IfOk, IfSome, IsOk, IsTrue, is_some}
+use Rattle.std.proofs.Common.{◌≡◌, ◌⊎◌, inl, inr, ℕ, zero, suc, ◌+◌, ◌/◌, ◌%◌, ◌<◌, ◌≤◌, nat_lt, nat_le, Bool, true, false, if◌then◌else◌, List, length, Option, Some, None, Result, Ok, Err, refl, sym, ap, subst, ◌∙◌, arith}
+use Rattle.std.specs.Prelude.{slice_set, ◌==◌, ◌&&◌, IfOk, IsOk, IsTrue, is_some}
 use Rattle.std.specs.List.{find}
-use Rattle.std.proofs.lemmas.Bool.{ltb-true, lt-ltb, le-leb, eqb-true}
+use Rattle.std.proofs.lemmas.Bool.{ltb-true, lt-ltb, le-leb}
 use Rattle.zstory.specs.Bytes.{AreBytes, byte_at, word_at, readable_end}
-use Rattle.zstory.specs.Header as header
-use Rattle.zstory.specs.LoadedStory.{LoadedStory, object_table, static_base}
+use Rattle.zstory.specs.LoadedStory.{LoadedStory, static_base}
 use Rattle.zobj.specs.declared.error.ObjectError.{ObjectError}
 use Rattle.zobj.specs.declared.error.ObjectError.TheVariants.{AbsentProperty, PropertyTooLong}
 use Rattle.zobj.specs.declared.name.ShortName.{ShortName}
@@ -17,10 +16,8 @@ use Rattle.zobj.specs.Answers.{answer_of, address_of, if_there, is_property_numb
 use Rattle.zobj.specs.Kept.{DiffersOnly}
 use Rattle.zobj.specs.Names.{short_name}
 use Rattle.zobj.specs.Properties.{data_length, has_number, next_in, properties, property_of}
-use Rattle.zobj.specs.Values.{IsDataByte, default_word, length_before, property_value, value_of, value_or_default, with_found, with_property, with_value}
-use Rattle.zobj.proofs.Answering.{length_small}
+use Rattle.zobj.specs.Values.{IsDataByte, default_word, length_before, property_value, value_or_default, with_found, with_property, with_value}
 use Rattle.zobj.proofs.Puts.{value_differs}
-use Rattle.ztext.specs.Words.{text_at}
 use Rattle.ztext.specs.Output.{output_at}
 use Rattle.ztext.proofs.Printable.{output_at-ok}
 use Rattle.zdomain.specs.Domain.{SetOperations, AreSound, In}
@@ -33,7 +30,6 @@ use Rattle.zpairs.proofs.Lying.{value_lies, address_lies, next_lies}
 use Rattle.zrule.specs.Claims.{Claims, frozen_in, told_of}
 use Rattle.zrule.specs.Rules.{Supports}
 use Rattle.zrule.specs.Described.{DescribedMemory, IsLoadedStory}
-use Rattle.zrule.proofs.Pieces.{between_small}
 use Rattle.zrule.proofs.Unchanged.{abbreviation_same}
 
 -- what is answered

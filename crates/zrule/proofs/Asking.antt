@@ -1,6 +1,6 @@
 -- What a rule asks of a place, by the one instruction that is there.
 use Rattle.std.proofs.Common.{◌≡◌, ◌↔◌, ℕ, ◌+◌, Bool, true, false, refl, sym, ap, subst, ◌∙◌}
-use Rattle.std.specs.Prelude.{IsTrue, IfSome, not}
+use Rattle.std.specs.Prelude.{IsTrue, not}
 use Rattle.std.specs.Bool.{OnTrue}
 use Rattle.zstory.specs.LoadedStory.{LoadedStory}
 use Rattle.zcode.specs.declared.opcode.Opcode.{Opcode}
@@ -8,7 +8,7 @@ use Rattle.zcode.specs.declared.opcode.Opcode.TheVariants.{Print, PrintRet}
 use Rattle.zcode.specs.Opcodes.{prints_text}
 use Rattle.zcode.specs.Instruction.{Instruction}
 use Rattle.zcode.specs.Operation.{operation_of, target}
-use Rattle.zdomain.specs.Domain.{SetOperations, In}
+use Rattle.zdomain.specs.Domain.{SetOperations}
 use Rattle.zflow.specs.declared.parts.Demands.{Demands}
 use Rattle.zflow.specs.declared.flow.Flow.{Flow}
 use Rattle.zflow.specs.Transfer.{demands_of, demands_if, read_set, argument_sets}

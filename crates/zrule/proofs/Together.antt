@@ -9,7 +9,7 @@ use Rattle.std.proofs.lemmas.Option.{same_Some}
 use Rattle.zrule.specs.declared.blocks.Block.{Block}
 use Rattle.zrule.specs.Blocks.{AreBlocks, IsBlock}
 use Rattle.zdomain.specs.Domain.{AreSound, In, SetOperations, Within}
-use Rattle.zflow.specs.Transfer.{Shape, locals_with, slots_with, with_result}
+use Rattle.zflow.specs.Transfer.{Shape, with_result}
 use Rattle.zrule.specs.Claims.{Claims}
 use Rattle.zrule.specs.declared.rule.Rule.{Rule}
 use Rattle.zrule.specs.declared.rule.Rule.TheVariants as rules

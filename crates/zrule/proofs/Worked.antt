@@ -1,14 +1,9 @@
 -- Values of the definitions, computed.
-use Rattle.std.proofs.Common.{◌≡◌, ℤ, pos, negsuc, int_le, Option, ◌↔◌, ◌⊎◌, inl, inr, ℕ, zero, suc, ◌+◌, ◌*◌, ◌<◌, ◌≤◌, ◌∙◌, Bool, true, false, List, [], ◌∷◌, ◌++◌, replicate, Some, None, refl, sym, ap, subst, arith, nat_lt, if◌then◌else◌}
-use Rattle.std.specs.Prelude.{◌≢◌, ◌==◌, ◌||◌, ◌+ℤ◌}
-use Rattle.std.proofs.lemmas.Bool.{cases_lt, le-ltb}
+use Rattle.std.proofs.Common.{◌≡◌, ℤ, pos, negsuc, int_le, Option, ℕ, ◌∙◌, true, false, List, [], ◌∷◌, ◌++◌, replicate, Some, None, refl, sym, ap, subst, arith, if◌then◌else◌}
+use Rattle.std.specs.Prelude.{◌==◌, ◌||◌, ◌+ℤ◌}
 use Rattle.std.proofs.lemmas.Option.{same_Some}
 use Rattle.std.proofs.lemmas.Int.{ints}
-use Rattle.zstory.specs.Bytes.{byte_at, word_at}
-use Rattle.zstory.specs.Objects.{object_place, property_table}
-use Rattle.zstory.specs.Header as headers
-use Rattle.zstory.specs.LoadedStory.{LoadedStory, abbreviations}
-use Rattle.ztext.specs.Abbreviations.{readable_word}
+use Rattle.zstory.specs.LoadedStory.{LoadedStory}
 use Rattle.zcode.specs.declared.opcode.Opcode.{Opcode}
 use Rattle.zcode.specs.declared.opcode.Opcode.TheVariants as opcodes
 use Rattle.zcode.specs.declared.instr.Operand.{Operand}

@@ -1,5 +1,5 @@
 -- What a certificate says of a story, as the rules see it: over a type V of sets of words (own).
-use Rattle.std.specs.Prelude.{ℕ, zero, suc, ◌&&◌, Bool, List, reverse, Option, Some, None, option_map, nat_le, slice_get}
+use Rattle.std.specs.Prelude.{ℕ, zero, suc, Bool, List, reverse, Option, Some, None, option_map, slice_get}
 use Rattle.zdomain.specs.Domain.{SetOperations}
 use Rattle.zcert.specs.declared.parts.Routine.{Routine}
 use Rattle.zcert.specs.Certificate.{Instruction as Listed, Certificate}
