@@ -13,6 +13,7 @@ from calls import see_calls
 from objects import see_objects
 from plays import see_plays
 from program import Answer, Count, Program
+from properties import see_properties
 from samples import CODE, HELLO, NEW_LINE, NOP, QUIT, certificate, changed, interval, story, with_objects
 
 HERE = os.path.dirname(os.path.abspath(__file__))
@@ -348,6 +349,7 @@ def main():
     see_plays(program, count)
     see_calls(program, count)
     see_objects(program, count)
+    see_properties(program, count)
     see_streams(program, count)
     count.end()
 
