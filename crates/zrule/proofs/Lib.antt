@@ -21,6 +21,7 @@ mod Supplied
 mod Pieces
 pub mod Opening
 pub mod Safety
+pub mod Able
 pub mod Steps
 pub mod Relied
 pub mod Rewriting

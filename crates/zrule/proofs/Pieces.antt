@@ -18,9 +18,10 @@ use Rattle.zdomain.specs.Domain.{SetOperations, AreSound, In}
 use Rattle.zstate.specs.declared.halt.Halt.{Halt}
 use Rattle.zstate.specs.State.{State, exists, put_named, put_in_place}
 use Rattle.zstate.specs.Step.{Done, arg, asked_of}
+use Rattle.zflow.specs.declared.parts.Pairs.{Pairs}
 use Rattle.zflow.specs.Transfer.{Shape, pops, local_kept, demands_of, slots_with, with_assigned}
 use Rattle.zrule.specs.Claims.{Claims}
-use Rattle.zrule.specs.Rules.{IsNamed}
+use Rattle.zrule.specs.Rules.{IsNamed, gives_by_property}
 use Rattle.zrule.proofs.Sets.{pops_cons}
 use Rattle.zrule.proofs.Parts.{HoldsOne}
 
@@ -35,6 +36,15 @@ between_small o lawful lo hi x least most few = lawful.between lo hi x (omega (a
 pub on_true : (b : Bool) (A B : Type 0) → OnTrue b (A → B) → A → OnTrue b B
 on_true true A B f a = f a
 on_true false A B f a = tt
+
+-- what holds anyway holds where something is asked of a property
+pub known_wherever : {V : Type 0} (p : Option (Pairs V)) (P : Type 0) → P → IfSome p (λ q. OnTrue (gives_by_property q.asked) P)
+known_wherever None P holds = tt
+known_wherever (Some q) P holds = on (gives_by_property q.asked)
+  where
+    on : (b : Bool) → OnTrue b P
+    on true = holds
+    on false = tt
 
 pub first_there : {V : Type 0} (o : SetOperations V) (claims : Claims V) (xs : List Operand) (e : Shape V) → pops xs ≤ length e.slots → AllByRecursion (IsNamed o claims e) xs → (pops (take 1 xs) ≤ length e.slots) × IfSome (slice_get xs 0) (IsNamed o claims e)
 first_there o claims [] e few named = (few, tt)

@@ -20,7 +20,8 @@ use Rattle.zrule.specs.Described.{Described, IsListedIn, IsLoadedStory}
 use Rattle.zrule.proofs.Sets.{ReadsAll, zip_length}
 use Rattle.zrule.proofs.Settling.{pauses_there}
 use Rattle.zrule.proofs.Pieces.{not_zero, no_lower, same_read}
-use Rattle.zrule.proofs.Safety.{ComesOf, Matches, Expected, edge, expected, all, asked, known_jump, CallsOf, begins_said, entry_edge, fetches, low}
+use Rattle.zrule.proofs.Safety.{ComesOf, Matches, Expected, edge, expected, all, asked, known_jump, CallsOf, begins_said, entry_edge, fetches}
+use Rattle.zrule.proofs.Able.{low}
 
 module _ {V : Type 0} (o : SetOperations V) (lawful : AreSound o) (claims : Claims V) (m : Setting) (loaded : IsLoadedStory m.story) (supports : Supports o claims m.story) (listed : IsListedIn o claims m.scope) (s : State) (d : Described o claims m.limit m.story s) (i : Instruction) (there : IsThere m.story d.at i) where
   abbrev operands : List Operand

@@ -4,7 +4,6 @@ use Rattle.std.specs.Prelude.{ℤ, pos, ◌+ℤ◌, IsOk, IfSome, MatchOption, I
 use Rattle.std.specs.Bool.{OnTrue, MatchBool}
 use Rattle.std.specs.List.{AllZip, AllByRecursion}
 use Rattle.std.proofs.lemmas.Bool.{ltb-false, eqb-true, lt-ltb}
-use Rattle.std.proofs.lemmas.List.{length-drop}
 use Rattle.zword.specs.declared.question.Question.{Question}
 use Rattle.zword.specs.declared.question.Question.TheVariants.{Equal}
 use Rattle.zword.specs.declared.count.CountOp.{CountOp}
@@ -45,9 +44,8 @@ use Rattle.zdomain.specs.Domain.{SetOperations, AreSound, In, Within}
 use Rattle.zstate.specs.declared.halt.Halt.{Halt}
 use Rattle.zstate.specs.declared.halt.Halt.TheVariants as halts
 use Rattle.zstate.specs.InTurn.{◌>>=◌}
-use Rattle.zstate.specs.State.{Frame, State, Setting, IsState, at_place, popped, with_stack, with_locals, with_memory, write_word, global, has_room, exists, put_named, put_in_place, read_in_place, has_head, fault}
-use Rattle.zstate.specs.Run.{IsFull}
-use Rattle.zstate.specs.Step.{Called, Move, on, back, into, calling, closing, called_at, call_of, unpacked, arguments, initial, behind_head, place_of, entered, Effect, Done, way, arg, asked_of, giving, assigning, testing, printing, jumping, following, marking, rearranging, rewriting, rewritten, answering, measuring, filling, naming, is_data_writable, fetch, printed, print_at, effect_of, effect_if, has_caller, is_taken, is_roomy, turned, course, admits, pauses, assigned, changed, stored, left, moved, advance, act, step}
+use Rattle.zstate.specs.State.{Frame, State, Setting, IsState, at_place, popped, with_stack, with_locals, with_memory, write_word, global, exists, put_named, put_in_place, read_in_place, has_head, fault}
+use Rattle.zstate.specs.Step.{Called, Move, on, back, into, calling, closing, called_at, call_of, unpacked, arguments, initial, behind_head, place_of, entered, Effect, Done, way, arg, asked_of, giving, assigning, testing, printing, jumping, following, marking, rearranging, rewriting, rewritten, answering, measuring, filling, naming, is_data_writable, fetch, printed, print_at, effect_of, effect_if, has_caller, is_taken, turned, course, admits, pauses, assigned, changed, stored, left, moved, advance, act, step}
 use Rattle.zstate.proofs.Effects.{table_place}
 use Rattle.zstate.proofs.Keeps.{put_aside, changed_aside, step_keeps}
 use Rattle.zflow.specs.declared.parts.Lead.{Lead}
@@ -55,23 +53,22 @@ use Rattle.zflow.specs.declared.parts.Lead.TheVariants.{Ahead, Returning, Enteri
 use Rattle.zflow.specs.declared.parts.Kept.{Kept}
 use Rattle.zflow.specs.declared.parts.Outcome.{Outcome}
 use Rattle.zflow.specs.declared.parts.Demands.{Demands}
-use Rattle.zflow.specs.declared.parts.Pairs.{Pairs}
 use Rattle.zpairs.specs.Pairs.{AreUnfrozen}
 use Rattle.zflow.specs.Transfer.{Shape, pops, variable_set, small, local_kept, operand_kept, both_kept, untold, counted_set, demands_of, demands_if, goes_on, gives_in, assigns_in, asks, counts_in, follows_in, returns_in, enters_in, argument_sets, jumps, outcome_of, outcome_if, leading, turned_to, named_with, with_result, with_assigned, narrowed, read_set, mid_shape, changed_by, after}
 use Rattle.zrule.specs.declared.rule.Rule.TheVariants as rules
 use Rattle.zrule.specs.Claims.{Claims, frozen_in, told_of}
-use Rattle.zrule.specs.Rules.{Begins, Enters, TakesBack, result_if, result_at, Leads, IsThere, HasFixedText, IsKnown, IsNamed, IsVariable, HasTop, Supports, Takes, TakesInPlace, GoesOn, Returns, OnEdge, Whatever, IsLow, demands_at, AreObjects, NamesObject, Finds, FindsProperty, Spares, KnowsAnswers, gives_by_property}
+use Rattle.zrule.specs.Rules.{Begins, Enters, TakesBack, result_if, result_at, Leads, IsThere, HasFixedText, IsKnown, IsNamed, IsVariable, HasTop, Supports, Takes, TakesInPlace, GoesOn, Returns, OnEdge, Whatever, IsLow, demands_at, AreObjects, NamesObject, Finds, FindsProperty, Spares, KnowsAnswers}
 use Rattle.zrule.specs.Described.{Callers, Described, DescribedMemory, Fits, FitsWith, IsSafe, IsListedIn, IsLoadedStory}
 use Rattle.zrule.proofs.Sets.{ReadsAll, reads_all, fits_popped, zip_set, zip_length}
 use Rattle.zrule.proofs.Unchanged.{static_fixed, drop_same, abbreviation_same}
 use Rattle.zrule.proofs.Called.{starts_in, called_same, head_same, arguments_in}
-use Rattle.zrule.proofs.Settling.{PausesAtMost, pauses_fine, pauses_there, pauses_none, pauses_full, room_there, admits_is}
+use Rattle.zrule.proofs.Settling.{PausesAtMost, pauses_fine, pauses_there, admits_is}
 use Rattle.zrule.proofs.Framed.{FitsFrame, in_place_fits, result_fits}
 use Rattle.zrule.proofs.Fitting.{IsIn, exists_in, named_in, length_with, given_fits, covered, covered_with, fits_there, Mid, put_mid, GivenIn, stored_mid}
 use Rattle.zrule.proofs.Memory.{global_put}
 use Rattle.zrule.proofs.Parts.{Hold, HoldsOne, narrowed_fits, variable_there, small_is}
 use Rattle.zrule.proofs.Stepping.{fetch_is, done_at, made_by, step_is}
-use Rattle.zrule.proofs.Pieces.{between_small, not_below_one, not_both, not_none, not_zero, object_known, on_true, two_asked, first_there, assigned_local, length_assigned, edge_of, defined_where, kept_holds}
+use Rattle.zrule.proofs.Pieces.{between_small, known_wherever, not_below_one, not_none, not_zero, object_known, on_true, two_asked, first_there, assigned_local, length_assigned, edge_of, defined_where, kept_holds}
 use Rattle.zrule.proofs.Answering.{Filled, answer_lies, answered, filled, found_same, length_there, name_printed}
 use Rattle.zrule.proofs.Rewriting.{filled_described, inserted_described, marked_described, unlinked_described}
 
@@ -134,15 +131,7 @@ module _ {V : Type 0} (o : SetOperations V) (lawful : AreSound o) (claims : Clai
 
   -- what get_prop and get_prop_addr give is known, since what they ask for is found
   answers_known : KnowsAnswers o claims m.story i d.entry.shape
-  answers_known = by (demands_at o claims i d.entry.shape).property (supports.each d.at d.entry d.listed rules.Property i there)
-    where
-      on : (b : Bool) (P : Type 0) → P → OnTrue b P
-      on true P h = h
-      on false P h = tt
-
-      by : (p : Option (Pairs V)) → IfSome p (λ q. Finds o m.story q.asked q.objects q.numbers) → IfSome p (λ q. OnTrue (gives_by_property q.asked) (NamesObject o claims m.story i d.entry.shape × FindsProperty o claims m.story i d.entry.shape))
-      by None h = tt
-      by (Some q) h = on (gives_by_property q.asked) _ (supports.each d.at d.entry d.listed rules.Object i there, supports.each d.at d.entry d.listed rules.Property i there)
+  answers_known = known_wherever (demands_at o claims i d.entry.shape).property (NamesObject o claims m.story i d.entry.shape × FindsProperty o claims m.story i d.entry.shape) (supports.each d.at d.entry d.listed rules.Object i there, supports.each d.at d.entry d.listed rules.Property i there)
 
   abbrev successor : IsTrue (demands_at o claims i d.entry.shape).certain × Whatever o claims m.story i d.entry.shape (λ w. IsLow o claims i d.entry.shape w → OnEdge o claims w i d.entry.shape (λ f. GoesOn o claims d.entry.routine (target i) f (d.at + i.size) (leading o w i.branch)))
   successor = supports.each d.at d.entry d.listed rules.Successor i there (supports.each d.at d.entry d.listed rules.Divisor i there) (supports.each d.at d.entry d.listed rules.Read i there) answers_known (supports.each d.at d.entry d.listed rules.Called i there)
@@ -167,10 +156,10 @@ module _ {V : Type 0} (o : SetOperations V) (lawful : AreSound o) (claims : Clai
   abbrev given_args : List V
   given_args = argument_sets o claims.globals i d.entry.shape
 
-  IsCall : ℕ → Called → Type 0
+  unfoldable pub IsCall : ℕ → Called → Type 0
   IsCall p called = (xs : List ℕ) × AllZip (In o) given_args xs × (called ≡ called_at m.story.memory p xs)
 
-  LeadsIn : Lead V → Move → Type 0
+  unfoldable pub LeadsIn : Lead V → Move → Type 0
   LeadsIn (Ahead a) (on b) = a ≡ b
   LeadsIn (Returning a) (back x) = In o a x
   LeadsIn (Entering a) (into called) = (x : ℕ) × In o a x × (x ≡ 0 → ⊥) × IsCall (unpacked x) called
@@ -295,15 +284,15 @@ module _ {V : Type 0} (o : SetOperations V) (lawful : AreSound o) (claims : Clai
     leads : LeadsIn w.leads effect.moves
     kept : Hold o lawful w.kept (changed m.story i effect t).frame.locals
     -- it needs no event, and the machine goes on
-    needs : effect.needs ≡ None
-    goes : effect.quits ≡ false
+    pub needs : effect.needs ≡ None
+    pub goes : effect.quits ≡ false
 
   -- the machine stands still, whatever else
   pub record Still (effect : Effect) : Type 0 where
     tests : effect.tests ≡ None
     moves : effect.moves ≡ on (pos 0)
     pub still : effect.quits ≡ true
-    needs : effect.needs ≡ None
+    pub needs : effect.needs ≡ None
 
   -- the effect is one that the rules expect, or the machine stands still
   unfoldable pub Expected : Option Operation → Result Effect Halt → Type 0
@@ -719,7 +708,7 @@ module _ {V : Type 0} (o : SetOperations V) (lawful : AreSound o) (claims : Clai
 
   -- an effect with the parts of an outcome, of which every rule holds
   module _ (w : Outcome V) (effect : Effect) (comes : ComesOf (operation_of i.opcode) w) (matches : Matches w effect) where
-    leads_in : LeadsIn (leading o w i.branch) (course effect i.branch)
+    pub leads_in : LeadsIn (leading o w i.branch) (course effect i.branch)
     leads_in = subst (λ (t : Option Bool). LeadsIn (leading o w i.branch) (turned (way t i.branch) effect.moves)) (sym matches.tests) (turned_in (way w.tests i.branch) w.leads effect.moves matches.leads)
 
     abbrev shape : Shape V
@@ -741,13 +730,13 @@ module _ {V : Type 0} (o : SetOperations V) (lawful : AreSound o) (claims : Clai
     known_there : Known_in shape u
     known_there = mid_changed w effect matches takes.0 takes.1
 
-    returns : Returns o claims d.entry.routine (leading o w i.branch)
+    pub returns : Returns o claims d.entry.routine (leading o w i.branch)
     returns = by_edge (λ f. Returns o claims d.entry.routine (leading o w i.branch)) (supports.each d.at d.entry d.listed rules.Returned i there w comes)
 
     begins_there : Enters o claims m.story given_args (leading o w i.branch)
     begins_there = by_edge (λ f. Enters o claims m.story given_args (leading o w i.branch)) (supports.each d.at d.entry d.listed rules.Called i there w comes)
 
-    admitted : admits (target i) effect (course effect i.branch) t ≡ Ok tt
+    pub admitted : admits (target i) effect (course effect i.branch) t ≡ Ok tt
     admitted =
         let fine = judged (leading o w i.branch) (course effect i.branch) s.frame.result s.frame.return_place s.callers leads_in returns d.callers in
         admits_is (target i) effect (course effect i.branch) t exists_read fine.0 fine.1
@@ -761,7 +750,7 @@ module _ {V : Type 0} (o : SetOperations V) (lawful : AreSound o) (claims : Clai
         let place : u.place +ℤ pos i.size ≡ pos (d.at + i.size) = ap (λ (p : ℤ). p +ℤ pos i.size) ((changed_aside m.story i effect t).place ∙ d.place) in
         lands (leading o w i.branch) (course effect i.branch) edge.0 (advance i u) leads_in place (record { memory = known_there.memory; fits = edge.2; callers = known_there.callers }) exists goes begins_there returns takes.2 state
 
-  still_admitted : (effect : Effect) → Still effect → admits (target i) effect (course effect i.branch) t ≡ Ok tt
+  pub still_admitted : (effect : Effect) → Still effect → admits (target i) effect (course effect i.branch) t ≡ Ok tt
   still_admitted effect still =
       let on_is : course effect i.branch ≡ on (pos 0) = ap (λ (t : Option Bool). turned (way t i.branch) effect.moves) still.tests ∙ still.moves in
       admits_is (target i) effect (course effect i.branch) t exists_read (ap (λ (c : Move). has_caller c s.callers) on_is) (ap (λ (c : Move). is_taken c s.frame.result s.callers) on_is)
@@ -777,7 +766,7 @@ module _ {V : Type 0} (o : SetOperations V) (lawful : AreSound o) (claims : Clai
   steps = step_is m s t i all.values fetches all.read
 
   -- where its judging finds no fault, what is left is a pause, or the step
-  settled : (effect : Effect) → admits (target i) effect (course effect i.branch) t ≡ Ok tt → made_by m t i effect ≡ (pauses m.limit (target i) effect (course effect i.branch) t >>= λ _. Ok (done_at m t i effect))
+  pub settled : (effect : Effect) → admits (target i) effect (course effect i.branch) t ≡ Ok tt → made_by m t i effect ≡ (pauses m.limit (target i) effect (course effect i.branch) t >>= λ _. Ok (done_at m t i effect))
   settled effect ok = ap (λ (r : Result (Unit {0}) Halt). (r >>= λ _. pauses m.limit (target i) effect (course effect i.branch) t) >>= λ _. Ok (done_at m t i effect)) ok
 
   paused : (effect : Effect) (r : Result (Unit {0}) Halt) → PausesAtMost r → (r ≡ Ok tt → Described o claims m.limit m.story (act m.story i effect t)) → IsSafe o claims m.limit m.story (r >>= λ _. Ok (done_at m t i effect))
@@ -806,66 +795,3 @@ module _ {V : Type 0} (o : SetOperations V) (lawful : AreSound o) (claims : Clai
 
   pub safe_there : IsSafe o claims m.limit m.story (step m s)
   safe_there = subst (λ (r : Result Done Halt). IsSafe o claims m.limit m.story r) (sym steps) (finish (effect_if m (operation_of i.opcode) all.values t) refl expected)
-
-  -- ---- no opcode of this build waits, and low stacks have room
-
-  pub low : length s.frame.stack ≤ 64
-  low = let same = zip_length (In o) d.entry.shape.slots s.frame.stack d.fits.in_slots in let few = supports.low d.at d.entry d.listed in omega (arith, same, few)
-
-  low_read : length t.frame.stack ≤ 64
-  low_read = let e = length-drop (pops operands) s.frame.stack in let l = low in omega (arith, e, l)
-
-  -- a caller has room for what is returned
-  caller_room : (v x return_place : ℕ) (e : Shape V) (g : Frame) → length e.slots ≤ 64 → FitsWith o claims v x e g → has_room v g ≡ true
-  caller_room v x return_place e g few h = by_stack (v == 0) refl h
-    where
-      by_stack : (b : Bool) → (v == 0) ≡ b → MatchBool b (Fits o claims e g.locals (x ∷ g.stack)) (MatchBool (nat_lt v 16) ((v ≤ length g.locals) × Fits o claims e (slice_set g.locals (v - 1) x) g.stack) ((v < 256) × MatchOption (slice_get claims.globals (v - 16)) ⊥ (λ values. In o values x) × Fits o claims e g.locals g.stack)) → has_room v g ≡ true
-      by_stack true is fits = room_there v g (let same = zip_length (In o) e.slots (x ∷ g.stack) fits.in_slots in omega (arith, same, few))
-      by_stack false is h = rw is refl
-
-  -- so a return has room, and a call where the frames are fewer than there may be
-  roomy : (lead : Lead V) (move : Move) (v return_place : ℕ) (gs : List Frame) → LeadsIn lead move → Returns o claims d.entry.routine lead → Callers o claims d.entry.routine return_place v gs → is_roomy m.limit move v gs ≡ false → (called : Called) × (move ≡ into called) × (m.limit ≤ length gs)
-  unfolding LeadsIn
-  roomy lead (on b) v r gs is rule callers e = absurd cc
-  roomy (Ahead a) (back x) v r gs is rule callers e = absurd is
-  roomy (Entering a) (back x) v r gs is rule callers e = absurd is
-  roomy (Returning a) (back x) v r [] is rule callers e = absurd cc
-  roomy (Returning a) (back x) v r (g ∷ gs) is rule callers e = absurd (not_both (has_room v g) (caller_room v x r callers.1.shape g (supports.low r callers.1 callers.2) (callers.3 x (rule.1 x is))) e)
-  roomy lead (into called) v r gs is rule callers e = (called, refl, ltb-false (length gs) m.limit e)
-
-  -- it is made, or it is `quit`, or a call where there are as many frames as there may be
-  IsAble : Result Done Halt → Type 0
-  IsAble r = ((x : Done) × (r ≡ Ok x)) ⊎ ((r ≡ Err halts.Quit) ⊎ ((r ≡ Err halts.FrameLimit) × IsFull m s))
-
-  made_able : (w : Outcome V) (effect : Effect) → effect_if m (operation_of i.opcode) all.values t ≡ Ok effect → ComesOf (operation_of i.opcode) w → Matches w effect → IsAble (made_by m t i effect)
-  unfolding IsAble
-  made_able w effect does comes matches = by_room (is_roomy m.limit (course effect i.branch) s.frame.result s.callers) refl
-    where
-      ok : made_by m t i effect ≡ (pauses m.limit (target i) effect (course effect i.branch) t >>= λ _. Ok (done_at m t i effect))
-      ok = settled effect (admitted w effect comes matches)
-
-      by_room : (b : Bool) → is_roomy m.limit (course effect i.branch) s.frame.result s.callers ≡ b → ((x : Done) × (made_by m t i effect ≡ Ok x)) ⊎ ((made_by m t i effect ≡ Err halts.Quit) ⊎ ((made_by m t i effect ≡ Err halts.FrameLimit) × IsFull m s))
-      by_room true e =
-          let none = pauses_none m.limit (target i) effect (course effect i.branch) t matches.needs matches.goes (room_there (target i) t.frame low_read) e in
-          inl (done_at m t i effect, ok ∙ ap (λ (r : Result (Unit {0}) Halt). r >>= λ _. Ok (done_at m t i effect)) none)
-      by_room false e =
-          let full = pauses_full m.limit (target i) effect (course effect i.branch) t matches.needs matches.goes (room_there (target i) t.frame low_read) e in
-          let many = roomy (leading o w i.branch) (course effect i.branch) s.frame.result s.frame.return_place s.callers (leads_in w effect comes matches) (returns w effect comes matches) d.callers e in
-          inr (inr (ok ∙ ap (λ (r : Result (Unit {0}) Halt). r >>= λ _. Ok (done_at m t i effect)) full, record { instruction = i; fetched = fetches; values = all.values; after = t; read = all.read; effect = effect; does = does; called = many.0; into = many.1; many = many.2 }))
-
-  quits : (effect : Effect) → Still effect → made_by m t i effect ≡ Err halts.Quit
-  unfolding pauses
-  quits effect still =
-      let needs = still.needs in
-      let stands = still.still in
-      settled effect (still_admitted effect still) ∙ rw (needs, stands) refl
-
-  able_by : (r : Result Effect Halt) → effect_if m (operation_of i.opcode) all.values t ≡ r → Expected (operation_of i.opcode) r → IsAble (r >>= made_by m t i)
-  unfolding Expected IsAble
-  able_by (Ok effect) does (inl still) = inr (inl (quits effect still))
-  able_by (Ok effect) does (inr (w, comes, matches)) = made_able w effect does comes matches
-  able_by (Err h) does expected = absurd expected
-
-  pub able_there : ((x : Done) × (step m s ≡ Ok x)) ⊎ ((step m s ≡ Err halts.Quit) ⊎ ((step m s ≡ Err halts.FrameLimit) × IsFull m s))
-  unfolding IsAble
-  able_there = subst IsAble (sym steps) (able_by (effect_if m (operation_of i.opcode) all.values t) refl expected)

@@ -9,7 +9,8 @@ use Rattle.zrule.specs.declared.rule.Rule.TheVariants as rules
 use Rattle.zrule.specs.Claims.{Claims}
 use Rattle.zrule.specs.Rules.{Supports}
 use Rattle.zrule.specs.Described.{Described, IsListedIn, IsLoadedStory, IsSafe}
-use Rattle.zrule.proofs.Safety.{able_there, safe_there}
+use Rattle.zrule.proofs.Safety.{safe_there}
+use Rattle.zrule.proofs.Able.{able_there}
 
 -- a step from a described state is no fault, and leads to a described state
 pub step_safe : {V : Type 0} (o : SetOperations V) (lawful : AreSound o) (claims : Claims V) (m : Setting) (s : State) → IsLoadedStory m.story → Supports o claims m.story → IsListedIn o claims m.scope → Described o claims m.limit m.story s → IsSafe o claims m.limit m.story (step m s)
