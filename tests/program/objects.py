@@ -1,6 +1,6 @@
 """Runs of the opcodes that ask of objects and change them, on both machines. What is printed is worked out by hand after the standard."""
-from plays import PRINT_FIRST, QUIT, Plays, conditional, fault, placed, printed
-from samples import certificate, changed, with_objects
+from plays import PRINT_FIRST, PRINT_TOP, QUIT, Plays, certified, conditional, fault, placed, printed
+from samples import certificate, changed, interval, with_objects
 
 CODE = 0x370
 SECOND = 0x267  # the entry of object 2: four bytes of attributes, its parent, sibling and child
@@ -93,6 +93,19 @@ REFUSED = [
 ]
 
 
+# ---- the parent of a child: only where there is one, and whether there is one or not
+
+TESTED = [b"\x92\x01\x00\xc3", (QUIT, interval(0, 0)), (b"\xa3\x00\x00", interval(1, 2)), (PRINT_TOP, interval(0, 2)), QUIT]
+UNTESTED = [b"\x92\x01\x00\xc2", (b"\xa3\x00\x00", interval(0, 2)), (PRINT_TOP, interval(0, 2)), QUIT]
+
+
+def stacked(lines):
+    """A story with two objects and these instructions, and the certificate that states their stacks."""
+    lines = placed(lines, CODE)
+    made = with_objects(b"".join(code for _, code, _ in lines))
+    return {"story": made, "certificate": certified(made, lines, {})}
+
+
 def files(lines, values, others=()):
     """A story with two objects and these instructions, with other bytes, and its certificate."""
     lines = placed(lines, CODE)
@@ -116,6 +129,9 @@ def see_objects(program, count):
         given = files([instruction, PRINT_FIRST, QUIT], values)
         plays.refuses(name, given, rule)
         count.is_answer(f"{name}, checked", plays.play(given, []), played)
+    plays.answers("the parent of a child that there is", stacked(TESTED), printed(b"1"))
+    plays.refuses("the parent of a child that there may be", stacked(UNTESTED), "I5 at 00374")
+    count.is_answer("the parent of a child that there may be, checked", plays.play(stacked(UNTESTED), []), printed(b"1"))
     orphan = files([TAKE_2_OUT, QUIT], NUMBERS, {SECOND + 4: 3})
     plays.refuses("a parent that is no object", orphan, "S6")
     count.is_answer("a parent that is no object, checked", plays.play(orphan, []), fault("F6 at 00370"))
