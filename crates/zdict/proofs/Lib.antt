@@ -1,0 +1,3 @@
+mod Order
+mod Found
+mod Runs

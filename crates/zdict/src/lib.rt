@@ -1,0 +1,11 @@
+//! The dictionary: which entry has a word, and which words a line has.
+#![tactic(auto)]
+
+mod bytes;
+mod entries;
+mod splitting;
+mod token;
+
+pub use entries::lookup;
+pub use splitting::tokens;
+pub use token::{Token, Tokens};
