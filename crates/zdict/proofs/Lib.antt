@@ -1,3 +1,5 @@
 mod Order
 mod Found
 mod Runs
+mod Parts
+mod Worked

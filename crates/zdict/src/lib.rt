@@ -3,9 +3,11 @@
 
 mod bytes;
 mod entries;
+mod laws;
 mod splitting;
 mod token;
 
 pub use entries::lookup;
+pub use laws::tokens_are_parts;
 pub use splitting::tokens;
 pub use token::{Token, Tokens};
