@@ -2,4 +2,5 @@ mod Order
 mod Found
 mod Runs
 mod Parts
+mod Exact
 mod Worked

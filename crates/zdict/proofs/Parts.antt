@@ -8,32 +8,30 @@ use Rattle.zdict.specs.Tokens.{is_space, is_listed, is_letter, tokens, tokens_fr
 use Rattle.zdict.specs.Parts.{IsPart, AreParts}
 
 module _ (listed : List ℕ) (byte : ℕ) (rest : List ℕ) (place : ℕ) where
-  run : ℕ
+  abbrev pub run : ℕ
   run = 1 + prefix_len (is_letter listed) rest
 
-  at_space : (behind : Bool) → is_space byte ≡ true → tokens_from listed behind place (byte ∷ rest) ≡ tokens_from listed false (place + 1) rest
+  pub at_space : (behind : Bool) → is_space byte ≡ true → tokens_from listed behind place (byte ∷ rest) ≡ tokens_from listed false (place + 1) rest
   at_space behind is = rw is refl
 
-  at_separator : (behind : Bool) → is_space byte ≡ false → is_listed listed byte ≡ true → tokens_from listed behind place (byte ∷ rest) ≡ record { place = place; bytes = byte ∷ [] } ∷ tokens_from listed false (place + 1) rest
+  pub at_separator : (behind : Bool) → is_space byte ≡ false → is_listed listed byte ≡ true → tokens_from listed behind place (byte ∷ rest) ≡ record { place = place; bytes = byte ∷ [] } ∷ tokens_from listed false (place + 1) rest
   at_separator behind is_none divides = rw (is_none, divides) refl
 
-  at_letter : is_space byte ≡ false → is_listed listed byte ≡ false → tokens_from listed false place (byte ∷ rest) ≡ record { place = place; bytes = take run (byte ∷ rest) } ∷ tokens_from listed true (place + 1) rest
-  unfolding run
+  pub at_letter : is_space byte ≡ false → is_listed listed byte ≡ false → tokens_from listed false place (byte ∷ rest) ≡ record { place = place; bytes = take run (byte ∷ rest) } ∷ tokens_from listed true (place + 1) rest
   at_letter is_none lies = rw (is_none, lies) refl
 
-  in_run : is_space byte ≡ false → is_listed listed byte ≡ false → tokens_from listed true place (byte ∷ rest) ≡ tokens_from listed true (place + 1) rest
+  pub in_run : is_space byte ≡ false → is_listed listed byte ≡ false → tokens_from listed true place (byte ∷ rest) ≡ tokens_from listed true (place + 1) rest
   in_run is_none lies = rw (is_none, lies) refl
 
-  prefix_of_letter : is_space byte ≡ false → is_listed listed byte ≡ false → prefix_len (is_letter listed) (byte ∷ rest) ≡ run
-  unfolding run
+  pub prefix_of_letter : is_space byte ≡ false → is_listed listed byte ≡ false → prefix_len (is_letter listed) (byte ∷ rest) ≡ run
   prefix_of_letter is_none lies = rw (is_none, lies) refl
 
-part_of : (line : List ℕ) (place size : ℕ) (bytes : List ℕ) → 1 ≤ size → length bytes ≡ size → bytes ≡ take size (drop place line) → IsPart line (record { place = place; bytes = bytes })
+pub part_of : (line : List ℕ) (place size : ℕ) (bytes : List ℕ) → 1 ≤ size → length bytes ≡ size → bytes ≡ take size (drop place line) → IsPart line (record { place = place; bytes = bytes })
 part_of line place size bytes some long same =
     let width : place + length bytes - place ≡ size = omega arith in
     record { some = omega arith; within = omega (arith, long, ap length same, length-take size (drop place line), length-drop place line); same = rw width same }
 
-rest_of : (line rest : List ℕ) (byte place : ℕ) → byte ∷ rest ≡ drop place line → rest ≡ drop (place + 1) line
+pub rest_of : (line rest : List ℕ) (byte place : ℕ) → byte ∷ rest ≡ drop place line → rest ≡ drop (place + 1) line
 rest_of line rest byte place e = ap (drop 1) e ∙ drop-drop 1 place line
 
 -- how much of a line lies between a place and the end of a run that the place lies in
@@ -41,7 +39,7 @@ left_of_run : List ℕ → Bool → List ℕ → ℕ
 left_of_run listed behind rest = cond behind (prefix_len (is_letter listed) rest) 0
 
 parts_from : (listed line rest : List ℕ) (behind : Bool) (place from : ℕ) → rest ≡ drop place line → from ≤ place + left_of_run listed behind rest → AreParts line from (tokens_from listed behind place rest)
-unfolding left_of_run run
+unfolding left_of_run
 parts_from listed line [] behind place from here h = tt
 parts_from listed line (byte ∷ rest) true place from here h =
     let next = rest_of line rest byte place here in

@@ -8,6 +8,6 @@ mod splitting;
 mod token;
 
 pub use entries::lookup;
-pub use laws::tokens_are_parts;
+pub use laws::{tokens_are_exact, tokens_are_parts};
 pub use splitting::tokens;
 pub use token::{Token, Tokens};
