@@ -1,0 +1,6 @@
+mod Order
+mod Found
+mod Runs
+mod Parts
+mod Exact
+mod Worked

@@ -1,0 +1,4 @@
+pub mod Lookup
+pub mod Tokens
+pub mod Left
+pub mod Parts
