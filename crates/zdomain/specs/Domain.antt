@@ -14,6 +14,9 @@ pub record SetOperations (V : Type 0) : Type 1 where
   pub any : V
   -- the words from one to another, by their signed readings
   pub between : ℕ → ℕ → V
+  -- words that none of the set is below, and none above, by their signed readings
+  pub lowest : V → ℕ
+  pub highest : V → ℕ
   -- the word, where the set has but one
   pub known : V → Option ℕ
   -- the words of either set, and of both
@@ -39,6 +42,8 @@ pub record AreSound {V : Type 0} (o : SetOperations V) : Type 0 where
   pub single : (x : ℕ) → x < 65536 → In o (o.single x) x
   pub any : (x : ℕ) → x < 65536 → In o o.any x
   pub between : (lo hi x : ℕ) → signed lo ≤ℤ signed x → signed x ≤ℤ signed hi → x < 65536 → In o (o.between lo hi) x
+  pub lowest : (a : V) (x : ℕ) → In o a x → signed (o.lowest a) ≤ℤ signed x
+  pub highest : (a : V) (x : ℕ) → In o a x → signed x ≤ℤ signed (o.highest a)
   pub known : (a : V) (n x : ℕ) → o.known a ≡ Some n → In o a x → x ≡ n
   pub known_single : (x : ℕ) → x < 65536 → o.known (o.single x) ≡ Some x
   pub join_left : (a b : V) (x : ℕ) → In o a x → In o (o.join a b) x

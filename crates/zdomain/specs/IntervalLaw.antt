@@ -9,7 +9,7 @@ pub mod Results
 pub mod Edges
 use Rattle.zdomain.specs.Domain.{AreSound}
 use Rattle.zdomain.specs.Interval.{interval_operations}
-use Rattle.zdomain.specs.IntervalLaw.Lying.{any_has, between_has, point_has}
+use Rattle.zdomain.specs.IntervalLaw.Lying.{any_has, between_has, highest_has, lowest_has, point_has}
 use Rattle.zdomain.specs.IntervalLaw.Results.{unary_has, binary_has}
 use Rattle.zdomain.specs.IntervalLaw.Edges.{join_left, join_right, meet_has, known_has, known_single, narrow_has}
 
@@ -18,6 +18,8 @@ interval_sound = record {
   single = point_has;
   any = any_has;
   between = between_has;
+  lowest = lowest_has;
+  highest = highest_has;
   known = known_has;
   known_single = known_single;
   join_left = join_left;

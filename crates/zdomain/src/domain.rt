@@ -36,6 +36,14 @@ pub trait Domain: Copy + Drop {
     fn member(self) -> u16
         ensures { In operations self result };
 
+    /// A word that none of the set is below, by signed readings.
+    fn lowest(self) -> u16
+        ensures { result ≡ operations.lowest self };
+
+    /// A word that none of the set is above, by signed readings.
+    fn highest(self) -> u16
+        ensures { result ≡ operations.highest self };
+
     /// The least word of the set from one on, words taken without sign.
     fn least_from(self, word: u16) -> Option<u16>
         ensures some { IfSome result (λ x. In operations self x × (word ≤ x) × ((y : ℕ) → In operations self y → word ≤ y → x ≤ y)) }

@@ -47,6 +47,14 @@ impl Domain for Interval {
         least.cast_unsigned()
     }
 
+    fn lowest(self) -> u16 {
+        self.lo.cast_unsigned()
+    }
+
+    fn highest(self) -> u16 {
+        self.hi.cast_unsigned()
+    }
+
     fn least_from(self, word: u16) -> Option<u16> {
         let low = self.lo.cast_unsigned();
         if self.contains(word) {

@@ -2,10 +2,11 @@
 use Rattle.std.proofs.Common.{◌≡◌, ℕ, ◌<◌, Bool, true, false, ◌||◌, if◌then◌else◌, Option, Some, None, ℤ, pos, negsuc, ◌≤ℤ◌, ◌<ℤ◌, int_le, int_lt, arith, refl, sym, ◌∙◌}
 use Rattle.std.specs.Prelude.{MatchOption, unwrap_or}
 use Rattle.std.specs.Int.{w16, int_wrap, int_min, int_max}
-use Rattle.std.proofs.lemmas.Int.{ints, int_wrap_fits, clamps}
+use Rattle.std.proofs.lemmas.Int.{ints, int_wrap_fits, clamps, to_z-of_z}
 use Rattle.zdomain.specs.declared.interval.Interval.{Interval}
 use Rattle.zdomain.specs.Domain.{In}
 use Rattle.zdomain.specs.Interval.{signed, point, all_words, interval_of, interval_where, outside, fitting, interval_operations}
+use Rattle.zword.specs.Binary.{word_of}
 
 -- the interval has the word
 abbrev pub Has : Interval → ℕ → Type 0
@@ -83,3 +84,22 @@ ends_lie f a b x y first second = by (f a.lo b.lo) (f a.lo b.hi) (f a.hi b.lo) (
     by p q r s low high =
         let four = within_four p q r s in
         first _ _ (low _ _ four.0 four.1) (high _ _ four.2 four.3)
+
+-- ---- the words at the ends
+
+-- a number of a word is that word's
+read_back : (z : ℤ) → negsuc 32767 ≤ℤ z → z ≤ℤ pos 32767 → signed (word_of z) ≡ z
+read_back (pos n) low high = to_z-of_z w16 (pos n) (record { sfits = omega (arith, ints) })
+read_back (negsuc n) low high = to_z-of_z w16 (negsuc n) (record { sfits = omega (arith, ints) })
+
+pub lowest_has : (a : Interval) (x : ℕ) → Has a x → signed (word_of (int_max a.lo (negsuc 32767))) ≤ℤ signed x
+lowest_has a x i =
+    let word = i.word in let low = i.member.0 in
+    let back = read_back (int_max a.lo (negsuc 32767)) (omega (arith, ints, clamps)) (omega (arith, ints, clamps)) in
+    rw back (omega (arith, ints, clamps))
+
+pub highest_has : (a : Interval) (x : ℕ) → Has a x → signed x ≤ℤ signed (word_of (int_min a.hi (pos 32767)))
+highest_has a x i =
+    let word = i.word in let high = i.member.1 in
+    let back = read_back (int_min a.hi (pos 32767)) (omega (arith, ints, clamps)) (omega (arith, ints, clamps)) in
+    rw back (omega (arith, ints, clamps))
