@@ -17,7 +17,7 @@ byte_before = refl
 word_half_way : place_of Word 7 32768 ≡ 7
 word_half_way = refl
 
-memory : List ℕ
+abbrev memory : List ℕ
 memory = 1 ∷ 2 ∷ 255 ∷ []
 
 first_word : element_at Word memory 0 ≡ Some 258

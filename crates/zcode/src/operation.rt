@@ -6,6 +6,7 @@ ghost use Rattle.zcode.specs.Operation.{implied, inputs, operation_of, target};
 use crate::instr::{Instr, Operand};
 use crate::opcode::Opcode;
 use arrayvec::ArrayVec;
+use zarray::Width;
 use zobj::{Link, PropertyQuestion};
 use zword::{BinaryOp, CountOp, Question, UnaryOp};
 
@@ -68,6 +69,10 @@ pub enum Operation {
     SetProperty,
     /// The short name of the object of the value is printed.
     PrintObject,
+    /// The element of the array at the first value whose index is the second goes to the result variable.
+    LoadArray(Width),
+    /// The element of the array at the first value whose index is the second is given the third.
+    StoreArray(Width),
 }
 
 impl Opcode {
@@ -122,6 +127,10 @@ impl Opcode {
             Opcode::GetPropLen => Operation::PropertyLength,
             Opcode::PutProp => Operation::SetProperty,
             Opcode::PrintObj => Operation::PrintObject,
+            Opcode::Loadw => Operation::LoadArray(Width::Word),
+            Opcode::Loadb => Operation::LoadArray(Width::Byte),
+            Opcode::Storew => Operation::StoreArray(Width::Word),
+            Opcode::Storeb => Operation::StoreArray(Width::Byte),
             _ => return None,
         })
     }

@@ -29,7 +29,7 @@ use Rattle.zstate.specs.declared.halt.Halt.TheVariants as halts
 use Rattle.zstate.specs.InTurn.{◌>>=◌, in_turn}
 use Rattle.zstate.specs.State.{State, Scope, Setting, exists, has_room, fault, pop, found, read_named, read_variable, read_operand, read_in_place}
 use Rattle.zstate.specs.Run.{need_in, awaited}
-use Rattle.zstate.specs.Step.{Effect, Move, Done, closing, expects, giving, course, has_caller, is_taken, is_roomy, decoded, fetch, arg, printed, print_at, is_object, rearranging, answering, measuring, is_data_writable, filling, naming, effect_of, effect_if, asked, waits, admits, pauses, settle, plan, step}
+use Rattle.zstate.specs.Step.{Effect, Move, Done, closing, expects, giving, course, has_caller, is_taken, is_roomy, decoded, fetch, arg, printed, print_at, is_object, rearranging, answering, reading, is_data_writable, filling, naming, effect_of, effect_if, asked, waits, admits, pauses, settle, plan, step}
 
 abbrev pub IsNeedless : {A : Type 0} → Result A Halt → Type 0
 IsNeedless (Ok x) = Unit {0}
@@ -136,9 +136,9 @@ of_answering : (r : Result ℕ ObjectError) → NeedsNothing (answering r)
 of_answering (Ok x) = refl
 of_answering (Err e) = tt
 
-of_measuring : (o : Option ℕ) → NeedsNothing (measuring o)
-of_measuring (Some n) = refl
-of_measuring None = tt
+of_reading : (o : Option ℕ) → NeedsNothing (reading o)
+of_reading (Some n) = refl
+of_reading None = tt
 
 of_filling : (r : Result (List ℕ) ObjectError) (writable : Bool) → NeedsNothing (filling r writable)
 of_filling (Ok memory) true = refl
@@ -167,7 +167,7 @@ of_operation m operations.ClearAttribute values s = of_object (is_object m.story
 of_operation m operations.Insert values s = of_object (is_object m.story (arg values 0)) _ (of_object (is_object m.story (arg values 1)) _ (of_rearranging (inserted m.story.objects (arg values 0) (arg values 1) s.memory)))
 of_operation m operations.Remove values s = of_object (is_object m.story (arg values 0)) _ (of_rearranging (unlinked m.story.objects (arg values 0) s.memory))
 of_operation m (operations.Property question) values s = of_object (is_object m.story (arg values 0)) _ (of_answering (answer_of question s.memory (arg values 0) (arg values 1)))
-of_operation m operations.PropertyLength values s = of_measuring (length_before s.memory (arg values 0))
+of_operation m operations.PropertyLength values s = of_reading (length_before s.memory (arg values 0))
 of_operation m operations.SetProperty values s = of_object (is_object m.story (arg values 0)) _ (of_filling (with_property (arg values 0) (arg values 1) (arg values 2) s.memory) (is_data_writable m.story (property_of s.memory (arg values 0) (arg values 1))))
 of_operation m operations.PrintObject values s = of_object (is_object m.story (arg values 0)) _ (of_naming (short_name s.memory (arg values 0)) s.memory)
 of_operation m _ values s = refl

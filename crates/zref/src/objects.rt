@@ -9,7 +9,7 @@ ghost use Rattle.zobj.specs.Values.{length_before};
 ghost use Rattle.zfault.specs.declared.fault.Fault.TheVariants.{AbsentAttribute, AbsentObject};
 ghost use Rattle.zstate.specs.declared.halt.Halt.TheVariants as halts;
 ghost use Rattle.zstate.specs.Gives.{Gives};
-ghost use Rattle.zstate.specs.Step.{answering, fault_of, following, is_object, measuring, of_attribute, of_object, testing};
+ghost use Rattle.zstate.specs.Step.{answering, fault_of, following, is_object, reading, of_attribute, of_object, testing};
 ghost use Rattle.zref.specs.Plan.{IsApart, effect_with};
 
 use crate::effect::Effect;
@@ -94,7 +94,7 @@ pub(crate) fn property(
 /// How many bytes of property data there are at an address.
 #[inline(always)]
 pub(crate) fn property_length(address: u16, state: &State) -> Result<Effect, Halt>
-    ensures value { Gives (λ e. effect_with e []) result (measuring (length_before state.now.memory address)) }
+    ensures value { Gives (λ e. effect_with e []) result (reading (length_before state.now.memory address)) }
     ensures there { IfOk result (λ e. e.assigns ≡ None) }
     ensures apart { IfOk result IsApart }
 {

@@ -45,7 +45,7 @@ use Rattle.zstate.specs.declared.halt.Halt.{Halt}
 use Rattle.zstate.specs.declared.halt.Halt.TheVariants as halts
 use Rattle.zstate.specs.InTurn.{◌>>=◌}
 use Rattle.zstate.specs.State.{Frame, State, Setting, IsState, at_place, popped, with_stack, with_locals, with_memory, write_word, global, exists, put_named, put_in_place, read_in_place, has_head, fault}
-use Rattle.zstate.specs.Step.{Called, Move, on, back, into, calling, closing, called_at, call_of, unpacked, arguments, initial, behind_head, place_of, entered, Effect, Done, way, arg, asked_of, giving, assigning, testing, printing, jumping, following, marking, rearranging, rewriting, rewritten, answering, measuring, filling, naming, is_data_writable, fetch, printed, print_at, effect_of, effect_if, has_caller, is_taken, turned, course, admits, pauses, assigned, changed, stored, left, moved, advance, act, step}
+use Rattle.zstate.specs.Step.{Called, Move, on, back, into, calling, closing, called_at, call_of, unpacked, arguments, initial, behind_head, place_of, entered, Effect, Done, way, arg, asked_of, giving, assigning, testing, printing, jumping, following, marking, rearranging, rewriting, rewritten, answering, reading, filling, naming, is_data_writable, fetch, printed, print_at, effect_of, effect_if, has_caller, is_taken, turned, course, admits, pauses, assigned, changed, stored, left, moved, advance, act, step}
 use Rattle.zstate.proofs.Effects.{table_place}
 use Rattle.zstate.proofs.Keeps.{put_aside, changed_aside, step_keeps}
 use Rattle.zflow.specs.declared.parts.Lead.{Lead}
@@ -521,12 +521,12 @@ module _ {V : Type 0} (o : SetOperations V) (lawful : AreSound o) (claims : Clai
       subst (λ (r : Result ℕ ObjectError). Expected (Some (Property question)) (answering r)) (sym is)
       (gives_expected (Property question) _ x (true, refl) (answer_lies o lawful claims m.story loaded supports s.memory d.memory (arg all.values 0) object.0 object.1 d.is_state.bytes question (args 0) (args 1) (arg all.values 1) x (all.members 0) (all.members 1) is))
 
-  measures_expected : IsTrue (is_some (length_before m.story.memory (arg all.values 0))) → Expected (Some PropertyLength) (measuring (length_before s.memory (arg all.values 0)))
+  measures_expected : IsTrue (is_some (length_before m.story.memory (arg all.values 0))) → Expected (Some PropertyLength) (reading (length_before s.memory (arg all.values 0)))
   unfolding outcome_of
   measures_expected readable =
       let n = length_there m.story s.memory d.memory.long (arg all.values 0) readable in
       let few : n.0 ≤ 8 = subst (λ (r : Option ℕ). IfSome r (λ n. n ≤ 8)) n.1 (length_small s.memory (arg all.values 0) d.is_state.bytes) in
-      subst (λ (r : Option ℕ). Expected (Some PropertyLength) (measuring r)) (sym n.1) (gives_expected PropertyLength _ n.0 (true, refl) (between_small o lawful 0 8 n.0 (omega arith) few (omega arith)))
+      subst (λ (r : Option ℕ). Expected (Some PropertyLength) (reading r)) (sym n.1) (gives_expected PropertyLength _ n.0 (true, refl) (between_small o lawful 0 8 n.0 (omega arith) few (omega arith)))
 
   fills_expected : (object : (1 ≤ arg all.values 0) × (arg all.values 0 ≤ m.story.objects)) → Filled o lawful claims m.story loaded supports s.memory d.memory (arg all.values 0) object.0 object.1 (arg all.values 1) (arg all.values 2) → AreUnfrozen o m.story (frozen_in claims) (args 0) (args 1) → Expected (Some SetProperty) (filling (with_property (arg all.values 0) (arg all.values 1) (arg all.values 2) s.memory) (is_data_writable m.story (property_of s.memory (arg all.values 0) (arg all.values 1))))
   unfolding outcome_of

@@ -1,6 +1,7 @@
 //! The state of a machine: its memory, frames and place, and the accesses that instructions make.
 #![tactic(auto)]
 
+mod arrays;
 mod calling;
 mod frame;
 mod frames;

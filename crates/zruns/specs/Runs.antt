@@ -1,0 +1,96 @@
+-- What is known of the elements at any array and any index of two sets (own).
+use Rattle.std.specs.Prelude.{ℕ, zero, suc, ◌+◌, ◌-◌, ◌*◌, ◌%◌, ◌<◌, ◌≤◌, min, Bool, true, ◌&&◌, not, if◌then◌else◌, List}
+use Rattle.zstory.specs.Bytes.{readable_end}
+use Rattle.zstory.specs.LoadedStory.{LoadedStory}
+use Rattle.zdomain.specs.Domain.{SetOperations}
+use Rattle.zarray.specs.declared.width.Width.{Width}
+use Rattle.zarray.specs.declared.width.Width.TheVariants.{Byte, Word}
+use Rattle.zarray.specs.Arrays.{span, value_at}
+use Rattle.zpairs.specs.declared.ends.Ends.{Ends}
+use Rattle.zpairs.specs.Ends.{turned, exactly, joined, no_word}
+use Rattle.zpairs.specs.Pairs.{between_ends}
+use Rattle.zpairs.specs.Frozen.{FrozenStory}
+use Rattle.zplace.specs.Bytes.{IsOpen}
+use Rattle.zruns.specs.declared.run.Run.{Run}
+use Rattle.zruns.specs.declared.cell.Cell.{Cell}
+use Rattle.zruns.specs.Fixed.{is_closed, is_fixed}
+
+-- ---- runs of addresses
+
+-- a place in the order of signed readings, of an element: that of the array and so many times that of the index
+abbrev pub summed : Width → ℕ → ℕ → ℕ
+summed width array index = turned array + span width * turned index
+
+module _ {V : Type 0} (o : SetOperations V) (width : Width) (arrays indices : V) where
+  abbrev pub lowest_sum : ℕ
+  lowest_sum = summed width (o.lowest arrays) (o.lowest indices)
+
+  abbrev pub highest_sum : ℕ
+  highest_sum = summed width (o.highest arrays) (o.highest indices)
+
+  -- The addresses of all sums of signed readings from the least to the greatest, modulo 65,536: whether one of them is even isn't
+  -- asked. The order of signed readings begins with 32768
+  abbrev pub run_of : Run
+  run_of = record { first = (lowest_sum + 32768 * (1 + span width)) % 65536; more = min 65535 (highest_sum - lowest_sum) }
+
+-- the address so many behind the first
+abbrev pub address : Run → ℕ → ℕ
+address run k = (run.first + k) % 65536
+
+-- something holds of each address of a run
+abbrev pub EachAddress : Run → (ℕ → Type 0) → Type 0
+EachAddress run Holds = (k : ℕ) → k ≤ run.more → Holds (address run k)
+
+module _ {V : Type 0} (o : SetOperations V) where
+  -- each byte of each element can be read
+  abbrev pub AreReadable : LoadedStory → Width → V → V → Type 0
+  AreReadable story width arrays indices = EachAddress (run_of o width arrays indices) (λ p. p + span width ≤ readable_end story.memory)
+
+  -- each byte of each element is open
+  abbrev pub AreOpen : LoadedStory → (ℕ → Bool) → Width → V → V → Type 0
+  AreOpen story is_frozen width arrays indices = EachAddress (run_of o width arrays indices) (λ p. (j : ℕ) → j < span width → IsOpen story is_frozen (p + j))
+
+-- ---- what is known of the element at an address
+
+-- it holds of each byte of an element
+abbrev pub each_byte : Width → (ℕ → Bool) → ℕ → Bool
+each_byte Byte holds p = holds p
+each_byte Word holds p = holds p && holds (p + 1)
+
+abbrev pub cell_at : FrozenStory → Width → ℕ → Cell
+cell_at told width p = record {
+  is_open = each_byte width (λ q. not (is_closed told q)) p;
+  fixed = each_byte width (is_fixed told) p;
+  ends = exactly (value_at width told.story.memory p);
+}
+
+-- of none, and of those of either
+abbrev pub no_cell : Cell
+no_cell = record { is_open = true; fixed = true; ends = no_word }
+
+abbrev pub merged : Cell → Cell → Cell
+merged a b = record { is_open = a.is_open && b.is_open; fixed = a.fixed && b.fixed; ends = joined a.ends b.ends }
+
+-- of all of which a function tells, below a number
+unfoldable pub merged_below : ℕ → (ℕ → Cell) → Cell
+merged_below zero f = no_cell
+merged_below (suc k) f = merged (merged_below k f) (f k)
+
+-- of the elements of a run
+abbrev pub run_cell : FrozenStory → Width → Run → Cell
+run_cell told width run = merged_below (run.more + 1) (λ k. cell_at told width (address run k))
+
+-- ---- what is read
+
+-- what may be read where that isn't known
+abbrev pub any_element : {V : Type 0} → SetOperations V → Width → V
+any_element o Byte = o.between 0 255
+any_element o Word = o.any
+
+abbrev pub elements_in : {V : Type 0} → SetOperations V → Width → Cell → V
+elements_in o width cell = if cell.fixed then between_ends o cell.ends else any_element o width
+
+-- a set of whatever may be read: from the least to the greatest, by signed readings, where no play changes a byte of any
+abbrev pub elements : {V : Type 0} → SetOperations V → FrozenStory → Width → V → V → V
+elements o told width arrays indices = elements_in o width (run_cell told width (run_of o width arrays indices))
+
