@@ -11,4 +11,5 @@ mod properties;
 mod rows;
 
 pub use laws::answers_lie_in_their_sets;
+pub use ends::Ends;
 pub use properties::Properties;
