@@ -18,6 +18,6 @@ mod turning;
 
 pub use board::Board;
 pub use calling::callee_of;
-pub use row::{Action, Asking, Callee, Calling, Entering, Global, Row, Slot};
+pub use row::{Action, Asking, Callee, Calling, Entering, Global, Row, Saying, Slot};
 pub use running::{Played, play};
 pub use table::row_of;
