@@ -10,5 +10,7 @@ mod laws;
 mod properties;
 mod rows;
 
+pub use ends::{Ends, turned};
+pub use frozen::{PLACES, marks_of};
 pub use laws::answers_lie_in_their_sets;
 pub use properties::Properties;

@@ -5,7 +5,7 @@ use Rattle.zstory.specs.LoadedStory.{LoadedStory}
 use Rattle.zdomain.specs.Domain.{SetOperations}
 use Rattle.zarray.specs.declared.width.Width.{Width}
 use Rattle.zarray.specs.declared.width.Width.TheVariants.{Byte, Word}
-use Rattle.zarray.specs.Arrays.{span, value_at}
+use Rattle.zarray.specs.Arrays.{span, place_of, value_at}
 use Rattle.zpairs.specs.declared.ends.Ends.{Ends}
 use Rattle.zpairs.specs.Ends.{turned, exactly, joined, no_word}
 use Rattle.zpairs.specs.Pairs.{between_ends}
@@ -21,17 +21,21 @@ use Rattle.zruns.specs.Fixed.{is_closed, is_fixed}
 abbrev pub summed : Width → ℕ → ℕ → ℕ
 summed width array index = turned array + span width * turned index
 
+-- the word with the signed reading of a number: that of 65,535 for all that are no words
+abbrev pub as_word : ℕ → ℕ
+as_word x = min x 65535
+
 module _ {V : Type 0} (o : SetOperations V) (width : Width) (arrays indices : V) where
   abbrev pub lowest_sum : ℕ
-  lowest_sum = summed width (o.lowest arrays) (o.lowest indices)
+  lowest_sum = summed width (as_word (o.lowest arrays)) (as_word (o.lowest indices))
 
   abbrev pub highest_sum : ℕ
-  highest_sum = summed width (o.highest arrays) (o.highest indices)
+  highest_sum = summed width (as_word (o.highest arrays)) (as_word (o.highest indices))
 
   -- The addresses of all sums of signed readings from the least to the greatest, modulo 65,536: whether one of them is even isn't
-  -- asked. The order of signed readings begins with 32768
+  -- asked
   abbrev pub run_of : Run
-  run_of = record { first = (lowest_sum + 32768 * (1 + span width)) % 65536; more = min 65535 (highest_sum - lowest_sum) }
+  run_of = record { first = place_of width (as_word (o.lowest arrays)) (as_word (o.lowest indices)); more = min 65535 (highest_sum - lowest_sum) }
 
 -- the address so many behind the first
 abbrev pub address : Run → ℕ → ℕ
