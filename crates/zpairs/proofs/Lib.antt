@@ -2,7 +2,7 @@ mod Tables
 mod Found
 mod Tests
 mod Each
-mod Hulls
+pub mod Hulls
 pub mod Lying
 mod Marks
 mod Regrouped

@@ -1,12 +1,11 @@
 -- What is known of the elements at any array and any index of two sets (own).
-use Rattle.std.specs.Prelude.{ℕ, zero, suc, ◌+◌, ◌-◌, ◌*◌, ◌%◌, ◌<◌, ◌≤◌, min, Bool, true, ◌&&◌, not, if◌then◌else◌, List}
+use Rattle.std.specs.Prelude.{ℕ, zero, suc, ◌+◌, ◌-◌, ◌*◌, ◌%◌, ◌<◌, ◌≤◌, min, Bool, true, ◌&&◌, not, if◌then◌else◌}
 use Rattle.zstory.specs.Bytes.{readable_end}
 use Rattle.zstory.specs.LoadedStory.{LoadedStory}
 use Rattle.zdomain.specs.Domain.{SetOperations}
 use Rattle.zarray.specs.declared.width.Width.{Width}
 use Rattle.zarray.specs.declared.width.Width.TheVariants.{Byte, Word}
 use Rattle.zarray.specs.Arrays.{span, place_of, value_at}
-use Rattle.zpairs.specs.declared.ends.Ends.{Ends}
 use Rattle.zpairs.specs.Ends.{turned, exactly, joined, no_word}
 use Rattle.zpairs.specs.Pairs.{between_ends}
 use Rattle.zpairs.specs.Frozen.{FrozenStory}
@@ -97,4 +96,3 @@ elements_in o width cell = if cell.fixed then between_ends o cell.ends else any_
 -- a set of whatever may be read: from the least to the greatest, by signed readings, where no play changes a byte of any
 abbrev pub elements : {V : Type 0} → SetOperations V → FrozenStory → Width → V → V → V
 elements o told width arrays indices = elements_in o width (run_cell told width (run_of o width arrays indices))
-
