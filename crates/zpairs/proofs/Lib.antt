@@ -4,7 +4,7 @@ mod Tests
 mod Each
 pub mod Hulls
 pub mod Lying
-mod Marks
+pub mod Marks
 mod Regrouped
 mod ByNumber
 mod Worked

@@ -109,10 +109,10 @@ module _ (memory : List ℕ) (p : ℕ) where
 -- ---- the sets
 
 module _ (story : LoadedStory) (p : ℕ) where
-  abbreviation_is : Tells (any_below 96 (λ n. is_in_abbreviation story n p)) (IsAbbreviation story p)
-  abbreviation_is = let all = any_tells 96 (λ n. is_in_abbreviation story n p) (λ n. IsWithin (abbreviations story + 2 * n) 2 p ⊎ IsInText story.memory p (readable_word story.memory (abbreviations story + 2 * n))) one in (λ e. let found = all.0 e in record { number = found.0; last = found.1; inside = found.2 }, λ abbreviation. all.1 (abbreviation.number, abbreviation.last, abbreviation.inside))
+  abbreviation_is : Tells (any_below 96 (λ n. is_in_abbreviation story.memory (abbreviations story) n p)) (IsAbbreviation story p)
+  abbreviation_is = let all = any_tells 96 (λ n. is_in_abbreviation story.memory (abbreviations story) n p) (λ n. IsWithin (abbreviations story + 2 * n) 2 p ⊎ IsInText story.memory p (readable_word story.memory (abbreviations story + 2 * n))) one in (λ e. let found = all.0 e in record { number = found.0; last = found.1; inside = found.2 }, λ abbreviation. all.1 (abbreviation.number, abbreviation.last, abbreviation.inside))
     where
-      one : (n : ℕ) → Tells (is_in_abbreviation story n p) (IsWithin (abbreviations story + 2 * n) 2 p ⊎ IsInText story.memory p (readable_word story.memory (abbreviations story + 2 * n)))
+      one : (n : ℕ) → Tells (is_in_abbreviation story.memory (abbreviations story) n p) (IsWithin (abbreviations story + 2 * n) 2 p ⊎ IsInText story.memory p (readable_word story.memory (abbreviations story + 2 * n)))
       one n = either (within_is (abbreviations story + 2 * n) 2 p) (text_is story.memory p (readable_word story.memory (abbreviations story + 2 * n)))
 
   -- objects by how many there are before them
