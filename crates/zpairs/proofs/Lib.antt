@@ -2,9 +2,9 @@ mod Tables
 mod Found
 mod Tests
 mod Each
-mod Hulls
+pub mod Hulls
 pub mod Lying
-mod Marks
+pub mod Marks
 mod Regrouped
 mod ByNumber
 mod Worked

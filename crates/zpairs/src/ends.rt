@@ -13,7 +13,7 @@ pub struct Ends {
 
 /// Where a word stands in the order of signed readings, and the word that stands at a place of it.
 #[inline(always)]
-pub(crate) fn turned(word: u16) -> u16
+pub fn turned(word: u16) -> u16
     ensures { result ≡ turned word }
 {
     word.wrapping_add(0x8000)
@@ -21,7 +21,7 @@ pub(crate) fn turned(word: u16) -> u16
 
 impl Ends {
     /// Those of no word.
-    pub(crate) const NONE: Ends = Ends {
+    pub const NONE: Ends = Ends {
         least: 0xffff,
         greatest: 0,
     };
@@ -39,7 +39,7 @@ impl Ends {
     };
 
     /// Those of one word.
-    pub(crate) fn exactly(word: u16) -> Ends
+    pub fn exactly(word: u16) -> Ends
         ensures { result ≡ exactly word }
     {
         let place = turned(word);
@@ -51,7 +51,7 @@ impl Ends {
 
     /// Those of the words of either.
     #[inline(always)]
-    pub(crate) fn join(self, other: Ends) -> Ends
+    pub fn join(self, other: Ends) -> Ends
         ensures { result ≡ joined self other }
     {
         Ends {

@@ -6,7 +6,7 @@ ghost use Rattle.zpairs.specs.Frozen.{AreMarked, frozen_by, is_inside};
 use zcert::Range;
 
 /// How many places ranges can reach.
-pub(crate) const PLACES: usize = 65_536;
+pub const PLACES: usize = 65_536;
 
 /// Ranges, with a mark for each place that they reach whether it lies in one.
 #[derive(Clone, Copy)]
@@ -30,7 +30,7 @@ impl<'a> Frozen<'a> {
 }
 
 /// The marks of ranges. Each place of each range is gone over once.
-pub(crate) fn marks_of(ranges: &[Range]) -> [bool; PLACES]
+pub fn marks_of(ranges: &[Range]) -> [bool; PLACES]
     ensures { AreMarked ranges.now result }
 {
     let mut marks = [false; PLACES];

@@ -6,4 +6,5 @@ mod places;
 mod property_tables;
 
 pub use bytes::{is_changing, is_unchanging};
-pub use property_tables::has_property_tables;
+pub use places::{data_end, list_place, name_words, table_of};
+pub use property_tables::{has_property_tables, read_length};

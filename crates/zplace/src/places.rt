@@ -24,7 +24,7 @@ pub(crate) enum Places {
 
 /// Where the property table of an object is.
 #[tactic(auto, using(crate::proofs::Tables::entry_inside))]
-pub(crate) fn table_of(story: &Story, object: u8) -> usize
+pub fn table_of(story: &Story, object: u8) -> usize
     requires least { 1 ≤ object }
     requires most { object ≤ story.now.objects }
     ensures value { result ≡ property_table story.now.memory object }
@@ -39,7 +39,7 @@ pub(crate) fn table_of(story: &Story, object: u8) -> usize
 }
 
 /// How many words the name in a property table has (Z 12.4).
-pub(crate) fn name_words(memory: &[u8], table: usize) -> u8
+pub fn name_words(memory: &[u8], table: usize) -> u8
     ensures { result ≡ byte_at memory.now table }
 {
     match memory.get(table) {
@@ -49,7 +49,7 @@ pub(crate) fn name_words(memory: &[u8], table: usize) -> u8
 }
 
 /// Where the list of a property table begins: behind the name.
-pub(crate) fn list_place(memory: &[u8], table: usize) -> usize
+pub fn list_place(memory: &[u8], table: usize) -> usize
     requires { table ≤ 1000000 }
     ensures { result ≡ list_place memory.now table }
 {
@@ -57,7 +57,7 @@ pub(crate) fn list_place(memory: &[u8], table: usize) -> usize
 }
 
 /// Where the data of the property at the place of a size byte end. None where the list of properties ends.
-pub(crate) fn data_end(memory: &[u8], at: usize) -> Option<usize>
+pub fn data_end(memory: &[u8], at: usize) -> Option<usize>
     ensures value { MatchOption result (byte_at memory.now at ≡ 0) (λ end. (byte_at memory.now at ≢ 0) × (end ≡ data_end memory.now at)) }
     ensures inside { IfSome result (λ end. (at < length memory.now) × (at + 2 ≤ end)) }
 {

@@ -221,7 +221,7 @@ fn text_leaves_data(story: &Story, entry: usize) -> bool
 }
 
 /// How many bytes a reading of the text at a place goes over: all that is left of memory, where the text has no end.
-fn read_length(memory: &[u8], at: usize) -> usize
+pub fn read_length(memory: &[u8], at: usize) -> usize
     ensures { result ≡ read_length memory.now at }
 {
     match text_length(memory, at) {

@@ -1,5 +1,5 @@
 -- Which bytes are closed, and which stay as they are, as questions that can be answered (own). What they mean are the sets of zplace.
-use Rattle.std.specs.Prelude.{ℕ, zero, suc, ◌+◌, ◌*◌, Bool, true, false, ◌&&◌, ◌||◌, not, ◌==◌, nat_le, nat_lt, List, length, Option, Some, None}
+use Rattle.std.specs.Prelude.{◌≡◌, ◌<◌, true, slice_index_or, ℕ, zero, suc, ◌+◌, ◌*◌, Bool, false, ◌&&◌, ◌||◌, not, ◌==◌, nat_le, nat_lt, List, length, Option, Some, None}
 use Rattle.zstory.specs.Bytes.{byte_at}
 use Rattle.zstory.specs.LoadedStory.{LoadedStory, globals, object_table, static_base, abbreviations}
 use Rattle.zstory.specs.Objects.{object_place, property_table}
@@ -31,8 +31,8 @@ is_in_text memory None p = false
 is_in_text memory (Some word) p = is_within (2 * word) (read_length memory (2 * word)) p
 
 -- the word of the table that leads to an abbreviation, or what a reading of its text goes over
-abbrev pub is_in_abbreviation : LoadedStory → ℕ → ℕ → Bool
-is_in_abbreviation story n p = is_within (abbreviations story + 2 * n) 2 p || is_in_text story.memory (readable_word story.memory (abbreviations story + 2 * n)) p
+abbrev pub is_in_abbreviation : List ℕ → ℕ → ℕ → ℕ → Bool
+is_in_abbreviation memory table n p = is_within (table + 2 * n) 2 p || is_in_text memory (readable_word memory (table + 2 * n)) p
 
 abbrev pub is_flags : ℕ → Bool
 is_flags p = is_within 0x10 2 p
@@ -44,7 +44,7 @@ is_closed told p =
     || is_within (globals told.story) 480 p
     || is_within (object_table told.story) (62 + 9 * told.story.objects) p
     || any_below told.story.objects (λ below. is_in_frame told.story.memory (property_table told.story.memory (below + 1)) p)
-    || any_below 96 (λ n. is_in_abbreviation told.story n p)
+    || any_below 96 (λ n. is_in_abbreviation told.story.memory (abbreviations told.story) n p)
     || frozen_by told.ranges p
     || nat_le (static_base told.story) p
 
@@ -58,3 +58,12 @@ is_changing story p =
 -- no play changes it
 abbrev pub is_fixed : FrozenStory → ℕ → Bool
 is_fixed told p = is_closed told p && not (is_changing told.story p)
+
+-- marks tell of each byte address whether its byte is closed; the byte behind them is
+pub record AreClosed (told : FrozenStory) (marks : List Bool) : Type 0 where
+  pub each : (p : ℕ) → p < 65536 → slice_index_or marks p false ≡ is_closed told p
+  pub behind : is_closed told 65536 ≡ true
+
+-- marks with those of more places
+abbrev pub AreMarkedToo : List Bool → List Bool → (ℕ → Bool) → Type 0
+AreMarkedToo before after holds = (p : ℕ) → p < 65536 → slice_index_or after p false ≡ (slice_index_or before p false || holds p)

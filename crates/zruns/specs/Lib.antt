@@ -1,2 +1,3 @@
 pub mod Fixed
 pub mod Runs
+pub mod Blocks

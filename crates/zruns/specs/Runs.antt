@@ -1,12 +1,11 @@
 -- What is known of the elements at any array and any index of two sets (own).
-use Rattle.std.specs.Prelude.{ℕ, zero, suc, ◌+◌, ◌-◌, ◌*◌, ◌%◌, ◌<◌, ◌≤◌, min, Bool, true, ◌&&◌, not, if◌then◌else◌, List}
+use Rattle.std.specs.Prelude.{ℕ, zero, suc, ◌+◌, ◌-◌, ◌*◌, ◌%◌, ◌<◌, ◌≤◌, min, Bool, true, ◌&&◌, not, if◌then◌else◌}
 use Rattle.zstory.specs.Bytes.{readable_end}
 use Rattle.zstory.specs.LoadedStory.{LoadedStory}
 use Rattle.zdomain.specs.Domain.{SetOperations}
 use Rattle.zarray.specs.declared.width.Width.{Width}
 use Rattle.zarray.specs.declared.width.Width.TheVariants.{Byte, Word}
-use Rattle.zarray.specs.Arrays.{span, value_at}
-use Rattle.zpairs.specs.declared.ends.Ends.{Ends}
+use Rattle.zarray.specs.Arrays.{span, place_of, value_at}
 use Rattle.zpairs.specs.Ends.{turned, exactly, joined, no_word}
 use Rattle.zpairs.specs.Pairs.{between_ends}
 use Rattle.zpairs.specs.Frozen.{FrozenStory}
@@ -21,17 +20,21 @@ use Rattle.zruns.specs.Fixed.{is_closed, is_fixed}
 abbrev pub summed : Width → ℕ → ℕ → ℕ
 summed width array index = turned array + span width * turned index
 
+-- the word with the signed reading of a number: that of 65,535 for all that are no words
+abbrev pub as_word : ℕ → ℕ
+as_word x = min x 65535
+
 module _ {V : Type 0} (o : SetOperations V) (width : Width) (arrays indices : V) where
   abbrev pub lowest_sum : ℕ
-  lowest_sum = summed width (o.lowest arrays) (o.lowest indices)
+  lowest_sum = summed width (as_word (o.lowest arrays)) (as_word (o.lowest indices))
 
   abbrev pub highest_sum : ℕ
-  highest_sum = summed width (o.highest arrays) (o.highest indices)
+  highest_sum = summed width (as_word (o.highest arrays)) (as_word (o.highest indices))
 
   -- The addresses of all sums of signed readings from the least to the greatest, modulo 65,536: whether one of them is even isn't
-  -- asked. The order of signed readings begins with 32768
+  -- asked
   abbrev pub run_of : Run
-  run_of = record { first = (lowest_sum + 32768 * (1 + span width)) % 65536; more = min 65535 (highest_sum - lowest_sum) }
+  run_of = record { first = place_of width (as_word (o.lowest arrays)) (as_word (o.lowest indices)); more = min 65535 (highest_sum - lowest_sum) }
 
 -- the address so many behind the first
 abbrev pub address : Run → ℕ → ℕ
@@ -93,4 +96,3 @@ elements_in o width cell = if cell.fixed then between_ends o cell.ends else any_
 -- a set of whatever may be read: from the least to the greatest, by signed readings, where no play changes a byte of any
 abbrev pub elements : {V : Type 0} → SetOperations V → FrozenStory → Width → V → V → V
 elements o told width arrays indices = elements_in o width (run_cell told width (run_of o width arrays indices))
-

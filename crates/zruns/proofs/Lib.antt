@@ -1,0 +1,5 @@
+pub mod Reached
+pub mod Telling
+pub mod Lying
+mod Pieces
+mod Marking

@@ -1,0 +1,207 @@
+-- What is known of runs, piece by piece.
+use Rattle.std.proofs.Common.{◌≡◌, ◌↔◌, ◌⊎◌, inl, inr, ℕ, zero, suc, ◌+◌, ◌-◌, ◌%◌, ◌<◌, ◌≤◌, min, Bool, true, false, ◌&&◌, not, ◌==◌, if◌then◌else◌, List, length, refl, sym, subst, ap, ◌∙◌, arith}
+use Rattle.std.specs.Prelude.{IsTrue, nat_le, slice_index_or, slice_set}
+use Rattle.std.proofs.lemmas.Bool.{cases_lt, and_parts, and_from, le-leb, leb-true}
+use Rattle.std.proofs.lemmas.List.{get_or-set_same, get_or-set_other}
+use Rattle.zstory.specs.Bytes.{readable_end}
+use Rattle.zstory.specs.LoadedStory.{LoadedStory}
+use Rattle.zdomain.specs.Domain.{SetOperations}
+use Rattle.zarray.specs.declared.width.Width.{Width}
+use Rattle.zarray.specs.declared.width.Width.TheVariants.{Byte, Word}
+use Rattle.zarray.specs.Arrays.{span}
+use Rattle.zpairs.specs.declared.ends.Ends.{Ends}
+use Rattle.zpairs.specs.Frozen.{FrozenStory, frozen_by}
+use Rattle.zplace.specs.Bytes.{IsOpen}
+use Rattle.zruns.specs.declared.run.Run.{Run}
+use Rattle.zruns.specs.declared.cell.Cell.{Cell}
+use Rattle.zruns.specs.Fixed.{is_closed}
+use Rattle.zruns.specs.Runs.{address, run_of, EachAddress, AreReadable, AreOpen, each_byte, cell_at, no_cell, merged, merged_below, run_cell}
+use Rattle.zruns.specs.Blocks.{piece_cell, step_length}
+use Rattle.zruns.proofs.Telling.{closed_is}
+
+-- ---- cells side by side
+
+same_ends : (a b : Ends) → a.least ≡ b.least → a.greatest ≡ b.greatest → a ≡ b
+same_ends a b e f = ap (λ (l : ℕ). record { least = l; greatest = a.greatest }) e ∙ ap (λ (g : ℕ). record { least = b.least; greatest = g }) f
+
+same_cells : (a b : Cell) → a.is_open ≡ b.is_open → a.fixed ≡ b.fixed → a.ends ≡ b.ends → a ≡ b
+same_cells a b e f g = ap (λ (x : Bool). record { is_open = x; fixed = a.fixed; ends = a.ends }) e ∙ ap (λ (x : Bool). record { is_open = b.is_open; fixed = x; ends = a.ends }) f ∙ ap (λ (x : Ends). record { is_open = b.is_open; fixed = b.fixed; ends = x }) g
+
+and_true : (b : Bool) → (b && true) ≡ b
+and_true true = refl
+and_true false = refl
+
+and_again : (a b c : Bool) → ((a && b) && c) ≡ (a && (b && c))
+and_again true b c = refl
+and_again false b c = refl
+
+-- no cell, merged with one whose ends are words
+before_all : (a : Cell) → a.ends.least ≤ 65535 → merged no_cell a ≡ a
+before_all a few = same_cells (merged no_cell a) a refl refl (same_ends (merged no_cell a).ends a.ends (omega (arith, few)) (omega arith))
+
+behind_all : (a : Cell) → a.ends.least ≤ 65535 → merged a no_cell ≡ a
+behind_all a few = same_cells (merged a no_cell) a (and_true a.is_open) (and_true a.fixed) (same_ends (merged a no_cell).ends a.ends (omega (arith, few)) (omega arith))
+
+regrouped : (a b c : Cell) → merged (merged a b) c ≡ merged a (merged b c)
+regrouped a b c = same_cells (merged (merged a b) c) (merged a (merged b c)) (and_again a.is_open b.is_open c.is_open) (and_again a.fixed b.fixed c.fixed) (same_ends (merged (merged a b) c).ends (merged a (merged b c)).ends (omega arith) (omega arith))
+
+least_below : (n : ℕ) (f : ℕ → Cell) → (merged_below n f).ends.least ≤ 65535
+unfolding merged_below
+least_below zero f = omega arith
+least_below (suc n) f = let before = least_below n f in omega (arith, before)
+
+-- what is known of each is known of as many that are the same
+same_merged : (n : ℕ) (f g : ℕ → Cell) → ((k : ℕ) → k < n → f k ≡ g k) → merged_below n f ≡ merged_below n g
+unfolding merged_below
+same_merged zero f g same = refl
+same_merged (suc n) f g same = let before = same_merged n f g (λ k below. same k (omega (arith, below))) in let last = same n (omega arith) in rw (before, last) refl
+
+one_more : (n : ℕ) (f : ℕ → Cell) (cell next all : Cell) → cell ≡ merged_below n f → next ≡ f n → all ≡ merged cell next → all ≡ merged_below (n + 1) f
+unfolding merged_below
+one_more n f cell next all is here e = let one : suc n ≡ n + 1 = omega arith in subst (λ (k : ℕ). all ≡ merged_below k f) one (rw (e, is, here) refl)
+
+-- so many, and as many behind them
+appended : (n m : ℕ) (f : ℕ → Cell) → merged_below (n + m) f ≡ merged (merged_below n f) (merged_below m (λ k. f (n + k)))
+unfolding merged_below
+appended n zero f = let none : n ≡ n + zero = omega arith in subst (λ (k : ℕ). merged_below k f ≡ merged (merged_below n f) no_cell) none (sym (behind_all (merged_below n f) (least_below n f)))
+appended n (suc m) f =
+    let one : suc (n + m) ≡ n + suc m = omega arith in
+    let before = appended n m f in
+    subst (λ (k : ℕ). merged_below k f ≡ merged (merged_below n f) (merged (merged_below m (λ k. f (n + k))) (f (n + m)))) one (rw before (regrouped (merged_below n f) (merged_below m (λ k. f (n + k))) (f (n + m))))
+
+module _ (told : FrozenStory) (width : Width) where
+  -- a piece of one address
+  pub single : (at : ℕ) → cell_at told width at ≡ piece_cell told width at 1
+  unfolding merged_below
+  single at = let same : at ≡ at + 0 = omega arith in subst (λ (p : ℕ). cell_at told width at ≡ merged no_cell (cell_at told width p)) same (sym (before_all (cell_at told width at) (omega arith)))
+
+  pub none_yet : (from : ℕ) → no_cell ≡ piece_cell told width from (from - from)
+  unfolding merged_below
+  none_yet from = let none : 0 ≡ from - from = omega arith in subst (λ (n : ℕ). no_cell ≡ piece_cell told width from n) none refl
+
+  -- a piece that begins where another ends
+  pub grown : (from at size : ℕ) (cell next all : Cell) → from ≤ at → cell ≡ piece_cell told width from (at - from) → next ≡ piece_cell told width at size → all ≡ merged cell next → all ≡ piece_cell told width from (at + size - from)
+  grown from at size cell next all order so_far is e =
+      let long : at - from + size ≡ at + size - from = omega (arith, order) in
+      let moved : piece_cell told width at size ≡ merged_below size (λ k. cell_at told width (from + (at - from + k))) = same_merged size (λ k. cell_at told width (at + k)) (λ k. cell_at told width (from + (at - from + k))) (λ k below. let same : at + k ≡ from + (at - from + k) = omega (arith, order) in ap (λ (p : ℕ). cell_at told width p) same) in
+      e ∙ ap (λ (c : Cell). merged c next) so_far ∙ ap (λ (c : Cell). merged (piece_cell told width from (at - from)) c) (is ∙ moved) ∙ sym (appended (at - from) size (λ k. cell_at told width (from + k))) ∙ ap (λ (n : ℕ). piece_cell told width from n) long
+
+  -- a run is a piece up to the last address, and one from 0 on
+  pub two_pieces : (run : Run) (end : ℕ) → run.first < 65536 → run.more < 65536 → end ≡ run.first + run.more + 1 → merged (piece_cell told width run.first (min end 65536 - run.first)) (piece_cell told width 0 (end - 65536 - 0)) ≡ run_cell told width run
+  two_pieces run end low few is =
+      let n : ℕ = min end 65536 - run.first in
+      let m : ℕ = end - 65536 - 0 in
+      let front : piece_cell told width run.first n ≡ merged_below n (λ k. cell_at told width (address run k)) = same_merged n (λ k. cell_at told width (run.first + k)) (λ k. cell_at told width (address run k)) (λ k below. let same : run.first + k ≡ address run k = omega (arith, below, low) in ap (λ (p : ℕ). cell_at told width p) same) in
+      let back : piece_cell told width 0 m ≡ merged_below m (λ k. cell_at told width (address run (n + k))) = same_merged m (λ k. cell_at told width (0 + k)) (λ k. cell_at told width (address run (n + k))) (λ k below. let same : 0 + k ≡ address run (n + k) = omega (arith, below, low, few, is) in ap (λ (p : ℕ). cell_at told width p) same) in
+      let all : n + m ≡ run.more + 1 = omega (arith, low, few, is) in
+      ap (λ (c : Cell). merged c (piece_cell told width 0 m)) front ∙ ap (λ (c : Cell). merged (merged_below n (λ k. cell_at told width (address run k))) c) back ∙ sym (appended n m (λ k. cell_at told width (address run k))) ∙ ap (λ (k : ℕ). merged_below k (λ k. cell_at told width (address run k))) all
+
+  -- the same, by what is read of the run
+  pub both_pieces : (run : Run) (first more top rest : ℕ) (front back all : Cell) → run.first < 65536 → run.more < 65536 → first ≡ run.first → more ≡ run.more → top ≡ min (first + more + 1) 65536 → rest ≡ first + more + 1 - 65536 → front ≡ piece_cell told width first (top - first) → back ≡ piece_cell told width 0 (rest - 0) → all ≡ merged front back → all ≡ run_cell told width run
+  both_pieces run first more top rest front back all low few is_first is_more is_top is_rest is_front is_back e =
+      let end : ℕ = run.first + run.more + 1 in
+      let long : top - first ≡ min end 65536 - run.first = omega (arith, is_first, is_more, is_top) in
+      let left : rest - 0 ≡ end - 65536 - 0 = omega (arith, is_first, is_more, is_rest) in
+      let of_front : front ≡ piece_cell told width run.first (min end 65536 - run.first) = is_front ∙ ap (λ (k : ℕ). piece_cell told width k (top - first)) is_first ∙ ap (piece_cell told width run.first) long in
+      let of_back : back ≡ piece_cell told width 0 (end - 65536 - 0) = is_back ∙ ap (piece_cell told width 0) left in
+      e ∙ ap (λ (c : Cell). merged c back) of_front ∙ ap (merged (piece_cell told width run.first (min end 65536 - run.first))) of_back ∙ two_pieces run end low few refl
+
+-- how far a step goes
+pub step_small : (at end size : ℕ) → at < end → size ≡ step_length at end → (1 ≤ size) × (at + size ≤ end)
+step_small at end size some is = by ((at % 256 == 0) && nat_le 256 (end - at)) refl is
+  where
+    by : (b : Bool) → ((at % 256 == 0) && nat_le 256 (end - at)) ≡ b → size ≡ (if b then 256 else 1) → (1 ≤ size) × (at + size ≤ end)
+    by true e is = let whole = leb-true 256 (end - at) (and_parts (at % 256 == 0) (nat_le 256 (end - at)) e).1 in (omega (arith, is), omega (arith, is, whole))
+    by false e is = (omega (arith, is), omega (arith, is, some))
+
+pub one_step : (at end size : ℕ) → size ≡ step_length at end → (size ≡ 256 → ⊥) → step_length at end ≡ 1
+one_step at end size is other = by ((at % 256 == 0) && nat_le 256 (end - at)) is
+  where
+    by : (b : Bool) → size ≡ (if b then 256 else 1) → ◌≡◌ {A = ℕ} (if b then 256 else 1) 1
+    by true e = absurd (other e)
+    by false e = refl
+
+-- one more block of a table
+pub one_more_cell : (cells : List Cell) (f : ℕ → Cell) (k : ℕ) (cell : Cell) → k < length cells → cell ≡ f k → ((j : ℕ) → j < k → slice_index_or cells j no_cell ≡ f j) → (j : ℕ) → j < k + 1 → slice_index_or (slice_set cells k cell) j no_cell ≡ f j
+one_more_cell cells f k cell inside is before j last = by_order (cases_lt j k)
+  where
+    by_order : (j < k) ⊎ (k ≤ j) → slice_index_or (slice_set cells k cell) j no_cell ≡ f j
+    by_order (inl low) = get_or-set_other cells k j cell no_cell (λ e. omega (arith, e, low)) ∙ before j low
+    by_order (inr high) = let same : k ≡ j = omega (arith, high, last) in subst (λ (i : ℕ). slice_index_or (slice_set cells k cell) i no_cell ≡ f i) same (get_or-set_same cells k cell no_cell inside ∙ is)
+
+-- ---- open bytes
+
+each_open : (n : ℕ) (f : ℕ → Cell) → IsTrue (merged_below n f).is_open ↔ ((k : ℕ) → k < n → IsTrue (f k).is_open)
+unfolding merged_below
+each_open zero f = (λ e k below. absurd (omega (arith, below)), λ all. refl)
+each_open (suc n) f = let before = each_open n f in (
+  λ e k below. by_order (and_parts (merged_below n f).is_open (f n).is_open e) before k below (cases_lt k n),
+  λ all. and_from (merged_below n f).is_open (f n).is_open (before.1 (λ k below. all k (omega (arith, below)))) (all n (omega arith)),
+)
+  where
+    by_order : ((merged_below n f).is_open ≡ true) × ((f n).is_open ≡ true) → (IsTrue (merged_below n f).is_open ↔ ((k : ℕ) → k < n → IsTrue (f k).is_open)) → (k : ℕ) → k < suc n → (k < n) ⊎ (n ≤ k) → IsTrue (f k).is_open
+    by_order parts before k below (inl low) = before.0 parts.0 k low
+    by_order parts before k below (inr high) = let same : n ≡ k = omega (arith, below, high) in subst (λ (m : ℕ). IsTrue (f m).is_open) same parts.1
+
+module _ (told : FrozenStory) where
+  one_open : (p : ℕ) → IsTrue (not (is_closed told p)) ↔ IsOpen told.story (frozen_by told.ranges) p
+  one_open p = let closed = closed_is told p in (λ e is. both (is_closed told p) e (closed.1 is), λ none. negated (is_closed told p) (λ e. none (closed.0 e)))
+    where
+      both : (b : Bool) → not b ≡ true → b ≡ true → ⊥
+      both true e f = cc
+      both false e f = cc
+
+      negated : (b : Bool) → (b ≡ true → ⊥) → not b ≡ true
+      negated true none = absurd (none refl)
+      negated false none = refl
+
+  element_open : (width : Width) (p : ℕ) → IsTrue (each_byte width (λ q. not (is_closed told q)) p) ↔ ((j : ℕ) → j < span width → IsOpen told.story (frozen_by told.ranges) (p + j))
+  element_open Byte p = let here = one_open p in let same : p ≡ p + 0 = omega arith in (
+    λ e j below. let at : p ≡ p + j = omega (arith, below) in subst (λ (q : ℕ). IsOpen told.story (frozen_by told.ranges) q) at (here.0 e),
+    λ all. here.1 (subst (λ (q : ℕ). IsOpen told.story (frozen_by told.ranges) q) (sym same) (all 0 (omega arith))),
+  )
+  element_open Word p = let here = one_open p in let next = one_open (p + 1) in let same : p ≡ p + 0 = omega arith in (
+    λ e j below. by_place (and_parts (not (is_closed told p)) (not (is_closed told (p + 1))) e) j below (cases_lt j 1),
+    λ all. and_from (not (is_closed told p)) (not (is_closed told (p + 1))) (here.1 (subst (λ (q : ℕ). IsOpen told.story (frozen_by told.ranges) q) (sym same) (all 0 (omega arith)))) (next.1 (all 1 (omega arith))),
+  )
+    where
+      by_place : (not (is_closed told p) ≡ true) × (not (is_closed told (p + 1)) ≡ true) → (j : ℕ) → j < 2 → (j < 1) ⊎ (1 ≤ j) → IsOpen told.story (frozen_by told.ranges) (p + j)
+      by_place parts j below (inl first) = let at : p ≡ p + j = omega (arith, first) in subst (λ (q : ℕ). IsOpen told.story (frozen_by told.ranges) q) at ((one_open p).0 parts.0)
+      by_place parts j below (inr second) = let at : p + 1 ≡ p + j = omega (arith, below, second) in subst (λ (q : ℕ). IsOpen told.story (frozen_by told.ranges) q) at ((one_open (p + 1)).0 parts.1)
+
+  -- a run is open just where each byte of each element is
+  pub open_where : (width : Width) (run : Run) → IsTrue (run_cell told width run).is_open ↔ EachAddress run (λ p. (j : ℕ) → j < span width → IsOpen told.story (frozen_by told.ranges) (p + j))
+  open_where width run = let all = each_open (run.more + 1) (λ k. cell_at told width (address run k)) in (
+    λ e k few. (element_open width (address run k)).0 (all.0 e k (omega (arith, few))),
+    λ each. all.1 (λ k below. (element_open width (address run k)).1 (each k (omega (arith, below)))),
+  )
+
+pub open_of : {V : Type 0} (o : SetOperations V) (told : FrozenStory) (width : Width) (arrays indices : V) (run : Run) (cell : Cell) → run ≡ run_of o width arrays indices → cell ≡ run_cell told width run → IsTrue cell.is_open ↔ AreOpen o told.story (frozen_by told.ranges) width arrays indices
+open_of o told width arrays indices run cell is made =
+    let same : cell ≡ run_cell told width (run_of o width arrays indices) = made ∙ ap (run_cell told width) is in
+    let where_open = open_where told width (run_of o width arrays indices) in (
+      λ e. where_open.0 (sym (ap (λ (c : Cell). c.is_open) same) ∙ e),
+      λ all. ap (λ (c : Cell). c.is_open) same ∙ where_open.1 all,
+    )
+
+-- ---- bytes that can be read
+
+-- each address of a run lies below the greatest, which is one of them
+pub readable_where : (run : Run) (size end : ℕ) → run.first < 65536 → run.more < 65536 → EachAddress run (λ p. p + size ≤ end) ↔ (min 65535 (run.first + run.more) + size ≤ end)
+readable_where run size end low few = (
+  λ each. let last = each (min run.more (65535 - run.first)) (omega arith) in omega (arith, last, low, few),
+  λ below k is. omega (arith, below, low, few, is),
+)
+
+run_words : {V : Type 0} (o : SetOperations V) (width : Width) (arrays indices : V) → ((run_of o width arrays indices).first < 65536) × ((run_of o width arrays indices).more < 65536)
+run_words o width arrays indices = (omega arith, omega arith)
+
+-- by the sum of the greatest and what an element takes up
+pub all_readable : {V : Type 0} (o : SetOperations V) (story : LoadedStory) (width : Width) (arrays indices : V) (run : Run) (greatest size end : ℕ) → run ≡ run_of o width arrays indices → greatest ≡ min 65535 (run.first + run.more) → size ≡ span width → end ≡ readable_end story.memory → IsTrue (nat_le (greatest + size) end) ↔ AreReadable o story width arrays indices
+all_readable o story width arrays indices run greatest size end is most long last =
+    let words = run_words o width arrays indices in
+    let same = readable_where (run_of o width arrays indices) (span width) (readable_end story.memory) words.0 words.1 in
+    let most_is : greatest ≡ min 65535 ((run_of o width arrays indices).first + (run_of o width arrays indices).more) = subst (λ (r : Run). greatest ≡ min 65535 (r.first + r.more)) is most in (
+      λ e. let below = leb-true (greatest + size) end e in same.1 (omega (arith, below, most_is, long, last)),
+      λ each. let below = same.0 each in le-leb (greatest + size) end (omega (arith, below, most_is, long, last)),
+    )

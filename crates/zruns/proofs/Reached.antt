@@ -1,0 +1,27 @@
+-- The elements of two sets lie in their run.
+use Rattle.std.proofs.Common.{◌≡◌, ℕ, ◌+◌, ◌-◌, ◌*◌, ◌%◌, ◌<◌, ◌≤◌, ◌≤ℤ◌, min, arith}
+use Rattle.std.proofs.lemmas.Int.{ints}
+use Rattle.zword.specs.Binary.{signed}
+use Rattle.zdomain.specs.Domain.{SetOperations, AreSound, In}
+use Rattle.zarray.specs.declared.width.Width.{Width}
+use Rattle.zarray.specs.declared.width.Width.TheVariants.{Byte, Word}
+use Rattle.zarray.specs.Arrays.{place_of, span}
+use Rattle.zpairs.specs.Ends.{turned}
+use Rattle.zruns.specs.Runs.{address, as_word, run_of}
+
+-- the order of signed readings is that of places
+low_rises : (x y : ℕ) → y < 65536 → signed x ≤ℤ signed y → turned (as_word x) ≤ turned y
+low_rises x y word below = grind (arith, ints)
+
+high_rises : (x y : ℕ) → x < 65536 → signed x ≤ℤ signed y → turned x ≤ turned (as_word y)
+high_rises x y word below = grind (arith, ints)
+
+-- The sum of one reading of each, from the least of both on
+between_sums : (width : Width) (low high array lowest highest index : ℕ) → turned low ≤ turned array → turned array ≤ turned high → turned lowest ≤ turned index → turned index ≤ turned highest → (k : ℕ) × (k ≤ min 65535 (turned high + span width * turned highest - (turned low + span width * turned lowest))) × (place_of width array index ≡ (place_of width low lowest + k) % 65536)
+between_sums Byte low high array lowest highest index a b c d = ((turned array + turned index - (turned low + turned lowest)) % 65536, omega (arith, a, b, c, d), omega (arith, a, c))
+between_sums Word low high array lowest highest index a b c d = ((turned array + 2 * turned index - (turned low + 2 * turned lowest)) % 65536, omega (arith, a, b, c, d), omega (arith, a, c))
+
+module _ {V : Type 0} (o : SetOperations V) (sound : AreSound o) (width : Width) (arrays indices : V) where
+  pub reached : (a i : ℕ) → In o arrays a → In o indices i → (k : ℕ) × (k ≤ (run_of o width arrays indices).more) × (place_of width a i ≡ address (run_of o width arrays indices) k)
+  reached a i of_arrays of_indices =
+      between_sums width (as_word (o.lowest arrays)) (as_word (o.highest arrays)) a (as_word (o.lowest indices)) (as_word (o.highest indices)) i (low_rises (o.lowest arrays) a of_arrays.word (sound.lowest arrays a of_arrays)) (high_rises a (o.highest arrays) of_arrays.word (sound.highest arrays a of_arrays)) (low_rises (o.lowest indices) i of_indices.word (sound.lowest indices i of_indices)) (high_rises i (o.highest indices) of_indices.word (sound.highest indices i of_indices))

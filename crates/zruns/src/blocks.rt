@@ -1,0 +1,38 @@
+//! What is known of blocks of addresses.
+
+ghost use Rattle.std.specs.Prelude.{◌≡◌, ◌<◌};
+ghost use Rattle.zruns.specs.Blocks.{AreBlocks, block_cell};
+
+use crate::cell::Cell;
+use crate::marked::Marked;
+use zarray::Width;
+
+/// How many addresses a block has.
+pub(crate) const BLOCK_LENGTH: usize = 256;
+
+/// How many blocks all byte addresses make.
+pub(crate) const BLOCKS: usize = 256;
+
+/// What is known of the elements that begin in each block.
+pub(crate) fn block_cells(marked: Marked<'_>, width: Width) -> [Cell; BLOCKS]
+    ensures { AreBlocks (record { story = marked.entry.story.now; ranges = marked.entry.ranges.now }) width result }
+{
+    let mut cells = [Cell::NONE; BLOCKS];
+    for block in 0..BLOCKS {
+        cells[block] = block_cell(marked, width, block);
+    }
+    cells
+}
+
+/// What is known of those of one block.
+#[tactic(auto, unfolding(crate::specs::Runs::merged_below))]
+fn block_cell(marked: Marked<'_>, width: Width, block: usize) -> Cell
+    requires { block < 256 }
+    ensures { result ≡ block_cell (record { story = marked.entry.story.now; ranges = marked.entry.ranges.now }) width block }
+{
+    let mut cell = Cell::NONE;
+    for place in 0..BLOCK_LENGTH {
+        cell = cell.merge(marked.cell(width, BLOCK_LENGTH * block + place));
+    }
+    cell
+}

@@ -1,0 +1,17 @@
+//! What is known of the elements of arrays, wherever they may lie.
+#![tactic(auto)]
+
+mod blocks;
+mod cell;
+mod closed;
+mod laws;
+mod marked;
+mod run;
+mod runs;
+mod tables;
+
+pub use cell::Cell;
+pub use laws::elements_lie_in_their_sets;
+pub use run::Run;
+pub use runs::{Runs, are_readable};
+pub use tables::Tables;

@@ -1,0 +1,184 @@
+//! What is known of the elements at any array and any index of two sets.
+
+ghost use Rattle.std.specs.Prelude.{◌≡◌, ◌<◌, ◌↔◌, IsTrue};
+ghost use Rattle.zruns.specs.Blocks.{step_length};
+ghost use Rattle.zruns.specs.Runs.{AreReadable, any_element};
+
+use crate::blocks::{BLOCK_LENGTH, BLOCKS, block_cells};
+use crate::cell::Cell;
+use crate::closed::closed_marks;
+use crate::marked::Marked;
+use crate::run::Run;
+use std::marker::Model;
+use zarray::Width;
+use zcert::Range;
+use zdomain::Domain;
+use zpairs::{PLACES, turned};
+use zstory::Story;
+
+/// The runs of addresses of a story, with the ranges of bytes that stay as they are. What is known of 256 addresses side by side is kept,
+/// so that a question about many is answered by blocks.
+#[derive(Drop)]
+pub struct Runs<'a> {
+    story: &'a Story,
+    ranges: &'a [Range],
+    closed: [bool; PLACES],
+    bytes: [Cell; BLOCKS],
+    words: [Cell; BLOCKS],
+}
+
+impl<'a> Model for Runs<'a> {
+    ghost use Rattle.zpairs.specs.Frozen.{FrozenStory};
+
+    ghost Value = { FrozenStory };
+
+    ghost view = { λ p. record { story = p.story.now; ranges = p.ranges.now } };
+
+    ghost use Rattle.zarray.specs.declared.width.Width.TheVariants.{Byte, Word};
+    ghost use Rattle.zruns.specs.Fixed.{AreClosed};
+    ghost use Rattle.zruns.specs.Blocks.{AreBlocks};
+
+    ghost invariant = { λ p. AreClosed (record { story = p.story.now; ranges = p.ranges.now }) p.closed × AreBlocks (record { story = p.story.now; ranges = p.ranges.now }) Byte p.bytes × AreBlocks (record { story = p.story.now; ranges = p.ranges.now }) Word p.words };
+}
+
+impl<'a> Runs<'a> {
+    ghost use Rattle.std.specs.Prelude.{◌≡◌, ◌↔◌, ◌≤◌, ◌<◌, ◌+◌, ◌-◌, IsTrue};
+    ghost use Rattle.zpairs.specs.Frozen.{frozen_by};
+    ghost use Rattle.zruns.specs.Blocks.{block_cell, piece_cell, step_length};
+    ghost use Rattle.zruns.specs.Runs.{AreOpen, cell_at, elements, run_cell};
+
+    /// Those of a story, of which the bytes in some ranges stay as they are. Each of its tables is gone over once, and each place of each
+    /// range. It takes no memory beside its own, about 70 KB.
+    pub fn new(story: &'a Story, ranges: &'a [Range]) -> Runs<'a>
+        ensures { result ≡ record { story = story.now; ranges = ranges.now } }
+    {
+        let closed = closed_marks(story, ranges);
+        let marked = Marked {
+            story,
+            ranges,
+            closed: &closed,
+        };
+        let bytes = block_cells(marked, Width::Byte);
+        let words = block_cells(marked, Width::Word);
+        Runs {
+            story,
+            ranges,
+            closed,
+            bytes,
+            words,
+        }
+    }
+
+    /// Whether each byte of each element at any array and any index of two sets is open, so that stores may write it.
+    pub fn are_open<V: Domain>(&self, width: Width, arrays: V, indices: V) -> bool
+        ensures { IsTrue result ↔ AreOpen V.operations self.now.story (frozen_by self.now.ranges) width arrays indices }
+    {
+        self.run_cell(width, Run::of(width, arrays, indices))
+            .is_open
+    }
+
+    /// A set of whatever may be read at any array and any index of two sets: the words from the least element to the greatest, by their
+    /// signed readings, where no play changes a byte of any.
+    pub fn elements<V: Domain>(&self, width: Width, arrays: V, indices: V) -> V
+        ensures { result ≡ elements V.operations self.now width arrays indices }
+    {
+        let cell = self.run_cell(width, Run::of(width, arrays, indices));
+        if cell.fixed {
+            V::between(turned(cell.ends.least), turned(cell.ends.greatest))
+        } else {
+            any_element(width)
+        }
+    }
+
+    /// What is known of the elements of a run: it is a piece up to the last byte address at most, and one from 0 on.
+    fn run_cell(&self, width: Width, run: Run) -> Cell
+        ensures { result ≡ run_cell self.now width run }
+    {
+        let first = usize::from(run.first);
+        let end = first + usize::from(run.more) + 1;
+        let front = self.piece_cell(width, first, end.min(PLACES));
+        front.merge(self.piece_cell(width, 0, end.saturating_sub(PLACES)))
+    }
+
+    /// What is known of the elements from one address up to an end: by whole blocks, as far as there are some.
+    fn piece_cell(&self, width: Width, from: usize, end: usize) -> Cell
+        requires order { from ≤ end }
+        requires few { end ≤ 65536 }
+        ensures { result ≡ piece_cell self.now width from (end - from) }
+    {
+        let mut cell = Cell::NONE;
+        let mut at = from;
+        while at < end {
+            cell = cell.merge(self.step_cell(width, at, end));
+            at += step_length(at, end);
+        }
+        cell
+    }
+
+    /// What is known of as many of them as are taken in one step.
+    fn step_cell(&self, width: Width, at: usize, end: usize) -> Cell
+        requires some { at < end }
+        requires few { end ≤ 65536 }
+        ensures { result ≡ piece_cell self.now width at (step_length at end) }
+    {
+        if step_length(at, end) == BLOCK_LENGTH {
+            self.block_cell(width, at / BLOCK_LENGTH)
+        } else {
+            self.cell(width, at)
+        }
+    }
+
+    /// What is known of the elements of a block.
+    fn block_cell(&self, width: Width, block: usize) -> Cell
+        requires { block < 256 }
+        ensures { result ≡ block_cell self.now width block }
+    {
+        match width {
+            Width::Byte => self.bytes[block],
+            Width::Word => self.words[block],
+        }
+    }
+
+    /// What is known of a single one.
+    fn cell(&self, width: Width, place: usize) -> Cell
+        requires { place < 65536 }
+        ensures { result ≡ cell_at self.now width place }
+    {
+        let marked = Marked {
+            story: self.story,
+            ranges: self.ranges,
+            closed: &self.closed,
+        };
+        marked.cell(width, place)
+    }
+}
+
+/// How many addresses are taken in one step from one before an end on: those of a block, where a whole one begins there.
+fn step_length(at: usize, end: usize) -> usize
+    requires { at < end }
+    ensures { result ≡ step_length at end }
+{
+    if at % BLOCK_LENGTH == 0 && BLOCK_LENGTH <= end - at {
+        BLOCK_LENGTH
+    } else {
+        1
+    }
+}
+
+/// A set of whatever may be read where that isn't known.
+fn any_element<V: Domain>(width: Width) -> V
+    ensures { result ≡ any_element V.operations width }
+{
+    match width {
+        Width::Byte => V::between(0, 0xff),
+        Width::Word => V::any(),
+    }
+}
+
+/// Whether each byte of each element at any array and any index of two sets can be read: it lies in memory, and no further than 65,535.
+pub fn are_readable<V: Domain>(story: &Story, width: Width, arrays: V, indices: V) -> bool
+    ensures { IsTrue result ↔ AreReadable V.operations story.now width arrays indices }
+{
+    let greatest = Run::of(width, arrays, indices).greatest();
+    usize::from(greatest) + usize::from(width.span()) <= story.length().min(PLACES)
+}
