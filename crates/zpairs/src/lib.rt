@@ -13,5 +13,4 @@ mod rows;
 pub use ends::{Ends, turned};
 pub use frozen::{PLACES, marks_of};
 pub use laws::answers_lie_in_their_sets;
-pub use ends::Ends;
 pub use properties::Properties;

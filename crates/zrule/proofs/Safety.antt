@@ -636,8 +636,8 @@ module _ {V : Type 0} (o : SetOperations V) (lawful : AreSound o) (claims : Clai
       let object = rule.object.0 (arg all.values 0) (all.members 0) in
       let known = object_known m.story.objects (arg all.values 0) object in
       rw known (fills_expected object (filled o lawful claims m.story loaded supports s.memory d.memory (arg all.values 0) object.0 object.1 (arg all.values 1) (arg all.values 2) (rule.property (arg all.values 0) (arg all.values 1) object.0 object.1 (all.members 0) (all.members 1))) rule.spares)
-  by_operation (LoadArray width) rule begins = ?
-  by_operation (StoreArray width) rule begins = ?
+  by_operation (LoadArray width) rule begins = loads_expected width rule.read
+  by_operation (StoreArray width) rule begins = stores_expected width rule.written
   by_operation PrintObject rule begins =
       let object = rule.object.0 (arg all.values 0) (all.members 0) in
       let known = object_known m.story.objects (arg all.values 0) object in
