@@ -3,3 +3,4 @@ pub mod Telling
 pub mod Lying
 mod Pieces
 mod Marking
+mod Worked

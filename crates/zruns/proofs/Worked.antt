@@ -1,0 +1,107 @@
+-- Values of the definitions, computed.
+use Rattle.std.proofs.Common.{◌≡◌, ℕ, true, false, List, [], ◌∷◌, ◌++◌, replicate, Some, None, refl}
+use Rattle.zdomain.specs.Interval.{interval_operations}
+use Rattle.zdomain.specs.declared.interval.Interval.{Interval}
+use Rattle.zstory.specs.LoadedStory.{LoadedStory}
+use Rattle.zarray.specs.declared.width.Width.TheVariants.{Byte, Word}
+use Rattle.zpairs.specs.Frozen.{FrozenStory}
+use Rattle.zpairs.specs.Ends.{exactly}
+use Rattle.zruns.specs.Fixed.{any_below, is_size_place, is_in_text, is_closed, is_changing, is_fixed}
+use Rattle.zruns.specs.Runs.{run_of, address, cell_at, no_cell, merged, merged_below, any_element, elements}
+use Rattle.zruns.specs.Blocks.{step_length}
+
+between : ℕ → ℕ → Interval
+between = interval_operations.between
+
+-- ---- runs
+
+-- words at one array: each index counts twice; bytes from address -2 to 1, round 65,535; an index below 0
+runs : (run_of interval_operations Word (between 1000 1000) (between 0 3) ≡ record { first = 1000; more = 6 }) × (run_of interval_operations Byte (between 65534 1) (between 0 0) ≡ record { first = 65534; more = 3 }) × (run_of interval_operations Word (between 1000 1000) (between 65535 0) ≡ record { first = 998; more = 2 }) × (run_of interval_operations Byte (between 1000 1001) (between 65535 2) ≡ record { first = 999; more = 4 })
+unfolding between
+runs = (refl, refl, refl, refl)
+
+-- all arrays, and all indices: 131,071 sums are all addresses, and no more than that
+whole_runs : (run_of interval_operations Byte interval_operations.any (between 0 0) ≡ record { first = 32768; more = 65535 }) × (run_of interval_operations Word (between 0 0) interval_operations.any ≡ record { first = 0; more = 65535 }) × (run_of interval_operations Byte (between 7 7) (between 0 65535) ≡ record { first = 32775; more = 65535 })
+unfolding between
+whole_runs = (refl, refl, refl)
+
+addresses : (address (record { first = 65534; more = 3 }) 0 ≡ 65534) × (address (record { first = 65534; more = 3 }) 1 ≡ 65535) × (address (record { first = 65534; more = 3 }) 2 ≡ 0) × (address (record { first = 65534; more = 3 }) 3 ≡ 1)
+addresses = (refl, refl, refl, refl)
+
+steps : (step_length 255 1000 ≡ 1) × (step_length 256 512 ≡ 256) × (step_length 256 511 ≡ 1) × (step_length 0 65536 ≡ 256)
+steps = (refl, refl, refl, refl)
+
+-- ---- a story with one object
+
+-- The globals from 0x40, the object table from 0x220 with its only entry at 0x25E, and static memory from 0x280, where the table of
+-- abbreviations is
+front : List ℕ
+front = 0x03 ∷ 0x00 ∷ 0x00 ∷ 0x01 ∷ 0x02 ∷ 0x80 ∷ 0x02 ∷ 0x80 ∷ 0x02 ∷ 0x80 ∷ 0x02 ∷ 0x20 ∷ 0x00 ∷ 0x40 ∷ 0x02 ∷ 0x80 ∷ replicate 8 0 ++ 0x02 ∷ 0x80 ∷ replicate 587 0
+
+-- The property table, at 0x267: no name, property 5 with a byte of data at 0x269, and its end. From 0x26C on a text of two words, two
+-- words more, and zeros up to the first two abbreviations, at 0x26C and 0x280; behind these memory ends
+tables : List ℕ
+tables = 0x02 ∷ 0x67 ∷ 0x00 ∷ 0x05 ∷ 0x2A ∷ 0x00 ∷ 0x00 ∷ 0x00 ∷ 0x00 ∷ 0x80 ∷ 0x00 ∷ 0xFF ∷ 0xFE ∷ 0x01 ∷ 0x02 ∷ replicate 12 0 ++ 0x01 ∷ 0x36 ∷ 0x01 ∷ 0x40 ∷ []
+
+story : LoadedStory
+story = record { memory = front ++ tables; objects = 1 }
+
+-- the second of the two words is frozen
+told : FrozenStory
+told = record { story = story; ranges = record { first = 0x272; last = 0x273 } ∷ [] }
+
+-- the header, without Flags 2
+closed_header : (is_closed told 0x0F ≡ true) × (is_closed told 0x10 ≡ false) × (is_closed told 0x11 ≡ false) × (is_closed told 0x12 ≡ true) × (is_closed told 0x3F ≡ true)
+unfolding told story front tables any_below is_size_place
+closed_header = (refl, refl, refl, refl, refl)
+
+-- the globals, the defaults and the entry
+closed_tables : (is_closed told 0x40 ≡ true) × (is_closed told 0x21F ≡ true) × (is_closed told 0x220 ≡ true) × (is_closed told 0x266 ≡ true)
+unfolding told story front tables any_below is_size_place
+closed_tables = (refl, refl, refl, refl)
+
+-- the property table without its data, and what lies behind
+closed_property : (is_closed told 0x267 ≡ true) × (is_closed told 0x268 ≡ true) × (is_closed told 0x269 ≡ false) × (is_closed told 0x26A ≡ true) × (is_closed told 0x26B ≡ false)
+unfolding told story front tables any_below is_size_place
+closed_property = (refl, refl, refl, refl, refl)
+
+-- the text, the words behind it, and static memory, whether there are bytes or not
+closed_rest : (is_closed told 0x26C ≡ true) × (is_closed told 0x26F ≡ true) × (is_closed told 0x270 ≡ false) × (is_closed told 0x272 ≡ true) × (is_closed told 0x273 ≡ true) × (is_closed told 0x274 ≡ false) × (is_closed told 0x27F ≡ false) × (is_closed told 0x280 ≡ true) × (is_closed told 65535 ≡ true) × (is_closed told 65536 ≡ true)
+unfolding told story front tables any_below is_size_place
+closed_rest = (refl, refl, refl, refl, refl, refl, refl, refl, refl, refl)
+
+-- a text without an end goes on to the end of memory, and a word that can't be read leads to none
+texts : (is_in_text (0x00 ∷ 0x00 ∷ 0x01 ∷ 0x02 ∷ 0x03 ∷ []) (Some 1) 1 ≡ false) × (is_in_text (0x00 ∷ 0x00 ∷ 0x01 ∷ 0x02 ∷ 0x03 ∷ []) (Some 1) 4 ≡ true) × (is_in_text (0x00 ∷ 0x00 ∷ 0x01 ∷ 0x02 ∷ 0x03 ∷ []) (Some 1) 5 ≡ false) × (is_in_text (0x00 ∷ 0x00 ∷ []) None 0 ≡ false)
+texts = (refl, refl, refl, refl)
+
+-- of an entry, the first seven bytes
+changing : (is_changing story 0x10 ≡ true) × (is_changing story 0x12 ≡ false) × (is_changing story 0x40 ≡ true) × (is_changing story 0x21F ≡ true) × (is_changing story 0x25D ≡ false) × (is_changing story 0x25E ≡ true) × (is_changing story 0x264 ≡ true) × (is_changing story 0x265 ≡ false) × (is_changing story 0x267 ≡ false)
+unfolding story front tables any_below
+changing = (refl, refl, refl, refl, refl, refl, refl, refl, refl)
+
+fixed : (is_fixed told 0x0F ≡ true) × (is_fixed told 0x10 ≡ false) × (is_fixed told 0x40 ≡ false) × (is_fixed told 0x220 ≡ true) × (is_fixed told 0x25E ≡ false) × (is_fixed told 0x265 ≡ true) × (is_fixed told 0x269 ≡ false) × (is_fixed told 0x272 ≡ true) × (is_fixed told 65536 ≡ true)
+unfolding told story front tables any_below is_size_place
+fixed = (refl, refl, refl, refl, refl, refl, refl, refl, refl)
+
+-- ---- cells
+
+-- an open byte, a fixed one, and one that is neither; a word is open, and fixed, where both of its bytes are
+cells : (cell_at told Byte 0x269 ≡ record { is_open = true; fixed = false; ends = exactly 0x2A }) × (cell_at told Byte 0x272 ≡ record { is_open = false; fixed = true; ends = exactly 0x01 }) × (cell_at told Byte 0x40 ≡ record { is_open = false; fixed = false; ends = exactly 0 }) × (cell_at told Word 0x270 ≡ record { is_open = true; fixed = false; ends = exactly 0xFFFE }) × (cell_at told Word 0x271 ≡ record { is_open = false; fixed = false; ends = exactly 0xFE01 }) × (cell_at told Word 0x272 ≡ record { is_open = false; fixed = true; ends = exactly 0x0102 }) × (cell_at told Word 0x273 ≡ record { is_open = false; fixed = false; ends = exactly 0x0200 })
+unfolding told story front tables any_below is_size_place
+cells = (refl, refl, refl, refl, refl, refl, refl)
+
+-- -2 and 258
+both_cells : (merged (cell_at told Word 0x270) (cell_at told Word 0x272) ≡ record { is_open = false; fixed = false; ends = record { least = 0x7FFE; greatest = 0x8102 } }) × (merged no_cell (cell_at told Word 0x272) ≡ cell_at told Word 0x272)
+unfolding told story front tables any_below is_size_place
+both_cells = (refl, refl)
+
+-- ---- what is read
+
+any_elements : (any_element interval_operations Byte ≡ between 0 255) × (any_element interval_operations Word ≡ interval_operations.any)
+unfolding between
+any_elements = (refl, refl)
+
+-- Bytes of the text, and its words: those at odd addresses are among them. The frozen word is known; with one more byte it isn't
+read : (elements interval_operations told Byte (between 0x26C 0x26C) (between 0 3) ≡ between 0 0x80) × (elements interval_operations told Word (between 0x26C 0x26C) (between 0 1) ≡ between 0x8000 0x80) × (elements interval_operations told Word (between 0x270 0x270) (between 1 1) ≡ between 0x0102 0x0102) × (elements interval_operations told Byte (between 0x272 0x274) (between 0 0) ≡ between 0 255) × (elements interval_operations told Word (between 0x272 0x273) (between 0 0) ≡ interval_operations.any)
+unfolding between told story front tables any_below is_size_place merged_below
+read = (refl, refl, refl, refl, refl)
