@@ -1,6 +1,6 @@
 //! Which bytes of memory an instruction may write.
 
-ghost use Rattle.std.specs.Prelude.{◌≡◌, ◌+◌, ◌≤◌, ◌&&◌, ◌||◌, nat_le, length, IsTrue};
+ghost use Rattle.std.specs.Prelude.{◌≡◌, ◌+◌, ◌≤◌, ◌&&◌, nat_le, length, IsTrue};
 ghost use Rattle.zstory.specs.LoadedStory.{static_base};
 ghost use Rattle.zstate.specs.Step.{are_writable};
 
@@ -14,7 +14,7 @@ const FLAGS_2: usize = 16;
 
 /// Whether one or two bytes from an address on may be written: in dynamic memory without the header, but for Flags 2 (Z 1.1.1.1).
 #[inline(always)]
-#[tactic(auto, using(crate::proofs::Rewriting::few_writable))]
+#[tactic(auto, using(crate::proofs::Rewriting::header_writable, crate::proofs::Rewriting::behind_writable))]
 pub(crate) fn are_writable(address: u16, count: u8, story: &Story) -> bool
     requires some { 1 ≤ count }
     requires few { count ≤ 2 }
@@ -24,13 +24,16 @@ pub(crate) fn are_writable(address: u16, count: u8, story: &Story) -> bool
 {
     let place = usize::from(address);
     let end = place + usize::from(count);
-    end <= story.static_base() && is_open(place, end)
+    let base = story.static_base();
+    if place < HEADER_LENGTH {
+        return is_in_flags_2(place, end);
+    }
+    end <= base
 }
 
-/// Whether what runs from a place up to an end lies behind the header, or in Flags 2.
-#[inline(always)]
-fn is_open(place: usize, end: usize) -> bool
-    ensures { result ≡ (nat_le 64 place || (nat_le 16 place && nat_le end 18)) }
+/// Whether what runs from a place up to an end lies in Flags 2.
+fn is_in_flags_2(place: usize, end: usize) -> bool
+    ensures { result ≡ (nat_le 16 place && nat_le end 18) }
 {
-    HEADER_LENGTH <= place || (FLAGS_2 <= place && end <= FLAGS_2 + 2)
+    FLAGS_2 <= place && end <= FLAGS_2 + 2
 }
