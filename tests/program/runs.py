@@ -9,6 +9,7 @@ import os
 import subprocess
 import sys
 
+from arrays import see_arrays
 from calls import see_calls
 from objects import see_objects
 from plays import see_plays
@@ -350,6 +351,7 @@ def main():
     see_calls(program, count)
     see_objects(program, count)
     see_properties(program, count)
+    see_arrays(program, count)
     see_streams(program, count)
     count.end()
 

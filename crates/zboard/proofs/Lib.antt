@@ -3,6 +3,7 @@ pub mod Landing
 pub mod Heads
 pub mod Limits
 pub mod Calls
+pub mod ElementThere
 pub mod ObjectThere
 pub mod StepLemmas
 pub mod Reading

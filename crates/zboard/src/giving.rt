@@ -7,8 +7,10 @@ ghost use Rattle.zword.specs.Binary.{signed};
 ghost use Rattle.ztext.specs.Output.{output_at, output_of_code};
 ghost use Rattle.zobj.specs.Entries.{HasEntry};
 ghost use Rattle.zobj.specs.Names.{short_name};
-ghost use Rattle.zboard.specs.Deed.{bytes_in, text_of};
+ghost use Rattle.zboard.specs.Deed.{bytes_in, said, text_of};
+ghost use Rattle.zboard.specs.declared.row.Saying.TheVariants.{Name};
 
+use crate::row::Saying;
 use itoa::Buffer;
 use std::alloc::AllocError;
 use zfault::Items;
@@ -35,9 +37,30 @@ pub(crate) fn give_decoded(
     }
 }
 
-/// Gives out the short name of an object, all or none. Only one that prints something can be refused memory.
+/// Gives out what a word says, all or none. Only what prints something can be refused memory.
 #[inline(never)]
-pub(crate) fn give_name(
+pub(crate) fn give_said(
+    saying: Saying,
+    memory: &[u8],
+    word: u16,
+    text: &mut Vec<u8>,
+    items: &mut Items,
+) -> Result<(), AllocError>
+    requires object { saying ≡ Name → (word < 256) × HasEntry memory.now word }
+    requires name { saying ≡ Name → IsOk (text_of (short_name memory.now word) memory.now) }
+    ensures ok { OnOk result (items.new.items ≡ items.old.items ++ map Text (said saying word memory.now)) }
+    ensures err { OnErr result (0 < length (said saying word memory.now)) }
+    ensures kept { OnErr result (items.new.items ≡ items.old.items) }
+{
+    match saying {
+        Saying::Character => give_character(word, items),
+        Saying::Number => give_number(word, items),
+        Saying::Name => give_name(memory, word as u8, text, items),
+    }
+}
+
+/// Gives out the short name of an object, all or none. Only one that prints something can be refused memory.
+fn give_name(
     memory: &[u8],
     object: u8,
     text: &mut Vec<u8>,
@@ -79,7 +102,7 @@ pub(crate) fn give_line(
 }
 
 /// Gives out the character of a code.
-pub(crate) fn give_character(code: u16, items: &mut Items) -> Result<(), AllocError>
+fn give_character(code: u16, items: &mut Items) -> Result<(), AllocError>
     ensures ok { OnOk result (items.new.items ≡ items.old.items ++ map Text (output_of_code code)) }
     ensures err { OnErr result (0 < length (output_of_code code)) }
     ensures kept { OnErr result (items.new.items ≡ items.old.items) }
@@ -91,7 +114,7 @@ pub(crate) fn give_character(code: u16, items: &mut Items) -> Result<(), AllocEr
 }
 
 /// Gives out a word as a signed number in decimals.
-pub(crate) fn give_number(word: u16, items: &mut Items) -> Result<(), AllocError>
+fn give_number(word: u16, items: &mut Items) -> Result<(), AllocError>
     ensures ok { OnOk result (items.new.items ≡ items.old.items ++ map Text (signed_decimal (signed word))) }
     ensures err { OnErr result (0 < length (signed_decimal (signed word))) }
     ensures kept { OnErr result (items.new.items ≡ items.old.items) }

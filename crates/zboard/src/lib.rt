@@ -1,6 +1,7 @@
 //! The session's board: a state on which steps are made without a test, over packed frames and decoded rows.
 #![tactic(auto)]
 
+mod arrays;
 mod board;
 mod calling;
 mod entering;
@@ -18,6 +19,6 @@ mod turning;
 
 pub use board::Board;
 pub use calling::callee_of;
-pub use row::{Action, Asking, Callee, Calling, Entering, Global, Row, Slot};
+pub use row::{Action, Asking, Callee, Calling, Entering, Global, Row, Saying, Slot};
 pub use running::{Played, play};
 pub use table::row_of;

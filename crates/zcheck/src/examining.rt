@@ -6,7 +6,7 @@ ghost use Rattle.zcheck.specs.Passes.{IsCause, IsRefused, Passes};
 use crate::refusal::Refusal;
 use crate::story_rules::broken_story_rule;
 use zcert::{Certificate, Spelled};
-use zpairs::Properties;
+use zruns::Tables;
 use zrule::judge;
 use zstory::Story;
 use ztext::TextEnds;
@@ -19,13 +19,13 @@ pub fn examine<V: Spelled>(story: &Story, certificate: &Certificate<V>) -> Optio
     if let Some(rule) = broken_story_rule(story, certificate) {
         return Some(Refusal::Story(rule));
     }
-    let properties = Properties::new(story, certificate.ranges());
+    let tables = Tables::new(story, certificate.ranges());
     let mut ends = TextEnds::new(story.memory());
     for index in 0..certificate.instruction_count() {
         let listed = certificate.instruction(index);
         if let Err(rule) = judge(
             story,
-            &properties,
+            &tables,
             certificate,
             &listed,
             index + 1,

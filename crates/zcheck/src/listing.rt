@@ -14,7 +14,7 @@ use crate::story_rules::broken_story_rule;
 use std::alloc::{AllocError, Global};
 use zcert::{Certificate, Spelled};
 use zlist::{Listing, Record};
-use zpairs::Properties;
+use zruns::Tables;
 use zrule::{Blocks, judge};
 use zstory::Story;
 use ztext::TextEnds;
@@ -74,13 +74,13 @@ fn each_judged<V: Spelled>(
     ensures records { IfOk result (λ records. AreRecords story.now certificate.now records.items) }
     ensures refused { IfErr result (IsRefused V.operations story.now certificate.now) }
 {
-    let properties = Properties::new(story, certificate.ranges());
+    let tables = Tables::new(story, certificate.ranges());
     let mut ends = TextEnds::new(story.memory());
     for index in 0..certificate.instruction_count() {
         let listed = certificate.instruction(index);
         let instruction = match judge(
             story,
-            &properties,
+            &tables,
             certificate,
             &listed,
             index + 1,

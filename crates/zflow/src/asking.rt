@@ -4,7 +4,8 @@ ghost use Rattle.std.specs.Prelude.{◌≡◌};
 ghost use Rattle.zflow.specs.Transfer.{demands_if, demands_of, divisor_of, naming, nothing, small};
 ghost use Rattle.zflow.specs.Kept.{both};
 
-use crate::parts::{Asked, Demands, Pairs};
+use crate::parts::{Access, Asked, Demands, Elements, Pairs};
+use zarray::Width;
 use zcode::Operation;
 use zdomain::Domain;
 use zword::BinaryOp;
@@ -32,6 +33,12 @@ fn demands_of<V: Domain>(operation: Operation, first: V, second: V) -> Demands<V
             demands.property = Some(pairs(Asked::Filled, first, second));
         }
         Operation::PropertyLength => demands.address = Some(first),
+        Operation::LoadArray(width) => {
+            demands.elements = Some(elements(Access::Reading, width, first, second));
+        }
+        Operation::StoreArray(width) => {
+            demands.elements = Some(elements(Access::Writing, width, first, second));
+        }
         Operation::Insert => {
             demands.object = Some(first);
             demands.under = Some(second);
@@ -87,6 +94,7 @@ fn nothing<V: Domain>() -> Demands<V>
         attribute: None,
         property: None,
         address: None,
+        elements: None,
         certain: true,
         has_text: false,
     }
@@ -111,6 +119,18 @@ fn pairs<V: Domain>(asked: Asked, objects: V, numbers: V) -> Pairs<V>
         asked,
         objects,
         numbers,
+    }
+}
+
+/// What is done with each element of an array of one set at an index of another.
+fn elements<V: Domain>(access: Access, width: Width, arrays: V, indices: V) -> Elements<V>
+    ensures { result ≡ record { access = access; width = width; arrays = arrays; indices = indices } }
+{
+    Elements {
+        access,
+        width,
+        arrays,
+        indices,
     }
 }
 

@@ -13,7 +13,7 @@ use crate::parts::{Demands, Lead, Outcome};
 use crate::view::{View, below, pops};
 use zcode::{Branch, Destination, Instr};
 use zdomain::Domain;
-use zpairs::Properties;
+use zruns::Tables;
 
 /// What comes of an instruction where its condition is answered so.
 #[derive(Drop)]
@@ -40,15 +40,15 @@ pub struct Flow<'a, V> {
 }
 
 /// What may come of an instruction of a story before which this is known: sets of the globals, of the frame's locals and of its slots,
-/// the top slot last. Each set is computed once. What properties answer is taken from `properties`.
+/// the top slot last. Each set is computed once. What properties answer and what arrays have is taken from `tables`.
 pub fn flow_of<'a, V: Domain>(
-    properties: &Properties<'_>,
+    tables: &Tables<'_>,
     globals: &[V],
     locals: &'a [V],
     slots: &'a [V],
     instruction: &Instr,
 ) -> Flow<'a, V>
-    ensures { IsFlow V.operations globals.now properties.now instruction.now (shape_of locals.now slots.now) result }
+    ensures { IsFlow V.operations globals.now tables.now instruction.now (shape_of locals.now slots.now) result }
 {
     let before = View {
         globals,
@@ -61,7 +61,7 @@ pub fn flow_of<'a, V: Domain>(
     let operation = instruction.opcode().operation();
     let (first, second) = before.read(operands);
     let outcomes = outcomes_if(
-        properties,
+        tables,
         operation,
         operands,
         first,

@@ -13,7 +13,7 @@ use crate::parts::{Kept, Lead, Outcome};
 use crate::view::View;
 use zcode::{Operand, Operation};
 use zdomain::Domain;
-use zpairs::Properties;
+use zruns::Tables;
 use zword::{CountOp, Question};
 
 /// How many bytes of data a property has at most (Z 12.4.1).
@@ -30,34 +30,34 @@ pub(crate) struct Outcomes<V> {
 
 /// What may come of an instruction, by what it does; of one that does nothing, nothing.
 pub(crate) fn outcomes_if<V: Domain>(
-    properties: &Properties<'_>,
+    tables: &Tables<'_>,
     operation: Option<Operation>,
     operands: &[Operand],
     first: V,
     second: V,
     view: View<'_, V>,
 ) -> Outcomes<V>
-    ensures held { result.held ≡ outcome_if V.operations view.entry.globals.now properties.now operation operands.now (both first second) (seen view.entry) true }
-    ensures failed { result.failed ≡ outcome_if V.operations view.entry.globals.now properties.now operation operands.now (both first second) (seen view.entry) false }
+    ensures held { result.held ≡ outcome_if V.operations view.entry.globals.now tables.now operation operands.now (both first second) (seen view.entry) true }
+    ensures failed { result.failed ≡ outcome_if V.operations view.entry.globals.now tables.now operation operands.now (both first second) (seen view.entry) false }
 {
     match operation {
         None => never(),
-        Some(operation) => outcomes_of(properties, operation, operands, first, second, view),
+        Some(operation) => outcomes_of(tables, operation, operands, first, second, view),
     }
 }
 
 /// What may come of an operation on operands whose first two have these sets. `view` is what is known once they were read.
 #[tactic(auto, unfolding(crate::specs::Transfer::outcome_of))]
 fn outcomes_of<V: Domain>(
-    properties: &Properties<'_>,
+    tables: &Tables<'_>,
     operation: Operation,
     operands: &[Operand],
     first: V,
     second: V,
     view: View<'_, V>,
 ) -> Outcomes<V>
-    ensures held { result.held ≡ outcome_of V.operations view.entry.globals.now properties.now operation operands.now (both first second) (seen view.entry) true }
-    ensures failed { result.failed ≡ outcome_of V.operations view.entry.globals.now properties.now operation operands.now (both first second) (seen view.entry) false }
+    ensures held { result.held ≡ outcome_of V.operations view.entry.globals.now tables.now operation operands.now (both first second) (seen view.entry) true }
+    ensures failed { result.failed ≡ outcome_of V.operations view.entry.globals.now tables.now operation operands.now (both first second) (seen view.entry) false }
 {
     match operation {
         Operation::Unary(op) => once(gives_in(V::unary(op, first))),
@@ -78,16 +78,20 @@ fn outcomes_of<V: Domain>(
         | Operation::Insert
         | Operation::Remove
         | Operation::SetProperty
-        | Operation::PrintObject => once(goes_on()),
+        | Operation::PrintObject
+        | Operation::StoreArray(_) => once(goes_on()),
         Operation::Quit => never(),
         Operation::Return => once(returns_in(first)),
         Operation::PrintReturn => once(returns_in(V::single(1))),
         Operation::Call => called(first),
         Operation::Inside | Operation::TestAttribute => either(),
-        Operation::Follow(_) => followed(properties.story().objects()),
-        Operation::Property(question) => once(gives_in(properties.answers(
-            question, first, second,
-        ))),
+        Operation::Follow(_) => followed(tables.story().objects()),
+        Operation::Property(question) => {
+            once(gives_in(tables.properties().answers(question, first, second)))
+        }
+        Operation::LoadArray(width) => {
+            once(gives_in(tables.runs().elements(width, first, second)))
+        }
         Operation::PropertyLength => once(gives_in(V::between(0, LONGEST_DATA))),
     }
 }

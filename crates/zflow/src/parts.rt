@@ -1,5 +1,6 @@
 //! The parts of what may come of an instruction.
 
+use zarray::Width;
 use zobj::PropertyQuestion;
 
 /// What an operation asks for, once for an instruction.
@@ -21,6 +22,8 @@ pub struct Demands<V> {
     pub property: Option<Pairs<V>>,
     /// The values that it takes for the address of a property's data, of which it asks the length.
     pub address: Option<V>,
+    /// The elements of arrays that it reads or writes.
+    pub elements: Option<Elements<V>>,
     /// It is known how far it jumps, if it jumps.
     pub certain: bool,
     /// A text stands behind the opcode byte.
@@ -45,6 +48,28 @@ pub struct Pairs<V> {
     pub objects: V,
     /// The numbers of the properties.
     pub numbers: V,
+}
+
+/// What is done with an element of an array.
+#[derive(Clone, Copy)]
+pub enum Access {
+    /// It is read.
+    Reading,
+    /// It is written.
+    Writing,
+}
+
+/// What is done with each element that an array at an address of one set has at an index of another.
+#[derive(Clone, Copy)]
+pub struct Elements<V> {
+    /// What is done.
+    pub access: Access,
+    /// What the elements are.
+    pub width: Width,
+    /// The addresses of the arrays.
+    pub arrays: V,
+    /// The indices.
+    pub indices: V,
 }
 
 /// Where an instruction leads.

@@ -23,13 +23,14 @@ use Rattle.zobj.specs.Moves.{inserted, unlinked}
 use Rattle.zobj.specs.Names.{short_name}
 use Rattle.zobj.specs.Properties.{property_of}
 use Rattle.zobj.specs.Values.{length_before, with_property}
+use Rattle.zarray.specs.Arrays.{span, place_of, element_at, with_element}
 use Rattle.zstory.specs.LoadedStory.{LoadedStory}
 use Rattle.zstate.specs.declared.halt.Halt.{Halt}
 use Rattle.zstate.specs.declared.halt.Halt.TheVariants as halts
 use Rattle.zstate.specs.InTurn.{◌>>=◌, in_turn}
 use Rattle.zstate.specs.State.{State, Scope, Setting, exists, has_room, fault, pop, found, read_named, read_variable, read_operand, read_in_place}
 use Rattle.zstate.specs.Run.{need_in, awaited}
-use Rattle.zstate.specs.Step.{Effect, Move, Done, closing, expects, giving, course, has_caller, is_taken, is_roomy, decoded, fetch, arg, printed, print_at, is_object, rearranging, answering, reading, is_data_writable, filling, naming, effect_of, effect_if, asked, waits, admits, pauses, settle, plan, step}
+use Rattle.zstate.specs.Step.{Effect, Move, Done, closing, expects, giving, course, has_caller, is_taken, is_roomy, decoded, fetch, arg, printed, print_at, is_object, rearranging, answering, reading, are_writable, is_data_writable, filling, naming, effect_of, effect_if, asked, waits, admits, pauses, settle, plan, step}
 
 abbrev pub IsNeedless : {A : Type 0} → Result A Halt → Type 0
 IsNeedless (Ok x) = Unit {0}
@@ -170,6 +171,9 @@ of_operation m (operations.Property question) values s = of_object (is_object m.
 of_operation m operations.PropertyLength values s = of_reading (length_before s.memory (arg values 0))
 of_operation m operations.SetProperty values s = of_object (is_object m.story (arg values 0)) _ (of_filling (with_property (arg values 0) (arg values 1) (arg values 2) s.memory) (is_data_writable m.story (property_of s.memory (arg values 0) (arg values 1))))
 of_operation m operations.PrintObject values s = of_object (is_object m.story (arg values 0)) _ (of_naming (short_name s.memory (arg values 0)) s.memory)
+of_operation m (operations.LoadArray width) values s = of_reading (element_at width s.memory (place_of width (arg values 0) (arg values 1)))
+of_operation m (operations.StoreArray width) values s =
+    let p = place_of width (arg values 0) (arg values 1) in of_filling (Ok (with_element width p (arg values 2) s.memory)) (are_writable m.story p (span width))
 of_operation m _ values s = refl
 
 of_effect : (m : Setting) (o : Option Operation) (values : List ℕ) (s : State) → NeedsNothing (effect_if m o values s)

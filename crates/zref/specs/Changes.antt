@@ -1,7 +1,8 @@
--- Changes of what objects keep: of their attributes, of the tree, and of what their properties hold.
-use Rattle.std.specs.Prelude.{◌≡◌, ℕ, ◌+◌, ◌<◌, ◌≤◌, true, false, List, Option, IfSome, Ok}
+-- Changes of what objects keep, their attributes, the tree and what their properties hold, and of elements of arrays.
+use Rattle.std.specs.Prelude.{◌≡◌, ℕ, ◌+◌, ◌<◌, ◌≤◌, true, false, List, length, Option, IfSome, Ok}
 use Rattle.std.specs.Result.{result_unwrap_or}
 use Rattle.zstory.specs.LoadedStory.{LoadedStory, static_base}
+use Rattle.zarray.specs.Arrays.{span, with_element}
 use Rattle.zobj.specs.Attributes.{with_attribute}
 use Rattle.zobj.specs.declared.moves.Lead.{Lead}
 use Rattle.zobj.specs.declared.property.Property.{Property}
@@ -9,17 +10,18 @@ use Rattle.zobj.specs.Moves.{IsLead, lead_of, led_past, alone, first_under}
 use Rattle.zobj.specs.Properties.{IsReadable}
 use Rattle.zobj.specs.Values.{with_value}
 use Rattle.zcode.specs.declared.operation.Operation.{Operation}
-use Rattle.zcode.specs.declared.operation.Operation.TheVariants.{SetAttribute, ClearAttribute, Insert, Remove, SetProperty}
+use Rattle.zcode.specs.declared.operation.Operation.TheVariants.{SetAttribute, ClearAttribute, Insert, Remove, SetProperty, StoreArray}
 use Rattle.zref.specs.declared.changes.Change.{Change}
 use Rattle.zref.specs.declared.changes.Change.TheVariants as changes
 
--- the operation changes what objects keep, and nothing else
+-- the operation changes what objects keep, or an element of an array, and nothing else
 abbrev pub Rewrites : Operation → Type 0
 Rewrites SetAttribute = Unit {0}
 Rewrites ClearAttribute = Unit {0}
 Rewrites Insert = Unit {0}
 Rewrites Remove = Unit {0}
 Rewrites SetProperty = Unit {0}
+Rewrites (StoreArray width) = Unit {0}
 Rewrites operation = ⊥
 
 -- the memory with a word in a property's data; one whose data is too long stays as it is
@@ -33,6 +35,7 @@ changed_by (changes.ClearAttribute object attribute) memory = with_attribute fal
 changed_by (changes.Insert object lead under) memory = first_under object under (alone object (led_past object lead memory))
 changed_by (changes.Remove object lead) memory = alone object (led_past object lead memory)
 changed_by (changes.SetProperty property word) memory = filled property word memory
+changed_by (changes.SetElement width address word) memory = with_element width address word memory
 
 abbrev pub IsAmong : ℕ → ℕ → Type 0
 IsAmong objects object = (1 ≤ object) × (object ≤ objects)
@@ -56,3 +59,4 @@ IsTested story memory (changes.ClearAttribute object attribute) = IsAmong story.
 IsTested story memory (changes.Insert object lead under) = IsLedTo story.objects memory object lead × IsAmong story.objects under
 IsTested story memory (changes.Remove object lead) = IsLedTo story.objects memory object lead
 IsTested story memory (changes.SetProperty property word) = IsFillable memory (static_base story) property
+IsTested story memory (changes.SetElement width address word) = (address + span width ≤ static_base story) × (address + span width ≤ length memory)

@@ -2,6 +2,7 @@
 #![tactic(auto)]
 
 mod act;
+mod arrays;
 mod cache;
 mod changes;
 mod effect;
@@ -13,6 +14,7 @@ mod row;
 mod scope;
 mod settling;
 mod step;
+mod writing;
 
 pub use machine::CheckedMachine;
 pub use scope::Scope;

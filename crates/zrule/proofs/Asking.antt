@@ -16,7 +16,7 @@ use Rattle.zflow.specs.Flow.{IsFlow}
 use Rattle.zrule.specs.declared.rule.Rule.{Rule}
 use Rattle.zrule.specs.declared.rule.Rule.TheVariants.{Decodes, Height, Local, Successor, Object, Attribute, Property, Divisor, Write, Read, Text, Called, Returned, Known, Stored, High}
 use Rattle.zrule.specs.Claims.{Entry, Claims, frozen_in, told_of}
-use Rattle.zrule.specs.Rules.{IsThere, demands_at, IsKnown, Divides, KnowsAnswers, ReadsLength, CallsBegin, HasFixedText, Asks, Keeps}
+use Rattle.zrule.specs.Rules.{IsThere, demands_at, IsKnown, Divides, KnowsAnswers, Reads, CallsBegin, HasFixedText, Asks, Keeps}
 use Rattle.zrule.specs.Edges.{EdgesKeep}
 use Rattle.zrule.proofs.Whatever.{leads_on, called, returned, stored, high}
 
@@ -57,7 +57,7 @@ module _ {V : Type 0} (o : SetOperations V) (claims : Claims V) (story : LoadedS
     as_is : (r : Rule) → rule ≡ r → IsTrue b ↔ EdgesKeep o claims story (argument_sets o claims.globals i e.shape) e.routine (p + i.size) (target i) r flow
     as_is r is = subst (λ (r : Rule). IsTrue b ↔ EdgesKeep o claims story (argument_sets o claims.globals i e.shape) e.routine (p + i.size) (target i) r flow) is keep
 
-    pub successor_asked : rule ≡ Successor → (d g : Bool) → (IsTrue d → Divides o claims i e.shape) → (IsTrue d → ReadsLength o claims story i e.shape) → (IsTrue d → KnowsAnswers o claims story i e.shape) → d ≡ true → (IsTrue g → CallsBegin o claims story i e.shape) → g ≡ true → flow.demands.certain ≡ true → IsTrue b ↔ Asks o claims story p e i rule
+    pub successor_asked : rule ≡ Successor → (d g : Bool) → (IsTrue d → Divides o claims i e.shape) → (IsTrue d → Reads o claims story i e.shape) → (IsTrue d → KnowsAnswers o claims story i e.shape) → d ≡ true → (IsTrue g → CallsBegin o claims story i e.shape) → g ≡ true → flow.demands.certain ≡ true → IsTrue b ↔ Asks o claims story p e i rule
     successor_asked is d g divides reads knows there begin begun certain =
         let kept = as_is Successor is in
         let edges = leads_on o claims story i e.shape flow are (argument_sets o claims.globals i e.shape) e.routine (p + i.size) in
@@ -66,7 +66,7 @@ module _ {V : Type 0} (o : SetOperations V) (claims : Claims V) (story : LoadedS
         subst (λ (r : Rule). IsTrue b ↔ Asks o claims story p e i r) (sym is) (λ t _ _ _ _. (sure, edges.0 (kept.0 t)), λ h. kept.1 (edges.1 (h (divides there) (reads there) (knows there) (begin begun)).1))
 
     -- where it isn't known how far a jump goes
-    pub uncertain_asked : (d g : Bool) → (IsTrue d → Divides o claims i e.shape) → (IsTrue d → ReadsLength o claims story i e.shape) → (IsTrue d → KnowsAnswers o claims story i e.shape) → d ≡ true → (IsTrue g → CallsBegin o claims story i e.shape) → g ≡ true → flow.demands.certain ≡ false → IsTrue flow.demands.certain ↔ Asks o claims story p e i Successor
+    pub uncertain_asked : (d g : Bool) → (IsTrue d → Divides o claims i e.shape) → (IsTrue d → Reads o claims story i e.shape) → (IsTrue d → KnowsAnswers o claims story i e.shape) → d ≡ true → (IsTrue g → CallsBegin o claims story i e.shape) → g ≡ true → flow.demands.certain ≡ false → IsTrue flow.demands.certain ↔ Asks o claims story p e i Successor
     uncertain_asked d g divides reads knows there begin begun uncertain =
         (λ t. absurd (let u = uncertain in cc), λ h. subst (λ (x : Demands V). IsTrue x.certain) (sym are.demands) (h (divides there) (reads there) (knows there) (begin begun)).0)
 

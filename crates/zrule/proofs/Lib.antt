@@ -6,6 +6,7 @@ mod Order
 pub mod Listed
 mod Whatever
 pub mod Answering
+pub mod Storing
 mod Asking
 pub mod Sets
 mod Memory

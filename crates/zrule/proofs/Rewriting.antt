@@ -1,5 +1,5 @@
 -- What is said of every memory of a play stays so when attributes, links of objects or properties are written.
-use Rattle.std.proofs.Common.{◌≡◌, inl, inr, ℕ, ◌+◌, ◌*◌, ◌/◌, ◌<◌, ◌≤◌, Bool, false, List, length, Result, Ok, Err, refl, sym, ap, subst, ◌∙◌, arith}
+use Rattle.std.proofs.Common.{◌≡◌, ◌⊎◌, inl, inr, ℕ, ◌+◌, ◌*◌, ◌/◌, ◌<◌, ◌≤◌, Bool, false, List, length, Result, Ok, Err, refl, sym, ap, subst, ◌∙◌, arith}
 use Rattle.std.specs.Prelude.{IfOk}
 use Rattle.std.specs.Result.{IsOkAnd}
 use Rattle.std.proofs.lemmas.Option.{slice_get_within}
@@ -20,7 +20,7 @@ use Rattle.zobj.specs.Values.{IsDataByte}
 use Rattle.zobj.proofs.Bytes.{differs_there, entry_byte_is, entry_byte_rests}
 use Rattle.zobj.proofs.Keeping.{inserted_only, inserted_tree, unlinked_only, unlinked_stays}
 use Rattle.zdomain.specs.Domain.{SetOperations, In}
-use Rattle.zplace.specs.Bytes.{IsChanging, IsFixed, IsWithin}
+use Rattle.zplace.specs.Bytes.{IsClosed, IsFixed, IsObjectState, IsOpen, IsWithin, a_global, an_entry}
 use Rattle.zplace.specs.Tables.{HasPropertyTables, IsPropertyData}
 use Rattle.zplace.proofs.Staying.{data_unfixed}
 use Rattle.zrule.specs.Claims.{Claims, frozen_in}
@@ -90,26 +90,26 @@ module _ {V : Type 0} (o : SetOperations V) (claims : Claims V) (story : LoadedS
   pub inserted_described : (object under : ℕ) → 1 ≤ object → object ≤ story.objects → 1 ≤ under → under ≤ story.objects → IsOkAnd (inserted story.objects object under memory) (DescribedMemory o claims story)
   inserted_described object under least most first last = moved_described _ (inserted_only story.objects memory has object least most under first last) (inserted_tree story.objects memory has object least most under first last d.tree)
 
-  -- a property is given a word: its data are neither globals nor links, and nothing of them is fixed
-  module _ (properties : HasPropertyTables story) (property : Property) (there : (p : ℕ) → IsDataByte property p → IsPropertyData story p) (unfrozen : (p : ℕ) → IsDataByte property p → (frozen_in claims) p ≡ false) (after : List ℕ) (differs : DiffersOnly (IsDataByte property) memory after) where
+  -- bytes are written that are neither globals nor what objects keep of their own, and of which nothing is fixed
+  module _ (property : Property) (apart : (p : ℕ) → IsDataByte property p → (IsWithin (globals story) 480 p ⊎ IsObjectState story p) → ⊥) (unfixed : (p : ℕ) → IsDataByte property p → IsFixed story (frozen_in claims) p → ⊥) (after : List ℕ) (differs : DiffersOnly (IsDataByte property) memory after) where
     other_stays : (p : ℕ) → (IsDataByte property p → ⊥) → byte_at after p ≡ byte_at memory p
     other_stays p outside = elim (differs.rest p) [ inl e ↦ e | inr is ↦ absurd (outside is) ]
 
-    changing_stays : (p : ℕ) → IsChanging story p → byte_at after p ≡ byte_at memory p
-    changing_stays p changing = other_stays p (λ is. properties.data_still p (there p is) changing)
+    own_stays : (p : ℕ) → (IsWithin (globals story) 480 p ⊎ IsObjectState story p) → byte_at after p ≡ byte_at memory p
+    own_stays p own = other_stays p (λ is. apart p is own)
 
-    filled_values : HasGlobals o claims story after
-    filled_values k values is =
+    written_values : HasGlobals o claims story after
+    written_values k values is =
         let below = slice_get_within claims.globals k values is in
-        let high = changing_stays (globals story + 2 * k) (inr (inl (omega arith, omega (arith, below, few)))) in
-        let low = changing_stays (globals story + 2 * k + 1) (inr (inl (omega arith, omega (arith, below, few)))) in
+        let high = own_stays (globals story + 2 * k) (inl (omega arith, omega (arith, below, few))) in
+        let low = own_stays (globals story + 2 * k + 1) (inl (omega arith, omega (arith, below, few))) in
         subst (In o values) (sym (word_is high low)) (d.values k values is)
       where
         word_is : byte_at after (globals story + 2 * k) ≡ byte_at memory (globals story + 2 * k) → byte_at after (globals story + 2 * k + 1) ≡ byte_at memory (globals story + 2 * k + 1) → word_at after (globals story + 2 * k) ≡ word_at memory (globals story + 2 * k)
         word_is high low = rw (high, low) refl
 
-    filled_fixed : (p : ℕ) → IsFixed story (frozen_in claims) p → byte_at after p ≡ byte_at story.memory p
-    filled_fixed p fixed = other_stays p (λ is. data_unfixed story (frozen_in claims) properties p (there p is) (unfrozen p is) fixed.closed) ∙ d.fixed p fixed
+    written_fixed : (p : ℕ) → IsFixed story (frozen_in claims) p → byte_at after p ≡ byte_at story.memory p
+    written_fixed p fixed = other_stays p (λ is. unfixed p is fixed) ∙ d.fixed p fixed
 
     link_low : (link : Link) → (link_byte link < 7) × (4 ≤ link_byte link)
     link_low Parent = (omega arith, omega arith)
@@ -120,13 +120,13 @@ module _ {V : Type 0} (o : SetOperations V) (claims : Claims V) (story : LoadedS
     table_stays : header.object_table after ≡ object_table story → (object : ℕ) → object_place after object ≡ object_place story.memory object
     table_stays e object = rw e refl
 
-    filled_tree : header.object_table after ≡ object_table story → IsTree after story.objects
-    filled_tree place = record {
+    written_tree : header.object_table after ≡ object_table story → IsTree after story.objects
+    written_tree place = record {
       small = λ link object from to.
           let k = link_low link in
           let now_place = table_stays place object in
           let was_place : object_place memory object ≡ object_place story.memory object = rw same refl in
-          let stays = changing_stays (object_place story.memory object + link_byte link) (inr (inr (record { object = object; first = from; last = to; inside = (omega arith, omega (arith, k.0)) }))) in
+          let stays = own_stays (object_place story.memory object + link_byte link) (inr (record { object = object; first = from; last = to; inside = (omega arith, omega (arith, k.0)) })) in
           let now = entry_byte_is after object (link_byte link) from in
           let was = entry_byte_is memory object (link_byte link) from in
           let small : linked link memory object ≤ story.objects = d.tree.small link object from to in
@@ -135,5 +135,21 @@ module _ {V : Type 0} (o : SetOperations V) (claims : Claims V) (story : LoadedS
           omega (arith, stays, now, was, small, now_is, was_is);
     }
 
-    pub filled_described : header.object_table after ≡ object_table story → DescribedMemory o claims story after
-    filled_described place = record { long = differs.size ∙ d.long; values = filled_values; tree = filled_tree place; fixed = filled_fixed }
+    written_described : header.object_table after ≡ object_table story → DescribedMemory o claims story after
+    written_described place = record { long = differs.size ∙ d.long; values = written_values; tree = written_tree place; fixed = written_fixed }
+
+  -- a property is given a word
+  pub filled_described : (properties : HasPropertyTables story) (property : Property) (there : (p : ℕ) → IsDataByte property p → IsPropertyData story p) (unfrozen : (p : ℕ) → IsDataByte property p → (frozen_in claims) p ≡ false) (after : List ℕ) → DiffersOnly (IsDataByte property) memory after → header.object_table after ≡ object_table story → DescribedMemory o claims story after
+  filled_described properties property there unfrozen = written_described property
+      (λ p is own. properties.data_still p (there p is) (inr own))
+      (λ p is fixed. data_unfixed story (frozen_in claims) properties p (there p is) (unfrozen p is) fixed.closed)
+
+  -- the entries of objects are closed
+  state_closed : (p : ℕ) → IsObjectState story p → IsClosed story (frozen_in claims) p
+  state_closed p is = let inside = is.inside in an_entry (record { object = is.object; first = is.first; last = is.last; inside = (inside.0, omega (arith, inside.1)) })
+
+  -- open bytes are given others
+  pub stored_described : (property : Property) (free : (p : ℕ) → IsDataByte property p → IsOpen story (frozen_in claims) p) (after : List ℕ) → DiffersOnly (IsDataByte property) memory after → header.object_table after ≡ object_table story → DescribedMemory o claims story after
+  stored_described property free = written_described property
+      (λ p is own. elim own [ inl is_global ↦ free p is (a_global is_global) | inr state ↦ free p is (state_closed p state) ])
+      (λ p is fixed. free p is fixed.closed)

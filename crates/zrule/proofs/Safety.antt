@@ -21,7 +21,7 @@ use Rattle.zcode.specs.declared.instr.Operand.TheVariants.{Constant, Variable}
 use Rattle.zcode.specs.declared.instr.Destination.{Destination}
 use Rattle.zcode.specs.declared.instr.Destination.TheVariants.{ReturnFalse, ReturnTrue, Relative}
 use Rattle.zcode.specs.declared.operation.Operation.{Operation}
-use Rattle.zcode.specs.declared.operation.Operation.TheVariants.{Unary, Binary, Compare, Count, Store, Load, Jump, Verify, PrintChar, PrintNumber, Print, NewLine, Nop, Quit, Return, PrintReturn, Call, Inside, TestAttribute, Follow, SetAttribute, ClearAttribute, Insert, Remove, Property, PropertyLength, SetProperty, PrintObject}
+use Rattle.zcode.specs.declared.operation.Operation.TheVariants.{Unary, Binary, Compare, Count, Store, Load, Jump, Verify, PrintChar, PrintNumber, Print, NewLine, Nop, Quit, Return, PrintReturn, Call, Inside, TestAttribute, Follow, SetAttribute, ClearAttribute, Insert, Remove, Property, PropertyLength, SetProperty, PrintObject, LoadArray, StoreArray}
 use Rattle.zcode.specs.Instruction.{Instruction}
 use Rattle.zcode.specs.Operation.{operation_of, inputs, target}
 use Rattle.zcode.specs.Playable.{playable}
@@ -38,6 +38,9 @@ use Rattle.zobj.specs.declared.answers.PropertyQuestion.{PropertyQuestion}
 use Rattle.zobj.specs.Answers.{answer_of}
 use Rattle.zobj.specs.Names.{short_name}
 use Rattle.zobj.specs.Properties.{property_of}
+use Rattle.zarray.specs.declared.width.Width.{Width}
+use Rattle.zarray.specs.Arrays.{place_of as element_place, element_at, with_element}
+use Rattle.zruns.specs.Runs.{AreOpen, AreReadable}
 use Rattle.zobj.specs.Values.{IsDataByte, length_before, with_property}
 use Rattle.zobj.proofs.Answering.{length_small}
 use Rattle.zdomain.specs.Domain.{SetOperations, AreSound, In, Within}
@@ -45,7 +48,7 @@ use Rattle.zstate.specs.declared.halt.Halt.{Halt}
 use Rattle.zstate.specs.declared.halt.Halt.TheVariants as halts
 use Rattle.zstate.specs.InTurn.{◌>>=◌}
 use Rattle.zstate.specs.State.{Frame, State, Setting, IsState, at_place, popped, with_stack, with_locals, with_memory, write_word, global, exists, put_named, put_in_place, read_in_place, has_head, fault}
-use Rattle.zstate.specs.Step.{Called, Move, on, back, into, calling, closing, called_at, call_of, unpacked, arguments, initial, behind_head, place_of, entered, Effect, Done, way, arg, asked_of, giving, assigning, testing, printing, jumping, following, marking, rearranging, rewriting, rewritten, answering, reading, filling, naming, is_data_writable, fetch, printed, print_at, effect_of, effect_if, has_caller, is_taken, turned, course, admits, pauses, assigned, changed, stored, left, moved, advance, act, step}
+use Rattle.zstate.specs.Step.{Called, Move, on, back, into, calling, closing, called_at, call_of, unpacked, arguments, initial, behind_head, place_of, entered, Effect, Done, way, arg, asked_of, giving, assigning, testing, printing, jumping, following, marking, rearranging, rewriting, rewritten, answering, reading, filling, storing, naming, is_data_writable, fetch, printed, print_at, effect_of, effect_if, has_caller, is_taken, turned, course, admits, pauses, assigned, changed, stored, left, moved, advance, act, step}
 use Rattle.zstate.proofs.Effects.{table_place}
 use Rattle.zstate.proofs.Keeps.{put_aside, changed_aside, step_keeps}
 use Rattle.zflow.specs.declared.parts.Lead.{Lead}
@@ -57,7 +60,7 @@ use Rattle.zpairs.specs.Pairs.{AreUnfrozen}
 use Rattle.zflow.specs.Transfer.{Shape, pops, variable_set, small, local_kept, operand_kept, both_kept, untold, counted_set, demands_of, demands_if, goes_on, gives_in, assigns_in, asks, counts_in, follows_in, returns_in, enters_in, argument_sets, jumps, outcome_of, outcome_if, leading, turned_to, named_with, with_result, with_assigned, narrowed, read_set, mid_shape, changed_by, after}
 use Rattle.zrule.specs.declared.rule.Rule.TheVariants as rules
 use Rattle.zrule.specs.Claims.{Claims, frozen_in, told_of}
-use Rattle.zrule.specs.Rules.{Begins, Enters, TakesBack, result_if, result_at, Leads, IsThere, HasFixedText, IsKnown, IsNamed, IsVariable, HasTop, Supports, Takes, TakesInPlace, GoesOn, Returns, OnEdge, Whatever, IsLow, demands_at, AreObjects, NamesObject, Finds, FindsProperty, Spares, KnowsAnswers}
+use Rattle.zrule.specs.Rules.{Begins, Enters, TakesBack, result_if, result_at, Leads, IsThere, HasFixedText, IsKnown, IsNamed, IsVariable, HasTop, Supports, Takes, TakesInPlace, GoesOn, Returns, OnEdge, Whatever, IsLow, demands_at, AreObjects, NamesObject, Finds, FindsProperty, Spares, AreRead, AreWritten, KnowsAnswers}
 use Rattle.zrule.specs.Described.{Callers, Described, DescribedMemory, Fits, FitsWith, IsSafe, IsListedIn, IsLoadedStory}
 use Rattle.zrule.proofs.Sets.{ReadsAll, reads_all, fits_popped, zip_set, zip_length}
 use Rattle.zrule.proofs.Unchanged.{static_fixed, drop_same, abbreviation_same}
@@ -70,7 +73,8 @@ use Rattle.zrule.proofs.Parts.{Hold, HoldsOne, narrowed_fits, variable_there, sm
 use Rattle.zrule.proofs.Stepping.{fetch_is, done_at, made_by, step_is}
 use Rattle.zrule.proofs.Pieces.{between_small, known_wherever, not_below_one, not_none, not_zero, object_known, on_true, two_asked, first_there, assigned_local, length_assigned, edge_of, defined_where, kept_holds}
 use Rattle.zrule.proofs.Answering.{Filled, answer_lies, answered, filled, found_same, length_there, name_printed}
-use Rattle.zrule.proofs.Rewriting.{filled_described, inserted_described, marked_described, unlinked_described}
+use Rattle.zrule.proofs.Storing.{bytes_of, data_open, element_differs, element_lies, element_there, element_writable}
+use Rattle.zrule.proofs.Rewriting.{filled_described, stored_described, inserted_described, marked_described, unlinked_described}
 
 module _ {V : Type 0} (o : SetOperations V) (lawful : AreSound o) (claims : Claims V) (m : Setting) (loaded : IsLoadedStory m.story) (supports : Supports o claims m.story) (listed : IsListedIn o claims m.scope) (s : State) (d : Described o claims m.limit m.story s) (i : Instruction) (there : IsThere m.story d.at i) where
   abbrev operands : List Operand
@@ -126,6 +130,8 @@ module _ {V : Type 0} (o : SetOperations V) (lawful : AreSound o) (claims : Clai
     pub property : IfSome out.property (λ p. Finds o m.story p.asked p.objects p.numbers)
     pub spares : IfSome out.property (λ p. Spares o m.story (frozen_in claims) p.asked p.objects p.numbers)
     pub address : IfSome out.address (λ a. (x : ℕ) → In o a x → IsTrue (is_some (length_before m.story.memory x)))
+    pub written : IfSome out.elements (λ x. AreWritten o m.story (frozen_in claims) x.access x.width x.arrays x.indices)
+    pub read : IfSome out.elements (λ x. AreRead o m.story x.access x.width x.arrays x.indices)
     pub certain : IsTrue out.certain
     text : OnTrue out.has_text (HasFixedText m.story (frozen_in claims) (d.at + 1))
 
@@ -145,8 +151,10 @@ module _ {V : Type 0} (o : SetOperations V) (lawful : AreSound o) (claims : Clai
     object = supports.each d.at d.entry d.listed rules.Object i there;
     attribute = supports.each d.at d.entry d.listed rules.Attribute i there;
     property = supports.each d.at d.entry d.listed rules.Property i there;
-    spares = supports.each d.at d.entry d.listed rules.Write i there;
-    address = supports.each d.at d.entry d.listed rules.Read i there;
+    spares = (supports.each d.at d.entry d.listed rules.Write i there).0;
+    written = (supports.each d.at d.entry d.listed rules.Write i there).1;
+    address = (supports.each d.at d.entry d.listed rules.Read i there).0;
+    read = (supports.each d.at d.entry d.listed rules.Read i there).1;
     certain = successor.0;
     text = supports.each d.at d.entry d.listed rules.Text i there;
   }
@@ -539,6 +547,23 @@ module _ {V : Type 0} (o : SetOperations V) (lawful : AreSound o) (claims : Clai
       let place = table_place m.story s.memory f.after f.property (sym (ap (is_data_writable m.story) f.found) ∙ f.writable) f.differs ∙ d.is_state.tables in
       rw (is, writable) (rewrites SetProperty f.after (true, refl) (filled_described o claims m.story supports.tables supports.few s.memory d.memory d.is_state.objects d.is_state.tables supports.properties f.property f.there unfrozen f.after f.differs place))
 
+  -- an element is read, or given a word
+  loads_expected : (width : Width) → AreReadable o m.story width (args 0) (args 1) → Expected (Some (LoadArray width)) (reading (element_at width s.memory (element_place width (arg all.values 0) (arg all.values 1))))
+  unfolding outcome_of
+  loads_expected width readable =
+      let x = element_there o lawful claims m.story s.memory d.memory width (args 0) (args 1) (arg all.values 0) (arg all.values 1) (all.members 0) (all.members 1) readable in
+      subst (λ (r : Option ℕ). Expected (Some (LoadArray width)) (reading r)) (sym x.1)
+      (gives_expected (LoadArray width) _ x.0 (true, refl) (element_lies o lawful claims m.story s.memory d.memory width (args 0) (args 1) (arg all.values 0) (arg all.values 1) (all.members 0) (all.members 1) d.is_state.bytes x.0 x.1))
+
+  stores_expected : (width : Width) → AreOpen o m.story (frozen_in claims) width (args 0) (args 1) → Expected (Some (StoreArray width)) (storing m.story width (element_place width (arg all.values 0) (arg all.values 1)) (arg all.values 2) s.memory)
+  unfolding outcome_of
+  stores_expected width free =
+      let p = element_place width (arg all.values 0) (arg all.values 1) in
+      let writable = element_writable o lawful claims m.story s.memory d.memory width (args 0) (args 1) (arg all.values 0) (arg all.values 1) (all.members 0) (all.members 1) free in
+      let differs = element_differs s.memory width p (arg all.values 2) in
+      let place = table_place m.story s.memory (with_element width p (arg all.values 2) s.memory) (bytes_of width p) writable differs ∙ d.is_state.tables in
+      rw writable (rewrites (StoreArray width) _ (true, refl) (stored_described o claims m.story supports.tables supports.few s.memory d.memory d.is_state.objects d.is_state.tables (bytes_of width p) (data_open o lawful claims m.story s.memory d.memory width (args 0) (args 1) (arg all.values 0) (arg all.values 1) (all.members 0) (all.members 1) free) _ differs place))
+
   names_expected : (name : ShortName) → (name ≡ Empty) ⊎ ((at : ℕ) × (bytes : List ℕ) × (name ≡ At at) × (output_at s.memory at ≡ Ok bytes)) → Expected (Some PrintObject) (naming name s.memory)
   unfolding outcome_of
   names_expected name (inl is) = subst (λ (n : ShortName). Expected (Some PrintObject) (naming n s.memory)) (sym is) (goes_expected PrintObject [] (true, refl))
@@ -611,6 +636,8 @@ module _ {V : Type 0} (o : SetOperations V) (lawful : AreSound o) (claims : Clai
       let object = rule.object.0 (arg all.values 0) (all.members 0) in
       let known = object_known m.story.objects (arg all.values 0) object in
       rw known (fills_expected object (filled o lawful claims m.story loaded supports s.memory d.memory (arg all.values 0) object.0 object.1 (arg all.values 1) (arg all.values 2) (rule.property (arg all.values 0) (arg all.values 1) object.0 object.1 (all.members 0) (all.members 1))) rule.spares)
+  by_operation (LoadArray width) rule begins = loads_expected width rule.read
+  by_operation (StoreArray width) rule begins = stores_expected width rule.written
   by_operation PrintObject rule begins =
       let object = rule.object.0 (arg all.values 0) (all.members 0) in
       let known = object_known m.story.objects (arg all.values 0) object in

@@ -292,13 +292,13 @@ one_edge = λ divides reads knows begins. (refl, by_answers small (jz (pos 500))
 
 both_edges : asks Successor any_local [] (jz (pos 500)) → ⊥
 unfolding jz any_local operation_of demands_of outcome_of small
-both_edges s = unlisted _ 13 (pos 498) 511 refl refl ((s tt tt tt (by_answers small (jz (pos 500)) (before any_local []) _ tt tt)).1 _ (true, refl) (omega arith))
+both_edges s = unlisted _ 13 (pos 498) 511 refl refl ((s tt (tt, tt) tt (by_answers small (jz (pos 500)) (before any_local []) _ tt tt)).1 _ (true, refl) (omega arith))
 
 -- what is listed for one routine isn't for another
 elsewhere : of_routine 2 Successor low_local [] (jz (pos 500)) → ⊥
 unfolding jz low_local operation_of demands_of outcome_of small
 elsewhere s =
-    let leads = leads_there 2 _ 13 (pos 0) 13 refl ((s tt tt tt (by_answers small (jz (pos 500)) (before low_local []) _ tt tt)).1 _ (false, refl) (omega arith)) in
+    let leads = leads_there 2 _ 13 (pos 0) 13 refl ((s tt (tt, tt) tt (by_answers small (jz (pos 500)) (before low_local []) _ tt tt)).1 _ (false, refl) (omega arith)) in
     let is : leads.entry ≡ of_one (from (pos 1) (pos 5) refl) = same_Some leads.entry (of_one (from (pos 1) (pos 5) refl)) (sym leads.listed) in
     omega (arith, ap (λ (e : Entry Interval). e.routine) is, leads.same)
 
@@ -308,7 +308,7 @@ longer i = record i { size = 5 }
 
 not_taken : asks Successor any_local [] (longer (jz (pos 8))) → ⊥
 unfolding jz any_local operation_of demands_of outcome_of small
-not_taken s = unlisted _ 15 (pos 0) 15 refl refl ((s tt tt tt (by_answers small (longer (jz (pos 8))) (before any_local []) _ tt tt)).1 _ (false, refl) (omega arith))
+not_taken s = unlisted _ 15 (pos 0) 15 refl refl ((s tt (tt, tt) tt (by_answers small (longer (jz (pos 8))) (before any_local []) _ tt tt)).1 _ (false, refl) (omega arith))
 
 -- with all that the branch leaves of a local: [0, 5] without 0, and not [0, 6]
 narrowed : asks Successor (from (pos 0) (pos 5) refl ∷ []) [] (jz (pos 10))
@@ -319,7 +319,7 @@ not_narrowed : asks Successor (from (pos 0) (pos 6) refl ∷ []) [] (jz (pos 10)
 unfolding jz operation_of demands_of outcome_of small
 not_narrowed s =
     uncovered (from (pos 1) (pos 6) refl) (from (pos 1) (pos 5) refl) 13 (pos 0) 13 6 refl refl (record { word = omega arith; member = (record { le = tt }, record { le = tt }) }) (λ inside. inside.member.1.le)
-    ((s tt tt tt (by_answers small (jz (pos 10)) (before (from (pos 0) (pos 6) refl ∷ []) []) _ tt tt)).1 _ (false, refl) (omega arith))
+    ((s tt (tt, tt) tt (by_answers small (jz (pos 10)) (before (from (pos 0) (pos 6) refl ∷ []) []) _ tt tt)).1 _ (false, refl) (omega arith))
 
 -- a jump goes one known way: back to 8, but not before the first byte, and of two values nowhere
 jump : Operand → Instruction
@@ -331,7 +331,7 @@ goes_back = λ divides reads knows begins. (refl, by_answers small (jump (Consta
 
 goes_nowhere : (asks Successor any_local [] (jump (Constant 0xFFF3)) → ⊥) × (asks Successor (from (pos 1) (pos 2) refl ∷ []) [] (jump (Variable 1)) → ⊥)
 unfolding jump any_local operation_of demands_of outcome_of small
-goes_nowhere = (λ s. let place = ((s tt tt tt (by_answers small (jump (Constant 0xFFF3)) (before any_local []) _ tt tt)).1 _ (true, refl) (omega arith)).1 in cc, λ s. let certain = (s tt tt tt (by_answers small (jump (Variable 1)) (before (from (pos 1) (pos 2) refl ∷ []) []) _ tt tt)).0 in cc)
+goes_nowhere = (λ s. let place = ((s tt (tt, tt) tt (by_answers small (jump (Constant 0xFFF3)) (before any_local []) _ tt tt)).1 _ (true, refl) (omega arith)).1 in cc, λ s. let certain = (s tt (tt, tt) tt (by_answers small (jump (Variable 1)) (before (from (pos 1) (pos 2) refl ∷ []) []) _ tt tt)).0 in cc)
 
 -- nothing has to follow `quit`, what may divide by 0, or what makes the stack too high: other rules refuse the last two
 nothing_follows : asks Successor [] [] (longer (plain opcodes.Quit [])) × asks Successor (from (pos 0) (pos 5) refl ∷ []) [] (longer divide) × asks Successor [] (replicate 64 (point 7)) (longer push)

@@ -26,6 +26,10 @@ use Rattle.zplace.specs.Tables.{HasPropertyTables}
 use Rattle.zpairs.specs.Pairs.{AreAnswered, AreUnfrozen, CanBePut}
 use Rattle.zflow.specs.declared.parts.Lead.{Lead}
 use Rattle.zflow.specs.declared.parts.Lead.TheVariants.{Ahead, Returning, Entering}
+use Rattle.zarray.specs.declared.width.Width.{Width}
+use Rattle.zruns.specs.Runs.{AreOpen, AreReadable}
+use Rattle.zflow.specs.declared.parts.Access.{Access}
+use Rattle.zflow.specs.declared.parts.Access.TheVariants.{Reading, Writing}
 use Rattle.zflow.specs.declared.parts.Asked.{Asked}
 use Rattle.zflow.specs.declared.parts.Asked.TheVariants.{Answered, Filled}
 use Rattle.zflow.specs.declared.parts.Demands.{Demands}
@@ -76,6 +80,15 @@ Finds o story Filled objects numbers = CanBePut o story objects numbers
 abbrev pub Spares : {V : Type 0} → SetOperations V → LoadedStory → (ℕ → Bool) → Asked → V → V → Type 0
 Spares o story is_frozen (Answered question) objects numbers = Unit {0}
 Spares o story is_frozen Filled objects numbers = AreUnfrozen o story is_frozen objects numbers
+
+-- elements of arrays that are written are open, and those that are read can be
+abbrev pub AreWritten : {V : Type 0} → SetOperations V → LoadedStory → (ℕ → Bool) → Access → Width → V → V → Type 0
+AreWritten o story is_frozen Reading width arrays indices = Unit {0}
+AreWritten o story is_frozen Writing width arrays indices = AreOpen o story is_frozen width arrays indices
+
+abbrev pub AreRead : {V : Type 0} → SetOperations V → LoadedStory → Access → Width → V → V → Type 0
+AreRead o story Reading width arrays indices = AreReadable o story width arrays indices
+AreRead o story Writing width arrays indices = Unit {0}
 
 -- get_prop and get_prop_addr give what is found of a property
 abbrev pub gives_by_property : Asked → Bool
@@ -253,9 +266,21 @@ module _ {V : Type 0} (o : SetOperations V) (claims : Claims V) where
   abbrev pub SparesFrozen : LoadedStory → Instruction → Shape V → Type 0
   SparesFrozen story i e = IfSome (demands_at i e).property (λ p. Spares o story (frozen_in claims) p.asked p.objects p.numbers)
 
+  -- each element that is written is open
+  abbrev pub WritesOpen : LoadedStory → Instruction → Shape V → Type 0
+  WritesOpen story i e = IfSome (demands_at i e).elements (λ x. AreWritten o story (frozen_in claims) x.access x.width x.arrays x.indices)
+
+  -- each element that is read can be
+  abbrev pub ReadsElements : LoadedStory → Instruction → Shape V → Type 0
+  ReadsElements story i e = IfSome (demands_at i e).elements (λ x. AreRead o story x.access x.width x.arrays x.indices)
+
   -- the size byte before each address of property data can be read
   abbrev pub ReadsLength : LoadedStory → Instruction → Shape V → Type 0
   ReadsLength story i e = IfSome (demands_at i e).address (λ a. (x : ℕ) → In o a x → IsTrue (is_some (length_before story.memory x)))
+
+  -- all that is read can be
+  abbrev pub Reads : LoadedStory → Instruction → Shape V → Type 0
+  Reads story i e = ReadsLength story i e × ReadsElements story i e
 
   -- what get_prop and get_prop_addr give is known only where there are objects, and answers
   abbrev pub KnowsAnswers : LoadedStory → Instruction → Shape V → Type 0
@@ -271,7 +296,7 @@ module _ {V : Type 0} (o : SetOperations V) (claims : Claims V) where
   -- I3: every variable that is named exists
   Asks story p e i rules.Local = IsKnown i e.shape → AllByRecursion (IsNamed e.shape) (inputs i) × IsVariable e.shape (target i) × IfSome (demands_at i e.shape).variable (IsVariable e.shape)
   -- I4: each edge that can be taken leads on, and it is known how far a jump goes
-  Asks story p e i rules.Successor = Divides i e.shape → ReadsLength story i e.shape → KnowsAnswers story i e.shape → CallsBegin story i e.shape → IsTrue (demands_at i e.shape).certain × Whatever story i e.shape (λ w. IsLow i e.shape w → OnEdge w i e.shape (λ f. GoesOn e.routine (target i) f (p + i.size) (leading o w i.branch)))
+  Asks story p e i rules.Successor = Divides i e.shape → Reads story i e.shape → KnowsAnswers story i e.shape → CallsBegin story i e.shape → IsTrue (demands_at i e.shape).certain × Whatever story i e.shape (λ w. IsLow i e.shape w → OnEdge w i e.shape (λ f. GoesOn e.routine (target i) f (p + i.size) (leading o w i.branch)))
   -- I5: each object is one
   Asks story p e i rules.Object = NamesObject story i e.shape
   -- I6: each attribute is one
@@ -280,10 +305,11 @@ module _ {V : Type 0} (o : SetOperations V) (claims : Claims V) where
   Asks story p e i rules.Property = FindsProperty story i e.shape
   -- I8: nothing is divided by 0
   Asks story p e i rules.Divisor = Divides i e.shape
-  -- I9: no property that is given a word has a frozen byte; that all others may be written is S5
-  Asks story p e i rules.Write = SparesFrozen story i e.shape
-  -- I10: the size byte before an address of property data can be read
-  Asks story p e i rules.Read = ReadsLength story i e.shape
+  -- I9: no property that is given a word has a frozen byte, and that all others may be written is S5; each byte of an element that is
+  -- written is open
+  Asks story p e i rules.Write = SparesFrozen story i e.shape × WritesOpen story i e.shape
+  -- I10: each byte of an element, and the size byte before an address of property data, can be read
+  Asks story p e i rules.Read = Reads story i e.shape
   -- I11: the text behind the opcode byte stays as it is; that short names do is S5
   Asks story p e i rules.Text = OnTrue (demands_at i e.shape).has_text (HasFixedText story (frozen_in claims) (p + 1))
   -- I12: what is called begins as is said

@@ -1,6 +1,6 @@
 //! Which rule an instruction breaks.
 
-ghost use Rattle.std.specs.Prelude.{◌≡◌, ◌↔◌, ◌+◌, ◌≤◌, ℕ, Bool, false, IsTrue, IfSome, IfNone, IfOk, IfErr, MatchOption, Some, length};
+ghost use Rattle.std.specs.Prelude.{◌≡◌, ◌↔◌, ◌+◌, ◌≤◌, ℕ, Bool, false, IsTrue, IfSome, IfNone, IfOk, IfErr, MatchOption, Some, is_some, length};
 ghost use Rattle.std.specs.Bool.{OnTrue};
 ghost use Rattle.zcert.specs.Listed.{seen};
 ghost use Rattle.zcode.specs.Instruction.{Instruction as AnInstruction};
@@ -14,8 +14,11 @@ ghost use Rattle.zrule.specs.declared.rule.Rule.{Rule as ARule};
 ghost use Rattle.zrule.specs.declared.rule.Rule.TheVariants.{Successor};
 ghost use Rattle.zrule.specs.Blocks.{AreBlocks};
 ghost use Rattle.zrule.specs.Claims.{claims_of, entry_of, Entry, frozen_in, told_of};
-ghost use Rattle.zrule.specs.Rules.{Asks, Divides, KnowsAnswers, ReadsLength, IsThere, HasFixedText, Keeps, IsLowestBroken};
+ghost use Rattle.zobj.specs.Values.{length_before};
+ghost use Rattle.zpairs.specs.Frozen.{frozen_by};
+ghost use Rattle.zrule.specs.Rules.{AreRead, AreWritten, Asks, Divides, KnowsAnswers, Reads, IsThere, HasFixedText, Keeps, IsLowestBroken, Spares};
 
+use crate::arrays::{reads_elements, writes_open};
 use crate::blocks::Blocks;
 use crate::edges::{enters, goes_on, is_low, returns, stores};
 use crate::objects::{names_attribute, names_object};
@@ -27,7 +30,7 @@ use zcert::{Certificate, Instruction, Spelled};
 use zcode::{Instr, decode_by, text_ends_instruction};
 use zdomain::Domain;
 use zflow::{Demands, Edge, Flow, flow_of};
-use zpairs::Properties;
+use zruns::Tables;
 use zstory::Story;
 use ztext::TextEnds;
 
@@ -86,6 +89,20 @@ fn divides<V: Spelled>(demands: &Demands<V>) -> bool
     }
 }
 
+/// Whether all that an instruction writes may be written: properties without a frozen byte, and open elements.
+fn writes<V: Spelled>(tables: &Tables<'_>, demands: &Demands<V>) -> bool
+    ensures { IsTrue result ↔ IfSome demands.now.property (λ p. Spares V.operations tables.now.story (frozen_by tables.now.ranges) p.asked p.objects p.numbers) × IfSome demands.now.elements (λ x. AreWritten V.operations tables.now.story (frozen_by tables.now.ranges) x.access x.width x.arrays x.indices) }
+{
+    spares_frozen(tables.properties(), demands) && writes_open(tables.runs(), demands)
+}
+
+/// Whether all that it reads can be read: lengths of properties, and elements.
+fn reads<V: Spelled>(story: &Story, demands: &Demands<V>) -> bool
+    ensures { IsTrue result ↔ IfSome demands.now.address (λ a. (x : ℕ) → In V.operations a x → IsTrue (is_some (length_before story.now.memory x))) × IfSome demands.now.elements (λ x. AreRead V.operations story.now x.access x.width x.arrays x.indices) }
+{
+    reads_length(story, demands) && reads_elements(story, demands)
+}
+
 /// Whether an edge keeps a rule.
 fn edge_keeps<V: Spelled>(site: Site<'_, V>, edge: &Edge<'_, V>, rule: Rule) -> bool
     requires near { site.listed.now.address + site.instruction.now.size ≤ 131072 }
@@ -127,23 +144,23 @@ fn texts_are_fixed(story: &Story)
     text_ends_instruction();
 }
 
-/// Whether what an instruction gives is known: nothing is divided by 0, a length is read where there is one, and properties answer.
+/// Whether what an instruction gives is known: nothing is divided by 0, all that is read can be, and properties answer.
 fn gives_known<V: Spelled>(site: Site<'_, V>, flow: &Flow<'_, V>) -> bool
-    requires properties { site.properties.now ≡ record { story = site.story.now; ranges = site.certificate.now.ranges } }
+    requires tables { site.tables.now ≡ record { story = site.story.now; ranges = site.certificate.now.ranges } }
     requires flow { IsFlow V.operations site.certificate.now.globals (told_of (claims_of V.operations site.certificate.now) site.story.now) site.instruction.now (entry_of (seen site.listed.now)).shape flow.now }
     ensures divides { IsTrue result → Divides V.operations (claims_of V.operations site.entry.certificate.now) site.entry.instruction.now (entry_of (seen site.entry.listed.now)).shape }
-    ensures reads { IsTrue result → ReadsLength V.operations (claims_of V.operations site.entry.certificate.now) site.entry.story.now site.entry.instruction.now (entry_of (seen site.entry.listed.now)).shape }
+    ensures reads { IsTrue result → Reads V.operations (claims_of V.operations site.entry.certificate.now) site.entry.story.now site.entry.instruction.now (entry_of (seen site.entry.listed.now)).shape }
     ensures knows { IsTrue result → KnowsAnswers V.operations (claims_of V.operations site.entry.certificate.now) site.entry.story.now site.entry.instruction.now (entry_of (seen site.entry.listed.now)).shape }
-    ensures none { result ≡ false → Divides V.operations (claims_of V.operations site.entry.certificate.now) site.entry.instruction.now (entry_of (seen site.entry.listed.now)).shape → ReadsLength V.operations (claims_of V.operations site.entry.certificate.now) site.entry.story.now site.entry.instruction.now (entry_of (seen site.entry.listed.now)).shape → KnowsAnswers V.operations (claims_of V.operations site.entry.certificate.now) site.entry.story.now site.entry.instruction.now (entry_of (seen site.entry.listed.now)).shape → ⊥ }
+    ensures none { result ≡ false → Divides V.operations (claims_of V.operations site.entry.certificate.now) site.entry.instruction.now (entry_of (seen site.entry.listed.now)).shape → Reads V.operations (claims_of V.operations site.entry.certificate.now) site.entry.story.now site.entry.instruction.now (entry_of (seen site.entry.listed.now)).shape → KnowsAnswers V.operations (claims_of V.operations site.entry.certificate.now) site.entry.story.now site.entry.instruction.now (entry_of (seen site.entry.listed.now)).shape → ⊥ }
 {
     let demands = &flow.demands;
     if !divides(demands) {
         return false;
     }
-    if !reads_length(site.story, demands) {
+    if !reads(site.story, demands) {
         return false;
     }
-    knows_answers(site.properties, demands)
+    knows_answers(site.tables.properties(), demands)
 }
 
 /// Whether each edge of an instruction that is there leads on, as far as that is asked: not where it isn't known what the instruction
@@ -151,7 +168,7 @@ fn gives_known<V: Spelled>(site: Site<'_, V>, flow: &Flow<'_, V>) -> bool
 fn has_successors<V: Spelled>(site: Site<'_, V>, flow: &Flow<'_, V>) -> bool
     requires there { IsThere site.story.now site.listed.now.address site.instruction.now }
     requires near { site.listed.now.address + site.instruction.now.size ≤ 131072 }
-    requires properties { site.properties.now ≡ record { story = site.story.now; ranges = site.certificate.now.ranges } }
+    requires tables { site.tables.now ≡ record { story = site.story.now; ranges = site.certificate.now.ranges } }
     requires flow { IsFlow V.operations site.certificate.now.globals (told_of (claims_of V.operations site.certificate.now) site.story.now) site.instruction.now (entry_of (seen site.listed.now)).shape flow.now }
     requires told { IfSome site.blocks (λ b. AreBlocks V.operations (claims_of V.operations site.certificate.now) site.story.now b.now) }
     ensures { IsTrue result ↔ Asks V.operations (claims_of V.operations site.entry.certificate.now) site.entry.story.now site.entry.listed.now.address (entry_of (seen site.entry.listed.now)) site.entry.instruction.now Successor }
@@ -169,7 +186,7 @@ fn has_successors<V: Spelled>(site: Site<'_, V>, flow: &Flow<'_, V>) -> bool
 fn asks<V: Spelled>(site: Site<'_, V>, flow: &Flow<'_, V>, rule: Rule) -> bool
     requires there { IsThere site.story.now site.listed.now.address site.instruction.now }
     requires near { site.listed.now.address + site.instruction.now.size ≤ 131072 }
-    requires properties { site.properties.now ≡ record { story = site.story.now; ranges = site.certificate.now.ranges } }
+    requires tables { site.tables.now ≡ record { story = site.story.now; ranges = site.certificate.now.ranges } }
     requires flow { IsFlow V.operations site.certificate.now.globals (told_of (claims_of V.operations site.certificate.now) site.story.now) site.instruction.now (entry_of (seen site.listed.now)).shape flow.now }
     requires told { IfSome site.blocks (λ b. AreBlocks V.operations (claims_of V.operations site.certificate.now) site.story.now b.now) }
     ensures { IsTrue result ↔ Asks V.operations (claims_of V.operations site.entry.certificate.now) site.entry.story.now site.entry.listed.now.address (entry_of (seen site.entry.listed.now)) site.entry.instruction.now rule }
@@ -179,7 +196,7 @@ fn asks<V: Spelled>(site: Site<'_, V>, flow: &Flow<'_, V>, rule: Rule) -> bool
         certificate,
         listed,
         instruction,
-        properties: _,
+        tables: _,
         near: _,
         blocks: _,
     } = site;
@@ -197,10 +214,10 @@ fn asks<V: Spelled>(site: Site<'_, V>, flow: &Flow<'_, V>, rule: Rule) -> bool
         Rule::Successor => has_successors(site, flow),
         Rule::Object => names_object(story, demands),
         Rule::Attribute => names_attribute(demands),
-        Rule::Property => finds_property(site.properties, demands),
+        Rule::Property => finds_property(site.tables.properties(), demands),
         Rule::Divisor => divides(demands),
-        Rule::Write => spares_frozen(site.properties, demands),
-        Rule::Read => reads_length(story, demands),
+        Rule::Write => writes(site.tables, demands),
+        Rule::Read => reads(story, demands),
         Rule::Text => {
             texts_are_fixed(story);
             true
@@ -217,7 +234,7 @@ fn asks<V: Spelled>(site: Site<'_, V>, flow: &Flow<'_, V>, rule: Rule) -> bool
 fn keeps<V: Spelled>(site: Site<'_, V>, flow: &Flow<'_, V>, rule: Rule) -> bool
     requires there { IsThere site.story.now site.listed.now.address site.instruction.now }
     requires near { site.listed.now.address + site.instruction.now.size ≤ 131072 }
-    requires properties { site.properties.now ≡ record { story = site.story.now; ranges = site.certificate.now.ranges } }
+    requires tables { site.tables.now ≡ record { story = site.story.now; ranges = site.certificate.now.ranges } }
     requires flow { IsFlow V.operations site.certificate.now.globals (told_of (claims_of V.operations site.certificate.now) site.story.now) site.instruction.now (entry_of (seen site.listed.now)).shape flow.now }
     requires told { IfSome site.blocks (λ b. AreBlocks V.operations (claims_of V.operations site.certificate.now) site.story.now b.now) }
     ensures { IsTrue result ↔ Keeps V.operations (claims_of V.operations site.entry.certificate.now) site.entry.story.now site.entry.listed.now.address (entry_of (seen site.entry.listed.now)) rule }
@@ -234,11 +251,11 @@ fn broken_rule<V: Spelled>(
 ) -> Option<Rule>
     ensures { MatchOption result ((rule : ARule) → Keeps V.operations (claims_of V.operations certificate.now) story.now listed.now.address (entry_of (seen listed.now)) rule) (IsLowestBroken V.operations (claims_of V.operations certificate.now) story.now listed.now.address (entry_of (seen listed.now))) }
 {
-    let properties = Properties::new(story, certificate.ranges());
+    let tables = Tables::new(story, certificate.ranges());
     let mut ends = TextEnds::new(story.memory());
     match judge(
         story,
-        &properties,
+        &tables,
         certificate,
         listed,
         certificate.instruction_count(),
@@ -253,11 +270,11 @@ fn broken_rule<V: Spelled>(
 /// A listed instruction as the story spells it, where it keeps all rules, and else the lowest rule that it breaks (own).
 /// `ends` are those of the texts of the story's memory. The instruction behind it is looked for at the index `near` first, and
 /// searched for where another is listed there. `blocks` is what is known of the certificate's routines for the story: with it a call
-/// asks once for all routines of a block, and else for each that it may enter. The answer is the same. `properties` are those of the
+/// asks once for all routines of a block, and else for each that it may enter. The answer is the same. `tables` are those of the
 /// story, with the ranges of the certificate.
 pub fn judge<'c, V: Spelled>(
     story: &'c Story,
-    properties: &'c Properties<'c>,
+    tables: &'c Tables<'c>,
     certificate: &'c Certificate<V>,
     listed: &Instruction<'_, V>,
     near: usize,
@@ -265,7 +282,7 @@ pub fn judge<'c, V: Spelled>(
     blocks: Option<&'c Blocks<V>>,
 ) -> Result<Instr, Rule>
     requires ends { ends.old ≡ story.now.memory }
-    requires properties { properties.now ≡ record { story = story.now; ranges = certificate.now.ranges } }
+    requires tables { tables.now ≡ record { story = story.now; ranges = certificate.now.ranges } }
     requires blocks { IfSome blocks (λ b. AreBlocks V.operations (claims_of V.operations certificate.now) story.now b.now) }
     ensures memory { ends.new ≡ ends.old }
     ensures there { IfOk result (λ i. IsThere story.now listed.now.address i) }
@@ -276,7 +293,7 @@ pub fn judge<'c, V: Spelled>(
         return Err(Rule::Decodes);
     };
     let flow = flow_of(
-        properties,
+        tables,
         certificate.globals(),
         listed.locals,
         listed.slots,
@@ -284,7 +301,7 @@ pub fn judge<'c, V: Spelled>(
     );
     let site = Site {
         story,
-        properties,
+        tables,
         certificate,
         listed,
         instruction: &instruction,

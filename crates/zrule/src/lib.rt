@@ -2,6 +2,7 @@
 #![tactic(auto)]
 
 mod arguments;
+mod arrays;
 mod blocks;
 mod callees;
 mod choosing;

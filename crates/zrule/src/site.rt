@@ -4,15 +4,15 @@ use crate::blocks::{Block, Blocks};
 use zcert::{Certificate, Instruction, Spelled};
 use zcode::Instr;
 use zflow::argument_set;
-use zpairs::Properties;
+use zruns::Tables;
 use zstory::Story;
 
 /// A listed instruction that is there, with what the rules look at beside it.
 #[derive(Clone, Copy)]
 pub(crate) struct Site<'s, V: Spelled> {
     pub(crate) story: &'s Story,
-    /// What comes of asking the story's objects for properties.
-    pub(crate) properties: &'s Properties<'s>,
+    /// What comes of asking the story's objects for properties, and what is known of its arrays.
+    pub(crate) tables: &'s Tables<'s>,
     pub(crate) certificate: &'s Certificate<V>,
     pub(crate) listed: &'s Instruction<'s, V>,
     pub(crate) instruction: &'s Instr,

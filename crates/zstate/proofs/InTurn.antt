@@ -38,7 +38,7 @@ turns_end {A} {B} f front all s total d so_far =
     let one : with_front front (in_turn f all s) ≡ Ok (front, s) = rw d (ap (λ (bs : List B). Ok (bs, s)) (append-nil front)) in
     sym so_far ∙ one
 
--- ---- of one thing or two
+-- ---- of one thing, two or three
 
 pub first_fails : {A B S E : Type 0} (f : A → S → Result (B × S) E) (a : A) (rest : List A) (s : S) (e : E) → f a s ≡ Err e → in_turn f (a ∷ rest) s ≡ Err e
 unfolding in_turn
@@ -47,3 +47,7 @@ first_fails f a rest s e h = rw h refl
 pub second_fails : {A B S E : Type 0} (f : A → S → Result (B × S) E) (a b : A) (rest : List A) (s t : S) (x : B) (e : E) → f a s ≡ Ok (x, t) → f b t ≡ Err e → in_turn f (a ∷ b ∷ rest) s ≡ Err e
 unfolding in_turn
 second_fails f a b rest s t x e h g = rw (h, g) refl
+
+pub third_fails : {A B S E : Type 0} (f : A → S → Result (B × S) E) (a b c : A) (rest : List A) (s t u : S) (x y : B) (e : E) → f a s ≡ Ok (x, t) → f b t ≡ Ok (y, u) → f c u ≡ Err e → in_turn f (a ∷ b ∷ c ∷ rest) s ≡ Err e
+unfolding in_turn
+third_fails f a b c rest s t u x y e h g k = rw (h, g, k) refl

@@ -275,6 +275,26 @@ impl State {
         Ok((left, right, popped))
     }
 
+    /// The values of three operands, read from left to right, and how many words their reading takes off the stack.
+    #[inline(always)]
+    #[tactic(auto, unfolding(crate::specs::InTurn::in_turn))]
+    pub fn read_three(
+        &self,
+        story: &Story,
+        first: Operand,
+        second: Operand,
+        third: Operand,
+    ) -> Result<(u16, u16, u16, usize), Halt>
+        requires { length self.now.memory ≡ length story.now.memory }
+        ensures value { Gives (λ x. (x.0 ∷ x.1 ∷ x.2 ∷ [], popped x.3 self.now)) result (read_operands story.now (first ∷ second ∷ third ∷ []) self.now) }
+        ensures within { IfOk result (λ x. x.3 ≤ length self.now.frame.stack) }
+    {
+        let (left, before) = self.read_operand(story, first, 0)?;
+        let (middle, between) = self.read_operand(story, second, before)?;
+        let (right, popped) = self.read_operand(story, third, between)?;
+        Ok((left, middle, right, popped))
+    }
+
     /// The values of an instruction's operands, read from left to right (Z 4.2).
     #[inline(always)]
     pub fn read_operands(&self, story: &Story, operands: &[Operand]) -> Result<Values, Halt>

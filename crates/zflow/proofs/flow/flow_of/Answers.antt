@@ -7,7 +7,7 @@ pub returns : goal.returns
 returns g c =
     let o = g.V.Domain.operations in
     let globals = c.args.globals.now in
-    let told = c.args.properties.now in
+    let told = c.args.tables.now in
     let i = c.args.instruction.now in
     let e = shape_of c.args.locals.now c.args.slots.now in
     let operands = c.as_slice-operands.ensures.value ∙ c.inputs-inputs.ensures.value in

@@ -1,0 +1,39 @@
+//! Which bytes of memory an instruction may write.
+
+ghost use Rattle.std.specs.Prelude.{◌≡◌, ◌+◌, ◌≤◌, ◌&&◌, nat_le, length, IsTrue};
+ghost use Rattle.zstory.specs.LoadedStory.{static_base};
+ghost use Rattle.zstate.specs.Step.{are_writable};
+
+use zstory::Story;
+
+/// The length of the header (Z 11).
+const HEADER_LENGTH: usize = 64;
+
+/// Where in the header Flags 2 stand, the two bytes of it that a story may write (Z 11.1).
+const FLAGS_2: usize = 16;
+
+/// Whether one or two bytes from an address on may be written: in dynamic memory without the header, but for Flags 2 (Z 1.1.1.1).
+#[inline(always)]
+#[tactic(auto, using(crate::proofs::Rewriting::header_writable, crate::proofs::Rewriting::behind_writable))]
+pub(crate) fn are_writable(address: u16, count: u8, story: &Story) -> bool
+    requires some { 1 ≤ count }
+    requires few { count ≤ 2 }
+    ensures value { result ≡ are_writable story.now address count }
+    ensures below { IsTrue result → address + count ≤ static_base story.now }
+    ensures within { IsTrue result → address + count ≤ length story.now.memory }
+{
+    let place = usize::from(address);
+    let end = place + usize::from(count);
+    let base = story.static_base();
+    if place < HEADER_LENGTH {
+        return is_in_flags_2(place, end);
+    }
+    end <= base
+}
+
+/// Whether what runs from a place up to an end lies in Flags 2.
+fn is_in_flags_2(place: usize, end: usize) -> bool
+    ensures { result ≡ (nat_le 16 place && nat_le end 18) }
+{
+    FLAGS_2 <= place && end <= FLAGS_2 + 2
+}
