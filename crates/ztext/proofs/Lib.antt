@@ -9,3 +9,4 @@ mod Plainness
 mod Worked
 mod Table
 mod Steps
+mod Typing

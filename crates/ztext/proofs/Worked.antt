@@ -1,6 +1,6 @@
 -- Values of the definitions, computed.
 use Rattle.std.proofs.Common.{◌≡◌, ℕ, ◌+◌, Bool, false, List, [], ◌∷◌, ◌++◌, ◌%◌, replicate, length, Some, None, Result, Ok, Err, zero, suc, refl, ap, arith, lit<, lit≤, nat_lt, if◌then◌else◌}
-use Rattle.std.specs.Prelude.{min}
+use Rattle.std.specs.Prelude.{min, codes, drop}
 use Rattle.std.proofs.lemmas.Bool.{le-ltb}
 use Rattle.zstory.specs.Bytes.{word_at}
 use Rattle.ztext.specs.declared.error.TextError.{TextError}
@@ -17,6 +17,7 @@ use Rattle.ztext.specs.Abbreviations.{readable_word, abbreviation_at, abbreviati
 use Rattle.ztext.specs.Output.{output_of_code, output_of, output_of_characters, output_at}
 use Rattle.ztext.specs.Begun.{letters_of, characters_begun, IsBegun, pieces_from, IsStep}
 use Rattle.ztext.specs.States.{begun_at, IsPlace, byte_at_once}
+use Rattle.ztext.specs.Typed.{character_in, characters_of_code, word_characters, three_from, word_code}
 use Rattle.ztext.specs.Progress.{first_error, joined, all_joined, piece_printed, characters_printed, printed_from, nested_use, plain_output, abbreviation_output, memory_use, piece_output, error_of, HasFront, IsStopped, IsWritten, LeadsOn}
 
 -- ---- words
@@ -250,3 +251,33 @@ are_places = ((lit< tt, λ _. refl), (lit< tt, λ _. refl), (lit< tt, λ below. 
 at_once : (byte_at_once (Letter Small) 0 ≡ Some 32) × (byte_at_once (Letter Small) 6 ≡ Some 97) × (byte_at_once (Letter Capital) 31 ≡ Some 90) × (byte_at_once (Letter Mark) 7 ≡ Some 10) × (byte_at_once (Letter Mark) 6 ≡ None) × (byte_at_once (Letter Small) 5 ≡ None) × (byte_at_once (Bank 1) 6 ≡ None)
 unfolding small_letters capital_letters marks
 at_once = (refl, refl, refl, refl, refl, refl, refl)
+
+-- ---- typed words
+
+-- the first and the last of small letters and of marks, and codes that are in neither
+in_alphabets : (character_in 6 small_letters 97 ≡ Some 6) × (character_in 6 small_letters 122 ≡ Some 31) × (character_in 8 (drop 2 marks) 48 ≡ Some 8) × (character_in 8 (drop 2 marks) 41 ≡ Some 31) × (character_in 6 small_letters 64 ≡ None) × (character_in 8 (drop 2 marks) 13 ≡ None)
+unfolding small_letters marks
+in_alphabets = (refl, refl, refl, refl, refl, refl)
+
+-- a space, a small letter, a mark, and escapes: of an at sign, a newline and the last byte
+typed_codes : (characters_of_code 32 ≡ 0 ∷ []) × (characters_of_code 99 ≡ 8 ∷ []) × (characters_of_code 46 ≡ 5 ∷ 18 ∷ []) × (characters_of_code 64 ≡ 5 ∷ 6 ∷ 2 ∷ 0 ∷ []) × (characters_of_code 13 ≡ 5 ∷ 6 ∷ 0 ∷ 13 ∷ []) × (characters_of_code 255 ≡ 5 ∷ 6 ∷ 7 ∷ 31 ∷ [])
+unfolding small_letters marks
+typed_codes = (refl, refl, refl, refl, refl, refl)
+
+-- capitals are small letters, fives fill up, and an escape is cut where the sixth ends
+typed_characters : (word_characters (codes "Hi") ≡ 13 ∷ 14 ∷ 5 ∷ 5 ∷ 5 ∷ 5 ∷ []) × (word_characters [] ≡ 5 ∷ 5 ∷ 5 ∷ 5 ∷ 5 ∷ 5 ∷ []) × (word_characters (codes "fishing") ≡ 11 ∷ 14 ∷ 24 ∷ 13 ∷ 14 ∷ 19 ∷ []) × (word_characters (codes "a z@Z") ≡ 6 ∷ 0 ∷ 31 ∷ 5 ∷ 6 ∷ 2 ∷ [])
+unfolding word_characters small_letters marks
+typed_characters = (refl, refl, refl, refl)
+
+threes : (three_from 0 (1 ∷ 2 ∷ 3 ∷ 4 ∷ 5 ∷ 6 ∷ []) ≡ 1091) × (three_from 3 (1 ∷ 2 ∷ 3 ∷ 4 ∷ 5 ∷ 6 ∷ []) ≡ 4262)
+threes = (refl, refl)
+
+-- `i`, `look`, `@ab`, `ab@c` and `abc@d`
+word_codes : (word_code (codes "i") ≡ 0x38 ∷ 0xA5 ∷ 0x94 ∷ 0xA5 ∷ []) × (word_code (codes "look") ≡ 0x46 ∷ 0x94 ∷ 0xC0 ∷ 0xA5 ∷ []) × (word_code (codes "@ab") ≡ 0x14 ∷ 0xC2 ∷ 0x80 ∷ 0xC7 ∷ []) × (word_code (codes "ab@c") ≡ 0x18 ∷ 0xE5 ∷ 0x98 ∷ 0x40 ∷ []) × (word_code (codes "abc@d") ≡ 0x18 ∷ 0xE8 ∷ 0x94 ∷ 0xC2 ∷ [])
+unfolding word_code word_characters small_letters marks
+word_codes = (refl, refl, refl, refl, refl)
+
+-- the bytes of a word are a text, of its six Z-characters
+codes_are_texts : IsText (word_code (codes "look")) × (characters_in (word_code (codes "look")) ≡ word_characters (codes "look"))
+unfolding word_code word_characters small_letters marks
+codes_are_texts = ((lit< tt, lit≤ tt), refl)

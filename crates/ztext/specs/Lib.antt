@@ -10,3 +10,4 @@ pub mod Ends
 pub mod Open
 pub mod Local
 pub mod States
+pub mod Typed

@@ -11,6 +11,7 @@ mod length;
 mod pieces;
 mod plain;
 mod state;
+mod typed;
 mod writing;
 
 pub use abbreviations::{TextSpan, plain_abbreviation};
@@ -19,4 +20,5 @@ pub use ends::TextEnds;
 pub use error::TextError;
 pub use laws::{reading_is_local, text_is_at_front};
 pub use length::text_length;
+pub use typed::encode_word;
 pub use writing::output_byte;

@@ -46,11 +46,11 @@ pub(crate) enum Step {
 }
 
 // The codes of Z-characters 6 to 31 (Z 3.5.3). Of the marks the first begins an escape, and the second is a newline.
-const SMALL_LETTERS: [u8; 26] = *b"abcdefghijklmnopqrstuvwxyz";
+pub(crate) const SMALL_LETTERS: [u8; 26] = *b"abcdefghijklmnopqrstuvwxyz";
 
 const CAPITAL_LETTERS: [u8; 26] = *b"ABCDEFGHIJKLMNOPQRSTUVWXYZ";
 
-const MARKS: [u8; 26] = *b"\0\r0123456789.,!?_#'\"/\\-:()";
+pub(crate) const MARKS: [u8; 26] = *b"\0\r0123456789.,!?_#'\"/\\-:()";
 
 // What begins a text, and what follows a piece.
 const NOTHING: Begun = Begun::Letter(Alphabet::Small);
