@@ -6,8 +6,8 @@ ghost use Rattle.zcheck.specs.Passes.{IsCause, IsRefused, Passes};
 use crate::refusal::Refusal;
 use crate::story_rules::broken_story_rule;
 use zcert::{Certificate, Spelled};
-use zruns::Tables;
 use zrule::judge;
+use zruns::Tables;
 use zstory::Story;
 use ztext::TextEnds;
 

@@ -14,8 +14,8 @@ use crate::story_rules::broken_story_rule;
 use std::alloc::{AllocError, Global};
 use zcert::{Certificate, Spelled};
 use zlist::{Listing, Record};
-use zruns::Tables;
 use zrule::{Blocks, judge};
+use zruns::Tables;
 use zstory::Story;
 use ztext::TextEnds;
 

@@ -204,8 +204,7 @@ module _ {V : Type 0} (o : SetOperations V) (lawful : AreSound o) (claims : Clai
   returned : (a : V) (x : ℕ) (u : State) (gs : List Frame) → In o a x → Returns o claims d.entry.routine (Returning a) → DescribedMemory o claims m.story u.memory → Callers o claims d.entry.routine u.frame.return_place u.frame.result gs → IsState m.limit m.story (left m.story x gs u) → Described o claims m.limit m.story (left m.story x gs u)
   returned a x u [] member rule kept callers state = absurd (omega (arith, rule.0, callers))
   returned a x u (g ∷ gs) member rule kept callers state =
-      let e = callers.1 in
-      let v = u.frame.result in
+      let e = callers.1 in let v = u.frame.result in
       let caller : State = record u { frame = g; callers = gs; place = pos u.frame.return_place } in
       let known = put_mid o claims m.story loaded supports.tables e.routine v x e.shape caller (callers.3 x (rule.1 x member)) kept callers.4 in
       record {
@@ -224,8 +223,7 @@ module _ {V : Type 0} (o : SetOperations V) (lawful : AreSound o) (claims : Clai
       → Leads o claims d.entry.routine (with_result (Some (result_at o claims p)) (target i) e) (d.at + i.size) → Takes o claims (Some (result_at o claims p)) (target i) → IsState m.limit m.story (entered called (target i) u) → Described o claims m.limit m.story (entered called (target i) u)
   unfolding IsCall
   enters p called e u (xs, zip, is) place known exists begins leads takes state =
-      let v = target i in
-      let q = d.at + i.size in
+      let v = target i in let q = d.at + i.size in
       let result : result_at o claims p ≡ claims.result (suc begins.index) = ap (result_if o claims) begins.routine in
       let tie : (x : ℕ) → In o (claims.result (suc begins.index)) x → FitsWith o claims v x leads.entry.shape u.frame = λ x member.
       covered_with o claims v x _ leads.entry.shape u.frame leads.covered (given_fits o claims v x (result_at o claims p) e u.frame (subst (λ (a : V). In o a x) (sym result) member) exists takes known.fits) in
@@ -410,20 +408,15 @@ module _ {V : Type 0} (o : SetOperations V) (lawful : AreSound o) (claims : Clai
   counts : (op : CountOp) (question : Option Question) → (p : InPlace) → Expected (Some (Count op question)) (effect_of m (Count op question) all.values t)
   unfolding Expected LeadsIn AssignedIn effect_of outcome_of changed
   counts op None p =
-      let r = p.reads in
-      let known = p.variable in
+      let r = p.reads in let known = p.variable in
       rw r (assigns_expected (Count op None) p.v _ (arg all.values 0) (counted op p.old) (true, rw known refl) p.named (counted_in op p) p.exists)
   counts op (Some q) p =
-      let r = p.reads in
-      let known = p.variable in
-      let new = counted op p.old in
-      let a = counted_set o claims.globals op p.v mid in
-      let c = holds q new (arg all.values 1) in
+      let r = p.reads in let known = p.variable in let new = counted op p.old in
+      let a = counted_set o claims.globals op p.v mid in let c = holds q new (arg all.values 1) in
       let n = edge_of (o.narrow q c a (args 1)) _ (lawful.narrow q c a (args 1) new (arg all.values 1) (counted_in op p) (all.members 1) refl) in
       let kept : Kept V = record untold { first = local_kept p.v n.0.0 } in
       let held : Hold o lawful kept (put_in_place m.story p.v new t).frame.locals = (counted_local p.v new n.0.0 t (sym same_count) p.exists n.2.0, tt) in
-      let named = p.named in
-      let comes = counted_asked op q c p.v n.0 p.variable n.1 in
+      let named = p.named in let comes = counted_asked op q c p.v n.0 p.variable n.1 in
       rw r (inr (counts_in p.v a c kept, comes, record { gives = tt; assigns = (named, counted_in op p, p.exists); tests = refl; leads = refl; kept = rw named held; memory = tt; needs = refl; goes = refl }))
 
   pub known_jump : IsTrue (is_some (o.known (args 0))) → (x : ℕ) × (o.known (args 0) ≡ Some x) × (arg all.values 0 ≡ x)
@@ -518,8 +511,7 @@ module _ {V : Type 0} (o : SetOperations V) (lawful : AreSound o) (claims : Clai
 
   marks : (k : Operation) (sets : Bool) → ComesOf (Some k) goes_on → (1 ≤ arg all.values 0) × (arg all.values 0 ≤ m.story.objects) → arg all.values 1 < 32 → Expected (Some k) (marking m.story sets all.values s.memory)
   marks k sets comes object low =
-      let known = object_known m.story.objects (arg all.values 0) object in
-      let few = lt-ltb (arg all.values 1) 32 low in
+      let known = object_known m.story.objects (arg all.values 0) object in let few = lt-ltb (arg all.values 1) 32 low in
       rw (known, few) (rewrites k _ comes (marked_described o claims m.story supports.tables supports.few s.memory d.memory d.is_state.objects d.is_state.tables sets (arg all.values 0) (arg all.values 1) object.0 object.1 low))
 
   -- an answer about a property lies in the set of the answers
@@ -539,8 +531,7 @@ module _ {V : Type 0} (o : SetOperations V) (lawful : AreSound o) (claims : Clai
   fills_expected : (object : (1 ≤ arg all.values 0) × (arg all.values 0 ≤ m.story.objects)) → Filled o lawful claims m.story loaded supports s.memory d.memory (arg all.values 0) object.0 object.1 (arg all.values 1) (arg all.values 2) → AreUnfrozen o m.story (frozen_in claims) (args 0) (args 1) → Expected (Some SetProperty) (filling (with_property (arg all.values 0) (arg all.values 1) (arg all.values 2) s.memory) (is_data_writable m.story (property_of s.memory (arg all.values 0) (arg all.values 1))))
   unfolding outcome_of
   fills_expected object f spared =
-      let is = f.is in
-      let writable = f.writable in
+      let is = f.is in let writable = f.writable in
       let frozen = spared (arg all.values 0) (arg all.values 1) object.0 object.1 (all.members 0) (all.members 1) in
       let was : property_of m.story.memory (arg all.values 0) (arg all.values 1) ≡ Some f.property = sym (found_same o lawful claims m.story loaded supports s.memory d.memory (arg all.values 0) object.0 object.1 (arg all.values 1)) ∙ f.found in
       let unfrozen : (p : ℕ) → IsDataByte f.property p → (frozen_in claims) p ≡ false = subst (λ (r : Option AProperty). IfSome r (λ property. (p : ℕ) → IsDataByte property p → (frozen_in claims) p ≡ false)) was frozen in
@@ -561,8 +552,7 @@ module _ {V : Type 0} (o : SetOperations V) (lawful : AreSound o) (claims : Clai
       let p = element_place width (arg all.values 0) (arg all.values 1) in
       let writable = element_writable o lawful claims m.story s.memory d.memory width (args 0) (args 1) (arg all.values 0) (arg all.values 1) (all.members 0) (all.members 1) free in
       let differs = element_differs s.memory width p (arg all.values 2) in
-      let place = table_place m.story s.memory (with_element width p (arg all.values 2) s.memory) (bytes_of width p) writable differs ∙ d.is_state.tables in
-      rw writable (rewrites (StoreArray width) _ (true, refl) (stored_described o claims m.story supports.tables supports.few s.memory d.memory d.is_state.objects d.is_state.tables (bytes_of width p) (data_open o lawful claims m.story s.memory d.memory width (args 0) (args 1) (arg all.values 0) (arg all.values 1) (all.members 0) (all.members 1) free) _ differs place))
+      let place = table_place m.story s.memory (with_element width p (arg all.values 2) s.memory) (bytes_of width p) writable differs ∙ d.is_state.tables in rw writable (rewrites (StoreArray width) _ (true, refl) (stored_described o claims m.story supports.tables supports.few s.memory d.memory d.is_state.objects d.is_state.tables (bytes_of width p) (data_open o lawful claims m.story s.memory d.memory width (args 0) (args 1) (arg all.values 0) (arg all.values 1) (all.members 0) (all.members 1) free) _ differs place))
 
   names_expected : (name : ShortName) → (name ≡ Empty) ⊎ ((at : ℕ) × (bytes : List ℕ) × (name ≡ At at) × (output_at s.memory at ≡ Ok bytes)) → Expected (Some PrintObject) (naming name s.memory)
   unfolding outcome_of
@@ -574,45 +564,34 @@ module _ {V : Type 0} (o : SetOperations V) (lawful : AreSound o) (claims : Clai
   unfolding Expected demands_of outcome_of effect_of
   by_operation (Unary op) rule begins = gives_expected (Unary op) _ _ (true, refl) (lawful.unary op _ _ (all.members 0))
   by_operation (Binary op) rule begins =
-      let fine = defined_where o op (args 1) (arg all.values 1) rule.divides (all.members 1) in
-      rw fine (gives_expected (Binary op) _ _ (true, refl) (lawful.binary op _ _ _ _ (all.members 0) (all.members 1)))
+      let fine = defined_where o op (args 1) (arg all.values 1) rule.divides (all.members 1) in rw fine (gives_expected (Binary op) _ _ (true, refl) (lawful.binary op _ _ _ _ (all.members 0) (all.members 1)))
   by_operation (Compare q) rule begins = compares q
   by_operation (Count op question) rule begins = counts op question (in_place rule.known rule.top rule.exists)
   by_operation Store rule begins =
-      let p = in_place rule.known rule.top rule.exists in
-      let r = p.reads in
-      let known = p.variable in
-      rw r (assigns_expected Store p.v (args 1) (arg all.values 0) (arg all.values 1) (true, rw known refl) p.named (all.members 1) p.exists)
+      let p = in_place rule.known rule.top rule.exists in let r = p.reads in let known = p.variable in rw r (assigns_expected Store p.v (args 1) (arg all.values 0) (arg all.values 1) (true, rw known refl) p.named (all.members 1) p.exists)
   by_operation Load rule begins =
-      let p = in_place rule.known rule.top rule.exists in
-      let r = p.reads in
-      let known = p.variable in
-      rw r (gives_expected Load _ p.old (true, rw known refl) p.member)
+      let p = in_place rule.known rule.top rule.exists in let r = p.reads in let known = p.variable in rw r (gives_expected Load _ p.old (true, rw known refl) p.member)
   by_operation Jump rule begins = let k = known_jump rule.certain in jumps_expected k.0 k.1 k.2
   by_operation Verify rule begins = asks_expected Verify _ untold (_, refl) (tt, tt)
   by_operation PrintChar rule begins = goes_expected PrintChar _ (true, refl)
   by_operation PrintNumber rule begins = goes_expected PrintNumber _ (true, refl)
   by_operation Print rule begins =
-      let at : s.place +ℤ pos 1 ≡ pos (d.at + 1) = ap (λ (p : ℤ). p +ℤ pos 1) d.place in
-      subst (λ (p : ℤ). Expected (Some Print) (print_at p s.memory)) (sym at) (printed_expected (output_at s.memory (d.at + 1)) (prints rule.text) (true, refl))
+      let at : s.place +ℤ pos 1 ≡ pos (d.at + 1) = ap (λ (p : ℤ). p +ℤ pos 1) d.place in subst (λ (p : ℤ). Expected (Some Print) (print_at p s.memory)) (sym at) (printed_expected (output_at s.memory (d.at + 1)) (prints rule.text) (true, refl))
   by_operation NewLine rule begins = goes_expected NewLine _ (true, refl)
   by_operation Nop rule begins = goes_expected Nop _ (true, refl)
   by_operation Quit rule begins = inl (record { tests = refl; moves = refl; still = refl; needs = refl })
   by_operation Return rule begins = returns_expected Return [] _ _ (true, refl) (all.members 0)
   by_operation PrintReturn rule begins =
-      let at : s.place +ℤ pos 1 ≡ pos (d.at + 1) = ap (λ (p : ℤ). p +ℤ pos 1) d.place in
-      subst (λ (p : ℤ). Expected (Some PrintReturn) (print_at p s.memory >>= λ effect. Ok (closing effect))) (sym at) (closes_expected (output_at s.memory (d.at + 1)) (prints rule.text) (true, refl))
+      let at : s.place +ℤ pos 1 ≡ pos (d.at + 1) = ap (λ (p : ℤ). p +ℤ pos 1) d.place in subst (λ (p : ℤ). Expected (Some PrintReturn) (print_at p s.memory >>= λ effect. Ok (closing effect))) (sym at) (closes_expected (output_at s.memory (d.at + 1)) (prints rule.text) (true, refl))
   by_operation Call rule begins = calls begins
   by_operation Inside rule begins =
       let known = object_known m.story.objects (arg all.values 0) (rule.object.0 (arg all.values 0) (all.members 0)) in
       rw known (asks_expected Inside _ untold (_, refl) (tt, tt))
   by_operation TestAttribute rule begins =
-      let known = object_known m.story.objects (arg all.values 0) (rule.object.0 (arg all.values 0) (all.members 0)) in
-      let few = lt-ltb (arg all.values 1) 32 (rule.attribute (arg all.values 1) (all.members 1)) in
+      let known = object_known m.story.objects (arg all.values 0) (rule.object.0 (arg all.values 0) (all.members 0)) in let few = lt-ltb (arg all.values 1) 32 (rule.attribute (arg all.values 1) (all.members 1)) in
       rw (known, few) (asks_expected TestAttribute _ untold (_, refl) (tt, tt))
   by_operation (Follow link) rule begins =
-      let object = rule.object.0 (arg all.values 0) (all.members 0) in
-      let known = object_known m.story.objects (arg all.values 0) object in
+      let object = rule.object.0 (arg all.values 0) (all.members 0) in let known = object_known m.story.objects (arg all.values 0) object in
       rw known (follows link _ (d.memory.tree.small link (arg all.values 0) object.0 object.1) d.is_state.objects.few)
   by_operation SetAttribute rule begins = marks SetAttribute true (true, refl) (rule.object.0 (arg all.values 0) (all.members 0)) (rule.attribute (arg all.values 1) (all.members 1))
   by_operation ClearAttribute rule begins = marks ClearAttribute false (true, refl) (rule.object.0 (arg all.values 0) (all.members 0)) (rule.attribute (arg all.values 1) (all.members 1))
@@ -623,24 +602,20 @@ module _ {V : Type 0} (o : SetOperations V) (lawful : AreSound o) (claims : Clai
       let known_under = object_known m.story.objects (arg all.values 1) under in
       rw (known, known_under) (rearranges Insert _ (true, refl) (inserted_described o claims m.story supports.tables supports.few s.memory d.memory d.is_state.objects d.is_state.tables (arg all.values 0) (arg all.values 1) object.0 object.1 under.0 under.1))
   by_operation Remove rule begins =
-      let object = rule.object.0 (arg all.values 0) (all.members 0) in
-      let known = object_known m.story.objects (arg all.values 0) object in
+      let object = rule.object.0 (arg all.values 0) (all.members 0) in let known = object_known m.story.objects (arg all.values 0) object in
       rw known (rearranges Remove _ (true, refl) (unlinked_described o claims m.story supports.tables supports.few s.memory d.memory d.is_state.objects d.is_state.tables (arg all.values 0) object.0 object.1))
   by_operation (Property question) rule begins =
-      let object = rule.object.0 (arg all.values 0) (all.members 0) in
-      let known = object_known m.story.objects (arg all.values 0) object in
+      let object = rule.object.0 (arg all.values 0) (all.members 0) in let known = object_known m.story.objects (arg all.values 0) object in
       let there = answered o lawful claims m.story loaded supports s.memory d.memory (arg all.values 0) object.0 object.1 question (arg all.values 1) (rule.property (arg all.values 0) (arg all.values 1) object.0 object.1 (all.members 0) (all.members 1)) in
       rw known (answers_expected question there.0 there.1 object)
   by_operation PropertyLength rule begins = measures_expected (rule.address (arg all.values 0) (all.members 0))
   by_operation SetProperty rule begins =
-      let object = rule.object.0 (arg all.values 0) (all.members 0) in
-      let known = object_known m.story.objects (arg all.values 0) object in
+      let object = rule.object.0 (arg all.values 0) (all.members 0) in let known = object_known m.story.objects (arg all.values 0) object in
       rw known (fills_expected object (filled o lawful claims m.story loaded supports s.memory d.memory (arg all.values 0) object.0 object.1 (arg all.values 1) (arg all.values 2) (rule.property (arg all.values 0) (arg all.values 1) object.0 object.1 (all.members 0) (all.members 1))) rule.spares)
   by_operation (LoadArray width) rule begins = loads_expected width rule.read
   by_operation (StoreArray width) rule begins = stores_expected width rule.written
   by_operation PrintObject rule begins =
-      let object = rule.object.0 (arg all.values 0) (all.members 0) in
-      let known = object_known m.story.objects (arg all.values 0) object in
+      let object = rule.object.0 (arg all.values 0) (all.members 0) in let known = object_known m.story.objects (arg all.values 0) object in
       rw known (names_expected (short_name s.memory (arg all.values 0)) (name_printed o lawful claims m.story loaded supports s.memory d.memory (arg all.values 0) object.0 object.1 (short_name s.memory (arg all.values 0)) refl))
 
   by_played : (k : Option Operation) → IsTrue (is_some k) → Asked (demands_if o k args) → CallsOf k → Expected k (effect_if m k all.values t)
@@ -704,8 +679,7 @@ module _ {V : Type 0} (o : SetOperations V) (lawful : AreSound o) (claims : Clai
   mid_changed : (w : Outcome V) (effect : Effect) → Matches w effect → Takes o claims w.gives (target i) → TakesInPlace o claims w.assigns → Known_in (changed_by o claims.globals i d.entry.shape w) (changed m.story i effect t)
   unfolding changed
   mid_changed w effect matches given in_place =
-      let r = rewritten effect.memory t in
-      let u = assigned m.story effect.assigns r in
+      let r = rewritten effect.memory t in let u = assigned m.story effect.assigns r in
       let known = mid_assigned w.assigns effect.assigns mid r matches.assigns in_place (rewritten_known effect.memory matches.memory) in
       stored_mid o claims m.story loaded supports.tables d.entry.routine (target i) w.gives effect.gives (with_assigned w.assigns mid) u matches.gives (still_there (with_assigned w.assigns mid) u (length_assigned w.assigns mid) known) given known
 
