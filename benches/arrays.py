@@ -1,0 +1,76 @@
+#!/usr/bin/env python3
+"""Writes a story of version 3 that goes round a loop of loads and stores for ever, and its certificate.
+
+    arrays.py KIND COUNT STORY CERTIFICATE
+
+KIND is load (loadw, loadb), store (storew, storeb) or all: these four in turn, and a loadw of a table that stays as it is. COUNT says how many
+there are in the loop; where they are more than a jump can go back over, they are played once. Each has a constant array of 5,000 bytes, and
+its index from a global that may be any that lies in the array by the certificate, at no whole block from either end.
+"""
+import struct
+import sys
+from itertools import cycle, islice
+
+import straight
+
+INDEX, VALUE = 16, 17  # globals
+LENGTH = 5000
+LAST = 2490  # the greatest index
+OPEN = straight.DEFAULTS + 62 + 1  # an odd place in dynamic memory
+STATIC = OPEN + LENGTH + 1
+DICTIONARY = STATIC + 2 * 96 + 2
+TABLE = DICTIONARY + 4 + 1  # an odd place in static memory
+CODE = TABLE + LENGTH + 1
+
+
+def loading(opcode, array):
+    return bytes([opcode, 0x2F]) + struct.pack(">H", array) + bytes([INDEX, VALUE])
+
+
+def storing(opcode):
+    return bytes([opcode, 0x2B]) + struct.pack(">H", OPEN) + bytes([INDEX, VALUE])
+
+
+KINDS = {"load": [loading(0xCF, OPEN), loading(0xD0, OPEN)], "store": [storing(0xE1), storing(0xE2)]}
+KINDS["all"] = KINDS["load"] + KINDS["store"] + [loading(0xCF, TABLE)]
+
+
+def story(code):
+    """The whole story with this code, and its checksum."""
+    rest = struct.pack(">H", 5).ljust(480, b"\0") + bytes(STATIC - straight.DEFAULTS)
+    rest += struct.pack(">H", (DICTIONARY - 2) // 2) * 96 + b"\x94\xa5" + bytes([0, 4, 0, 0])
+    rest += bytes(number * 7 % 251 for number in range(CODE - TABLE + 1)) + code
+    rest += bytes(len(rest) % 2)
+    checksum = sum(rest) % 65536
+    head = struct.pack(
+        ">BBHHHHHHHH6sHHH",
+        3, 0, straight.RELEASE, CODE, CODE, DICTIONARY, straight.DEFAULTS, straight.GLOBALS, STATIC, 0, straight.SERIAL, STATIC, (64 + len(rest)) // 2, checksum,
+    )
+    return head.ljust(64, b"\0") + rest, checksum
+
+
+def certificate(length, checksum, addresses):
+    """One that lists these addresses in the main code, with an empty stack."""
+    head = struct.pack(">4sBH6sHI", b"ZPCC", 1, straight.RELEASE, straight.SERIAL, checksum, length)
+    values = struct.pack(">hhhh", 0, LAST, -32768, 32767) + bytes(4 * 238)
+    entries = b"".join(struct.pack(">IHB", address, 0, 0) for address in addresses)
+    return head + struct.pack(">H", 0) + values + struct.pack(">H", 0) + struct.pack(">I", len(addresses)) + entries
+
+
+def main(kind, count, story_name, certificate_name):
+    code, addresses = b"", []
+    for instruction in islice(cycle(KINDS[kind]), int(count)):
+        addresses.append(CODE + len(code))
+        code += instruction
+    addresses.append(CODE + len(code))
+    back = 2 - 3 - len(code)
+    code += b"\x8c" + struct.pack(">h", back) if back >= -32768 else straight.QUIT
+    whole, checksum = story(code)
+    with open(story_name, "wb") as file:
+        file.write(whole)
+    with open(certificate_name, "wb") as file:
+        file.write(certificate(len(whole), checksum, addresses))
+
+
+if __name__ == "__main__":
+    main(*sys.argv[1:])
