@@ -1,0 +1,4 @@
+pub mod Joins
+mod Marks
+mod Writes
+mod Worked

@@ -1,0 +1,79 @@
+use Rattle.std.proofs.Common.{◌∙◌, ◌++◌, ◌-◌, true, length, reverse, subst, ap, arith}
+use Rattle.std.specs.Prelude.{take, drop, slice_range}
+use Rattle.std.specs.Io.KnownBytes.{Appends}
+use Rattle.std.proofs.KnownBytes.{Appends-trans}
+use Rattle.zfault.specs.Devices.{AppendsBeginning}
+use Rattle.zfault.proofs.DeviceLemmas.{AppendsBeginning-after}
+use Rattle.zscreen.specs.Rendering.{render, status_line}
+use Rattle.zscreen.proofs.Marks.{before, shown_to, stands_in, items_in, next_within, next_behind, next_place, next_shown, next_begins, all_shown}
+use Rattle.zscreen.proofs.Writes.{on_err, ok_map, err_map}
+use Rattle.zscreen.proofs.writing.write_with_status.Goals as goal
+
+pub write_up_to-requires-clause-order : goal.write_up_to-requires-clause-order
+write_up_to-requires-clause-order g c =
+    let marks = c.marks-mark-items.result.now in
+    let text = c.text-text.result.now in
+    let stands = stands_in text c.args.items.now.items (reverse marks) c.text-text.ensures c.marks-mark-items.ensures.order in
+    let behind = next_behind text marks c.loop-mark.mark-index c.mark-item.result c.loop-mark-test.true c.mark-item.is stands in
+    omega (arith, behind, c.loop-mark.invariant.0)
+
+pub write_up_to-requires-clause-within : goal.write_up_to-requires-clause-within
+write_up_to-requires-clause-within g c =
+    let marks = c.marks-mark-items.result.now in
+    let text = c.text-text.result.now in
+    let stands = stands_in text c.args.items.now.items (reverse marks) c.text-text.ensures c.marks-mark-items.ensures.order in
+    next_within text marks c.loop-mark.mark-index c.mark-item.result c.loop-mark-test.true c.mark-item.is stands
+
+pub returns-in_err-write_up_to-clause-begun : goal.returns-in_err-write_up_to-clause-begun
+returns-in_err-write_up_to-clause-begun g c =
+    let marks = c.marks-mark-items.result.now in
+    let text = c.text-text.result.now in
+    let i = c.loop-mark.mark-index in
+    let mark = c.mark-item.result in
+    let from = c.loop-mark.written in
+    let old = g.W.Sink.contents c.args.sink.now in
+    let new = g.W.Sink.contents c.write_up_to.new.sink in
+    let stands = stands_in text c.args.items.now.items (reverse marks) c.text-text.ensures c.marks-mark-items.ensures.order in
+    let all = items_in text c.args.items.now.items (reverse marks) c.text-text.ensures c.marks-mark-items.ensures.items in
+    let more = AppendsBeginning-after old (g.W.Sink.contents c.loop-mark.sink) new (shown_to text from (before i marks)) (slice_range text from mark.place ++ status_line mark.status) c.loop-mark.invariant.1 c.in_err-write_up_to.ensures.begun in
+    let begun = subst (AppendsBeginning old new) (next_shown text marks i mark c.loop-mark-test.true c.mark-item.is stands from c.loop-mark.invariant.0) more in
+    let of_all = next_begins text marks i mark c.loop-mark-test.true c.mark-item.is stands old new begun in
+    on_err c.from_residual.result (subst (λ given. AppendsBeginning old new (render true given)) all of_all)
+
+pub loop-mark-preserved : goal.loop-mark-preserved
+loop-mark-preserved g c =
+    let marks = c.marks-mark-items.result.now in
+    let text = c.text-text.result.now in
+    let i = c.loop-mark.mark-index in
+    let mark = c.mark-item.result in
+    let from = c.loop-mark.written in
+    let old = g.W.Sink.contents c.args.sink.now in
+    let new = g.W.Sink.contents c.write_up_to.new.sink in
+    let stands = stands_in text c.args.items.now.items (reverse marks) c.text-text.ensures c.marks-mark-items.ensures.order in
+    let more = Appends-trans old (g.W.Sink.contents c.loop-mark.sink) new (shown_to text from (before i marks)) (slice_range text from mark.place ++ status_line mark.status) c.loop-mark.invariant.1 c.in_ok-write_up_to.ensures.ok in
+    let whole = subst (Appends old new) (next_shown text marks i mark c.loop-mark-test.true c.mark-item.is stands from c.loop-mark.invariant.0) more in
+    (next_place text marks i mark c.loop-mark-test.true c.mark-item.is stands, whole, c.in_ok-write_up_to.ensures.quiet ∙ c.loop-mark.invariant.2)
+
+pub returns-clause-ok : goal.returns-clause-ok
+returns-clause-ok g c =
+    let marks = c.marks-mark-items.result.now in
+    let text = c.text-text.result.now in
+    let from = c.loop-mark.written in
+    let old = g.W.Sink.contents c.args.sink.now in
+    let new = g.W.Sink.contents c.write_whole.new.sink in
+    let stands = stands_in text c.args.items.now.items (reverse marks) c.text-text.ensures c.marks-mark-items.ensures.order in
+    let all = items_in text c.args.items.now.items (reverse marks) c.text-text.ensures c.marks-mark-items.ensures.items in
+    let same = all_shown text marks c.loop-mark.mark-index from (omega (arith, c.loop-mark-test.false)) stands c.loop-mark.invariant.0 ∙ ap (render true) all in
+    ok_map c.write_whole.result (λ last. subst (Appends old new) same (Appends-trans old (g.W.Sink.contents c.loop-mark.sink) new (shown_to text from (before c.loop-mark.mark-index marks)) (take (length text - from) (drop from text)) c.loop-mark.invariant.1 last)) c.write_whole.ensures.ok
+
+pub returns-clause-begun : goal.returns-clause-begun
+returns-clause-begun g c =
+    let marks = c.marks-mark-items.result.now in
+    let text = c.text-text.result.now in
+    let from = c.loop-mark.written in
+    let old = g.W.Sink.contents c.args.sink.now in
+    let new = g.W.Sink.contents c.write_whole.new.sink in
+    let stands = stands_in text c.args.items.now.items (reverse marks) c.text-text.ensures c.marks-mark-items.ensures.order in
+    let all = items_in text c.args.items.now.items (reverse marks) c.text-text.ensures c.marks-mark-items.ensures.items in
+    let same = all_shown text marks c.loop-mark.mark-index from (omega (arith, c.loop-mark-test.false)) stands c.loop-mark.invariant.0 ∙ ap (render true) all in
+    err_map c.write_whole.result (λ last. subst (AppendsBeginning old new) same (AppendsBeginning-after old (g.W.Sink.contents c.loop-mark.sink) new (shown_to text from (before c.loop-mark.mark-index marks)) (take (length text - from) (drop from text)) c.loop-mark.invariant.1 last)) c.write_whole.ensures.begun

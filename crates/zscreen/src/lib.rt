@@ -1,0 +1,11 @@
+//! What a player sees: text, and status lines where they are asked for.
+#![tactic(auto)]
+
+mod laws;
+mod rendering;
+mod status;
+mod writing;
+
+pub use laws::renderings_join;
+pub use rendering::render;
+pub use writing::write_items;
