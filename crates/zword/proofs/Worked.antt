@@ -8,6 +8,8 @@ use Rattle.zword.specs.Binary.{apply, is_defined}
 use Rattle.zword.specs.Unary.{transform}
 use Rattle.zword.specs.Question.{holds}
 use Rattle.zword.specs.Count.{counted, counting, checking}
+use Rattle.zword.specs.declared.addressing.Addressing.TheVariants.{Byte as ByteAddress, Packed}
+use Rattle.zword.specs.Addressing.{place_of}
 
 -- 65,535 + 2 is 1; 32,767 + 1 is -32,768
 sums : (apply Add 3 4 ≡ 7) × (apply Add 65535 2 ≡ 1) × (apply Add 0x7FFF 1 ≡ 0x8000)
@@ -65,3 +67,7 @@ counts = (refl, refl, refl, refl)
 
 checks : (checking Up ≡ Greater) × (checking Down ≡ Less) × (counting Up ≡ Add) × (counting Down ≡ Sub)
 checks = (refl, refl, refl, refl)
+
+-- the byte at 0x1234; the packed address 0x1234 is the byte at 0x2468, and the last one that at 131,070 (Z 1.2)
+addresses : (place_of ByteAddress 0x1234 ≡ 0x1234) × (place_of Packed 0x1234 ≡ 0x2468) × (place_of Packed 0xFFFF ≡ 131070)
+addresses = (refl, refl, refl)

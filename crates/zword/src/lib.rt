@@ -4,11 +4,13 @@
 //! and what a rule asks of it all go by the same enum.
 #![tactic(auto)]
 
+mod addressing;
 mod binary;
 mod count;
 mod question;
 mod unary;
 
+pub use addressing::Addressing;
 pub use binary::BinaryOp;
 pub use count::CountOp;
 pub use question::Question;
