@@ -3,9 +3,10 @@
 
     arrays.py KIND COUNT STORY CERTIFICATE
 
-KIND is load (loadw, loadb), store (storew, storeb) or all: these four in turn, and a loadw of a table that stays as it is. COUNT says how many
-there are in the loop; where they are more than a jump can go back over, they are played once. Each has a constant array of 5,000 bytes, and
-its index from a global that may be any that lies in the array by the certificate, at no whole block from either end.
+KIND is load (loadw, loadb), store (storew, storeb) or all: these four in turn, a loadw of a table that stays as it is, and a print_addr and a
+print_paddr of a text in that table. COUNT says how many there are in the loop; where they are more than a jump can go back over, they are
+played once. Each has a constant array of 5,000 bytes, and its index, or the text its address, from a global that may be any that lies in the
+array by the certificate, at no whole block from either end.
 """
 import struct
 import sys
@@ -13,7 +14,7 @@ from itertools import cycle, islice
 
 import straight
 
-INDEX, VALUE = 16, 17  # globals
+INDEX, VALUE, TEXT, PACKED = 16, 17, 18, 19  # globals
 LENGTH = 5000
 LAST = 2490  # the greatest index
 OPEN = straight.DEFAULTS + 62 + 1  # an odd place in dynamic memory
@@ -32,12 +33,12 @@ def storing(opcode):
 
 
 KINDS = {"load": [loading(0xCF, OPEN), loading(0xD0, OPEN)], "store": [storing(0xE1), storing(0xE2)]}
-KINDS["all"] = KINDS["load"] + KINDS["store"] + [loading(0xCF, TABLE)]
+KINDS["all"] = KINDS["load"] + KINDS["store"] + [loading(0xCF, TABLE), bytes([0xA7, TEXT]), bytes([0xAD, PACKED])]
 
 
 def story(code):
     """The whole story with this code, and its checksum."""
-    rest = struct.pack(">H", 5).ljust(480, b"\0") + bytes(STATIC - straight.DEFAULTS)
+    rest = struct.pack(">HHHH", 5, 0, TABLE, TABLE // 2 + 1).ljust(480, b"\0") + bytes(STATIC - straight.DEFAULTS)
     rest += struct.pack(">H", (DICTIONARY - 2) // 2) * 96 + b"\x94\xa5" + bytes([0, 4, 0, 0])
     rest += bytes(number * 7 % 251 for number in range(CODE - TABLE + 1)) + code
     rest += bytes(len(rest) % 2)
@@ -52,7 +53,8 @@ def story(code):
 def certificate(length, checksum, addresses):
     """One that lists these addresses in the main code, with an empty stack."""
     head = struct.pack(">4sBH6sHI", b"ZPCC", 1, straight.RELEASE, straight.SERIAL, checksum, length)
-    values = struct.pack(">hhhh", 0, LAST, -32768, 32767) + bytes(4 * 238)
+    texts = struct.pack(">hhhh", TABLE, TABLE + LENGTH - 4, TABLE // 2 + 1, (TABLE + LENGTH - 4) // 2)
+    values = struct.pack(">hhhh", 0, LAST, -32768, 32767) + texts + bytes(4 * 236)
     entries = b"".join(struct.pack(">IHB", address, 0, 0) for address in addresses)
     return head + struct.pack(">H", 0) + values + struct.pack(">H", 0) + struct.pack(">I", len(addresses)) + entries
 

@@ -16,6 +16,7 @@ from plays import see_plays
 from program import Answer, Count, Program
 from properties import see_properties
 from samples import CODE, HELLO, NEW_LINE, NOP, QUIT, certificate, changed, interval, story, with_objects
+from texts import see_texts
 
 HERE = os.path.dirname(os.path.abspath(__file__))
 SAMPLE = story(HELLO + QUIT)
@@ -352,6 +353,7 @@ def main():
     see_objects(program, count)
     see_properties(program, count)
     see_arrays(program, count)
+    see_texts(program, count)
     see_streams(program, count)
     count.end()
 

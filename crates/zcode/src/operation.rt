@@ -8,7 +8,7 @@ use crate::opcode::Opcode;
 use arrayvec::ArrayVec;
 use zarray::Width;
 use zobj::{Link, PropertyQuestion};
-use zword::{BinaryOp, CountOp, Question, UnaryOp};
+use zword::{Addressing, BinaryOp, CountOp, Question, UnaryOp};
 
 /// What an opcode does, by its family (Z 15). Every layer goes by these.
 #[derive(Clone, Copy, PartialEq, Eq)]
@@ -69,6 +69,10 @@ pub enum Operation {
     SetProperty,
     /// The short name of the object of the value is printed.
     PrintObject,
+    /// The text at the address of the value is printed.
+    PrintAt(Addressing),
+    /// The status line shows what the first three globals say from here on.
+    ShowStatus,
     /// The element of the array at the first value whose index is the second goes to the result variable.
     LoadArray(Width),
     /// The element of the array at the first value whose index is the second is given the third.
@@ -127,6 +131,9 @@ impl Opcode {
             Opcode::GetPropLen => Operation::PropertyLength,
             Opcode::PutProp => Operation::SetProperty,
             Opcode::PrintObj => Operation::PrintObject,
+            Opcode::PrintAddr => Operation::PrintAt(Addressing::Byte),
+            Opcode::PrintPaddr => Operation::PrintAt(Addressing::Packed),
+            Opcode::ShowStatus => Operation::ShowStatus,
             Opcode::Loadw => Operation::LoadArray(Width::Word),
             Opcode::Loadb => Operation::LoadArray(Width::Byte),
             Opcode::Storew => Operation::StoreArray(Width::Word),

@@ -3,7 +3,7 @@ use Rattle.std.proofs.Common.{◌≡◌, ℕ, Bool, List, Some, None, refl}
 use Rattle.zpairs.specs.Frozen.{FrozenStory}
 use Rattle.zcode.specs.declared.instr.Operand.{Operand}
 use Rattle.zcode.specs.declared.operation.Operation.{Operation}
-use Rattle.zcode.specs.declared.operation.Operation.TheVariants.{Unary, Binary, Compare, Count, Store, Load, Jump, Verify, PrintChar, PrintNumber, Print, NewLine, Nop, Quit, Return, PrintReturn, Call, Inside, TestAttribute, Follow, SetAttribute, ClearAttribute, Insert, Remove, Property, PropertyLength, SetProperty, PrintObject, LoadArray, StoreArray}
+use Rattle.zcode.specs.declared.operation.Operation.TheVariants.{Unary, Binary, Compare, Count, Store, Load, Jump, Verify, PrintChar, PrintNumber, Print, NewLine, Nop, Quit, Return, PrintReturn, Call, Inside, TestAttribute, Follow, SetAttribute, ClearAttribute, Insert, Remove, Property, PropertyLength, SetProperty, PrintObject, PrintAt, ShowStatus, LoadArray, StoreArray}
 use Rattle.zdomain.specs.Domain.{SetOperations}
 use Rattle.zflow.specs.Transfer.{Shape, demands_of, outcome_of}
 use Rattle.zflow.specs.Kept.{both}
@@ -39,6 +39,8 @@ module _ {V : Type 0} (o : SetOperations V) where
   demands_read PropertyLength arg = refl
   demands_read SetProperty arg = refl
   demands_read PrintObject arg = refl
+  demands_read (PrintAt addressing) arg = refl
+  demands_read ShowStatus arg = refl
   demands_read (LoadArray width) arg = refl
   demands_read (StoreArray width) arg = refl
 
@@ -73,5 +75,7 @@ module _ {V : Type 0} (o : SetOperations V) where
   outcome_read globals told PropertyLength operands arg e c = refl
   outcome_read globals told SetProperty operands arg e c = refl
   outcome_read globals told PrintObject operands arg e c = refl
+  outcome_read globals told (PrintAt addressing) operands arg e c = refl
+  outcome_read globals told ShowStatus operands arg e c = refl
   outcome_read globals told (LoadArray width) operands arg e c = refl
   outcome_read globals told (StoreArray width) operands arg e c = refl

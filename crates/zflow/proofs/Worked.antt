@@ -15,6 +15,9 @@ use Rattle.zobj.specs.declared.answers.PropertyQuestion.TheVariants.{Value, Addr
 use Rattle.zflow.specs.declared.parts.Asked.{Asked}
 use Rattle.zflow.specs.declared.parts.Asked.TheVariants.{Answered, Filled}
 use Rattle.zflow.specs.declared.parts.Pairs.{Pairs}
+use Rattle.zflow.specs.declared.parts.Texts.{Texts}
+use Rattle.zword.specs.declared.addressing.Addressing.{Addressing}
+use Rattle.zword.specs.declared.addressing.Addressing.TheVariants.{Byte, Packed}
 use Rattle.zflow.specs.declared.parts.Demands.{Demands}
 use Rattle.zflow.specs.declared.parts.Lead.{Lead}
 use Rattle.zflow.specs.declared.parts.Lead.TheVariants.{Ahead, Returning, Entering}
@@ -313,12 +316,23 @@ texts : ((demands_on (plain opcodes.Print [])).has_text ≡ true) × ((demands_o
 unfolding operation_of demands_of shape globals
 texts = (refl, refl)
 
+abbrev text_seen : Texts Interval → Addressing × Ends
+text_seen x = (x.addressing, ends x.places)
+
+addressed : (option_map text_seen (demands_on (plain opcodes.PrintAddr (Variable 1 ∷ []))).texts ≡ Some (Byte, span 0 9)) × (option_map text_seen (demands_on (plain opcodes.PrintPaddr (Variable 1 ∷ []))).texts ≡ Some (Packed, span 0 9)) × (option_map text_seen (demands_on (plain opcodes.PrintObj (Variable 1 ∷ []))).texts ≡ None)
+unfolding operation_of demands_of shape globals
+addressed = (refl, refl, refl)
+
+lines : ((demands_on (plain opcodes.ShowStatus [])).shows_status ≡ true) × ((demands_on (plain opcodes.NewLine [])).shows_status ≡ false)
+unfolding operation_of demands_of shape globals
+lines = (refl, refl)
+
 abbrev stays : Option (List Ends)
 stays = Some (only 7 ∷ span 20 30 ∷ [])
 
-proceeds : (slots_on (plain opcodes.Print []) true ≡ stays) × (slots_on (plain opcodes.NewLine []) true ≡ stays) × (slots_on (plain opcodes.PrintChar (Constant 65 ∷ [])) true ≡ stays) × (slots_on (plain opcodes.PrintNum (Variable 0 ∷ [])) true ≡ Some (span 20 30 ∷ [])) × (slots_on (plain opcodes.Nop []) true ≡ stays) × (slots_on (plain opcodes.InsertObj (Variable 0 ∷ Constant 2 ∷ [])) true ≡ Some (span 20 30 ∷ [])) × (slots_on (plain opcodes.SetAttr (Constant 1 ∷ Constant 2 ∷ [])) true ≡ stays) × (outcome_on (plain opcodes.RemoveObj (Constant 1 ∷ [])) false ≡ nothing) × (slots_on (plain opcodes.Pop []) true ≡ Some (span 20 30 ∷ [])) × (outcome_on (plain opcodes.Nop []) false ≡ nothing)
+proceeds : (slots_on (plain opcodes.Print []) true ≡ stays) × (slots_on (plain opcodes.NewLine []) true ≡ stays) × (slots_on (plain opcodes.PrintChar (Constant 65 ∷ [])) true ≡ stays) × (slots_on (plain opcodes.PrintNum (Variable 0 ∷ [])) true ≡ Some (span 20 30 ∷ [])) × (slots_on (plain opcodes.Nop []) true ≡ stays) × (slots_on (plain opcodes.PrintAddr (Variable 0 ∷ [])) true ≡ Some (span 20 30 ∷ [])) × (outcome_on (plain opcodes.PrintPaddr (Constant 1 ∷ [])) false ≡ nothing) × (slots_on (plain opcodes.ShowStatus []) true ≡ stays) × (outcome_on (plain opcodes.ShowStatus []) false ≡ nothing) × (slots_on (plain opcodes.InsertObj (Variable 0 ∷ Constant 2 ∷ [])) true ≡ Some (span 20 30 ∷ [])) × (slots_on (plain opcodes.SetAttr (Constant 1 ∷ Constant 2 ∷ [])) true ≡ stays) × (outcome_on (plain opcodes.RemoveObj (Constant 1 ∷ [])) false ≡ nothing) × (slots_on (plain opcodes.Pop []) true ≡ Some (span 20 30 ∷ [])) × (outcome_on (plain opcodes.Nop []) false ≡ nothing)
 unfolding operation_of outcome_of shape globals
-proceeds = (refl, refl, refl, refl, refl, refl, refl, refl, refl, refl)
+proceeds = (refl, refl, refl, refl, refl, refl, refl, refl, refl, refl, refl, refl, refl, refl)
 
 -- nothing comes of quit, and of an opcode of which nothing is said
 ends_there : (outcome_on (plain opcodes.Quit []) true ≡ nothing) × (outcome_on (plain opcodes.Quit []) false ≡ nothing) × (outcome_on (plain opcodes.Restart []) true ≡ nothing)

@@ -14,7 +14,7 @@ use Rattle.zcode.specs.declared.instr.Branch.{Branch}
 use Rattle.zcode.specs.declared.instr.Destination.{Destination}
 use Rattle.zcode.specs.declared.instr.Destination.TheVariants.{ReturnFalse, ReturnTrue, Relative}
 use Rattle.zcode.specs.declared.operation.Operation.{Operation}
-use Rattle.zcode.specs.declared.operation.Operation.TheVariants.{Unary, Binary, Compare, Count, Store, Load, Jump, Verify, PrintChar, PrintNumber, Print, NewLine, Nop, Quit, Return, PrintReturn, Call, Inside, TestAttribute, Follow, SetAttribute, ClearAttribute, Insert, Remove, Property, PropertyLength, SetProperty, PrintObject, LoadArray, StoreArray}
+use Rattle.zcode.specs.declared.operation.Operation.TheVariants.{Unary, Binary, Compare, Count, Store, Load, Jump, Verify, PrintChar, PrintNumber, Print, NewLine, Nop, Quit, Return, PrintReturn, Call, Inside, TestAttribute, Follow, SetAttribute, ClearAttribute, Insert, Remove, Property, PropertyLength, SetProperty, PrintObject, PrintAt, ShowStatus, LoadArray, StoreArray}
 use Rattle.zcode.specs.Instruction.{Instruction}
 use Rattle.zcode.specs.Operation.{operation_of, inputs, target}
 use Rattle.zdomain.specs.Domain.{SetOperations}
@@ -73,7 +73,7 @@ module _ {V : Type 0} (o : SetOperations V) (globals : List V) where
 -- ---- what an operation asks for, once for an instruction
 
 abbrev pub nothing : {V : Type 0} → Demands V
-nothing = record { indirect = false; variable = None; divisor = None; object = None; under = None; attribute = None; property = None; address = None; elements = None; certain = true; has_text = false }
+nothing = record { indirect = false; variable = None; divisor = None; object = None; under = None; attribute = None; property = None; address = None; elements = None; texts = None; certain = true; has_text = false; shows_status = false }
 
 abbrev pub naming : {V : Type 0} → Option ℕ → Demands V
 naming variable = record nothing { indirect = true; variable = variable }
@@ -119,6 +119,8 @@ module _ {V : Type 0} (o : SetOperations V) where
   demands_of PropertyLength arg = record nothing { address = Some (arg 0) }
   demands_of SetProperty arg = record nothing { object = Some (arg 0); property = Some (record { asked = Filled; objects = arg 0; numbers = arg 1 }) }
   demands_of PrintObject arg = record nothing { object = Some (arg 0) }
+  demands_of (PrintAt addressing) arg = record nothing { texts = Some (record { addressing = addressing; places = arg 0 }) }
+  demands_of ShowStatus arg = record nothing { shows_status = true }
   demands_of (LoadArray width) arg = record nothing { elements = Some (record { access = Reading; width = width; arrays = arg 0; indices = arg 1 }) }
   demands_of (StoreArray width) arg = record nothing { elements = Some (record { access = Writing; width = width; arrays = arg 0; indices = arg 1 }) }
 
@@ -240,6 +242,8 @@ module _ {V : Type 0} (o : SetOperations V) (globals : List V) (told : FrozenSto
   outcome_of PropertyLength operands arg e c = once c (gives_in (o.between 0 8))
   outcome_of SetProperty operands arg e c = once c goes_on
   outcome_of PrintObject operands arg e c = once c goes_on
+  outcome_of (PrintAt addressing) operands arg e c = once c goes_on
+  outcome_of ShowStatus operands arg e c = once c goes_on
   outcome_of (LoadArray width) operands arg e c = once c (gives_in (elements o told width (arg 0) (arg 1)))
   outcome_of (StoreArray width) operands arg e c = once c goes_on
 

@@ -4,7 +4,7 @@ ghost use Rattle.std.specs.Prelude.{◌≡◌};
 ghost use Rattle.zflow.specs.Transfer.{demands_if, demands_of, divisor_of, naming, nothing, small};
 ghost use Rattle.zflow.specs.Kept.{both};
 
-use crate::parts::{Access, Asked, Demands, Elements, Pairs};
+use crate::parts::{Access, Asked, Demands, Elements, Pairs, Texts};
 use zarray::Width;
 use zcode::Operation;
 use zdomain::Domain;
@@ -33,6 +33,10 @@ fn demands_of<V: Domain>(operation: Operation, first: V, second: V) -> Demands<V
             demands.property = Some(pairs(Asked::Filled, first, second));
         }
         Operation::PropertyLength => demands.address = Some(first),
+        Operation::PrintAt(addressing) => {
+            demands.texts = Some(Texts { addressing, places: first });
+        }
+        Operation::ShowStatus => demands.shows_status = true,
         Operation::LoadArray(width) => {
             demands.elements = Some(elements(Access::Reading, width, first, second));
         }
@@ -95,8 +99,10 @@ fn nothing<V: Domain>() -> Demands<V>
         property: None,
         address: None,
         elements: None,
+        texts: None,
         certain: true,
         has_text: false,
+        shows_status: false,
     }
 }
 

@@ -79,6 +79,8 @@ fn outcomes_of<V: Domain>(
         | Operation::Remove
         | Operation::SetProperty
         | Operation::PrintObject
+        | Operation::PrintAt(_)
+        | Operation::ShowStatus
         | Operation::StoreArray(_) => once(goes_on()),
         Operation::Quit => never(),
         Operation::Return => once(returns_in(first)),

@@ -2,6 +2,7 @@
 
 use zarray::Width;
 use zobj::PropertyQuestion;
+use zword::Addressing;
 
 /// What an operation asks for, once for an instruction.
 #[derive(Clone, Copy)]
@@ -24,10 +25,14 @@ pub struct Demands<V> {
     pub address: Option<V>,
     /// The elements of arrays that it reads or writes.
     pub elements: Option<Elements<V>>,
+    /// The texts that it prints.
+    pub texts: Option<Texts<V>>,
     /// It is known how far it jumps, if it jumps.
     pub certain: bool,
     /// A text stands behind the opcode byte.
     pub has_text: bool,
+    /// The status line shows what the first three globals say.
+    pub shows_status: bool,
 }
 
 /// What is asked of a property.
@@ -70,6 +75,15 @@ pub struct Elements<V> {
     pub arrays: V,
     /// The indices.
     pub indices: V,
+}
+
+/// The texts at all addresses of a set.
+#[derive(Clone, Copy)]
+pub struct Texts<V> {
+    /// What the addresses are.
+    pub addressing: Addressing,
+    /// The addresses.
+    pub places: V,
 }
 
 /// Where an instruction leads.

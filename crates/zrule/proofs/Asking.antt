@@ -14,9 +14,10 @@ use Rattle.zflow.specs.declared.flow.Flow.{Flow}
 use Rattle.zflow.specs.Transfer.{demands_of, demands_if, read_set, argument_sets}
 use Rattle.zflow.specs.Flow.{IsFlow}
 use Rattle.zrule.specs.declared.rule.Rule.{Rule}
-use Rattle.zrule.specs.declared.rule.Rule.TheVariants.{Decodes, Height, Local, Successor, Object, Attribute, Property, Divisor, Write, Read, Text, Called, Returned, Known, Stored, High}
+use Rattle.zrule.specs.declared.rule.Rule.TheVariants.{Decodes, Height, Local, Successor, Object, Attribute, Property, Divisor, Write, Read, Text, Called, Returned, Known, Stored, High, Status}
 use Rattle.zrule.specs.Claims.{Entry, Claims, frozen_in, told_of}
-use Rattle.zrule.specs.Rules.{IsThere, demands_at, IsKnown, Divides, KnowsAnswers, Reads, CallsBegin, HasFixedText, Asks, Keeps}
+use Rattle.zrule.specs.Rules.{IsThere, demands_at, IsKnown, Divides, KnowsAnswers, PrintsFixed, Reads, CallsBegin, Asks, Keeps}
+use Rattle.zruns.specs.Texts.{HasFixedText}
 use Rattle.zrule.specs.Edges.{EdgesKeep}
 use Rattle.zrule.proofs.Whatever.{leads_on, called, returned, stored, high}
 
@@ -48,9 +49,9 @@ module _ {V : Type 0} (o : SetOperations V) (claims : Claims V) (story : LoadedS
   pub local_unknown : (rule : Rule) (b : Bool) → rule ≡ Local → (IsKnown o claims i e.shape → IsTrue b) → b ≡ false → IsTrue (not b) ↔ Asks o claims story p e i rule
   local_unknown rule b is known unknown = rw (is, unknown) (λ t k. absurd (let f = known k in cc), λ a. refl)
 
-  -- and what a text is asked is so of every opcode that prints one
-  pub text_fixed : (rule : Rule) → rule ≡ Text → OnTrue (prints_text i.opcode) (HasFixedText story (frozen_in claims) (p + 1)) → Asks o claims story p e i rule
-  text_fixed rule is fixed = rw is (on_true _ _ _ (text_asked o (read_set o claims.globals i e.shape) i.opcode) fixed)
+  -- and what a text is asked is so of every opcode that prints the one behind it
+  pub text_fixed : (rule : Rule) (b : Bool) → rule ≡ Text → OnTrue (prints_text i.opcode) (HasFixedText story (frozen_in claims) (p + 1)) → IsTrue b ↔ PrintsFixed o claims story i e.shape → IsTrue b ↔ Asks o claims story p e i rule
+  text_fixed rule b is fixed printed = rw is (λ t. (on_true _ _ _ (text_asked o (read_set o claims.globals i e.shape) i.opcode) fixed, printed.0 t), λ a. printed.1 a.1)
 
   -- what is asked of edges
   module _ (flow : Flow V) (are : IsFlow o claims.globals (told_of claims story) i e.shape flow) (rule : Rule) (b : Bool) (keep : IsTrue b ↔ EdgesKeep o claims story (argument_sets o claims.globals i e.shape) e.routine (p + i.size) (target i) rule flow) where
@@ -119,3 +120,4 @@ module _ {V : Type 0} (o : SetOperations V) (claims : Claims V) (story : LoadedS
   asks_keeps Known = every (λ j. Asks o claims story p e j Known)
   asks_keeps Stored = every (λ j. Asks o claims story p e j Stored)
   asks_keeps High = every (λ j. Asks o claims story p e j High)
+  asks_keeps Status = every (λ j. Asks o claims story p e j Status)

@@ -32,7 +32,8 @@ use Rattle.zflow.specs.declared.parts.Outcome.{Outcome}
 use Rattle.zflow.specs.Transfer.{Shape, below, demands_of, outcome_of, outcome_at, goes_on}
 use Rattle.zrule.specs.Claims.{Entry, Claims, claims_of, entry_of, frozen_in, told_of}
 use Rattle.zplace.specs.Bytes.{IsWithin, IsChanging, IsAbbreviation, IsFixed, static, read_length}
-use Rattle.zrule.specs.Rules.{Covers, HasFirstPlace, HasGlobals, HasDisjointTables, HasFixedText, IsThere, Whatever, Leads, GoesOn, Asks, Keeps, IsLowestBroken, Supports}
+use Rattle.zruns.specs.Texts.{HasFixedText}
+use Rattle.zrule.specs.Rules.{Covers, HasFirstPlace, HasGlobals, HasDisjointTables, IsThere, Whatever, Leads, GoesOn, Asks, Keeps, IsLowestBroken, Supports}
 use Rattle.zrule.specs.Described.{Callers, Described, IsLoadedStory}
 use Rattle.zrule.proofs.Asking.{asks_keeps}
 use Rattle.zrule.proofs.Opening.{opening_described}

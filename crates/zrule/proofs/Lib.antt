@@ -1,11 +1,11 @@
 pub mod Below
 pub mod Unchanged
 mod Covering
-pub mod Ordered
-mod Order
+pub mod Order
 pub mod Listed
 mod Whatever
 pub mod Answering
+mod Printing
 pub mod Storing
 mod Asking
 pub mod Sets

@@ -9,19 +9,19 @@ use Rattle.zword.specs.declared.question.Question.TheVariants.{Equal}
 use Rattle.zword.specs.declared.count.CountOp.{CountOp}
 use Rattle.zword.specs.Question.{holds}
 use Rattle.zword.specs.Count.{counting as counts_by, counted}
+use Rattle.zword.specs.Addressing.{place_of as text_place}
 use Rattle.zstory.specs.Bytes.{byte_at}
 use Rattle.zstory.specs.LoadedStory.{static_base}
 use Rattle.zfault.specs.declared.fault.Fault.TheVariants.{UnlistedCall}
+use Rattle.zfault.specs.declared.item.Status.{Status as StatusLine}
 use Rattle.ztext.specs.declared.error.TextError.{TextError}
-use Rattle.ztext.specs.Words.{text_at, front_text}
 use Rattle.ztext.specs.Output.{output_at}
-use Rattle.ztext.proofs.Printable.{output_at-ok}
 use Rattle.zcode.specs.declared.instr.Operand.{Operand}
 use Rattle.zcode.specs.declared.instr.Operand.TheVariants.{Constant, Variable}
 use Rattle.zcode.specs.declared.instr.Destination.{Destination}
 use Rattle.zcode.specs.declared.instr.Destination.TheVariants.{ReturnFalse, ReturnTrue, Relative}
 use Rattle.zcode.specs.declared.operation.Operation.{Operation}
-use Rattle.zcode.specs.declared.operation.Operation.TheVariants.{Unary, Binary, Compare, Count, Store, Load, Jump, Verify, PrintChar, PrintNumber, Print, NewLine, Nop, Quit, Return, PrintReturn, Call, Inside, TestAttribute, Follow, SetAttribute, ClearAttribute, Insert, Remove, Property, PropertyLength, SetProperty, PrintObject, LoadArray, StoreArray}
+use Rattle.zcode.specs.declared.operation.Operation.TheVariants.{Unary, Binary, Compare, Count, Store, Load, Jump, Verify, PrintChar, PrintNumber, Print, NewLine, Nop, Quit, Return, PrintReturn, Call, Inside, TestAttribute, Follow, SetAttribute, ClearAttribute, Insert, Remove, Property, PropertyLength, SetProperty, PrintObject, PrintAt, ShowStatus, LoadArray, StoreArray}
 use Rattle.zcode.specs.Instruction.{Instruction}
 use Rattle.zcode.specs.Operation.{operation_of, inputs, target}
 use Rattle.zcode.specs.Playable.{playable}
@@ -31,16 +31,14 @@ use Rattle.zcode.proofs.Operating.{played_operate}
 use Rattle.std.specs.Result.{IsOkAnd}
 use Rattle.zobj.specs.declared.error.ObjectError.{ObjectError}
 use Rattle.zobj.specs.declared.tree.Link.{Link}
-use Rattle.zobj.specs.declared.name.ShortName.{ShortName}
-use Rattle.zobj.specs.declared.name.ShortName.TheVariants.{Empty, At}
 use Rattle.zobj.specs.declared.property.Property.{Property as AProperty}
 use Rattle.zobj.specs.declared.answers.PropertyQuestion.{PropertyQuestion}
 use Rattle.zobj.specs.Answers.{answer_of}
-use Rattle.zobj.specs.Names.{short_name}
 use Rattle.zobj.specs.Properties.{property_of}
 use Rattle.zarray.specs.declared.width.Width.{Width}
 use Rattle.zarray.specs.Arrays.{place_of as element_place, element_at, with_element}
 use Rattle.zruns.specs.Runs.{AreOpen, AreReadable}
+use Rattle.zruns.specs.Texts.{AreFixedTexts, HasFixedText}
 use Rattle.zobj.specs.Values.{IsDataByte, length_before, with_property}
 use Rattle.zobj.proofs.Answering.{length_small}
 use Rattle.zdomain.specs.Domain.{SetOperations, AreSound, In, Within}
@@ -48,7 +46,7 @@ use Rattle.zstate.specs.declared.halt.Halt.{Halt}
 use Rattle.zstate.specs.declared.halt.Halt.TheVariants as halts
 use Rattle.zstate.specs.InTurn.{◌>>=◌}
 use Rattle.zstate.specs.State.{Frame, State, Setting, IsState, at_place, popped, with_stack, with_locals, with_memory, write_word, global, exists, put_named, put_in_place, read_in_place, has_head, fault}
-use Rattle.zstate.specs.Step.{Called, Move, on, back, into, calling, closing, called_at, call_of, unpacked, arguments, initial, behind_head, place_of, entered, Effect, Done, way, arg, asked_of, giving, assigning, testing, printing, jumping, following, marking, rearranging, rewriting, rewritten, answering, reading, filling, storing, naming, is_data_writable, fetch, printed, print_at, effect_of, effect_if, has_caller, is_taken, turned, course, admits, pauses, assigned, changed, stored, left, moved, advance, act, step}
+use Rattle.zstate.specs.Step.{Called, Move, on, back, into, calling, closing, called_at, call_of, unpacked, arguments, initial, behind_head, place_of, entered, Effect, Done, way, arg, asked_of, giving, assigning, testing, printing, jumping, following, marking, rearranging, rewriting, rewritten, answering, reading, filling, storing, naming, showing, status_of, is_data_writable, fetch, printed, print_at, effect_of, effect_if, has_caller, is_taken, turned, course, admits, pauses, assigned, changed, stored, left, moved, advance, act, step}
 use Rattle.zstate.proofs.Effects.{table_place}
 use Rattle.zstate.proofs.Keeps.{put_aside, changed_aside, step_keeps}
 use Rattle.zflow.specs.declared.parts.Lead.{Lead}
@@ -60,10 +58,11 @@ use Rattle.zpairs.specs.Pairs.{AreUnfrozen}
 use Rattle.zflow.specs.Transfer.{Shape, pops, variable_set, small, local_kept, operand_kept, both_kept, untold, counted_set, demands_of, demands_if, goes_on, gives_in, assigns_in, asks, counts_in, follows_in, returns_in, enters_in, argument_sets, jumps, outcome_of, outcome_if, leading, turned_to, named_with, with_result, with_assigned, narrowed, read_set, mid_shape, changed_by, after}
 use Rattle.zrule.specs.declared.rule.Rule.TheVariants as rules
 use Rattle.zrule.specs.Claims.{Claims, frozen_in, told_of}
-use Rattle.zrule.specs.Rules.{Begins, Enters, TakesBack, result_if, result_at, Leads, IsThere, HasFixedText, IsKnown, IsNamed, IsVariable, HasTop, Supports, Takes, TakesInPlace, GoesOn, Returns, OnEdge, Whatever, IsLow, demands_at, AreObjects, NamesObject, Finds, FindsProperty, Spares, AreRead, AreWritten, KnowsAnswers}
+use Rattle.zrule.specs.Rules.{Begins, Enters, TakesBack, result_if, result_at, Leads, HasLineObject, IsThere, IsKnown, IsNamed, IsVariable, HasTop, Supports, Takes, TakesInPlace, GoesOn, Returns, OnEdge, Whatever, IsLow, demands_at, AreObjects, NamesObject, Finds, FindsProperty, Spares, AreRead, AreWritten, KnowsAnswers}
 use Rattle.zrule.specs.Described.{Callers, Described, DescribedMemory, Fits, FitsWith, IsSafe, IsListedIn, IsLoadedStory}
 use Rattle.zrule.proofs.Sets.{ReadsAll, reads_all, fits_popped, zip_set, zip_length}
-use Rattle.zrule.proofs.Unchanged.{static_fixed, drop_same, abbreviation_same}
+use Rattle.zrule.proofs.Printing.{line_shown, name_known, text_printed}
+use Rattle.zrule.proofs.Unchanged.{static_fixed, drop_same}
 use Rattle.zrule.proofs.Called.{starts_in, called_same, head_same, arguments_in}
 use Rattle.zrule.proofs.Settling.{PausesAtMost, pauses_fine, pauses_there, admits_is}
 use Rattle.zrule.proofs.Framed.{FitsFrame, in_place_fits, result_fits}
@@ -72,7 +71,7 @@ use Rattle.zrule.proofs.Memory.{global_put}
 use Rattle.zrule.proofs.Parts.{Hold, HoldsOne, narrowed_fits, variable_there, small_is}
 use Rattle.zrule.proofs.Stepping.{fetch_is, done_at, made_by, step_is}
 use Rattle.zrule.proofs.Pieces.{between_small, known_wherever, not_below_one, not_none, not_zero, object_known, on_true, two_asked, first_there, assigned_local, length_assigned, edge_of, defined_where, kept_holds}
-use Rattle.zrule.proofs.Answering.{Filled, answer_lies, answered, filled, found_same, length_there, name_printed}
+use Rattle.zrule.proofs.Answering.{Filled, answer_lies, answered, filled, found_same, length_there}
 use Rattle.zrule.proofs.Storing.{bytes_of, data_open, element_differs, element_lies, element_there, element_writable}
 use Rattle.zrule.proofs.Rewriting.{filled_described, stored_described, inserted_described, marked_described, unlinked_described}
 
@@ -134,6 +133,8 @@ module _ {V : Type 0} (o : SetOperations V) (lawful : AreSound o) (claims : Clai
     pub read : IfSome out.elements (λ x. AreRead o m.story x.access x.width x.arrays x.indices)
     pub certain : IsTrue out.certain
     text : OnTrue out.has_text (HasFixedText m.story (frozen_in claims) (d.at + 1))
+    texts : IfSome out.texts (λ x. AreFixedTexts o m.story (frozen_in claims) x.addressing x.places)
+    line : OnTrue out.shows_status (HasLineObject o claims m.story)
 
   -- what get_prop and get_prop_addr give is known, since what they ask for is found
   answers_known : KnowsAnswers o claims m.story i d.entry.shape
@@ -156,7 +157,9 @@ module _ {V : Type 0} (o : SetOperations V) (lawful : AreSound o) (claims : Clai
     address = (supports.each d.at d.entry d.listed rules.Read i there).0;
     read = (supports.each d.at d.entry d.listed rules.Read i there).1;
     certain = successor.0;
-    text = supports.each d.at d.entry d.listed rules.Text i there;
+    text = (supports.each d.at d.entry d.listed rules.Text i there).0;
+    texts = (supports.each d.at d.entry d.listed rules.Text i there).1;
+    line = supports.each d.at d.entry d.listed rules.Status i there;
   }
 
   -- ---- where a step leads, as the rules expect it
@@ -370,17 +373,16 @@ module _ {V : Type 0} (o : SetOperations V) (lawful : AreSound o) (claims : Clai
   unfolding Expected LeadsIn AssignedIn changed
   asks_expected k c kept comes hold = inr (asks c kept, comes, record { gives = tt; assigns = tt; tests = refl; leads = refl; kept = hold; memory = tt; needs = refl; goes = refl })
 
-  printed_expected : (r : Result (List ℕ) TextError) → IsOk r → ComesOf (Some Print) goes_on → Expected (Some Print) (printed r)
-  printed_expected (Ok bytes) ok comes = goes_expected Print bytes comes
-  printed_expected (Err e) ok comes = absurd cc
+  printed_expected : (k : Operation) (r : Result (List ℕ) TextError) → IsOk r → ComesOf (Some k) goes_on → Expected (Some k) (printed r)
+  printed_expected k (Ok bytes) ok comes = goes_expected k bytes comes
+  printed_expected k (Err e) ok comes = absurd cc
 
-  -- the text behind the opcode byte prints something
-  prints : HasFixedText m.story (frozen_in claims) (d.at + 1) → IsOk (output_at s.memory (d.at + 1))
-  prints rule =
-      let above : static_base m.story ≤ d.at + 1 = let h = there.static in omega (arith, h) in
-      let same : drop (d.at + 1) s.memory ≡ drop (d.at + 1) m.story.memory = drop_same m.story loaded.sound loaded.counted (frozen_in claims) s.memory d.memory.long d.memory.fixed (d.at + 1) above in
-      let found : text_at s.memory (d.at + 1) ≡ Some rule.text = ap front_text same ∙ rule.found in
-      output_at-ok s.memory (d.at + 1) rule.text (λ n few. abbreviation_same m.story loaded.sound loaded.counted (frozen_in claims) s.memory d.memory.long d.memory.fixed supports.abbreviations n few) found
+  prints : (at : ℕ) → HasFixedText m.story (frozen_in claims) at → IsOk (output_at s.memory at)
+  prints at rule = text_printed o lawful claims m.story loaded supports s.memory d.memory at rule
+
+  shows_expected : (line : StatusLine) → ComesOf (Some ShowStatus) goes_on → Expected (Some ShowStatus) (Ok (showing line))
+  unfolding Expected LeadsIn AssignedIn changed
+  shows_expected line comes = inr (goes_on, comes, record { gives = tt; assigns = tt; tests = refl; leads = refl; kept = (tt, tt); memory = tt; needs = refl; goes = refl })
 
   compared_two : (q : Question) (c : Bool) (p : V × V) → (length operands == 2) ≡ true → o.narrow q c (args 0) (args 1) ≡ Some p → ComesOf (Some (Compare q)) (asks c (both_kept operands p))
   unfolding outcome_of
@@ -554,12 +556,6 @@ module _ {V : Type 0} (o : SetOperations V) (lawful : AreSound o) (claims : Clai
       let differs = element_differs s.memory width p (arg all.values 2) in
       let place = table_place m.story s.memory (with_element width p (arg all.values 2) s.memory) (bytes_of width p) writable differs ∙ d.is_state.tables in rw writable (rewrites (StoreArray width) _ (true, refl) (stored_described o claims m.story supports.tables supports.few s.memory d.memory d.is_state.objects d.is_state.tables (bytes_of width p) (data_open o lawful claims m.story s.memory d.memory width (args 0) (args 1) (arg all.values 0) (arg all.values 1) (all.members 0) (all.members 1) free) _ differs place))
 
-  names_expected : (name : ShortName) → (name ≡ Empty) ⊎ ((at : ℕ) × (bytes : List ℕ) × (name ≡ At at) × (output_at s.memory at ≡ Ok bytes)) → Expected (Some PrintObject) (naming name s.memory)
-  unfolding outcome_of
-  names_expected name (inl is) = subst (λ (n : ShortName). Expected (Some PrintObject) (naming n s.memory)) (sym is) (goes_expected PrintObject [] (true, refl))
-  names_expected name (inr (at, bytes, is, printed_is)) =
-      subst (λ (n : ShortName). Expected (Some PrintObject) (naming n s.memory)) (sym is) (subst (λ (r : Result (List ℕ) TextError). Expected (Some PrintObject) (printed r)) (sym printed_is) (goes_expected PrintObject bytes (true, refl)))
-
   by_operation : (k : Operation) → Asked (demands_of o k args) → CallsOf (Some k) → Expected (Some k) (effect_of m k all.values t)
   unfolding Expected demands_of outcome_of effect_of
   by_operation (Unary op) rule begins = gives_expected (Unary op) _ _ (true, refl) (lawful.unary op _ _ (all.members 0))
@@ -576,13 +572,13 @@ module _ {V : Type 0} (o : SetOperations V) (lawful : AreSound o) (claims : Clai
   by_operation PrintChar rule begins = goes_expected PrintChar _ (true, refl)
   by_operation PrintNumber rule begins = goes_expected PrintNumber _ (true, refl)
   by_operation Print rule begins =
-      let at : s.place +ℤ pos 1 ≡ pos (d.at + 1) = ap (λ (p : ℤ). p +ℤ pos 1) d.place in subst (λ (p : ℤ). Expected (Some Print) (print_at p s.memory)) (sym at) (printed_expected (output_at s.memory (d.at + 1)) (prints rule.text) (true, refl))
+      let at : s.place +ℤ pos 1 ≡ pos (d.at + 1) = ap (λ (p : ℤ). p +ℤ pos 1) d.place in subst (λ (p : ℤ). Expected (Some Print) (print_at p s.memory)) (sym at) (printed_expected Print (output_at s.memory (d.at + 1)) (prints (d.at + 1) rule.text) (true, refl))
   by_operation NewLine rule begins = goes_expected NewLine _ (true, refl)
   by_operation Nop rule begins = goes_expected Nop _ (true, refl)
   by_operation Quit rule begins = inl (record { tests = refl; moves = refl; still = refl; needs = refl })
   by_operation Return rule begins = returns_expected Return [] _ _ (true, refl) (all.members 0)
   by_operation PrintReturn rule begins =
-      let at : s.place +ℤ pos 1 ≡ pos (d.at + 1) = ap (λ (p : ℤ). p +ℤ pos 1) d.place in subst (λ (p : ℤ). Expected (Some PrintReturn) (print_at p s.memory >>= λ effect. Ok (closing effect))) (sym at) (closes_expected (output_at s.memory (d.at + 1)) (prints rule.text) (true, refl))
+      let at : s.place +ℤ pos 1 ≡ pos (d.at + 1) = ap (λ (p : ℤ). p +ℤ pos 1) d.place in subst (λ (p : ℤ). Expected (Some PrintReturn) (print_at p s.memory >>= λ effect. Ok (closing effect))) (sym at) (closes_expected (output_at s.memory (d.at + 1)) (prints (d.at + 1) rule.text) (true, refl))
   by_operation Call rule begins = calls begins
   by_operation Inside rule begins =
       let known = object_known m.story.objects (arg all.values 0) (rule.object.0 (arg all.values 0) (all.members 0)) in
@@ -614,9 +610,14 @@ module _ {V : Type 0} (o : SetOperations V) (lawful : AreSound o) (claims : Clai
       rw known (fills_expected object (filled o lawful claims m.story loaded supports s.memory d.memory (arg all.values 0) object.0 object.1 (arg all.values 1) (arg all.values 2) (rule.property (arg all.values 0) (arg all.values 1) object.0 object.1 (all.members 0) (all.members 1))) rule.spares)
   by_operation (LoadArray width) rule begins = loads_expected width rule.read
   by_operation (StoreArray width) rule begins = stores_expected width rule.written
+  by_operation (PrintAt addressing) rule begins =
+      printed_expected (PrintAt addressing) _ (prints (text_place addressing (arg all.values 0)) (rule.texts (arg all.values 0) (all.members 0))) (true, refl)
+  by_operation ShowStatus rule begins =
+      let shown = line_shown o lawful claims m.story loaded supports s.memory d.memory rule.line in let is = shown.1 in rw is (shows_expected shown.0 (true, refl))
   by_operation PrintObject rule begins =
       let object = rule.object.0 (arg all.values 0) (all.members 0) in let known = object_known m.story.objects (arg all.values 0) object in
-      rw known (names_expected (short_name s.memory (arg all.values 0)) (name_printed o lawful claims m.story loaded supports s.memory d.memory (arg all.values 0) object.0 object.1 (short_name s.memory (arg all.values 0)) refl))
+      let name = name_known o lawful claims m.story loaded supports s.memory d.memory (arg all.values 0) object.0 object.1 in let is = name.1 in
+      rw (known, is) (goes_expected PrintObject name.0 (true, refl))
 
   by_played : (k : Option Operation) → IsTrue (is_some k) → Asked (demands_if o k args) → CallsOf k → Expected k (effect_if m k all.values t)
   by_played None played rule begins = absurd cc

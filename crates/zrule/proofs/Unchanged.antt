@@ -16,7 +16,8 @@ use Rattle.zplace.specs.Bytes.{IsFlags, IsChanging, IsAbbreviation, read_length,
 use Rattle.zcode.specs.Instruction.{Instruction}
 use Rattle.zcode.specs.Opcodes.{prints_text}
 use Rattle.zcode.specs.Reading.{instruction_at}
-use Rattle.zrule.specs.Rules.{HasAbbreviations, HasFixedText, IsThere}
+use Rattle.zruns.specs.Texts.{HasFixedText}
+use Rattle.zrule.specs.Rules.{HasAbbreviations, IsThere}
 
 on_true : (b : Bool) (P : Type 0) → (b ≡ true → P) → OnTrue b P
 on_true true P gives = gives refl

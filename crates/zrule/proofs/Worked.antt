@@ -20,7 +20,7 @@ use Rattle.zstate.specs.State.{Frame}
 use Rattle.zcert.specs.declared.parts.Range.{Range}
 use Rattle.zcert.specs.Certificate.{Certificate}
 use Rattle.zrule.specs.declared.rule.Rule.{Rule}
-use Rattle.zrule.specs.declared.rule.Rule.TheVariants.{Decodes, Height, Local, Successor, Property, Divisor, Write, Read, Text, Called, Returned, Known, Stored, High}
+use Rattle.zrule.specs.declared.rule.Rule.TheVariants.{Decodes, Height, Local, Successor, Property, Divisor, Write, Read, Text, Called, Returned, Known, Stored, High, Status}
 use Rattle.zrule.specs.Numbers.{number_of}
 use Rattle.zpairs.specs.Frozen.{is_inside}
 use Rattle.zrule.specs.Claims.{Entry, Claims, claims_of, frozen_in}
@@ -31,8 +31,8 @@ use Rattle.zrule.proofs.Instances.{by_answers}
 
 -- ---- numbers of rules
 
-numbers : (number_of Decodes ≡ 1) × (number_of Height ≡ 2) × (number_of Local ≡ 3) × (number_of Successor ≡ 4) × (number_of Property ≡ 7) × (number_of Divisor ≡ 8) × (number_of Write ≡ 9) × (number_of Read ≡ 10) × (number_of Text ≡ 11) × (number_of Called ≡ 12) × (number_of Returned ≡ 13) × (number_of Known ≡ 15) × (number_of Stored ≡ 16) × (number_of High ≡ 17)
-numbers = (refl, refl, refl, refl, refl, refl, refl, refl, refl, refl, refl, refl, refl, refl)
+numbers : (number_of Decodes ≡ 1) × (number_of Height ≡ 2) × (number_of Local ≡ 3) × (number_of Successor ≡ 4) × (number_of Property ≡ 7) × (number_of Divisor ≡ 8) × (number_of Write ≡ 9) × (number_of Read ≡ 10) × (number_of Text ≡ 11) × (number_of Called ≡ 12) × (number_of Returned ≡ 13) × (number_of Known ≡ 15) × (number_of Stored ≡ 16) × (number_of High ≡ 17) × (number_of Status ≡ 18)
+numbers = (refl, refl, refl, refl, refl, refl, refl, refl, refl, refl, refl, refl, refl, refl, refl)
 
 -- ---- claims
 

@@ -20,3 +20,4 @@ number_of rules.Returned = 13
 number_of rules.Known = 15
 number_of rules.Stored = 16
 number_of rules.High = 17
+number_of rules.Status = 18

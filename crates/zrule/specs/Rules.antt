@@ -7,7 +7,6 @@ use Rattle.zstory.specs.LoadedStory.{LoadedStory, first_instruction, globals, ob
 use Rattle.zobj.specs.declared.answers.PropertyQuestion.TheVariants.{Value, Address, Next}
 use Rattle.zobj.specs.Tree.{IsTree}
 use Rattle.zobj.specs.Values.{length_before}
-use Rattle.ztext.specs.Words.{text_at}
 use Rattle.ztext.specs.Abbreviations.{IsPlainAbbreviation}
 use Rattle.zcode.specs.declared.instr.Operand.{Operand}
 use Rattle.zcode.specs.declared.instr.Operand.TheVariants.{Constant, Variable}
@@ -21,13 +20,14 @@ use Rattle.zrule.specs.declared.rule.Rule.{Rule}
 use Rattle.zrule.specs.declared.rule.Rule.TheVariants as rules
 use Rattle.zrule.specs.Numbers.{number_of}
 use Rattle.zrule.specs.Claims.{Entry, Claims, frozen_in, told_of}
-use Rattle.zplace.specs.Bytes.{IsWithin, IsChanging, IsFixed, IsAbbreviation}
+use Rattle.zplace.specs.Bytes.{IsWithin, IsChanging, IsAbbreviation}
 use Rattle.zplace.specs.Tables.{HasPropertyTables}
 use Rattle.zpairs.specs.Pairs.{AreAnswered, AreUnfrozen, CanBePut}
 use Rattle.zflow.specs.declared.parts.Lead.{Lead}
 use Rattle.zflow.specs.declared.parts.Lead.TheVariants.{Ahead, Returning, Entering}
 use Rattle.zarray.specs.declared.width.Width.{Width}
 use Rattle.zruns.specs.Runs.{AreOpen, AreReadable}
+use Rattle.zruns.specs.Texts.{AreFixedTexts, HasFixedText}
 use Rattle.zflow.specs.declared.parts.Access.{Access}
 use Rattle.zflow.specs.declared.parts.Access.TheVariants.{Reading, Writing}
 use Rattle.zflow.specs.declared.parts.Asked.{Asked}
@@ -60,12 +60,6 @@ global_in story memory k = word_at memory (globals story + 2 * k)
 pub record IsThere (story : LoadedStory) (p : ℕ) (i : Instruction) : Type 0 where
   pub static : static_base story ≤ p
   pub decodes : instruction_at (drop p story.memory) ≡ Ok i
-
--- a text is whole in memory, and no byte of it is ever changed
-pub record HasFixedText (story : LoadedStory) (is_frozen : ℕ → Bool) (at : ℕ) : Type 0 where
-  pub text : List ℕ
-  pub found : text_at story.memory at ≡ Some text
-  pub fixed : (p : ℕ) → IsWithin at (length text) p → IsFixed story is_frozen p
 
 -- each word of a set is the number of one of the story's objects
 abbrev pub AreObjects : {V : Type 0} → SetOperations V → LoadedStory → V → Type 0
@@ -282,6 +276,14 @@ module _ {V : Type 0} (o : SetOperations V) (claims : Claims V) where
   abbrev pub Reads : LoadedStory → Instruction → Shape V → Type 0
   Reads story i e = ReadsLength story i e × ReadsElements story i e
 
+  -- the text at each address that it prints one of ends in memory, and stays as it is
+  abbrev pub PrintsFixed : LoadedStory → Instruction → Shape V → Type 0
+  PrintsFixed story i e = IfSome (demands_at i e).texts (λ x. AreFixedTexts o story (frozen_in claims) x.addressing x.places)
+
+  -- each word of the first global's set is 0 or the number of one of the story's objects
+  abbrev pub HasLineObject : LoadedStory → Type 0
+  HasLineObject story = MatchOption (slice_get claims.globals 0) ⊥ (λ a. (x : ℕ) → In o a x → x ≤ story.objects)
+
   -- what get_prop and get_prop_addr give is known only where there are objects, and answers
   abbrev pub KnowsAnswers : LoadedStory → Instruction → Shape V → Type 0
   KnowsAnswers story i e = IfSome (demands_at i e).property (λ p. OnTrue (gives_by_property p.asked) (NamesObject story i e × FindsProperty story i e))
@@ -310,8 +312,8 @@ module _ {V : Type 0} (o : SetOperations V) (claims : Claims V) where
   Asks story p e i rules.Write = SparesFrozen story i e.shape × WritesOpen story i e.shape
   -- I10: each byte of an element, and the size byte before an address of property data, can be read
   Asks story p e i rules.Read = Reads story i e.shape
-  -- I11: the text behind the opcode byte stays as it is; that short names do is S5
-  Asks story p e i rules.Text = OnTrue (demands_at i e.shape).has_text (HasFixedText story (frozen_in claims) (p + 1))
+  -- I11: the text behind the opcode byte stays as it is, and so does each that is printed by its address; that short names do is S5
+  Asks story p e i rules.Text = OnTrue (demands_at i e.shape).has_text (HasFixedText story (frozen_in claims) (p + 1)) × PrintsFixed story i e.shape
   -- I12: what is called begins as is said
   Asks story p e i rules.Called = CallsBegin story i e.shape
   -- I13: what is returned lies in the set of the routine
@@ -322,6 +324,8 @@ module _ {V : Type 0} (o : SetOperations V) (claims : Claims V) where
   Asks story p e i rules.Stored = Whatever story i e.shape (λ w. OnEdge w i e.shape (λ f. Takes w.gives (target i) × TakesInPlace w.assigns × TakesBack (target i) (leading o w i.branch)))
   -- I17: the stack stays low
   Asks story p e i rules.High = Whatever story i e.shape (IsLow i e.shape)
+  -- I18: the object that a status line names is one, or none
+  Asks story p e i rules.Status = OnTrue (demands_at i e.shape).shows_status (HasLineObject story)
 
   abbrev pub Keeps : LoadedStory → ℕ → Entry V → Rule → Type 0
   -- I1: an instruction is there

@@ -16,7 +16,8 @@ ghost use Rattle.zrule.specs.Blocks.{AreBlocks};
 ghost use Rattle.zrule.specs.Claims.{claims_of, entry_of, Entry, frozen_in, told_of};
 ghost use Rattle.zobj.specs.Values.{length_before};
 ghost use Rattle.zpairs.specs.Frozen.{frozen_by};
-ghost use Rattle.zrule.specs.Rules.{AreRead, AreWritten, Asks, Divides, KnowsAnswers, Reads, IsThere, HasFixedText, Keeps, IsLowestBroken, Spares};
+ghost use Rattle.zruns.specs.Texts.{HasFixedText};
+ghost use Rattle.zrule.specs.Rules.{AreRead, AreWritten, Asks, Divides, KnowsAnswers, Reads, IsThere, Keeps, IsLowestBroken, Spares};
 
 use crate::arrays::{reads_elements, writes_open};
 use crate::blocks::Blocks;
@@ -26,6 +27,7 @@ use crate::operands::{has_height, has_locals, is_known};
 use crate::properties::{finds_property, knows_answers, reads_length, spares_frozen};
 use crate::rule::Rule;
 use crate::site::Site;
+use crate::texts::{has_line_object, prints_fixed};
 use zcert::{Certificate, Instruction, Spelled};
 use zcode::{Instr, decode_by, text_ends_instruction};
 use zdomain::Domain;
@@ -35,7 +37,7 @@ use zstory::Story;
 use ztext::TextEnds;
 
 /// The rules that are asked of an instruction that is there, by their numbers.
-const RULES: [Rule; 15] = [
+const RULES: [Rule; 16] = [
     Rule::Height,
     Rule::Local,
     Rule::Successor,
@@ -51,6 +53,7 @@ const RULES: [Rule; 15] = [
     Rule::Known,
     Rule::Stored,
     Rule::High,
+    Rule::Status,
 ];
 
 /// The instruction at an address, and `None` where none decodes there or the address lies below the base of static memory,
@@ -220,13 +223,14 @@ fn asks<V: Spelled>(site: Site<'_, V>, flow: &Flow<'_, V>, rule: Rule) -> bool
         Rule::Read => reads(story, demands),
         Rule::Text => {
             texts_are_fixed(story);
-            true
+            prints_fixed(site.tables.texts(), demands)
         }
         Rule::Called => edges_keep(site, flow, rule),
         Rule::Known => is_known(certificate, listed, instruction, demands),
         Rule::Returned => edges_keep(site, flow, rule),
         Rule::Stored => edges_keep(site, flow, rule),
         Rule::High => edges_keep(site, flow, rule),
+        Rule::Status => !demands.shows_status || has_line_object(story, certificate),
     }
 }
 

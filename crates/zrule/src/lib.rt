@@ -14,6 +14,7 @@ mod operands;
 mod properties;
 mod rule;
 mod site;
+mod texts;
 
 pub use blocks::Blocks;
 pub use judging::{instruction_there, judge, rule_at};

@@ -47,7 +47,7 @@ pub(crate) fn names_attribute<V: Spelled>(demands: &Demands<V>) -> bool
 }
 
 /// Whether each word of a set is below a word.
-fn are_below<V: Spelled>(set: V, bound: u16) -> bool
+pub(crate) fn are_below<V: Spelled>(set: V, bound: u16) -> bool
     ensures { IsTrue result ↔ ((x : ℕ) → In V.operations set x → x < bound) }
 {
     set.least_from(bound).is_none()

@@ -20,9 +20,9 @@ pub enum Rule {
     Property,
     /// I8: no value by which it divides is 0.
     Divisor,
-    /// I9: no byte that it writes is frozen.
+    /// I9: each byte that it writes may be written, and none is frozen.
     Write,
-    /// I10: the size byte before each address of property data that it takes can be read.
+    /// I10: each element that it reads, and the size byte before each address of property data that it takes, can be read.
     Read,
     /// I11: a text that it prints ends in memory, and no play changes a byte of it.
     Text,
@@ -37,6 +37,8 @@ pub enum Rule {
     Stored,
     /// I17: no edge has a stack higher than 64.
     High,
+    /// I18: the object that a status line names is one of the story's, or none.
+    Status,
 }
 
 impl Rule {
@@ -64,6 +66,7 @@ impl Rule {
             Rule::Known => 15,
             Rule::Stored => 16,
             Rule::High => 17,
+            Rule::Status => 18,
         }
     }
 }

@@ -26,13 +26,15 @@ use Rattle.zfault.specs.declared.fault.Fault.TheVariants.{UnlistedInstruction, I
 use Rattle.zfault.specs.declared.pause.Need.TheVariants as needs
 use Rattle.zfault.specs.declared.pause.Pause.TheVariants as pauses
 use Rattle.zfault.specs.declared.event.Event.TheVariants as events
-use Rattle.zfault.specs.declared.item.Item.TheVariants.{Text}
+use Rattle.zfault.specs.declared.item.Item.TheVariants.{Status, Text}
+use Rattle.zfault.specs.declared.item.Status.{Status as StatusLine}
+use Rattle.zword.specs.declared.addressing.Addressing.TheVariants as addressings
 use Rattle.zstate.specs.declared.halt.Halt.TheVariants as halts
 use Rattle.zstate.specs.declared.halt.Stop.TheVariants as stops
 use Rattle.zstate.specs.declared.mode.RandomMode.TheVariants.{Words, Counting}
 use Rattle.zstate.specs.InTurn.{in_turn}
 use Rattle.zstate.specs.State.{AreWords, Frame, State, Setting, has_head, usual_limit, scope_all, scope_only, first_frame, opening, IsFrame, IsFirst, AreFrames, IsCount, IsState, with_stack, with_locals, write_word, exists, has_room, put, put_named, put_in_place, read_in_place, popped, at_place, give, global, pop, found, read_named, read_variable, read_operand, read_operands}
-use Rattle.zstate.specs.Step.{Called, on, back, words_from, laid_over, calling, returning, proceeds, giving, rewriting, changed, assigning, testing, printing, quitting, following, decoded, fetch, printed, print_at, effect_of, way, course, admits, pauses, settle, plan, advance, act, items_of, step}
+use Rattle.zstate.specs.Step.{Called, on, back, words_from, laid_over, calling, returning, proceeds, giving, rewriting, changed, assigning, testing, printing, quitting, showing, following, decoded, fetch, printed, print_at, effect_of, way, course, admits, pauses, settle, plan, advance, act, items_of, step}
 use Rattle.zstate.specs.Run.{stop_of, until, is_answered, need_in, awaited, run, Goes, Stands, IsLonger, IsDeeper}
 use Rattle.zstate.proofs.Words.{no_words, words_pushed}
 use Rattle.zstate.specs.Gives.{Gives, IsNear}
@@ -266,6 +268,30 @@ printed_and_moved : (effect_of setting operations.PrintChar (65 ∷ []) state �
 unfolding digits effect_of setting story memory code
 printed_and_moved = (refl, refl, refl, refl, refl, refl)
 
+-- the text at the byte 73, and at the byte 72, whose first word is its last; neither at 78 nor at 131,070 there is one
+addressed : (effect_of setting (operations.PrintAt addressings.Byte) (73 ∷ []) state ≡ Ok (printing hello)) × (effect_of setting (operations.PrintAt addressings.Packed) (36 ∷ []) state ≡ Ok (printing (0x67 ∷ 0x6C ∷ 0x70 ∷ []))) × (effect_of setting (operations.PrintAt addressings.Byte) (78 ∷ []) state ≡ Err (halts.Fault TextOutside)) × (effect_of setting (operations.PrintAt addressings.Packed) (65535 ∷ []) state ≡ Err (halts.Fault TextOutside))
+unfolding effect_of output_at output_of_characters small_letters setting story memory code state frame hello
+addressed = (refl, refl, refl, refl)
+
+-- ---- the status line
+
+-- with the first global in the place of 258, another number in Flags 1, and another table for the first object
+lines : ℕ → ℕ → ℕ → State
+lines flags object table = record (opening tabled) { memory = slice_set (slice_set (slice_set (slice_set tabled.memory 1 flags) 64 0) 65 object) 149 table }
+
+-- the second global is 772, the third -2 unless it is another
+lined : List ℕ → ℕ → Bool → StatusLine
+lined name below time = record { name = name; first = pos 772; second = negsuc below; time = time }
+
+status_lines : (effect_of in_tabled operations.ShowStatus [] (lines 0 0 72) ≡ Ok (showing (lined [] 1 false))) × (effect_of in_tabled operations.ShowStatus [] (lines 2 1 72) ≡ Ok (showing (lined hello 1 true))) × (effect_of in_tabled operations.ShowStatus [] (lines 0xFD 1 72) ≡ Ok (showing (lined hello 1 false))) × (effect_of in_tabled operations.ShowStatus [] (lines 0 2 72) ≡ Ok (showing (lined [] 1 false)))
+unfolding effect_of output_at output_of_characters small_letters in_tabled tabled memory code hello lines lined
+status_lines = (refl, refl, refl, refl)
+
+-- 3 and 258 are no objects; the name at 155 has no end
+no_line : (effect_of in_tabled operations.ShowStatus [] (lines 0 3 72) ≡ Err (halts.Fault AbsentObject)) × (effect_of in_tabled operations.ShowStatus [] (opening tabled) ≡ Err (halts.Fault AbsentObject)) × (effect_of in_tabled operations.ShowStatus [] (lines 0 1 154) ≡ Err (halts.Fault TextOutside))
+unfolding effect_of output_at output_of_characters small_letters in_tabled tabled memory code lines
+no_line = (refl, refl, refl)
+
 -- ---- calls
 
 -- the routine at 64 has a local, that at 66 three
@@ -405,8 +431,8 @@ pulls : (read_operands story (inputs (record (plain 3) { opcode = Pull; operands
 unfolding in_turn read_operand read_variable plain state frame at
 pulls = (refl, refl)
 
-given : (items_of proceeds ≡ []) × (items_of (printing (72 ∷ 105 ∷ [])) ≡ Text 72 ∷ Text 105 ∷ [])
-given = (refl, refl)
+given : (items_of proceeds ≡ []) × (items_of (printing (72 ∷ 105 ∷ [])) ≡ Text 72 ∷ Text 105 ∷ []) × (items_of (record (showing (lined hello 1 true)) { bytes = 65 ∷ [] }) ≡ Status (lined hello 1 true) ∷ Text 65 ∷ [])
+given = (refl, refl, refl)
 
 -- a stack gets longer where it is pushed, but not where that of the caller is, which is the newest again
 longer : IsLonger state (with_stack (1 ∷ 5 ∷ 6 ∷ []) state) × (IsLonger called (record called { frame = record frame { stack = 0 ∷ 5 ∷ 6 ∷ [] }; callers = first_frame ∷ [] }) → ⊥) × (IsLonger state (with_stack (1 ∷ 6 ∷ []) state) → ⊥)

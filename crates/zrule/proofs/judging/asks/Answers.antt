@@ -13,8 +13,7 @@ returns-then-not-is_known-2 g c = local_unknown g.V.Domain.operations (claims_of
 
 pub returns-in-Text : goal.returns-in-Text
 returns-in-Text g c =
-    let told = text_fixed g.V.Domain.operations (claims_of g.V.Domain.operations c.args.site.certificate.now) c.args.site.story.now c.args.site.listed.now.address (entry_of (seen c.args.site.listed.now)) c.args.site.instruction.now c.requires.there c.args.rule c.in-Text.is (c.texts_are_fixed.ensures (frozen_in (claims_of g.V.Domain.operations c.args.site.certificate.now)) c.args.site.listed.now.address c.args.site.instruction.now c.requires.there) in
-    (λ t. told, λ a. refl)
+    text_fixed g.V.Domain.operations (claims_of g.V.Domain.operations c.args.site.certificate.now) c.args.site.story.now c.args.site.listed.now.address (entry_of (seen c.args.site.listed.now)) c.args.site.instruction.now c.requires.there c.args.rule c.prints_fixed.result c.in-Text.is (c.texts_are_fixed.ensures (frozen_in (claims_of g.V.Domain.operations c.args.site.certificate.now)) c.args.site.listed.now.address c.args.site.instruction.now c.requires.there) ?
 
 pub returns-in-Returned : goal.returns-in-Returned
 returns-in-Returned g c = returned_asked g.V.Domain.operations (claims_of g.V.Domain.operations c.args.site.certificate.now) c.args.site.story.now c.args.site.listed.now.address (entry_of (seen c.args.site.listed.now)) c.args.site.instruction.now c.requires.there c.args.flow.now c.requires.flow c.args.rule c.edges_keep-in-Returned.result c.edges_keep-in-Returned.ensures c.in-Returned.is
