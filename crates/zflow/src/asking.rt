@@ -34,7 +34,10 @@ fn demands_of<V: Domain>(operation: Operation, first: V, second: V) -> Demands<V
         }
         Operation::PropertyLength => demands.address = Some(first),
         Operation::PrintAt(addressing) => {
-            demands.texts = Some(Texts { addressing, places: first });
+            demands.texts = Some(Texts {
+                addressing,
+                places: first,
+            });
         }
         Operation::ShowStatus => demands.shows_status = true,
         Operation::LoadArray(width) => {

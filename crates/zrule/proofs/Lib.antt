@@ -2,6 +2,7 @@ pub mod Below
 pub mod Unchanged
 mod Covering
 pub mod Order
+mod Ordered
 pub mod Listed
 mod Whatever
 pub mod Answering

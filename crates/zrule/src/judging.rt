@@ -223,7 +223,7 @@ fn asks<V: Spelled>(site: Site<'_, V>, flow: &Flow<'_, V>, rule: Rule) -> bool
         Rule::Read => reads(story, demands),
         Rule::Text => {
             texts_are_fixed(story);
-            prints_fixed(site.tables.texts(), demands)
+            prints_fixed(site.tables, demands)
         }
         Rule::Called => edges_keep(site, flow, rule),
         Rule::Known => is_known(certificate, listed, instruction, demands),

@@ -9,15 +9,15 @@ ghost use Rattle.zrule.specs.Rules.{HasLineObject};
 use crate::objects::are_below;
 use zcert::{Certificate, Spelled};
 use zflow::Demands;
-use zruns::Texts;
+use zruns::Tables;
 use zstory::Story;
 
 /// Whether each text that is printed by its address ends in memory, and no play changes a byte of it.
-pub(crate) fn prints_fixed<V: Spelled>(texts: &Texts<'_>, demands: &Demands<V>) -> bool
-    ensures { IsTrue result ↔ IfSome demands.now.texts (λ x. AreFixedTexts V.operations texts.now.story (frozen_by texts.now.ranges) x.addressing x.places) }
+pub(crate) fn prints_fixed<V: Spelled>(tables: &Tables<'_>, demands: &Demands<V>) -> bool
+    ensures { IsTrue result ↔ IfSome demands.now.texts (λ x. AreFixedTexts V.operations tables.now.story (frozen_by tables.now.ranges) x.addressing x.places) }
 {
     match demands.texts {
-        Some(printed) => texts.are_fixed(printed.addressing, printed.places),
+        Some(printed) => tables.texts().are_fixed(printed.addressing, printed.places),
         None => true,
     }
 }

@@ -1,7 +1,7 @@
 use Rattle.std.proofs.Common.{refl}
 use Rattle.zcert.specs.Listed.{seen}
 use Rattle.zrule.specs.Claims.{claims_of, entry_of, frozen_in}
-use Rattle.zrule.proofs.Asking.{same_asked, height_unknown, local_unknown, text_fixed, called_asked, returned_asked, stored_asked, high_asked}
+use Rattle.zrule.proofs.Asking.{same_asked, height_unknown, local_unknown, prints_told, text_fixed, called_asked, returned_asked, stored_asked, high_asked}
 use Rattle.zrule.specs.declared.rule.Rule.TheVariants.{Successor}
 use Rattle.zrule.proofs.judging.asks.Goals as goal
 
@@ -13,7 +13,9 @@ returns-then-not-is_known-2 g c = local_unknown g.V.Domain.operations (claims_of
 
 pub returns-in-Text : goal.returns-in-Text
 returns-in-Text g c =
-    text_fixed g.V.Domain.operations (claims_of g.V.Domain.operations c.args.site.certificate.now) c.args.site.story.now c.args.site.listed.now.address (entry_of (seen c.args.site.listed.now)) c.args.site.instruction.now c.requires.there c.args.rule c.prints_fixed.result c.in-Text.is (c.texts_are_fixed.ensures (frozen_in (claims_of g.V.Domain.operations c.args.site.certificate.now)) c.args.site.listed.now.address c.args.site.instruction.now c.requires.there) ?
+    let o = g.V.Domain.operations in let claims = claims_of o c.args.site.certificate.now in let story = c.args.site.story.now in let at = c.args.site.listed.now.address in let e = entry_of (seen c.args.site.listed.now) in let i = c.args.site.instruction.now in
+    let printed = prints_told o claims story at e i c.requires.there c.args.site.tables.now c.requires.tables c.args.flow.now c.requires.flow c.prints_fixed.result c.prints_fixed.ensures in
+    text_fixed o claims story at e i c.requires.there c.args.rule c.prints_fixed.result c.in-Text.is (c.texts_are_fixed.ensures (frozen_in claims) at i c.requires.there) printed
 
 pub returns-in-Returned : goal.returns-in-Returned
 returns-in-Returned g c = returned_asked g.V.Domain.operations (claims_of g.V.Domain.operations c.args.site.certificate.now) c.args.site.story.now c.args.site.listed.now.address (entry_of (seen c.args.site.listed.now)) c.args.site.instruction.now c.requires.there c.args.flow.now c.requires.flow c.args.rule c.edges_keep-in-Returned.result c.edges_keep-in-Returned.ensures c.in-Returned.is
