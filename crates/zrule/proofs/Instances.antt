@@ -231,12 +231,13 @@ asks_hello c leads text rules.Property = tt
 asks_hello c leads text rules.Divisor = tt
 asks_hello c leads text rules.Write = (tt, tt)
 asks_hello c leads text rules.Read = (tt, tt)
-asks_hello c leads text rules.Text = text
+asks_hello c leads text rules.Text = (text, tt)
 asks_hello c leads text rules.Called = by_answers c hello bare _ tt tt
 asks_hello c leads text rules.Returned = by_answers c hello bare _ tt tt
 asks_hello c leads text rules.Known = tt
 asks_hello c leads text rules.Stored = by_answers c hello bare _ (tt, tt, tt) tt
 asks_hello c leads text rules.High = by_answers c hello bare _ (omega arith) tt
+asks_hello c leads text rules.Status = tt
 
 -- of `new_line`, which prints no text
 asks_line : (c : Claims Interval) → Leads interval_operations c 0 bare 804 → (rule : Rule) → Asks interval_operations c story 803 bare_entry line rule
@@ -251,12 +252,13 @@ asks_line c leads rules.Property = tt
 asks_line c leads rules.Divisor = tt
 asks_line c leads rules.Write = (tt, tt)
 asks_line c leads rules.Read = (tt, tt)
-asks_line c leads rules.Text = tt
+asks_line c leads rules.Text = (tt, tt)
 asks_line c leads rules.Called = by_answers c line bare _ tt tt
 asks_line c leads rules.Returned = by_answers c line bare _ tt tt
 asks_line c leads rules.Known = tt
 asks_line c leads rules.Stored = by_answers c line bare _ (tt, tt, tt) tt
 asks_line c leads rules.High = by_answers c line bare _ (omega arith) tt
+asks_line c leads rules.Status = tt
 
 -- and of `quit`, of which nothing comes
 asks_stop : (c : Claims Interval) (rule : Rule) → Asks interval_operations c story 804 bare_entry stop rule
@@ -271,12 +273,13 @@ asks_stop c rules.Property = tt
 asks_stop c rules.Divisor = tt
 asks_stop c rules.Write = (tt, tt)
 asks_stop c rules.Read = (tt, tt)
-asks_stop c rules.Text = tt
+asks_stop c rules.Text = (tt, tt)
 asks_stop c rules.Called = by_answers c stop bare _ tt tt
 asks_stop c rules.Returned = by_answers c stop bare _ tt tt
 asks_stop c rules.Known = tt
 asks_stop c rules.Stored = by_answers c stop bare _ tt tt
 asks_stop c rules.High = by_answers c stop bare _ tt tt
+asks_stop c rules.Status = tt
 
 -- an instruction stands at a place of static memory
 there_at : (p : ℕ) (i : Instruction) → 606 ≤ p → instruction_at (drop p memory) ≡ Ok i → IsThere story p i

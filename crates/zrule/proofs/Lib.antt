@@ -1,8 +1,8 @@
 pub mod Below
 pub mod Unchanged
 mod Covering
-pub mod Order
-mod Ordered
+pub mod Ordered
+mod Order
 pub mod Listed
 mod Whatever
 pub mod Answering

@@ -216,7 +216,7 @@ narrowed_out = by_answers small (branching opcodes.Jl (Variable 1 ∷ Variable 1
 -- a text has an end
 no_text : asks Text [] [] (plain opcodes.Print []) → ⊥
 unfolding operation_of demands_of
-no_text t = let found = t.found in cc
+no_text t = let found = t.0.found in cc
 
 -- a variable that is named by one value is known, up to 255
 store_named : Instruction
