@@ -5,6 +5,7 @@ pub mod Limits
 pub mod Calls
 pub mod ElementThere
 pub mod ObjectThere
+pub mod StatusThere
 pub mod StepLemmas
 pub mod Reading
 pub mod Changes

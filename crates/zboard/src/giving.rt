@@ -8,7 +8,9 @@ ghost use Rattle.ztext.specs.Output.{output_at, output_of_code};
 ghost use Rattle.zobj.specs.Entries.{HasEntry};
 ghost use Rattle.zobj.specs.Names.{short_name};
 ghost use Rattle.zboard.specs.Deed.{bytes_in, said, text_of};
-ghost use Rattle.zboard.specs.declared.row.Saying.TheVariants.{Name};
+ghost use Rattle.zboard.specs.declared.row.Saying.TheVariants.{At, Name};
+ghost use Rattle.zword.specs.declared.addressing.Addressing.{Addressing};
+ghost use Rattle.zword.specs.Addressing.{place_of};
 
 use crate::row::Saying;
 use itoa::Buffer;
@@ -48,6 +50,7 @@ pub(crate) fn give_said(
 ) -> Result<(), AllocError>
     requires object { saying ≡ Name → (word < 256) × HasEntry memory.now word }
     requires name { saying ≡ Name → IsOk (text_of (short_name memory.now word) memory.now) }
+    requires text { (addressing : Addressing) → saying ≡ At addressing → IsOk (output_at memory.now (place_of addressing word)) }
     ensures ok { OnOk result (items.new.items ≡ items.old.items ++ map Text (said saying word memory.now)) }
     ensures err { OnErr result (0 < length (said saying word memory.now)) }
     ensures kept { OnErr result (items.new.items ≡ items.old.items) }
@@ -56,6 +59,7 @@ pub(crate) fn give_said(
         Saying::Character => give_character(word, items),
         Saying::Number => give_number(word, items),
         Saying::Name => give_name(memory, word as u8, text, items),
+        Saying::At(addressing) => give_decoded(memory, addressing.place(word), text, items),
     }
 }
 

@@ -14,6 +14,7 @@ mod quick;
 mod returning;
 mod row;
 mod running;
+mod status;
 mod table;
 mod turning;
 
