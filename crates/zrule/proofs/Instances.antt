@@ -332,6 +332,7 @@ alone = record {
     before rules.Known less = absurd (omega (arith, less))
     before rules.Stored less = absurd (omega (arith, less))
     before rules.High less = absurd (omega (arith, less))
+    before rules.Status less = absurd (omega (arith, less))
 
 pub rest_keep : ((rule : Rule) → Keeps interval_operations claims story 803 bare_entry rule) × ((rule : Rule) → Keeps interval_operations claims story 804 bare_entry rule)
 rest_keep = (
