@@ -7,5 +7,6 @@ pub mod Running
 mod Plain
 mod Rewriting
 mod Short
+mod Showing
 mod Stepping
 mod Worked

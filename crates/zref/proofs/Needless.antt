@@ -3,7 +3,9 @@ use Rattle.std.proofs.Common.{◌≡◌, ℕ, Bool, true, false, List, [], ◌�
 use Rattle.std.specs.Prelude.{ℤ, pos, negsuc, is_some, not, ◌||◌, ◌==◌, nat_lt, drop}
 use Rattle.zfault.specs.declared.fault.Fault.{Fault}
 use Rattle.zfault.specs.declared.fault.Fault.TheVariants.{UnlistedCall, ZeroDivisor, AbsentLocal, AbsentObject, AbsentAttribute, ReturnFromMain}
+use Rattle.zfault.specs.declared.item.Status.{Status as StatusLine}
 use Rattle.zfault.specs.declared.pause.Need.{Need}
+use Rattle.zword.specs.Addressing.{place_of as text_place}
 use Rattle.zword.specs.Binary.{is_defined}
 use Rattle.zcode.specs.declared.operation.Operation.{Operation}
 use Rattle.zcode.specs.declared.operation.Operation.TheVariants as operations
@@ -30,7 +32,7 @@ use Rattle.zstate.specs.declared.halt.Halt.TheVariants as halts
 use Rattle.zstate.specs.InTurn.{◌>>=◌, in_turn}
 use Rattle.zstate.specs.State.{State, Scope, Setting, exists, has_room, fault, pop, found, read_named, read_variable, read_operand, read_in_place}
 use Rattle.zstate.specs.Run.{need_in, awaited}
-use Rattle.zstate.specs.Step.{Effect, Move, Done, closing, expects, giving, course, has_caller, is_taken, is_roomy, decoded, fetch, arg, printed, print_at, is_object, rearranging, answering, reading, are_writable, is_data_writable, filling, naming, effect_of, effect_if, asked, waits, admits, pauses, settle, plan, step}
+use Rattle.zstate.specs.Step.{Effect, Move, Done, closing, expects, giving, course, has_caller, is_taken, is_roomy, decoded, fetch, arg, printed, print_at, is_object, rearranging, answering, reading, are_writable, is_data_writable, filling, naming, showing, global_word, line_of, effect_of, effect_if, asked, waits, admits, pauses, settle, plan, step}
 
 abbrev pub IsNeedless : {A : Type 0} → Result A Halt → Type 0
 IsNeedless (Ok x) = Unit {0}
@@ -151,6 +153,17 @@ of_naming Empty memory = refl
 of_naming (At p) memory = of_text (output_at memory p)
 of_naming Outside memory = tt
 
+of_showing : (r : Result Effect Halt) (f : Effect → StatusLine) → NeedsNothing r → NeedsNothing (r >>= λ named. Ok (showing (f named)))
+of_showing (Ok e) f h = refl
+of_showing (Err (halts.Fault e)) f h = tt
+of_showing (Err (halts.Need n)) f h = h
+of_showing (Err halts.Quit) f h = tt
+of_showing (Err halts.FrameLimit) f h = tt
+
+of_status : (b : Bool) (line : StatusLine) (r : Result Effect Halt) → NeedsNothing r → NeedsNothing (if b then Ok (showing line) else r)
+of_status true line r h = refl
+of_status false line r h = h
+
 of_operation : (m : Setting) (o : Operation) (values : List ℕ) (s : State) → NeedsNothing (effect_of m o values s)
 unfolding effect_of
 of_operation m (operations.Binary op) values s = of_division (is_defined op (arg values 1)) _ refl
@@ -171,6 +184,10 @@ of_operation m (operations.Property question) values s = of_object (is_object m.
 of_operation m operations.PropertyLength values s = of_reading (length_before s.memory (arg values 0))
 of_operation m operations.SetProperty values s = of_object (is_object m.story (arg values 0)) _ (of_filling (with_property (arg values 0) (arg values 1) (arg values 2) s.memory) (is_data_writable m.story (property_of s.memory (arg values 0) (arg values 1))))
 of_operation m operations.PrintObject values s = of_object (is_object m.story (arg values 0)) _ (of_naming (short_name s.memory (arg values 0)) s.memory)
+of_operation m (operations.PrintAt addressing) values s = of_text (output_at s.memory (text_place addressing (arg values 0)))
+of_operation m operations.ShowStatus values s =
+    let number = global_word m.story 16 s.memory in
+    of_status (number == 0) _ _ (of_showing _ (λ named. line_of m.story s.memory named.bytes) (of_object (is_object m.story number) _ (of_naming (short_name s.memory number) s.memory)))
 of_operation m (operations.LoadArray width) values s = of_reading (element_at width s.memory (place_of width (arg values 0) (arg values 1)))
 of_operation m (operations.StoreArray width) values s =
     let p = place_of width (arg values 0) (arg values 1) in of_filling (Ok (with_element width p (arg values 2) s.memory)) (are_writable m.story p (span width))

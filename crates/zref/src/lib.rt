@@ -13,6 +13,7 @@ mod plan;
 mod row;
 mod scope;
 mod settling;
+mod status;
 mod step;
 mod writing;
 
