@@ -3,4 +3,5 @@ pub mod Telling
 pub mod Lying
 mod Pieces
 mod Marking
+mod Beginnings
 mod Worked

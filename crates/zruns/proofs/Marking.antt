@@ -1,21 +1,26 @@
 -- Marks of closed bytes.
 use Rattle.std.proofs.Common.{◌≡◌, ◌↔◌, ◌⊎◌, inl, inr, ℕ, suc, ◌+◌, ◌*◌, ◌<◌, ◌≤◌, Bool, true, false, ◌&&◌, ◌||◌, not, ◌==◌, min, List, length, refl, sym, subst, ap, ◌∙◌, arith}
-use Rattle.std.specs.Prelude.{IsTrue, nat_le, nat_lt, max, slice_index_or}
+use Rattle.std.specs.Prelude.{IsTrue, nat_le, nat_lt, max, slice_index_or, slice_set}
+use Rattle.std.proofs.lemmas.List.{get_or-set_same, get_or-set_other}
 use Rattle.std.proofs.lemmas.Bool.{cases_lt, le-leb, or_right}
 use Rattle.zstory.specs.Bytes.{byte_at}
 use Rattle.zstory.specs.LoadedStory.{LoadedStory, globals, object_table, static_base, abbreviations, IsSound}
-use Rattle.zstory.specs.Objects.{property_table}
+use Rattle.zstory.specs.Objects.{IsObjectCount, property_table}
 use Rattle.zobj.specs.Properties.{data_end}
 use Rattle.zpairs.specs.Frozen.{AreMarked, FrozenStory, frozen_by}
 use Rattle.zplace.specs.Bytes.{IsChanging}
-use Rattle.zruns.specs.Fixed.{AreClosed, AreMarkedToo, any_below, is_changing, is_closed, is_flags, is_in_abbreviation, is_in_frame, is_size_place, is_within}
-use Rattle.zruns.proofs.Telling.{size_is, changing_is}
+use Rattle.zruns.specs.Fixed.{AreClosed, AreFixed, AreMarkedToo, any_below, is_changing, is_closed, is_fixed, is_flags, is_in_abbreviation, is_in_frame, is_size_place, is_within}
+use Rattle.zruns.proofs.Telling.{size_is, changing_is, static_unchanging}
 
 -- two questions that are answered alike
 same_answer : (a b : Bool) → (a ≡ true → b ≡ true) → (b ≡ true → a ≡ true) → a ≡ b
 same_answer true b there back = sym (there refl)
 same_answer false true there back = back refl
 same_answer false false there back = refl
+
+not_true : (b : Bool) → (b ≡ true → ⊥) → b ≡ false
+not_true true none = absurd (none refl)
+not_true false none = refl
 
 pub changing_as : (story : LoadedStory) (p : ℕ) (b : Bool) → IsTrue b ↔ IsChanging story p → b ≡ is_changing story p
 changing_as story p b told = let same = changing_is story p in same_answer b (is_changing story p) (λ e. same.1 (told.0 e)) (λ e. told.1 (same.0 e))
@@ -133,11 +138,12 @@ module _ (told : FrozenStory) where
   base_small : IsSound told.story.memory → static_base told.story ≤ 65536
   base_small sound = let high = sound.bytes 14 in let low = sound.bytes 15 in omega (arith, high, low)
 
-  pub all_marked : (of_ranges with_header with_globals with_objects with_frames with_abbreviations all : List Bool) → IsSound told.story.memory → AreMarked told.ranges of_ranges → AreMarkedToo of_ranges with_header (λ p. nat_lt p 64 && not (is_flags p)) → AreMarkedToo with_header with_globals (is_within (globals told.story) 480) → AreMarkedToo with_globals with_objects (is_within (object_table told.story) (62 + 9 * told.story.objects))
+  pub all_marked : (of_ranges with_header with_globals with_objects with_frames with_abbreviations all : List Bool) → IsSound told.story.memory → IsObjectCount told.story.memory told.story.objects → AreMarked told.ranges of_ranges → AreMarkedToo of_ranges with_header (λ p. nat_lt p 64 && not (is_flags p)) → AreMarkedToo with_header with_globals (is_within (globals told.story) 480) → AreMarkedToo with_globals with_objects (is_within (object_table told.story) (62 + 9 * told.story.objects))
       → AreMarkedToo with_objects with_frames (λ p. any_below told.story.objects (λ below. is_in_frame told.story.memory (property_table told.story.memory (below + 1)) p)) → AreMarkedToo with_frames with_abbreviations (λ p. any_below 96 (λ n. is_in_abbreviation told.story.memory (abbreviations told.story) n p)) → AreMarkedToo with_abbreviations all (is_within (static_base told.story) 65536) → AreClosed told all
-  all_marked of_ranges with_header with_globals with_objects with_frames with_abbreviations all sound ranges header variables objects frames abbreviated static = record {
+  all_marked of_ranges with_header with_globals with_objects with_frames with_abbreviations all sound counted ranges header variables objects frames abbreviated static = record {
     each = each;
-    behind = or_right _ (nat_le (static_base told.story) 65536) (le-leb (static_base told.story) 65536 (base_small sound));
+    behind = λ p above. or_right _ (nat_le (static_base told.story) p) (le-leb (static_base told.story) p (let small = base_small sound in omega (arith, small, above)));
+    still = λ p above. not_true (is_changing told.story p) (λ e. static_unchanging told.story sound counted p (let small = base_small sound in omega (arith, small, above)) ((changing_is told.story p).0 e));
   }
     where
       first_two : AreMarkedToo of_ranges with_globals (λ p. (nat_lt p 64 && not (is_flags p)) || is_within (globals told.story) 480 p)
@@ -158,3 +164,18 @@ module _ (told : FrozenStory) where
       each : (p : ℕ) → p < 65536 → slice_index_or all p false ≡ is_closed told p
       each p word =
           static p word ∙ ap (λ (b : Bool). b || is_within (static_base told.story) 65536 p) (first_five p word ∙ ap (λ (b : Bool). b || others p) (ranges.each p word)) ∙ ap (λ (b : Bool). (frozen_by told.ranges p || others p) || b) (from_static (static_base told.story) p word) ∙ ranges_last (frozen_by told.ranges p) (others p) (nat_le (static_base told.story) p)
+
+-- ---- fixed bytes
+
+pub one_more_fixed : (told : FrozenStory) (marks : List Bool) (place : ℕ) (mark : Bool) → place < length marks → mark ≡ is_fixed told place → ((p : ℕ) → p < place → slice_index_or marks p false ≡ is_fixed told p) → (p : ℕ) → p < place + 1 → slice_index_or (slice_set marks place mark) p false ≡ is_fixed told p
+one_more_fixed told marks place mark inside is before p last = by_order (cases_lt p place)
+  where
+    by_order : (p < place) ⊎ (place ≤ p) → slice_index_or (slice_set marks place mark) p false ≡ is_fixed told p
+    by_order (inl low) = get_or-set_other marks place p mark false (λ e. omega (arith, e, low)) ∙ before p low
+    by_order (inr high) = let same : place ≡ p = omega (arith, high, last) in subst (λ (q : ℕ). slice_index_or (slice_set marks place mark) q false ≡ is_fixed told q) same (get_or-set_same marks place mark false inside ∙ is)
+
+pub all_fixed : (told : FrozenStory) (closed marks : List Bool) (place : ℕ) → 65536 ≤ place → AreClosed told closed → ((p : ℕ) → p < place → slice_index_or marks p false ≡ is_fixed told p) → AreFixed told marks
+all_fixed told closed marks place whole of_closed made = record {
+  each = λ p below. made p (omega (arith, below, whole));
+  behind = λ p above. (let shut = of_closed.behind p above in let still = of_closed.still p above in rw (shut, still) refl);
+}

@@ -5,8 +5,8 @@ use Rattle.std.proofs.lemmas.Bool.{cases_lt, lt-ltb, ltb-true, le-leb, leb-true,
 use Rattle.std.proofs.lemmas.List.{get_or_past}
 use Rattle.std.proofs.lemmas.Option.{same_Some}
 use Rattle.zstory.specs.Bytes.{byte_at}
-use Rattle.zstory.specs.LoadedStory.{LoadedStory, globals, object_table, static_base, abbreviations}
-use Rattle.zstory.specs.Objects.{object_place, property_table}
+use Rattle.zstory.specs.LoadedStory.{LoadedStory, IsSound, globals, object_table, static_base, abbreviations}
+use Rattle.zstory.specs.Objects.{IsObjectCount, object_place, property_table}
 use Rattle.ztext.specs.Abbreviations.{readable_word}
 use Rattle.zobj.specs.Properties.{list_place, data_end}
 use Rattle.zpairs.specs.Frozen.{FrozenStory, frozen_by}
@@ -206,3 +206,12 @@ module _ (told : FrozenStory) (p : ℕ) where
     λ e. let parts = and_parts (is_closed told p) (not (is_changing told.story p)) e in record { closed = closed_is.0 parts.0; unchanging = λ is. both (is_changing told.story p) parts.1 (changing.1 is) },
     λ fixed. and_from (is_closed told p) (not (is_changing told.story p)) (closed_is.1 fixed.closed) (negated (is_changing told.story p) (λ e. fixed.unchanging (changing.0 e))),
   )
+
+module _ (story : LoadedStory) (sound : IsSound story.memory) (counted : IsObjectCount story.memory story.objects) where
+  -- no instruction changes static memory
+  pub static_unchanging : (p : ℕ) → static_base story ≤ p → IsChanging story p → ⊥
+  static_unchanging p above (inl flags) = absurd (let base : 64 ≤ static_base story = sound.static_base_above in omega (arith, flags.1))
+  static_unchanging p above (inr (inl variable)) = absurd (let base : globals story + 480 ≤ static_base story = sound.globals_within in omega (arith, variable.1))
+  static_unchanging p above (inr (inr state)) =
+      let dynamic = (counted.entries state.object state.first state.last).dynamic in
+      absurd (omega (arith, dynamic, state.inside.1))

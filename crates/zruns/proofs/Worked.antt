@@ -1,14 +1,21 @@
 -- Values of the definitions, computed.
-use Rattle.std.proofs.Common.{◌≡◌, ℕ, true, false, List, [], ◌∷◌, ◌++◌, replicate, Some, None, refl}
+use Rattle.std.proofs.Common.{◌≡◌, ◌⊎◌, inl, inr, ℕ, zero, suc, ◌+◌, ◌-◌, ◌<◌, ◌≤◌, Bool, true, false, List, [], ◌∷◌, ◌++◌, replicate, Some, None, refl, sym, subst, ◌∙◌, arith}
 use Rattle.zdomain.specs.Interval.{interval_operations}
+use Rattle.zdomain.specs.IntervalLaw.{interval_sound}
 use Rattle.zdomain.specs.declared.interval.Interval.{Interval}
 use Rattle.zstory.specs.LoadedStory.{LoadedStory}
 use Rattle.zarray.specs.declared.width.Width.TheVariants.{Byte, Word}
-use Rattle.zpairs.specs.Frozen.{FrozenStory}
+use Rattle.zword.specs.declared.addressing.Addressing.TheVariants as addressings
+use Rattle.zword.specs.Addressing.{place_of}
+use Rattle.zpairs.specs.Frozen.{FrozenStory, frozen_by}
 use Rattle.zpairs.specs.Ends.{exactly}
+use Rattle.zplace.specs.Bytes.{IsFixed}
 use Rattle.zruns.specs.Fixed.{any_below, is_size_place, is_in_text, is_closed, is_changing, is_fixed}
 use Rattle.zruns.specs.Runs.{run_of, address, cell_at, no_cell, merged, merged_below, any_element, elements}
 use Rattle.zruns.specs.Blocks.{step_length}
+use Rattle.zruns.specs.Texts.{HasFixedText, AreFixedTexts, run_length}
+use Rattle.zruns.proofs.Telling.{fixed_is}
+use Rattle.zruns.proofs.Beginnings.{begins, none_is_some}
 
 between : ℕ → ℕ → Interval
 between = interval_operations.between
@@ -105,3 +112,66 @@ any_elements = (refl, refl)
 read : (elements interval_operations told Byte (between 0x26C 0x26C) (between 0 3) ≡ between 0 0x80) × (elements interval_operations told Word (between 0x26C 0x26C) (between 0 1) ≡ between 0x8000 0x80) × (elements interval_operations told Word (between 0x270 0x270) (between 1 1) ≡ between 0x0102 0x0102) × (elements interval_operations told Byte (between 0x272 0x274) (between 0 0) ≡ between 0 255) × (elements interval_operations told Word (between 0x272 0x273) (between 0 0) ≡ interval_operations.any)
 unfolding between told story front tables any_below is_size_place merged_below
 read = (refl, refl, refl, refl, refl)
+
+-- ---- texts
+
+abbrev Stays : ℕ → Type 0
+Stays p = IsFixed story (frozen_by told.ranges) p
+
+abbrev Fixed : ℕ → Type 0
+Fixed at = HasFixedText story (frozen_by told.ranges) at
+
+text_byte : (k : ℕ) → k < 4 → Stays (0x26C + k)
+unfolding told story front tables any_below is_size_place
+text_byte zero few = (fixed_is told 0x26C).0 refl
+text_byte (suc zero) few = (fixed_is told 0x26D).0 refl
+text_byte (suc (suc zero)) few = (fixed_is told 0x26E).0 refl
+text_byte (suc (suc (suc zero))) few = (fixed_is told 0x26F).0 refl
+text_byte (suc (suc (suc (suc k)))) few = absurd (omega (arith, few))
+
+text_stays : (p : ℕ) → 0x26C ≤ p → p < 0x270 → Stays p
+text_stays p above below = let same : 0x26C + (p - 0x26C) ≡ p = omega (arith, above) in subst Stays same (text_byte (p - 0x26C) (omega (arith, above, below)))
+
+-- the text of an abbreviation, and its last word
+fixed_texts : Fixed 0x26C × Fixed 0x26E
+unfolding told story front tables
+fixed_texts = (
+  record { text = 0x00 ∷ 0x00 ∷ 0x80 ∷ 0x00 ∷ []; found = refl; fixed = λ p within. (let above = within.0 in let below = within.1 in text_stays p above (omega (arith, below))) },
+  record { text = 0x80 ∷ 0x00 ∷ []; found = refl; fixed = λ p within. (let above = within.0 in let below = within.1 in text_stays p (omega (arith, above)) (omega (arith, below))) },
+)
+
+open_word : Stays 0x270 → ⊥
+unfolding told story front tables any_below is_size_place
+open_word stays = none_yes (is_fixed told 0x270) refl ((fixed_is told 0x270).1 stays)
+  where
+    none_yes : (b : Bool) → b ≡ false → b ≡ true → ⊥
+    none_yes b never always = let e = sym never ∙ always in cc
+
+-- An end word that is open, and a text that goes on to its first byte; the frozen word and those of static memory have no end behind them
+other_texts : (Fixed 0x270 → ⊥) × (Fixed 0x26D → ⊥) × (Fixed 0x272 → ⊥) × (Fixed 0x280 → ⊥) × (Fixed 0x283 → ⊥)
+unfolding told story front tables
+other_texts = (
+  λ has. open_word (begins story (frozen_by told.ranges) 0x270 has).high,
+  λ has. by_rest (begins story (frozen_by told.ranges) 0x26D has).rest,
+  λ has. none_is_some None has.text refl has.found,
+  λ has. none_is_some None has.text refl has.found,
+  λ has. none_is_some None has.text refl has.found,
+)
+  where
+    by_rest : (128 ≤ 0) ⊎ Fixed 0x26F → ⊥
+    by_rest (inl last) = omega (arith, last)
+    by_rest (inr has) = open_word (begins story (frozen_by told.ranges) 0x26F has).low
+
+-- a packed address names twice its place; each word of a set is asked
+sets_of_texts : AreFixedTexts interval_operations story (frozen_by told.ranges) addressings.Packed (interval_operations.single 0x136) × AreFixedTexts interval_operations story (frozen_by told.ranges) addressings.Byte (interval_operations.single 0x26E) × (AreFixedTexts interval_operations story (frozen_by told.ranges) addressings.Packed (between 0x137 0x138) → ⊥) × (AreFixedTexts interval_operations story (frozen_by told.ranges) addressings.Byte (between 0x26C 0x26E) → ⊥)
+unfolding between
+sets_of_texts = (
+  λ x inside. (let is : x ≡ 0x136 = interval_sound.known (interval_operations.single 0x136) 0x136 x refl inside in subst (λ (y : ℕ). Fixed (place_of addressings.Packed y)) (sym is) fixed_texts.0),
+  λ x inside. (let is : x ≡ 0x26E = interval_sound.known (interval_operations.single 0x26E) 0x26E x refl inside in subst (λ (y : ℕ). Fixed (place_of addressings.Byte y)) (sym is) fixed_texts.1),
+  λ all. other_texts.0 (all 0x138 (interval_sound.between 0x137 0x138 0x138 (record { le = tt }) (record { le = tt }) (omega arith))),
+  λ all. other_texts.1 (all 0x26D (interval_sound.between 0x26C 0x26E 0x26D (record { le = tt }) (record { le = tt }) (omega arith))),
+)
+
+-- no run is longer than the greatest word
+run_lengths : (run_length (λ x. true) 7 0 ≡ 1) × (run_length (λ x. true) 7 65534 ≡ 65535) × (run_length (λ x. true) 7 65535 ≡ 65535) × (run_length (λ x. false) 7 3 ≡ 0)
+run_lengths = (refl, refl, refl, refl)

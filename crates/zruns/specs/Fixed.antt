@@ -1,5 +1,5 @@
 -- Which bytes are closed, and which stay as they are, as questions that can be answered (own). What they mean are the sets of zplace.
-use Rattle.std.specs.Prelude.{◌≡◌, ◌<◌, true, slice_index_or, ℕ, zero, suc, ◌+◌, ◌*◌, Bool, false, ◌&&◌, ◌||◌, not, ◌==◌, nat_le, nat_lt, List, length, Option, Some, None}
+use Rattle.std.specs.Prelude.{◌≡◌, ◌<◌, ◌≤◌, true, slice_index_or, ℕ, zero, suc, ◌+◌, ◌*◌, Bool, false, ◌&&◌, ◌||◌, not, ◌==◌, nat_le, nat_lt, List, length, Option, Some, None}
 use Rattle.zstory.specs.Bytes.{byte_at}
 use Rattle.zstory.specs.LoadedStory.{LoadedStory, globals, object_table, static_base, abbreviations}
 use Rattle.zstory.specs.Objects.{object_place, property_table}
@@ -59,10 +59,16 @@ is_changing story p =
 abbrev pub is_fixed : FrozenStory → ℕ → Bool
 is_fixed told p = is_closed told p && not (is_changing told.story p)
 
--- marks tell of each byte address whether its byte is closed; the byte behind them is
+-- marks tell of each byte address whether its byte is closed; all bytes behind them are, and never change
 pub record AreClosed (told : FrozenStory) (marks : List Bool) : Type 0 where
   pub each : (p : ℕ) → p < 65536 → slice_index_or marks p false ≡ is_closed told p
-  pub behind : is_closed told 65536 ≡ true
+  pub behind : (p : ℕ) → 65536 ≤ p → is_closed told p ≡ true
+  pub still : (p : ℕ) → 65536 ≤ p → is_changing told.story p ≡ false
+
+-- marks tell of each whether its byte is fixed; all bytes behind them are
+pub record AreFixed (told : FrozenStory) (marks : List Bool) : Type 0 where
+  pub each : (p : ℕ) → p < 65536 → slice_index_or marks p false ≡ is_fixed told p
+  pub behind : (p : ℕ) → 65536 ≤ p → is_fixed told p ≡ true
 
 -- marks with those of more places
 abbrev pub AreMarkedToo : List Bool → List Bool → (ℕ → Bool) → Type 0

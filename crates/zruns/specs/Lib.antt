@@ -1,3 +1,4 @@
 pub mod Fixed
 pub mod Runs
 pub mod Blocks
+pub mod Texts

@@ -4,14 +4,18 @@
 mod blocks;
 mod cell;
 mod closed;
+mod fixed;
 mod laws;
 mod marked;
 mod run;
 mod runs;
 mod tables;
+mod text_marks;
+mod texts;
 
 pub use cell::Cell;
 pub use laws::elements_lie_in_their_sets;
 pub use run::Run;
 pub use runs::{Runs, are_readable};
 pub use tables::Tables;
+pub use texts::Texts;

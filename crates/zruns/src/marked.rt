@@ -3,22 +3,24 @@
 ghost use Rattle.std.specs.Prelude.{◌≡◌, ◌<◌};
 ghost use Rattle.zstory.specs.Bytes.{byte_at};
 ghost use Rattle.zarray.specs.Arrays.{value_at};
-ghost use Rattle.zruns.specs.Fixed.{AreClosed};
+ghost use Rattle.zruns.specs.Fixed.{AreClosed, AreFixed};
 
 use crate::cell::Cell;
 use zarray::Width;
 use zcert::Range;
 use zpairs::{Ends, PLACES};
-use zplace::is_changing;
 use zstory::Story;
 
-/// A story and ranges of bytes that stay as they are, with a mark for each byte address whether its byte is closed.
+/// A story and ranges of bytes that stay as they are, with marks for each byte address: whether its byte is closed, and whether it is
+/// fixed.
 #[derive(Clone, Copy)]
 pub(crate) struct Marked<'a> {
     pub(crate) story: &'a Story,
     pub(crate) ranges: &'a [Range],
     pub(crate) closed: &'a [bool; PLACES],
+    pub(crate) fixed: &'a [bool; PLACES],
     pub(crate) ghost marked: { AreClosed (record { story = story.now; ranges = ranges.now }) closed.now },
+    pub(crate) ghost marked_fixed: { AreFixed (record { story = story.now; ranges = ranges.now }) fixed.now },
 }
 
 impl<'a> Marked<'a> {
@@ -28,18 +30,16 @@ impl<'a> Marked<'a> {
 
     /// Whether the byte at a place is closed. Behind the last byte address all is static memory.
     fn is_closed(self, place: usize) -> bool
-        requires { place ≤ 65536 }
         ensures { result ≡ is_closed (record { story = self.entry.story.now; ranges = self.entry.ranges.now }) place }
     {
         place >= PLACES || self.closed[place]
     }
 
     /// Whether no play changes it.
-    fn is_fixed(self, place: usize) -> bool
-        requires { place ≤ 65536 }
+    pub(crate) fn is_fixed(self, place: usize) -> bool
         ensures { result ≡ is_fixed (record { story = self.entry.story.now; ranges = self.entry.ranges.now }) place }
     {
-        self.is_closed(place) && !is_changing(self.story, place)
+        place >= PLACES || self.fixed[place]
     }
 
     /// Whether each byte of an element is open.

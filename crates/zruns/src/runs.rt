@@ -6,7 +6,6 @@ ghost use Rattle.zruns.specs.Runs.{AreReadable, any_element};
 
 use crate::blocks::{BLOCK_LENGTH, BLOCKS, block_cells};
 use crate::cell::Cell;
-use crate::closed::closed_marks;
 use crate::marked::Marked;
 use crate::run::Run;
 use std::marker::Model;
@@ -23,6 +22,7 @@ pub struct Runs<'a> {
     story: &'a Story,
     ranges: &'a [Range],
     closed: [bool; PLACES],
+    fixed: [bool; PLACES],
     bytes: [Cell; BLOCKS],
     words: [Cell; BLOCKS],
 }
@@ -35,28 +35,36 @@ impl<'a> Model for Runs<'a> {
     ghost view = { λ p. record { story = p.story.now; ranges = p.ranges.now } };
 
     ghost use Rattle.zarray.specs.declared.width.Width.TheVariants.{Byte, Word};
-    ghost use Rattle.zruns.specs.Fixed.{AreClosed};
+    ghost use Rattle.zruns.specs.Fixed.{AreClosed, AreFixed};
     ghost use Rattle.zruns.specs.Blocks.{AreBlocks};
 
-    ghost invariant = { λ p. AreClosed (record { story = p.story.now; ranges = p.ranges.now }) p.closed × AreBlocks (record { story = p.story.now; ranges = p.ranges.now }) Byte p.bytes × AreBlocks (record { story = p.story.now; ranges = p.ranges.now }) Word p.words };
+    ghost invariant = { λ p. AreClosed (record { story = p.story.now; ranges = p.ranges.now }) p.closed × AreFixed (record { story = p.story.now; ranges = p.ranges.now }) p.fixed × AreBlocks (record { story = p.story.now; ranges = p.ranges.now }) Byte p.bytes × AreBlocks (record { story = p.story.now; ranges = p.ranges.now }) Word p.words };
 }
 
 impl<'a> Runs<'a> {
     ghost use Rattle.std.specs.Prelude.{◌≡◌, ◌↔◌, ◌≤◌, ◌<◌, ◌+◌, ◌-◌, IsTrue};
     ghost use Rattle.zpairs.specs.Frozen.{frozen_by};
     ghost use Rattle.zruns.specs.Blocks.{block_cell, piece_cell, step_length};
+    ghost use Rattle.zruns.specs.Fixed.{AreClosed, AreFixed};
     ghost use Rattle.zruns.specs.Runs.{AreOpen, cell_at, elements, run_cell};
 
-    /// Those of a story, of which the bytes in some ranges stay as they are. Each of its tables is gone over once, and each place of each
-    /// range. It takes no memory beside its own, about 70 KB.
-    pub fn new(story: &'a Story, ranges: &'a [Range]) -> Runs<'a>
+    /// Those of a story, of which the bytes in some ranges stay as they are, by the marks of closed bytes and of fixed ones. They take no
+    /// memory beside their own, about 140 KB.
+    pub(crate) fn new(
+        story: &'a Story,
+        ranges: &'a [Range],
+        closed: [bool; PLACES],
+        fixed: [bool; PLACES],
+    ) -> Runs<'a>
+        requires closed { AreClosed (record { story = story.now; ranges = ranges.now }) closed }
+        requires fixed { AreFixed (record { story = story.now; ranges = ranges.now }) fixed }
         ensures { result ≡ record { story = story.now; ranges = ranges.now } }
     {
-        let closed = closed_marks(story, ranges);
         let marked = Marked {
             story,
             ranges,
             closed: &closed,
+            fixed: &fixed,
         };
         let bytes = block_cells(marked, Width::Byte);
         let words = block_cells(marked, Width::Word);
@@ -64,6 +72,7 @@ impl<'a> Runs<'a> {
             story,
             ranges,
             closed,
+            fixed,
             bytes,
             words,
         }
@@ -148,6 +157,7 @@ impl<'a> Runs<'a> {
             story: self.story,
             ranges: self.ranges,
             closed: &self.closed,
+            fixed: &self.fixed,
         };
         marked.cell(width, place)
     }

@@ -1,0 +1,47 @@
+//! Where texts begin that no play changes.
+
+ghost use Rattle.std.specs.Prelude.{◌≡◌, ◌<◌, false, slice_index_or};
+ghost use Rattle.zruns.specs.Texts.{AreTextMarks, begins_text};
+
+use crate::marked::Marked;
+
+/// How many places memory has at most (Z 1.1.4).
+pub(crate) const MEMORY_LENGTH: usize = 131_072;
+
+/// The least high byte of a word that ends a text (Z 3.2).
+const END: u8 = 0x80;
+
+/// A mark for each place whether a text that no play changes begins there. Memory is gone over once, from its end on.
+pub(crate) fn text_marks(marked: Marked<'_>) -> [bool; MEMORY_LENGTH]
+    ensures { AreTextMarks (record { story = marked.entry.story.now; ranges = marked.entry.ranges.now }) result }
+{
+    let mut marks = [false; MEMORY_LENGTH];
+    let mut at = marked.story.memory().len();
+    while at > 0 {
+        at -= 1;
+        let behind = mark_at(&marks, at + 2);
+        marks[at] = begins_text(marked, at, behind);
+    }
+    marks
+}
+
+/// The mark at a place, and none behind them.
+fn mark_at(marks: &[bool; MEMORY_LENGTH], place: usize) -> bool
+    ensures { result ≡ slice_index_or marks.now place false }
+{
+    match marks.get(place) {
+        Some(mark) => *mark,
+        None => false,
+    }
+}
+
+/// Whether such a text begins at a place, by whether one begins behind its first word.
+fn begins_text(marked: Marked<'_>, place: usize, behind: bool) -> bool
+    requires { place < 131072 }
+    ensures { result ≡ begins_text (record { story = marked.entry.story.now; ranges = marked.entry.ranges.now }) place behind }
+{
+    let memory = marked.story.memory();
+    place + 1 < memory.len()
+        && (marked.is_fixed(place) && marked.is_fixed(place + 1))
+        && (memory[place] >= END || behind)
+}
