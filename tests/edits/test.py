@@ -212,11 +212,13 @@ def rests_on_the_unedited():
     edit.arm, edit.number = 3, 1
     refused = "fn low::own::same_edited_1: no proof: `search` did not prove `returns`\nonly=2\n"
     answers = []
-    for unedited in ["depends on a hole in `x`", "no holes", "no proof: `search` did not prove `returns`", "not proved"]:
+    calls = "it calls `own::other`, which is not proved"
+    failed = f"no proof: expected answers in x; `search` did not prove `returns`; {calls}"
+    for unedited in ["depends on a hole in `x`", "no holes", f"no proof: {calls}", "no proof: `search` did not prove `returns`", failed, "not proved"]:
         judge.planted = lambda *_: {}
         judge.check = lambda *_, said=f"fn low::own::same: {unedited}\n{refused}": (said, {})
         answers.append(judge.refused_together(None, [edit], None))
-    return answers == [{"some"}, {"some"}, set(), set()]
+    return answers == [{"some"}, {"some"}, {"some"}, set(), set(), set()]
 
 
 def counts_are_told():
