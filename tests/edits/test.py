@@ -136,12 +136,17 @@ EDITS = {
     # in an arm of a long match: it makes more, it makes no more than it may, and it rests on what the arms above leave
     "one_more_raised": (True, [("        Deed::Raise => successor(n),", "        Deed::Raise => successor(n) + 2000,")]),
     "other_unbounded": (True, [("=> small(other)", "=> other")]),
+    # beside them, one of another arm's pattern
+    "both_unbounded": (True, [("        Deed::Both(m) => small(m),", "        Deed::Both(many) => many,")]),
     "harmless_arm": (False, [("Deed::Halve => n / 2", "Deed::Halve => n")]),
     "harmless_last_arm": (False, [("_ => n - 10", "_ => n - 11")]),
     # no longer there, there twice, and no text that can be read
     "stale": (False, [("n + 7", "n")]),
     "there_twice": (False, [("successor", "small")]),
     "unreadable": (False, [("    doubled", "    doubled +")]),
+    # each text has to be one line
+    "old_over_two_lines": (False, [("    successor(first)\n}", "    first")]),
+    "new_over_two_lines": (False, [("    n + 1", "    n\n    + 1")]),
 }
 
 
@@ -214,6 +219,16 @@ def rests_on_the_unedited():
     return answers == [{"some"}, {"some"}, set(), set()]
 
 
+def counts_are_told():
+    """Whether a function has half the counts only in a crate that has been tried with them, and not where it needs all, in a twin as well."""
+    crate = lambda name: type("Crate", (), {"name": name})
+    halved = {"own": ("Own::same",)}
+    judge.HALVED, kept = halved, judge.HALVED
+    told = [judge.needs_all(crate(name), places) for name, places in [("own", {"other"}), ("own", {"other", "Own::same_edited_2"}), ("new", {"other"})]]
+    judge.HALVED = kept
+    return told == [False, True, True]
+
+
 def arms_are_told():
     """Whether only an edit of an arm's body has an arm, and a pattern stays where it may take what the edited arm takes."""
     named = "".join(f"        Kind::Case{it}(n) => n + {it},\n" for it in "ABCDEFGHIJ")
@@ -253,6 +268,7 @@ def main():
             (is_counted_too, said_too),
             (calls_are_told(), "a call is told wrongly"),
             (arms_are_told(), "an arm is told wrongly"),
+            (counts_are_told(), "the counts of a search are told wrongly"),
             (rests_on_the_unedited(), "an edit counts though what is left isn't proved without it"),
         ]:
             passed, failed = passed + well, failed + (not well)
