@@ -143,22 +143,30 @@ class Edit:
         return {twin(place, self.number) for place in self.places}
 
 
+# The words that begin the lines of an edit.
+FORM = re.compile(r"(?:file:(?:old:new:)+)+")
+
+
 def read_edit(folder, path, functions, texts):
     """Reads an edit, and says in `why` what keeps it from being planted."""
     name = os.path.basename(path)[: -len(".edit")]
     changed, why = RT.read_edit(path, folder)
     if why:
         return Edit(name, why, [], set())
-    pairs, places, source, old = [], set(), "", None
     with open(path, encoding="utf-8") as file:
-        for line in file.read().split("\n"):
-            if line.startswith("file: "):
-                source = line[len("file: ") :].strip()
-            elif line.startswith("old: "):
-                old = line[len("old: ") :]
-            elif line.startswith("new:"):
-                pairs.append((source, old, line[len("new:") :].removeprefix(" ")))
-                places.add(place_of(source, old, functions, texts))
+        lines = file.read().removesuffix("\n").split("\n")
+    # What goes on in a further line would be planted by its first line alone.
+    if not FORM.fullmatch("".join(f"{line.partition(':')[0]}:" for line in lines)):
+        return Edit(name, "a text goes over several lines, or a line is none of file:, old: and new: in turn", [], set())
+    pairs, places, source, old = [], set(), "", None
+    for line in lines:
+        if line.startswith("file: "):
+            source = line[len("file: ") :].strip()
+        elif line.startswith("old: "):
+            old = line[len("old: ") :]
+        else:
+            pairs.append((source, old, line[len("new:") :].removeprefix(" ")))
+            places.add(place_of(source, old, functions, texts))
     return Edit(name, None, pairs, places)
 
 
@@ -233,6 +241,53 @@ def rename(path, old, new):
         file.write(re.sub(rf"\.proofs\.{re.escape(old)}\b", f".proofs.{new}", text))
 
 
+# The crates whose functions are proved with half the counts of the prover's searches too, but for these functions, as --harmless shows. (Those of zref
+# haven't been tried: what they stand on was being changed.)
+HALVED = {
+    "zarray": (),
+    "zcert": (),
+    "zcode": ("Opcode::operand_bounds", "Opcode::stores"),
+    "zfault": (),
+    "zframe": (),
+    "zlist": ("leading::aside_place",),
+    "zobj": (),
+    "zpairs": ("blocks::merged_in",),
+    "zref": (
+        "CheckedMachine::awaits",
+        "act::print_and_act",
+        "arrays::element",
+        "changes::step_change",
+        "families::binary",
+        "families::count",
+        "families::name",
+        "families::number",
+        "objects::follow",
+        "objects::following",
+        "objects::inside",
+        "objects::property",
+        "objects::property_length",
+        "plan::plan_row",
+        "settling::admit",
+        "settling::course_of",
+        "settling::settle",
+        "step::halt_call",
+        "step::step_attribute",
+        "step::step_call",
+        "step::step_rest",
+        "step::step_set_element",
+    ),
+    "zstory": (),
+    "ztext": (),
+    "zword": (),
+}
+
+
+def needs_all(crate, places):
+    """Whether a search has all its counts where one of these functions is planted. Else it has half of them: a wrong function has no proof however
+    far it is sought, and it counts only if the right one has one in half of the counts too."""
+    return crate.name not in HALVED or any(TWIN.sub("", place) in HALVED[crate.name] for place in places)
+
+
 def check(crate, texts, only, kept):
     """What the prover says of these functions, and where they stand, in a copy of the crate with these texts in place of its own and all
     other functions emptied."""
@@ -246,7 +301,8 @@ def check(crate, texts, only, kept):
         prove_twins(room)
         emptied(crate, room, only)
         spans = spans_of(room, only)
-        flags = ["--jobs", "1", "--allow-holes", "--progress", *(word for path in sorted(only) for word in ("--only", path))]
+        flags = ["--jobs", "1", *([] if needs_all(crate, only) else ["--margin"]), "--allow-holes", "--progress"]
+        flags += (word for path in sorted(only) for word in ("--only", path))
         words = [RT.rtlib.RATTLE, "check", *crate.words(flags, keeps=False), *(["--incremental", kept] if kept else [])]
         return run(crate, [*RT.rtlib.guarded(), *words], room), spans
 
@@ -304,7 +360,7 @@ def planted(crate, edits):
             key = source, function.end, edit.number, begin, function.path
             text = texts[source][begin : function.end]
             if edit.arm is not None:
-                body, kept = function.body[0], {it.arm for it in edits if it.places == edit.places}
+                body, kept = function.body[0], {it.arm for it in edits if it.places == edit.places and it.arm is not None}
                 text = texts[source][begin:body] + arms.with_arms(texts[source][body : function.end], {edit.arm})
                 first = texts[source][function.start : body] + arms.with_arms(texts[source][body : function.end], kept)
                 made[source, function.end, 0, function.start, function.path] = first
@@ -376,10 +432,14 @@ def arm_of(crate, edit, functions, texts):
     return found.pop() if len(found) == 1 else None
 
 
+# What is said of a function whose own goals are proved: "it calls" stands first only where nothing of its own is left.
+AS_IT_WAS = ("proved", "no holes", "depends on a hole", "no proof: it calls ")
+
+
 def is_as_it_was(place, said):
-    """Whether a function is as good as proved, with holes for what it calls."""
+    """Whether a function is as good as proved, with holes for what it calls, or with edits planted there."""
     lines = [text for _, text in lines_of(place, said)]
-    return bool(lines) and all(text.startswith(("proved", "no holes", "depends on a hole")) for text in lines)
+    return bool(lines) and all(text.startswith(AS_IT_WAS) for text in lines)
 
 
 def refused_together(crate, edits, kept):
@@ -403,7 +463,7 @@ def in_rounds(crate, edits, functions, kept):
     while left:
         chosen, taken = [], {place: 1 for edit in left if edit.arm is not None for place in edit.places}
         shorter = {*taken}
-        for edit in left:
+        for edit in (it for it in left if needs_all(crate, it.places) == needs_all(crate, left[0].places)):
             is_twin = len(edit.places) == 1 and not edit.places & bound
             if is_twin or not edit.places & taken.keys():
                 edit.number = max(taken.get(place, 0) for place in edit.places)
@@ -472,7 +532,8 @@ def judge_harmless(crate, edits, functions, texts):
     proved while no edit is planted."""
     places = {place for edit in edits for place in edit.places if place}
     places |= {place for edit in edits if not edit.is_within_functions() for place in users_of(edit, functions, texts)}
-    said, _ = check(crate, {}, places, None) if places else ("", {})
+    halves = [{it for it in places if needs_all(crate, [it]) == whole} for whole in (False, True)]
+    said = "".join(check(crate, {}, only, None)[0] for only in halves if only)
     shorter = [edit for edit in edits if edit.arm is not None]
     for number, edit in enumerate(shorter):
         edit.pairs, edit.number = [(source, old, old) for source, old, _ in edit.pairs], number + 1

@@ -136,12 +136,17 @@ EDITS = {
     # in an arm of a long match: it makes more, it makes no more than it may, and it rests on what the arms above leave
     "one_more_raised": (True, [("        Deed::Raise => successor(n),", "        Deed::Raise => successor(n) + 2000,")]),
     "other_unbounded": (True, [("=> small(other)", "=> other")]),
+    # beside them, one of another arm's pattern
+    "both_unbounded": (True, [("        Deed::Both(m) => small(m),", "        Deed::Both(many) => many,")]),
     "harmless_arm": (False, [("Deed::Halve => n / 2", "Deed::Halve => n")]),
     "harmless_last_arm": (False, [("_ => n - 10", "_ => n - 11")]),
     # no longer there, there twice, and no text that can be read
     "stale": (False, [("n + 7", "n")]),
     "there_twice": (False, [("successor", "small")]),
     "unreadable": (False, [("    doubled", "    doubled +")]),
+    # each text has to be one line
+    "old_over_two_lines": (False, [("    successor(first)\n}", "    first")]),
+    "new_over_two_lines": (False, [("    n + 1", "    n\n    + 1")]),
 }
 
 
@@ -207,11 +212,23 @@ def rests_on_the_unedited():
     edit.arm, edit.number = 3, 1
     refused = "fn low::own::same_edited_1: no proof: `search` did not prove `returns`\nonly=2\n"
     answers = []
-    for unedited in ["depends on a hole in `x`", "no holes", "no proof: `search` did not prove `returns`", "not proved"]:
+    calls = "it calls `own::other`, which is not proved"
+    failed = f"no proof: expected answers in x; `search` did not prove `returns`; {calls}"
+    for unedited in ["depends on a hole in `x`", "no holes", f"no proof: {calls}", "no proof: `search` did not prove `returns`", failed, "not proved"]:
         judge.planted = lambda *_: {}
         judge.check = lambda *_, said=f"fn low::own::same: {unedited}\n{refused}": (said, {})
         answers.append(judge.refused_together(None, [edit], None))
-    return answers == [{"some"}, {"some"}, set(), set()]
+    return answers == [{"some"}, {"some"}, {"some"}, set(), set(), set()]
+
+
+def counts_are_told():
+    """Whether a function has half the counts only in a crate that has been tried with them, and not where it needs all, in a twin as well."""
+    crate = lambda name: type("Crate", (), {"name": name})
+    halved = {"own": ("Own::same",)}
+    judge.HALVED, kept = halved, judge.HALVED
+    told = [judge.needs_all(crate(name), places) for name, places in [("own", {"other"}), ("own", {"other", "Own::same_edited_2"}), ("new", {"other"})]]
+    judge.HALVED = kept
+    return told == [False, True, True]
 
 
 def arms_are_told():
@@ -253,6 +270,7 @@ def main():
             (is_counted_too, said_too),
             (calls_are_told(), "a call is told wrongly"),
             (arms_are_told(), "an arm is told wrongly"),
+            (counts_are_told(), "the counts of a search are told wrongly"),
             (rests_on_the_unedited(), "an edit counts though what is left isn't proved without it"),
         ]:
             passed, failed = passed + well, failed + (not well)
