@@ -1,5 +1,5 @@
 -- What is read of the matches of a command.
-use Rattle.std.proofs.Common.{◌≡◌, ◌∙◌, ◌&&◌, ℕ, Bool, true, false, refl, ap, List, [], ◌∷◌, length, Option, Some, None, Result, Ok, Err, lt-ltb, ltb-true, nat_lt, ◌^◌}
+use Rattle.std.proofs.Common.{◌≡◌, ◌∙◌, ◌&&◌, ℕ, Bool, true, false, refl, sym, ap, List, [], ◌∷◌, length, Option, Some, None, Result, Ok, Err, lt-ltb, ltb-true, nat_lt, ◌^◌}
 use Rattle.std.specs.Prelude.{Box, codes, option_map, unwrap_or}
 use Rattle.std.specs.Box.{box_value}
 use Rattle.std.specs.Option.{option_map_or}
@@ -9,13 +9,15 @@ use Rattle.clap.specs.declared.parser.matches.SubCommand.{SubCommand}
 use Rattle.std.specs.List.{list_all}
 use Rattle.std.specs.Borrow.{Bor}
 use Rattle.std.specs.Char.{digit_value}
-use Rattle.std.specs.Str.Parse.{AllDigits, ParsesUnsigned, digits_value, without_leading_plus}
+use Rattle.std.specs.Str.{bytes_eq}
+use Rattle.std.specs.Str.Parse.{AllDigits, ParsesBool, ParsesUnsigned, digits_value, without_leading_plus}
+use Rattle.std.proofs.lemmas.Slice.Eq.{bytes_eq-Decides}
 use Rattle.clap.proofs.WalkLemmas.{both, first_value-rows, one_text-rows}
 use Rattle.clap.specs.Words.{ReadsOne, Row, Text, first_value, one_text, rows_of, subcommand_name_of, subcommand_rows_of}
 use Rattle.clap.specs.declared.parser.matches.ArgMatches.{ArgMatches}
 use Rattle.clap.specs.declared.parser.matches.ArgMatches.TheViews.{out-ArgMatches, out-SubCommand}
 use Rattle.clap.specs.Simple.{subcommand_rows}
-use Rattle.zcommand.specs.CommandLine.{budget_of, certificate_of, number_in, story_of}
+use Rattle.zcommand.specs.CommandLine.{budget_of, certificate_of, is_status_asked, number_in, story_of}
 
 digits_pass : (ds : List ℕ) → AllDigits 10 ds → list_all (λ d. nat_lt (digit_value d) 10) ds ≡ true
 digits_pass [] h = refl
@@ -85,6 +87,28 @@ budget_read {E} G found o r none given parses is =
         → (one_text found (codes "budget") ≡ None → o ≡ None) → ((t : Text) → one_text found (codes "budget") ≡ Some t → ReadsOne G t o)
         → unwrap_or o 0 ≡ option_map_or number_in x 0
     go None e o none given = ap (λ (y : Option ℕ). unwrap_or y 0) (none e)
+    go (Some t) e o none given = read t o (given t e)
+
+-- what the getter of flags gives, or else false
+pub status_read : (E : Type 0) (found : Found) (o : Option Bool) (r : Bool)
+    → (one_text found (codes "status") ≡ None → o ≡ None) → ((t : Text) → one_text found (codes "status") ≡ Some t → ReadsOne (ParsesBool {E = E}) t o)
+    → r ≡ unwrap_or o false → r ≡ is_status_asked (rows_of found)
+status_read E found o r none given is =
+    is ∙ go (one_text found (codes "status")) refl o none given ∙ ap (λ (x : Option Text). option_map_or (λ t. bytes_eq t (codes "true")) x false) (one_text-rows found (codes "status"))
+  where
+    unread : (t : Text) (b : Bool) → bytes_eq t (codes "true") ≡ b → (t ≡ codes "true" → ⊥) → false ≡ b
+    unread t true e other = absurd (other ((bytes_eq-Decides t (codes "true")).0 e))
+    unread t false e other = refl
+
+    read : (t : Text) (o : Option Bool) → ReadsOne (ParsesBool {E = E}) t o → unwrap_or o false ≡ bytes_eq t (codes "true")
+    read t (Some true) h = sym ((bytes_eq-Decides t (codes "true")).1 h)
+    read t (Some false) h = sym (ap (λ (x : Text). bytes_eq x (codes "true")) h)
+    read t None h = unread t (bytes_eq t (codes "true")) refl h.1.0
+
+    go : (x : Option Text) → one_text found (codes "status") ≡ x → (o : Option Bool)
+        → (one_text found (codes "status") ≡ None → o ≡ None) → ((t : Text) → one_text found (codes "status") ≡ Some t → ReadsOne (ParsesBool {E = E}) t o)
+        → unwrap_or o false ≡ option_map_or (λ t. bytes_eq t (codes "true")) x false
+    go None e o none given = ap (λ (y : Option Bool). unwrap_or y false) (none e)
     go (Some t) e o none given = read t o (given t e)
 
 -- the name of a subcommand is the first of the pair that is its matches

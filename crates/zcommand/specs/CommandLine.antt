@@ -4,8 +4,10 @@ use Rattle.std.specs.Prelude.{◌≡◌, ℕ, ◌^◌, ◌&&◌, Bool, true, fal
 use Rattle.std.specs.List.{list_all}
 use Rattle.std.specs.Option.{option_map_or}
 use Rattle.std.specs.Char.{digit_value}
+use Rattle.std.specs.Str.{bytes_eq}
 use Rattle.std.specs.Str.Parse.{digits_value, without_leading_plus}
 use Rattle.clap.specs.Words.{App, Row, Rule, Text, first_of, new_app, new_rule, one_of, with_rule, with_subcommand}
+use Rattle.clap.specs.declared.builder.action.ArgAction.TheVariants.{SetTrue}
 use Rattle.clap.specs.declared.builder.value_parser.ValueParser.TheVariants as parsers
 use Rattle.zcommand.specs.declared.words.Command.{Command}
 use Rattle.zcommand.specs.declared.words.Command.TheVariants as commands
@@ -23,6 +25,10 @@ budget_rule = record (new_rule (codes "budget")) {
   parser = Some (parsers.Signed (pos 0) (pos 4294967295));
 }
 
+-- `--status`, a flag
+abbrev pub status_rule : Rule
+status_rule = record (new_rule (codes "status")) { long = Some (codes "status"); action = Some SetTrue }
+
 -- `CERT`, which has to be there or may be
 abbrev pub certificate_rule : Bool → Rule
 certificate_rule required = record (new_rule (codes "CERT")) { required = required }
@@ -39,9 +45,9 @@ list_app = with_rule (new_app (codes "list")) story_rule
 abbrev pub check_app : App
 check_app = files_app (codes "check") true
 
--- `play STORY [CERT] --budget N`
+-- `play STORY [CERT] --budget N --status`
 abbrev pub play_app : App
-play_app = with_rule (files_app (codes "play") false) budget_rule
+play_app = with_rule (with_rule (files_app (codes "play") false) budget_rule) status_rule
 
 -- the program, before its commands: its words don't begin with its name, and one of them is a command
 abbrev pub bare_app : App
@@ -67,6 +73,10 @@ story_of rows = unwrap_or (first_of (codes "STORY") rows) []
 abbrev pub budget_of : List Row → ℕ
 budget_of rows = option_map_or number_in (one_of (codes "budget") rows) 0
 
+-- whether status lines are asked for among the matches of `play`: clap has `true` there where the flag is given, and else `false`
+abbrev pub is_status_asked : List Row → Bool
+is_status_asked rows = option_map_or (λ text. bytes_eq text (codes "true")) (one_of (codes "status") rows) false
+
 -- the name of the certificate among the matches of a command, if there is one
 abbrev pub certificate_of : List Row → Option Text
 certificate_of rows = first_of (codes "CERT") rows
@@ -75,21 +85,22 @@ certificate_of rows = first_of (codes "CERT") rows
 pub data Request : Type 0 where
   ListStory : (story : Text) → Request
   Check : (story certificate : Text) → Request
-  Play : (story : Text) (certificate : Option Text) (budget : ℕ) → Request
+  Play : (story : Text) (certificate : Option Text) (budget : ℕ) (status : Bool) → Request
 
 -- the request is the one that clap's matches name, with the values among them
 abbrev pub Asks : Text × List Row → Request → Type 0
 Asks matches (ListStory story) = (matches.0 ≡ codes "list") × (story ≡ story_of matches.1)
 Asks matches (Check story certificate) =
     (matches.0 ≡ codes "check") × (story ≡ story_of matches.1) × (certificate ≡ unwrap_or (certificate_of matches.1) [])
-Asks matches (Play story certificate budget) =
+Asks matches (Play story certificate budget status) =
     (matches.0 ≡ codes "play") × (story ≡ story_of matches.1) × (certificate ≡ certificate_of matches.1) × (budget ≡ budget_of matches.1)
+    × (status ≡ is_status_asked matches.1)
 
 -- what a command asks for
 abbrev pub request_of : Command → Request
 request_of (commands.List story) = ListStory story.now
 request_of (commands.Check story certificate) = Check story.now certificate.now
-request_of (commands.Play story certificate budget) = Play story.now (option_map (λ c. c.now) certificate) budget
+request_of (commands.Play story certificate budget status) = Play story.now (option_map (λ c. c.now) certificate) budget status
 
 -- the command is the one that clap's matches name
 abbrev pub IsReadFrom : Text × List Row → Command → Type 0

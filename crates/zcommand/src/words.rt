@@ -4,9 +4,9 @@ ghost use Rattle.std.specs.Prelude.{◌≡◌, ◌⊎◌, IfOk, IsSomeAnd, Some,
 ghost use Rattle.clap.specs.Walk.{texts};
 ghost use Rattle.clap.specs.Words.{FailsBy, app_of, fault_of, found_of, rows_of, rule_of, subcommand_name_of, subcommand_of, subcommand_rows_of};
 ghost use Rattle.clap.specs.declared.builder.command.Command.TheViews.{out-Command as fields_of};
-ghost use Rattle.zcommand.specs.CommandLine.{IsReadFrom, bare_app, budget_rule, certificate_rule, check_app, files_app, list_app, play_app, story_rule, zpc_app};
+ghost use Rattle.zcommand.specs.CommandLine.{IsReadFrom, bare_app, budget_rule, certificate_rule, check_app, files_app, list_app, play_app, status_rule, story_rule, zpc_app};
 
-use clap::{Arg, ArgMatches, Error, value_parser};
+use clap::{Arg, ArgAction, ArgMatches, Error, value_parser};
 use std::alloc::{AllocError, Global};
 
 /// The version of the program, which `--version` prints.
@@ -38,6 +38,8 @@ pub enum Command<'a> {
         certificate: Option<&'a str>,
         /// The most steps that are made.
         budget: u32,
+        /// Whether status lines are written too.
+        status: bool,
     },
 }
 
@@ -91,10 +93,12 @@ fn play_of<'a>(matches: &ArgMatches<'a>) -> Command<'a>
     let story = matches.get_str("STORY").unwrap_or("");
     let certificate = matches.get_str("CERT");
     let budget = matches.get_one("budget").unwrap_or(0);
+    let status = matches.get_one("status").unwrap_or(false);
     Command::Play {
         story,
         certificate,
         budget,
+        status,
     }
 }
 
@@ -144,7 +148,7 @@ fn play<'a>(alloc: Global) -> Result<clap::Command<'a>, AllocError>
         "Plays a story, with a certificate or without",
         false,
     )?;
-    play.arg(budget(alloc))
+    play.arg(budget(alloc))?.arg(status(alloc))
 }
 
 /// A command on a story and a certificate, which has to be there or may be.
@@ -189,4 +193,14 @@ fn budget<'a>(alloc: Global) -> Arg<'a>
         .value_name("N")
         .value_parser(value_parser!(u32))
         .default_value(BUDGET)
+}
+
+fn status<'a>(alloc: Global) -> Arg<'a>
+    ensures rule { rule_of result ≡ status_rule }
+    ensures local { result.global ≡ false }
+{
+    Arg::new(alloc, "status")
+        .long("status")
+        .help("Writes status lines too")
+        .action(ArgAction::SetTrue)
 }

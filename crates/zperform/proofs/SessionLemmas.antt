@@ -8,12 +8,13 @@ use Rattle.zstate.specs.State.{State, opening}
 use Rattle.zstate.specs.Run.{Ending, GivesOut, run}
 use Rattle.zcheck.specs.Acceptance.{Acceptance}
 use Rattle.zplay.specs.Session.{Playing, setting_of}
+use Rattle.zscreen.specs.Rendering.{render}
 use Rattle.zplayer.specs.declared.end.End.{End}
 use Rattle.zplayer.specs.declared.end.End.TheVariants as ends
+use Rattle.zplayer.specs.declared.end.Options.{Options}
 use Rattle.zplayer.specs.declared.end.PlayError.{PlayError}
 use Rattle.zplayer.specs.declared.end.PlayError.TheVariants as errors
 use Rattle.zplayer.specs.Playing.{PlaysSome, end_of}
-use Rattle.zplayer.specs.Rendering.{render}
 use Rattle.zperform.specs.declared.outcome.Failure.TheVariants.{File, Read, Write, Memory}
 use Rattle.zperform.specs.declared.outcome.Problem.{Problem}
 use Rattle.zperform.specs.declared.outcome.Problem.TheVariants.{Refused, Unreadable, BreaksStory, BreaksInstruction, Unlisted, Failed}
@@ -49,20 +50,8 @@ pub was_no_file : (r : Result End Problem) (error : PlayError) → IsErr r × Is
 was_no_file (Ok end) error (is, same) e = absurd cc
 was_no_file (Err q) error (is, same) e = no_file error (sym same ∙ (let file : q ≡ Failed File = cc in file))
 
-module _ (story certificate : Option (List ℕ)) (budget : ℕ) (before : Option (List ℕ)) where
-  -- what isn't accepted isn't played
-  pub unaccepted : (problem : Problem) → IsUnaccepted story certificate problem → PlayComesTo story certificate budget before before (Stopped problem)
-  unaccepted (Refused error) h = (h, refl)
-  unaccepted (Unreadable error) h = (h, refl)
-  unaccepted (BreaksStory rule) h = (h, refl)
-  unaccepted (BreaksInstruction address rule) h = (h, refl)
-  unaccepted (Unlisted error) h = absurd h
-  unaccepted (Failed File) h = (h, refl)
-  unaccepted (Failed Memory) h = inl (refl, h)
-  unaccepted (Failed Read) h = absurd h
-  unaccepted (Failed Write) h = absurd h
-
-  -- nor is the writer blamed
+module _ (story certificate : Option (List ℕ)) (before : Option (List ℕ)) where
+  -- the writer isn't blamed for what isn't accepted
   pub unblamed : (problem : Problem) → IsUnaccepted story certificate problem → problem ≢ Failed Write
   unblamed (Refused error) h = λ e. cc
   unblamed (Unreadable error) h = λ e. cc
@@ -86,10 +75,23 @@ module _ (story certificate : Option (List ℕ)) (budget : ℕ) (before : Option
   unchecked (Failed Read) h = absurd h
   unchecked (Failed Write) h = absurd h
 
+module _ (story certificate : Option (List ℕ)) (options : Options) (before : Option (List ℕ)) where
+  -- nor is it played
+  pub unaccepted : (problem : Problem) → IsUnaccepted story certificate problem → PlayComesTo story certificate options before before (Stopped problem)
+  unaccepted (Refused error) h = (h, refl)
+  unaccepted (Unreadable error) h = (h, refl)
+  unaccepted (BreaksStory rule) h = (h, refl)
+  unaccepted (BreaksInstruction address rule) h = (h, refl)
+  unaccepted (Unlisted error) h = absurd h
+  unaccepted (Failed File) h = (h, refl)
+  unaccepted (Failed Memory) h = inl (refl, h)
+  unaccepted (Failed Read) h = absurd h
+  unaccepted (Failed Write) h = absurd h
+
   pub handed_on : (now : Option (List ℕ)) (r : Result End Problem) (problem : Problem) → IsErr r × IsErrAnd r (λ q. q ≡ problem)
-      → PlayComesTo story certificate budget before now (Stopped problem) → PlayComesTo story certificate budget before now (outcome_of r)
+      → PlayComesTo story certificate options before now (Stopped problem) → PlayComesTo story certificate options before now (outcome_of r)
   handed_on now (Ok end) problem (is, same) h = absurd (true≢false (sym is))
-  handed_on now (Err q) problem (is, same) h = subst (λ (x : Problem). PlayComesTo story certificate budget before now (Stopped x)) (sym same) h
+  handed_on now (Err q) problem (is, same) h = subst (λ (x : Problem). PlayComesTo story certificate options before now (Stopped x)) (sym same) h
 
   -- memory for the session was refused
   pub unopened : (a : Acceptance) → IsAccepted story certificate a → HasBytes story
@@ -98,21 +100,21 @@ module _ (story certificate : Option (List ℕ)) (budget : ℕ) (before : Option
   -- a session that opened
   module _ (a : Acceptance) (accepted : IsAccepted story certificate a) (p : Playing) (opened : p ≡ record { accepted = a; state = opening a.story }) (now : Option (List ℕ)) where
     abbrev ending : Ending
-    ending = run (setting_of p.accepted) [] budget p.state
+    ending = run (setting_of p.accepted) [] options.budget p.state
 
-    same : ending ≡ ending_with a budget
-    same = ap (λ (q : Playing). run (setting_of q.accepted) [] budget q.state) opened
+    same : ending ≡ ending_with a options.budget
+    same = ap (λ (q : Playing). run (setting_of q.accepted) [] options.budget q.state) opened
 
-    pub played : (end : End) → end ≡ end_of ending.stop → ((fault : Fault) (place : ℤ) → end ≢ ends.Fault fault place) → Appends before now (render ending.items) → PlayComesTo story certificate budget before now (Played end)
+    pub played : (end : End) → end ≡ end_of ending.stop → ((fault : Fault) (place : ℤ) → end ≢ ends.Fault fault place) → Appends before now (render options.status ending.items) → PlayComesTo story certificate options before now (Played end)
     played end ended safe written =
-        (a, accepted, record { ended = ended ∙ ap (λ (e : Ending). end_of e.stop) same; safe = safe; written = subst (λ (e : Ending). Appends before now (render e.items)) same written })
+        (a, accepted, record { ended = ended ∙ ap (λ (e : Ending). end_of e.stop) same; safe = safe; written = subst (λ (e : Ending). Appends before now (render options.status e.items)) same written })
 
-    pub broken : (error : PlayError) → error ≢ errors.Read → (error ≡ errors.Write → AppendsBeginning before now (render ending.items)) → (state : State) → (error ≡ errors.OutOfMemory → PlaysSome (setting_of p.accepted) budget p.state state before now) → (error ≡ errors.OutOfMemory → GivesOut (setting_of p.accepted) state)
-        → PlayComesTo story certificate budget before now (Stopped (problem_of_play error))
+    pub broken : (error : PlayError) → error ≢ errors.Read → (error ≡ errors.Write → AppendsBeginning before now (render options.status ending.items)) → (state : State) → (error ≡ errors.OutOfMemory → PlaysSome (setting_of p.accepted) options.status options.budget p.state state before now) → (error ≡ errors.OutOfMemory → GivesOut (setting_of p.accepted) state)
+        → PlayComesTo story certificate options before now (Stopped (problem_of_play error))
     broken errors.Read no_read begun state finished wanted = absurd (no_read refl)
-    broken errors.Write no_read begun state finished wanted = (a, accepted, subst (λ (e : Ending). AppendsBeginning before now (render e.items)) same (begun refl))
+    broken errors.Write no_read begun state finished wanted = (a, accepted, subst (λ (e : Ending). AppendsBeginning before now (render options.status e.items)) same (begun refl))
     broken errors.OutOfMemory no_read begun state finished wanted =
-        inr (a, accepted, record { state = state; finished = subst (λ (q : Playing). PlaysSome (setting_of q.accepted) budget q.state state before now) opened (finished refl); wanted = subst (λ (q : Playing). GivesOut (setting_of q.accepted) state) opened (wanted refl) })
+        inr (a, accepted, record { state = state; finished = subst (λ (q : Playing). PlaysSome (setting_of q.accepted) options.status options.budget q.state state before now) opened (finished refl); wanted = subst (λ (q : Playing). GivesOut (setting_of q.accepted) state) opened (wanted refl) })
 
 -- what is said of a certificate that is accepted
 module _ (outcome : Outcome) (only : (outcome ≡ Accepted) ⊎ (outcome ≡ Stopped (Failed Write))) where

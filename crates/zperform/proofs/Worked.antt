@@ -15,6 +15,7 @@ use Rattle.zrule.specs.declared.rule.Rule.TheVariants as rules
 use Rattle.zcheck.specs.declared.refusal.StoryRule.TheVariants as story_rules
 use Rattle.zcheck.specs.declared.refusal.Refusal.TheVariants as refusals
 use Rattle.zplayer.specs.declared.end.End.TheVariants as ends
+use Rattle.zplayer.specs.declared.end.Options.{Options}
 use Rattle.zplayer.specs.declared.end.PlayError.TheVariants as errors
 use Rattle.zperform.specs.declared.outcome.Failure.{Failure}
 use Rattle.zperform.specs.declared.outcome.Failure.TheVariants.{File, Read, Write, Memory}
@@ -140,10 +141,10 @@ unfolding reading heading_at magic_at
 empty_certificate = refl
 
 -- for an empty story's file memory is never wanted, and it is too short
-empty_story : (budget : ℕ) (before now : Option (List ℕ)) → (ComesTo (Some []) budget before now (Stopped (Failed Memory)) → ⊥) × (IsRefused [] loads.TooShort)
-empty_story budget before now = (unwanted, record { lowest = (omega arith, λ lower below. absurd (none lower below)); of_file = λ e. cc })
+empty_story : (options : Options) (before now : Option (List ℕ)) → (ComesTo (Some []) options before now (Stopped (Failed Memory)) → ⊥) × (IsRefused [] loads.TooShort)
+empty_story options before now = (unwanted, record { lowest = (omega arith, λ lower below. absurd (none lower below)); of_file = λ e. cc })
   where
-    unwanted : ComesTo (Some []) budget before now (Stopped (Failed Memory)) → ⊥
+    unwanted : ComesTo (Some []) options before now (Stopped (Failed Memory)) → ⊥
     unwanted (inl (same, some)) = omega (arith, some)
     unwanted (inr (file, same, cut)) = cut.holds.no_cause loads.TooShort (omega arith) (omega (arith, ap length same))
 
@@ -206,8 +207,8 @@ said = (
 )
 
 -- playing never comes to an acceptance or to a failed read, nor checking to the end of a play
-never : (story certificate before now : Option (List ℕ)) (budget : ℕ) →
-    (ComesTo story budget before now Accepted → ⊥) × (ComesTo story budget before now (Stopped (Failed Read)) → ⊥)
-    × (PlayComesTo story certificate budget before now Accepted → ⊥) × (PlayComesTo story certificate budget before now (Stopped (Failed Read)) → ⊥)
+never : (story certificate before now : Option (List ℕ)) (options : Options) →
+    (ComesTo story options before now Accepted → ⊥) × (ComesTo story options before now (Stopped (Failed Read)) → ⊥)
+    × (PlayComesTo story certificate options before now Accepted → ⊥) × (PlayComesTo story certificate options before now (Stopped (Failed Read)) → ⊥)
     × (CheckComesTo story certificate before now (Played ends.Quit) → ⊥) × (CheckComesTo story certificate before now (Stopped (Failed Read)) → ⊥)
-never story certificate before now budget = (λ no. no, λ no. no, λ no. no, λ no. no.0, λ no. no, λ no. no.0)
+never story certificate before now options = (λ no. no, λ no. no, λ no. no, λ no. no.0, λ no. no, λ no. no.0)

@@ -6,10 +6,11 @@ use Rattle.zfault.specs.declared.fault.Fault.{Fault}
 use Rattle.zstory.specs.LoadedStory.{LoadedStory}
 use Rattle.zstate.specs.State.{State, opening, scope_only, usual_limit}
 use Rattle.zstate.specs.Run.{Ending, GivesOut, run}
+use Rattle.zscreen.specs.Rendering.{render}
 use Rattle.zplayer.specs.declared.end.End.{End}
 use Rattle.zplayer.specs.declared.end.End.TheVariants as ends
+use Rattle.zplayer.specs.declared.end.Options.{Options}
 use Rattle.zplayer.specs.Playing.{PlaysSome, end_of}
-use Rattle.zplayer.specs.Rendering.{render}
 use Rattle.zdomain.specs.declared.interval.Interval.{Interval}
 use Rattle.zdomain.specs.Interval.{interval_operations}
 use Rattle.zcert.specs.Certificate.{Certificate}
@@ -103,26 +104,27 @@ CheckComesTo story_known certificate_known before now (Stopped problem) = IsUnac
 abbrev pub ending_with : Acceptance → ℕ → Ending
 ending_with a budget = run (record { story = a.story; scope = scope_only a.listing; limit = usual_limit }) [] budget (opening a.story)
 
--- it was played: so it ended, with no fault, and all that the play gives out was written
-pub record IsPlayedBy (a : Acceptance) (budget : ℕ) (end : End) (before now : Option (List ℕ)) : Type 0 where
-  pub ended : end ≡ end_of (ending_with a budget).stop
+-- it was played: so it ended, with no fault, and all that the play gives out was written, with status lines where they are
+-- asked for
+pub record IsPlayedBy (a : Acceptance) (options : Options) (end : End) (before now : Option (List ℕ)) : Type 0 where
+  pub ended : end ≡ end_of (ending_with a options.budget).stop
   pub safe : (fault : Fault) (place : ℤ) → end ≢ ends.Fault fault place
-  pub written : Appends before now (render (ending_with a budget).items)
+  pub written : Appends before now (render options.status (ending_with a options.budget).items)
 
 -- the play stopped before a step that gives something out, and what the steps up to there give out was written
-pub record IsCutShortBy (a : Acceptance) (budget : ℕ) (before now : Option (List ℕ)) : Type 0 where
+pub record IsCutShortBy (a : Acceptance) (options : Options) (before now : Option (List ℕ)) : Type 0 where
   pub state : State
-  pub finished : PlaysSome (record { story = a.story; scope = scope_only a.listing; limit = usual_limit }) budget (opening a.story) state before now
+  pub finished : PlaysSome (record { story = a.story; scope = scope_only a.listing; limit = usual_limit }) options.status options.budget (opening a.story) state before now
   pub wanted : GivesOut (record { story = a.story; scope = scope_only a.listing; limit = usual_limit }) state
 
 -- What playing by a certificate comes to.
-abbrev pub PlayComesTo : Option (List ℕ) → Option (List ℕ) → ℕ → Option (List ℕ) → Option (List ℕ) → Outcome → Type 0
-PlayComesTo story_known certificate_known budget before now Listed = ⊥
-PlayComesTo story_known certificate_known budget before now Accepted = ⊥
-PlayComesTo story_known certificate_known budget before now (Played end) =
-    (a : Acceptance) × IsAccepted story_known certificate_known a × IsPlayedBy a budget end before now
-PlayComesTo story_known certificate_known budget before now (Stopped (Failed Write)) =
-    (a : Acceptance) × IsAccepted story_known certificate_known a × AppendsBeginning before now (render (ending_with a budget).items)
-PlayComesTo story_known certificate_known budget before now (Stopped (Failed Memory)) =
-    ((now ≡ before) × HasBytes story_known) ⊎ ((a : Acceptance) × IsAccepted story_known certificate_known a × IsCutShortBy a budget before now)
-PlayComesTo story_known certificate_known budget before now (Stopped problem) = IsUnaccepted story_known certificate_known problem × (now ≡ before)
+abbrev pub PlayComesTo : Option (List ℕ) → Option (List ℕ) → Options → Option (List ℕ) → Option (List ℕ) → Outcome → Type 0
+PlayComesTo story_known certificate_known options before now Listed = ⊥
+PlayComesTo story_known certificate_known options before now Accepted = ⊥
+PlayComesTo story_known certificate_known options before now (Played end) =
+    (a : Acceptance) × IsAccepted story_known certificate_known a × IsPlayedBy a options end before now
+PlayComesTo story_known certificate_known options before now (Stopped (Failed Write)) =
+    (a : Acceptance) × IsAccepted story_known certificate_known a × AppendsBeginning before now (render options.status (ending_with a options.budget).items)
+PlayComesTo story_known certificate_known options before now (Stopped (Failed Memory)) =
+    ((now ≡ before) × HasBytes story_known) ⊎ ((a : Acceptance) × IsAccepted story_known certificate_known a × IsCutShortBy a options before now)
+PlayComesTo story_known certificate_known options before now (Stopped problem) = IsUnaccepted story_known certificate_known problem × (now ≡ before)

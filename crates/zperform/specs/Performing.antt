@@ -95,8 +95,9 @@ Explains kinds status old new =
 abbrev pub Comes : Request → (List ℕ → Option (List ℕ)) → Option (List ℕ) → Option (List ℕ) → Outcome → Type 0
 Comes (ListStory story) known before now outcome = ListComesTo (known story) before now outcome
 Comes (Check story certificate) known before now outcome = CheckComesTo (known story) (known certificate) before now outcome
-Comes (Play story None budget) known before now outcome = ComesTo (known story) budget before now outcome
-Comes (Play story (Some certificate) budget) known before now outcome = PlayComesTo (known story) (known certificate) budget before now outcome
+Comes (Play story None budget status) known before now outcome = ComesTo (known story) (record { budget = budget; status = status }) before now outcome
+Comes (Play story (Some certificate) budget status) known before now outcome =
+    PlayComesTo (known story) (known certificate) (record { budget = budget; status = status }) before now outcome
 
 -- A request, with the values among clap's matches: what it comes to is reported. The writer is blamed just where it failed, and
 -- so are the files; what was written is flushed unless the writer failed.

@@ -11,9 +11,10 @@ use Rattle.zstate.specs.State.{State, opening}
 use Rattle.zstate.specs.Run.{Ending, WantsMemory, run}
 use Rattle.zref.specs.Machine.{setting_of}
 use Rattle.zref.specs.declared.scope.Scope.TheVariants.{All}
+use Rattle.zscreen.specs.Rendering.{render}
 use Rattle.zplayer.specs.declared.end.End.{End}
+use Rattle.zplayer.specs.declared.end.Options.{Options}
 use Rattle.zplayer.specs.Playing.{PlaysSome, end_of}
-use Rattle.zplayer.specs.Rendering.{render}
 use Rattle.zperform.specs.Contents.{HasBytes}
 use Rattle.zperform.specs.declared.outcome.Failure.TheVariants.{File, Read, Write, Memory}
 use Rattle.zperform.specs.declared.outcome.Problem.{Problem}
@@ -30,26 +31,26 @@ pub record Holds (file : List ℕ) (story : LoadedStory) : Type 0 where
   pub loaded : IsLoaded file story
   pub no_cause : HasNone (IsCause file)
 
--- a file was played: so it ended, and all that the play gives out was written
-pub record IsPlayed (file : List ℕ) (budget : ℕ) (end : End) (before now : Option (List ℕ)) : Type 0 where
+-- a file was played: so it ended, and all that the play gives out was written, with status lines where they are asked for
+pub record IsPlayed (file : List ℕ) (options : Options) (end : End) (before now : Option (List ℕ)) : Type 0 where
   pub story : LoadedStory
   pub holds : Holds file story
-  pub ended : end ≡ end_of (ending_of story budget).stop
-  pub written : Appends before now (render (ending_of story budget).items)
+  pub ended : end ≡ end_of (ending_of story options.budget).stop
+  pub written : Appends before now (render options.status (ending_of story options.budget).items)
 
 -- of what the play of a file gives out, a beginning was written
-pub record IsBegun (file : List ℕ) (budget : ℕ) (before now : Option (List ℕ)) : Type 0 where
+pub record IsBegun (file : List ℕ) (options : Options) (before now : Option (List ℕ)) : Type 0 where
   pub story : LoadedStory
   pub holds : Holds file story
-  pub begun : AppendsBeginning before now (render (ending_of story budget).items)
+  pub begun : AppendsBeginning before now (render options.status (ending_of story options.budget).items)
 
 -- the play of a file stopped before a step that gives something out, or makes the stack of its frame or the frames longer, and
 -- what the steps up to there give out was written
-pub record IsCutShort (file : List ℕ) (budget : ℕ) (before now : Option (List ℕ)) : Type 0 where
+pub record IsCutShort (file : List ℕ) (options : Options) (before now : Option (List ℕ)) : Type 0 where
   pub story : LoadedStory
   pub holds : Holds file story
   pub state : State
-  pub finished : PlaysSome (setting_of story All) budget (opening story) state before now
+  pub finished : PlaysSome (setting_of story All) options.status options.budget (opening story) state before now
   pub wanted : WantsMemory (setting_of story All) state
 
 -- a file is no story, for its cause with the lowest number; want of memory is none
@@ -69,11 +70,11 @@ Reads known property = (file : List ℕ) × IfSome known (λ bytes. file ≡ byt
 
 -- What playing a file comes to, where its bytes are known, with what the writer took before and has taken now. It never
 -- comes to a failed read, as no opcode of this build reads. Memory is wanted only for a file that has bytes.
-abbrev pub ComesTo : Option (List ℕ) → ℕ → Option (List ℕ) → Option (List ℕ) → Outcome → Type 0
-ComesTo known budget before now (Played end) = Reads known (λ file. IsPlayed file budget end before now)
-ComesTo known budget before now (Stopped (Refused error)) = Reads known (λ file. IsRefused file error) × (now ≡ before)
-ComesTo known budget before now (Stopped (Failed File)) = now ≡ before
-ComesTo known budget before now (Stopped (Failed Read)) = ⊥
-ComesTo known budget before now (Stopped (Failed Write)) = Reads known (λ file. IsBegun file budget before now)
-ComesTo known budget before now (Stopped (Failed Memory)) = ((now ≡ before) × HasBytes known) ⊎ Reads known (λ file. IsCutShort file budget before now)
-ComesTo known budget before now outcome = ⊥
+abbrev pub ComesTo : Option (List ℕ) → Options → Option (List ℕ) → Option (List ℕ) → Outcome → Type 0
+ComesTo known options before now (Played end) = Reads known (λ file. IsPlayed file options end before now)
+ComesTo known options before now (Stopped (Refused error)) = Reads known (λ file. IsRefused file error) × (now ≡ before)
+ComesTo known options before now (Stopped (Failed File)) = now ≡ before
+ComesTo known options before now (Stopped (Failed Read)) = ⊥
+ComesTo known options before now (Stopped (Failed Write)) = Reads known (λ file. IsBegun file options before now)
+ComesTo known options before now (Stopped (Failed Memory)) = ((now ≡ before) × HasBytes known) ⊎ Reads known (λ file. IsCutShort file options before now)
+ComesTo known options before now outcome = ⊥

@@ -93,16 +93,25 @@ fn carry_out<F: Files, R: Source, W: Sink>(
             story,
             certificate: None,
             budget,
-        } => outcome_of(play(alloc, story, budget, files, reader, writer)),
+            status,
+        } => outcome_of(play(
+            alloc,
+            story,
+            Options { budget, status },
+            files,
+            reader,
+            writer,
+        )),
         Command::Play {
             story,
             certificate: Some(certificate),
             budget,
+            status,
         } => outcome_of(play_by_certificate(
             alloc,
             story,
             certificate,
-            budget,
+            Options { budget, status },
             files,
             reader,
             writer,
@@ -164,12 +173,12 @@ pub fn write_and_flush<W: Sink>(writer: &mut W, text: &[u8]) -> Result<(), Faile
 fn play<F: Files, R: Source, W: Sink>(
     alloc: Global,
     name: &str,
-    budget: u32,
+    options: Options,
     files: &mut F,
     reader: &mut R,
     writer: &mut W,
 ) -> Result<End, Problem>
-    ensures comes { ComesTo (F.known files.old name.now) budget (W.contents writer.old) (W.contents writer.new) (outcome_of result) }
+    ensures comes { ComesTo (F.known files.old name.now) options (W.contents writer.old) (W.contents writer.new) (outcome_of result) }
     ensures blamed { result ≡ Err (Problem.Failed Failure.Write) → RisesByOne (W.failures writer.old) (W.failures writer.new) }
     ensures quiet { result ≢ Err (Problem.Failed Failure.Write) → W.failures writer.new ≡ W.failures writer.old }
     ensures flushed { result ≢ Err (Problem.Failed Failure.Write) → IsFlushed W.waits writer.old writer.new }
@@ -180,18 +189,18 @@ fn play<F: Files, R: Source, W: Sink>(
 {
     let file = read_file(alloc, files, name, STORY_LIMIT)?;
     let story = load(alloc, file)?;
-    play_story(alloc, &story, budget, reader, writer)
+    play_story(alloc, &story, options, reader, writer)
 }
 
 /// Plays a story from its opening.
 fn play_story<R: Source, W: Sink>(
     alloc: Global,
     story: &Story,
-    budget: u32,
+    options: Options,
     reader: &mut R,
     writer: &mut W,
 ) -> Result<End, Problem>
-    ensures comes { (file : List ℕ) → Holds file story.now → ComesTo (Some file) budget (W.contents writer.old) (W.contents writer.new) (outcome_of result) }
+    ensures comes { (file : List ℕ) → Holds file story.now → ComesTo (Some file) options (W.contents writer.old) (W.contents writer.new) (outcome_of result) }
     ensures blamed { result ≡ Err (Problem.Failed Failure.Write) → RisesByOne (W.failures writer.old) (W.failures writer.new) }
     ensures quiet { result ≢ Err (Problem.Failed Failure.Write) → W.failures writer.new ≡ W.failures writer.old }
     ensures flushed { result ≢ Err (Problem.Failed Failure.Write) → IsFlushed W.waits writer.old writer.new }
@@ -199,10 +208,6 @@ fn play_story<R: Source, W: Sink>(
     ensures reader { reader.new ≡ reader.old }
 {
     let mut machine = CheckedMachine::new(alloc, story, Scope::All)?;
-    let options = Options {
-        budget,
-        status: false,
-    };
     Ok(play_checked(
         alloc,
         &mut machine,
@@ -219,12 +224,12 @@ fn play_by_certificate<F: Files, R: Source, W: Sink>(
     alloc: Global,
     story: &str,
     certificate: &str,
-    budget: u32,
+    options: Options,
     files: &mut F,
     reader: &mut R,
     writer: &mut W,
 ) -> Result<End, Problem>
-    ensures comes { PlayComesTo (F.known files.old story.now) (F.known files.old certificate.now) budget (W.contents writer.old) (W.contents writer.new) (outcome_of result) }
+    ensures comes { PlayComesTo (F.known files.old story.now) (F.known files.old certificate.now) options (W.contents writer.old) (W.contents writer.new) (outcome_of result) }
     ensures blamed { result ≡ Err (Problem.Failed Failure.Write) → RisesByOne (W.failures writer.old) (W.failures writer.new) }
     ensures quiet { result ≢ Err (Problem.Failed Failure.Write) → W.failures writer.new ≡ W.failures writer.old }
     ensures flushed { result ≢ Err (Problem.Failed Failure.Write) → IsFlushed W.waits writer.old writer.new }
@@ -234,18 +239,18 @@ fn play_by_certificate<F: Files, R: Source, W: Sink>(
     ensures reader { reader.new ≡ reader.old }
 {
     let accepted = accept(alloc, story, certificate, files)?;
-    play_accepted(alloc, &accepted, budget, reader, writer)
+    play_accepted(alloc, &accepted, options, reader, writer)
 }
 
 /// Plays an accepted story from its opening.
 fn play_accepted<R: Source, W: Sink>(
     alloc: Global,
     accepted: &Accepted,
-    budget: u32,
+    options: Options,
     reader: &mut R,
     writer: &mut W,
 ) -> Result<End, Problem>
-    ensures comes { (story certificate : Option (List ℕ)) → IsAccepted story certificate accepted.now → PlayComesTo story certificate budget (W.contents writer.old) (W.contents writer.new) (outcome_of result) }
+    ensures comes { (story certificate : Option (List ℕ)) → IsAccepted story certificate accepted.now → PlayComesTo story certificate options (W.contents writer.old) (W.contents writer.new) (outcome_of result) }
     ensures blamed { result ≡ Err (Problem.Failed Failure.Write) → RisesByOne (W.failures writer.old) (W.failures writer.new) }
     ensures quiet { result ≢ Err (Problem.Failed Failure.Write) → W.failures writer.new ≡ W.failures writer.old }
     ensures flushed { result ≢ Err (Problem.Failed Failure.Write) → IsFlushed W.waits writer.old writer.new }
@@ -253,10 +258,6 @@ fn play_accepted<R: Source, W: Sink>(
     ensures reader { reader.new ≡ reader.old }
 {
     let mut session = Session::start(alloc, accepted)?;
-    let options = Options {
-        budget,
-        status: false,
-    };
     let end = zplayer::play_story(
         alloc,
         &mut session,

@@ -1,8 +1,7 @@
 -- Values of the definitions, computed.
-use Rattle.std.proofs.Common.{◌≡◌, ℕ, true, List, [], ◌∷◌, Option, refl, arith}
-use Rattle.std.specs.Prelude.{pos, negsuc, codes, false}
+use Rattle.std.proofs.Common.{◌≡◌, ℕ, Bool, true, false, List, Option, refl, arith}
+use Rattle.std.specs.Prelude.{pos}
 use Rattle.zfault.specs.declared.fault.Fault.TheVariants.{IllegalOpcode}
-use Rattle.zfault.specs.declared.item.Item.TheVariants.{Text, Status}
 use Rattle.zfault.specs.declared.pause.Pause.TheVariants as pauses
 use Rattle.zstate.specs.declared.halt.Stop.TheVariants as stops
 use Rattle.zstate.specs.State.{State, Setting}
@@ -10,7 +9,6 @@ use Rattle.zplayer.specs.declared.end.End.TheVariants as ends
 use Rattle.zplayer.specs.declared.player.TheConstants.{TURN}
 use Rattle.zplayer.specs.Outside.{CountsRefusal}
 use Rattle.zplayer.specs.Playing.{end_of, Plays, PlaysInPart, PlaysSome}
-use Rattle.zplayer.specs.Rendering.{render, shown}
 use Rattle.zplayer.proofs.Turns.{starts}
 
 -- a need that nothing answers is a want of input
@@ -24,14 +22,6 @@ others = (refl, refl, refl, refl)
 turn : TURN ≡ 1024
 turn = refl
 
--- a status line shows nothing yet, be it a score or a time
-status : (shown (Status (record { name = codes "attic"; first = pos 350; second = negsuc 0; time = false })) ≡ []) × (render (Text 104 ∷ Status (record { name = []; first = pos 23; second = pos 59; time = true }) ∷ Text 105 ∷ []) ≡ 104 ∷ 105 ∷ [])
-status = (refl, refl)
-
--- bytes of text, in their order
-bytes : (render [] ≡ []) × (shown (Text 104) ≡ 104 ∷ []) × (render (Text 104 ∷ Text 10 ∷ Text 0 ∷ []) ≡ 104 ∷ 10 ∷ 0 ∷ [])
-bytes = (refl, refl, refl)
-
 -- a call that was done leaves the count as it was
 done : CountsRefusal 3 3 true
 done = refl
@@ -44,9 +34,9 @@ refused : CountsRefusal 3 4 false × (CountsRefusal 3 5 false → ⊥)
 refused = (refl, λ rises. omega (arith, rises))
 
 -- no step is made at first, and never more than the budget has
-module _ (m : Setting) (s t : State) (a b : Option (List ℕ)) where
-  none_made : Plays m 5 5 s s a a × PlaysSome m 5 s s a a
-  none_made = (starts m 5 s a, (5, starts m 5 s a))
+module _ (m : Setting) (asked : Bool) (s t : State) (a b : Option (List ℕ)) where
+  none_made : Plays m asked 5 5 s s a a × PlaysSome m asked 5 s s a a
+  none_made = (starts m asked 5 s a, (5, starts m asked 5 s a))
 
-  not_more : (Plays m 5 6 s t a b → ⊥) × ((part : PlaysInPart m 0 s t a b) → part.steps ≡ 0)
+  not_more : (Plays m asked 5 6 s t a b → ⊥) × ((part : PlaysInPart m asked 0 s t a b) → part.steps ≡ 0)
   not_more = (λ plays. omega (arith, plays.all), λ part. omega (arith, part.few))

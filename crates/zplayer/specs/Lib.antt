@@ -1,3 +1,2 @@
 pub mod Outside
 pub mod Playing
-pub mod Rendering

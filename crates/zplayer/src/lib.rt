@@ -5,7 +5,6 @@ mod end;
 mod machine;
 mod outside;
 mod player;
-mod screen;
 
 pub use end::{End, Options, PlayError};
 pub use outside::{SaveStore, Words};

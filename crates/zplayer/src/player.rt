@@ -7,24 +7,25 @@ ghost use Rattle.zstate.specs.Run.{run, GivesOut, Stands, WantsMemory};
 ghost use Rattle.zref.specs.Machine.{setting, SamePlay};
 ghost use Rattle.zfault.specs.declared.fault.Fault.{Fault as AFault};
 ghost use Rattle.zplay.specs.Session.{setting_of};
+ghost use Rattle.zscreen.specs.Rendering.{render};
 ghost use Rattle.zplayer.specs.Playing.{end_of, Plays, PlaysInPart, PlaysSome};
-ghost use Rattle.zplayer.specs.Rendering.{render};
 
 use crate::end::{End, Options, PlayError};
 use crate::machine::Machine;
 use crate::outside::{SaveStore, Words};
-use crate::screen::write_items;
 use std::alloc::Global;
 use zcert::Spelled;
 use zfault::{Failed, Items, Pause, Sink, Source};
 use zplay::Session;
 use zref::CheckedMachine;
+use zscreen::write_items;
 use zstate::Stop;
 
 /// The most steps that are made before what they gave out is written.
 const TURN: u32 = 1024;
 
-/// Plays the machine from the state that it is in: makes at most the budget's steps, and writes what they give out.
+/// Plays the machine from the state that it is in: makes at most the budget's steps, and writes what they give out, with status
+/// lines where the options ask for them.
 ///
 /// No opcode of this build needs a line, a word or a save, so the reader, the store and the words aren't touched yet.
 /// After P2 a beginning of what the finished steps give out was written, and the writer isn't called again; after P3 all
@@ -41,20 +42,20 @@ pub fn play_checked<R: Source, W: Sink, S: SaveStore, G: Words>(
     ensures play { SamePlay machine.old machine.new }
     ensures ends { IfOk result (λ end. end ≡ end_of (run (setting machine.old) [] options.budget machine.old.state).stop) }
     ensures state { OnOk result (machine.new.state ≡ (run (setting machine.old) [] options.budget machine.old.state).state) }
-    ensures written { OnOk result (Appends (W.contents writer.old) (W.contents writer.new) (render (run (setting machine.old) [] options.budget machine.old.state).items)) }
+    ensures written { OnOk result (Appends (W.contents writer.old) (W.contents writer.new) (render options.status (run (setting machine.old) [] options.budget machine.old.state).items)) }
     ensures quiet { ¬ IsErrOf result PlayError.Write → W.failures writer.new ≡ W.failures writer.old }
     ensures no_read { ¬ IsErrOf result PlayError.Read }
-    ensures begun { IsErrOf result PlayError.Write → AppendsBeginning (W.contents writer.old) (W.contents writer.new) (render (run (setting machine.old) [] options.budget machine.old.state).items) }
+    ensures begun { IsErrOf result PlayError.Write → AppendsBeginning (W.contents writer.old) (W.contents writer.new) (render options.status (run (setting machine.old) [] options.budget machine.old.state).items) }
     ensures blamed { IsErrOf result PlayError.Write → RisesByOne (W.failures writer.old) (W.failures writer.new) }
     ensures flushed { ¬ IsErrOf result PlayError.Write → W.waits writer.new ≡ false }
-    ensures finished { ¬ IsErrOf result PlayError.Write → PlaysSome (setting machine.old) options.budget machine.old.state machine.new.state (W.contents writer.old) (W.contents writer.new) }
+    ensures finished { ¬ IsErrOf result PlayError.Write → PlaysSome (setting machine.old) options.status options.budget machine.old.state machine.new.state (W.contents writer.old) (W.contents writer.new) }
     ensures wanted { IsErrOf result PlayError.OutOfMemory → WantsMemory (setting machine.old) machine.new.state }
-    ensures in_part { IsErrOf result PlayError.Write → PlaysInPart (setting machine.old) options.budget machine.old.state machine.new.state (W.contents writer.old) (W.contents writer.new) }
+    ensures in_part { IsErrOf result PlayError.Write → PlaysInPart (setting machine.old) options.status options.budget machine.old.state machine.new.state (W.contents writer.old) (W.contents writer.new) }
     ensures reader { _reader.new ≡ _reader.old }
     ensures store { _store.new ≡ _store.old }
     ensures words { _words.new ≡ _words.old }
 {
-    play_machine(alloc, machine, writer, options.budget)
+    play_machine(alloc, machine, writer, options)
 }
 
 /// Plays the session from the state that it is in, as `play_checked` does a machine. It meets no fault.
@@ -71,21 +72,21 @@ pub fn play_story<V: Spelled, R: Source, W: Sink, S: SaveStore, G: Words>(
     ensures ends { IfOk result (λ end. end ≡ end_of (run (setting_of session.old.accepted) [] options.budget session.old.state).stop) }
     ensures no_fault { IfOk result (λ end. (fault : AFault) (place : ℤ) → end ≢ End.Fault fault place) }
     ensures state { OnOk result (session.new.state ≡ (run (setting_of session.old.accepted) [] options.budget session.old.state).state) }
-    ensures written { OnOk result (Appends (W.contents writer.old) (W.contents writer.new) (render (run (setting_of session.old.accepted) [] options.budget session.old.state).items)) }
+    ensures written { OnOk result (Appends (W.contents writer.old) (W.contents writer.new) (render options.status (run (setting_of session.old.accepted) [] options.budget session.old.state).items)) }
     ensures quiet { ¬ IsErrOf result PlayError.Write → W.failures writer.new ≡ W.failures writer.old }
     ensures no_read { ¬ IsErrOf result PlayError.Read }
-    ensures begun { IsErrOf result PlayError.Write → AppendsBeginning (W.contents writer.old) (W.contents writer.new) (render (run (setting_of session.old.accepted) [] options.budget session.old.state).items) }
+    ensures begun { IsErrOf result PlayError.Write → AppendsBeginning (W.contents writer.old) (W.contents writer.new) (render options.status (run (setting_of session.old.accepted) [] options.budget session.old.state).items) }
     ensures blamed { IsErrOf result PlayError.Write → RisesByOne (W.failures writer.old) (W.failures writer.new) }
     ensures flushed { ¬ IsErrOf result PlayError.Write → W.waits writer.new ≡ false }
-    ensures finished { ¬ IsErrOf result PlayError.Write → PlaysSome (setting_of session.old.accepted) options.budget session.old.state session.new.state (W.contents writer.old) (W.contents writer.new) }
+    ensures finished { ¬ IsErrOf result PlayError.Write → PlaysSome (setting_of session.old.accepted) options.status options.budget session.old.state session.new.state (W.contents writer.old) (W.contents writer.new) }
     ensures wanted { IsErrOf result PlayError.OutOfMemory → GivesOut (setting_of session.old.accepted) session.new.state }
-    ensures in_part { IsErrOf result PlayError.Write → PlaysInPart (setting_of session.old.accepted) options.budget session.old.state session.new.state (W.contents writer.old) (W.contents writer.new) }
+    ensures in_part { IsErrOf result PlayError.Write → PlaysInPart (setting_of session.old.accepted) options.status options.budget session.old.state session.new.state (W.contents writer.old) (W.contents writer.new) }
     ensures reader { _reader.new ≡ _reader.old }
     ensures store { _store.new ≡ _store.old }
     ensures words { _words.new ≡ _words.old }
 {
     session.never_faults();
-    play_machine(alloc, session, writer, options.budget)
+    play_machine(alloc, session, writer, options)
 }
 
 /// Makes at most so many steps, and writes and flushes what they give out. A failed write is the last call of the writer.
@@ -93,22 +94,22 @@ fn play_machine<M: Machine, W: Sink>(
     alloc: Global,
     machine: &mut M,
     writer: &mut W,
-    budget: u32,
+    options: Options,
 ) -> Result<End, PlayError>
     ensures play { M.IsSamePlay machine.old machine.new }
-    ensures ends { IfOk result (λ end. end ≡ end_of (run (M.setting machine.old) [] budget (M.state machine.old)).stop) }
-    ensures state { OnOk result (M.state machine.new ≡ (run (M.setting machine.old) [] budget (M.state machine.old)).state) }
-    ensures written { OnOk result (Appends (W.contents writer.old) (W.contents writer.new) (render (run (M.setting machine.old) [] budget (M.state machine.old)).items)) }
+    ensures ends { IfOk result (λ end. end ≡ end_of (run (M.setting machine.old) [] options.budget (M.state machine.old)).stop) }
+    ensures state { OnOk result (M.state machine.new ≡ (run (M.setting machine.old) [] options.budget (M.state machine.old)).state) }
+    ensures written { OnOk result (Appends (W.contents writer.old) (W.contents writer.new) (render options.status (run (M.setting machine.old) [] options.budget (M.state machine.old)).items)) }
     ensures quiet { ¬ IsErrOf result PlayError.Write → W.failures writer.new ≡ W.failures writer.old }
     ensures no_read { ¬ IsErrOf result PlayError.Read }
-    ensures begun { IsErrOf result PlayError.Write → AppendsBeginning (W.contents writer.old) (W.contents writer.new) (render (run (M.setting machine.old) [] budget (M.state machine.old)).items) }
+    ensures begun { IsErrOf result PlayError.Write → AppendsBeginning (W.contents writer.old) (W.contents writer.new) (render options.status (run (M.setting machine.old) [] options.budget (M.state machine.old)).items) }
     ensures blamed { IsErrOf result PlayError.Write → RisesByOne (W.failures writer.old) (W.failures writer.new) }
     ensures flushed { ¬ IsErrOf result PlayError.Write → W.waits writer.new ≡ false }
-    ensures finished { ¬ IsErrOf result PlayError.Write → PlaysSome (M.setting machine.old) budget (M.state machine.old) (M.state machine.new) (W.contents writer.old) (W.contents writer.new) }
+    ensures finished { ¬ IsErrOf result PlayError.Write → PlaysSome (M.setting machine.old) options.status options.budget (M.state machine.old) (M.state machine.new) (W.contents writer.old) (W.contents writer.new) }
     ensures wanted { IsErrOf result PlayError.OutOfMemory → M.Wants (M.setting machine.old) (M.state machine.new) }
-    ensures in_part { IsErrOf result PlayError.Write → PlaysInPart (M.setting machine.old) budget (M.state machine.old) (M.state machine.new) (W.contents writer.old) (W.contents writer.new) }
+    ensures in_part { IsErrOf result PlayError.Write → PlaysInPart (M.setting machine.old) options.status options.budget (M.state machine.old) (M.state machine.new) (W.contents writer.old) (W.contents writer.new) }
 {
-    match play_turns(alloc, machine, writer, budget) {
+    match play_turns(alloc, machine, writer, options) {
         Err(PlayError::Write) => Err(PlayError::Write),
         played => {
             flush(writer)?;
@@ -135,24 +136,24 @@ fn play_turns<M: Machine, W: Sink>(
     alloc: Global,
     machine: &mut M,
     writer: &mut W,
-    budget: u32,
+    options: Options,
 ) -> Result<End, PlayError>
     ensures play { M.IsSamePlay machine.old machine.new }
-    ensures ends { IfOk result (λ end. end ≡ end_of (run (M.setting machine.old) [] budget (M.state machine.old)).stop) }
-    ensures state { OnOk result (M.state machine.new ≡ (run (M.setting machine.old) [] budget (M.state machine.old)).state) }
-    ensures written { OnOk result (Appends (W.contents writer.old) (W.contents writer.new) (render (run (M.setting machine.old) [] budget (M.state machine.old)).items)) }
+    ensures ends { IfOk result (λ end. end ≡ end_of (run (M.setting machine.old) [] options.budget (M.state machine.old)).stop) }
+    ensures state { OnOk result (M.state machine.new ≡ (run (M.setting machine.old) [] options.budget (M.state machine.old)).state) }
+    ensures written { OnOk result (Appends (W.contents writer.old) (W.contents writer.new) (render options.status (run (M.setting machine.old) [] options.budget (M.state machine.old)).items)) }
     ensures quiet { ¬ IsErrOf result PlayError.Write → W.failures writer.new ≡ W.failures writer.old }
     ensures no_read { ¬ IsErrOf result PlayError.Read }
-    ensures begun { IsErrOf result PlayError.Write → AppendsBeginning (W.contents writer.old) (W.contents writer.new) (render (run (M.setting machine.old) [] budget (M.state machine.old)).items) }
+    ensures begun { IsErrOf result PlayError.Write → AppendsBeginning (W.contents writer.old) (W.contents writer.new) (render options.status (run (M.setting machine.old) [] options.budget (M.state machine.old)).items) }
     ensures blamed { IsErrOf result PlayError.Write → RisesByOne (W.failures writer.old) (W.failures writer.new) }
-    ensures finished { ¬ IsErrOf result PlayError.Write → PlaysSome (M.setting machine.old) budget (M.state machine.old) (M.state machine.new) (W.contents writer.old) (W.contents writer.new) }
+    ensures finished { ¬ IsErrOf result PlayError.Write → PlaysSome (M.setting machine.old) options.status options.budget (M.state machine.old) (M.state machine.new) (W.contents writer.old) (W.contents writer.new) }
     ensures wanted { IsErrOf result PlayError.OutOfMemory → M.Wants (M.setting machine.old) (M.state machine.new) }
-    ensures in_part { IsErrOf result PlayError.Write → PlaysInPart (M.setting machine.old) budget (M.state machine.old) (M.state machine.new) (W.contents writer.old) (W.contents writer.new) }
+    ensures in_part { IsErrOf result PlayError.Write → PlaysInPart (M.setting machine.old) options.status options.budget (M.state machine.old) (M.state machine.new) (W.contents writer.old) (W.contents writer.new) }
 {
     let mut items = Items::new(alloc);
-    let mut left = budget;
+    let mut left = options.budget;
     'turns: loop {
-        if let Some(stop) = turn(machine, writer, &mut left, &mut items)? {
+        if let Some(stop) = turn(machine, writer, options.status, &mut left, &mut items)? {
             return Ok(End::from(stop));
         }
     }
@@ -174,27 +175,28 @@ fn standstill(stop: Stop, left: u32) -> Option<Stop>
 fn turn<M: Machine, W: Sink>(
     machine: &mut M,
     writer: &mut W,
+    status: bool,
     left: &mut u32,
     items: &mut Items,
 ) -> Result<Option<Stop>, PlayError>
     ensures play { M.IsSamePlay machine.old machine.new }
     ensures stands { IfOk result (λ still. IfSome still (λ stop. Stands (M.setting machine.old) stop (M.state machine.new) × (stop ≡ Stop.Paused Pause.Budget → left.new ≡ 0))) }
     ensures fewer { result ≡ Ok None → left.new < left.old }
-    ensures ok { OnOk result (Plays (M.setting machine.old) left.old left.new (M.state machine.old) (M.state machine.new) (W.contents writer.old) (W.contents writer.new)) }
+    ensures ok { OnOk result (Plays (M.setting machine.old) status left.old left.new (M.state machine.old) (M.state machine.new) (W.contents writer.old) (W.contents writer.new)) }
     ensures quiet { ¬ IsErrOf result PlayError.Write → W.failures writer.new ≡ W.failures writer.old }
     ensures no_read { ¬ IsErrOf result PlayError.Read }
-    ensures begun { IsErrOf result PlayError.Write → AppendsBeginning (W.contents writer.old) (W.contents writer.new) (render (run (M.setting machine.old) [] left.old (M.state machine.old)).items) }
+    ensures begun { IsErrOf result PlayError.Write → AppendsBeginning (W.contents writer.old) (W.contents writer.new) (render status (run (M.setting machine.old) [] left.old (M.state machine.old)).items) }
     ensures blamed { IsErrOf result PlayError.Write → RisesByOne (W.failures writer.old) (W.failures writer.new) }
-    ensures finished { IsErrOf result PlayError.OutOfMemory → Plays (M.setting machine.old) left.old left.new (M.state machine.old) (M.state machine.new) (W.contents writer.old) (W.contents writer.new) }
+    ensures finished { IsErrOf result PlayError.OutOfMemory → Plays (M.setting machine.old) status left.old left.new (M.state machine.old) (M.state machine.new) (W.contents writer.old) (W.contents writer.new) }
     ensures wanted { IsErrOf result PlayError.OutOfMemory → M.Wants (M.setting machine.old) (M.state machine.new) }
-    ensures in_part { IsErrOf result PlayError.Write → PlaysInPart (M.setting machine.old) left.old (M.state machine.old) (M.state machine.new) (W.contents writer.old) (W.contents writer.new) }
+    ensures in_part { IsErrOf result PlayError.Write → PlaysInPart (M.setting machine.old) status left.old (M.state machine.old) (M.state machine.new) (W.contents writer.old) (W.contents writer.new) }
 {
     let mut steps = TURN.min(*left);
     let rest = *left - steps;
     items.clear();
     let ran = machine.run_down(&mut steps, items);
     *left = rest + steps;
-    write_items(writer, items).map_err(|_| PlayError::Write)?;
+    write_items(writer, items, status).map_err(|_| PlayError::Write)?;
     match ran {
         Ok(stop) => Ok(standstill(stop, *left)),
         Err(_) => Err(PlayError::OutOfMemory),

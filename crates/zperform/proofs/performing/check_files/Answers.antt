@@ -5,11 +5,11 @@ use Rattle.zperform.proofs.SessionLemmas.{said, said_reads, unblamed, unchecked}
 use Rattle.zperform.proofs.performing.check_files.Goals as goal
 
 pub returns-in-Err-clause-comes : goal.returns-in-Err-clause-comes
-returns-in-Err-clause-comes g c = unchecked _ _ 0 _ c.in-Err.problem c.in-Err.ensures.refused
+returns-in-Err-clause-comes g c = unchecked _ _ _ c.in-Err.problem c.in-Err.ensures.refused
 
 pub returns-in-Err-clause-blamed : goal.returns-in-Err-clause-blamed
 returns-in-Err-clause-blamed g c = λ e.
-    absurd (unblamed _ _ 0 (g.W.Sink.contents c.args.writer.now) c.in-Err.problem c.in-Err.ensures.refused (let is : c.in-Err.problem ≡ Failed Write = cc in is))
+    absurd (unblamed _ _ (g.W.Sink.contents c.args.writer.now) c.in-Err.problem c.in-Err.ensures.refused (let is : c.in-Err.problem ≡ Failed Write = cc in is))
 
 pub returns-clause-comes : goal.returns-clause-comes
 returns-clause-comes g c =
