@@ -9,7 +9,7 @@ use zstate::Stop;
 pub struct Options {
     /// The most steps that are made.
     pub budget: u32,
-    /// Whether status lines are written too. No opcode of this build gives one.
+    /// Whether status lines are written too.
     pub status: bool,
 }
 
