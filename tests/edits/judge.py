@@ -135,12 +135,18 @@ class Edit:
         self.number = 0
         # The arm of its function's longest match that it stands in, with the match's other ones left out where it is planted.
         self.arm = None
+        # Whether searches have half of their counts where it is planted.
+        self.is_halved = False
 
     def is_within_functions(self):
         return None not in self.places
 
     def planted_at(self):
         return {twin(place, self.number) for place in self.places}
+
+    def has_original(self):
+        """Whether its function stands unedited beside it, and has to be proved for it to count."""
+        return self.arm is not None or self.is_halved
 
 
 # The words that begin the lines of an edit.
@@ -241,8 +247,8 @@ def rename(path, old, new):
         file.write(re.sub(rf"\.proofs\.{re.escape(old)}\b", f".proofs.{new}", text))
 
 
-# The crates whose functions are proved with half the counts of the prover's searches too, but for these functions, as --harmless shows. (Those of zref
-# haven't been tried: what they stand on was being changed.)
+# The crates whose functions mostly are proved with half the counts of the prover's searches too. The functions that are named aren't, so that their
+# edits needn't be tried with half.
 HALVED = {
     "zarray": (),
     "zcert": (),
@@ -283,14 +289,14 @@ HALVED = {
 
 
 def needs_all(crate, places):
-    """Whether a search has all its counts where one of these functions is planted. Else it has half of them: a wrong function has no proof however
-    far it is sought, and it counts only if the right one has one in half of the counts too."""
+    """Whether a search has all its counts where one of these functions is edited. Else it is tried with half of them: a wrong function has no proof
+    however far it is sought, and it counts only if the right one, which stands beside it, has one in half of the counts too."""
     return crate.name not in HALVED or any(TWIN.sub("", place) in HALVED[crate.name] for place in places)
 
 
-def check(crate, texts, only, kept):
+def check(crate, texts, only, kept, is_halved=False):
     """What the prover says of these functions, and where they stand, in a copy of the crate with these texts in place of its own and all
-    other functions emptied."""
+    other functions emptied; with half the counts of a search, where that is asked for."""
     with tempfile.TemporaryDirectory(prefix="judge-edit-") as room:
         for part in RT.rtlib.PARTS:
             if os.path.isdir(f"{crate.folder}/{part}"):
@@ -301,7 +307,7 @@ def check(crate, texts, only, kept):
         prove_twins(room)
         emptied(crate, room, only)
         spans = spans_of(room, only)
-        flags = ["--jobs", "1", *([] if needs_all(crate, only) else ["--margin"]), "--allow-holes", "--progress"]
+        flags = ["--jobs", "1", *(["--margin"] if is_halved else []), "--allow-holes", "--progress"]
         flags += (word for path in sorted(only) for word in ("--only", path))
         words = [RT.rtlib.RATTLE, "check", *crate.words(flags, keeps=False), *(["--incremental", kept] if kept else [])]
         return run(crate, [*RT.rtlib.guarded(), *words], room), spans
@@ -443,38 +449,48 @@ def is_as_it_was(place, said):
 
 
 def refused_together(crate, edits, kept):
-    """Of the edits that are planted together, those that are refused by a line of their own; where arms are left out, only if what is left
-    is proved without the edit. None where nothing was judged, as where one doesn't compile."""
+    """Of the edits that are planted together, those that are refused by a line of their own; where arms are left out, or searches have half of
+    their counts, only if the function is proved so without the edit. None where nothing was judged, as where one doesn't compile."""
     places = {place for edit in edits for place in edit.planted_at()}
-    shorter = {place for edit in edits if edit.arm is not None for place in edit.places}
-    said, spans = check(crate, planted(crate, edits), places | shorter, kept)
+    originals = {place for edit in edits if edit.has_original() for place in edit.places}
+    said, spans = check(crate, planted(crate, edits), places | originals, kept, all(edit.is_halved for edit in edits))
     if not re.search(r"(?m)^only=", said) or RT.rtlib.STALE.search(said):
         return None
-    sound = [edit for edit in edits if all(is_as_it_was(place, said) for place in edit.places & shorter)]
+    sound = [edit for edit in edits if all(is_as_it_was(place, said) for place in edit.places & originals)]
     return {edit.name for edit in sound if any(is_refused_here(place, said, spans) for place in edit.planted_at())}
+
+
+def halve(crate, edits, bound):
+    """Has searches have half of their counts for the edits beside which their function can stand unedited, with no arm left out but theirs."""
+    shortened = {place for edit in edits if edit.arm is not None for place in edit.places}
+    for edit in edits:
+        has_twin = len(edit.places) == 1 and not edit.places & bound
+        edit.is_halved = has_twin and not needs_all(crate, edit.places) and (edit.arm is not None or not edit.places & shortened)
 
 
 def in_rounds(crate, edits, functions, kept):
     """Plants edits together, one in each function and the further ones in twins of it; where it can't have one, as a method of a trait,
-    they wait for a later round. What isn't refused with arms left out is planted in the whole function. Answers which are refused, and
-    which are left to be tried over the whole crate."""
+    they wait for a later round. What isn't refused with half the counts of a search is planted with all, and what isn't refused then with arms
+    left out is planted in the whole function. Answers which are refused, and which are left to be tried over the whole crate."""
     bound = {it.path for found in functions.values() for it in found if it.is_single}
+    halve(crate, edits, bound)
     refused, alone, left = [], [], edits
     while left:
-        chosen, taken = [], {place: 1 for edit in left if edit.arm is not None for place in edit.places}
-        shorter = {*taken}
-        for edit in (it for it in left if needs_all(crate, it.places) == needs_all(crate, left[0].places)):
+        alike = [edit for edit in left if edit.is_halved == left[0].is_halved]
+        chosen, taken = [], {place: 1 for edit in alike if edit.has_original() for place in edit.places}
+        for edit in alike:
             is_twin = len(edit.places) == 1 and not edit.places & bound
             if is_twin or not edit.places & taken.keys():
                 edit.number = max(taken.get(place, 0) for place in edit.places)
                 chosen.append(edit)
                 taken.update((place, edit.number + 1) for place in edit.places)
         well = refused_together(crate, chosen, kept)
-        again = [edit for edit in chosen if edit.arm is not None and edit.name not in (well or ())]
+        again = [edit for edit in chosen if edit.has_original() and edit.name not in (well or ())]
         if well is None and not again:
             well = {edit.name for edit in chosen if refused_together(crate, [edit], kept)}
         for edit in again:
-            edit.arm = None
+            edit.arm = edit.arm if edit.is_halved else None
+            edit.is_halved = False
         if well is None:
             continue
         refused += [edit for edit in chosen if edit.name in well]
@@ -533,7 +549,7 @@ def judge_harmless(crate, edits, functions, texts):
     places = {place for edit in edits for place in edit.places if place}
     places |= {place for edit in edits if not edit.is_within_functions() for place in users_of(edit, functions, texts)}
     halves = [{it for it in places if needs_all(crate, [it]) == whole} for whole in (False, True)]
-    said = "".join(check(crate, {}, only, None)[0] for only in halves if only)
+    said = "".join(check(crate, {}, only, None, is_halved)[0] for only, is_halved in zip(halves, (True, False)) if only)
     shorter = [edit for edit in edits if edit.arm is not None]
     for number, edit in enumerate(shorter):
         edit.pairs, edit.number = [(source, old, old) for source, old, _ in edit.pairs], number + 1
