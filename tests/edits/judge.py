@@ -241,17 +241,20 @@ def rename(path, old, new):
         file.write(re.sub(rf"\.proofs\.{re.escape(old)}\b", f".proofs.{new}", text))
 
 
-# The crates whose functions are proved with half the counts of the prover's searches too, but for these functions, as --harmless shows. (Those of zref
-# haven't been tried: what they stand on was being changed.)
+# The crates whose functions are proved with half the counts of the prover's searches too, but for these functions, as --harmless shows. (Those of zref,
+# and `play` of zboard, haven't been tried: what they stand on was being changed.)
 HALVED = {
     "zarray": (),
+    "zboard": ("running::play", "table::target_of"),
     "zcert": (),
     "zcode": ("Opcode::operand_bounds", "Opcode::stores"),
+    "zdomain": ("IntervalDomain::is_within", "arithmetic::disjunctions", "arithmetic::products"),
     "zfault": (),
     "zframe": (),
     "zlist": ("leading::aside_place",),
     "zobj": (),
     "zpairs": ("blocks::merged_in",),
+    "zplace": (),
     "zref": (
         "CheckedMachine::awaits",
         "act::print_and_act",
