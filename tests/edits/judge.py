@@ -251,13 +251,16 @@ def rename(path, old, new):
 # edits needn't be tried with half.
 HALVED = {
     "zarray": (),
+    "zboard": ("running::play", "table::target_of"),
     "zcert": (),
     "zcode": ("Opcode::operand_bounds", "Opcode::stores"),
+    "zdomain": ("IntervalDomain::is_within", "arithmetic::disjunctions", "arithmetic::products"),
     "zfault": (),
     "zframe": (),
     "zlist": ("leading::aside_place",),
     "zobj": (),
     "zpairs": ("blocks::merged_in",),
+    "zplace": (),
     "zref": (
         "CheckedMachine::awaits",
         "act::print_and_act",
