@@ -247,19 +247,12 @@ def rename(path, old, new):
         file.write(re.sub(rf"\.proofs\.{re.escape(old)}\b", f".proofs.{new}", text))
 
 
-# The crates whose functions mostly are proved with half the counts of the prover's searches too. The functions that are named aren't, so that their
-# edits needn't be tried with half.
+# The crates whose edits mostly leave the prover searching, and whose functions mostly are proved with half the counts of its searches too. The
+# functions that are named aren't, so that their edits needn't be tried with half.
 HALVED = {
-    "zarray": (),
     "zboard": ("running::play", "table::target_of"),
     "zcert": (),
-    "zcode": ("Opcode::operand_bounds", "Opcode::stores"),
-    "zdomain": ("IntervalDomain::is_within", "arithmetic::disjunctions", "arithmetic::products"),
-    "zfault": (),
-    "zframe": (),
-    "zlist": ("leading::aside_place",),
     "zobj": (),
-    "zpairs": ("blocks::merged_in",),
     "zplace": (),
     "zref": (
         "CheckedMachine::awaits",
@@ -285,9 +278,6 @@ HALVED = {
         "step::step_rest",
         "step::step_set_element",
     ),
-    "zstory": (),
-    "ztext": (),
-    "zword": (),
 }
 
 
