@@ -1,5 +1,5 @@
 -- What no play changes is printed in every state: texts, and the name on the status line.
-use Rattle.std.proofs.Common.{◌≡◌, ◌⊎◌, inl, inr, ℕ, ◌≤◌, Bool, true, false, List, [], Option, Some, None, Result, Ok, Err, refl, ap, subst, sym, if◌then◌else◌}
+use Rattle.std.proofs.Common.{◌≡◌, ◌⊎◌, inl, inr, ℕ, ◌≤◌, Bool, true, false, List, [], Option, Some, None, Ok, refl, if◌then◌else◌}
 use Rattle.std.specs.Prelude.{IsOk, MatchOption, slice_get, ◌==◌}
 use Rattle.zfault.specs.declared.item.Status.{Status as StatusLine}
 use Rattle.ztext.specs.Words.{text_at}
@@ -12,8 +12,7 @@ use Rattle.zobj.specs.Names.{short_name}
 use Rattle.zdomain.specs.Domain.{SetOperations, AreSound, In}
 use Rattle.zstory.specs.LoadedStory.{LoadedStory}
 use Rattle.zstate.specs.InTurn.{◌>>=◌}
-use Rattle.zstate.specs.declared.halt.Halt.{Halt}
-use Rattle.zstate.specs.Step.{Effect, global_word, line_of, naming, of_object, printing, showing, status_of}
+use Rattle.zstate.specs.Step.{global_word, line_of, naming, of_object, printing, showing, status_of}
 use Rattle.zruns.specs.Texts.{HasFixedText}
 use Rattle.zrule.specs.Claims.{Claims, frozen_in}
 use Rattle.zrule.specs.Rules.{HasLineObject, Supports}

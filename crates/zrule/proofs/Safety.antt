@@ -11,7 +11,6 @@ use Rattle.zword.specs.Question.{holds}
 use Rattle.zword.specs.Count.{counting as counts_by, counted}
 use Rattle.zword.specs.Addressing.{place_of as text_place}
 use Rattle.zstory.specs.Bytes.{byte_at}
-use Rattle.zstory.specs.LoadedStory.{static_base}
 use Rattle.zfault.specs.declared.fault.Fault.TheVariants.{UnlistedCall}
 use Rattle.zfault.specs.declared.item.Status.{Status as StatusLine}
 use Rattle.ztext.specs.declared.error.TextError.{TextError}
@@ -46,7 +45,7 @@ use Rattle.zstate.specs.declared.halt.Halt.{Halt}
 use Rattle.zstate.specs.declared.halt.Halt.TheVariants as halts
 use Rattle.zstate.specs.InTurn.{◌>>=◌}
 use Rattle.zstate.specs.State.{Frame, State, Setting, IsState, at_place, popped, with_stack, with_locals, with_memory, write_word, global, exists, put_named, put_in_place, read_in_place, has_head, fault}
-use Rattle.zstate.specs.Step.{Called, Move, on, back, into, calling, closing, called_at, call_of, unpacked, arguments, initial, behind_head, place_of, entered, Effect, Done, way, arg, asked_of, giving, assigning, testing, printing, jumping, following, marking, rearranging, rewriting, rewritten, answering, reading, filling, storing, naming, showing, status_of, is_data_writable, fetch, printed, print_at, effect_of, effect_if, has_caller, is_taken, turned, course, admits, pauses, assigned, changed, stored, left, moved, advance, act, step}
+use Rattle.zstate.specs.Step.{Called, Move, on, back, into, calling, closing, called_at, call_of, unpacked, arguments, initial, behind_head, place_of, entered, Effect, Done, way, arg, asked_of, giving, assigning, testing, printing, jumping, following, marking, rearranging, rewriting, rewritten, answering, reading, filling, storing, showing, is_data_writable, fetch, printed, print_at, effect_of, effect_if, has_caller, is_taken, turned, course, admits, pauses, assigned, changed, stored, left, moved, advance, act, step}
 use Rattle.zstate.proofs.Effects.{table_place}
 use Rattle.zstate.proofs.Keeps.{put_aside, changed_aside, step_keeps}
 use Rattle.zflow.specs.declared.parts.Lead.{Lead}

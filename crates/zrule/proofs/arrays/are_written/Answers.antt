@@ -1,4 +1,4 @@
-use Rattle.std.proofs.Common.{◌≡◌, ◌↔◌, IsTrue, subst, sym}
+use Rattle.std.proofs.Common.{◌↔◌, IsTrue, subst, sym}
 use Rattle.zpairs.specs.Frozen.{frozen_by}
 use Rattle.zflow.specs.declared.parts.Access.{Access}
 use Rattle.zrule.specs.Rules.{AreWritten}

@@ -1,4 +1,3 @@
-use Rattle.std.proofs.Common.{refl}
 use Rattle.zcert.specs.Listed.{seen}
 use Rattle.zrule.specs.Claims.{claims_of, entry_of, frozen_in}
 use Rattle.zrule.proofs.Asking.{same_asked, height_unknown, local_unknown, prints_told, text_fixed, called_asked, returned_asked, stored_asked, high_asked}
