@@ -1,6 +1,6 @@
-mod Order
+pub mod Order
 mod Found
 mod Runs
-mod Parts
+pub mod Parts
 mod Exact
 mod Worked
