@@ -77,6 +77,10 @@ pub enum Operation {
     LoadArray(Width),
     /// The element of the array at the first value whose index is the second is given the third.
     StoreArray(Width),
+    /// A random number from 1 to the value goes to the result variable, or the numbers come from elsewhere from here on.
+    Random,
+    /// A line of the player is stored in the buffer at the first value, and what is said of its words in that at the second.
+    ReadLine,
 }
 
 impl Opcode {
@@ -138,6 +142,8 @@ impl Opcode {
             Opcode::Loadb => Operation::LoadArray(Width::Byte),
             Opcode::Storew => Operation::StoreArray(Width::Word),
             Opcode::Storeb => Operation::StoreArray(Width::Byte),
+            Opcode::Random => Operation::Random,
+            Opcode::Sread => Operation::ReadLine,
             _ => return None,
         })
     }
