@@ -24,21 +24,22 @@ def shown(piece):
 
 
 class Program:
-    """A built program, run in a folder of its own with files of these names. A run that doesn't end within the time fails."""
+    """A built program, run in a folder of its own with files of these names, on what is typed. A run that doesn't end within the time
+    fails."""
 
     def __init__(self, path):
         self.path = os.path.realpath(path)
 
-    def run(self, words, files=None, stdout=subprocess.PIPE, environment=None, seconds=60):
+    def run(self, words, files=None, stdout=subprocess.PIPE, environment=None, seconds=60, typed=b""):
         with tempfile.TemporaryDirectory(prefix="zpc-") as room:
             for name, contents in (files or {}).items():
                 with open(os.path.join(room, name), "wb") as file:
                     file.write(contents)
-            return self.run_in(room, words, stdout, environment, seconds)
+            return self.run_in(room, words, stdout, environment, seconds, typed)
 
-    def run_in(self, folder, words, stdout=subprocess.PIPE, environment=None, seconds=60):
+    def run_in(self, folder, words, stdout=subprocess.PIPE, environment=None, seconds=60, typed=b""):
         done = subprocess.run(
-            [self.path, *words], cwd=folder, stdin=subprocess.DEVNULL, stdout=stdout, stderr=subprocess.PIPE,
+            [self.path, *words], cwd=folder, input=typed, stdout=stdout, stderr=subprocess.PIPE,
             env={**os.environ, **(environment or {})}, timeout=seconds,
         )
         return Answer(done.returncode, done.stdout or b"", done.stderr)

@@ -11,6 +11,7 @@ import sys
 
 from arrays import see_arrays
 from calls import see_calls
+from lines import see_lines
 from objects import see_objects
 from plays import see_plays
 from program import Answer, Count, Program
@@ -359,6 +360,7 @@ def main():
     see_properties(program, count)
     see_arrays(program, count)
     see_texts(program, count)
+    see_lines(program, count)
     see_streams(program, count)
     count.end()
 

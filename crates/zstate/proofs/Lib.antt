@@ -12,3 +12,4 @@ pub mod Steps
 mod Words
 mod Worked
 mod WorkedCall
+mod WorkedNeeds
