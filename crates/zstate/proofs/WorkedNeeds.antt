@@ -34,18 +34,22 @@ word w = by Words (Some (events.Random w))
 
 -- 6 with the words 0, 5, 6 and 65,535, and the greatest range there is
 drawn : (random_of 6 (word 0) ≡ record (giving 1) { uses = Some needs.Random }) × (random_of 6 (word 5) ≡ record (giving 6) { uses = Some needs.Random }) × (random_of 6 (word 6) ≡ record (giving 1) { uses = Some needs.Random }) × (random_of 6 (word 65535) ≡ record (giving 4) { uses = Some needs.Random }) × (random_of 32767 (word 65535) ≡ record (giving 2) { uses = Some needs.Random })
+unfolding by word
 drawn = (refl, refl, refl, refl, refl)
 
 -- no other event is a word
 wanted : (random_of 6 (by Words None) ≡ record (giving 0) { needs = Some needs.Random }) × (random_of 1 (by Words (Some (events.Line []))) ≡ record (giving 0) { needs = Some needs.Random })
+unfolding by
 wanted = (refl, refl)
 
 -- -3 counts to 3, -32,768 to 32,768, and 0 takes words again, whatever waits
 switched : (random_of 65533 (word 7) ≡ record (giving 0) { random = Some (Counting 3 1) }) × (random_of 32768 (by Words None) ≡ record (giving 0) { random = Some (Counting 32768 1) }) × (random_of 65535 (by (Counting 3 2) None) ≡ record (giving 0) { random = Some (Counting 1 1) }) × (random_of 0 (by (Counting 3 2) (Some (events.Random 7))) ≡ record (giving 0) { random = Some Words })
+unfolding by word
 switched = (refl, refl, refl, refl)
 
 -- the count of 3 gives 2, 3, 1 and 2 in a range of 3, and leaves the word that waits
 counted : (random_of 3 (by (Counting 3 1) None) ≡ record (giving 2) { random = Some (Counting 3 2) }) × (random_of 3 (by (Counting 3 2) None) ≡ record (giving 3) { random = Some (Counting 3 3) }) × (random_of 3 (by (Counting 3 3) (Some (events.Random 7))) ≡ record (giving 1) { random = Some (Counting 3 1) }) × (random_of 9 (by (Counting 1 1) None) ≡ record (giving 2) { random = Some (Counting 1 1) })
+unfolding by
 counted = (refl, refl, refl, refl)
 
 -- ---- a story that asks and draws: its first three globals at 64, a text buffer of 4 at 70, a parse buffer of one word at 75, a
