@@ -10,6 +10,7 @@ from program import Answer
 from properties import BYTE, bytes_at, files
 from samples import certificate, interval, word
 
+DATA = os.path.join(os.path.dirname(os.path.abspath(__file__)), "../../crates/zpc/data")
 FIRST = b"\x10"  # global 16
 TEXT, PARSE = 0x280, 0x290
 SIZES = [(TEXT, TEXT), (PARSE, PARSE)]  # what a certificate freezes, so that the sizes of both buffers are known
@@ -231,6 +232,23 @@ class Lines(Plays):
                     rest, _ = run.communicate(b"at\n", timeout=60)
                     self.count.is_answer(f"a prompt, {machine}", (prompt, rest, run.returncode), (b"y", b"y", 0))
 
+    def game(self):
+        """The game of crates/zpc/data, whose number is 1 more than what is left of the first word by 9: 1 with seed 1."""
+        given = {}
+        for name, path in [("story", "guess.z3"), ("certificate", "guess.cert")]:
+            with open(os.path.join(DATA, path), "rb") as file:
+                given[name] = file.read()
+        asks, found = b"Your guess? ", b"You found it. Guesses: "
+        begins, wrong = b"I am thinking of a number from 1 to 9.\n" + asks, b"A number from 1 to 9, or quit.\n"
+        status = lambda moves: b"[parlour | Score: 0 | Moves: %d]\n" % moves
+        accepted = self.program.run(["check", "story", "certificate"], given)
+        self.count.is_answer("the game is accepted", accepted, printed(b"accepted\n"))
+        self.plays("the game, won", given, b"5\nup\n1\n", printed(begins + b"It is less.\n" + asks + wrong + asks + found + b"3\n"))
+        self.plays("the game, given up", given, b"Quit!\nquit.\n", printed(begins + wrong + asks + b"It was 1.\n"))
+        self.plays("the game, left", given, b"5\n", Answer(0, begins + b"It is less.\n" + asks, b"end: no input\n"))
+        with_status = begins + status(0) + b"It is less.\n" + asks + status(1) + found + b"2\n"
+        self.plays("the game, with status lines", given, b"2\n1\n", printed(with_status), ["--status"])
+
     def alone(self):
         """What no table has."""
         at_stack = [(b"\xe8" + operands(PARSE), slots()), (b"\xe8" + operands(TEXT), slots(PARSE)), (sread(b"\0", b"\0"), slots(PARSE, TEXT))]
@@ -253,4 +271,5 @@ def see_lines(program, count):
     lines.several()
     lines.budgets()
     lines.prompts()
+    lines.game()
     lines.alone()
