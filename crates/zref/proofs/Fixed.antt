@@ -32,7 +32,7 @@ module _ (story : LoadedStory) (dynamic : globals story + 480 ≤ static_base st
       by_kind true e = refl
       by_kind false e = let high = ltb-false v 16 e in word_fixed s.memory (global story v) x (omega (arith, high, low, dynamic))
 
-  put_fixed : (v x : ℕ) (s : State) → v < 256 → fixed (put story v x s) ≡ fixed s
+  pub put_fixed : (v x : ℕ) (s : State) → v < 256 → fixed (put story v x s) ≡ fixed s
   unfolding put
   put_fixed v x s low = by_kind (v == 0)
     where

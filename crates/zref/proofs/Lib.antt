@@ -1,8 +1,9 @@
 mod Calling
 mod Doing
+mod Drawing
 mod Fixed
+mod Hearing
 mod Keeping
-mod Needless
 pub mod Running
 mod Plain
 mod Rewriting
@@ -10,3 +11,4 @@ mod Short
 mod Showing
 mod Stepping
 mod Worked
+mod Writable

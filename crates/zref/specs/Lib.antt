@@ -1,4 +1,6 @@
 pub mod Changes
+pub mod Lines
 pub mod Machine
 pub mod Plan
+pub mod Random
 pub mod Row

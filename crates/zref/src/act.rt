@@ -73,7 +73,7 @@ pub(crate) fn act_on(
 }
 
 /// No global lies in static memory.
-fn globals_are_dynamic(story: &Story)
+pub(crate) fn globals_are_dynamic(story: &Story)
     ensures { globals story.now + 480 ≤ static_base story.now }
 {
     story.globals();

@@ -41,7 +41,7 @@ pub(crate) fn element_to_set(
     ensures within { IfOk result (λ p. p + span width ≤ length story.now.memory) }
 {
     let address = width.place(array, index);
-    if !are_writable(address, width.span(), story) {
+    if !are_writable(usize::from(address), u16::from(width.span()), story) {
         return Err(Halt::Fault(Fault::WriteOutside));
     }
     Ok(address)

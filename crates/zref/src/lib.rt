@@ -3,13 +3,16 @@
 
 mod act;
 mod arrays;
+mod awaiting;
 mod cache;
 mod changes;
 mod effect;
 mod families;
+mod lines;
 mod machine;
 mod objects;
 mod plan;
+mod random;
 mod row;
 mod scope;
 mod settling;

@@ -12,17 +12,16 @@ const HEADER_LENGTH: usize = 64;
 /// Where in the header Flags 2 stand, the two bytes of it that a story may write (Z 11.1).
 const FLAGS_2: usize = 16;
 
-/// Whether one or two bytes from an address on may be written: in dynamic memory without the header, but for Flags 2 (Z 1.1.1.1).
+/// Whether so many bytes from a place on may be written: in dynamic memory without the header, but for Flags 2 (Z 1.1.1.1).
 #[inline(always)]
-#[tactic(auto, using(crate::proofs::Rewriting::header_writable, crate::proofs::Rewriting::behind_writable))]
-pub(crate) fn are_writable(address: u16, count: u8, story: &Story) -> bool
+#[tactic(auto, using(crate::proofs::Writable::header_writable, crate::proofs::Writable::behind_writable))]
+pub(crate) fn are_writable(place: usize, count: u16, story: &Story) -> bool
+    requires near { place ≤ 65536 }
     requires some { 1 ≤ count }
-    requires few { count ≤ 2 }
-    ensures value { result ≡ are_writable story.now address count }
-    ensures below { IsTrue result → address + count ≤ static_base story.now }
-    ensures within { IsTrue result → address + count ≤ length story.now.memory }
+    ensures value { result ≡ are_writable story.now place count }
+    ensures below { IsTrue result → place + count ≤ static_base story.now }
+    ensures within { IsTrue result → place + count ≤ length story.now.memory }
 {
-    let place = usize::from(address);
     let end = place + usize::from(count);
     let base = story.static_base();
     if place < HEADER_LENGTH {

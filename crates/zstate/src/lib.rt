@@ -11,6 +11,7 @@ mod laws;
 mod mode;
 mod objects;
 mod state;
+mod waiting;
 
 pub use calling::{has_head, local_at};
 pub use frame::Frame;

@@ -26,9 +26,9 @@ pub struct State {
     pub(crate) memory: Vec<u8>,
     frames: Frames,
     place: i32,
-    random: RandomMode,
-    prompted: bool,
-    waiting: Option<Event>,
+    pub(crate) random: RandomMode,
+    pub(crate) prompted: bool,
+    pub(crate) waiting: Option<Event>,
 }
 
 impl Model for State {

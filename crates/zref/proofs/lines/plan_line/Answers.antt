@@ -1,0 +1,15 @@
+use Rattle.zref.proofs.Hearing.{line_planned, line_unplanned, line_unread}
+use Rattle.zref.proofs.lines.plan_line.Goals as goal
+
+pub returns-in-Err-clause-value : goal.returns-in-Err-clause-value
+returns-in-Err-clause-value c = λ scope. line_unread c.args.story.now scope c.args.row.now c.args.state.now c.in-Err.halt (rw c.inputs.ensures at c.in-Err.ensures.value)
+
+pub returns-in-Err-hearing_of-clause-value : goal.returns-in-Err-hearing_of-clause-value
+returns-in-Err-hearing_of-clause-value c = λ scope.
+    line_unplanned c.args.story.now scope c.args.row.now c.args.state.now c.in-Ok.values.words.items c.in-Ok.values.popped c.requires.operation (rw c.inputs.ensures at c.in-Ok.ensures.value)
+    c.in-Err-hearing_of.error (rw (c.arg.ensures, c.words.ensures, c.arg-2.ensures, c.words-2.ensures) at c.in-Err-hearing_of.ensures.value)
+
+pub returns-clause-value : goal.returns-clause-value
+returns-clause-value c = λ scope. rw c.popped.ensures
+    (line_planned c.args.story.now scope c.args.row.now c.args.state.now c.in-Ok.values.words.items c.in-Ok.values.popped c.requires.operation (rw c.inputs.ensures at c.in-Ok.ensures.value)
+    c.in-Ok-hearing_of.hearing (rw (c.arg.ensures, c.words.ensures, c.arg-2.ensures, c.words-2.ensures) at c.in-Ok-hearing_of.ensures.value))

@@ -1,0 +1,80 @@
+//! What a step waits for that can't be made for want of an event.
+
+ghost use Rattle.std.specs.Prelude.{◌≡◌, ◌^◌, ◌<◌, Result, Err, IfErr, IfOk, length};
+ghost use Rattle.zobj.specs.Entries.{HasTable};
+ghost use Rattle.zstory.specs.Header as header;
+ghost use Rattle.zstory.specs.LoadedStory.{object_table};
+ghost use Rattle.zstate.specs.declared.halt.Halt.{Halt};
+ghost use Rattle.zstate.specs.Run.{need_in};
+ghost use Rattle.zstate.specs.State as spec;
+ghost use Rattle.zstate.specs.Step.{Done, fetch, step};
+ghost use Rattle.zref.specs.Machine.{Judges, scope_of, setting_of};
+ghost use Rattle.zref.specs.Row.{IsAsLoaded, IsFetched};
+
+use crate::cache::row_at;
+use crate::plan::StepError;
+use crate::row::Row;
+use crate::scope::Scope;
+use crate::step::halt_at;
+use std::alloc::Global;
+use zfault::{Fault, Need};
+use zstate::{Halt, State};
+use zstory::Story;
+
+/// What the next step needs, if that keeps it from being made.
+pub(crate) fn need_of(alloc: Global, story: &Story, scope: &Scope, state: &State) -> Option<Need>
+    requires memory { length state.now.memory ≡ length story.now.memory }
+    requires objects { HasTable state.now.memory story.now.objects }
+    requires tables { header.object_table state.now.memory ≡ object_table story.now }
+    requires reached { state.now.frame.return_place < 2 ^ 24 }
+    requires loaded { IsAsLoaded story.now state.now.memory }
+    ensures { result ≡ need_in (step (setting_of story.now scope.now) state.now) }
+{
+    let mut text = Vec::new(alloc);
+    need_in(halt_next(story, scope, state, &mut text))
+}
+
+/// The need in what keeps a step from being made.
+fn need_in(judged: Result<(), StepError>) -> Option<Need>
+    ensures { (made : Result Done Halt) (s : spec.State) → Judges made judged s → result ≡ need_in made }
+{
+    match judged {
+        Err(StepError::Halt(Halt::Need(need))) => Some(need),
+        _ => None,
+    }
+}
+
+/// What keeps the next step from being made, as `halt_of` says it, with no row kept.
+fn halt_next(
+    story: &Story,
+    scope: &Scope,
+    state: &State,
+    text: &mut Vec<u8>,
+) -> Result<(), StepError>
+    requires memory { length state.now.memory ≡ length story.now.memory }
+    requires objects { HasTable state.now.memory story.now.objects }
+    requires tables { header.object_table state.now.memory ≡ object_table story.now }
+    requires reached { state.now.frame.return_place < 2 ^ 24 }
+    requires loaded { IsAsLoaded story.now state.now.memory }
+    ensures { Judges (step (setting_of story.now scope.now) state.now) result state.now }
+{
+    match row_of_next(story, scope, state) {
+        Ok(row) => halt_at(story, scope, &row, state, text),
+        Err(halt) => Err(StepError::Halt(halt)),
+    }
+}
+
+/// The row of the instruction at the place.
+#[tactic(auto, unfolding(zstate::specs::Step::fetch))]
+fn row_of_next(story: &Story, scope: &Scope, state: &State) -> Result<Row, Halt>
+    requires memory { length state.now.memory ≡ length story.now.memory }
+    requires loaded { IsAsLoaded story.now state.now.memory }
+    ensures found { IfOk result (IsFetched (scope_of story.now scope.now) state.now.place state.now.memory) }
+    ensures halted { IfErr result (λ h. fetch (scope_of story.now scope.now) state.now.place state.now.memory ≡ Err h) }
+{
+    let place = state.place();
+    if place < 0 {
+        return Err(Halt::Fault(Fault::UnlistedInstruction));
+    }
+    row_at(story, scope, state, place as usize)
+}
