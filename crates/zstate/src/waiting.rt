@@ -49,7 +49,7 @@ impl State {
     pub fn use_line(&mut self)
         ensures { self.new ≡ record self.old { waiting = None; prompted = false } }
     {
-        self.waiting = None;
+        self.use_word();
         self.prompted = false;
     }
 
