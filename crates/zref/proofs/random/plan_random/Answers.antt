@@ -1,11 +1,13 @@
 use Rattle.std.proofs.lemmas.Result.{err_from_is_err_and}
-use Rattle.zref.proofs.Drawing.{draw_halted, draw_planned, draw_unread}
+use Rattle.zref.specs.Row.{within}
+use Rattle.zref.proofs.Drawing.{draw_halted, draw_planned}
+use Rattle.zref.proofs.Plain.{plan_unread}
 use Rattle.zref.proofs.random.plan_random.Goals as goal
 
 pub returns-in_err-values-clause-value : goal.returns-in_err-values-clause-value
 returns-in_err-values-clause-value c =
     let p = err_from_is_err_and c.from_residual.result c.from_residual.ensures.1 in
-    λ scope. rw (p.1, p.2) (draw_unread c.args.story.now scope c.args.row.now c.args.state.now _ (rw c.inputs.ensures at c.in_err-values.ensures.value))
+    λ scope. rw (p.1, p.2) (plan_unread (within c.args.story.now scope) c.args.row.now c.args.state.now _ (rw c.inputs.ensures at c.in_err-values.ensures.value))
 
 pub returns-in_err-draw-clause-value : goal.returns-in_err-draw-clause-value
 returns-in_err-draw-clause-value c =

@@ -1,8 +1,10 @@
-use Rattle.zref.proofs.Showing.{line_planned, line_unplanned, line_unread}
+use Rattle.zref.specs.Row.{within}
+use Rattle.zref.proofs.Plain.{plan_unread}
+use Rattle.zref.proofs.Showing.{line_planned, line_unplanned}
 use Rattle.zref.proofs.status.plan_status.Goals as goal
 
 pub returns-in-Err-clause-value : goal.returns-in-Err-clause-value
-returns-in-Err-clause-value c = λ scope. line_unread c.args.story.now scope c.args.row.now c.args.state.now c.in-Err.halt (rw c.inputs.ensures at c.in-Err.ensures.value)
+returns-in-Err-clause-value c = λ scope. plan_unread (within c.args.story.now scope) c.args.row.now c.args.state.now c.in-Err.halt (rw c.inputs.ensures at c.in-Err.ensures.value)
 
 pub returns-in-Err-status_of-clause-value : goal.returns-in-Err-status_of-clause-value
 returns-in-Err-status_of-clause-value c = λ scope.
