@@ -16,7 +16,7 @@ use zstate::{Halt, State};
 /// How many frames may stand above the first (own).
 const LIMIT: usize = 1024;
 
-/// Judges an effect that is no call's, no change's and no status line's, where so many words were taken off the stack before, and says where the step leads.
+/// Judges a plain effect, where so many words were taken off the stack before, and says where the step leads.
 #[inline(always)]
 pub(crate) fn settle(
     row: &Row,
