@@ -1,6 +1,6 @@
 //! What comes to a game from outside: random numbers and lines of the player.
 
-ghost use Rattle.std.specs.Prelude.{◌≡◌};
+ghost use Rattle.std.specs.Prelude.{◌≡◌, ◌<◌, ◌≤◌};
 ghost use Rattle.zboard.specs.Deed.{after_draw, lacks_line, lacks_word, number_drawn};
 
 use zfault::Event;
@@ -23,9 +23,10 @@ impl Outside {
     pub(crate) fn lacks_word(&self, range: u16) -> bool
         ensures { result ≡ lacks_word range self.now }
     {
-        (1..32768).contains(&range)
-            && self.random == RandomMode::Words
-            && !matches!(self.waiting, Some(Event::Random(_)))
+        match (self.random, &self.waiting) {
+            (RandomMode::Words, Some(Event::Random(_))) | (RandomMode::Counting { .. }, _) => false,
+            (RandomMode::Words, _) => 0 < range && range < 32768,
+        }
     }
 
     /// Draws a number up to another, or, with 0 or a negative number, changes where they come from and answers 0; so it does, and
