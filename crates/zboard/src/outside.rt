@@ -1,7 +1,7 @@
 //! What comes to a game from outside: random numbers and lines of the player.
 
 ghost use Rattle.std.specs.Prelude.{◌≡◌, ◌<◌, ◌≤◌};
-ghost use Rattle.zboard.specs.Deed.{after_draw, lacks_line, lacks_word, number_drawn};
+ghost use Rattle.zboard.specs.Outside.{after_draw, lacks_line, lacks_word, number_drawn};
 
 use zfault::Event;
 use zstate::RandomMode;
