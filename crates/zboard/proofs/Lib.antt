@@ -9,6 +9,7 @@ pub mod StatusThere
 pub mod StepLemmas
 pub mod Reading
 pub mod Changes
+pub mod FromOutside
 pub mod Onward
 pub mod Families
 pub mod Full

@@ -1,6 +1,7 @@
 pub mod Index
 pub mod Position
 pub mod Head
+pub mod Outside
 pub mod Deed
 pub mod View
 pub mod Table

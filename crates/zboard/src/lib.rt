@@ -7,7 +7,9 @@ mod calling;
 mod entering;
 mod giving;
 mod in_place;
+mod lines;
 mod objects;
+mod outside;
 mod place;
 mod properties;
 mod quick;
@@ -20,6 +22,7 @@ mod turning;
 
 pub use board::Board;
 pub use calling::callee_of;
+pub use outside::Outside;
 pub use row::{Action, Asking, Callee, Calling, Entering, Global, Row, Saying, Slot};
-pub use running::{Played, play};
+pub use running::{Played, awaits, play};
 pub use table::row_of;

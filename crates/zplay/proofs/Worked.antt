@@ -41,7 +41,7 @@ firsts : (first_at interval_operations a 64 ≡ Some 5) × (first_at interval_op
 unfolding a certificate either story memory operation_of playable instruction_by head_at short_head played_opcode checked_head operand_at operands_at store_if branch_if text_if
 firsts = (refl, refl, refl, refl)
 
--- it is played as it opens, where only what is listed is played, with the usual limit of frames
-games : ((game_of interval_operations a).other ≡ opening story) × ((game_of interval_operations a).setting.limit ≡ 1024) × ((game_of interval_operations a).setting.scope.instructions 70 ≡ false) × ((game_of interval_operations a).first 64 ≡ first_at interval_operations a 64) × (stands_in interval_operations a None ≡ opening story)
+-- only what is listed is played, with the usual limit of frames; where there is no board, it stands as it opens
+games : ((game_of interval_operations a).setting.limit ≡ 1024) × ((game_of interval_operations a).setting.scope.instructions 70 ≡ false) × ((game_of interval_operations a).first 64 ≡ first_at interval_operations a 64) × (stands_in interval_operations a None ≡ opening story)
 unfolding a
-games = (refl, refl, refl, refl, refl)
+games = (refl, refl, refl, refl)

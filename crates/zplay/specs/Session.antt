@@ -56,9 +56,8 @@ module _ {V : Type 0} (o : SetOperations V) where
   abbrev pub first_at : AcceptanceOver V → ℕ → Option ℕ
   first_at a p = first_there a (listed_at a.certificate.instructions p) (instruction_at (drop p a.story.memory))
 
-  -- what no board changes is as it opens: no opcode of this build waits for an event, or draws
   abbrev pub game_of : AcceptanceOver V → Game
-  game_of a = record { setting = setting_of a; listing = a.listing; first = first_at a; other = opening a.story }
+  game_of a = record { setting = setting_of a; listing = a.listing; first = first_at a }
 
   -- the state in which a session stands, by where its board does
   abbrev pub stands_in : AcceptanceOver V → Option Board → State

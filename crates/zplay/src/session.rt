@@ -17,16 +17,24 @@ ghost use Rattle.zplay.specs.Session.{game_of, setting, IsInPlay};
 use crate::rows::{callees_of, rows_of};
 use std::alloc::{AllocError, Global};
 use std::marker::Model;
-use zboard::{Board, Callee, Row, play};
+use zboard::{Board, Callee, Outside, Row, awaits, play};
 use zcert::Spelled;
 use zcheck::Accepted;
 use zdomain::Interval;
 use zfault::{Event, Items, Need, Pause};
 use zframe::Frames;
 use zrule::each_step_is_safe;
+use zstate::RandomMode;
 
 /// How many frames may stand above the first (own).
 const FRAME_LIMIT: u16 = 1024;
+
+/// Nothing came from outside yet.
+const OPENING: Outside = Outside {
+    random: RandomMode::Words,
+    prompted: false,
+    waiting: None,
+};
 
 /// A play of an accepted story. It makes no test for a fault, since none can come, and moves as the checked machine whose
 /// scope is the listing.
@@ -76,6 +84,7 @@ impl<'a, V: Spelled> Session<'a, V> {
             frames: Frames::new(alloc, FRAME_LIMIT)?,
             memory: story.memory().to_vec(alloc)?,
             at: index,
+            outside: Box::new(alloc, OPENING)?,
         };
         Ok(Session {
             accepted,
@@ -112,21 +121,30 @@ impl<'a, V: Spelled> Session<'a, V> {
         self.board().memory.as_slice()
     }
 
-    /// What the instruction at the place waits for, if nothing was given for it yet. No opcode of this build waits.
+    /// What the instruction at the place waits for, if nothing was given for it yet.
     pub fn awaits(&self) -> Option<Need>
         ensures { result ≡ awaited (setting self.now) self.now.state }
     {
-        let _board = self.board();
-        None // for no event
+        let Some(board) = &self.board else {
+            unreachable!()
+        };
+        awaits(
+            board,
+            self.rows.as_slice(),
+            self.accepted.listing(),
+            self.callees.as_slice(),
+        )
     }
 
-    /// Hands in an event of the kind that is awaited. None is in this build.
+    /// Hands in an event of the kind that is awaited.
     pub fn give(&mut self, event: Event)
         requires { (need : Need) × (awaited (setting self.old) self.old.state ≡ Some need) × IsTrue (answers need event) }
         ensures { self.new ≡ record self.old { state = give event self.old.state } }
     {
-        let (_event, _board) = (event, self.board());
-        unreachable!()
+        let Some(board) = &mut self.board else {
+            unreachable!()
+        };
+        board.outside.waiting = Some(event);
     }
 
     /// Makes at most `budget` steps, with no event but one that was given, and appends what they give out to `items`.
@@ -159,6 +177,7 @@ impl<'a, V: Spelled> Session<'a, V> {
         };
         let played = play(
             board,
+            self.accepted.story(),
             self.rows.as_slice(),
             self.accepted.listing(),
             self.callees.as_slice(),

@@ -14,7 +14,7 @@ invariant_of-self g c =
     let same : c.as_slice.result.now ≡ c.self.inside.rows.items = c.as_slice.ensures.value in
     let called : map head_of c.as_slice-2.result.now ≡ map head_of c.self.inside.callees.items = ap (map head_of) c.as_slice-2.ensures.value in
     let playable : IsPlayable (game_of g.V.Domain.operations a) c.as_slice.result.now (map head_of c.as_slice-2.result.now) (position_of c.in-Some.board) = rw (same, called) play.playable in
-    let f : SoFar (game_of g.V.Domain.operations a) c.self.inside.rows.items (map head_of c.self.inside.callees.items) c.args.left.now c.play-played.result.left (position_of c.in-Some.board) (position_of c.play-played.result.board) c.args.items.now.items c.play-played.new.items.items = rw (same, called) at (c.play-played.ensures.run (game_of g.V.Domain.operations a) playable c.listing.ensures.value) in
+    let f : SoFar (game_of g.V.Domain.operations a) c.self.inside.rows.items (map head_of c.self.inside.callees.items) c.args.left.now c.play-played.result.left (position_of c.in-Some.board) (position_of c.play-played.result.board) c.args.items.now.items c.play-played.new.items.items = rw (same, called) at (c.play-played.ensures.run (game_of g.V.Domain.operations a) playable (c.story.ensures.value, c.listing.ensures.value)) in
     in_play_after g.V.Domain.operations g.met.V.Domain.sound g.V.Spelled.format a c.self.inside.rows.items (map head_of c.self.inside.callees.items) _ _ play _ _ _ _ f
 
 pub returns-clause-ok : goal.returns-clause-ok
@@ -25,8 +25,8 @@ returns-clause-ok g c =
     let same : c.as_slice.result.now ≡ c.self.inside.rows.items = c.as_slice.ensures.value in
     let called : map head_of c.as_slice-2.result.now ≡ map head_of c.self.inside.callees.items = ap (map head_of) c.as_slice-2.ensures.value in
     let playable : IsPlayable (game_of g.V.Domain.operations a) c.as_slice.result.now (map head_of c.as_slice-2.result.now) (position_of c.in-Some.board) = rw (same, called) play.playable in
-    let f : SoFar (game_of g.V.Domain.operations a) c.self.inside.rows.items (map head_of c.self.inside.callees.items) c.args.left.now c.play-played.result.left (position_of c.in-Some.board) (position_of c.play-played.result.board) c.args.items.now.items c.play-played.new.items.items = rw (same, called) at (c.play-played.ensures.run (game_of g.V.Domain.operations a) playable c.listing.ensures.value) in
-    let told = ends_if g.V.Domain.operations g.met.V.Domain.sound g.V.Spelled.format a c.self.inside.rows.items (map head_of c.self.inside.callees.items) _ _ play _ _ _ _ f c.play-played.result.outcome (c.play-played.ensures.stands (game_of g.V.Domain.operations a) playable c.listing.ensures.value) c.play-played.ensures.spent in
+    let f : SoFar (game_of g.V.Domain.operations a) c.self.inside.rows.items (map head_of c.self.inside.callees.items) c.args.left.now c.play-played.result.left (position_of c.in-Some.board) (position_of c.play-played.result.board) c.args.items.now.items c.play-played.new.items.items = rw (same, called) at (c.play-played.ensures.run (game_of g.V.Domain.operations a) playable (c.story.ensures.value, c.listing.ensures.value)) in
+    let told = ends_if g.V.Domain.operations g.met.V.Domain.sound g.V.Spelled.format a c.self.inside.rows.items (map head_of c.self.inside.callees.items) _ _ play _ _ _ _ f c.play-played.result.outcome (c.play-played.ensures.stands (game_of g.V.Domain.operations a) playable (c.story.ensures.value, c.listing.ensures.value)) c.play-played.ensures.spent in
     rw (← c.self.view_is, there) told
 
 pub returns-clause-made : goal.returns-clause-made
@@ -37,7 +37,7 @@ returns-clause-made g c =
     let same : c.as_slice.result.now ≡ c.self.inside.rows.items = c.as_slice.ensures.value in
     let called : map head_of c.as_slice-2.result.now ≡ map head_of c.self.inside.callees.items = ap (map head_of) c.as_slice-2.ensures.value in
     let playable : IsPlayable (game_of g.V.Domain.operations a) c.as_slice.result.now (map head_of c.as_slice-2.result.now) (position_of c.in-Some.board) = rw (same, called) play.playable in
-    let f : SoFar (game_of g.V.Domain.operations a) c.self.inside.rows.items (map head_of c.self.inside.callees.items) c.args.left.now c.play-played.result.left (position_of c.in-Some.board) (position_of c.play-played.result.board) c.args.items.now.items c.play-played.new.items.items = rw (same, called) at (c.play-played.ensures.run (game_of g.V.Domain.operations a) playable c.listing.ensures.value) in
+    let f : SoFar (game_of g.V.Domain.operations a) c.self.inside.rows.items (map head_of c.self.inside.callees.items) c.args.left.now c.play-played.result.left (position_of c.in-Some.board) (position_of c.play-played.result.board) c.args.items.now.items c.play-played.new.items.items = rw (same, called) at (c.play-played.ensures.run (game_of g.V.Domain.operations a) playable (c.story.ensures.value, c.listing.ensures.value)) in
     rw (← c.self.view_is, there) (f.steps, f.all, f.made)
 
 pub returns-clause-stands : goal.returns-clause-stands
@@ -48,8 +48,8 @@ returns-clause-stands g c =
     let same : c.as_slice.result.now ≡ c.self.inside.rows.items = c.as_slice.ensures.value in
     let called : map head_of c.as_slice-2.result.now ≡ map head_of c.self.inside.callees.items = ap (map head_of) c.as_slice-2.ensures.value in
     let playable : IsPlayable (game_of g.V.Domain.operations a) c.as_slice.result.now (map head_of c.as_slice-2.result.now) (position_of c.in-Some.board) = rw (same, called) play.playable in
-    let f : SoFar (game_of g.V.Domain.operations a) c.self.inside.rows.items (map head_of c.self.inside.callees.items) c.args.left.now c.play-played.result.left (position_of c.in-Some.board) (position_of c.play-played.result.board) c.args.items.now.items c.play-played.new.items.items = rw (same, called) at (c.play-played.ensures.run (game_of g.V.Domain.operations a) playable c.listing.ensures.value) in
-    stands_as _ _ (same_accepted _ _ c.self.view_is) _ _ (c.play-played.ensures.stands (game_of g.V.Domain.operations a) playable c.listing.ensures.value)
+    let f : SoFar (game_of g.V.Domain.operations a) c.self.inside.rows.items (map head_of c.self.inside.callees.items) c.args.left.now c.play-played.result.left (position_of c.in-Some.board) (position_of c.play-played.result.board) c.args.items.now.items c.play-played.new.items.items = rw (same, called) at (c.play-played.ensures.run (game_of g.V.Domain.operations a) playable (c.story.ensures.value, c.listing.ensures.value)) in
+    stands_as _ _ (same_accepted _ _ c.self.view_is) _ _ (c.play-played.ensures.stands (game_of g.V.Domain.operations a) playable (c.story.ensures.value, c.listing.ensures.value))
 
 pub returns-clause-err : goal.returns-clause-err
 returns-clause-err g c =
@@ -59,5 +59,5 @@ returns-clause-err g c =
     let same : c.as_slice.result.now ≡ c.self.inside.rows.items = c.as_slice.ensures.value in
     let called : map head_of c.as_slice-2.result.now ≡ map head_of c.self.inside.callees.items = ap (map head_of) c.as_slice-2.ensures.value in
     let playable : IsPlayable (game_of g.V.Domain.operations a) c.as_slice.result.now (map head_of c.as_slice-2.result.now) (position_of c.in-Some.board) = rw (same, called) play.playable in
-    let f : SoFar (game_of g.V.Domain.operations a) c.self.inside.rows.items (map head_of c.self.inside.callees.items) c.args.left.now c.play-played.result.left (position_of c.in-Some.board) (position_of c.play-played.result.board) c.args.items.now.items c.play-played.new.items.items = rw (same, called) at (c.play-played.ensures.run (game_of g.V.Domain.operations a) playable c.listing.ensures.value) in
-    rw (← c.self.view_is) (c.play-played.ensures.err (game_of g.V.Domain.operations a) playable c.listing.ensures.value)
+    let f : SoFar (game_of g.V.Domain.operations a) c.self.inside.rows.items (map head_of c.self.inside.callees.items) c.args.left.now c.play-played.result.left (position_of c.in-Some.board) (position_of c.play-played.result.board) c.args.items.now.items c.play-played.new.items.items = rw (same, called) at (c.play-played.ensures.run (game_of g.V.Domain.operations a) playable (c.story.ensures.value, c.listing.ensures.value)) in
+    rw (← c.self.view_is) (c.play-played.ensures.err (game_of g.V.Domain.operations a) playable (c.story.ensures.value, c.listing.ensures.value))
