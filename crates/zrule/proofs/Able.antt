@@ -25,7 +25,8 @@ use Rattle.zrule.proofs.Sets.{zip_length}
 use Rattle.zrule.proofs.Settling.{pauses_none, pauses_full, room_there}
 use Rattle.zrule.proofs.Stepping.{done_at, made_by}
 use Rattle.zrule.proofs.Pieces.{not_both}
-use Rattle.zrule.proofs.Safety.{Expected, ComesOf, LeadsIn, Matches, Still, admitted, all, expected, fetches, leads_in, returns, settled, steps, still_admitted}
+use Rattle.zrule.proofs.Landing.{LeadsIn}
+use Rattle.zrule.proofs.Safety.{Expected, ComesOf, Matches, Still, admitted, all, expected, fetches, leads_in, returns, settled, steps, still_admitted}
 
 module _ {V : Type 0} (o : SetOperations V) (lawful : AreSound o) (claims : Claims V) (m : Setting) (loaded : IsLoadedStory m.story) (supports : Supports o claims m.story) (listed : IsListedIn o claims m.scope) (s : State) (d : Described o claims m.limit m.story s) (i : Instruction) (there : IsThere m.story d.at i) where
   abbrev operands : List Operand
@@ -49,7 +50,7 @@ module _ {V : Type 0} (o : SetOperations V) (lawful : AreSound o) (claims : Clai
       by_stack false is h = rw is refl
 
   -- so a return has room, and a call where the frames are fewer than there may be
-  roomy : (lead : Lead V) (move : Move) (v return_place : ℕ) (gs : List Frame) → LeadsIn o lawful claims m loaded supports listed s d i there lead move → Returns o claims d.entry.routine lead → Callers o claims d.entry.routine return_place v gs → is_roomy m.limit move v gs ≡ false → (called : Called) × (move ≡ into called) × (m.limit ≤ length gs)
+  roomy : (lead : Lead V) (move : Move) (v return_place : ℕ) (gs : List Frame) → LeadsIn o lawful claims m loaded supports s d i lead move → Returns o claims d.entry.routine lead → Callers o claims d.entry.routine return_place v gs → is_roomy m.limit move v gs ≡ false → (called : Called) × (move ≡ into called) × (m.limit ≤ length gs)
   unfolding LeadsIn
   roomy lead (on b) v r gs is rule callers e = absurd cc
   roomy (Ahead a) (back x) v r gs is rule callers e = absurd is

@@ -22,6 +22,7 @@ mod Together
 mod Supplied
 mod Pieces
 pub mod Opening
+pub mod Landing
 pub mod Safety
 pub mod Able
 pub mod Steps
