@@ -18,6 +18,10 @@ use Rattle.zstate.specs.Step.{Effect, drawing, giving, in_range, random_of, swit
 use Rattle.zflow.specs.Transfer.{drawn_set}
 use Rattle.zrule.proofs.Pieces.{not_zero}
 
+-- a word from the middle on is below 0
+negative : (r : ℕ) → 32768 ≤ r → r < 65536 → signed r ≤ℤ pos 0
+negative r high word = grind (arith, ints)
+
 module _ {V : Type 0} (o : SetOperations V) (lawful : AreSound o) (ranges : V) (r : ℕ) (member : In o ranges r) where
   abbrev least : ℕ
   least = o.lowest ranges
@@ -71,4 +75,4 @@ module _ {V : Type 0} (o : SetOperations V) (lawful : AreSound o) (ranges : V) (
       by : (b c : Bool) → (r == 0) ≡ b → nat_lt r 32768 ≡ c → Draws (if b then switching Words else (if c then drawing r s.random s.waiting else switching (Counting (65536 - r) 1)))
       by true c zero sign = let none = eqb-true r 0 zero in number_drawn _ _ _ refl (none_lies (omega (arith, ints, none)))
       by false true zero sign = let some = not_zero r zero in let small = ltb-true r 32768 sign in drawing_comes (omega (arith, some)) small s.random s.waiting
-      by false false zero sign = let high = ltb-false r 32768 sign in let word = member.word in number_drawn _ _ _ refl (none_lies (omega (arith, ints, high, word)))
+      by false false zero sign = number_drawn _ _ _ refl (none_lies (negative r (ltb-false r 32768 sign) member.word))

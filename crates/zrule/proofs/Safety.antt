@@ -703,8 +703,8 @@ module _ {V : Type 0} (o : SetOperations V) (lawful : AreSound o) (claims : Clai
 
   -- one that leads nowhere isn't done, or leaves a mark
   still_described : (effect : Effect) → IsStill effect → pauses m.limit (target i) effect (course effect i.branch) t ≡ Ok tt → Described o claims m.limit m.story (came m.story i effect t s)
-  still_described effect (a_quit none yes) ok = absurd (pauses_there m.limit (target i) effect (course effect i.branch) t (inr yes) ok)
-  still_described effect (a_need need is) ok = absurd (pauses_there m.limit (target i) effect (course effect i.branch) t (inl (ap is_some is)) ok)
+  still_described effect (a_quit needs stands) ok = absurd (pauses_there m.limit (target i) effect (course effect i.branch) t (inr stands) ok)
+  still_described effect (a_need need needs) ok = absurd (pauses_there m.limit (target i) effect (course effect i.branch) t (inl (ap is_some needs)) ok)
   still_described effect (a_prompt line is) ok = subst (λ (e : Effect). Described o claims m.limit m.story (came m.story i e t s)) (sym is) (prompted_described o claims m.story m.limit s d)
 
   finish : (r : Result Effect Halt) → effect_if m (operation_of i.opcode) all.values t ≡ r → Expected (operation_of i.opcode) r → IsSafe o claims m.limit m.story (r >>= made_by m s t i)
