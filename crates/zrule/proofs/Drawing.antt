@@ -1,8 +1,8 @@
 -- A number that is drawn lies in the set that comes of its ranges.
-use Rattle.std.proofs.Common.{◌≡◌, ℕ, ◌+◌, ◌%◌, ◌-◌, ◌<◌, ◌≤◌, Bool, true, false, Option, Some, None, refl, arith, if◌then◌else◌}
-use Rattle.std.specs.Prelude.{pos, negsuc, ◌≤ℤ◌, ◌==◌, nat_lt}
+use Rattle.std.proofs.Common.{◌≡◌, ℕ, ◌-◌, ◌<◌, ◌≤◌, Bool, true, false, Option, Some, None, refl, arith, if◌then◌else◌}
+use Rattle.std.specs.Prelude.{pos, ◌≤ℤ◌, ◌==◌, nat_lt}
 use Rattle.std.proofs.lemmas.Int.{ints}
-use Rattle.std.proofs.lemmas.Bool.{eqb-true, eqb-false, ltb-true, ltb-false}
+use Rattle.std.proofs.lemmas.Bool.{eqb-true, ltb-true, ltb-false}
 use Rattle.zword.specs.Binary.{signed}
 use Rattle.zword.specs.declared.question.Question.TheVariants.{Greater}
 use Rattle.zword.specs.Question.{holds}

@@ -1,5 +1,5 @@
 -- What claims don't describe: the event that waits, the mark of a prompt, and where random numbers come from.
-use Rattle.std.proofs.Common.{◌≡◌, ℕ, true, Option, Some, None, refl}
+use Rattle.std.proofs.Common.{ℕ, true, Option, Some, None}
 use Rattle.zfault.specs.declared.event.Event.{Event}
 use Rattle.zfault.specs.declared.pause.Need.{Need}
 use Rattle.zfault.specs.declared.pause.Need.TheVariants as needs

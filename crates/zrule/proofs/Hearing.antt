@@ -1,6 +1,6 @@
 -- The buffers of a line, in a memory that claims describe.
-use Rattle.std.proofs.Common.{◌≡◌, ◌⊎◌, inl, inr, ℕ, ◌+◌, ◌*◌, ◌<◌, ◌≤◌, Bool, true, false, List, length, Option, Some, None, Ok, refl, sym, subst, ap, ◌∙◌, arith}
-use Rattle.std.specs.Prelude.{MatchOption, ◌&&◌, nat_le, nat_lt}
+use Rattle.std.proofs.Common.{◌≡◌, ◌⊎◌, inl, inr, ℕ, ◌+◌, ◌*◌, ◌≤◌, Bool, true, false, List, length, Option, Some, None, Ok, refl, sym, subst, ◌∙◌, arith}
+use Rattle.std.specs.Prelude.{MatchOption, nat_le, nat_lt}
 use Rattle.std.proofs.lemmas.Bool.{and_from, cases_lt, le-leb, lt-ltb}
 use Rattle.std.proofs.lemmas.List.{get_or_past}
 use Rattle.zstory.specs.Bytes.{AreBytes, byte_at}
@@ -10,7 +10,6 @@ use Rattle.zline.specs.Kept.{IsBeside}
 use Rattle.zline.specs.Storing.{with_line}
 use Rattle.zline.proofs.Keeping.{lines_stay}
 use Rattle.zobj.specs.Entries.{HasTable}
-use Rattle.zobj.specs.Kept.{DiffersOnly}
 use Rattle.zdomain.specs.Domain.{SetOperations, AreSound, In}
 use Rattle.zfault.specs.declared.event.Event.{Event}
 use Rattle.zfault.specs.declared.event.Event.TheVariants as events
@@ -19,7 +18,7 @@ use Rattle.zfault.specs.declared.pause.Need.TheVariants as needs
 use Rattle.zstate.specs.Step.{Effect, are_large, are_open, are_sized, are_writable, buffered, hearing, proceeds, rewriting, showing}
 use Rattle.zstate.proofs.Effects.{has_buffers, line_rewritten}
 use Rattle.zplace.specs.Bytes.{IsWithin, IsOpen}
-use Rattle.zruns.specs.Buffers.{AreBuffers, IsBuffer, IsParseBuffer, IsTextBuffer}
+use Rattle.zruns.specs.Buffers.{IsParseBuffer, IsTextBuffer}
 use Rattle.zrule.specs.Claims.{Claims, frozen_in}
 use Rattle.zrule.specs.Rules.{Supports}
 use Rattle.zrule.specs.Described.{DescribedMemory, IsLoadedStory}
@@ -79,10 +78,10 @@ module _ {V : Type 0} (o : SetOperations V) (lawful : AreSound o) (claims : Clai
   line_described line bytes has tables =
       let stays = lines_stay story.memory memory line t p (has_buffers story t p memory whole large writable) in
       let rests : (q : ℕ) → (byte_at (with_line story.memory t p line memory) q ≡ byte_at memory q) ⊎ (InText q ⊎ InParse q) = λ q. (
-        elim (beside (t + 1) (byte_at memory t) q) [
-          | inr inside ↦ inr (inl inside)
-          | inl outside ↦ elim (beside (p + 1) (1 + 4 * byte_at memory p) q) [ inr inside ↦ inr (inr inside) | inl clear ↦ inl (stays.same q outside clear) ]
-        ]) in
+      elim (beside (t + 1) (byte_at memory t) q) [
+        | inr inside ↦ inr (inl inside)
+        | inl outside ↦ elim (beside (p + 1) (1 + 4 * byte_at memory p) q) [ inr inside ↦ inr (inr inside) | inl clear ↦ inl (stays.same q outside clear) ]
+      ]) in
       stored_described o claims story supports.tables supports.few memory d has tables
       (λ q. InText q ⊎ InParse q) (λ q is. elim is [ inl inside ↦ text_free q inside | inr inside ↦ parse_free q inside ])
       (with_line story.memory t p line memory) (record { size = stays.size; rest = rests })

@@ -1,78 +1,23 @@
 -- Where a step leads, as the rules expect it, from a described state.
-use Rattle.std.proofs.Common.{◌≡◌, ◌⊎◌, inl, inr, ℕ, suc, ◌+◌, ◌-◌, ◌<◌, ◌≤◌, Bool, true, false, List, [], ◌∷◌, ◌++◌, length, drop, Option, Some, None, Result, Ok, Err, refl, sym, ap, subst, ◌∙◌, arith, nat_lt, slice_set, if◌then◌else◌}
-use Rattle.std.specs.Prelude.{ℤ, pos, ◌+ℤ◌, IsOk, IfSome, MatchOption, IsTrue, is_some, not, option_map, slice_get, ◌==◌, ◌&&◌}
-use Rattle.std.specs.Bool.{OnTrue, MatchBool}
-use Rattle.std.specs.List.{AllZip, AllByRecursion}
-use Rattle.std.proofs.lemmas.Bool.{ltb-false, eqb-true, lt-ltb}
-use Rattle.zword.specs.declared.question.Question.{Question}
-use Rattle.zword.specs.declared.question.Question.TheVariants.{Equal}
-use Rattle.zword.specs.declared.count.CountOp.{CountOp}
-use Rattle.zword.specs.Question.{holds}
-use Rattle.zword.specs.Count.{counting as counts_by, counted}
-use Rattle.zword.specs.Addressing.{place_of as text_place}
-use Rattle.zstory.specs.Bytes.{byte_at}
-use Rattle.zfault.specs.declared.fault.Fault.TheVariants.{UnlistedCall}
-use Rattle.zfault.specs.declared.item.Status.{Status as StatusLine}
-use Rattle.ztext.specs.declared.error.TextError.{TextError}
-use Rattle.ztext.specs.Output.{output_at}
-use Rattle.zcode.specs.declared.instr.Operand.{Operand}
-use Rattle.zcode.specs.declared.instr.Operand.TheVariants.{Constant, Variable}
+use Rattle.std.proofs.Common.{◌≡◌, ℕ, suc, ◌+◌, true, List, [], ◌∷◌, Option, Some, None, refl, sym, ap, subst, ◌∙◌, arith}
+use Rattle.std.specs.Prelude.{ℤ, pos, ◌+ℤ◌}
+use Rattle.std.specs.List.{AllZip}
 use Rattle.zcode.specs.declared.instr.Destination.{Destination}
 use Rattle.zcode.specs.declared.instr.Destination.TheVariants.{ReturnFalse, ReturnTrue, Relative}
-use Rattle.zcode.specs.declared.operation.Operation.{Operation}
-use Rattle.zcode.specs.declared.operation.Operation.TheVariants.{Unary, Binary, Compare, Count, Store, Load, Jump, Verify, PrintChar, PrintNumber, Print, NewLine, Nop, Quit, Return, PrintReturn, Call, Inside, TestAttribute, Follow, SetAttribute, ClearAttribute, Insert, Remove, Property, PropertyLength, SetProperty, PrintObject, PrintAt, ShowStatus, LoadArray, StoreArray}
 use Rattle.zcode.specs.Instruction.{Instruction}
-use Rattle.zcode.specs.Operation.{operation_of, inputs, target}
-use Rattle.zcode.specs.Playable.{playable}
-use Rattle.zcode.specs.Reading.{instruction_at}
-use Rattle.zcode.proofs.Found.{found}
-use Rattle.zcode.proofs.Operating.{played_operate}
-use Rattle.std.specs.Result.{IsOkAnd}
-use Rattle.zobj.specs.declared.error.ObjectError.{ObjectError}
-use Rattle.zobj.specs.declared.tree.Link.{Link}
-use Rattle.zobj.specs.declared.property.Property.{Property as AProperty}
-use Rattle.zobj.specs.declared.answers.PropertyQuestion.{PropertyQuestion}
-use Rattle.zobj.specs.Answers.{answer_of}
-use Rattle.zobj.specs.Properties.{property_of}
-use Rattle.zarray.specs.declared.width.Width.{Width}
-use Rattle.zarray.specs.Arrays.{place_of as element_place, element_at, with_element}
-use Rattle.zruns.specs.Runs.{AreOpen, AreReadable}
-use Rattle.zruns.specs.Texts.{AreFixedTexts, HasFixedText}
-use Rattle.zobj.specs.Values.{IsDataByte, length_before, with_property}
-use Rattle.zobj.proofs.Answering.{length_small}
-use Rattle.zdomain.specs.Domain.{SetOperations, AreSound, In, Within}
-use Rattle.zstate.specs.declared.halt.Halt.{Halt}
-use Rattle.zstate.specs.declared.halt.Halt.TheVariants as halts
-use Rattle.zstate.specs.InTurn.{◌>>=◌}
-use Rattle.zstate.specs.State.{Frame, State, Setting, IsState, at_place, popped, with_stack, with_locals, with_memory, write_word, global, exists, put_named, put_in_place, read_in_place, has_head, fault}
-use Rattle.zstate.specs.Step.{Called, Move, on, back, into, calling, closing, called_at, call_of, unpacked, arguments, initial, behind_head, place_of, entered, Effect, Done, way, arg, asked_of, giving, assigning, testing, printing, jumping, following, marking, rearranging, rewriting, rewritten, answering, reading, filling, storing, showing, is_data_writable, fetch, printed, print_at, effect_of, effect_if, has_caller, is_taken, turned, course, admits, pauses, assigned, changed, stored, left, moved, advance, act, step}
-use Rattle.zstate.proofs.Effects.{table_place}
-use Rattle.zstate.proofs.Keeps.{put_aside, changed_aside, step_keeps}
+use Rattle.zcode.specs.Operation.{target}
+use Rattle.zdomain.specs.Domain.{SetOperations, AreSound, In}
+use Rattle.zstate.specs.State.{Frame, State, Setting, IsState, at_place, exists}
+use Rattle.zstate.specs.Step.{Called, Move, on, back, into, called_at, unpacked, initial, behind_head, place_of, entered, has_caller, is_taken, turned, left, moved}
+use Rattle.zstate.proofs.Keeps.{put_aside}
 use Rattle.zflow.specs.declared.parts.Lead.{Lead}
 use Rattle.zflow.specs.declared.parts.Lead.TheVariants.{Ahead, Returning, Entering}
-use Rattle.zflow.specs.declared.parts.Kept.{Kept}
-use Rattle.zflow.specs.declared.parts.Outcome.{Outcome}
-use Rattle.zflow.specs.declared.parts.Demands.{Demands}
-use Rattle.zpairs.specs.Pairs.{AreUnfrozen}
-use Rattle.zflow.specs.Transfer.{Shape, pops, variable_set, small, local_kept, operand_kept, both_kept, untold, counted_set, demands_of, demands_if, goes_on, gives_in, assigns_in, asks, counts_in, follows_in, returns_in, enters_in, argument_sets, jumps, outcome_of, outcome_if, leading, turned_to, named_with, with_result, with_assigned, narrowed, read_set, mid_shape, changed_by, after}
-use Rattle.zrule.specs.declared.rule.Rule.TheVariants as rules
-use Rattle.zrule.specs.Claims.{Claims, frozen_in, told_of}
-use Rattle.zrule.specs.Rules.{Begins, Enters, TakesBack, result_if, result_at, Leads, HasLineObject, IsThere, IsKnown, IsNamed, IsVariable, HasTop, Supports, Takes, TakesInPlace, GoesOn, Returns, OnEdge, Whatever, IsLow, demands_at, AreObjects, NamesObject, Finds, FindsProperty, Spares, AreRead, AreWritten, KnowsAnswers}
-use Rattle.zrule.specs.Described.{Callers, Described, DescribedMemory, Fits, FitsWith, IsSafe, IsListedIn, IsLoadedStory}
-use Rattle.zrule.proofs.Sets.{ReadsAll, reads_all, fits_popped, zip_set, zip_length}
-use Rattle.zrule.proofs.Printing.{line_shown, name_known, text_printed}
-use Rattle.zrule.proofs.Unchanged.{static_fixed, drop_same}
-use Rattle.zrule.proofs.Called.{starts_in, called_same, head_same, arguments_in}
-use Rattle.zrule.proofs.Settling.{PausesAtMost, pauses_fine, pauses_there, admits_is}
-use Rattle.zrule.proofs.Framed.{FitsFrame, in_place_fits, result_fits}
-use Rattle.zrule.proofs.Fitting.{IsIn, exists_in, named_in, length_with, given_fits, covered, covered_with, fits_there, Mid, put_mid, GivenIn, stored_mid}
-use Rattle.zrule.proofs.Memory.{global_put}
-use Rattle.zrule.proofs.Parts.{Hold, HoldsOne, narrowed_fits, variable_there, small_is}
-use Rattle.zrule.proofs.Stepping.{fetch_is, done_at, made_by, step_is}
-use Rattle.zrule.proofs.Pieces.{between_small, known_wherever, not_below_one, not_none, not_zero, object_known, on_true, two_asked, first_there, assigned_local, length_assigned, edge_of, defined_where, kept_holds}
-use Rattle.zrule.proofs.Answering.{Filled, answer_lies, answered, filled, found_same, length_there}
-use Rattle.zrule.proofs.Storing.{bytes_of, data_open, element_differs, element_lies, element_there, element_writable}
-use Rattle.zrule.proofs.Rewriting.{filled_described, stored_described, inserted_described, marked_described, unlinked_described}
+use Rattle.zflow.specs.Transfer.{Shape, argument_sets, turned_to, with_result}
+use Rattle.zrule.specs.Claims.{Claims}
+use Rattle.zrule.specs.Rules.{Begins, Enters, TakesBack, result_if, result_at, Leads, Supports, Takes, GoesOn, Returns}
+use Rattle.zrule.specs.Described.{Callers, Described, DescribedMemory, FitsWith, IsLoadedStory}
+use Rattle.zrule.proofs.Called.{starts_in}
+use Rattle.zrule.proofs.Fitting.{IsIn, exists_in, given_fits, covered, covered_with, fits_there, Mid, put_mid}
 
 module _ {V : Type 0} (o : SetOperations V) (lawful : AreSound o) (claims : Claims V) (m : Setting) (loaded : IsLoadedStory m.story) (supports : Supports o claims m.story) (s : State) (d : Described o claims m.limit m.story s) (i : Instruction) where
   -- a state in mid-instruction, of which this is known

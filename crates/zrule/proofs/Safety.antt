@@ -1,8 +1,8 @@
 -- A step from a described state is safe, by the parts of its effect.
-use Rattle.std.proofs.Common.{◌≡◌, ◌⊎◌, inl, inr, ℕ, suc, ◌+◌, ◌-◌, ◌<◌, ◌≤◌, Bool, true, false, List, [], ◌∷◌, ◌++◌, length, drop, Option, Some, None, Result, Ok, Err, refl, sym, ap, subst, ◌∙◌, arith, nat_lt, slice_set, if◌then◌else◌}
+use Rattle.std.proofs.Common.{◌≡◌, ◌⊎◌, inl, inr, ℕ, ◌+◌, ◌-◌, ◌<◌, ◌≤◌, Bool, true, false, List, [], ◌∷◌, ◌++◌, length, drop, Option, Some, None, Result, Ok, Err, refl, sym, ap, subst, ◌∙◌, arith, nat_lt, slice_set, if◌then◌else◌}
 use Rattle.std.specs.Prelude.{ℤ, pos, ◌+ℤ◌, IsOk, IfSome, MatchOption, IsTrue, is_some, not, option_map, slice_get, ◌==◌, ◌&&◌}
 use Rattle.std.specs.Bool.{OnTrue, MatchBool}
-use Rattle.std.specs.List.{AllZip, AllByRecursion}
+use Rattle.std.specs.List.{AllByRecursion}
 use Rattle.std.proofs.lemmas.Bool.{ltb-false, eqb-true, lt-ltb}
 use Rattle.zword.specs.declared.question.Question.{Question}
 use Rattle.zword.specs.declared.question.Question.TheVariants.{Equal}
@@ -17,8 +17,6 @@ use Rattle.ztext.specs.declared.error.TextError.{TextError}
 use Rattle.ztext.specs.Output.{output_at}
 use Rattle.zcode.specs.declared.instr.Operand.{Operand}
 use Rattle.zcode.specs.declared.instr.Operand.TheVariants.{Constant, Variable}
-use Rattle.zcode.specs.declared.instr.Destination.{Destination}
-use Rattle.zcode.specs.declared.instr.Destination.TheVariants.{ReturnFalse, ReturnTrue, Relative}
 use Rattle.zcode.specs.declared.operation.Operation.{Operation}
 use Rattle.zcode.specs.declared.operation.Operation.TheVariants.{Unary, Binary, Compare, Count, Store, Load, Jump, Verify, PrintChar, PrintNumber, Print, NewLine, Nop, Quit, Return, PrintReturn, Call, Inside, TestAttribute, Follow, SetAttribute, ClearAttribute, Insert, Remove, Property, PropertyLength, SetProperty, PrintObject, PrintAt, ShowStatus, LoadArray, StoreArray, Random, ReadLine}
 use Rattle.zcode.specs.Instruction.{Instruction}
@@ -44,25 +42,23 @@ use Rattle.zdomain.specs.Domain.{SetOperations, AreSound, In, Within}
 use Rattle.zstate.specs.declared.halt.Halt.{Halt}
 use Rattle.zstate.specs.declared.halt.Halt.TheVariants as halts
 use Rattle.zstate.specs.InTurn.{◌>>=◌}
-use Rattle.zstate.specs.State.{Frame, State, Setting, IsState, at_place, popped, with_stack, with_locals, with_memory, write_word, global, exists, put_named, put_in_place, read_in_place, has_head, fault}
-use Rattle.zstate.specs.Step.{Called, Move, on, back, into, calling, closing, called_at, call_of, unpacked, arguments, initial, behind_head, place_of, entered, Effect, Done, way, arg, asked_of, giving, assigning, testing, printing, jumping, following, marking, rearranging, rewriting, rewritten, answering, reading, filling, storing, showing, is_data_writable, fetch, printed, print_at, effect_of, effect_if, has_caller, is_taken, turned, course, admits, pauses, assigned, changed, stored, left, moved, advance, act, step, came, drawn, used}
+use Rattle.zstate.specs.State.{State, Setting, IsState, popped, with_stack, with_locals, with_memory, write_word, global, exists, put_named, put_in_place, read_in_place, has_head, fault}
+use Rattle.zstate.specs.Step.{Move, on, back, calling, closing, called_at, call_of, unpacked, arguments, Effect, Done, way, arg, asked_of, giving, assigning, testing, printing, jumping, following, marking, rearranging, rewriting, rewritten, answering, reading, filling, storing, showing, is_data_writable, fetch, printed, print_at, effect_of, effect_if, has_caller, is_taken, turned, course, admits, pauses, assigned, changed, stored, advance, act, step, came, drawn, used}
 use Rattle.zstate.proofs.Effects.{table_place}
-use Rattle.zstate.proofs.Keeps.{put_aside, changed_aside, step_keeps}
-use Rattle.zflow.specs.declared.parts.Lead.{Lead}
-use Rattle.zflow.specs.declared.parts.Lead.TheVariants.{Ahead, Returning, Entering}
+use Rattle.zstate.proofs.Keeps.{changed_aside, step_keeps}
 use Rattle.zflow.specs.declared.parts.Kept.{Kept}
 use Rattle.zflow.specs.declared.parts.Outcome.{Outcome}
 use Rattle.zflow.specs.declared.parts.Demands.{Demands}
 use Rattle.zpairs.specs.Pairs.{AreUnfrozen}
-use Rattle.zflow.specs.Transfer.{Shape, drawn_set, pops, variable_set, small, local_kept, operand_kept, both_kept, untold, counted_set, demands_of, demands_if, goes_on, gives_in, assigns_in, asks, counts_in, follows_in, returns_in, enters_in, argument_sets, jumps, outcome_of, outcome_if, leading, turned_to, named_with, with_result, with_assigned, narrowed, read_set, mid_shape, changed_by, after}
+use Rattle.zflow.specs.Transfer.{Shape, drawn_set, pops, variable_set, small, local_kept, operand_kept, both_kept, untold, counted_set, demands_of, demands_if, goes_on, gives_in, assigns_in, asks, counts_in, follows_in, returns_in, enters_in, argument_sets, jumps, outcome_of, outcome_if, leading, named_with, with_result, with_assigned, narrowed, read_set, mid_shape, changed_by, after}
 use Rattle.zrule.specs.declared.rule.Rule.TheVariants as rules
 use Rattle.zrule.specs.Claims.{Claims, frozen_in, told_of}
-use Rattle.zrule.specs.Rules.{Begins, Enters, TakesBack, result_if, result_at, Leads, HasLineObject, IsThere, IsKnown, IsNamed, IsVariable, HasTop, Supports, Takes, TakesInPlace, GoesOn, Returns, OnEdge, Whatever, IsLow, demands_at, AreObjects, NamesObject, Finds, FindsProperty, Spares, AreRead, AreWritten, KnowsAnswers}
-use Rattle.zrule.specs.Described.{Callers, Described, DescribedMemory, Fits, FitsWith, IsSafe, IsListedIn, IsLoadedStory}
+use Rattle.zrule.specs.Rules.{Begins, Enters, TakesBack, HasLineObject, IsThere, IsKnown, IsNamed, IsVariable, HasTop, Supports, Takes, TakesInPlace, GoesOn, Returns, OnEdge, Whatever, IsLow, demands_at, AreObjects, NamesObject, Finds, FindsProperty, Spares, AreRead, AreWritten, KnowsAnswers}
+use Rattle.zrule.specs.Described.{Described, DescribedMemory, Fits, IsSafe, IsListedIn, IsLoadedStory}
 use Rattle.zrule.proofs.Sets.{ReadsAll, reads_all, fits_popped, zip_set, zip_length}
 use Rattle.zrule.proofs.Printing.{line_shown, name_known, text_printed}
 use Rattle.zrule.proofs.Unchanged.{static_fixed, drop_same}
-use Rattle.zrule.proofs.Called.{starts_in, called_same, head_same, arguments_in}
+use Rattle.zrule.proofs.Called.{called_same, head_same, arguments_in}
 use Rattle.zrule.proofs.Settling.{PausesAtMost, pauses_fine, pauses_there, admits_is}
 use Rattle.zrule.proofs.Landing.{LeadsIn, IsCall, judged, lands, turned_in}
 use Rattle.zrule.proofs.Standing.{IsStill, Still, a_quit, a_need, a_prompt}
@@ -72,7 +68,7 @@ use Rattle.zrule.proofs.Hearing.{Hears, first_asked, line_stored, line_needed, b
 use Rattle.zruns.specs.Buffers.{AreBuffers, IsParseBuffer, IsTextBuffer}
 use Rattle.zfault.specs.declared.pause.Need.TheVariants as needs
 use Rattle.zrule.proofs.Framed.{FitsFrame, in_place_fits, result_fits}
-use Rattle.zrule.proofs.Fitting.{IsIn, exists_in, named_in, length_with, given_fits, covered, covered_with, fits_there, Mid, put_mid, GivenIn, stored_mid}
+use Rattle.zrule.proofs.Fitting.{IsIn, exists_in, named_in, length_with, Mid, GivenIn, stored_mid}
 use Rattle.zrule.proofs.Memory.{global_put}
 use Rattle.zrule.proofs.Parts.{Hold, HoldsOne, narrowed_fits, variable_there, small_is}
 use Rattle.zrule.proofs.Stepping.{fetch_is, done_at, made_by, step_is}
@@ -524,7 +520,6 @@ module _ {V : Type 0} (o : SetOperations V) (lawful : AreSound o) (claims : Clai
       let object = rule.object.0 (arg all.values 0) (all.members 0) in let known = object_known m.story.objects (arg all.values 0) object in
       let name = name_known o lawful claims m.story loaded supports s.memory d.memory (arg all.values 0) object.0 object.1 in let is = name.1 in
       rw (known, is) (goes_expected PrintObject name.0 (true, refl))
-
   by_operation Random rule begins = draws _ (random_comes o lawful (args 0) (arg all.values 0) (all.members 0) t)
   by_operation ReadLine rule begins =
       let text = buffer_read o lawful (args 0) (arg all.values 0) (IsTextBuffer m.story (frozen_in claims)) (all.members 0) rule.buffers.0 in
