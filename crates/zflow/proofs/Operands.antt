@@ -3,7 +3,7 @@ use Rattle.std.proofs.Common.{◌≡◌, ℕ, Bool, List, Some, None, refl}
 use Rattle.zpairs.specs.Frozen.{FrozenStory}
 use Rattle.zcode.specs.declared.instr.Operand.{Operand}
 use Rattle.zcode.specs.declared.operation.Operation.{Operation}
-use Rattle.zcode.specs.declared.operation.Operation.TheVariants.{Unary, Binary, Compare, Count, Store, Load, Jump, Verify, PrintChar, PrintNumber, Print, NewLine, Nop, Quit, Return, PrintReturn, Call, Inside, TestAttribute, Follow, SetAttribute, ClearAttribute, Insert, Remove, Property, PropertyLength, SetProperty, PrintObject, PrintAt, ShowStatus, LoadArray, StoreArray}
+use Rattle.zcode.specs.declared.operation.Operation.TheVariants.{Unary, Binary, Compare, Count, Store, Load, Jump, Verify, PrintChar, PrintNumber, Print, NewLine, Nop, Quit, Return, PrintReturn, Call, Inside, TestAttribute, Follow, SetAttribute, ClearAttribute, Insert, Remove, Property, PropertyLength, SetProperty, PrintObject, PrintAt, ShowStatus, LoadArray, StoreArray, Random, ReadLine}
 use Rattle.zdomain.specs.Domain.{SetOperations}
 use Rattle.zflow.specs.Transfer.{Shape, demands_of, outcome_of}
 use Rattle.zflow.specs.Kept.{both}
@@ -43,6 +43,8 @@ module _ {V : Type 0} (o : SetOperations V) where
   demands_read ShowStatus arg = refl
   demands_read (LoadArray width) arg = refl
   demands_read (StoreArray width) arg = refl
+  demands_read Random arg = refl
+  demands_read ReadLine arg = refl
 
   pub outcome_read : (globals : List V) (told : FrozenStory) (operation : Operation) (operands : List Operand) (arg : ℕ → V) (e : Shape V) (c : Bool) → outcome_of o globals told operation operands arg e c ≡ outcome_of o globals told operation operands (both (arg 0) (arg 1)) e c
   unfolding outcome_of
@@ -79,3 +81,5 @@ module _ {V : Type 0} (o : SetOperations V) where
   outcome_read globals told ShowStatus operands arg e c = refl
   outcome_read globals told (LoadArray width) operands arg e c = refl
   outcome_read globals told (StoreArray width) operands arg e c = refl
+  outcome_read globals told Random operands arg e c = refl
+  outcome_read globals told ReadLine operands arg e c = refl

@@ -16,13 +16,14 @@ use Rattle.zflow.specs.declared.parts.Asked.{Asked}
 use Rattle.zflow.specs.declared.parts.Asked.TheVariants.{Answered, Filled}
 use Rattle.zflow.specs.declared.parts.Pairs.{Pairs}
 use Rattle.zflow.specs.declared.parts.Texts.{Texts}
+use Rattle.zflow.specs.declared.parts.Buffers.{Buffers}
 use Rattle.zword.specs.declared.addressing.Addressing.{Addressing}
 use Rattle.zword.specs.declared.addressing.Addressing.TheVariants.{Byte, Packed}
 use Rattle.zflow.specs.declared.parts.Demands.{Demands}
 use Rattle.zflow.specs.declared.parts.Lead.{Lead}
 use Rattle.zflow.specs.declared.parts.Lead.TheVariants.{Ahead, Returning, Entering}
 use Rattle.zflow.specs.declared.parts.Outcome.{Outcome}
-use Rattle.zflow.specs.Transfer.{Shape, sets, argument_sets, pops, below, operand_set, demands_of, demands_at, outcome_of, outcome_at, after, leading}
+use Rattle.zflow.specs.Transfer.{Shape, drawn_set, sets, argument_sets, pops, below, operand_set, demands_of, demands_at, outcome_of, outcome_at, after, leading}
 use Rattle.zflow.specs.Kept.{both, shape_of}
 
 -- ---- what is known, and what is looked at
@@ -333,6 +334,32 @@ stays = Some (only 7 ∷ span 20 30 ∷ [])
 proceeds : (slots_on (plain opcodes.Print []) true ≡ stays) × (slots_on (plain opcodes.NewLine []) true ≡ stays) × (slots_on (plain opcodes.PrintChar (Constant 65 ∷ [])) true ≡ stays) × (slots_on (plain opcodes.PrintNum (Variable 0 ∷ [])) true ≡ Some (span 20 30 ∷ [])) × (slots_on (plain opcodes.Nop []) true ≡ stays) × (slots_on (plain opcodes.PrintAddr (Variable 0 ∷ [])) true ≡ Some (span 20 30 ∷ [])) × (outcome_on (plain opcodes.PrintPaddr (Constant 1 ∷ [])) false ≡ nothing) × (slots_on (plain opcodes.ShowStatus []) true ≡ stays) × (outcome_on (plain opcodes.ShowStatus []) false ≡ nothing) × (slots_on (plain opcodes.InsertObj (Variable 0 ∷ Constant 2 ∷ [])) true ≡ Some (span 20 30 ∷ [])) × (slots_on (plain opcodes.SetAttr (Constant 1 ∷ Constant 2 ∷ [])) true ≡ stays) × (outcome_on (plain opcodes.RemoveObj (Constant 1 ∷ [])) false ≡ nothing) × (slots_on (plain opcodes.Pop []) true ≡ Some (span 20 30 ∷ [])) × (outcome_on (plain opcodes.Nop []) false ≡ nothing)
 unfolding operation_of outcome_of shape globals
 proceeds = (refl, refl, refl, refl, refl, refl, refl, refl, refl, refl, refl, refl, refl, refl)
+
+-- ---- random numbers
+
+abbrev drawn_from : (lo hi : ℤ) → int_le lo hi ≡ true → Ends
+drawn_from lo hi e = ends (drawn_set interval_operations (from lo hi e))
+
+-- up to the greatest range; 0 comes of no range above 0, and of each other alone
+drawn : (drawn_from (pos 1) (pos 6) refl ≡ span 1 6) × (drawn_from (pos 4) (pos 4) refl ≡ span 1 4) × (drawn_from (pos 0) (pos 6) refl ≡ span 0 6) × (drawn_from (negsuc 4) (pos 1) refl ≡ span 0 1) × (drawn_from (negsuc 4) (pos 0) refl ≡ only 0) × (drawn_from (negsuc 4) (negsuc 2) refl ≡ only 0) × (drawn_from (negsuc 32767) (pos 32767) refl ≡ span 0 32767) × (drawn_from (pos 32767) (pos 32767) refl ≡ span 1 32767)
+drawn = (refl, refl, refl, refl, refl, refl, refl, refl)
+
+draws : (slots_on (storing opcodes.Random (Constant 6 ∷ []) 0) true ≡ Some (span 1 6 ∷ only 7 ∷ span 20 30 ∷ [])) × (slots_on (storing opcodes.Random (Variable 1 ∷ []) 0) true ≡ Some (span 0 9 ∷ only 7 ∷ span 20 30 ∷ [])) × (locals_on (storing opcodes.Random (Variable 0 ∷ []) 2) true ≡ Some (span 0 9 ∷ span 1 7 ∷ span 0 1 ∷ [])) × (outcome_on (storing opcodes.Random (Constant 6 ∷ []) 0) false ≡ nothing)
+unfolding operation_of outcome_of shape globals
+draws = (refl, refl, refl, refl)
+
+-- ---- lines of the player
+
+abbrev buffers_seen : Buffers Interval → Ends × Ends
+buffers_seen b = (ends b.texts, ends b.parses)
+
+heard : (option_map buffers_seen (demands_on (plain opcodes.Sread (Variable 1 ∷ Variable 0 ∷ []))).buffers ≡ Some (span 0 9, only 7)) × ((demands_on (plain opcodes.Sread (Variable 1 ∷ Variable 0 ∷ []))).shows_status ≡ true) × (option_map buffers_seen (demands_on (plain opcodes.ShowStatus [])).buffers ≡ None) × ((demands_on (storing opcodes.Random (Constant 6 ∷ []) 0)).shows_status ≡ false) × (option_map buffers_seen (demands_on (storing opcodes.Random (Constant 6 ∷ []) 0)).buffers ≡ None)
+unfolding operation_of demands_of shape globals
+heard = (refl, refl, refl, refl, refl)
+
+hears : (slots_on (plain opcodes.Sread (Constant 640 ∷ Variable 0 ∷ [])) true ≡ Some (span 20 30 ∷ [])) × (locals_on (plain opcodes.Sread (Constant 640 ∷ Constant 656 ∷ [])) true ≡ Some (span 0 9 ∷ only 1 ∷ span 0 1 ∷ [])) × (outcome_on (plain opcodes.Sread (Constant 640 ∷ Constant 656 ∷ [])) false ≡ nothing)
+unfolding operation_of outcome_of shape globals
+hears = (refl, refl, refl)
 
 -- nothing comes of quit, and of an opcode of which nothing is said
 ends_there : (outcome_on (plain opcodes.Quit []) true ≡ nothing) × (outcome_on (plain opcodes.Quit []) false ≡ nothing) × (outcome_on (plain opcodes.Restart []) true ≡ nothing)

@@ -4,9 +4,10 @@ use Rattle.std.specs.Option.{option_and_then}
 use Rattle.zword.specs.declared.binary.BinaryOp.{BinaryOp}
 use Rattle.zword.specs.declared.binary.BinaryOp.TheVariants.{Div, Mod}
 use Rattle.zword.specs.declared.question.Question.{Question}
-use Rattle.zword.specs.declared.question.Question.TheVariants.{Equal}
+use Rattle.zword.specs.declared.question.Question.TheVariants.{Equal, Greater}
 use Rattle.zword.specs.declared.count.CountOp.{CountOp}
 use Rattle.zword.specs.Binary.{signed}
+use Rattle.zword.specs.Question.{holds}
 use Rattle.zword.specs.Count.{counting}
 use Rattle.zcode.specs.declared.instr.Operand.{Operand}
 use Rattle.zcode.specs.declared.instr.Operand.TheVariants.{Constant, Variable}
@@ -14,7 +15,7 @@ use Rattle.zcode.specs.declared.instr.Branch.{Branch}
 use Rattle.zcode.specs.declared.instr.Destination.{Destination}
 use Rattle.zcode.specs.declared.instr.Destination.TheVariants.{ReturnFalse, ReturnTrue, Relative}
 use Rattle.zcode.specs.declared.operation.Operation.{Operation}
-use Rattle.zcode.specs.declared.operation.Operation.TheVariants.{Unary, Binary, Compare, Count, Store, Load, Jump, Verify, PrintChar, PrintNumber, Print, NewLine, Nop, Quit, Return, PrintReturn, Call, Inside, TestAttribute, Follow, SetAttribute, ClearAttribute, Insert, Remove, Property, PropertyLength, SetProperty, PrintObject, PrintAt, ShowStatus, LoadArray, StoreArray}
+use Rattle.zcode.specs.declared.operation.Operation.TheVariants.{Unary, Binary, Compare, Count, Store, Load, Jump, Verify, PrintChar, PrintNumber, Print, NewLine, Nop, Quit, Return, PrintReturn, Call, Inside, TestAttribute, Follow, SetAttribute, ClearAttribute, Insert, Remove, Property, PropertyLength, SetProperty, PrintObject, PrintAt, ShowStatus, LoadArray, StoreArray, Random, ReadLine}
 use Rattle.zcode.specs.Instruction.{Instruction}
 use Rattle.zcode.specs.Operation.{operation_of, inputs, target}
 use Rattle.zdomain.specs.Domain.{SetOperations}
@@ -73,7 +74,7 @@ module _ {V : Type 0} (o : SetOperations V) (globals : List V) where
 -- ---- what an operation asks for, once for an instruction
 
 abbrev pub nothing : {V : Type 0} → Demands V
-nothing = record { indirect = false; variable = None; divisor = None; object = None; under = None; attribute = None; property = None; address = None; elements = None; texts = None; certain = true; has_text = false; shows_status = false }
+nothing = record { indirect = false; variable = None; divisor = None; object = None; under = None; attribute = None; property = None; address = None; elements = None; texts = None; buffers = None; certain = true; has_text = false; shows_status = false }
 
 abbrev pub naming : {V : Type 0} → Option ℕ → Demands V
 naming variable = record nothing { indirect = true; variable = variable }
@@ -123,6 +124,8 @@ module _ {V : Type 0} (o : SetOperations V) where
   demands_of ShowStatus arg = record nothing { shows_status = true }
   demands_of (LoadArray width) arg = record nothing { elements = Some (record { access = Reading; width = width; arrays = arg 0; indices = arg 1 }) }
   demands_of (StoreArray width) arg = record nothing { elements = Some (record { access = Writing; width = width; arrays = arg 0; indices = arg 1 }) }
+  demands_of Random arg = nothing
+  demands_of ReadLine arg = record nothing { buffers = Some (record { texts = arg 0; parses = arg 1 }); shows_status = true }
 
   abbrev pub demands_if : Option Operation → (ℕ → V) → Demands V
   demands_if None arg = nothing
@@ -209,6 +212,12 @@ module _ {V : Type 0} (o : SetOperations V) (globals : List V) where
   followed_outcome objects true = if objects == 0 then None else Some (follows_in true (o.between 1 objects))
   followed_outcome objects false = Some (follows_in false (o.single 0))
 
+-- what is drawn: from 1 to the range, where that is above 0, and 0 where it isn't (Z 15 random)
+abbrev pub drawn_set : {V : Type 0} → SetOperations V → V → V
+drawn_set o a =
+    if holds Greater (o.lowest a) 0 then o.between 1 (o.highest a)
+    else (if holds Greater (o.highest a) 0 then o.between 0 (o.highest a) else o.single 0)
+
 module _ {V : Type 0} (o : SetOperations V) (globals : List V) (told : FrozenStory) where
   -- What may come of an operation where its condition is answered so, from the sets of what it reads; e is what is known
   -- once that was read, and what is frozen stays as it is. None comes of an edge that can't be taken, and of `quit`.
@@ -246,6 +255,8 @@ module _ {V : Type 0} (o : SetOperations V) (globals : List V) (told : FrozenSto
   outcome_of ShowStatus operands arg e c = once c goes_on
   outcome_of (LoadArray width) operands arg e c = once c (gives_in (elements o told width (arg 0) (arg 1)))
   outcome_of (StoreArray width) operands arg e c = once c goes_on
+  outcome_of Random operands arg e c = once c (gives_in (drawn_set o (arg 0)))
+  outcome_of ReadLine operands arg e c = once c goes_on
 
   abbrev pub outcome_if : Option Operation → List Operand → (ℕ → V) → Shape V → Bool → Option (Outcome V)
   outcome_if None operands arg e c = None

@@ -4,7 +4,7 @@ ghost use Rattle.std.specs.Prelude.{◌≡◌};
 ghost use Rattle.zflow.specs.Transfer.{demands_if, demands_of, divisor_of, naming, nothing, small};
 ghost use Rattle.zflow.specs.Kept.{both};
 
-use crate::parts::{Access, Asked, Demands, Elements, Pairs, Texts};
+use crate::parts::{Access, Asked, Buffers, Demands, Elements, Pairs, Texts};
 use zarray::Width;
 use zcode::Operation;
 use zdomain::Domain;
@@ -40,6 +40,13 @@ fn demands_of<V: Domain>(operation: Operation, first: V, second: V) -> Demands<V
             });
         }
         Operation::ShowStatus => demands.shows_status = true,
+        Operation::ReadLine => {
+            demands.shows_status = true;
+            demands.buffers = Some(Buffers {
+                texts: first,
+                parses: second,
+            });
+        }
         Operation::LoadArray(width) => {
             demands.elements = Some(elements(Access::Reading, width, first, second));
         }
@@ -63,7 +70,8 @@ fn demands_of<V: Domain>(operation: Operation, first: V, second: V) -> Demands<V
         | Operation::Nop
         | Operation::Quit
         | Operation::Return
-        | Operation::Call => {}
+        | Operation::Call
+        | Operation::Random => {}
     }
     demands
 }
@@ -103,6 +111,7 @@ fn nothing<V: Domain>() -> Demands<V>
         address: None,
         elements: None,
         texts: None,
+        buffers: None,
         certain: true,
         has_text: false,
         shows_status: false,

@@ -14,4 +14,4 @@ mod view;
 pub use arguments::argument_set;
 pub use flow::{Edge, Flow, first_known, flow_of};
 pub use known::Known;
-pub use parts::{Access, Asked, Demands, Elements, Kept, Lead, Outcome, Pairs, Texts};
+pub use parts::{Access, Asked, Buffers, Demands, Elements, Kept, Lead, Outcome, Pairs, Texts};

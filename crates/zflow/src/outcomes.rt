@@ -3,7 +3,7 @@
 ghost use Rattle.std.specs.Prelude.{◌≡◌, List, [], Some, None, true, false, option_map};
 ghost use Rattle.zcode.specs.declared.instr.Operand.{Operand as AnOperand};
 ghost use Rattle.zcode.specs.declared.operation.Operation.TheVariants.{Count};
-ghost use Rattle.zflow.specs.Transfer.{asks, assigns_in, called_outcome, compared_kept, counted_kept, counts_in, followed_outcome, follows_in, gives_in, goes_on, jumps, local_kept, once_known, operand_kept, outcome_if, outcome_of, returns_in, small, untold, variable_set};
+ghost use Rattle.zflow.specs.Transfer.{asks, assigns_in, called_outcome, compared_kept, counted_kept, counts_in, drawn_set, followed_outcome, follows_in, gives_in, goes_on, jumps, local_kept, once_known, operand_kept, outcome_if, outcome_of, returns_in, small, untold, variable_set};
 ghost use Rattle.zflow.specs.Kept.{both};
 ghost use Rattle.zflow.specs.View.{seen};
 ghost use Rattle.zpairs.specs.Frozen.{FrozenStory};
@@ -81,7 +81,8 @@ fn outcomes_of<V: Domain>(
         | Operation::PrintObject
         | Operation::PrintAt(_)
         | Operation::ShowStatus
-        | Operation::StoreArray(_) => once(goes_on()),
+        | Operation::StoreArray(_)
+        | Operation::ReadLine => once(goes_on()),
         Operation::Quit => never(),
         Operation::Return => once(returns_in(first)),
         Operation::PrintReturn => once(returns_in(V::single(1))),
@@ -95,6 +96,7 @@ fn outcomes_of<V: Domain>(
             once(gives_in(tables.runs().elements(width, first, second)))
         }
         Operation::PropertyLength => once(gives_in(V::between(0, LONGEST_DATA))),
+        Operation::Random => once(gives_in(drawn(first))),
     }
 }
 
@@ -352,6 +354,20 @@ fn missed<V: Domain>(first: V) -> Option<Outcome<V>>
 {
     let (nothing, _) = V::narrow(Question::Equal, true, first, V::single(0))?;
     Some(gives_in(V::single(0)))
+}
+
+/// What is drawn from ranges: a number from 1 to the range, where that is above 0, and else 0.
+fn drawn<V: Domain>(ranges: V) -> V
+    ensures { result ≡ drawn_set V.operations ranges }
+{
+    let greatest = ranges.highest();
+    if ranges.lowest().cast_signed() > 0 {
+        V::between(1, greatest)
+    } else if greatest.cast_signed() > 0 {
+        V::between(0, greatest)
+    } else {
+        V::single(0)
+    }
 }
 
 /// It isn't known what the answer is, and it says nothing of locals.

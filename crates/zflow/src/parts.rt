@@ -27,6 +27,8 @@ pub struct Demands<V> {
     pub elements: Option<Elements<V>>,
     /// The texts that it prints.
     pub texts: Option<Texts<V>>,
+    /// The buffers that it stores a line of the player in.
+    pub buffers: Option<Buffers<V>>,
     /// It is known how far it jumps, if it jumps.
     pub certain: bool,
     /// A text stands behind the opcode byte.
@@ -84,6 +86,15 @@ pub struct Texts<V> {
     pub addressing: Addressing,
     /// The addresses.
     pub places: V,
+}
+
+/// The buffers that a line may be stored in.
+#[derive(Clone, Copy)]
+pub struct Buffers<V> {
+    /// The addresses of the text buffer.
+    pub texts: V,
+    /// The addresses of the parse buffer.
+    pub parses: V,
 }
 
 /// Where an instruction leads.

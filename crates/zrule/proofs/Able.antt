@@ -1,4 +1,4 @@
--- A step from a described state can be made: no opcode of this build waits, and low stacks have room.
+-- A step from a described state can be made, unless an event is wanted: low stacks have room.
 use Rattle.std.proofs.Common.{◌≡◌, ◌⊎◌, inl, inr, ℕ, ◌-◌, ◌<◌, ◌≤◌, Bool, true, false, List, [], ◌∷◌, length, Result, Ok, Err, refl, sym, ap, subst, ◌∙◌, arith, nat_lt, slice_set}
 use Rattle.std.specs.Prelude.{MatchOption, slice_get, ◌==◌}
 use Rattle.std.specs.Bool.{MatchBool}
@@ -25,7 +25,10 @@ use Rattle.zrule.proofs.Sets.{zip_length}
 use Rattle.zrule.proofs.Settling.{pauses_none, pauses_full, room_there}
 use Rattle.zrule.proofs.Stepping.{done_at, made_by}
 use Rattle.zrule.proofs.Pieces.{not_both}
-use Rattle.zrule.proofs.Safety.{Expected, ComesOf, LeadsIn, Matches, Still, admitted, all, expected, fetches, leads_in, returns, settled, steps, still_admitted}
+use Rattle.zfault.specs.declared.pause.Need.{Need}
+use Rattle.zrule.proofs.Standing.{IsStill, Still, a_quit, a_need, a_prompt}
+use Rattle.zrule.proofs.Landing.{LeadsIn}
+use Rattle.zrule.proofs.Safety.{Expected, ComesOf, Matches, admitted, all, expected, fetches, leads_in, returns, settled, steps, still_admitted}
 
 module _ {V : Type 0} (o : SetOperations V) (lawful : AreSound o) (claims : Claims V) (m : Setting) (loaded : IsLoadedStory m.story) (supports : Supports o claims m.story) (listed : IsListedIn o claims m.scope) (s : State) (d : Described o claims m.limit m.story s) (i : Instruction) (there : IsThere m.story d.at i) where
   abbrev operands : List Operand
@@ -37,7 +40,7 @@ module _ {V : Type 0} (o : SetOperations V) (lawful : AreSound o) (claims : Clai
   pub low : length s.frame.stack ≤ 64
   low = let same = zip_length (In o) d.entry.shape.slots s.frame.stack d.fits.in_slots in let few = supports.low d.at d.entry d.listed in omega (arith, same, few)
 
-  low_read : length t.frame.stack ≤ 64
+  pub low_read : length t.frame.stack ≤ 64
   low_read = let e = length-drop (pops operands) s.frame.stack in let l = low in omega (arith, e, l)
 
   -- a caller has room for what is returned
@@ -49,7 +52,7 @@ module _ {V : Type 0} (o : SetOperations V) (lawful : AreSound o) (claims : Clai
       by_stack false is h = rw is refl
 
   -- so a return has room, and a call where the frames are fewer than there may be
-  roomy : (lead : Lead V) (move : Move) (v return_place : ℕ) (gs : List Frame) → LeadsIn o lawful claims m loaded supports listed s d i there lead move → Returns o claims d.entry.routine lead → Callers o claims d.entry.routine return_place v gs → is_roomy m.limit move v gs ≡ false → (called : Called) × (move ≡ into called) × (m.limit ≤ length gs)
+  roomy : (lead : Lead V) (move : Move) (v return_place : ℕ) (gs : List Frame) → LeadsIn o lawful claims m loaded supports s d i lead move → Returns o claims d.entry.routine lead → Callers o claims d.entry.routine return_place v gs → is_roomy m.limit move v gs ≡ false → (called : Called) × (move ≡ into called) × (m.limit ≤ length gs)
   unfolding LeadsIn
   roomy lead (on b) v r gs is rule callers e = absurd cc
   roomy (Ahead a) (back x) v r gs is rule callers e = absurd is
@@ -58,39 +61,42 @@ module _ {V : Type 0} (o : SetOperations V) (lawful : AreSound o) (claims : Clai
   roomy (Returning a) (back x) v r (g ∷ gs) is rule callers e = absurd (not_both (has_room v g) (caller_room v x r callers.1.shape g (supports.low r callers.1 callers.2) (callers.3 x (rule.1 x is))) e)
   roomy lead (into called) v r gs is rule callers e = (called, refl, ltb-false (length gs) m.limit e)
 
-  -- it is made, or it is `quit`, or a call where there are as many frames as there may be
+  -- it is made, or it is `quit`, or it needs an event, or is a call where there are as many frames as there may be
   IsAble : Result Done Halt → Type 0
-  IsAble r = ((x : Done) × (r ≡ Ok x)) ⊎ ((r ≡ Err halts.Quit) ⊎ ((r ≡ Err halts.FrameLimit) × IsFull m s))
+  IsAble r = ((x : Done) × (r ≡ Ok x)) ⊎ ((r ≡ Err halts.Quit) ⊎ (((need : Need) × (r ≡ Err (halts.Need need))) ⊎ ((r ≡ Err halts.FrameLimit) × IsFull m s)))
 
-  made_able : (w : Outcome V) (effect : Effect) → effect_if m (operation_of i.opcode) (all o lawful claims m loaded supports listed s d i there).values t ≡ Ok effect → ComesOf o lawful claims m loaded supports listed s d i there (operation_of i.opcode) w → Matches o lawful claims m loaded supports listed s d i there w effect → IsAble (made_by m t i effect)
+  made_able : (w : Outcome V) (effect : Effect) → effect_if m (operation_of i.opcode) (all o lawful claims m loaded supports listed s d i there).values t ≡ Ok effect → ComesOf o lawful claims m loaded supports listed s d i there (operation_of i.opcode) w → Matches o lawful claims m loaded supports listed s d i there w effect → IsAble (made_by m s t i effect)
   unfolding IsAble
   made_able w effect does comes matches = by_room (is_roomy m.limit (course effect i.branch) s.frame.result s.callers) refl
     where
-      ok : made_by m t i effect ≡ (pauses m.limit (target i) effect (course effect i.branch) t >>= λ _. Ok (done_at m t i effect))
+      ok : made_by m s t i effect ≡ (pauses m.limit (target i) effect (course effect i.branch) t >>= λ _. Ok (done_at m s t i effect))
       ok = settled o lawful claims m loaded supports listed s d i there effect (admitted o lawful claims m loaded supports listed s d i there w effect comes matches)
 
-      by_room : (b : Bool) → is_roomy m.limit (course effect i.branch) s.frame.result s.callers ≡ b → ((x : Done) × (made_by m t i effect ≡ Ok x)) ⊎ ((made_by m t i effect ≡ Err halts.Quit) ⊎ ((made_by m t i effect ≡ Err halts.FrameLimit) × IsFull m s))
+      by_room : (b : Bool) → is_roomy m.limit (course effect i.branch) s.frame.result s.callers ≡ b → ((x : Done) × (made_by m s t i effect ≡ Ok x)) ⊎ ((made_by m s t i effect ≡ Err halts.Quit) ⊎ (((need : Need) × (made_by m s t i effect ≡ Err (halts.Need need))) ⊎ ((made_by m s t i effect ≡ Err halts.FrameLimit) × IsFull m s)))
       by_room true e =
           let none = pauses_none m.limit (target i) effect (course effect i.branch) t matches.needs matches.goes (room_there (target i) t.frame low_read) e in
-          inl (done_at m t i effect, ok ∙ ap (λ (r : Result (Unit {0}) Halt). r >>= λ _. Ok (done_at m t i effect)) none)
+          inl (done_at m s t i effect, ok ∙ ap (λ (r : Result (Unit {0}) Halt). r >>= λ _. Ok (done_at m s t i effect)) none)
       by_room false e =
           let full = pauses_full m.limit (target i) effect (course effect i.branch) t matches.needs matches.goes (room_there (target i) t.frame low_read) e in
           let many = roomy (leading o w i.branch) (course effect i.branch) s.frame.result s.frame.return_place s.callers (leads_in o lawful claims m loaded supports listed s d i there w effect comes matches) (returns o lawful claims m loaded supports listed s d i there w effect comes matches) d.callers e in
-          inr (inr (ok ∙ ap (λ (r : Result (Unit {0}) Halt). r >>= λ _. Ok (done_at m t i effect)) full, record { instruction = i; fetched = fetches o lawful claims m loaded supports listed s d i there; values = (all o lawful claims m loaded supports listed s d i there).values; after = t; read = (all o lawful claims m loaded supports listed s d i there).read; effect = effect; does = does; called = many.0; into = many.1; many = many.2 }))
+          inr (inr (inr (ok ∙ ap (λ (r : Result (Unit {0}) Halt). r >>= λ _. Ok (done_at m s t i effect)) full, record { instruction = i; fetched = fetches o lawful claims m loaded supports listed s d i there; values = (all o lawful claims m loaded supports listed s d i there).values; after = t; read = (all o lawful claims m loaded supports listed s d i there).read; effect = effect; does = does; called = many.0; into = many.1; many = many.2 })))
 
-  quits : (effect : Effect) → Still o lawful claims m loaded supports listed s d i there effect → made_by m t i effect ≡ Err halts.Quit
-  unfolding pauses
-  quits effect still =
-      let needs = still.needs in
-      let stands = still.still in
-      settled o lawful claims m loaded supports listed s d i there effect (still_admitted o lawful claims m loaded supports listed s d i there effect still) ∙ rw (needs, stands) refl
+  admitted_is : (effect : Effect) → Still effect → made_by m s t i effect ≡ (pauses m.limit (target i) effect (course effect i.branch) t >>= λ _. Ok (done_at m s t i effect))
+  admitted_is effect still = settled o lawful claims m loaded supports listed s d i there effect (still_admitted o lawful claims m loaded supports listed s d i there effect still)
 
-  able_by : (r : Result Effect Halt) → effect_if m (operation_of i.opcode) (all o lawful claims m loaded supports listed s d i there).values t ≡ r → Expected o lawful claims m loaded supports listed s d i there (operation_of i.opcode) r → IsAble (r >>= made_by m t i)
+  -- what leads nowhere is no call, and a prompt is made
+  still_able : (effect : Effect) → Still effect → IsStill effect → IsAble (made_by m s t i effect)
+  unfolding IsAble pauses
+  still_able effect still (a_quit needs quits) = let ok = admitted_is effect still in inr (inl (ok ∙ rw (needs, quits) refl))
+  still_able effect still (a_need need needs) = let ok = admitted_is effect still in inr (inr (inl (need, ok ∙ rw needs refl)))
+  still_able effect still (a_prompt line is) = let ok = admitted_is effect still in inl (done_at m s t i effect, ok ∙ rw is refl)
+
+  able_by : (r : Result Effect Halt) → effect_if m (operation_of i.opcode) (all o lawful claims m loaded supports listed s d i there).values t ≡ r → Expected o lawful claims m loaded supports listed s d i there (operation_of i.opcode) r → IsAble (r >>= made_by m s t i)
   unfolding Expected IsAble
-  able_by (Ok effect) does (inl still) = inr (inl (quits effect still))
+  able_by (Ok effect) does (inl still) = still_able effect still still.why
   able_by (Ok effect) does (inr (w, comes, matches)) = made_able w effect does comes matches
   able_by (Err h) does expected = absurd expected
 
-  pub able_there : ((x : Done) × (step m s ≡ Ok x)) ⊎ ((step m s ≡ Err halts.Quit) ⊎ ((step m s ≡ Err halts.FrameLimit) × IsFull m s))
+  pub able_there : ((x : Done) × (step m s ≡ Ok x)) ⊎ ((step m s ≡ Err halts.Quit) ⊎ (((need : Need) × (step m s ≡ Err (halts.Need need))) ⊎ ((step m s ≡ Err halts.FrameLimit) × IsFull m s)))
   unfolding IsAble
   able_there = subst IsAble (sym (steps o lawful claims m loaded supports listed s d i there)) (able_by (effect_if m (operation_of i.opcode) (all o lawful claims m loaded supports listed s d i there).values t) refl (expected o lawful claims m loaded supports listed s d i there))

@@ -14,7 +14,7 @@ use Rattle.zflow.specs.declared.flow.Flow.{Flow}
 use Rattle.zflow.specs.Transfer.{demands_of, demands_if, read_set, argument_sets}
 use Rattle.zflow.specs.Flow.{IsFlow}
 use Rattle.zrule.specs.declared.rule.Rule.{Rule}
-use Rattle.zrule.specs.declared.rule.Rule.TheVariants.{Decodes, Height, Local, Successor, Object, Attribute, Property, Divisor, Write, Read, Text, Called, Returned, Known, Stored, High, Status}
+use Rattle.zrule.specs.declared.rule.Rule.TheVariants.{Decodes, Height, Local, Successor, Object, Attribute, Property, Divisor, Write, Read, Text, Called, Returned, Buffers, Known, Stored, High, Status}
 use Rattle.zrule.specs.Claims.{Entry, Claims, frozen_in, told_of}
 use Rattle.zrule.specs.Rules.{IsThere, demands_at, IsKnown, Divides, KnowsAnswers, PrintsFixed, Reads, CallsBegin, Asks, Keeps}
 use Rattle.zpairs.specs.Frozen.{FrozenStory, frozen_by}
@@ -124,6 +124,7 @@ module _ {V : Type 0} (o : SetOperations V) (claims : Claims V) (story : LoadedS
   asks_keeps Text = every (λ j. Asks o claims story p e j Text)
   asks_keeps Called = every (λ j. Asks o claims story p e j Called)
   asks_keeps Returned = every (λ j. Asks o claims story p e j Returned)
+  asks_keeps Buffers = every (λ j. Asks o claims story p e j Buffers)
   asks_keeps Known = every (λ j. Asks o claims story p e j Known)
   asks_keeps Stored = every (λ j. Asks o claims story p e j Stored)
   asks_keeps High = every (λ j. Asks o claims story p e j High)

@@ -8,6 +8,9 @@ mod Whatever
 pub mod Answering
 mod Printing
 pub mod Storing
+pub mod Standing
+pub mod Drawing
+mod Hearing
 mod Asking
 pub mod Sets
 mod Memory
@@ -22,6 +25,8 @@ mod Together
 mod Supplied
 mod Pieces
 pub mod Opening
+pub mod Given
+pub mod Landing
 pub mod Safety
 pub mod Able
 pub mod Steps

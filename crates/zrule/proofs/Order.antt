@@ -6,7 +6,7 @@ use Rattle.zstory.specs.LoadedStory.{LoadedStory}
 use Rattle.zdomain.specs.Domain.{SetOperations}
 use Rattle.std.specs.List.{AllByRecursion}
 use Rattle.zrule.specs.declared.rule.Rule.{Rule}
-use Rattle.zrule.specs.declared.rule.Rule.TheVariants.{Decodes, Height, Local, Successor, Object, Attribute, Property, Divisor, Write, Read, Text, Called, Returned, Known, Stored, High, Status}
+use Rattle.zrule.specs.declared.rule.Rule.TheVariants.{Decodes, Height, Local, Successor, Object, Attribute, Property, Divisor, Write, Read, Text, Called, Returned, Buffers, Known, Stored, High, Status}
 use Rattle.zrule.specs.Claims.{Claims, Entry}
 use Rattle.zrule.specs.Numbers.{number_of}
 use Rattle.zrule.specs.Rules.{IsLowestBroken, Keeps}
@@ -15,7 +15,7 @@ use Rattle.zrule.proofs.Ordered.{IsAmong, Rises, among_above, among_kept, more_k
 
 -- those that are asked of an instruction that is there
 abbrev pub asked : List Rule
-asked = Height ∷ Local ∷ Successor ∷ Object ∷ Attribute ∷ Property ∷ Divisor ∷ Write ∷ Read ∷ Text ∷ Called ∷ Returned ∷ Known ∷ Stored ∷ High ∷ Status ∷ []
+asked = Height ∷ Local ∷ Successor ∷ Object ∷ Attribute ∷ Property ∷ Divisor ∷ Write ∷ Read ∷ Text ∷ Called ∷ Returned ∷ Buffers ∷ Known ∷ Stored ∷ High ∷ Status ∷ []
 
 -- every other rule is one of them
 others : (q : Rule) → (q ≡ Decodes) ⊎ IsAmong q asked
@@ -32,14 +32,15 @@ others Read = inr (inr (inr (inr (inr (inr (inr (inr (inr (inl refl)))))))))
 others Text = inr (inr (inr (inr (inr (inr (inr (inr (inr (inr (inl refl))))))))))
 others Called = inr (inr (inr (inr (inr (inr (inr (inr (inr (inr (inr (inl refl)))))))))))
 others Returned = inr (inr (inr (inr (inr (inr (inr (inr (inr (inr (inr (inr (inl refl))))))))))))
-others Known = inr (inr (inr (inr (inr (inr (inr (inr (inr (inr (inr (inr (inr (inl refl)))))))))))))
-others Stored = inr (inr (inr (inr (inr (inr (inr (inr (inr (inr (inr (inr (inr (inr (inl refl))))))))))))))
-others High = inr (inr (inr (inr (inr (inr (inr (inr (inr (inr (inr (inr (inr (inr (inr (inl refl)))))))))))))))
-others Status = inr (inr (inr (inr (inr (inr (inr (inr (inr (inr (inr (inr (inr (inr (inr (inr (inl refl))))))))))))))))
+others Buffers = inr (inr (inr (inr (inr (inr (inr (inr (inr (inr (inr (inr (inr (inl refl)))))))))))))
+others Known = inr (inr (inr (inr (inr (inr (inr (inr (inr (inr (inr (inr (inr (inr (inl refl))))))))))))))
+others Stored = inr (inr (inr (inr (inr (inr (inr (inr (inr (inr (inr (inr (inr (inr (inr (inl refl)))))))))))))))
+others High = inr (inr (inr (inr (inr (inr (inr (inr (inr (inr (inr (inr (inr (inr (inr (inr (inl refl))))))))))))))))
+others Status = inr (inr (inr (inr (inr (inr (inr (inr (inr (inr (inr (inr (inr (inr (inr (inr (inr (inl refl)))))))))))))))))
 
 -- and their numbers rise
 rising : Rises number_of (number_of Decodes) asked
-rising = (omega arith, (omega arith, (omega arith, (omega arith, (omega arith, (omega arith, (omega arith, (omega arith, (omega arith, (omega arith, (omega arith, (omega arith, (omega arith, (omega arith, (omega arith, (omega arith, tt))))))))))))))))
+rising = (omega arith, (omega arith, (omega arith, (omega arith, (omega arith, (omega arith, (omega arith, (omega arith, (omega arith, (omega arith, (omega arith, (omega arith, (omega arith, (omega arith, (omega arith, (omega arith, (omega arith, tt)))))))))))))))))
 
 module _ (P : Rule → Type 0) where
   pub kept_all : P Decodes → AllByRecursion P asked → (q : Rule) → P q
@@ -70,7 +71,7 @@ module _ (P : Rule → Type 0) where
       by_others (inr among) = let above = among_above number_of (number_of Decodes) asked q rising among in omega (arith, l, above)
 
 -- the first that doesn't hold is the lowest that is broken
-pub lowest_broken : {V : Type 0} (o : SetOperations V) (claims : Claims V) (story : LoadedStory) (p : ℕ) (e : Entry V) (k : ℕ) (default : Rule) → k < 16 → (Keeps o claims story p e (slice_index_or asked k default) → ⊥) → Keeps o claims story p e Decodes → AllByRecursion (Keeps o claims story p e) (take k asked) → IsLowestBroken o claims story p e (slice_index_or asked k default)
+pub lowest_broken : {V : Type 0} (o : SetOperations V) (claims : Claims V) (story : LoadedStory) (p : ℕ) (e : Entry V) (k : ℕ) (default : Rule) → k < 17 → (Keeps o claims story p e (slice_index_or asked k default) → ⊥) → Keeps o claims story p e Decodes → AllByRecursion (Keeps o claims story p e) (take k asked) → IsLowestBroken o claims story p e (slice_index_or asked k default)
 lowest_broken o claims story p e k default within broken there kept =
     let at = some_at asked k within in
     let same : slice_index_or asked k default ≡ at.0 = get_or_from_slice_get asked k at.0 default at.1 in

@@ -1,6 +1,6 @@
 -- What a session relies on, where it stands in a described state.
 use Rattle.std.proofs.Common.{◌≡◌, inl, inr, ℕ, ◌≤◌, false, List, length, drop, Option, Some, Ok, sym, ap, subst, ◌∙◌, arith}
-use Rattle.std.specs.Prelude.{IsTrue, IfSome, ◌==◌}
+use Rattle.std.specs.Prelude.{IsTrue, IfSome, is_some, ◌==◌}
 use Rattle.zcode.specs.declared.operation.Operation.{Operation}
 use Rattle.zcode.specs.declared.operation.Operation.TheVariants.{Jump, Call}
 use Rattle.zcode.specs.declared.instr.Operand.{Operand}
@@ -9,7 +9,7 @@ use Rattle.zcode.specs.Operation.{operation_of, inputs, target}
 use Rattle.zcode.specs.Reading.{instruction_at}
 use Rattle.zdomain.specs.Domain.{SetOperations, AreSound, In}
 use Rattle.zstate.specs.State.{State, Setting, popped, read_operands}
-use Rattle.zstate.specs.Step.{Effect, admits, arg, changed, course, effect_if, fetch, plan, settle, unpacked}
+use Rattle.zstate.specs.Step.{Effect, admits, arg, changed, course, effect_if, fetch, pauses, plan, settle, unpacked}
 use Rattle.zstate.proofs.Steps.{bind_ok, ok_is}
 use Rattle.zflow.specs.declared.parts.Outcome.{Outcome}
 use Rattle.zflow.specs.Transfer.{Shape, pops, slots_with, leading, demands_of, demands_if, read_set, argument_sets, enters_in}
@@ -19,9 +19,10 @@ use Rattle.zrule.specs.Rules.{Begins, IsThere, Supports, comes_back}
 use Rattle.zrule.specs.Described.{Described, IsListedIn, IsLoadedStory}
 use Rattle.zrule.proofs.Sets.{ReadsAll, zip_length}
 use Rattle.zrule.proofs.Settling.{pauses_there}
+use Rattle.zrule.proofs.Standing.{IsStill, a_quit, a_need, a_prompt}
 use Rattle.zrule.proofs.Pieces.{not_zero, no_lower, same_read}
 use Rattle.zrule.proofs.Safety.{ComesOf, Matches, Expected, edge, expected, all, asked, known_jump, CallsOf, begins_said, entry_edge, fetches}
-use Rattle.zrule.proofs.Able.{low}
+use Rattle.zrule.proofs.Able.{low, low_read}
 
 module _ {V : Type 0} (o : SetOperations V) (lawful : AreSound o) (claims : Claims V) (m : Setting) (loaded : IsLoadedStory m.story) (supports : Supports o claims m.story) (listed : IsListedIn o claims m.scope) (s : State) (d : Described o claims m.limit m.story s) (i : Instruction) (there : IsThere m.story d.at i) where
   abbrev operands : List Operand
@@ -72,11 +73,16 @@ module _ {V : Type 0} (o : SetOperations V) (lawful : AreSound o) (claims : Clai
       let more = no_lower (comes_back o claims (leading o w i.branch)) (target i) on_edge.0.slots in
       omega (arith, same, high, more)
 
+  -- and with one that leads nowhere
+  low_still : (effect : Effect) → IsStill effect → pauses m.limit (target i) effect (course effect i.branch) (popped (pops operands) s) ≡ Ok tt → length (changed m.story i effect (popped (pops operands) s)).frame.stack ≤ 64
+  unfolding changed
+  low_still effect (a_quit needs quits) ok = absurd (pauses_there m.limit (target i) effect (course effect i.branch) (popped (pops operands) s) (inr quits) ok)
+  low_still effect (a_need need needs) ok = absurd (pauses_there m.limit (target i) effect (course effect i.branch) (popped (pops operands) s) (inl (ap is_some needs)) ok)
+  low_still effect (a_prompt line is) ok = rw is (low_read o lawful claims m loaded supports listed s d i there)
+
   low_if : (effect : Effect) → Expected o lawful claims m loaded supports listed s d i there (operation_of i.opcode) (Ok effect) → settle m.limit i effect (popped (pops operands) s) ≡ Ok tt → length (changed m.story i effect (popped (pops operands) s)).frame.stack ≤ 64
   unfolding Expected
-  low_if effect (inl still) settled =
-      let a = bind_ok (admits (target i) effect (course effect i.branch) (popped (pops operands) s)) _ tt settled in
-      absurd (pauses_there m.limit (target i) effect (course effect i.branch) (popped (pops operands) s) (inr still.still) a.2)
+  low_if effect (inl still) settled = low_still effect still.why (bind_ok (admits (target i) effect (course effect i.branch) (popped (pops operands) s)) _ tt settled).2
   low_if effect (inr (w, comes, matches)) settled = low_with w effect comes matches
 
   -- so it is of every step that is planned

@@ -1,4 +1,4 @@
--- What is said of every memory of a play stays so when attributes, links of objects or properties are written.
+-- What is said of every memory of a play stays so when attributes, links of objects, properties or open bytes are written.
 use Rattle.std.proofs.Common.{◌≡◌, ◌⊎◌, inl, inr, ℕ, ◌+◌, ◌*◌, ◌/◌, ◌<◌, ◌≤◌, Bool, false, List, length, Result, Ok, Err, refl, sym, ap, subst, ◌∙◌, arith}
 use Rattle.std.specs.Prelude.{IfOk}
 use Rattle.std.specs.Result.{IsOkAnd}
@@ -91,8 +91,8 @@ module _ {V : Type 0} (o : SetOperations V) (claims : Claims V) (story : LoadedS
   inserted_described object under least most first last = moved_described _ (inserted_only story.objects memory has object least most under first last) (inserted_tree story.objects memory has object least most under first last d.tree)
 
   -- bytes are written that are neither globals nor what objects keep of their own, and of which nothing is fixed
-  module _ (property : Property) (apart : (p : ℕ) → IsDataByte property p → (IsWithin (globals story) 480 p ⊎ IsObjectState story p) → ⊥) (unfixed : (p : ℕ) → IsDataByte property p → IsFixed story (frozen_in claims) p → ⊥) (after : List ℕ) (differs : DiffersOnly (IsDataByte property) memory after) where
-    other_stays : (p : ℕ) → (IsDataByte property p → ⊥) → byte_at after p ≡ byte_at memory p
+  module _ (IsWritten : ℕ → Type 0) (apart : (p : ℕ) → IsWritten p → (IsWithin (globals story) 480 p ⊎ IsObjectState story p) → ⊥) (unfixed : (p : ℕ) → IsWritten p → IsFixed story (frozen_in claims) p → ⊥) (after : List ℕ) (differs : DiffersOnly IsWritten memory after) where
+    other_stays : (p : ℕ) → (IsWritten p → ⊥) → byte_at after p ≡ byte_at memory p
     other_stays p outside = elim (differs.rest p) [ inl e ↦ e | inr is ↦ absurd (outside is) ]
 
     own_stays : (p : ℕ) → (IsWithin (globals story) 480 p ⊎ IsObjectState story p) → byte_at after p ≡ byte_at memory p
@@ -140,7 +140,7 @@ module _ {V : Type 0} (o : SetOperations V) (claims : Claims V) (story : LoadedS
 
   -- a property is given a word
   pub filled_described : (properties : HasPropertyTables story) (property : Property) (there : (p : ℕ) → IsDataByte property p → IsPropertyData story p) (unfrozen : (p : ℕ) → IsDataByte property p → (frozen_in claims) p ≡ false) (after : List ℕ) → DiffersOnly (IsDataByte property) memory after → header.object_table after ≡ object_table story → DescribedMemory o claims story after
-  filled_described properties property there unfrozen = written_described property
+  filled_described properties property there unfrozen = written_described (IsDataByte property)
       (λ p is own. properties.data_still p (there p is) (inr own))
       (λ p is fixed. data_unfixed story (frozen_in claims) properties p (there p is) (unfrozen p is) fixed.closed)
 
@@ -149,7 +149,7 @@ module _ {V : Type 0} (o : SetOperations V) (claims : Claims V) (story : LoadedS
   state_closed p is = let inside = is.inside in an_entry (record { object = is.object; first = is.first; last = is.last; inside = (inside.0, omega (arith, inside.1)) })
 
   -- open bytes are given others
-  pub stored_described : (property : Property) (free : (p : ℕ) → IsDataByte property p → IsOpen story (frozen_in claims) p) (after : List ℕ) → DiffersOnly (IsDataByte property) memory after → header.object_table after ≡ object_table story → DescribedMemory o claims story after
-  stored_described property free = written_described property
+  pub stored_described : (IsWritten : ℕ → Type 0) (free : (p : ℕ) → IsWritten p → IsOpen story (frozen_in claims) p) (after : List ℕ) → DiffersOnly IsWritten memory after → header.object_table after ≡ object_table story → DescribedMemory o claims story after
+  stored_described IsWritten free = written_described IsWritten
       (λ p is own. elim own [ inl is_global ↦ free p is (a_global is_global) | inr state ↦ free p is (state_closed p state) ])
       (λ p is fixed. free p is fixed.closed)

@@ -13,22 +13,10 @@ use Rattle.zrule.specs.declared.rule.Rule.TheVariants as rules
 use Rattle.zrule.specs.Claims.{Claims}
 use Rattle.zrule.specs.Rules.{Supports}
 use Rattle.zrule.specs.Described.{Described, IsSafe, IsListedIn, IsNoFault, IsLoadedStory}
+use Rattle.zrule.proofs.Given.{given_described}
 use Rattle.zrule.proofs.Opening.{opening_described}
 use Rattle.zrule.proofs.Steps.{step_safe}
 use Rattle.zrule.proofs.Stepping.{read_within}
-
--- an event changes nothing that is described
-pub described_given : {V : Type 0} (o : SetOperations V) (claims : Claims V) (limit : ℕ) (story : LoadedStory) (e : Event) (s : State) → Described o claims limit story s → Described o claims limit story (give e s)
-described_given o claims limit story e s d = record {
-  is_state = record { memory = d.is_state.memory; bytes = d.is_state.bytes; objects = d.is_state.objects; tables = d.is_state.tables; frames = d.is_state.frames; few = d.is_state.few; count = d.is_state.count };
-  at = d.at;
-  place = d.place;
-  entry = d.entry;
-  listed = d.listed;
-  fits = record { in_locals = d.fits.in_locals; in_slots = d.fits.in_slots };
-  callers = d.callers;
-  memory = d.memory;
-}
 
 module _ {V : Type 0} (o : SetOperations V) (lawful : AreSound o) (claims : Claims V) (m : Setting) (loaded : IsLoadedStory m.story) (supports : Supports o claims m.story) (listed : IsListedIn o claims m.scope) where
   -- it stopped with no fault, in a described state
@@ -65,7 +53,7 @@ module _ {V : Type 0} (o : SetOperations V) (lawful : AreSound o) (claims : Clai
   run_fine : (events : List Event) (n : ℕ) (s : State) → Described o claims m.limit m.story s → Fine (run m events n s)
   unfolding run
   run_fine [] n s d = until_fine _ (λ h k t e u. stands h t e u) n s d
-  run_fine (x ∷ events) n s d = until_fine _ (λ h k t e u. chosen (is_answered h x) _ _ (run_fine events k (give x t) (described_given o claims m.limit m.story x t u)) (stands h t e u)) n s d
+  run_fine (x ∷ events) n s d = until_fine _ (λ h k t e u. chosen (is_answered h x) _ _ (run_fine events k (give x t) (given_described o claims m.story m.limit x t u)) (stands h t e u)) n s d
 
   pub run_safe : (events : List Event) (n : ℕ) (s : State) → Described o claims m.limit m.story s → IsNoFault (run m events n s).stop × Described o claims m.limit m.story (run m events n s).state
   run_safe events n s d = let fine = run_fine events n s d in (fine.no_fault, fine.described)

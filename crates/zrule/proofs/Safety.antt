@@ -1,8 +1,8 @@
 -- A step from a described state is safe, by the parts of its effect.
-use Rattle.std.proofs.Common.{◌≡◌, ◌⊎◌, inl, inr, ℕ, suc, ◌+◌, ◌-◌, ◌<◌, ◌≤◌, Bool, true, false, List, [], ◌∷◌, ◌++◌, length, drop, Option, Some, None, Result, Ok, Err, refl, sym, ap, subst, ◌∙◌, arith, nat_lt, slice_set, if◌then◌else◌}
+use Rattle.std.proofs.Common.{◌≡◌, ◌⊎◌, inl, inr, ℕ, ◌+◌, ◌-◌, ◌<◌, ◌≤◌, Bool, true, false, List, [], ◌∷◌, ◌++◌, length, drop, Option, Some, None, Result, Ok, Err, refl, sym, ap, subst, ◌∙◌, arith, nat_lt, slice_set, if◌then◌else◌}
 use Rattle.std.specs.Prelude.{ℤ, pos, ◌+ℤ◌, IsOk, IfSome, MatchOption, IsTrue, is_some, not, option_map, slice_get, ◌==◌, ◌&&◌}
 use Rattle.std.specs.Bool.{OnTrue, MatchBool}
-use Rattle.std.specs.List.{AllZip, AllByRecursion}
+use Rattle.std.specs.List.{AllByRecursion}
 use Rattle.std.proofs.lemmas.Bool.{ltb-false, eqb-true, lt-ltb}
 use Rattle.zword.specs.declared.question.Question.{Question}
 use Rattle.zword.specs.declared.question.Question.TheVariants.{Equal}
@@ -17,10 +17,8 @@ use Rattle.ztext.specs.declared.error.TextError.{TextError}
 use Rattle.ztext.specs.Output.{output_at}
 use Rattle.zcode.specs.declared.instr.Operand.{Operand}
 use Rattle.zcode.specs.declared.instr.Operand.TheVariants.{Constant, Variable}
-use Rattle.zcode.specs.declared.instr.Destination.{Destination}
-use Rattle.zcode.specs.declared.instr.Destination.TheVariants.{ReturnFalse, ReturnTrue, Relative}
 use Rattle.zcode.specs.declared.operation.Operation.{Operation}
-use Rattle.zcode.specs.declared.operation.Operation.TheVariants.{Unary, Binary, Compare, Count, Store, Load, Jump, Verify, PrintChar, PrintNumber, Print, NewLine, Nop, Quit, Return, PrintReturn, Call, Inside, TestAttribute, Follow, SetAttribute, ClearAttribute, Insert, Remove, Property, PropertyLength, SetProperty, PrintObject, PrintAt, ShowStatus, LoadArray, StoreArray}
+use Rattle.zcode.specs.declared.operation.Operation.TheVariants.{Unary, Binary, Compare, Count, Store, Load, Jump, Verify, PrintChar, PrintNumber, Print, NewLine, Nop, Quit, Return, PrintReturn, Call, Inside, TestAttribute, Follow, SetAttribute, ClearAttribute, Insert, Remove, Property, PropertyLength, SetProperty, PrintObject, PrintAt, ShowStatus, LoadArray, StoreArray, Random, ReadLine}
 use Rattle.zcode.specs.Instruction.{Instruction}
 use Rattle.zcode.specs.Operation.{operation_of, inputs, target}
 use Rattle.zcode.specs.Playable.{playable}
@@ -44,28 +42,33 @@ use Rattle.zdomain.specs.Domain.{SetOperations, AreSound, In, Within}
 use Rattle.zstate.specs.declared.halt.Halt.{Halt}
 use Rattle.zstate.specs.declared.halt.Halt.TheVariants as halts
 use Rattle.zstate.specs.InTurn.{◌>>=◌}
-use Rattle.zstate.specs.State.{Frame, State, Setting, IsState, at_place, popped, with_stack, with_locals, with_memory, write_word, global, exists, put_named, put_in_place, read_in_place, has_head, fault}
-use Rattle.zstate.specs.Step.{Called, Move, on, back, into, calling, closing, called_at, call_of, unpacked, arguments, initial, behind_head, place_of, entered, Effect, Done, way, arg, asked_of, giving, assigning, testing, printing, jumping, following, marking, rearranging, rewriting, rewritten, answering, reading, filling, storing, showing, is_data_writable, fetch, printed, print_at, effect_of, effect_if, has_caller, is_taken, turned, course, admits, pauses, assigned, changed, stored, left, moved, advance, act, step}
+use Rattle.zstate.specs.State.{State, Setting, IsState, popped, with_stack, with_locals, with_memory, write_word, global, exists, put_named, put_in_place, read_in_place, has_head, fault}
+use Rattle.zstate.specs.Step.{Move, on, back, calling, closing, called_at, call_of, unpacked, arguments, Effect, Done, way, arg, asked_of, giving, assigning, testing, printing, jumping, following, marking, rearranging, rewriting, rewritten, answering, reading, filling, storing, showing, is_data_writable, fetch, printed, print_at, effect_of, effect_if, has_caller, is_taken, turned, course, admits, pauses, assigned, changed, stored, advance, act, step, came, drawn, used}
 use Rattle.zstate.proofs.Effects.{table_place}
-use Rattle.zstate.proofs.Keeps.{put_aside, changed_aside, step_keeps}
-use Rattle.zflow.specs.declared.parts.Lead.{Lead}
-use Rattle.zflow.specs.declared.parts.Lead.TheVariants.{Ahead, Returning, Entering}
+use Rattle.zstate.proofs.Keeps.{changed_aside, step_keeps}
 use Rattle.zflow.specs.declared.parts.Kept.{Kept}
 use Rattle.zflow.specs.declared.parts.Outcome.{Outcome}
 use Rattle.zflow.specs.declared.parts.Demands.{Demands}
 use Rattle.zpairs.specs.Pairs.{AreUnfrozen}
-use Rattle.zflow.specs.Transfer.{Shape, pops, variable_set, small, local_kept, operand_kept, both_kept, untold, counted_set, demands_of, demands_if, goes_on, gives_in, assigns_in, asks, counts_in, follows_in, returns_in, enters_in, argument_sets, jumps, outcome_of, outcome_if, leading, turned_to, named_with, with_result, with_assigned, narrowed, read_set, mid_shape, changed_by, after}
+use Rattle.zflow.specs.Transfer.{Shape, drawn_set, pops, variable_set, small, local_kept, operand_kept, both_kept, untold, counted_set, demands_of, demands_if, goes_on, gives_in, assigns_in, asks, counts_in, follows_in, returns_in, enters_in, argument_sets, jumps, outcome_of, outcome_if, leading, named_with, with_result, with_assigned, narrowed, read_set, mid_shape, changed_by, after}
 use Rattle.zrule.specs.declared.rule.Rule.TheVariants as rules
 use Rattle.zrule.specs.Claims.{Claims, frozen_in, told_of}
-use Rattle.zrule.specs.Rules.{Begins, Enters, TakesBack, result_if, result_at, Leads, HasLineObject, IsThere, IsKnown, IsNamed, IsVariable, HasTop, Supports, Takes, TakesInPlace, GoesOn, Returns, OnEdge, Whatever, IsLow, demands_at, AreObjects, NamesObject, Finds, FindsProperty, Spares, AreRead, AreWritten, KnowsAnswers}
-use Rattle.zrule.specs.Described.{Callers, Described, DescribedMemory, Fits, FitsWith, IsSafe, IsListedIn, IsLoadedStory}
+use Rattle.zrule.specs.Rules.{Begins, Enters, TakesBack, HasLineObject, IsThere, IsKnown, IsNamed, IsVariable, HasTop, Supports, Takes, TakesInPlace, GoesOn, Returns, OnEdge, Whatever, IsLow, demands_at, AreObjects, NamesObject, Finds, FindsProperty, Spares, AreRead, AreWritten, KnowsAnswers}
+use Rattle.zrule.specs.Described.{Described, DescribedMemory, Fits, IsSafe, IsListedIn, IsLoadedStory}
 use Rattle.zrule.proofs.Sets.{ReadsAll, reads_all, fits_popped, zip_set, zip_length}
 use Rattle.zrule.proofs.Printing.{line_shown, name_known, text_printed}
 use Rattle.zrule.proofs.Unchanged.{static_fixed, drop_same}
-use Rattle.zrule.proofs.Called.{starts_in, called_same, head_same, arguments_in}
+use Rattle.zrule.proofs.Called.{called_same, head_same, arguments_in}
 use Rattle.zrule.proofs.Settling.{PausesAtMost, pauses_fine, pauses_there, admits_is}
+use Rattle.zrule.proofs.Landing.{LeadsIn, IsCall, judged, lands, turned_in}
+use Rattle.zrule.proofs.Standing.{IsStill, Still, a_quit, a_need, a_prompt}
+use Rattle.zrule.proofs.Given.{prompted_described, spent_mid}
+use Rattle.zrule.proofs.Drawing.{Draws, number_drawn, word_needed, random_comes}
+use Rattle.zrule.proofs.Hearing.{Hears, first_asked, line_stored, line_needed, buffer_read, hearing_comes, line_described, line_taken}
+use Rattle.zruns.specs.Buffers.{AreBuffers, IsParseBuffer, IsTextBuffer}
+use Rattle.zfault.specs.declared.pause.Need.TheVariants as needs
 use Rattle.zrule.proofs.Framed.{FitsFrame, in_place_fits, result_fits}
-use Rattle.zrule.proofs.Fitting.{IsIn, exists_in, named_in, length_with, given_fits, covered, covered_with, fits_there, Mid, put_mid, GivenIn, stored_mid}
+use Rattle.zrule.proofs.Fitting.{IsIn, exists_in, named_in, length_with, Mid, GivenIn, stored_mid}
 use Rattle.zrule.proofs.Memory.{global_put}
 use Rattle.zrule.proofs.Parts.{Hold, HoldsOne, narrowed_fits, variable_there, small_is}
 use Rattle.zrule.proofs.Stepping.{fetch_is, done_at, made_by, step_is}
@@ -134,6 +137,7 @@ module _ {V : Type 0} (o : SetOperations V) (lawful : AreSound o) (claims : Clai
     text : OnTrue out.has_text (HasFixedText m.story (frozen_in claims) (d.at + 1))
     texts : IfSome out.texts (λ x. AreFixedTexts o m.story (frozen_in claims) x.addressing x.places)
     line : OnTrue out.shows_status (HasLineObject o claims m.story)
+    buffers : IfSome out.buffers (λ b. AreBuffers o m.story (frozen_in claims) b.texts b.parses)
 
   -- what get_prop and get_prop_addr give is known, since what they ask for is found
   answers_known : KnowsAnswers o claims m.story i d.entry.shape
@@ -159,121 +163,11 @@ module _ {V : Type 0} (o : SetOperations V) (lawful : AreSound o) (claims : Clai
     text = (supports.each d.at d.entry d.listed rules.Text i there).0;
     texts = (supports.each d.at d.entry d.listed rules.Text i there).1;
     line = supports.each d.at d.entry d.listed rules.Status i there;
+    buffers = supports.each d.at d.entry d.listed rules.Buffers i there;
   }
-
-  -- ---- where a step leads, as the rules expect it
 
   abbrev given_args : List V
   given_args = argument_sets o claims.globals i d.entry.shape
-
-  unfoldable pub IsCall : ℕ → Called → Type 0
-  IsCall p called = (xs : List ℕ) × AllZip (In o) given_args xs × (called ≡ called_at m.story.memory p xs)
-
-  unfoldable pub LeadsIn : Lead V → Move → Type 0
-  LeadsIn (Ahead a) (on b) = a ≡ b
-  LeadsIn (Returning a) (back x) = In o a x
-  LeadsIn (Entering a) (into called) = (x : ℕ) × In o a x × (x ≡ 0 → ⊥) × IsCall (unpacked x) called
-  LeadsIn (Ahead a) (back x) = ⊥
-  LeadsIn (Ahead a) (into called) = ⊥
-  LeadsIn (Returning a) (on b) = ⊥
-  LeadsIn (Returning a) (into called) = ⊥
-  LeadsIn (Entering a) (on b) = ⊥
-  LeadsIn (Entering a) (back x) = ⊥
-
-  turned_in : (way : Option Destination) (lead : Lead V) (move : Move) → LeadsIn lead move → LeadsIn (turned_to o way lead) (turned way move)
-  unfolding LeadsIn
-  turned_in None lead move h = h
-  turned_in (Some (Relative x)) lead move h = refl
-  turned_in (Some ReturnFalse) lead move h = lawful.single 0 (omega arith)
-  turned_in (Some ReturnTrue) lead move h = lawful.single 1 (omega arith)
-
-  -- ---- by where it leads
-
-  -- to a place, where less is stated than is known
-  arrives : (e : Shape V) (u : State) (to : ℕ) → Known_in e u → u.place ≡ pos to → Leads o claims d.entry.routine e to → IsState m.limit m.story u → Described o claims m.limit m.story u
-  arrives e u to known place leads state = record {
-    is_state = state;
-    at = to;
-    place = place;
-    entry = leads.entry;
-    listed = leads.listed;
-    fits = covered o claims e leads.entry.shape u.frame.locals u.frame.stack leads.covered known.fits;
-    callers = subst (λ (r : ℕ). Callers o claims r u.frame.return_place u.frame.result u.callers) (sym leads.same) known.callers;
-    memory = known.memory;
-  }
-
-  -- back to the caller: the tie to it is used up
-  returned : (a : V) (x : ℕ) (u : State) (gs : List Frame) → In o a x → Returns o claims d.entry.routine (Returning a) → DescribedMemory o claims m.story u.memory → Callers o claims d.entry.routine u.frame.return_place u.frame.result gs → IsState m.limit m.story (left m.story x gs u) → Described o claims m.limit m.story (left m.story x gs u)
-  returned a x u [] member rule kept callers state = absurd (omega (arith, rule.0, callers))
-  returned a x u (g ∷ gs) member rule kept callers state =
-      let e = callers.1 in let v = u.frame.result in
-      let caller : State = record u { frame = g; callers = gs; place = pos u.frame.return_place } in
-      let known = put_mid o claims m.story loaded supports.tables e.routine v x e.shape caller (callers.3 x (rule.1 x member)) kept callers.4 in
-      record {
-        is_state = state;
-        at = u.frame.return_place;
-        place = (put_aside m.story v x caller).place;
-        entry = e;
-        listed = callers.2;
-        fits = known.fits;
-        callers = known.callers;
-        memory = known.memory;
-      }
-
-  -- into a routine: one tie more
-  enters : (p : ℕ) (called : Called) (e : Shape V) (u : State) → IsCall p called → u.place ≡ pos (d.at + i.size) → Known_in e u → IsIn (target i) u.frame.locals → Begins o claims m.story given_args p
-      → Leads o claims d.entry.routine (with_result (Some (result_at o claims p)) (target i) e) (d.at + i.size) → Takes o claims (Some (result_at o claims p)) (target i) → IsState m.limit m.story (entered called (target i) u) → Described o claims m.limit m.story (entered called (target i) u)
-  unfolding IsCall
-  enters p called e u (xs, zip, is) place known exists begins leads takes state =
-      let v = target i in let q = d.at + i.size in
-      let result : result_at o claims p ≡ claims.result (suc begins.index) = ap (result_if o claims) begins.routine in
-      let tie : (x : ℕ) → In o (claims.result (suc begins.index)) x → FitsWith o claims v x leads.entry.shape u.frame = λ x member.
-      covered_with o claims v x _ leads.entry.shape u.frame leads.covered (given_fits o claims v x (result_at o claims p) e u.frame (subst (λ (a : V). In o a x) (sym result) member) exists takes known.fits) in
-      let rest : Callers o claims leads.entry.routine u.frame.return_place u.frame.result u.callers = subst (λ (r : ℕ). Callers o claims r u.frame.return_place u.frame.result u.callers) (sym leads.same) known.callers in
-      let back : Callers o claims (suc begins.index) q v (u.frame ∷ u.callers) = (omega arith, leads.entry, leads.listed, tie, rest) in
-      let at : (z : ℤ) → z ≡ pos q → Callers o claims (suc begins.index) (place_of z) v (u.frame ∷ u.callers) = λ z same. subst (λ (y : ℤ). Callers o claims (suc begins.index) (place_of y) v (u.frame ∷ u.callers)) (sym same) back in
-      record {
-        is_state = state;
-        at = behind_head m.story.memory p;
-        place = ap (λ (k : Called). pos k.place) is;
-        entry = begins.entry;
-        listed = begins.listed;
-        fits = record {
-          in_locals = subst (λ (k : Called). AllZip (In o) begins.entry.shape.locals k.locals) (sym is) (starts_in o claims given_args (initial m.story.memory p) begins.entry.shape.locals xs begins.starts zip);
-          in_slots = subst (λ (slots : List V). AllZip (In o) slots []) (sym begins.empty) tt;
-        };
-        callers = subst (λ (r : ℕ). Callers o claims r (place_of u.place) v (u.frame ∷ u.callers)) (sym begins.same) (at u.place place);
-        memory = known.memory;
-      }
-
-  -- whatever it is
-  lands : (lead : Lead V) (move : Move) (e : Shape V) (u : State) → LeadsIn lead move → u.place ≡ pos (d.at + i.size) → Known_in e u → IsIn (target i) u.frame.locals
-      → GoesOn o claims d.entry.routine (target i) e (d.at + i.size) lead → Enters o claims m.story given_args lead → Returns o claims d.entry.routine lead → TakesBack o claims (target i) lead
-      → IsState m.limit m.story (moved m.story (target i) move u) → Described o claims m.limit m.story (moved m.story (target i) move u)
-  unfolding LeadsIn
-  lands (Ahead a) (on b) e u is place known exists follows begins returns takes state =
-      let there : u.place +ℤ b ≡ pos follows.0 = ap (λ (p : ℤ). p +ℤ b) place ∙ ap (λ (x : ℤ). pos (d.at + i.size) +ℤ x) (sym is) ∙ follows.1 in
-      arrives e (at_place (u.place +ℤ b) u) follows.0 (record { memory = known.memory; fits = known.fits; callers = known.callers }) there follows.2 state
-  lands (Returning a) (back x) e u is place known exists follows begins returns takes state = returned a x u u.callers is returns known.memory known.callers state
-  lands (Entering a) (into called) e u (x, member, some, call) place known exists follows begins returns takes state =
-      enters (unpacked x) called e u call place known exists (begins x member some) (follows x member some) (takes x member some) state
-  lands (Ahead a) (back x) e u is place known exists follows begins returns takes state = absurd is
-  lands (Ahead a) (into called) e u is place known exists follows begins returns takes state = absurd is
-  lands (Returning a) (on b) e u is place known exists follows begins returns takes state = absurd is
-  lands (Returning a) (into called) e u is place known exists follows begins returns takes state = absurd is
-  lands (Entering a) (on b) e u is place known exists follows begins returns takes state = absurd is
-  lands (Entering a) (back x) e u is place known exists follows begins returns takes state = absurd is
-
-  -- ---- no fault in the judging
-
-  judged : (lead : Lead V) (move : Move) (v return_place : ℕ) (gs : List Frame) → LeadsIn lead move → Returns o claims d.entry.routine lead → Callers o claims d.entry.routine return_place v gs → (has_caller move gs ≡ true) × (is_taken move v gs ≡ true)
-  unfolding LeadsIn
-  judged lead (on b) v r gs is rule callers = (refl, refl)
-  judged lead (into called) v r gs is rule callers = (refl, refl)
-  judged (Ahead a) (back x) v r gs is rule callers = absurd is
-  judged (Entering a) (back x) v r gs is rule callers = absurd is
-  judged (Returning a) (back x) v r [] is rule callers = absurd (omega (arith, rule.0, callers))
-  judged (Returning a) (back x) v r (g ∷ gs) is rule callers = (refl, exists_in v g (fits_there o claims v x callers.1.shape g (callers.3 x (rule.1 x is))))
 
   -- ---- what an effect has to be for an outcome, part by part
 
@@ -289,20 +183,14 @@ module _ {V : Type 0} (o : SetOperations V) (lawful : AreSound o) (claims : Clai
     assigns : AssignedIn w.assigns effect.assigns
     memory : IfSome effect.memory (DescribedMemory o claims m.story)
     tests : effect.tests ≡ w.tests
-    leads : LeadsIn w.leads effect.moves
+    leads : LeadsIn o lawful claims m loaded supports s d i w.leads effect.moves
     kept : Hold o lawful w.kept (changed m.story i effect t).frame.locals
-    -- it needs no event, and the machine goes on
+    -- it needs no event, the machine goes on, and all is done at once
     pub needs : effect.needs ≡ None
     pub goes : effect.quits ≡ false
+    pub acts : effect.prompts ≡ false
 
-  -- the machine stands still, whatever else
-  pub record Still (effect : Effect) : Type 0 where
-    tests : effect.tests ≡ None
-    moves : effect.moves ≡ on (pos 0)
-    pub still : effect.quits ≡ true
-    pub needs : effect.needs ≡ None
-
-  -- the effect is one that the rules expect, or the machine stands still
+  -- the effect is one that the rules expect, or it leads nowhere
   unfoldable pub Expected : Option Operation → Result Effect Halt → Type 0
   Expected k (Ok effect) = Still effect ⊎ ((w : Outcome V) × ComesOf k w × Matches w effect)
   Expected k (Err h) = ⊥
@@ -358,19 +246,19 @@ module _ {V : Type 0} (o : SetOperations V) (lawful : AreSound o) (claims : Clai
   -- what prints, or does nothing, and goes on
   goes_expected : (k : Operation) (bytes : List ℕ) → ComesOf (Some k) goes_on → Expected (Some k) (Ok (printing bytes))
   unfolding Expected LeadsIn AssignedIn changed
-  goes_expected k bytes comes = inr (goes_on, comes, record { gives = tt; assigns = tt; tests = refl; leads = refl; kept = (tt, tt); memory = tt; needs = refl; goes = refl })
+  goes_expected k bytes comes = inr (goes_on, comes, record { gives = tt; assigns = tt; tests = refl; leads = refl; kept = (tt, tt); memory = tt; needs = refl; goes = refl; acts = refl })
 
   gives_expected : (k : Operation) (a : V) (x : ℕ) → ComesOf (Some k) (gives_in a) → In o a x → Expected (Some k) (Ok (giving x))
   unfolding Expected LeadsIn AssignedIn changed
-  gives_expected k a x comes member = inr (gives_in a, comes, record { gives = member; assigns = tt; tests = refl; leads = refl; kept = (tt, tt); memory = tt; needs = refl; goes = refl })
+  gives_expected k a x comes member = inr (gives_in a, comes, record { gives = member; assigns = tt; tests = refl; leads = refl; kept = (tt, tt); memory = tt; needs = refl; goes = refl; acts = refl })
 
   assigns_expected : (k : Operation) (v : ℕ) (a : V) (w x : ℕ) → ComesOf (Some k) (assigns_in v a) → w ≡ v → In o a x → IsVariable o claims d.entry.shape v → Expected (Some k) (Ok (assigning w x))
   unfolding Expected LeadsIn AssignedIn changed
-  assigns_expected k v a w x comes same member exists = inr (assigns_in v a, comes, record { gives = tt; assigns = (same, member, exists); tests = refl; leads = refl; kept = (tt, tt); memory = tt; needs = refl; goes = refl })
+  assigns_expected k v a w x comes same member exists = inr (assigns_in v a, comes, record { gives = tt; assigns = (same, member, exists); tests = refl; leads = refl; kept = (tt, tt); memory = tt; needs = refl; goes = refl; acts = refl })
 
   asks_expected : (k : Operation) (c : Bool) (kept : Kept V) → ComesOf (Some k) (asks c kept) → Hold o lawful kept s.frame.locals → Expected (Some k) (Ok (testing c))
   unfolding Expected LeadsIn AssignedIn changed
-  asks_expected k c kept comes hold = inr (asks c kept, comes, record { gives = tt; assigns = tt; tests = refl; leads = refl; kept = hold; memory = tt; needs = refl; goes = refl })
+  asks_expected k c kept comes hold = inr (asks c kept, comes, record { gives = tt; assigns = tt; tests = refl; leads = refl; kept = hold; memory = tt; needs = refl; goes = refl; acts = refl })
 
   printed_expected : (k : Operation) (r : Result (List ℕ) TextError) → IsOk r → ComesOf (Some k) goes_on → Expected (Some k) (printed r)
   printed_expected k (Ok bytes) ok comes = goes_expected k bytes comes
@@ -381,7 +269,7 @@ module _ {V : Type 0} (o : SetOperations V) (lawful : AreSound o) (claims : Clai
 
   shows_expected : (line : StatusLine) → ComesOf (Some ShowStatus) goes_on → Expected (Some ShowStatus) (Ok (showing line))
   unfolding Expected LeadsIn AssignedIn changed
-  shows_expected line comes = inr (goes_on, comes, record { gives = tt; assigns = tt; tests = refl; leads = refl; kept = (tt, tt); memory = tt; needs = refl; goes = refl })
+  shows_expected line comes = inr (goes_on, comes, record { gives = tt; assigns = tt; tests = refl; leads = refl; kept = (tt, tt); memory = tt; needs = refl; goes = refl; acts = refl })
 
   compared_two : (q : Question) (c : Bool) (p : V × V) → (length operands == 2) ≡ true → o.narrow q c (args 0) (args 1) ≡ Some p → ComesOf (Some (Compare q)) (asks c (both_kept operands p))
   unfolding outcome_of
@@ -418,7 +306,7 @@ module _ {V : Type 0} (o : SetOperations V) (lawful : AreSound o) (claims : Clai
       let kept : Kept V = record untold { first = local_kept p.v n.0.0 } in
       let held : Hold o lawful kept (put_in_place m.story p.v new t).frame.locals = (counted_local p.v new n.0.0 t (sym same_count) p.exists n.2.0, tt) in
       let named = p.named in let comes = counted_asked op q c p.v n.0 p.variable n.1 in
-      rw r (inr (counts_in p.v a c kept, comes, record { gives = tt; assigns = (named, counted_in op p, p.exists); tests = refl; leads = refl; kept = rw named held; memory = tt; needs = refl; goes = refl }))
+      rw r (inr (counts_in p.v a c kept, comes, record { gives = tt; assigns = (named, counted_in op p, p.exists); tests = refl; leads = refl; kept = rw named held; memory = tt; needs = refl; goes = refl; acts = refl }))
 
   pub known_jump : IsTrue (is_some (o.known (args 0))) → (x : ℕ) × (o.known (args 0) ≡ Some x) × (arg all.values 0 ≡ x)
   known_jump h = by_known (o.known (args 0)) refl h
@@ -429,11 +317,11 @@ module _ {V : Type 0} (o : SetOperations V) (lawful : AreSound o) (claims : Clai
 
   jumps_expected : (x : ℕ) → o.known (args 0) ≡ Some x → arg all.values 0 ≡ x → Expected (Some Jump) (Ok (jumping (arg all.values 0)))
   unfolding Expected LeadsIn AssignedIn outcome_of changed
-  jumps_expected x known is = inr (jumps x, (true, rw known refl), record { gives = tt; assigns = tt; tests = refl; leads = rw is refl; kept = (tt, tt); memory = tt; needs = refl; goes = refl })
+  jumps_expected x known is = inr (jumps x, (true, rw known refl), record { gives = tt; assigns = tt; tests = refl; leads = rw is refl; kept = (tt, tt); memory = tt; needs = refl; goes = refl; acts = refl })
 
   returns_expected : (k : Operation) (bytes : List ℕ) (a : V) (x : ℕ) → ComesOf (Some k) (returns_in a) → In o a x → Expected (Some k) (Ok (record (printing bytes) { moves = back x }))
   unfolding Expected LeadsIn AssignedIn changed
-  returns_expected k bytes a x comes member = inr (returns_in a, comes, record { gives = tt; assigns = tt; tests = refl; leads = member; kept = (tt, tt); memory = tt; needs = refl; goes = refl })
+  returns_expected k bytes a x comes member = inr (returns_in a, comes, record { gives = tt; assigns = tt; tests = refl; leads = member; kept = (tt, tt); memory = tt; needs = refl; goes = refl; acts = refl })
 
   closes_expected : (r : Result (List ℕ) TextError) → IsOk r → ComesOf (Some PrintReturn) (returns_in (o.single 1)) → Expected (Some PrintReturn) (printed r >>= λ effect. Ok (closing effect))
   closes_expected (Ok bytes) ok comes = returns_expected PrintReturn (bytes ++ 10 ∷ []) (o.single 1) 1 comes (lawful.single 1 (omega arith))
@@ -482,12 +370,12 @@ module _ {V : Type 0} (o : SetOperations V) (lawful : AreSound o) (claims : Clai
           let can = can_be_called (unpacked x) begins in
           let routine = can.0 in
           let head = can.1 in
-          rw (routine, head) (inr (enters_in on_edge.a, on_edge.comes, record { gives = tt; assigns = tt; tests = refl; leads = (x, on_edge.member, some, (arguments all.values, arguments_in o args (length operands) all.values all.count all.members, can.2)); kept = (tt, tt); memory = tt; needs = refl; goes = refl }))
+          rw (routine, head) (inr (enters_in on_edge.a, on_edge.comes, record { gives = tt; assigns = tt; tests = refl; leads = (x, on_edge.member, some, (arguments all.values, arguments_in o args (length operands) all.values all.count all.members, can.2)); kept = (tt, tt); memory = tt; needs = refl; goes = refl; acts = refl }))
 
   -- what a link leads to is an object, or none
   follows_expected : (k : Operation) (c : Bool) (a : V) (x : ℕ) → ComesOf (Some k) (follows_in c a) → In o a x → not (x == 0) ≡ c → Expected (Some k) (Ok (following x))
   unfolding Expected LeadsIn AssignedIn changed
-  follows_expected k c a x comes member is = inr (follows_in c a, comes, record { gives = member; assigns = tt; tests = ap (λ (b : Bool). Some b) is; leads = refl; kept = (tt, tt); memory = tt; needs = refl; goes = refl })
+  follows_expected k c a x comes member is = inr (follows_in c a, comes, record { gives = member; assigns = tt; tests = ap (λ (b : Bool). Some b) is; leads = refl; kept = (tt, tt); memory = tt; needs = refl; goes = refl; acts = refl })
 
   to_object : (link : Link) → (m.story.objects == 0) ≡ false → ComesOf (Some (Follow link)) (follows_in true (o.between 1 m.story.objects))
   unfolding outcome_of
@@ -504,7 +392,7 @@ module _ {V : Type 0} (o : SetOperations V) (lawful : AreSound o) (claims : Clai
   -- what rewrites memory so that it stays as is said
   rewrites : (k : Operation) (after : List ℕ) → ComesOf (Some k) goes_on → DescribedMemory o claims m.story after → Expected (Some k) (Ok (rewriting after))
   unfolding Expected LeadsIn AssignedIn changed
-  rewrites k after comes is = inr (goes_on, comes, record { gives = tt; assigns = tt; memory = is; tests = refl; leads = refl; kept = (tt, tt); needs = refl; goes = refl })
+  rewrites k after comes is = inr (goes_on, comes, record { gives = tt; assigns = tt; memory = is; tests = refl; leads = refl; kept = (tt, tt); needs = refl; goes = refl; acts = refl })
 
   rearranges : (k : Operation) (r : Result (List ℕ) ObjectError) → ComesOf (Some k) goes_on → IsOkAnd r (DescribedMemory o claims m.story) → Expected (Some k) (rearranging r)
   rearranges k (Ok after) comes is = rewrites k after comes is
@@ -553,7 +441,22 @@ module _ {V : Type 0} (o : SetOperations V) (lawful : AreSound o) (claims : Clai
       let p = element_place width (arg all.values 0) (arg all.values 1) in
       let writable = element_writable o lawful claims m.story s.memory d.memory width (args 0) (args 1) (arg all.values 0) (arg all.values 1) (all.members 0) (all.members 1) free in
       let differs = element_differs s.memory width p (arg all.values 2) in
-      let place = table_place m.story s.memory (with_element width p (arg all.values 2) s.memory) (bytes_of width p) writable differs ∙ d.is_state.tables in rw writable (rewrites (StoreArray width) _ (true, refl) (stored_described o claims m.story supports.tables supports.few s.memory d.memory d.is_state.objects d.is_state.tables (bytes_of width p) (data_open o lawful claims m.story s.memory d.memory width (args 0) (args 1) (arg all.values 0) (arg all.values 1) (all.members 0) (all.members 1) free) _ differs place))
+      let place = table_place m.story s.memory (with_element width p (arg all.values 2) s.memory) (bytes_of width p) writable differs ∙ d.is_state.tables in rw writable (rewrites (StoreArray width) _ (true, refl) (stored_described o claims m.story supports.tables supports.few s.memory d.memory d.is_state.objects d.is_state.tables (IsDataByte (bytes_of width p)) (data_open o lawful claims m.story s.memory d.memory width (args 0) (args 1) (arg all.values 0) (arg all.values 1) (all.members 0) (all.members 1) free) _ differs place))
+
+  -- a number is drawn, or a word is needed
+  draws : (effect : Effect) → Draws o lawful (args 0) (arg all.values 0) (all.members 0) effect → Expected (Some Random) (Ok effect)
+  unfolding Expected LeadsIn AssignedIn outcome_of changed
+  draws effect (number_drawn x mode uses is member) = subst (λ (e : Effect). Expected (Some Random) (Ok e)) (sym is) (inr (gives_in (drawn_set o (args 0)), (true, refl), record { gives = member; assigns = tt; tests = refl; leads = refl; kept = (tt, tt); memory = tt; needs = refl; goes = refl; acts = refl }))
+  draws effect (word_needed is) = subst (λ (e : Effect). Expected (Some Random) (Ok e)) (sym is) (inl (record { tests = refl; moves = refl; why = a_need needs.Random refl }))
+
+  -- a line is asked for, stored, or needed
+  hears : (shown : StatusLine) (text : IsTextBuffer m.story (frozen_in claims) (arg all.values 0)) (parse : IsParseBuffer m.story (frozen_in claims) (arg all.values 1)) (effect : Effect) → Hears m.story (arg all.values 0) (arg all.values 1) s.memory shown effect → Expected (Some ReadLine) (Ok effect)
+  unfolding Expected LeadsIn AssignedIn outcome_of changed
+  hears shown text parse effect (first_asked is) = inl (record { tests = ap (λ (e : Effect). e.tests) is; moves = ap (λ (e : Effect). e.moves) is; why = a_prompt shown is })
+  hears shown text parse effect (line_stored line is) =
+      let memory = line_described o lawful claims m.story loaded supports s.memory d.memory (arg all.values 0) (arg all.values 1) text parse line d.is_state.bytes d.is_state.objects d.is_state.tables in
+      subst (λ (e : Effect). Expected (Some ReadLine) (Ok e)) (sym is) (inr (goes_on, (true, refl), record { gives = tt; assigns = tt; tests = refl; leads = refl; kept = (tt, tt); memory = memory; needs = refl; goes = refl; acts = refl }))
+  hears shown text parse effect (line_needed is) = inl (record { tests = ap (λ (e : Effect). e.tests) is; moves = ap (λ (e : Effect). e.moves) is; why = a_need needs.Line (ap (λ (e : Effect). e.needs) is) })
 
   by_operation : (k : Operation) → Asked (demands_of o k args) → CallsOf (Some k) → Expected (Some k) (effect_of m k all.values t)
   unfolding Expected demands_of outcome_of effect_of
@@ -574,7 +477,7 @@ module _ {V : Type 0} (o : SetOperations V) (lawful : AreSound o) (claims : Clai
       let at : s.place +ℤ pos 1 ≡ pos (d.at + 1) = ap (λ (p : ℤ). p +ℤ pos 1) d.place in subst (λ (p : ℤ). Expected (Some Print) (print_at p s.memory)) (sym at) (printed_expected Print (output_at s.memory (d.at + 1)) (prints (d.at + 1) rule.text) (true, refl))
   by_operation NewLine rule begins = goes_expected NewLine _ (true, refl)
   by_operation Nop rule begins = goes_expected Nop _ (true, refl)
-  by_operation Quit rule begins = inl (record { tests = refl; moves = refl; still = refl; needs = refl })
+  by_operation Quit rule begins = inl (record { tests = refl; moves = refl; why = a_quit refl refl })
   by_operation Return rule begins = returns_expected Return [] _ _ (true, refl) (all.members 0)
   by_operation PrintReturn rule begins =
       let at : s.place +ℤ pos 1 ≡ pos (d.at + 1) = ap (λ (p : ℤ). p +ℤ pos 1) d.place in subst (λ (p : ℤ). Expected (Some PrintReturn) (print_at p s.memory >>= λ effect. Ok (closing effect))) (sym at) (closes_expected (output_at s.memory (d.at + 1)) (prints (d.at + 1) rule.text) (true, refl))
@@ -617,6 +520,13 @@ module _ {V : Type 0} (o : SetOperations V) (lawful : AreSound o) (claims : Clai
       let object = rule.object.0 (arg all.values 0) (all.members 0) in let known = object_known m.story.objects (arg all.values 0) object in
       let name = name_known o lawful claims m.story loaded supports s.memory d.memory (arg all.values 0) object.0 object.1 in let is = name.1 in
       rw (known, is) (goes_expected PrintObject name.0 (true, refl))
+  by_operation Random rule begins = draws _ (random_comes o lawful (args 0) (arg all.values 0) (all.members 0) t)
+  by_operation ReadLine rule begins =
+      let text = buffer_read o lawful (args 0) (arg all.values 0) (IsTextBuffer m.story (frozen_in claims)) (all.members 0) rule.buffers.0 in
+      let parse = buffer_read o lawful (args 1) (arg all.values 1) (IsParseBuffer m.story (frozen_in claims)) (all.members 1) rule.buffers.1 in
+      let line = line_shown o lawful claims m.story loaded supports s.memory d.memory rule.line in let shown = line.1 in
+      let taken = line_taken o lawful claims m.story loaded supports s.memory d.memory (arg all.values 0) (arg all.values 1) text parse in
+      rw (shown, taken) (hears line.0 text parse _ (hearing_comes m.story (arg all.values 0) (arg all.values 1) s.memory line.0 s.prompted s.waiting))
 
   by_played : (k : Option Operation) → IsTrue (is_some k) → Asked (demands_if o k args) → CallsOf k → Expected k (effect_if m k all.values t)
   by_played None played rule begins = absurd cc
@@ -667,20 +577,20 @@ module _ {V : Type 0} (o : SetOperations V) (lawful : AreSound o) (claims : Clai
   still_there : (e : Shape V) (u : State) → length e.locals ≡ length d.entry.shape.locals → Known_in e u → IsIn (target i) u.frame.locals
   still_there e u same known = named_in o claims (target i) d.entry.shape u.frame.locals local.1 (sym same ∙ zip_length (In o) e.locals u.frame.locals known.fits.in_locals)
 
-  rewritten_known : (memory : Option (List ℕ)) → IfSome memory (DescribedMemory o claims m.story) → Known_in mid (rewritten memory t)
-  rewritten_known None is = read_known
-  rewritten_known (Some memory) is = record { memory = is; fits = mid_fits; callers = d.callers }
+  rewritten_known : (memory : Option (List ℕ)) (u : State) → IfSome memory (DescribedMemory o claims m.story) → Known_in mid u → Known_in mid (rewritten memory u)
+  rewritten_known None u is known = known
+  rewritten_known (Some memory) u is known = record { memory = is; fits = known.fits; callers = known.callers }
 
-  rewritten_fits : (memory : Option (List ℕ)) → FitsFrame o claims m.story mid (rewritten memory t)
-  rewritten_fits None = mid_fits
-  rewritten_fits (Some memory) = mid_fits
+  -- before anything is assigned
+  begun : (w : Outcome V) (effect : Effect) → Matches w effect → Known_in mid (rewritten effect.memory (used effect.uses (drawn effect.random t)))
+  begun w effect matches = rewritten_known effect.memory (used effect.uses (drawn effect.random t)) matches.memory (spent_mid o claims m.story loaded supports.tables d.entry.routine mid effect.random effect.uses t read_known)
 
   -- all parts, one after another
   mid_changed : (w : Outcome V) (effect : Effect) → Matches w effect → Takes o claims w.gives (target i) → TakesInPlace o claims w.assigns → Known_in (changed_by o claims.globals i d.entry.shape w) (changed m.story i effect t)
   unfolding changed
   mid_changed w effect matches given in_place =
-      let r = rewritten effect.memory t in let u = assigned m.story effect.assigns r in
-      let known = mid_assigned w.assigns effect.assigns mid r matches.assigns in_place (rewritten_known effect.memory matches.memory) in
+      let r = rewritten effect.memory (used effect.uses (drawn effect.random t)) in let u = assigned m.story effect.assigns r in
+      let known = mid_assigned w.assigns effect.assigns mid r matches.assigns in_place (begun w effect matches) in
       stored_mid o claims m.story loaded supports.tables d.entry.routine (target i) w.gives effect.gives (with_assigned w.assigns mid) u matches.gives (still_there (with_assigned w.assigns mid) u (length_assigned w.assigns mid) known) given known
 
   -- and the frame with all parts, whatever globals take
@@ -700,7 +610,7 @@ module _ {V : Type 0} (o : SetOperations V) (lawful : AreSound o) (claims : Clai
 
   fits_changed : (w : Outcome V) (effect : Effect) → Matches w effect → FitsFrame o claims m.story (changed_by o claims.globals i d.entry.shape w) (changed m.story i effect t)
   unfolding changed
-  fits_changed w effect matches = fits_given w.gives effect.gives (with_assigned w.assigns mid) (assigned m.story effect.assigns (rewritten effect.memory t)) matches.gives (fits_assigned w.assigns effect.assigns mid (rewritten effect.memory t) matches.assigns (rewritten_fits effect.memory))
+  fits_changed w effect matches = fits_given w.gives effect.gives (with_assigned w.assigns mid) (assigned m.story effect.assigns (rewritten effect.memory (used effect.uses (drawn effect.random t)))) matches.gives (fits_assigned w.assigns effect.assigns mid (rewritten effect.memory (used effect.uses (drawn effect.random t))) matches.assigns (begun w effect matches).fits)
 
   -- ---- the step
 
@@ -709,8 +619,8 @@ module _ {V : Type 0} (o : SetOperations V) (lawful : AreSound o) (claims : Clai
 
   -- an effect with the parts of an outcome, of which every rule holds
   module _ (w : Outcome V) (effect : Effect) (comes : ComesOf (operation_of i.opcode) w) (matches : Matches w effect) where
-    pub leads_in : LeadsIn (leading o w i.branch) (course effect i.branch)
-    leads_in = subst (λ (t : Option Bool). LeadsIn (leading o w i.branch) (turned (way t i.branch) effect.moves)) (sym matches.tests) (turned_in (way w.tests i.branch) w.leads effect.moves matches.leads)
+    pub leads_in : LeadsIn o lawful claims m loaded supports s d i (leading o w i.branch) (course effect i.branch)
+    leads_in = subst (λ (t : Option Bool). LeadsIn o lawful claims m loaded supports s d i (leading o w i.branch) (turned (way t i.branch) effect.moves)) (sym matches.tests) (turned_in o lawful claims m loaded supports s d i (way w.tests i.branch) w.leads effect.moves matches.leads)
 
     abbrev shape : Shape V
     shape = changed_by o claims.globals i d.entry.shape w
@@ -739,7 +649,7 @@ module _ {V : Type 0} (o : SetOperations V) (lawful : AreSound o) (claims : Clai
 
     pub admitted : admits (target i) effect (course effect i.branch) t ≡ Ok tt
     admitted =
-        let fine = judged (leading o w i.branch) (course effect i.branch) s.frame.result s.frame.return_place s.callers leads_in returns d.callers in
+        let fine = judged o lawful claims m loaded supports s d i (leading o w i.branch) (course effect i.branch) s.frame.result s.frame.return_place s.callers leads_in returns d.callers in
         admits_is (target i) effect (course effect i.branch) t exists_read fine.0 fine.1
 
     acted : IsState m.limit m.story (act m.story i effect t) → Described o claims m.limit m.story (act m.story i effect t)
@@ -749,7 +659,7 @@ module _ {V : Type 0} (o : SetOperations V) (lawful : AreSound o) (claims : Clai
         let exists = still_there shape u (length_with o claims w.gives (target i) (with_assigned w.assigns mid).locals ∙ length_assigned w.assigns mid) known_there in
         let goes = by_edge (λ f. GoesOn o claims d.entry.routine (target i) f (d.at + i.size) (leading o w i.branch)) follows in
         let place : u.place +ℤ pos i.size ≡ pos (d.at + i.size) = ap (λ (p : ℤ). p +ℤ pos i.size) ((changed_aside m.story i effect t).place ∙ d.place) in
-        lands (leading o w i.branch) (course effect i.branch) edge.0 (advance i u) leads_in place (record { memory = known_there.memory; fits = edge.2; callers = known_there.callers }) exists goes begins_there returns takes.2 state
+        lands o lawful claims m loaded supports s d i (leading o w i.branch) (course effect i.branch) edge.0 (advance i u) leads_in place (record { memory = known_there.memory; fits = edge.2; callers = known_there.callers }) exists goes begins_there returns takes.2 state
 
   pub still_admitted : (effect : Effect) → Still effect → admits (target i) effect (course effect i.branch) t ≡ Ok tt
   still_admitted effect still =
@@ -763,14 +673,14 @@ module _ {V : Type 0} (o : SetOperations V) (lawful : AreSound o) (claims : Clai
   pub fetches : fetch m.scope s.place s.memory ≡ Ok i
   fetches = fetch_is m.scope s.place d.at s.memory i d.place (listed.places d.at d.entry d.listed) reads
 
-  pub steps : step m s ≡ (effect_if m (operation_of i.opcode) all.values t >>= made_by m t i)
+  pub steps : step m s ≡ (effect_if m (operation_of i.opcode) all.values t >>= made_by m s t i)
   steps = step_is m s t i all.values fetches all.read
 
   -- where its judging finds no fault, what is left is a pause, or the step
-  pub settled : (effect : Effect) → admits (target i) effect (course effect i.branch) t ≡ Ok tt → made_by m t i effect ≡ (pauses m.limit (target i) effect (course effect i.branch) t >>= λ _. Ok (done_at m t i effect))
-  settled effect ok = ap (λ (r : Result (Unit {0}) Halt). (r >>= λ _. pauses m.limit (target i) effect (course effect i.branch) t) >>= λ _. Ok (done_at m t i effect)) ok
+  pub settled : (effect : Effect) → admits (target i) effect (course effect i.branch) t ≡ Ok tt → made_by m s t i effect ≡ (pauses m.limit (target i) effect (course effect i.branch) t >>= λ _. Ok (done_at m s t i effect))
+  settled effect ok = ap (λ (r : Result (Unit {0}) Halt). (r >>= λ _. pauses m.limit (target i) effect (course effect i.branch) t) >>= λ _. Ok (done_at m s t i effect)) ok
 
-  paused : (effect : Effect) (r : Result (Unit {0}) Halt) → PausesAtMost r → (r ≡ Ok tt → Described o claims m.limit m.story (act m.story i effect t)) → IsSafe o claims m.limit m.story (r >>= λ _. Ok (done_at m t i effect))
+  paused : (effect : Effect) (r : Result (Unit {0}) Halt) → PausesAtMost r → (r ≡ Ok tt → Described o claims m.limit m.story (came m.story i effect t s)) → IsSafe o claims m.limit m.story (r >>= λ _. Ok (done_at m s t i effect))
   paused effect (Ok x) fine made = made refl
   paused effect (Err (halts.Fault f)) fine made = fine
   paused effect (Err (halts.Need n)) fine made = tt
@@ -778,20 +688,31 @@ module _ {V : Type 0} (o : SetOperations V) (lawful : AreSound o) (claims : Clai
   paused effect (Err halts.FrameLimit) fine made = tt
 
   -- an effect that nothing keeps from being done is what the step does
-  made_is : (effect : Effect) → effect_if m (operation_of i.opcode) all.values t ≡ Ok effect → admits (target i) effect (course effect i.branch) t ≡ Ok tt → pauses m.limit (target i) effect (course effect i.branch) t ≡ Ok tt → step m s ≡ Ok (done_at m t i effect)
+  made_is : (effect : Effect) → effect_if m (operation_of i.opcode) all.values t ≡ Ok effect → admits (target i) effect (course effect i.branch) t ≡ Ok tt → pauses m.limit (target i) effect (course effect i.branch) t ≡ Ok tt → step m s ≡ Ok (done_at m s t i effect)
   made_is effect is admitted unpaused =
-      steps ∙ ap (λ (r : Result Effect Halt). r >>= made_by m t i) is ∙ settled effect admitted ∙ ap (λ (r : Result (Unit {0}) Halt). r >>= λ _. Ok (done_at m t i effect)) unpaused
+      steps ∙ ap (λ (r : Result Effect Halt). r >>= made_by m s t i) is ∙ settled effect admitted ∙ ap (λ (r : Result (Unit {0}) Halt). r >>= λ _. Ok (done_at m s t i effect)) unpaused
 
-  finish : (r : Result Effect Halt) → effect_if m (operation_of i.opcode) all.values t ≡ r → Expected (operation_of i.opcode) r → IsSafe o claims m.limit m.story (r >>= made_by m t i)
+  -- all of it is done at once
+  came_is : (effect : Effect) → effect.prompts ≡ false → came m.story i effect t s ≡ act m.story i effect t
+  came_is effect acts = rw acts refl
+
+  -- one that leads nowhere isn't done, or leaves a mark
+  still_described : (effect : Effect) → IsStill effect → pauses m.limit (target i) effect (course effect i.branch) t ≡ Ok tt → Described o claims m.limit m.story (came m.story i effect t s)
+  still_described effect (a_quit needs stands) ok = absurd (pauses_there m.limit (target i) effect (course effect i.branch) t (inr stands) ok)
+  still_described effect (a_need need needs) ok = absurd (pauses_there m.limit (target i) effect (course effect i.branch) t (inl (ap is_some needs)) ok)
+  still_described effect (a_prompt line is) ok = subst (λ (e : Effect). Described o claims m.limit m.story (came m.story i e t s)) (sym is) (prompted_described o claims m.story m.limit s d)
+
+  finish : (r : Result Effect Halt) → effect_if m (operation_of i.opcode) all.values t ≡ r → Expected (operation_of i.opcode) r → IsSafe o claims m.limit m.story (r >>= made_by m s t i)
   unfolding Expected
   finish (Ok effect) is (inl still) =
       subst (IsSafe o claims m.limit m.story) (sym (settled effect (still_admitted effect still)))
-      (paused effect (pauses m.limit (target i) effect (course effect i.branch) t) (pauses_fine m.limit (target i) effect (course effect i.branch) t) (λ ok. absurd (pauses_there m.limit (target i) effect (course effect i.branch) t (inr still.still) ok)))
+      (paused effect (pauses m.limit (target i) effect (course effect i.branch) t) (pauses_fine m.limit (target i) effect (course effect i.branch) t) (still_described effect still.why))
   finish (Ok effect) is (inr (w, comes, matches)) =
       let ok = admitted w effect comes matches in
+      let same = came_is effect matches.acts in
       subst (IsSafe o claims m.limit m.story) (sym (settled effect ok))
       (paused effect (pauses m.limit (target i) effect (course effect i.branch) t) (pauses_fine m.limit (target i) effect (course effect i.branch) t)
-      (λ unpaused. acted w effect comes matches (step_keeps m s (done_at m t i effect) loaded.sound d.is_state (made_is effect is ok unpaused))))
+      (λ unpaused. subst (Described o claims m.limit m.story) (sym same) (acted w effect comes matches (subst (IsState m.limit m.story) same (step_keeps m s (done_at m s t i effect) loaded.sound d.is_state (made_is effect is ok unpaused))))))
   finish (Err h) is expected = absurd expected
 
   pub safe_there : IsSafe o claims m.limit m.story (step m s)

@@ -1,5 +1,6 @@
 -- Every step from a described state.
 use Rattle.std.proofs.Common.{◌≡◌, ◌⊎◌, Ok, Err}
+use Rattle.zfault.specs.declared.pause.Need.{Need}
 use Rattle.zdomain.specs.Domain.{SetOperations, AreSound}
 use Rattle.zstate.specs.declared.halt.Halt.TheVariants as halts
 use Rattle.zstate.specs.State.{State, Setting}
@@ -18,9 +19,8 @@ step_safe o lawful claims m s loaded supports listed d =
     let found = supports.each d.at d.entry d.listed rules.Decodes in
     safe_there o lawful claims m loaded supports listed s d found.0 found.1
 
--- no opcode of this build waits for anything, and low stacks have room: it is made, or it is `quit`, or a call where there are as
--- many frames as there may be
-pub step_able : {V : Type 0} (o : SetOperations V) (lawful : AreSound o) (claims : Claims V) (m : Setting) (s : State) → IsLoadedStory m.story → Supports o claims m.story → IsListedIn o claims m.scope → Described o claims m.limit m.story s → ((x : Done) × (step m s ≡ Ok x)) ⊎ ((step m s ≡ Err halts.Quit) ⊎ ((step m s ≡ Err halts.FrameLimit) × IsFull m s))
+-- low stacks have room: it is made, or it is `quit`, or it needs an event, or is a call where there are as many frames as there may be
+pub step_able : {V : Type 0} (o : SetOperations V) (lawful : AreSound o) (claims : Claims V) (m : Setting) (s : State) → IsLoadedStory m.story → Supports o claims m.story → IsListedIn o claims m.scope → Described o claims m.limit m.story s → ((x : Done) × (step m s ≡ Ok x)) ⊎ ((step m s ≡ Err halts.Quit) ⊎ (((need : Need) × (step m s ≡ Err (halts.Need need))) ⊎ ((step m s ≡ Err halts.FrameLimit) × IsFull m s)))
 step_able o lawful claims m s loaded supports listed d =
     let found = supports.each d.at d.entry d.listed rules.Decodes in
     able_there o lawful claims m loaded supports listed s d found.0 found.1

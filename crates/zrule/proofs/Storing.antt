@@ -43,7 +43,8 @@ open_writable story is_frozen p free = by_base (cases_lt p (static_base story))
     by_base (inl below) = with_base below (by_header (cases_lt p 64))
     by_base (inr above) = absurd (free (static above))
 
-all_writable : (story : LoadedStory) (is_frozen : ℕ → Bool) (n p : ℕ) → ((j : ℕ) → j < n → IsOpen story is_frozen (p + j)) → are_writable story p n ≡ true
+-- and so are so many from a place on
+pub all_writable : (story : LoadedStory) (is_frozen : ℕ → Bool) (n p : ℕ) → ((j : ℕ) → j < n → IsOpen story is_frozen (p + j)) → are_writable story p n ≡ true
 unfolding are_writable
 all_writable story is_frozen zero p free = refl
 all_writable story is_frozen (suc n) p free =

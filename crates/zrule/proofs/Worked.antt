@@ -17,10 +17,11 @@ use Rattle.zdomain.specs.IntervalLaw.{interval_sound}
 use Rattle.zflow.specs.declared.parts.Lead.TheVariants.{Ahead, Returning, Entering}
 use Rattle.zflow.specs.Transfer.{Shape, demands_of, outcome_of}
 use Rattle.zstate.specs.State.{Frame}
+use Rattle.zruns.specs.Buffers.{IsParseBuffer, IsTextBuffer}
 use Rattle.zcert.specs.declared.parts.Range.{Range}
 use Rattle.zcert.specs.Certificate.{Certificate}
 use Rattle.zrule.specs.declared.rule.Rule.{Rule}
-use Rattle.zrule.specs.declared.rule.Rule.TheVariants.{Decodes, Height, Local, Successor, Property, Divisor, Write, Read, Text, Called, Returned, Known, Stored, High, Status}
+use Rattle.zrule.specs.declared.rule.Rule.TheVariants.{Decodes, Height, Local, Successor, Property, Divisor, Write, Read, Text, Called, Returned, Buffers, Known, Stored, High, Status}
 use Rattle.zrule.specs.Numbers.{number_of}
 use Rattle.zpairs.specs.Frozen.{is_inside}
 use Rattle.zrule.specs.Claims.{Entry, Claims, claims_of, frozen_in}
@@ -31,8 +32,8 @@ use Rattle.zrule.proofs.Instances.{by_answers}
 
 -- ---- numbers of rules
 
-numbers : (number_of Decodes ≡ 1) × (number_of Height ≡ 2) × (number_of Local ≡ 3) × (number_of Successor ≡ 4) × (number_of Property ≡ 7) × (number_of Divisor ≡ 8) × (number_of Write ≡ 9) × (number_of Read ≡ 10) × (number_of Text ≡ 11) × (number_of Called ≡ 12) × (number_of Returned ≡ 13) × (number_of Known ≡ 15) × (number_of Stored ≡ 16) × (number_of High ≡ 17) × (number_of Status ≡ 18)
-numbers = (refl, refl, refl, refl, refl, refl, refl, refl, refl, refl, refl, refl, refl, refl, refl)
+numbers : (number_of Decodes ≡ 1) × (number_of Height ≡ 2) × (number_of Local ≡ 3) × (number_of Successor ≡ 4) × (number_of Property ≡ 7) × (number_of Divisor ≡ 8) × (number_of Write ≡ 9) × (number_of Read ≡ 10) × (number_of Text ≡ 11) × (number_of Called ≡ 12) × (number_of Returned ≡ 13) × (number_of Buffers ≡ 14) × (number_of Known ≡ 15) × (number_of Stored ≡ 16) × (number_of High ≡ 17) × (number_of Status ≡ 18)
+numbers = (refl, refl, refl, refl, refl, refl, refl, refl, refl, refl, refl, refl, refl, refl, refl, refl)
 
 -- ---- claims
 
@@ -261,6 +262,22 @@ push = plain opcodes.Push (Constant 7 ∷ [])
 high : asks High [] (replicate 63 (point 7)) push × (asks High [] (replicate 64 (point 7)) push → ⊥)
 unfolding push operation_of outcome_of small
 high = (by_answers small push (before [] (replicate 63 (point 7))) _ (omega arith) tt, λ h. omega (arith, h _ (true, refl)))
+
+-- a line goes where buffers are, each at one known address, and the status line is shown first
+abbrev sread : Operand → Operand → Instruction
+sread texts parses = plain opcodes.Sread (texts ∷ parses ∷ [])
+
+takes_line : (IsTextBuffer nowhere (frozen_in small) 640 → IsParseBuffer nowhere (frozen_in small) 656 → asks Buffers [] [] (sread (Constant 640) (Constant 656))) × (asks Buffers [] [] (sread (Constant 640) (Constant 656)) → IsTextBuffer nowhere (frozen_in small) 640 × IsParseBuffer nowhere (frozen_in small) 656)
+unfolding operation_of demands_of small
+takes_line = (λ text parse. (text, parse), λ b. b)
+
+unknown_buffers : (asks Buffers (from (pos 640) (pos 641) refl ∷ []) [] (sread (Variable 1) (Constant 656)) → ⊥) × (asks Buffers (from (pos 656) (pos 657) refl ∷ []) [] (sread (Constant 640) (Variable 1)) → ⊥)
+unfolding operation_of demands_of small
+unknown_buffers = (λ b. b.0, λ b. b.1)
+
+line_with_status : (asks Status [] [] (sread (Constant 640) (Constant 656)) → ⊥) × asks Status [] [] (plain opcodes.NewLine [])
+unfolding operation_of demands_of small
+line_with_status = (λ s. (let few = s 5 (record { word = omega arith; member = (record { le = tt }, record { le = tt }) }) in omega (arith, few)), tt)
 
 -- ---- edges
 

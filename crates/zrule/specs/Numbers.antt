@@ -17,6 +17,7 @@ number_of rules.Read = 10
 number_of rules.Text = 11
 number_of rules.Called = 12
 number_of rules.Returned = 13
+number_of rules.Buffers = 14
 number_of rules.Known = 15
 number_of rules.Stored = 16
 number_of rules.High = 17

@@ -28,6 +28,7 @@ use Rattle.zflow.specs.declared.parts.Lead.TheVariants.{Ahead, Returning, Enteri
 use Rattle.zarray.specs.declared.width.Width.{Width}
 use Rattle.zruns.specs.Runs.{AreOpen, AreReadable}
 use Rattle.zruns.specs.Texts.{AreFixedTexts, HasFixedText}
+use Rattle.zruns.specs.Buffers.{AreBuffers}
 use Rattle.zflow.specs.declared.parts.Access.{Access}
 use Rattle.zflow.specs.declared.parts.Access.TheVariants.{Reading, Writing}
 use Rattle.zflow.specs.declared.parts.Asked.{Asked}
@@ -318,6 +319,8 @@ module _ {V : Type 0} (o : SetOperations V) (claims : Claims V) where
   Asks story p e i rules.Called = CallsBegin story i e.shape
   -- I13: what is returned lies in the set of the routine
   Asks story p e i rules.Returned = Whatever story i e.shape (λ w. OnEdge w i e.shape (λ f. Returns e.routine (leading o w i.branch)))
+  -- I14: a line can always be stored in the buffers
+  Asks story p e i rules.Buffers = IfSome (demands_at i e.shape).buffers (λ b. AreBuffers o story (frozen_in claims) b.texts b.parses)
   -- I15: a variable that an operand names is known
   Asks story p e i rules.Known = IsKnown i e.shape
   -- I16: what is given to a global, at once or by a routine that is called, lies in its set

@@ -1,8 +1,9 @@
-//! What rules ask of elements of arrays.
+//! What rules ask of elements of arrays, and of the buffers of a line.
 
 ghost use Rattle.std.specs.Prelude.{◌↔◌, IfSome, IsTrue};
 ghost use Rattle.zpairs.specs.Frozen.{frozen_by};
 ghost use Rattle.zrule.specs.Rules.{AreRead, AreWritten};
+ghost use Rattle.zruns.specs.Buffers.{AreBuffers};
 
 use zcert::Spelled;
 use zflow::{Access, Demands, Elements};
@@ -46,5 +47,15 @@ fn are_read<V: Spelled>(story: &Story, elements: Elements<V>) -> bool
     match elements.access {
         Access::Reading => are_readable(story, elements.width, elements.arrays, elements.indices),
         Access::Writing => true,
+    }
+}
+
+/// Whether a line can always be stored in the buffers, if it stores one.
+pub(crate) fn takes_line<V: Spelled>(runs: &Runs<'_>, demands: &Demands<V>) -> bool
+    ensures { IsTrue result ↔ IfSome demands.now.buffers (λ b. AreBuffers V.operations runs.now.story (frozen_by runs.now.ranges) b.texts b.parses) }
+{
+    match demands.buffers {
+        Some(buffers) => runs.are_buffers(buffers.texts, buffers.parses),
+        None => true,
     }
 }

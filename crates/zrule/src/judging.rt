@@ -19,7 +19,7 @@ ghost use Rattle.zpairs.specs.Frozen.{frozen_by};
 ghost use Rattle.zruns.specs.Texts.{HasFixedText};
 ghost use Rattle.zrule.specs.Rules.{AreRead, AreWritten, Asks, Divides, KnowsAnswers, Reads, IsThere, Keeps, IsLowestBroken, Spares};
 
-use crate::arrays::{reads_elements, writes_open};
+use crate::arrays::{reads_elements, takes_line, writes_open};
 use crate::blocks::Blocks;
 use crate::edges::{enters, goes_on, is_low, returns, stores};
 use crate::objects::{names_attribute, names_object};
@@ -37,7 +37,7 @@ use zstory::Story;
 use ztext::TextEnds;
 
 /// The rules that are asked of an instruction that is there, by their numbers.
-const RULES: [Rule; 16] = [
+const RULES: [Rule; 17] = [
     Rule::Height,
     Rule::Local,
     Rule::Successor,
@@ -50,6 +50,7 @@ const RULES: [Rule; 16] = [
     Rule::Text,
     Rule::Called,
     Rule::Returned,
+    Rule::Buffers,
     Rule::Known,
     Rule::Stored,
     Rule::High,
@@ -226,6 +227,7 @@ fn asks<V: Spelled>(site: Site<'_, V>, flow: &Flow<'_, V>, rule: Rule) -> bool
             prints_fixed(site.tables, demands)
         }
         Rule::Called => edges_keep(site, flow, rule),
+        Rule::Buffers => takes_line(site.tables.runs(), demands),
         Rule::Known => is_known(certificate, listed, instruction, demands),
         Rule::Returned => edges_keep(site, flow, rule),
         Rule::Stored => edges_keep(site, flow, rule),

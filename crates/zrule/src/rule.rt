@@ -31,6 +31,9 @@ pub enum Rule {
     Called,
     /// I13: it returns from no main code, and what it returns lies in the set of its routine.
     Returned,
+    /// I14: each buffer that it stores a line in is one known one, whose size stays as it is and is large enough, and all that it takes may
+    /// be written.
+    Buffers,
     /// I15: a variable that an operand names is one known variable.
     Known,
     /// I16: what it stores to a global lies in that global's set.
@@ -63,6 +66,7 @@ impl Rule {
             Rule::Text => 11,
             Rule::Called => 12,
             Rule::Returned => 13,
+            Rule::Buffers => 14,
             Rule::Known => 15,
             Rule::Stored => 16,
             Rule::High => 17,

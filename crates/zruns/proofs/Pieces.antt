@@ -131,7 +131,7 @@ one_more_cell cells f k cell inside is before j last = by_order (cases_lt j k)
 
 -- ---- open bytes
 
-each_open : (n : ℕ) (f : ℕ → Cell) → IsTrue (merged_below n f).is_open ↔ ((k : ℕ) → k < n → IsTrue (f k).is_open)
+pub each_open : (n : ℕ) (f : ℕ → Cell) → IsTrue (merged_below n f).is_open ↔ ((k : ℕ) → k < n → IsTrue (f k).is_open)
 unfolding merged_below
 each_open zero f = (λ e k below. absurd (omega (arith, below)), λ all. refl)
 each_open (suc n) f = let before = each_open n f in (
@@ -144,7 +144,7 @@ each_open (suc n) f = let before = each_open n f in (
     by_order parts before k below (inr high) = let same : n ≡ k = omega (arith, below, high) in subst (λ (m : ℕ). IsTrue (f m).is_open) same parts.1
 
 module _ (told : FrozenStory) where
-  one_open : (p : ℕ) → IsTrue (not (is_closed told p)) ↔ IsOpen told.story (frozen_by told.ranges) p
+  pub one_open : (p : ℕ) → IsTrue (not (is_closed told p)) ↔ IsOpen told.story (frozen_by told.ranges) p
   one_open p = let closed = closed_is told p in (λ e is. both (is_closed told p) e (closed.1 is), λ none. negated (is_closed told p) (λ e. none (closed.0 e)))
     where
       both : (b : Bool) → not b ≡ true → b ≡ true → ⊥

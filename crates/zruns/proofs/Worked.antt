@@ -14,8 +14,10 @@ use Rattle.zruns.specs.Fixed.{any_below, is_size_place, is_in_text, is_closed, i
 use Rattle.zruns.specs.Runs.{run_of, address, cell_at, no_cell, merged, merged_below, any_element, elements}
 use Rattle.zruns.specs.Blocks.{step_length}
 use Rattle.zruns.specs.Texts.{HasFixedText, AreFixedTexts, run_length}
+use Rattle.zruns.specs.Buffers.{IsTextBuffer, IsParseBuffer, AreBuffers}
 use Rattle.zruns.proofs.Telling.{fixed_is}
 use Rattle.zruns.proofs.Beginnings.{begins, none_is_some}
+use Rattle.zruns.proofs.Buffers.{piece_open}
 
 between : ℕ → ℕ → Interval
 between = interval_operations.between
@@ -175,3 +177,56 @@ sets_of_texts = (
 -- no run is longer than the greatest word
 run_lengths : (run_length (λ x. true) 7 0 ≡ 1) × (run_length (λ x. true) 7 65534 ≡ 65535) × (run_length (λ x. true) 7 65535 ≡ 65535) × (run_length (λ x. false) 7 3 ≡ 0)
 run_lengths = (refl, refl, refl, refl)
+
+-- ---- buffers
+
+-- the story with two bytes frozen; of those that may be, 0x272 is 1, 0x273 is 2 and 0x274 is 0
+abbrev freezing : ℕ → ℕ → FrozenStory
+freezing p q = record { story = story; ranges = record { first = p; last = p } ∷ record { first = q; last = q } ∷ [] }
+
+abbrev TextAt : ℕ → FrozenStory → Type 0
+TextAt at t = IsTextBuffer t.story (frozen_by t.ranges) at
+
+abbrev ParseAt : ℕ → FrozenStory → Type 0
+ParseAt at t = IsParseBuffer t.story (frozen_by t.ranges) at
+
+none_yes : (b : Bool) → b ≡ false → b ≡ true → ⊥
+none_yes b never always = let e = sym never ∙ always in cc
+
+-- two bytes behind a 2 that is frozen; not where the second of them is frozen, behind a 1, or where the 2 isn't frozen
+text_buffers : TextAt 0x273 (freezing 0x273 0x276) × (TextAt 0x273 (freezing 0x273 0x275) → ⊥) × (TextAt 0x272 (freezing 0x272 0x280) → ⊥) × (TextAt 0x273 (freezing 0x272 0x276) → ⊥)
+unfolding story front tables any_below is_size_place merged_below
+text_buffers = (
+  record { fixed = (fixed_is (freezing 0x273 0x276) 0x273).0 refl; large = omega arith; free = (piece_open (freezing 0x273 0x276) 0x274 2).0 refl },
+  λ b. none_yes _ refl ((piece_open (freezing 0x273 0x275) 0x274 2).1 b.free),
+  λ b. omega (arith, b.large),
+  λ b. none_yes _ refl ((fixed_is (freezing 0x272 0x276) 0x273).1 b.fixed),
+)
+
+-- five bytes behind a 1 that is frozen; not where the fifth of them is frozen, behind a 0, or where the 1 isn't frozen
+parse_buffers : ParseAt 0x272 (freezing 0x272 0x278) × (ParseAt 0x272 (freezing 0x272 0x277) → ⊥) × (ParseAt 0x274 (freezing 0x274 0x280) → ⊥) × (ParseAt 0x272 (freezing 0x278 0x278) → ⊥)
+unfolding story front tables any_below is_size_place merged_below
+parse_buffers = (
+  record { fixed = (fixed_is (freezing 0x272 0x278) 0x272).0 refl; large = omega arith; free = (piece_open (freezing 0x272 0x278) 0x273 5).0 refl },
+  λ b. none_yes _ refl ((piece_open (freezing 0x272 0x277) 0x273 5).1 b.free),
+  λ b. omega (arith, b.large),
+  λ b. none_yes _ refl ((fixed_is (freezing 0x278 0x278) 0x272).1 b.fixed),
+)
+
+-- of one address each, which may be the same
+abbrev one_frozen : FrozenStory
+one_frozen = freezing 0x273 0x280
+
+abbrev BuffersAt : Interval → Interval → Type 0
+BuffersAt texts parses = AreBuffers interval_operations story (frozen_by one_frozen.ranges) texts parses
+
+buffers : BuffersAt (between 0x273 0x273) (between 0x273 0x273) × (BuffersAt (between 0x273 0x274) (between 0x273 0x273) → ⊥) × (BuffersAt (between 0x273 0x273) (between 0x273 0x274) → ⊥)
+unfolding between story front tables any_below is_size_place merged_below
+buffers = (
+  (
+    record { fixed = (fixed_is one_frozen 0x273).0 refl; large = omega arith; free = (piece_open one_frozen 0x274 2).0 refl },
+    record { fixed = (fixed_is one_frozen 0x273).0 refl; large = omega arith; free = (piece_open one_frozen 0x274 9).0 refl },
+  ),
+  λ b. b.0,
+  λ b. b.1,
+)

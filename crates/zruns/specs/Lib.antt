@@ -2,3 +2,4 @@ pub mod Fixed
 pub mod Runs
 pub mod Blocks
 pub mod Texts
+pub mod Buffers

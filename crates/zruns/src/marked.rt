@@ -89,7 +89,7 @@ fn value_at(width: Width, memory: &[u8], place: usize) -> u16
 }
 
 /// The byte at a place, and 0 outside memory.
-fn byte_at(memory: &[u8], place: usize) -> u8
+pub(crate) fn byte_at(memory: &[u8], place: usize) -> u8
     ensures { result ≡ byte_at memory.now place }
 {
     match memory.get(place) {

@@ -6,7 +6,7 @@ ghost use Rattle.zruns.specs.Runs.{AreReadable, any_element};
 
 use crate::blocks::{BLOCK_LENGTH, BLOCKS, block_cells};
 use crate::cell::Cell;
-use crate::marked::Marked;
+use crate::marked::{Marked, byte_at};
 use crate::run::Run;
 use std::marker::Model;
 use zarray::Width;
@@ -14,6 +14,15 @@ use zcert::Range;
 use zdomain::Domain;
 use zpairs::{PLACES, turned};
 use zstory::Story;
+
+/// The least size of a text buffer: room for a letter, and for the zero behind it (own).
+const LEAST_TEXT: u8 = 2;
+
+/// The least number of words that a parse buffer takes (own).
+const LEAST_WORDS: u8 = 1;
+
+/// How many bytes a parse buffer has for a word (Z 15 sread).
+const WORD_LENGTH: usize = 4;
 
 /// The runs of addresses of a story, with the ranges of bytes that stay as they are. What is known of 256 addresses side by side is kept,
 /// so that a question about many is answered by blocks.
@@ -45,8 +54,12 @@ impl<'a> Runs<'a> {
     ghost use Rattle.std.specs.Prelude.{◌≡◌, ◌↔◌, ◌≤◌, ◌<◌, ◌+◌, ◌-◌, IsTrue};
     ghost use Rattle.zpairs.specs.Frozen.{frozen_by};
     ghost use Rattle.zruns.specs.Blocks.{block_cell, piece_cell, step_length};
-    ghost use Rattle.zruns.specs.Fixed.{AreClosed, AreFixed};
+    ghost use Rattle.zruns.specs.Fixed.{AreClosed, AreFixed, is_fixed};
     ghost use Rattle.zruns.specs.Runs.{AreOpen, cell_at, elements, run_cell};
+    ghost use Rattle.std.specs.Prelude.{◌*◌, ℕ};
+    ghost use Rattle.zstory.specs.Bytes.{byte_at};
+    ghost use Rattle.zplace.specs.Bytes.{IsOpen, IsWithin};
+    ghost use Rattle.zruns.specs.Buffers.{AreBuffers, IsBuffer, IsParseBuffer, IsTextBuffer};
 
     /// Those of a story, of which the bytes in some ranges stay as they are, by the marks of closed bytes and of fixed ones. They take no
     /// memory beside their own, about 140 KB.
@@ -97,6 +110,69 @@ impl<'a> Runs<'a> {
         } else {
             any_element(width)
         }
+    }
+
+    /// Whether each of two sets has but one word, and a text buffer begins at that of the first, a parse buffer at that of the second, in
+    /// both of which a line can always be stored.
+    pub fn are_buffers<V: Domain>(&self, texts: V, parses: V) -> bool
+        ensures { IsTrue result ↔ AreBuffers V.operations self.now.story (frozen_by self.now.ranges) texts parses }
+    {
+        match (texts.known(), parses.known()) {
+            (Some(text), Some(parse)) => self.is_text_buffer(text) && self.is_parse_buffer(parse),
+            _ => false,
+        }
+    }
+
+    /// Whether a text buffer begins at an address: its first byte says how many bytes it takes.
+    fn is_text_buffer(&self, address: u16) -> bool
+        ensures { IsTrue result ↔ IsTextBuffer self.now.story (frozen_by self.now.ranges) address }
+    {
+        let size = usize::from(self.byte_at(address));
+        self.is_buffer(address, LEAST_TEXT, size)
+    }
+
+    /// Whether a parse buffer begins there: its first byte says how many words it takes, behind their count.
+    fn is_parse_buffer(&self, address: u16) -> bool
+        ensures { IsTrue result ↔ IsParseBuffer self.now.story (frozen_by self.now.ranges) address }
+    {
+        let words = usize::from(self.byte_at(address));
+        self.is_buffer(address, LEAST_WORDS, 1 + WORD_LENGTH * words)
+    }
+
+    /// Whether no play changes the first byte of a buffer, which is at least so much, and so many bytes behind it are open.
+    fn is_buffer(&self, address: u16, least: u8, size: usize) -> bool
+        requires { size ≤ 1021 }
+        ensures { IsTrue result ↔ IsBuffer self.now.story (frozen_by self.now.ranges) address least size }
+    {
+        if !self.is_fixed(address) {
+            return false;
+        }
+        self.byte_at(address) >= least && self.are_free(usize::from(address) + 1, size)
+    }
+
+    /// Whether no play changes the byte at an address.
+    fn is_fixed(&self, address: u16) -> bool
+        ensures { result ≡ is_fixed self.now address }
+    {
+        self.fixed[usize::from(address)]
+    }
+
+    /// Whether so many bytes from a place on are open. Behind the last byte address none is.
+    fn are_free(&self, from: usize, size: usize) -> bool
+        requires from { from ≤ 65536 }
+        requires size { size ≤ 1021 }
+        ensures { IsTrue result ↔ ((p : ℕ) → IsWithin from size p → IsOpen self.now.story (frozen_by self.now.ranges) p) }
+    {
+        let _closed = &self.closed; // and all bytes behind them
+        let end = from + size;
+        end <= PLACES && self.piece_cell(Width::Byte, from, end).is_open
+    }
+
+    /// The byte at an address, and 0 where memory has ended.
+    fn byte_at(&self, address: u16) -> u8
+        ensures { result ≡ byte_at self.now.story.memory address }
+    {
+        byte_at(self.story.memory(), usize::from(address))
     }
 
     /// What is known of the elements of a run: it is a piece up to the last byte address at most, and one from 0 on.
