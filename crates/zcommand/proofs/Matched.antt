@@ -17,7 +17,7 @@ use Rattle.clap.specs.Words.{ReadsOne, Row, Text, first_value, one_text, rows_of
 use Rattle.clap.specs.declared.parser.matches.ArgMatches.{ArgMatches}
 use Rattle.clap.specs.declared.parser.matches.ArgMatches.TheViews.{out-ArgMatches, out-SubCommand}
 use Rattle.clap.specs.Simple.{subcommand_rows}
-use Rattle.zcommand.specs.CommandLine.{budget_of, certificate_of, is_status_asked, number_in, story_of}
+use Rattle.zcommand.specs.CommandLine.{certificate_of, is_status_asked, number_in, number_of, story_of}
 
 digits_pass : (ds : List ℕ) → AllDigits 10 ds → list_all (λ d. nat_lt (digit_value d) 10) ds ≡ true
 digits_pass [] h = refl
@@ -29,21 +29,21 @@ digits_from (d ∷ ds) e =
     let parts = both _ _ e in
     (ltb-true _ _ parts.0, digits_from ds parts.1)
 
-abbrev is_number : List ℕ → Bool
-is_number ds = nat_lt 0 (length ds) && list_all (λ d. nat_lt (digit_value d) 10) ds && nat_lt (digits_value 10 ds) (2 ^ 32)
+abbrev is_number : ℕ → List ℕ → Bool
+is_number bits ds = nat_lt 0 (length ds) && list_all (λ d. nat_lt (digit_value d) 10) ds && nat_lt (digits_value 10 ds) (2 ^ bits)
 
--- what `parse::<u32>()` makes of a text is the number in it
-number_read : {E : Type 0} (text : Text) (r : Result ℕ E) → ParsesUnsigned 32 10 text r → (n : ℕ) → r ≡ Ok n → n ≡ number_in text
-number_read text (Ok m) h n e =
+-- what parsing a text makes of it is the number in it
+number_read : {E : Type 0} (bits : ℕ) (text : Text) (r : Result ℕ E) → ParsesUnsigned bits 10 text r → (n : ℕ) → r ≡ Ok n → n ≡ number_in bits text
+number_read bits text (Ok m) h n e =
     let ds = without_leading_plus text in
-    let value : m ≡ number_in text = rw (lt-ltb 0 (length ds) h.0.0.0, digits_pass ds h.0.0.1, lt-ltb (digits_value 10 ds) (2 ^ 32) h.0.1) h.1 in
+    let value : m ≡ number_in bits text = rw (lt-ltb 0 (length ds) h.0.0.0, digits_pass ds h.0.0.1, lt-ltb (digits_value 10 ds) (2 ^ bits) h.0.1) h.1 in
     cc
-number_read text (Err x) h n e = cc
+number_read bits text (Err x) h n e = cc
 
-no_number : {E : Type 0} (text : Text) (e : E) → ParsesUnsigned 32 10 text (Err e) → 0 ≡ number_in text
-no_number text e h = go (is_number (without_leading_plus text)) refl
+no_number : {E : Type 0} (bits : ℕ) (text : Text) (e : E) → ParsesUnsigned bits 10 text (Err e) → 0 ≡ number_in bits text
+no_number bits text e h = go (is_number bits (without_leading_plus text)) refl
   where
-    go : (b : Bool) → is_number (without_leading_plus text) ≡ b → 0 ≡ number_in text
+    go : (b : Bool) → is_number bits (without_leading_plus text) ≡ b → 0 ≡ number_in bits text
     go false t = rw t refl
     go true t =
         let outer = both _ _ t in
@@ -72,20 +72,20 @@ certificate_read found o d r given empty is =
     default (Some s) d e = refl
 
 -- what the getter of numbers gives, or else 0
-pub budget_read : {E : Type 0} (G : List ℕ → Result ℕ E → Type 0) (found : Found) (o : Option ℕ) (r : ℕ)
-    → (one_text found (codes "budget") ≡ None → o ≡ None) → ((t : Text) → one_text found (codes "budget") ≡ Some t → ReadsOne G t o)
-    → ((t : Text) (x : Result ℕ E) → G t x → ParsesUnsigned 32 10 t x)
-    → r ≡ unwrap_or o 0 → r ≡ budget_of (rows_of found)
-budget_read {E} G found o r none given parses is =
-    is ∙ go (one_text found (codes "budget")) refl o none given ∙ ap (λ (x : Option Text). option_map_or number_in x 0) (one_text-rows found (codes "budget"))
+pub number_given : {E : Type 0} (bits : ℕ) (name : Text) (G : List ℕ → Result ℕ E → Type 0) (found : Found) (o : Option ℕ) (r : ℕ)
+    → (one_text found name ≡ None → o ≡ None) → ((t : Text) → one_text found name ≡ Some t → ReadsOne G t o)
+    → ((t : Text) (x : Result ℕ E) → G t x → ParsesUnsigned bits 10 t x)
+    → r ≡ unwrap_or o 0 → r ≡ number_of bits name (rows_of found)
+number_given {E} bits name G found o r none given parses is =
+    is ∙ go (one_text found name) refl o none given ∙ ap (λ (x : Option Text). option_map_or (number_in bits) x 0) (one_text-rows found name)
   where
-    read : (t : Text) (o : Option ℕ) → ReadsOne G t o → unwrap_or o 0 ≡ number_in t
-    read t (Some n) h = number_read {E = E} t (Ok n) (parses t (Ok n) h) n refl
-    read t None h = no_number t h.0 (parses t (Err h.0) h.1)
+    read : (t : Text) (o : Option ℕ) → ReadsOne G t o → unwrap_or o 0 ≡ number_in bits t
+    read t (Some n) h = number_read {E = E} bits t (Ok n) (parses t (Ok n) h) n refl
+    read t None h = no_number bits t h.0 (parses t (Err h.0) h.1)
 
-    go : (x : Option Text) → one_text found (codes "budget") ≡ x → (o : Option ℕ)
-        → (one_text found (codes "budget") ≡ None → o ≡ None) → ((t : Text) → one_text found (codes "budget") ≡ Some t → ReadsOne G t o)
-        → unwrap_or o 0 ≡ option_map_or number_in x 0
+    go : (x : Option Text) → one_text found name ≡ x → (o : Option ℕ)
+        → (one_text found name ≡ None → o ≡ None) → ((t : Text) → one_text found name ≡ Some t → ReadsOne G t o)
+        → unwrap_or o 0 ≡ option_map_or (number_in bits) x 0
     go None e o none given = ap (λ (y : Option ℕ). unwrap_or y 0) (none e)
     go (Some t) e o none given = read t o (given t e)
 

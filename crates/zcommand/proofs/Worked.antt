@@ -7,10 +7,11 @@ use Rattle.clap.specs.Walk.{walked}
 use Rattle.clap.specs.Faults.{defaults_fault, walk_fault}
 use Rattle.zcommand.specs.CommandLine.{Asks, Request, ListStory, Check, Play, number_in, zpc_app}
 
--- a number is below 2 to the 32nd, and has digits alone behind one plus
+-- a number is below 2 to the 32nd, or to the 64th, and has digits alone behind one plus
 numbers :
-    (number_in (codes "0") ≡ 0) × (number_in (codes "+17") ≡ 17) × (number_in (codes "4294967295") ≡ 4294967295) × (number_in (codes "4294967296") ≡ 0) × (number_in (codes "1x") ≡ 0) × (number_in (codes "+") ≡ 0)
-numbers = (refl, refl, refl, refl, refl, refl)
+    (number_in 32 (codes "0") ≡ 0) × (number_in 32 (codes "+17") ≡ 17) × (number_in 32 (codes "4294967295") ≡ 4294967295) × (number_in 32 (codes "4294967296") ≡ 0) × (number_in 32 (codes "1x") ≡ 0) × (number_in 32 (codes "+") ≡ 0)
+    × (number_in 64 (codes "4294967296") ≡ 4294967296) × (number_in 64 (codes "18446744073709551615") ≡ 18446744073709551615) × (number_in 64 (codes "18446744073709551616") ≡ 0)
+numbers = (refl, refl, refl, refl, refl, refl, refl, refl, refl)
 
 -- words that ask for something
 abbrev Ask : List Text → Request → Type 0
@@ -18,14 +19,14 @@ Ask words request = (fault_of zpc_app words ≡ []) × IsSomeAnd (subcommand_of 
 
 asked :
     Ask (codes "list" ∷ codes "hello.z3" ∷ []) (ListStory (codes "hello.z3"))
-    × Ask (codes "play" ∷ codes "hello.z3" ∷ []) (Play (codes "hello.z3") None 1000000000 false)
-    × Ask (codes "play" ∷ codes "--budget" ∷ codes "12" ∷ codes "hello.z3" ∷ codes "hello.cert" ∷ codes "--status" ∷ []) (Play (codes "hello.z3") (Some (codes "hello.cert")) 12 true)
+    × Ask (codes "play" ∷ codes "hello.z3" ∷ []) (Play (codes "hello.z3") None 1 1000000000 false)
+    × Ask (codes "play" ∷ codes "--budget" ∷ codes "12" ∷ codes "hello.z3" ∷ codes "hello.cert" ∷ codes "--status" ∷ codes "--seed" ∷ codes "18446744073709551615" ∷ []) (Play (codes "hello.z3") (Some (codes "hello.cert")) 18446744073709551615 12 true)
     × Ask (codes "check" ∷ codes "hello.z3" ∷ codes "hello.cert" ∷ []) (Check (codes "hello.z3") (codes "hello.cert"))
 unfolding defaults_fault walk_fault walked
-asked = ((refl, (refl, refl)), (refl, (refl, refl, refl, refl, refl)), (refl, (refl, refl, refl, refl, refl)), (refl, (refl, refl, refl)))
+asked = ((refl, (refl, refl)), (refl, (refl, refl, refl, refl, refl, refl)), (refl, (refl, refl, refl, refl, refl, refl)), (refl, (refl, refl, refl)))
 
--- a command lacks a file or has too many, or there is none of the name, or none at all, or the budget is 2 to the 32nd, or the
--- flag has a value
+-- a command lacks a file or has too many, or there is none of the name, or none at all, or the budget is 2 to the 32nd or the
+-- seed 2 to the 64th, or the flag has a value
 is_wrong : Kinds → Bool
 is_wrong [] = false
 is_wrong (kind ∷ kinds) = true
@@ -35,5 +36,6 @@ wrong :
     × (is_wrong (fault_of zpc_app (codes "list" ∷ [])) ≡ true) × (is_wrong (fault_of zpc_app (codes "list" ∷ codes "hello.z3" ∷ codes "hello.cert" ∷ [])) ≡ true)
     × (is_wrong (fault_of zpc_app []) ≡ true) × (is_wrong (fault_of zpc_app (codes "play" ∷ codes "hello.z3" ∷ codes "--budget" ∷ codes "4294967296" ∷ [])) ≡ true)
     × (is_wrong (fault_of zpc_app (codes "play" ∷ codes "hello.z3" ∷ codes "--status=true" ∷ [])) ≡ true)
+    × (is_wrong (fault_of zpc_app (codes "play" ∷ codes "hello.z3" ∷ codes "--seed" ∷ codes "18446744073709551616" ∷ [])) ≡ true)
 unfolding is_wrong defaults_fault walk_fault walked
-wrong = (refl, refl, refl, refl, refl, refl, refl)
+wrong = (refl, refl, refl, refl, refl, refl, refl, refl)

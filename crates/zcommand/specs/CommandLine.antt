@@ -16,6 +16,15 @@ use Rattle.zcommand.specs.declared.words.Command.TheVariants as commands
 abbrev pub story_rule : Rule
 story_rule = record (new_rule (codes "STORY")) { required = true }
 
+-- `--seed N`, where N is a u64
+abbrev pub seed_rule : Rule
+seed_rule = record (new_rule (codes "seed")) {
+  long = Some (codes "seed");
+  value_names = 1;
+  defaults = codes "1" ∷ [];
+  parser = Some (parsers.Unsigned 0 18446744073709551615);
+}
+
 -- `--budget N`, where N is a u32
 abbrev pub budget_rule : Rule
 budget_rule = record (new_rule (codes "budget")) {
@@ -45,9 +54,9 @@ list_app = with_rule (new_app (codes "list")) story_rule
 abbrev pub check_app : App
 check_app = files_app (codes "check") true
 
--- `play STORY [CERT] --budget N --status`
+-- `play STORY [CERT] --seed N --budget N --status`
 abbrev pub play_app : App
-play_app = with_rule (with_rule (files_app (codes "play") false) budget_rule) status_rule
+play_app = with_rule (with_rule (with_rule (files_app (codes "play") false) seed_rule) budget_rule) status_rule
 
 -- the program, before its commands: its words don't begin with its name, and one of them is a command
 abbrev pub bare_app : App
@@ -58,20 +67,27 @@ bare_app =
 abbrev pub zpc_app : App
 zpc_app = with_subcommand (with_subcommand (with_subcommand bare_app list_app.top) check_app.top) play_app.top
 
--- the number that a text says in decimal digits, with or without a plus before them, where it is a u32; else 0
-abbrev pub number_in : Text → ℕ
-number_in text =
+-- the number that a text says in decimal digits, with or without a plus before them, where it has at most so many bits; else 0
+abbrev pub number_in : ℕ → Text → ℕ
+number_in bits text =
     let digits = without_leading_plus text in
-    if nat_lt 0 (length digits) && list_all (λ d. nat_lt (digit_value d) 10) digits && nat_lt (digits_value 10 digits) (2 ^ 32)
+    if nat_lt 0 (length digits) && list_all (λ d. nat_lt (digit_value d) 10) digits && nat_lt (digits_value 10 digits) (2 ^ bits)
     then digits_value 10 digits else 0
 
 -- the name of the story among the matches of a command; without one clap makes no matches
 abbrev pub story_of : List Row → Text
 story_of rows = unwrap_or (first_of (codes "STORY") rows) []
 
--- the budget among the matches of `play`; one that is no u32 isn't among them
+-- the number of an option among the matches of `play`; one with more bits isn't among them
+abbrev pub number_of : ℕ → Text → List Row → ℕ
+number_of bits name rows = option_map_or (number_in bits) (one_of name rows) 0
+
+-- the seed is a u64, and the budget a u32
+abbrev pub seed_of : List Row → ℕ
+seed_of rows = number_of 64 (codes "seed") rows
+
 abbrev pub budget_of : List Row → ℕ
-budget_of rows = option_map_or number_in (one_of (codes "budget") rows) 0
+budget_of rows = number_of 32 (codes "budget") rows
 
 -- whether status lines are asked for among the matches of `play`: clap has `true` there where the flag is given, and else `false`
 abbrev pub is_status_asked : List Row → Bool
@@ -85,22 +101,22 @@ certificate_of rows = first_of (codes "CERT") rows
 pub data Request : Type 0 where
   ListStory : (story : Text) → Request
   Check : (story certificate : Text) → Request
-  Play : (story : Text) (certificate : Option Text) (budget : ℕ) (status : Bool) → Request
+  Play : (story : Text) (certificate : Option Text) (seed budget : ℕ) (status : Bool) → Request
 
 -- the request is the one that clap's matches name, with the values among them
 abbrev pub Asks : Text × List Row → Request → Type 0
 Asks matches (ListStory story) = (matches.0 ≡ codes "list") × (story ≡ story_of matches.1)
 Asks matches (Check story certificate) =
     (matches.0 ≡ codes "check") × (story ≡ story_of matches.1) × (certificate ≡ unwrap_or (certificate_of matches.1) [])
-Asks matches (Play story certificate budget status) =
-    (matches.0 ≡ codes "play") × (story ≡ story_of matches.1) × (certificate ≡ certificate_of matches.1) × (budget ≡ budget_of matches.1)
+Asks matches (Play story certificate seed budget status) =
+    (matches.0 ≡ codes "play") × (story ≡ story_of matches.1) × (certificate ≡ certificate_of matches.1) × (seed ≡ seed_of matches.1) × (budget ≡ budget_of matches.1)
     × (status ≡ is_status_asked matches.1)
 
 -- what a command asks for
 abbrev pub request_of : Command → Request
 request_of (commands.List story) = ListStory story.now
 request_of (commands.Check story certificate) = Check story.now certificate.now
-request_of (commands.Play story certificate budget status) = Play story.now (option_map (λ c. c.now) certificate) budget status
+request_of (commands.Play story certificate seed budget status) = Play story.now (option_map (λ c. c.now) certificate) seed budget status
 
 -- the command is the one that clap's matches name
 abbrev pub IsReadFrom : Text × List Row → Command → Type 0

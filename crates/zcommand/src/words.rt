@@ -4,7 +4,7 @@ ghost use Rattle.std.specs.Prelude.{◌≡◌, ◌⊎◌, IfOk, IsSomeAnd, Some,
 ghost use Rattle.clap.specs.Walk.{texts};
 ghost use Rattle.clap.specs.Words.{FailsBy, app_of, fault_of, found_of, rows_of, rule_of, subcommand_name_of, subcommand_of, subcommand_rows_of};
 ghost use Rattle.clap.specs.declared.builder.command.Command.TheViews.{out-Command as fields_of};
-ghost use Rattle.zcommand.specs.CommandLine.{IsReadFrom, bare_app, budget_rule, certificate_rule, check_app, files_app, list_app, play_app, status_rule, story_rule, zpc_app};
+ghost use Rattle.zcommand.specs.CommandLine.{IsReadFrom, bare_app, budget_rule, certificate_rule, check_app, files_app, list_app, play_app, seed_rule, status_rule, story_rule, zpc_app};
 
 use clap::{Arg, ArgAction, ArgMatches, Error, value_parser};
 use std::alloc::{AllocError, Global};
@@ -14,6 +14,9 @@ const VERSION: &str = "0.1.0";
 
 /// The steps that `play` makes at most where no budget is named.
 const BUDGET: &str = "1000000000";
+
+/// The seed of `play` where none is named.
+const SEED: &str = "1";
 
 /// What the words ask for.
 #[derive(Clone, Copy, Debug, PartialEq, Eq)]
@@ -36,6 +39,8 @@ pub enum Command<'a> {
         story: &'a str,
         /// The name of the certificate's file, if the story is played by one and not by testing everything.
         certificate: Option<&'a str>,
+        /// What decides the random words.
+        seed: u64,
         /// The most steps that are made.
         budget: u32,
         /// Whether status lines are written too.
@@ -92,11 +97,13 @@ fn play_of<'a>(matches: &ArgMatches<'a>) -> Command<'a>
 {
     let story = matches.get_str("STORY").unwrap_or("");
     let certificate = matches.get_str("CERT");
+    let seed = matches.get_one("seed").unwrap_or(0);
     let budget = matches.get_one("budget").unwrap_or(0);
     let status = matches.get_one("status").unwrap_or(false);
     Command::Play {
         story,
         certificate,
+        seed,
         budget,
         status,
     }
@@ -148,6 +155,7 @@ fn play<'a>(alloc: Global) -> Result<clap::Command<'a>, AllocError>
         "Plays a story, with a certificate or without",
         false,
     )?;
+    let play = play.arg(seed(alloc))?;
     play.arg(budget(alloc))?.arg(status(alloc))
 }
 
@@ -181,6 +189,18 @@ fn certificate<'a>(alloc: Global, required: bool) -> Arg<'a>
     Arg::new(alloc, "CERT")
         .help("The certificate's file")
         .required(required)
+}
+
+fn seed<'a>(alloc: Global) -> Arg<'a>
+    ensures rule { rule_of result ≡ seed_rule }
+    ensures local { result.global ≡ false }
+{
+    Arg::new(alloc, "seed")
+        .long("seed")
+        .help("Decides the random words")
+        .value_name("N")
+        .value_parser(value_parser!(u64))
+        .default_value(SEED)
 }
 
 fn budget<'a>(alloc: Global) -> Arg<'a>

@@ -1,4 +1,5 @@
-mod Turns
+mod ReadLemmas
+mod Stages
 mod Writes
 mod Ends
 mod Worked

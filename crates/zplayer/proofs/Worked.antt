@@ -1,26 +1,43 @@
 -- Values of the definitions, computed.
-use Rattle.std.proofs.Common.{◌≡◌, ℕ, Bool, true, false, List, Option, refl, arith}
+use Rattle.std.proofs.Common.{◌≡◌, ◌≢◌, inl, inr, ℕ, zero, suc, Bool, true, false, List, [], ◌∷◌, ◌++◌, replicate, Option, Some, None, Result, Ok, Err, refl, arith}
 use Rattle.std.specs.Prelude.{pos}
+use Rattle.std.specs.List.{All}
+use Rattle.std.proofs.lemmas.List.Elements.{All-cons, All-nil}
+use Rattle.rand_core.specs.Steps.{stream_of, u32_at, word_bytes}
+use Rattle.rand_core.specs.Stream.{fill_bytes}
+use Rattle.rand_xoshiro.specs.SplitMix64.{splitmix_seed}
+use Rattle.rand_xoshiro.specs.Xoshiro128.{of_seed}
+use Rattle.zfault.specs.declared.event.Event.TheVariants as events
 use Rattle.zfault.specs.declared.fault.Fault.TheVariants.{IllegalOpcode}
+use Rattle.zfault.specs.declared.pause.Need.TheVariants as needs
 use Rattle.zfault.specs.declared.pause.Pause.TheVariants as pauses
 use Rattle.zstate.specs.declared.halt.Stop.TheVariants as stops
 use Rattle.zstate.specs.State.{State, Setting}
 use Rattle.zplayer.specs.declared.end.End.TheVariants as ends
-use Rattle.zplayer.specs.declared.player.TheConstants.{TURN}
-use Rattle.zplayer.specs.Outside.{CountsRefusal}
-use Rattle.zplayer.specs.Playing.{end_of, Plays, PlaysInPart, PlaysSome}
-use Rattle.zplayer.proofs.Turns.{starts}
+use Rattle.zplayer.specs.declared.end.PlayError.{PlayError}
+use Rattle.zplayer.specs.declared.end.PlayError.TheVariants as errors
+use Rattle.zplayer.specs.declared.lines.LineEnd.TheVariants.{Newline, Input}
+use Rattle.zplayer.specs.declared.lines.TheConstants.{KEPT, PIECE}
+use Rattle.zplayer.specs.declared.turns.TheConstants.{TURN}
+use Rattle.zplayer.specs.Lines.{IsEnded, IsLast, ReadsLine, Hears, line_of, unused, without_return}
+use Rattle.zplayer.specs.Outside.{Blames, CountsRefusal, words_from}
+use Rattle.zplayer.specs.Playing.{Leads, Meets, Plays, Stage, Writes, end_of, stage}
+use Rattle.zplayer.specs.World.{Answers, Asks, Coming, Draws, Refuses, World, world}
+
+-- ---- how playing ends
 
 -- a need that nothing answers is a want of input
-needs : (end_of (stops.Paused pauses.NeedLine) ≡ ends.NoInput) × (end_of (stops.Paused pauses.NeedRandom) ≡ ends.NoInput) × (end_of (stops.Paused pauses.NeedSave) ≡ ends.NoInput) × (end_of (stops.Paused pauses.NeedRestore) ≡ ends.NoInput)
-needs = (refl, refl, refl, refl)
+no_input : (end_of (stops.Paused pauses.NeedLine) ≡ ends.NoInput) × (end_of (stops.Paused pauses.NeedRandom) ≡ ends.NoInput) × (end_of (stops.Paused pauses.NeedSave) ≡ ends.NoInput) × (end_of (stops.Paused pauses.NeedRestore) ≡ ends.NoInput)
+no_input = (refl, refl, refl, refl)
 
 others : (end_of (stops.Paused pauses.Budget) ≡ ends.Budget) × (end_of (stops.Paused pauses.Quit) ≡ ends.Quit) × (end_of (stops.Paused pauses.FrameLimit) ≡ ends.FrameLimit) × (end_of (stops.Fault IllegalOpcode (pos 804)) ≡ ends.Fault IllegalOpcode (pos 804))
 others = (refl, refl, refl, refl)
 
--- the steps of a turn
-turn : TURN ≡ 1024
-turn = refl
+-- the steps of a turn, the bytes of a read, and those that tell a line
+constants : (TURN ≡ 1024) × (PIECE ≡ 256) × (KEPT ≡ 255)
+constants = (refl, refl, refl)
+
+-- ---- devices
 
 -- a call that was done leaves the count as it was
 done : CountsRefusal 3 3 true
@@ -33,10 +50,85 @@ not_done same = omega (arith, same)
 refused : CountsRefusal 3 4 false × (CountsRefusal 3 5 false → ⊥)
 refused = (refl, λ rises. omega (arith, rises))
 
--- no step is made at first, and never more than the budget has
-module _ (m : Setting) (asked : Bool) (s t : State) (a b : Option (List ℕ)) where
-  none_made : Plays m asked 5 5 s s a a × PlaysSome m asked 5 s s a a
-  none_made = (starts m asked 5 s a, (5, starts m asked 5 s a))
+failing : PlayError → Result ℕ PlayError
+failing error = Err error
 
-  not_more : (Plays m asked 5 6 s t a b → ⊥) × ((part : PlaysInPart m asked 0 s t a b) → part.steps ≡ 0)
-  not_more = (λ plays. omega (arith, plays.all), λ part. omega (arith, part.few))
+-- a device is blamed for its own error, and for no other
+blamed : Blames errors.Read (failing errors.Read) 3 4 × Blames errors.Read (failing errors.Write) 3 3 × (Blames errors.Read (failing errors.Write) 3 4 → ⊥) × (Blames errors.Read (failing errors.Read) 3 3 → ⊥)
+unfolding failing
+blamed = (((λ is. refl), (λ other. absurd (other refl))), ((λ is. cc), (λ other. refl)), (λ b. omega (arith, b.1 (λ e. cc))), (λ b. omega (arith, b.0 refl)))
+
+-- ---- words
+
+abbrev of_number : ℕ → Coming
+of_number seed = words_from (of_seed (splitmix_seed 16 seed))
+
+-- the first words of the seeds 1 and 0
+seeded : (of_number 1 0 ≡ 36324) × (of_number 1 1 ≡ 613) × (of_number 1 2 ≡ 10168) × (of_number 0 0 ≡ 55971) × (of_number 0 1 ≡ 11096)
+unfolding u32_at stream_of word_bytes fill_bytes
+seeded = (refl, refl, refl, refl, refl)
+
+three : Coming
+three zero = 7
+three (suc zero) = 8
+three (suc (suc k)) = 9
+
+-- each word is drawn once, in order
+drawn : Draws (Some three) 7 (Some (λ k. three (suc k))) × Draws (Some (λ k. three (suc k))) 8 (Some (λ k. three (suc (suc k)))) × Draws None 3 None × (Draws (Some three) 8 (Some (λ k. three (suc k))) → ⊥)
+unfolding three
+drawn = ((refl, refl), (refl, refl), tt, λ d. omega (arith, d.0))
+
+-- ---- lines: "go" CR LF "n" LF "e"
+
+unbroken : (a b : ℕ) → a ≢ 10 → b ≢ 10 → All (λ byte. byte ≢ 10) (a ∷ b ∷ [])
+unbroken a b p q = All-cons (λ byte. byte ≢ 10) a (b ∷ []) p (All-cons (λ byte. byte ≢ 10) b [] q (All-nil (λ byte. byte ≢ 10)))
+
+returns : (without_return (103 ∷ 111 ∷ 13 ∷ []) ≡ 103 ∷ 111 ∷ []) × (without_return (103 ∷ 13 ∷ 111 ∷ []) ≡ 103 ∷ 13 ∷ 111 ∷ []) × (without_return (13 ∷ 13 ∷ []) ≡ 13 ∷ []) × (without_return [] ≡ [])
+returns = (refl, refl, refl, refl)
+
+-- a line that is empty is a line, and no byte at the end of the input is none; a return at the end of the input stays
+ended : (line_of [] Newline ≡ Some []) × (line_of (13 ∷ []) Newline ≡ Some []) × (line_of [] Input ≡ None) × (line_of (13 ∷ []) Input ≡ Some (13 ∷ []))
+ended = (refl, refl, refl, refl)
+
+-- of a longer line the first 254 bytes are kept, also where a return follows them
+long : (line_of (replicate 255 120) Newline ≡ Some (replicate 254 120)) × (line_of (replicate 255 120) Input ≡ Some (replicate 254 120)) × (line_of (replicate 254 120 ++ 13 ∷ []) Newline ≡ Some (replicate 254 120)) × (line_of (replicate 253 120 ++ 13 ∷ []) Newline ≡ Some (replicate 253 120))
+long = (refl, refl, refl, refl)
+
+-- a line is taken from the front, and what is behind its end is left
+first : ReadsLine (Some (110 ∷ 111 ∷ 13 ∷ 10 ∷ 101 ∷ [])) (110 ∷ 111 ∷ []) (Some (101 ∷ []))
+first = λ few. inl (record { text = 110 ∷ 111 ∷ 13 ∷ []; whole = refl; unbroken = All-cons (λ byte. byte ≢ 10) 110 (111 ∷ 13 ∷ []) (λ e. omega (arith, e)) (unbroken 111 13 (λ e. omega (arith, e)) (λ e. omega (arith, e))); line_is = refl })
+
+last : ReadsLine (Some (101 ∷ 13 ∷ [])) (101 ∷ 13 ∷ []) (Some [])
+last = λ few. inr (record { some = λ e. cc; unbroken = unbroken 101 13 (λ e. omega (arith, e)) (λ e. omega (arith, e)); line_is = refl; rest_is = refl })
+
+-- known bytes stay known
+known : (ReadsLine (Some (101 ∷ [])) (101 ∷ []) None → ⊥) × ReadsLine None (101 ∷ []) (Some [])
+known = (λ h. h, tt)
+
+-- there is no line where no byte is left, and none is told where that isn't known
+none_left : Hears (Some []) None (Some []) × (Hears (Some (10 ∷ [])) None (Some []) → ⊥) × Hears None None None
+none_left = (refl, λ e. cc, tt)
+
+-- ---- the world
+
+-- a line goes to a line, and a word to a random word; saves come to no answer
+answered : (w : World) → Answers needs.Line (world None w.words) (events.Line (110 ∷ [])) (world None w.words) × (Answers needs.Random w (events.Line []) w → ⊥) × (Answers needs.Saved w (events.Saved true) w → ⊥) × (Answers needs.Restore w events.NotRestored w → ⊥)
+answered w = ((tt, refl), (λ h. h), (λ h. h), λ h. h)
+
+-- only where no byte is left there is no line, and there is always a word
+unanswered : Refuses needs.Line (world (Some []) None) × (Refuses needs.Line (world (Some (10 ∷ [])) None) → ⊥) × (Refuses needs.Random (world (Some []) None) → ⊥) × Refuses needs.Saved (world None None) × Refuses needs.Restore (world None None)
+unanswered = (refl, (λ e. cc), (λ h. h), tt, tt)
+
+-- no word is drawn where there is no answer
+asked : Asks needs.Saved (world None (Some three)) None (world None (Some three))
+asked = (tt, refl)
+
+-- ---- stages
+
+-- never more steps are made than the budget has
+module _ (m : Setting) (asked : Bool) (s t : State) (w : World) (a b : Option (List ℕ)) where
+  not_more : Writes m asked 5 6 s t a b → ⊥
+  not_more writes = omega (arith, writes.all)
+
+  not_more_at_a_need : Meets m (events.Random 7) (stage 5 s w) (stage 6 t w) [] → ⊥
+  not_more_at_a_need meets = omega (arith, meets.all)

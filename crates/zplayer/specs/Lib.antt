@@ -1,2 +1,4 @@
+pub mod Lines
 pub mod Outside
 pub mod Playing
+pub mod World

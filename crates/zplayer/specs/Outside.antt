@@ -1,7 +1,19 @@
--- What a call of a store of saves does to its count of failures (own).
-use Rattle.std.specs.Prelude.{◌≡◌, ℕ, Bool, MatchBool}
+-- What calls of devices do to their counts of failures, and the words of a generator (own).
+use Rattle.std.specs.Prelude.{◌≡◌, ℕ, zero, suc, ◌%◌, Bool, List, MatchBool, Result, IsErrOf}
+use Rattle.rand_xoshiro.specs.Xoshiro128.{plus_plus}
 use Rattle.zfault.specs.Devices.{RisesByOne}
+use Rattle.zplayer.specs.declared.end.PlayError.{PlayError}
+use Rattle.zplayer.specs.World.{Coming}
 
 -- the count rises just where the answer is false
 abbrev pub CountsRefusal : ℕ → ℕ → Bool → Type 0
 CountsRefusal old new done = MatchBool done (new ≡ old) (RisesByOne old new)
+
+-- a device is blamed for this error, and only there its count rises
+abbrev pub Blames : {T : Type 0} → PlayError → Result T PlayError → ℕ → ℕ → Type 0
+Blames error result old new = (IsErrOf result error → RisesByOne old new) × (¬ IsErrOf result error → new ≡ old)
+
+-- the words that a generator in this state gives: the low 16 bits of each of its numbers
+abbrev pub words_from : List ℕ → Coming
+words_from state zero = (plus_plus state).0 % 65536
+words_from state (suc k) = words_from (plus_plus state).1 k

@@ -1,11 +1,17 @@
-//! The player: it writes what a machine gives out.
+//! The player: it writes what a machine gives out, and hands in what it waits for.
 #![tactic(auto)]
 
 mod end;
+mod laws;
+mod lines;
 mod machine;
 mod outside;
 mod player;
+mod seeded;
+mod turns;
 
 pub use end::{End, Options, PlayError};
+pub use laws::plays_are_runs;
 pub use outside::{SaveStore, Words};
 pub use player::{play_checked, play_story};
+pub use seeded::Seeded;

@@ -1,12 +1,13 @@
 //! What a player asks of a machine.
 
-ghost use Rattle.std.specs.Prelude.{◌≡◌, ◌+◌, ℕ, [], Ok, IfOk, OnErr};
-ghost use Rattle.zstate.specs.State.{Setting, State};
-ghost use Rattle.zstate.specs.Run.{run, Ends, GivesOut, Makes, Stands, WantsMemory};
+ghost use Rattle.std.specs.Prelude.{◌≡◌, ◌+◌, ℕ, [], Ok, Some, IfOk, IsTrue, OnErr};
+ghost use Rattle.zfault.specs.Answers.{answers};
+ghost use Rattle.zstate.specs.State.{Setting, State, give};
+ghost use Rattle.zstate.specs.Run.{awaited, run, Ends, GivesOut, Makes, Stands, WantsMemory};
 
 use std::alloc::AllocError;
 use zcert::Spelled;
-use zfault::{Items, Pause};
+use zfault::{Event, Items, Need, Pause};
 use zplay::Session;
 use zref::CheckedMachine;
 use zstate::Stop;
@@ -38,6 +39,16 @@ pub(crate) trait Machine {
         ensures spent { result ≡ Ok (Stop.Paused Pause.Budget) → left.new ≡ 0 }
         ensures err { OnErr result (Wants (setting self.old) (state self.new)) };
 
+    /// What the instruction that comes next waits for, if nothing was given for it yet.
+    fn awaits(&self) -> Option<Need>
+        ensures { result ≡ awaited (setting self.now) (state self.now) };
+
+    /// Hands in an event of the kind that is awaited.
+    fn give(&mut self, event: Event)
+        requires { (need : Need) × (awaited (setting self.old) (state self.old) ≡ Some need) × IsTrue (answers need event) }
+        ensures play { IsSamePlay self.old self.new }
+        ensures state { state self.new ≡ give event (state self.old) };
+
     /// A machine that didn't move.
     ghost itself: { (m : Self) → IsSamePlay m m };
 
@@ -66,6 +77,14 @@ impl<'a> Machine for CheckedMachine<'a> {
         CheckedMachine::run_down(self, left, items)
     }
 
+    fn awaits(&self) -> Option<Need> {
+        CheckedMachine::awaits(self)
+    }
+
+    fn give(&mut self, event: Event) {
+        CheckedMachine::give(self, event);
+    }
+
     ghost itself = { λ m. record { story = refl; scope = refl } };
 
     ghost through = { λ old now new first then. record { story = then.story ∙ first.story; scope = then.scope ∙ first.scope } };
@@ -88,6 +107,14 @@ impl<'a, V: Spelled> Machine for Session<'a, V> {
 
     fn run_down(&mut self, left: &mut u32, items: &mut Items) -> Result<Stop, AllocError> {
         Ok(Stop::Paused(Session::run_down(self, left, items)?))
+    }
+
+    fn awaits(&self) -> Option<Need> {
+        Session::awaits(self)
+    }
+
+    fn give(&mut self, event: Event) {
+        Session::give(self, event);
     }
 
     ghost itself = { λ p. refl };

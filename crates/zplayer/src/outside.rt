@@ -2,6 +2,7 @@
 
 ghost use Rattle.std.specs.Prelude.{ℕ, List, None, Option};
 ghost use Rattle.zplayer.specs.Outside.{CountsRefusal};
+ghost use Rattle.zplayer.specs.World.{Coming, Draws};
 
 /// Where saves are kept.
 pub trait SaveStore {
@@ -22,6 +23,10 @@ pub trait SaveStore {
 
 /// Random words, one after another.
 pub trait Words {
+    /// The words to come, where they are known.
+    ghost coming: { Self → Option Coming } = { λ _. None };
+
     /// The next word.
-    fn next(&mut self) -> u16;
+    fn next(&mut self) -> u16
+        ensures { Draws (coming self.old) result (coming self.new) };
 }

@@ -1,116 +1,94 @@
 //! The player of a machine.
 
-ghost use Rattle.std.specs.Prelude.{◌≡◌, ◌≢◌, ◌<◌, ℤ, false, [], Ok, None, IsErrOf, IfErr, IfOk, IfNone, IfSome, OnOk};
-ghost use Rattle.std.specs.Io.KnownBytes.{Appends, Keeps};
-ghost use Rattle.zfault.specs.Devices.{AppendsBeginning, RisesByOne};
-ghost use Rattle.zstate.specs.Run.{run, GivesOut, Stands, WantsMemory};
-ghost use Rattle.zref.specs.Machine.{setting, SamePlay};
+ghost use Rattle.std.specs.Prelude.{◌≡◌, ◌≢◌, ℤ, false, true, [], Some, IsErrOf, IfOk, MatchBool, MatchResult, OnErr};
+ghost use Rattle.std.specs.Io.KnownBytes.{IsAtEnd, Keeps};
 ghost use Rattle.zfault.specs.declared.fault.Fault.{Fault as AFault};
+ghost use Rattle.zstate.specs.Run.{awaited, GivesOut, WantsMemory};
+ghost use Rattle.zref.specs.Machine.{setting, SamePlay};
 ghost use Rattle.zplay.specs.Session.{setting_of};
-ghost use Rattle.zscreen.specs.Rendering.{render};
-ghost use Rattle.zplayer.specs.Playing.{end_of, Plays, PlaysInPart, PlaysSome};
+ghost use Rattle.zplayer.specs.Lines.{Hears, unused};
+ghost use Rattle.zplayer.specs.Outside.{Blames};
+ghost use Rattle.zplayer.specs.Playing.{ComesTo, Supplies};
+ghost use Rattle.zplayer.specs.World.{Asks, world};
 
 use crate::end::{End, Options, PlayError};
+use crate::lines::Lines;
 use crate::machine::Machine;
 use crate::outside::{SaveStore, Words};
+use crate::turns::{flush, turn};
 use std::alloc::Global;
 use zcert::Spelled;
-use zfault::{Failed, Items, Pause, Sink, Source};
+use zfault::{Event, Items, Line, Need, Sink, Source};
 use zplay::Session;
 use zref::CheckedMachine;
-use zscreen::write_items;
-use zstate::Stop;
 
-/// The most steps that are made before what they gave out is written.
-const TURN: u32 = 1024;
-
-/// Plays the machine from the state that it is in: makes at most the budget's steps, and writes what they give out, with status
-/// lines where the options ask for them.
+/// Plays the machine from the state that it is in: makes at most the budget's steps, writes what they give out, with status
+/// lines where the options ask for them, and hands in what they need. A line comes from the reader, of which more may be read
+/// than was used, and before it is read all that was given out is written and flushed. A random word comes from `words`.
 ///
-/// No opcode of this build needs a line, a word or a save, so the reader, the store and the words aren't touched yet.
-/// After P2 a beginning of what the finished steps give out was written, and the writer isn't called again; after P3 all
-/// of it, and the next step gives something out or makes a stack longer. At any other end than P2 what was written is flushed.
+/// No opcode of this build saves, so the store isn't touched yet.
+/// After P2 a beginning of what the finished steps give out was written, and the writer isn't called again; after P1 and P3 all
+/// of it. After P1 the machine awaits a line, and after P3 the next step gives something out or makes a stack longer. At any
+/// other end than P2 what was written is flushed.
 pub fn play_checked<R: Source, W: Sink, S: SaveStore, G: Words>(
     alloc: Global,
     machine: &mut CheckedMachine,
-    _reader: &mut R,
+    reader: &mut R,
     writer: &mut W,
     _store: &mut S,
-    _words: &mut G,
+    words: &mut G,
     options: Options,
 ) -> Result<End, PlayError>
     ensures play { SamePlay machine.old machine.new }
-    ensures ends { IfOk result (λ end. end ≡ end_of (run (setting machine.old) [] options.budget machine.old.state).stop) }
-    ensures state { OnOk result (machine.new.state ≡ (run (setting machine.old) [] options.budget machine.old.state).state) }
-    ensures written { OnOk result (Appends (W.contents writer.old) (W.contents writer.new) (render options.status (run (setting machine.old) [] options.budget machine.old.state).items)) }
-    ensures quiet { ¬ IsErrOf result PlayError.Write → W.failures writer.new ≡ W.failures writer.old }
-    ensures no_read { ¬ IsErrOf result PlayError.Read }
-    ensures begun { IsErrOf result PlayError.Write → AppendsBeginning (W.contents writer.old) (W.contents writer.new) (render options.status (run (setting machine.old) [] options.budget machine.old.state).items) }
-    ensures blamed { IsErrOf result PlayError.Write → RisesByOne (W.failures writer.old) (W.failures writer.new) }
+    ensures comes { ComesTo (setting machine.old) (WantsMemory (setting machine.old)) options (world (R.remaining reader.old) (G.coming words.old)) machine.old.state machine.new.state (G.coming words.new) (W.contents writer.old) (W.contents writer.new) result }
+    ensures reads { Blames PlayError.Read result (R.failures reader.old) (R.failures reader.new) }
+    ensures writes { Blames PlayError.Write result (W.failures writer.old) (W.failures writer.new) }
     ensures flushed { ¬ IsErrOf result PlayError.Write → W.waits writer.new ≡ false }
-    ensures finished { ¬ IsErrOf result PlayError.Write → PlaysSome (setting machine.old) options.status options.budget machine.old.state machine.new.state (W.contents writer.old) (W.contents writer.new) }
-    ensures wanted { IsErrOf result PlayError.OutOfMemory → WantsMemory (setting machine.old) machine.new.state }
-    ensures in_part { IsErrOf result PlayError.Write → PlaysInPart (setting machine.old) options.status options.budget machine.old.state machine.new.state (W.contents writer.old) (W.contents writer.new) }
-    ensures reader { _reader.new ≡ _reader.old }
     ensures store { _store.new ≡ _store.old }
-    ensures words { _words.new ≡ _words.old }
 {
-    play_machine(alloc, machine, writer, options)
+    play_machine(alloc, machine, reader, writer, words, options)
 }
 
 /// Plays the session from the state that it is in, as `play_checked` does a machine. It meets no fault.
 pub fn play_story<V: Spelled, R: Source, W: Sink, S: SaveStore, G: Words>(
     alloc: Global,
     session: &mut Session<'_, V>,
-    _reader: &mut R,
+    reader: &mut R,
     writer: &mut W,
     _store: &mut S,
-    _words: &mut G,
+    words: &mut G,
     options: Options,
 ) -> Result<End, PlayError>
     ensures play { session.new.accepted ≡ session.old.accepted }
-    ensures ends { IfOk result (λ end. end ≡ end_of (run (setting_of session.old.accepted) [] options.budget session.old.state).stop) }
+    ensures comes { ComesTo (setting_of session.old.accepted) (GivesOut (setting_of session.old.accepted)) options (world (R.remaining reader.old) (G.coming words.old)) session.old.state session.new.state (G.coming words.new) (W.contents writer.old) (W.contents writer.new) result }
     ensures no_fault { IfOk result (λ end. (fault : AFault) (place : ℤ) → end ≢ End.Fault fault place) }
-    ensures state { OnOk result (session.new.state ≡ (run (setting_of session.old.accepted) [] options.budget session.old.state).state) }
-    ensures written { OnOk result (Appends (W.contents writer.old) (W.contents writer.new) (render options.status (run (setting_of session.old.accepted) [] options.budget session.old.state).items)) }
-    ensures quiet { ¬ IsErrOf result PlayError.Write → W.failures writer.new ≡ W.failures writer.old }
-    ensures no_read { ¬ IsErrOf result PlayError.Read }
-    ensures begun { IsErrOf result PlayError.Write → AppendsBeginning (W.contents writer.old) (W.contents writer.new) (render options.status (run (setting_of session.old.accepted) [] options.budget session.old.state).items) }
-    ensures blamed { IsErrOf result PlayError.Write → RisesByOne (W.failures writer.old) (W.failures writer.new) }
+    ensures reads { Blames PlayError.Read result (R.failures reader.old) (R.failures reader.new) }
+    ensures writes { Blames PlayError.Write result (W.failures writer.old) (W.failures writer.new) }
     ensures flushed { ¬ IsErrOf result PlayError.Write → W.waits writer.new ≡ false }
-    ensures finished { ¬ IsErrOf result PlayError.Write → PlaysSome (setting_of session.old.accepted) options.status options.budget session.old.state session.new.state (W.contents writer.old) (W.contents writer.new) }
-    ensures wanted { IsErrOf result PlayError.OutOfMemory → GivesOut (setting_of session.old.accepted) session.new.state }
-    ensures in_part { IsErrOf result PlayError.Write → PlaysInPart (setting_of session.old.accepted) options.status options.budget session.old.state session.new.state (W.contents writer.old) (W.contents writer.new) }
-    ensures reader { _reader.new ≡ _reader.old }
     ensures store { _store.new ≡ _store.old }
-    ensures words { _words.new ≡ _words.old }
 {
     session.never_faults();
-    play_machine(alloc, session, writer, options)
+    play_machine(alloc, session, reader, writer, words, options)
 }
 
-/// Makes at most so many steps, and writes and flushes what they give out. A failed write is the last call of the writer.
-fn play_machine<M: Machine, W: Sink>(
+/// Plays a machine, and flushes what was written, but for a failed write, which is the last call of the writer.
+fn play_machine<M: Machine, R: Source, W: Sink, G: Words>(
     alloc: Global,
     machine: &mut M,
+    reader: &mut R,
     writer: &mut W,
+    words: &mut G,
     options: Options,
 ) -> Result<End, PlayError>
     ensures play { M.IsSamePlay machine.old machine.new }
-    ensures ends { IfOk result (λ end. end ≡ end_of (run (M.setting machine.old) [] options.budget (M.state machine.old)).stop) }
-    ensures state { OnOk result (M.state machine.new ≡ (run (M.setting machine.old) [] options.budget (M.state machine.old)).state) }
-    ensures written { OnOk result (Appends (W.contents writer.old) (W.contents writer.new) (render options.status (run (M.setting machine.old) [] options.budget (M.state machine.old)).items)) }
-    ensures quiet { ¬ IsErrOf result PlayError.Write → W.failures writer.new ≡ W.failures writer.old }
-    ensures no_read { ¬ IsErrOf result PlayError.Read }
-    ensures begun { IsErrOf result PlayError.Write → AppendsBeginning (W.contents writer.old) (W.contents writer.new) (render options.status (run (M.setting machine.old) [] options.budget (M.state machine.old)).items) }
-    ensures blamed { IsErrOf result PlayError.Write → RisesByOne (W.failures writer.old) (W.failures writer.new) }
+    ensures comes { ComesTo (M.setting machine.old) (M.Wants (M.setting machine.old)) options (world (R.remaining reader.old) (G.coming words.old)) (M.state machine.old) (M.state machine.new) (G.coming words.new) (W.contents writer.old) (W.contents writer.new) result }
+    ensures reads { Blames PlayError.Read result (R.failures reader.old) (R.failures reader.new) }
+    ensures writes { Blames PlayError.Write result (W.failures writer.old) (W.failures writer.new) }
     ensures flushed { ¬ IsErrOf result PlayError.Write → W.waits writer.new ≡ false }
-    ensures finished { ¬ IsErrOf result PlayError.Write → PlaysSome (M.setting machine.old) options.status options.budget (M.state machine.old) (M.state machine.new) (W.contents writer.old) (W.contents writer.new) }
-    ensures wanted { IsErrOf result PlayError.OutOfMemory → M.Wants (M.setting machine.old) (M.state machine.new) }
-    ensures in_part { IsErrOf result PlayError.Write → PlaysInPart (M.setting machine.old) options.status options.budget (M.state machine.old) (M.state machine.new) (W.contents writer.old) (W.contents writer.new) }
 {
-    match play_turns(alloc, machine, writer, options) {
-        Err(PlayError::Write) => Err(PlayError::Write),
+    match play_turns(alloc, machine, reader, writer, words, options) {
+        // At a failed read all was flushed before it.
+        Err(error @ (PlayError::Write | PlayError::Read)) => Err(error),
         played => {
             flush(writer)?;
             played
@@ -118,87 +96,108 @@ fn play_machine<M: Machine, W: Sink>(
     }
 }
 
-/// Hands on what was written.
-fn flush<W: Sink>(writer: &mut W) -> Result<(), PlayError>
-    ensures kept { Keeps (W.contents writer.old) (W.contents writer.new) }
-    ensures ok { OnOk result (W.waits writer.new ≡ false) }
-    ensures quiet { OnOk result (W.failures writer.new ≡ W.failures writer.old) }
-    ensures failed { IfErr result (λ error. (error ≡ PlayError.Write) × RisesByOne (W.failures writer.old) (W.failures writer.new)) }
-{
-    match writer.flush() {
-        Ok(()) => Ok(()),
-        Err(Failed) => Err(PlayError::Write),
-    }
-}
-
-/// Makes at most so many steps in turns, and writes what each turn gives out.
-fn play_turns<M: Machine, W: Sink>(
+/// Makes steps in turns, and hands in what they need.
+fn play_turns<M: Machine, R: Source, W: Sink, G: Words>(
     alloc: Global,
     machine: &mut M,
+    reader: &mut R,
     writer: &mut W,
+    words: &mut G,
     options: Options,
 ) -> Result<End, PlayError>
     ensures play { M.IsSamePlay machine.old machine.new }
-    ensures ends { IfOk result (λ end. end ≡ end_of (run (M.setting machine.old) [] options.budget (M.state machine.old)).stop) }
-    ensures state { OnOk result (M.state machine.new ≡ (run (M.setting machine.old) [] options.budget (M.state machine.old)).state) }
-    ensures written { OnOk result (Appends (W.contents writer.old) (W.contents writer.new) (render options.status (run (M.setting machine.old) [] options.budget (M.state machine.old)).items)) }
-    ensures quiet { ¬ IsErrOf result PlayError.Write → W.failures writer.new ≡ W.failures writer.old }
-    ensures no_read { ¬ IsErrOf result PlayError.Read }
-    ensures begun { IsErrOf result PlayError.Write → AppendsBeginning (W.contents writer.old) (W.contents writer.new) (render options.status (run (M.setting machine.old) [] options.budget (M.state machine.old)).items) }
-    ensures blamed { IsErrOf result PlayError.Write → RisesByOne (W.failures writer.old) (W.failures writer.new) }
-    ensures finished { ¬ IsErrOf result PlayError.Write → PlaysSome (M.setting machine.old) options.status options.budget (M.state machine.old) (M.state machine.new) (W.contents writer.old) (W.contents writer.new) }
-    ensures wanted { IsErrOf result PlayError.OutOfMemory → M.Wants (M.setting machine.old) (M.state machine.new) }
-    ensures in_part { IsErrOf result PlayError.Write → PlaysInPart (M.setting machine.old) options.status options.budget (M.state machine.old) (M.state machine.new) (W.contents writer.old) (W.contents writer.new) }
+    ensures comes { ComesTo (M.setting machine.old) (M.Wants (M.setting machine.old)) options (world (R.remaining reader.old) (G.coming words.old)) (M.state machine.old) (M.state machine.new) (G.coming words.new) (W.contents writer.old) (W.contents writer.new) result }
+    ensures reads { Blames PlayError.Read result (R.failures reader.old) (R.failures reader.new) }
+    ensures writes { Blames PlayError.Write result (W.failures writer.old) (W.failures writer.new) }
+    ensures flushed { IsErrOf result PlayError.Read → W.waits writer.new ≡ false }
 {
     let mut items = Items::new(alloc);
+    let mut lines = Lines::new();
     let mut left = options.budget;
     'turns: loop {
         if let Some(stop) = turn(machine, writer, options.status, &mut left, &mut items)? {
-            return Ok(End::from(stop));
+            if !supply(machine, &mut lines, reader, writer, words)? {
+                return Ok(End::from(stop));
+            }
         }
     }
 }
 
-/// Where playing stands still: not where a turn's steps were made and more are left.
-fn standstill(stop: Stop, left: u32) -> Option<Stop>
-    ensures none { IfNone result ((stop ≡ Stop.Paused Pause.Budget) × (0 < left)) }
-    ensures some { IfSome result (λ s. (s ≡ stop) × (stop ≡ Stop.Paused Pause.Budget → left ≡ 0)) }
+/// Hands in what the machine awaits. Answers whether the world had it.
+fn supply<M: Machine, R: Source, W: Sink, G: Words>(
+    machine: &mut M,
+    lines: &mut Lines,
+    reader: &mut R,
+    writer: &mut W,
+    words: &mut G,
+) -> Result<bool, PlayError>
+    requires ended { lines.old.ended ≡ true → IsAtEnd (R.remaining reader.old) }
+    ensures ended { lines.new.ended ≡ true → IsAtEnd (R.remaining reader.new) }
+    ensures play { M.IsSamePlay machine.old machine.new }
+    ensures supplied { IfOk result (λ some. Supplies (M.setting machine.old) (M.state machine.old) (world (unused lines.old (R.remaining reader.old)) (G.coming words.old)) some (M.state machine.new) (world (unused lines.new (R.remaining reader.new)) (G.coming words.new))) }
+    ensures same { OnErr result ((M.state machine.new ≡ M.state machine.old) × (G.coming words.new ≡ G.coming words.old)) }
+    ensures kept { Keeps (W.contents writer.old) (W.contents writer.new) }
+    ensures at_line { IsErrOf result PlayError.Read → awaited (M.setting machine.old) (M.state machine.old) ≡ Some Need.Line }
+    ensures reads { Blames PlayError.Read result (R.failures reader.old) (R.failures reader.new) }
+    ensures writes { Blames PlayError.Write result (W.failures writer.old) (W.failures writer.new) }
+    ensures flushed { IsErrOf result PlayError.Read → W.waits writer.new ≡ false }
+    ensures no_memory { ¬ IsErrOf result PlayError.OutOfMemory }
 {
-    match stop {
-        Stop::Paused(Pause::Budget) if left > 0 => None,
-        _ => Some(stop),
+    let Some(need) = machine.awaits() else {
+        return Ok(false);
+    };
+    match ask(need, lines, reader, writer, words)? {
+        Some(event) => {
+            machine.give(event);
+            Ok(true)
+        }
+        None => Ok(false),
     }
 }
 
-/// Makes at most `TURN` of the steps that are left, and writes what they gave out. Answers where playing then stands
-/// still, if it does.
-fn turn<M: Machine, W: Sink>(
-    machine: &mut M,
+/// What answers a need, if anything does. Before a line is read, all that was written is flushed.
+fn ask<R: Source, W: Sink, G: Words>(
+    need: Need,
+    lines: &mut Lines,
+    reader: &mut R,
     writer: &mut W,
-    status: bool,
-    left: &mut u32,
-    items: &mut Items,
-) -> Result<Option<Stop>, PlayError>
-    ensures play { M.IsSamePlay machine.old machine.new }
-    ensures stands { IfOk result (λ still. IfSome still (λ stop. Stands (M.setting machine.old) stop (M.state machine.new) × (stop ≡ Stop.Paused Pause.Budget → left.new ≡ 0))) }
-    ensures fewer { result ≡ Ok None → left.new < left.old }
-    ensures ok { OnOk result (Plays (M.setting machine.old) status left.old left.new (M.state machine.old) (M.state machine.new) (W.contents writer.old) (W.contents writer.new)) }
-    ensures quiet { ¬ IsErrOf result PlayError.Write → W.failures writer.new ≡ W.failures writer.old }
-    ensures no_read { ¬ IsErrOf result PlayError.Read }
-    ensures begun { IsErrOf result PlayError.Write → AppendsBeginning (W.contents writer.old) (W.contents writer.new) (render status (run (M.setting machine.old) [] left.old (M.state machine.old)).items) }
-    ensures blamed { IsErrOf result PlayError.Write → RisesByOne (W.failures writer.old) (W.failures writer.new) }
-    ensures finished { IsErrOf result PlayError.OutOfMemory → Plays (M.setting machine.old) status left.old left.new (M.state machine.old) (M.state machine.new) (W.contents writer.old) (W.contents writer.new) }
-    ensures wanted { IsErrOf result PlayError.OutOfMemory → M.Wants (M.setting machine.old) (M.state machine.new) }
-    ensures in_part { IsErrOf result PlayError.Write → PlaysInPart (M.setting machine.old) status left.old (M.state machine.old) (M.state machine.new) (W.contents writer.old) (W.contents writer.new) }
+    words: &mut G,
+) -> Result<Option<Event>, PlayError>
+    requires ended { lines.old.ended ≡ true → IsAtEnd (R.remaining reader.old) }
+    ensures ended { lines.new.ended ≡ true → IsAtEnd (R.remaining reader.new) }
+    ensures asked { IfOk result (λ event. Asks need (world (unused lines.old (R.remaining reader.old)) (G.coming words.old)) event (world (unused lines.new (R.remaining reader.new)) (G.coming words.new))) }
+    ensures same { OnErr result (G.coming words.new ≡ G.coming words.old) }
+    ensures kept { Keeps (W.contents writer.old) (W.contents writer.new) }
+    ensures at_line { IsErrOf result PlayError.Read → need ≡ Need.Line }
+    ensures reads { Blames PlayError.Read result (R.failures reader.old) (R.failures reader.new) }
+    ensures writes { Blames PlayError.Write result (W.failures writer.old) (W.failures writer.new) }
+    ensures flushed { IsErrOf result PlayError.Read → W.waits writer.new ≡ false }
+    ensures no_memory { ¬ IsErrOf result PlayError.OutOfMemory }
 {
-    let mut steps = TURN.min(*left);
-    let rest = *left - steps;
-    items.clear();
-    let ran = machine.run_down(&mut steps, items);
-    *left = rest + steps;
-    write_items(writer, items, status).map_err(|_| PlayError::Write)?;
-    match ran {
-        Ok(stop) => Ok(standstill(stop, *left)),
-        Err(_) => Err(PlayError::OutOfMemory),
+    match need {
+        Need::Line => {
+            flush(writer)?;
+            let line = hear(lines, reader, writer)?;
+            Ok(line.map(Event::Line))
+        }
+        Need::Random => Ok(Some(Event::Random(words.next()))),
+        Need::Saved | Need::Restore => Ok(None),
     }
+}
+
+/// The next line of a player who has seen all that was written.
+fn hear<R: Source, W: Sink>(
+    lines: &mut Lines,
+    reader: &mut R,
+    _writer: &W,
+) -> Result<Option<Line>, PlayError>
+    requires flushed { W.waits _writer.now ≡ false }
+    requires ended { lines.old.ended ≡ true → IsAtEnd (R.remaining reader.old) }
+    ensures ended { lines.new.ended ≡ true → IsAtEnd (R.remaining reader.new) }
+    ensures heard { IfOk result (λ line. Hears (unused lines.old (R.remaining reader.old)) line (unused lines.new (R.remaining reader.new))) }
+    ensures reads { Blames PlayError.Read result (R.failures reader.old) (R.failures reader.new) }
+    ensures no_write { ¬ IsErrOf result PlayError.Write }
+    ensures no_memory { ¬ IsErrOf result PlayError.OutOfMemory }
+{
+    lines.next_line(reader)
 }
