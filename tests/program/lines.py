@@ -11,7 +11,7 @@ from properties import BYTE, bytes_at, files
 from samples import certificate, interval, word
 
 DATA = os.path.join(os.path.dirname(os.path.abspath(__file__)), "../../crates/zpc/data")
-FIRST = b"\x10"  # global 16
+FIRST, FOURTH = b"\x10", b"\x13"  # globals 16 and 19
 TEXT, PARSE = 0x280, 0x290
 SIZES = [(TEXT, TEXT), (PARSE, PARSE)]  # what a certificate freezes, so that the sizes of both buffers are known
 PRINT_SPACE = b"\xe5\x7f\x20"
@@ -67,7 +67,7 @@ def drawn(seed, ranges):
 # The dictionary has `at`, encoded as 1B 25 94 A5, at 361, and `look` at 368; a comma separates words.
 
 LINES = [
-    ("two words and a separator", b"look,at\n", 10, 2, [108, 111, 111, 107, 44, 97, 116, 0], [2, 3, 104, 4, 1, 0, 0, 1, 5, 0]),
+    ("two words and a separator", b"look,at\n", 10, 2, [108, 111, 111, 107, 44, 97, 116, 0], [2, 3, 104, 4, 1, 0, 0, 1, 5]),
     ("a word in capitals", b"AT\n", 10, 2, [97, 116, 0, 0], [1, 3, 97, 2, 1, 0, 0, 0, 0]),
     ("a line that is too long for its buffer", b"ab\n", 2, 2, [97, 0, 0], [1, 0, 0, 1, 1, 0]),
     ("a line of 300 bytes", b"a" * 300 + b"\n", 10, 2, [97] * 9 + [0, 0], [1, 0, 0, 9, 1, 0]),
@@ -100,8 +100,8 @@ REFUSED = [
     ("a text buffer with no room for a letter", sread(), I14, F14, NONE, {TEXT: 1}, SIZES),
     ("a text buffer of nothing", sread(), I14, F14, NONE, {TEXT: 0}, SIZES),
     ("a parse buffer with no room for a word", sread(), I14, F14, NONE, {PARSE: 0}, SIZES),
-    ("a text buffer that may be one of two", sread(FIRST), I14, NOTHING, first(TEXT, TEXT, TEXT + 1), NONE, SIZES),
-    ("a parse buffer that may be one of two", sread(TEXT, FIRST), I14, NOTHING, first(PARSE, PARSE - 1, PARSE), NONE, SIZES),
+    ("a text buffer that may be one of two", sread(FOURTH), I14, NOTHING, {19: (TEXT, TEXT, TEXT + 1)}, NONE, SIZES),
+    ("a parse buffer that may be one of two", sread(TEXT, FOURTH), I14, NOTHING, {19: (PARSE, PARSE - 1, PARSE)}, NONE, SIZES),
     ("a parse buffer that goes over the static base", sread(), I14, F11, NONE, {PARSE: 3}, SIZES),
     ("a text buffer that does", sread(), I14, F11, NONE, {TEXT: 26}, SIZES),
     ("a text buffer over a frozen byte", sread(), I14, NOTHING, NONE, {TEXT: 16}, SIZES),
@@ -155,7 +155,7 @@ COUNTS = [
 ]
 
 LISTED = [sread(), random(6), (PRINT_TOP, slots(0)), QUIT]
-LISTING = b"00370 0 sread\n00376 0 random\n0037a 0 print_num\n0037d 0 quit\n"
+LISTING = b"00370 0 sread\n00376 0 random\n0037b 0 print_num\n0037e 0 quit\n"
 
 
 class Lines(Plays):

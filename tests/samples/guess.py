@@ -138,7 +138,7 @@ def story():
 def certified(made):
     """Globals lie in these ranges; a word of the parse buffer may be any; the sizes of both buffers are frozen."""
     places, labels = placed()
-    values = {PLACE: (1, 1), SCORE: (-32768, 32767), MOVES: (-32768, 32767), SOUGHT: (0, 9), GUESSED: (-48, 255)}
+    values = {PLACE: (1, 1), SCORE: (-32768, 32767), MOVES: (-32768, 32767), SOUGHT: (0, 9), GUESSED: (-32768, 32767)}
     stacks = {labels[it]: interval(-32768, 32767) for it in ON_STACK}
     return certificate(made, places, stacks=stacks, own=values, ranges=[(TEXT, TEXT), (PARSE, PARSE)])
 
