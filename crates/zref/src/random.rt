@@ -1,7 +1,7 @@
 //! The step that draws a random number (Z 2.4, 15 random), or says where numbers come from. It wants memory only where its stack gets
 //! longer.
 
-ghost use Rattle.std.specs.Prelude.{◌≡◌, ◌+◌, ◌%◌, ◌≤◌, ◌<◌, true, length, Some, IfOk};
+ghost use Rattle.std.specs.Prelude.{◌≡◌, ◌≤◌, ◌<◌, true, length, Some, IfOk};
 ghost use Rattle.zstate.specs.Gives.{Gives};
 ghost use Rattle.zstate.specs.State.{Scope, exists, popped, usual_limit};
 ghost use Rattle.zstate.specs.Step.{drawn, in_range, next_of, random_of, settle, used};
