@@ -4,7 +4,7 @@ use crate::outside::{Nothing, Page};
 use std::alloc::{AllocError, Global};
 use zfault::{FromRead, Items};
 use zplay::Session;
-use zplayer::{End, Options, PlayError, play_checked, play_story};
+use zplayer::{End, Options, PlayError, Seeded, play_checked, play_story};
 use zref::CheckedMachine;
 use zstate::Stop;
 
@@ -53,7 +53,7 @@ impl<'a> Machine for Session<'a> {
 
     fn play(&mut self, alloc: Global, page: &mut Page, budget: u32) -> Result<End, PlayError> {
         let mut reader = FromRead::new(b"".as_slice());
-        let (mut store, mut words) = (Nothing, Nothing);
+        let (mut store, mut words) = (Nothing, Seeded::new(1));
         play_story(
             alloc,
             self,
@@ -85,7 +85,7 @@ impl<'a> Machine for CheckedMachine<'a> {
 
     fn play(&mut self, alloc: Global, page: &mut Page, budget: u32) -> Result<End, PlayError> {
         let mut reader = FromRead::new(b"".as_slice());
-        let (mut store, mut words) = (Nothing, Nothing);
+        let (mut store, mut words) = (Nothing, Seeded::new(1));
         play_checked(
             alloc,
             self,

@@ -4,7 +4,7 @@ ghost use Rattle.std.specs.Prelude.{Some, zero};
 
 use arrayvec::ArrayVec;
 use zfault::{Failed, Items, Sink};
-use zplayer::{SaveStore, Words};
+use zplayer::SaveStore;
 
 /// How many bytes a page has room for.
 const ROOM: usize = 256;
@@ -64,7 +64,7 @@ impl Sink for Page {
     }
 }
 
-/// No save, and words that are all 0: no opcode of this build asks for either.
+/// A store that no opcode of this build asks for a save.
 #[derive(Drop)]
 pub struct Nothing;
 
@@ -77,11 +77,5 @@ impl SaveStore for Nothing {
 
     fn get(&mut self, _save: &mut Vec<u8>) -> bool {
         true
-    }
-}
-
-impl Words for Nothing {
-    fn next(&mut self) -> u16 {
-        0
     }
 }

@@ -1,12 +1,12 @@
 -- What the words come to.
-use Rattle.std.proofs.Common.{◌≡◌, ◌≢◌, ◌<◌, ◌⊎◌, inl, inr, ℕ, Bool, List, [], ◌∷◌, length, Option, Some, None, Result, Ok, Err, refl, ap, subst, arith, IsSomeAnd}
+use Rattle.std.proofs.Common.{◌≡◌, ◌≢◌, ◌<◌, ◌⊎◌, inl, inr, ℕ, Bool, true, List, [], ◌∷◌, length, Option, Some, None, Result, Ok, Err, refl, ap, subst, arith, IsSomeAnd}
 use Rattle.clap.specs.Kinds.{IsAmong}
 use Rattle.clap.specs.Words.{Row, Text, fault_of, subcommand_of}
 use Rattle.zfault.specs.Devices.{RisesByOne}
 use Rattle.zplayer.specs.declared.end.End.{End}
 use Rattle.zcommand.specs.CommandLine.{Asks, Request, zpc_app}
-use Rattle.zperform.specs.Performing.{Breaks, Comes, Devices, Explains, IsFlushed, Performs, Reports, Says, Seen, Takes, seen}
-use Rattle.zperform.specs.declared.outcome.Failure.TheVariants.{File, Write}
+use Rattle.zperform.specs.Performing.{Breaks, Comes, Devices, Explains, IsFlushed, Performs, Reports, Says, Seen, Takes, is_quiet, seen, told}
+use Rattle.zperform.specs.declared.outcome.Failure.TheVariants.{File, Read, Write}
 use Rattle.zperform.specs.Report.{outcome_of}
 use Rattle.zperform.specs.declared.outcome.Problem.{Problem}
 use Rattle.zperform.specs.declared.outcome.Problem.TheVariants.{Failed}
@@ -44,12 +44,18 @@ module _ (words : List Text) (known : List ℕ → Option (List ℕ)) (status : 
     (flushed : outcome ≢ Stopped (Failed Write) → IsFlushed (λ (writer : Seen). writer.waits) old.writer new.writer)
     (unread : outcome ≡ Stopped (Failed File) → RisesByOne old.files new.files)
     (unfailed : outcome ≢ Stopped (Failed File) → new.files ≡ old.files)
+    (unheard : outcome ≡ Stopped (Failed Read) → RisesByOne old.reader.failures new.reader.failures)
+    (heard : outcome ≢ Stopped (Failed Read) → new.reader.failures ≡ old.reader.failures)
     (reported : Reports outcome status old.errors new.errors) where
-  pub performs_request : (request : Request) → Comes request known old.writer.contents new.writer.contents outcome → IsSomeAnd (subcommand_of zpc_app words) (λ matches. Asks matches request)
+  pub performs_request : (request : Request) → (is_quiet request ≡ true → new.reader ≡ old.reader) → Comes request known old.reader.remaining old.writer.contents new.writer.contents outcome → IsSomeAnd (subcommand_of zpc_app words) (λ matches. Asks matches request)
       → Performs words known status old new
-  performs_request request comes read = go (subcommand_of zpc_app words) refl read
+  performs_request request unasked comes read = go (subcommand_of zpc_app words) refl read
     where
       go : (o : Option (Text × List Row)) → subcommand_of zpc_app words ≡ o → IsSomeAnd o (λ matches. Asks matches request) → Performs words known status old new
       go None e h = absurd h
       go (Some matches) e asks =
-          inl (record { matches = matches; named = e; request = request; asks = asks; outcome = outcome; comes = comes; blamed = blamed; quiet = quiet; flushed = flushed; unread = unread; unfailed = unfailed; reported = reported })
+          inl (record { matches = matches; named = e; request = request; asks = asks; outcome = outcome; comes = comes; blamed = blamed; quiet = quiet; flushed = flushed; unread = unread; unfailed = unfailed; unheard = unheard; heard = heard; unasked = unasked; reported = reported })
+
+-- what is told of a source that wasn't asked
+pub told_same : {R : Type 0} (remaining : R → Option (List ℕ)) (failures : R → ℕ) (old new : R) → new ≡ old → told remaining failures new ≡ told remaining failures old
+told_same remaining failures old new same = ap (told remaining failures) same

@@ -1,34 +1,41 @@
 -- What comes of playing by a certificate.
 use Rattle.std.proofs.Common.{◌≡◌, ◌≢◌, ◌⊎◌, inl, inr, ◌∙◌, ℕ, List, [], refl, sym, ap, subst, true≢false}
-use Rattle.std.specs.Prelude.{ℤ, Option, Result, Ok, Err, IsErr, IsErrAnd}
+use Rattle.std.specs.Prelude.{ℤ, Option, Result, Ok, Err, IfOk, IsErr, IsErrAnd}
 use Rattle.std.specs.Io.KnownBytes.{Appends}
 use Rattle.zfault.specs.declared.fault.Fault.{Fault}
 use Rattle.zfault.specs.Devices.{AppendsBeginning}
 use Rattle.zstate.specs.State.{State, opening}
-use Rattle.zstate.specs.Run.{Ending, GivesOut, run}
+use Rattle.zstate.specs.Run.{GivesOut}
 use Rattle.zcheck.specs.Acceptance.{Acceptance}
 use Rattle.zplay.specs.Session.{Playing, setting_of}
-use Rattle.zscreen.specs.Rendering.{render}
 use Rattle.zplayer.specs.declared.end.End.{End}
 use Rattle.zplayer.specs.declared.end.End.TheVariants as ends
 use Rattle.zplayer.specs.declared.end.Options.{Options}
 use Rattle.zplayer.specs.declared.end.PlayError.{PlayError}
 use Rattle.zplayer.specs.declared.end.PlayError.TheVariants as errors
-use Rattle.zplayer.specs.Playing.{PlaysSome, end_of}
+use Rattle.zplayer.specs.Playing.{ComesTo as PlayComes}
+use Rattle.zplayer.specs.World.{Coming, World}
+use Rattle.zperform.specs.declared.outcome.Failure.{Failure}
 use Rattle.zperform.specs.declared.outcome.Failure.TheVariants.{File, Read, Write, Memory}
 use Rattle.zperform.specs.declared.outcome.Problem.{Problem}
 use Rattle.zperform.specs.declared.outcome.Problem.TheVariants.{Refused, Unreadable, BreaksStory, BreaksInstruction, Unlisted, Failed}
 use Rattle.zperform.specs.declared.outcome.Outcome.{Outcome}
 use Rattle.zperform.specs.declared.outcome.Outcome.TheVariants.{Accepted, Played, Stopped}
-use Rattle.zperform.specs.Accepting.{CheckComesTo, IsAccepted, IsUnaccepted, PlayComesTo, accepted_line, ending_with}
+use Rattle.zperform.specs.Accepting.{Accepts, CheckComesTo, IsAccepted, IsPlayedBy, IsUnaccepted, PlayComesTo, accepted_line}
 use Rattle.zperform.specs.Report.{outcome_of, problem_of_play}
 use Rattle.zperform.specs.Contents.{HasBytes}
 use Rattle.zperform.proofs.AcceptLemmas.{story_bytes}
 
--- a failed write is handed on as one
+-- a failed write is handed on as one, and a failed read too
+as_failed : (failure : Failure) (of : PlayError) → problem_of_play of ≡ Failed failure → (r : Result End Problem) (error : PlayError) → IsErr r × IsErrAnd r (λ q. q ≡ problem_of_play error) → error ≡ of → r ≡ Err (Failed failure)
+as_failed failure of is_so (Ok end) error (is, same) e = absurd (true≢false (sym is))
+as_failed failure of is_so (Err q) error (is, same) e = ap Err (same ∙ ap problem_of_play e ∙ is_so)
+
 pub as_write : (r : Result End Problem) (error : PlayError) → IsErr r × IsErrAnd r (λ q. q ≡ problem_of_play error) → error ≡ errors.Write → r ≡ Err (Failed Write)
-as_write (Ok end) error (is, same) e = absurd (true≢false (sym is))
-as_write (Err q) error (is, same) e = ap Err (same ∙ ap problem_of_play e)
+as_write = as_failed Write errors.Write refl
+
+pub as_read : (r : Result End Problem) (error : PlayError) → IsErr r × IsErrAnd r (λ q. q ≡ problem_of_play error) → error ≡ errors.Read → r ≡ Err (Failed Read)
+as_read = as_failed Read errors.Read refl
 
 -- and nothing else is
 write_alone : (error : PlayError) → problem_of_play error ≡ Failed Write → error ≡ errors.Write
@@ -36,9 +43,18 @@ write_alone errors.Read e = absurd cc
 write_alone errors.Write e = refl
 write_alone errors.OutOfMemory e = absurd cc
 
+read_alone : (error : PlayError) → problem_of_play error ≡ Failed Read → error ≡ errors.Read
+read_alone errors.Read e = refl
+read_alone errors.Write e = absurd cc
+read_alone errors.OutOfMemory e = absurd cc
+
 pub was_write : (r : Result End Problem) (error : PlayError) → IsErr r × IsErrAnd r (λ q. q ≡ problem_of_play error) → r ≡ Err (Failed Write) → error ≡ errors.Write
 was_write (Ok end) error (is, same) e = absurd cc
 was_write (Err q) error (is, same) e = write_alone error (sym same ∙ (let write : q ≡ Failed Write = cc in write))
+
+pub was_read : (r : Result End Problem) (error : PlayError) → IsErr r × IsErrAnd r (λ q. q ≡ problem_of_play error) → r ≡ Err (Failed Read) → error ≡ errors.Read
+was_read (Ok end) error (is, same) e = absurd cc
+was_read (Err q) error (is, same) e = read_alone error (sym same ∙ (let read : q ≡ Failed Read = cc in read))
 
 -- what breaks playing off is no failure of a file
 no_file : (error : PlayError) → problem_of_play error ≢ Failed File
@@ -51,15 +67,15 @@ was_no_file (Ok end) error (is, same) e = absurd cc
 was_no_file (Err q) error (is, same) e = no_file error (sym same ∙ (let file : q ≡ Failed File = cc in file))
 
 module _ (story certificate : Option (List ℕ)) (before : Option (List ℕ)) where
-  -- the writer isn't blamed for what isn't accepted
-  pub unblamed : (problem : Problem) → IsUnaccepted story certificate problem → problem ≢ Failed Write
-  unblamed (Refused error) h = λ e. cc
-  unblamed (Unreadable error) h = λ e. cc
-  unblamed (BreaksStory rule) h = λ e. cc
-  unblamed (BreaksInstruction address rule) h = λ e. cc
+  -- neither the writer nor the reader is blamed for what isn't accepted
+  pub unblamed : (problem : Problem) → IsUnaccepted story certificate problem → (problem ≢ Failed Write) × (problem ≢ Failed Read)
+  unblamed (Refused error) h = (λ e. cc, λ e. cc)
+  unblamed (Unreadable error) h = (λ e. cc, λ e. cc)
+  unblamed (BreaksStory rule) h = (λ e. cc, λ e. cc)
+  unblamed (BreaksInstruction address rule) h = (λ e. cc, λ e. cc)
   unblamed (Unlisted error) h = absurd h
-  unblamed (Failed File) h = λ e. cc
-  unblamed (Failed Memory) h = λ e. cc
+  unblamed (Failed File) h = (λ e. cc, λ e. cc)
+  unblamed (Failed Memory) h = (λ e. cc, λ e. cc)
   unblamed (Failed Read) h = absurd h
   unblamed (Failed Write) h = absurd h
 
@@ -75,9 +91,9 @@ module _ (story certificate : Option (List ℕ)) (before : Option (List ℕ)) wh
   unchecked (Failed Read) h = absurd h
   unchecked (Failed Write) h = absurd h
 
-module _ (story certificate : Option (List ℕ)) (options : Options) (before : Option (List ℕ)) where
+module _ (story certificate : Option (List ℕ)) (options : Options) (given : World) (before : Option (List ℕ)) where
   -- nor is it played
-  pub unaccepted : (problem : Problem) → IsUnaccepted story certificate problem → PlayComesTo story certificate options before before (Stopped problem)
+  pub unaccepted : (problem : Problem) → IsUnaccepted story certificate problem → PlayComesTo story certificate options given before before (Stopped problem)
   unaccepted (Refused error) h = (h, refl)
   unaccepted (Unreadable error) h = (h, refl)
   unaccepted (BreaksStory rule) h = (h, refl)
@@ -89,32 +105,28 @@ module _ (story certificate : Option (List ℕ)) (options : Options) (before : O
   unaccepted (Failed Write) h = absurd h
 
   pub handed_on : (now : Option (List ℕ)) (r : Result End Problem) (problem : Problem) → IsErr r × IsErrAnd r (λ q. q ≡ problem)
-      → PlayComesTo story certificate options before now (Stopped problem) → PlayComesTo story certificate options before now (outcome_of r)
+      → PlayComesTo story certificate options given before now (Stopped problem) → PlayComesTo story certificate options given before now (outcome_of r)
   handed_on now (Ok end) problem (is, same) h = absurd (true≢false (sym is))
-  handed_on now (Err q) problem (is, same) h = subst (λ (x : Problem). PlayComesTo story certificate options before now (Stopped x)) (sym same) h
+  handed_on now (Err q) problem (is, same) h = subst (λ (x : Problem). PlayComesTo story certificate options given before now (Stopped x)) (sym same) h
 
   -- memory for the session was refused
   pub unopened : (a : Acceptance) → IsAccepted story certificate a → HasBytes story
   unopened a accepted = story_bytes story a.story accepted.story
 
   -- a session that opened
-  module _ (a : Acceptance) (accepted : IsAccepted story certificate a) (p : Playing) (opened : p ≡ record { accepted = a; state = opening a.story }) (now : Option (List ℕ)) where
-    abbrev ending : Ending
-    ending = run (setting_of p.accepted) [] options.budget p.state
+  module _ (a : Acceptance) (accepted : IsAccepted story certificate a) (p : Playing) (opened : p ≡ record { accepted = a; state = opening a.story }) (now : Option (List ℕ)) (state : State) (words : Option Coming) where
+    by : (result : Result End PlayError) → PlayComes (setting_of p.accepted) (GivesOut (setting_of p.accepted)) options given p.state state words before now result → IfOk result (λ end. (fault : Fault) (place : ℤ) → end ≢ ends.Fault fault place)
+        → Accepts story certificate (λ a. IsPlayedBy a options given before now result)
+    by result comes safe =
+        (a, accepted, record { state = state; words = words; comes = subst (λ (q : Playing). PlayComes (setting_of q.accepted) (GivesOut (setting_of q.accepted)) options given q.state state words before now result) opened comes; safe = safe })
 
-    same : ending ≡ ending_with a options.budget
-    same = ap (λ (q : Playing). run (setting_of q.accepted) [] options.budget q.state) opened
+    pub played : (end : End) → PlayComes (setting_of p.accepted) (GivesOut (setting_of p.accepted)) options given p.state state words before now (Ok end) → ((fault : Fault) (place : ℤ) → end ≢ ends.Fault fault place) → PlayComesTo story certificate options given before now (Played end)
+    played end comes safe = by (Ok end) comes safe
 
-    pub played : (end : End) → end ≡ end_of ending.stop → ((fault : Fault) (place : ℤ) → end ≢ ends.Fault fault place) → Appends before now (render options.status ending.items) → PlayComesTo story certificate options before now (Played end)
-    played end ended safe written =
-        (a, accepted, record { ended = ended ∙ ap (λ (e : Ending). end_of e.stop) same; safe = safe; written = subst (λ (e : Ending). Appends before now (render options.status e.items)) same written })
-
-    pub broken : (error : PlayError) → error ≢ errors.Read → (error ≡ errors.Write → AppendsBeginning before now (render options.status ending.items)) → (state : State) → (error ≡ errors.OutOfMemory → PlaysSome (setting_of p.accepted) options.status options.budget p.state state before now) → (error ≡ errors.OutOfMemory → GivesOut (setting_of p.accepted) state)
-        → PlayComesTo story certificate options before now (Stopped (problem_of_play error))
-    broken errors.Read no_read begun state finished wanted = absurd (no_read refl)
-    broken errors.Write no_read begun state finished wanted = (a, accepted, subst (λ (e : Ending). AppendsBeginning before now (render options.status e.items)) same (begun refl))
-    broken errors.OutOfMemory no_read begun state finished wanted =
-        inr (a, accepted, record { state = state; finished = subst (λ (q : Playing). PlaysSome (setting_of q.accepted) options.status options.budget q.state state before now) opened (finished refl); wanted = subst (λ (q : Playing). GivesOut (setting_of q.accepted) state) opened (wanted refl) })
+    pub broken : (error : PlayError) → PlayComes (setting_of p.accepted) (GivesOut (setting_of p.accepted)) options given p.state state words before now (Err error) → PlayComesTo story certificate options given before now (Stopped (problem_of_play error))
+    broken errors.Read comes = by (Err errors.Read) comes tt
+    broken errors.Write comes = by (Err errors.Write) comes tt
+    broken errors.OutOfMemory comes = inr (by (Err errors.OutOfMemory) comes tt)
 
 -- what is said of a certificate that is accepted
 module _ (outcome : Outcome) (only : (outcome ≡ Accepted) ⊎ (outcome ≡ Stopped (Failed Write))) where

@@ -30,7 +30,9 @@ use Rattle.zlist.specs.declared.record.Record.{Record}
 use Rattle.zperform.specs.Listing.{listing_text}
 use Rattle.zperform.specs.Contents.{GivesPart, IsBeginning}
 use Rattle.zperform.specs.Accepting.{CheckComesTo, PlayComesTo}
-use Rattle.zperform.specs.Performing.{Breaks, Seen, Says, Takes, is_request}
+use Rattle.zcommand.specs.CommandLine.{ListStory, Check, Play}
+use Rattle.zplayer.specs.World.{World}
+use Rattle.zperform.specs.Performing.{Breaks, Seen, Says, Takes, is_quiet, is_request}
 use Rattle.zperform.specs.Playing.{ComesTo, Holds, IsRefused}
 use Rattle.zperform.specs.declared.accepting.TheConstants.{CERTIFICATE_LIMIT, STORY_LIMIT}
 use Rattle.zperform.specs.Report.{line_of, place_text, problem_of_checking, problem_of_listing, problem_of_load, problem_of_play, problem_of_reading, status_of, text_of}
@@ -141,10 +143,10 @@ unfolding reading heading_at magic_at
 empty_certificate = refl
 
 -- for an empty story's file memory is never wanted, and it is too short
-empty_story : (options : Options) (before now : Option (List ℕ)) → (ComesTo (Some []) options before now (Stopped (Failed Memory)) → ⊥) × (IsRefused [] loads.TooShort)
-empty_story options before now = (unwanted, record { lowest = (omega arith, λ lower below. absurd (none lower below)); of_file = λ e. cc })
+empty_story : (options : Options) (given : World) (before now : Option (List ℕ)) → (ComesTo (Some []) options given before now (Stopped (Failed Memory)) → ⊥) × (IsRefused [] loads.TooShort)
+empty_story options given before now = (unwanted, record { lowest = (omega arith, λ lower below. absurd (none lower below)); of_file = λ e. cc })
   where
-    unwanted : ComesTo (Some []) options before now (Stopped (Failed Memory)) → ⊥
+    unwanted : ComesTo (Some []) options given before now (Stopped (Failed Memory)) → ⊥
     unwanted (inl (same, some)) = omega (arith, some)
     unwanted (inr (file, same, cut)) = cut.holds.no_cause loads.TooShort (omega arith) (omega (arith, ap length same))
 
@@ -206,9 +208,12 @@ said = (
   λ same. omega (arith, ap (λ (s : Seen). s.failures) same),
 )
 
--- playing never comes to an acceptance or to a failed read, nor checking to the end of a play
-never : (story certificate before now : Option (List ℕ)) (options : Options) →
-    (ComesTo story options before now Accepted → ⊥) × (ComesTo story options before now (Stopped (Failed Read)) → ⊥)
-    × (PlayComesTo story certificate options before now Accepted → ⊥) × (PlayComesTo story certificate options before now (Stopped (Failed Read)) → ⊥)
+-- playing never comes to an acceptance, nor checking to the end of a play or to a failed read
+never : (story certificate before now : Option (List ℕ)) (options : Options) (given : World) →
+    (ComesTo story options given before now Accepted → ⊥) × (PlayComesTo story certificate options given before now Accepted → ⊥)
     × (CheckComesTo story certificate before now (Played ends.Quit) → ⊥) × (CheckComesTo story certificate before now (Stopped (Failed Read)) → ⊥)
-never story certificate before now options = (λ no. no, λ no. no, λ no. no, λ no. no.0, λ no. no, λ no. no.0)
+never story certificate before now options given = (λ no. no, λ no. no, λ no. no, λ no. no.0)
+
+-- input is read for a play alone
+input_read : (is_quiet (ListStory (codes "hello.z3")) ≡ true) × (is_quiet (Check (codes "hello.z3") (codes "hello.cert")) ≡ true) × (is_quiet (Play (codes "hello.z3") None 1 100 false) ≡ false)
+input_read = (refl, refl, refl)

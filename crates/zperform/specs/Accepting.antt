@@ -1,16 +1,19 @@
 -- What the files of a story and of a certificate come to (own).
-use Rattle.std.specs.Prelude.{◌≡◌, ◌≢◌, ◌⊎◌, ⊤, ℕ, ℤ, ◌++◌, ◌∷◌, [], List, Option, Ok, Err, codes}
+use Rattle.std.specs.Prelude.{◌≡◌, ◌≢◌, ◌⊎◌, ⊤, ℕ, ℤ, ◌++◌, ◌∷◌, [], List, Option, Result, Ok, Err, IfOk, codes}
 use Rattle.std.specs.Io.KnownBytes.{Appends}
 use Rattle.zfault.specs.Devices.{AppendsBeginning}
 use Rattle.zfault.specs.declared.fault.Fault.{Fault}
 use Rattle.zstory.specs.LoadedStory.{LoadedStory}
-use Rattle.zstate.specs.State.{State, opening, scope_only, usual_limit}
-use Rattle.zstate.specs.Run.{Ending, GivesOut, run}
-use Rattle.zscreen.specs.Rendering.{render}
+use Rattle.zstate.specs.State.{State, opening}
+use Rattle.zstate.specs.Run.{GivesOut}
+use Rattle.zplay.specs.Session.{setting_of}
 use Rattle.zplayer.specs.declared.end.End.{End}
 use Rattle.zplayer.specs.declared.end.End.TheVariants as ends
 use Rattle.zplayer.specs.declared.end.Options.{Options}
-use Rattle.zplayer.specs.Playing.{PlaysSome, end_of}
+use Rattle.zplayer.specs.declared.end.PlayError.{PlayError}
+use Rattle.zplayer.specs.declared.end.PlayError.TheVariants as errors
+use Rattle.zplayer.specs.Playing.{ComesTo as PlayComes}
+use Rattle.zplayer.specs.World.{Coming, World}
 use Rattle.zdomain.specs.declared.interval.Interval.{Interval}
 use Rattle.zdomain.specs.Interval.{interval_operations}
 use Rattle.zcert.specs.Certificate.{Certificate}
@@ -100,31 +103,23 @@ CheckComesTo story_known certificate_known before now (Stopped (Failed Write)) =
     ((a : Acceptance) × IsAccepted story_known certificate_known a) × AppendsBeginning before now accepted_line
 CheckComesTo story_known certificate_known before now (Stopped problem) = IsUnaccepted story_known certificate_known problem × (now ≡ before)
 
--- how a play of so many steps ends that the certificate's listing bounds
-abbrev pub ending_with : Acceptance → ℕ → Ending
-ending_with a budget = run (record { story = a.story; scope = scope_only a.listing; limit = usual_limit }) [] budget (opening a.story)
-
--- it was played: so it ended, with no fault, and all that the play gives out was written, with status lines where they are
--- asked for
-pub record IsPlayedBy (a : Acceptance) (options : Options) (end : End) (before now : Option (List ℕ)) : Type 0 where
-  pub ended : end ≡ end_of (ending_with a options.budget).stop
-  pub safe : (fault : Fault) (place : ℤ) → end ≢ ends.Fault fault place
-  pub written : Appends before now (render options.status (ending_with a options.budget).items)
-
--- the play stopped before a step that gives something out, and what the steps up to there give out was written
-pub record IsCutShortBy (a : Acceptance) (options : Options) (before now : Option (List ℕ)) : Type 0 where
+-- what was accepted was played from its opening, of which the certificate's listing bounds the scope, and came to this, with no fault
+pub record IsPlayedBy (a : Acceptance) (options : Options) (given : World) (before now : Option (List ℕ)) (result : Result End PlayError) : Type 0 where
   pub state : State
-  pub finished : PlaysSome (record { story = a.story; scope = scope_only a.listing; limit = usual_limit }) options.status options.budget (opening a.story) state before now
-  pub wanted : GivesOut (record { story = a.story; scope = scope_only a.listing; limit = usual_limit }) state
+  pub words : Option Coming
+  pub comes : PlayComes (setting_of a) (GivesOut (setting_of a)) options given (opening a.story) state words before now result
+  pub safe : IfOk result (λ end. (fault : Fault) (place : ℤ) → end ≢ ends.Fault fault place)
+
+abbrev pub Accepts : Option (List ℕ) → Option (List ℕ) → (Acceptance → Type 0) → Type 0
+Accepts story_known certificate_known property = (a : Acceptance) × IsAccepted story_known certificate_known a × property a
 
 -- What playing by a certificate comes to.
-abbrev pub PlayComesTo : Option (List ℕ) → Option (List ℕ) → Options → Option (List ℕ) → Option (List ℕ) → Outcome → Type 0
-PlayComesTo story_known certificate_known options before now Listed = ⊥
-PlayComesTo story_known certificate_known options before now Accepted = ⊥
-PlayComesTo story_known certificate_known options before now (Played end) =
-    (a : Acceptance) × IsAccepted story_known certificate_known a × IsPlayedBy a options end before now
-PlayComesTo story_known certificate_known options before now (Stopped (Failed Write)) =
-    (a : Acceptance) × IsAccepted story_known certificate_known a × AppendsBeginning before now (render options.status (ending_with a options.budget).items)
-PlayComesTo story_known certificate_known options before now (Stopped (Failed Memory)) =
-    ((now ≡ before) × HasBytes story_known) ⊎ ((a : Acceptance) × IsAccepted story_known certificate_known a × IsCutShortBy a options before now)
-PlayComesTo story_known certificate_known options before now (Stopped problem) = IsUnaccepted story_known certificate_known problem × (now ≡ before)
+abbrev pub PlayComesTo : Option (List ℕ) → Option (List ℕ) → Options → World → Option (List ℕ) → Option (List ℕ) → Outcome → Type 0
+PlayComesTo story_known certificate_known options given before now Listed = ⊥
+PlayComesTo story_known certificate_known options given before now Accepted = ⊥
+PlayComesTo story_known certificate_known options given before now (Played end) = Accepts story_known certificate_known (λ a. IsPlayedBy a options given before now (Ok end))
+PlayComesTo story_known certificate_known options given before now (Stopped (Failed Read)) = Accepts story_known certificate_known (λ a. IsPlayedBy a options given before now (Err errors.Read))
+PlayComesTo story_known certificate_known options given before now (Stopped (Failed Write)) = Accepts story_known certificate_known (λ a. IsPlayedBy a options given before now (Err errors.Write))
+PlayComesTo story_known certificate_known options given before now (Stopped (Failed Memory)) =
+    ((now ≡ before) × HasBytes story_known) ⊎ Accepts story_known certificate_known (λ a. IsPlayedBy a options given before now (Err errors.OutOfMemory))
+PlayComesTo story_known certificate_known options given before now (Stopped problem) = IsUnaccepted story_known certificate_known problem × (now ≡ before)

@@ -7,11 +7,13 @@ use Rattle.clap.specs.declared.error.kind.ErrorKind.{ErrorKind}
 use Rattle.clap.specs.declared.error.kind.ErrorKind.TheVariants.{DisplayHelp, DisplayVersion}
 use Rattle.zfault.specs.Devices.{AppendsBeginning, RisesByOne}
 use Rattle.zcommand.specs.CommandLine.{Asks, Request, ListStory, Check, Play, zpc_app}
+use Rattle.zplayer.specs.Outside.{words_of}
+use Rattle.zplayer.specs.World.{World, world}
 use Rattle.zperform.specs.Playing.{ComesTo}
 use Rattle.zperform.specs.Accepting.{CheckComesTo, PlayComesTo}
 use Rattle.zperform.specs.Listing.{ListComesTo}
 use Rattle.zperform.specs.Report.{line_of, status_of, text_of}
-use Rattle.zperform.specs.declared.outcome.Failure.TheVariants.{File, Write, Memory}
+use Rattle.zperform.specs.declared.outcome.Failure.TheVariants.{File, Read, Write, Memory}
 use Rattle.zperform.specs.declared.outcome.Problem.TheVariants.{Failed}
 use Rattle.zperform.specs.declared.outcome.Outcome.{Outcome}
 use Rattle.zperform.specs.declared.outcome.Outcome.TheVariants.{Stopped}
@@ -25,14 +27,23 @@ pub record Seen : Type 0 where
 abbrev pub seen : {Sink : Type 0} → (Sink → Option (List ℕ)) → (Sink → ℕ) → (Sink → Bool) → Sink → Seen
 seen contents failures waits sink = record { contents = contents sink; failures = failures sink; waits = waits sink }
 
--- the files' count of failures, the writer, and the errors
+-- what is told of a source: the bytes that it has left, where they are known, and its count of failures
+pub record Told : Type 0 where
+  pub remaining : Option (List ℕ)
+  pub failures : ℕ
+
+abbrev pub told : {Source : Type 0} → (Source → Option (List ℕ)) → (Source → ℕ) → Source → Told
+told remaining failures source = record { remaining = remaining source; failures = failures source }
+
+-- the files' count of failures, the reader, the writer, and the errors
 pub record Devices : Type 0 where
   pub files : ℕ
+  pub reader : Told
   pub writer : Seen
   pub errors : Seen
 
-abbrev pub devices : ℕ → Seen → Seen → Devices
-devices files writer errors = record { files = files; writer = writer; errors = errors }
+abbrev pub devices : ℕ → Told → Seen → Seen → Devices
+devices files reader writer errors = record { files = files; reader = reader; writer = writer; errors = errors }
 
 -- a text was taken whole and flushed, with no failure
 pub record Takes (old new : Seen) (text : List ℕ) : Type 0 where
@@ -77,42 +88,56 @@ Shows text status old new =
 abbrev pub Tells : List ℕ → ℕ → Devices → Devices → Type 0
 Tells text status old new = Says old.errors new.errors text × (status ≡ 2) × (new.writer ≡ old.writer)
 
--- memory was refused while the words were read, and nothing was shown, nor a file read
+-- memory was refused while the words were read, and nothing was shown, nor a file or any input read
 pub record Lacks (status : ℕ) (old new : Devices) : Type 0 where
   pub reported : Reports (Stopped (Failed Memory)) status old.errors new.errors
   pub writer : new.writer ≡ old.writer
   pub files : new.files ≡ old.files
+  pub reader : new.reader ≡ old.reader
 
 -- words with an answer of one of these kinds in place of a command get its text, which is clap's
 abbrev pub Explains : Kinds → ℕ → Devices → Devices → Type 0
 Explains kinds status old new =
     Lacks status old new
-    ⊎ ((kind : ErrorKind) × (text : List ℕ) × IsAmong kind kinds × MatchBool (is_request kind) (Shows text status old new) (Tells text status old new) × (new.files ≡ old.files))
+    ⊎ ((kind : ErrorKind) × (text : List ℕ) × IsAmong kind kinds × MatchBool (is_request kind) (Shows text status old new) (Tells text status old new) × (new.files ≡ old.files) × (new.reader ≡ old.reader))
 
 -- ---- words that name one
 
--- what comes of a request, with what the writer took before and has taken now
-abbrev pub Comes : Request → (List ℕ → Option (List ℕ)) → Option (List ℕ) → Option (List ℕ) → Outcome → Type 0
-Comes (ListStory story) known before now outcome = ListComesTo (known story) before now outcome
-Comes (Check story certificate) known before now outcome = CheckComesTo (known story) (known certificate) before now outcome
-Comes (Play story None budget status) known before now outcome = ComesTo (known story) (record { budget = budget; status = status }) before now outcome
-Comes (Play story (Some certificate) budget status) known before now outcome =
-    PlayComesTo (known story) (known certificate) (record { budget = budget; status = status }) before now outcome
+-- what a play is given: the input, and the words of a seed
+abbrev pub given : Option (List ℕ) → ℕ → World
+given input seed = world input (Some (words_of seed))
+
+-- what comes of a request, with the input, and with what the writer took before and has taken now
+abbrev pub Comes : Request → (List ℕ → Option (List ℕ)) → Option (List ℕ) → Option (List ℕ) → Option (List ℕ) → Outcome → Type 0
+Comes (ListStory story) known input before now outcome = ListComesTo (known story) before now outcome
+Comes (Check story certificate) known input before now outcome = CheckComesTo (known story) (known certificate) before now outcome
+Comes (Play story None seed budget status) known input before now outcome =
+    ComesTo (known story) (record { budget = budget; status = status }) (given input seed) before now outcome
+Comes (Play story (Some certificate) seed budget status) known input before now outcome =
+    PlayComesTo (known story) (known certificate) (record { budget = budget; status = status }) (given input seed) before now outcome
+
+-- a request whose answer needs no input
+abbrev pub is_quiet : Request → Bool
+is_quiet (Play story certificate seed budget status) = false
+is_quiet _ = true
 
 -- A request, with the values among clap's matches: what it comes to is reported. The writer is blamed just where it failed, and
--- so are the files; what was written is flushed unless the writer failed.
+-- so are the files and the reader, which isn't asked but for a play; what was written is flushed unless the writer failed.
 pub record Does (words : List Text) (known : List ℕ → Option (List ℕ)) (status : ℕ) (old new : Devices) : Type 0 where
   pub matches : Text × List Row
   pub named : subcommand_of zpc_app words ≡ Some matches
   pub request : Request
   pub asks : Asks matches request
   pub outcome : Outcome
-  pub comes : Comes request known old.writer.contents new.writer.contents outcome
+  pub comes : Comes request known old.reader.remaining old.writer.contents new.writer.contents outcome
   pub blamed : outcome ≡ Stopped (Failed Write) → RisesByOne old.writer.failures new.writer.failures
   pub quiet : outcome ≢ Stopped (Failed Write) → new.writer.failures ≡ old.writer.failures
   pub flushed : outcome ≢ Stopped (Failed Write) → IsFlushed (λ (writer : Seen). writer.waits) old.writer new.writer
   pub unread : outcome ≡ Stopped (Failed File) → RisesByOne old.files new.files
   pub unfailed : outcome ≢ Stopped (Failed File) → new.files ≡ old.files
+  pub unheard : outcome ≡ Stopped (Failed Read) → RisesByOne old.reader.failures new.reader.failures
+  pub heard : outcome ≢ Stopped (Failed Read) → new.reader.failures ≡ old.reader.failures
+  pub unasked : is_quiet request ≡ true → new.reader ≡ old.reader
   pub reported : Reports outcome status old.errors new.errors
 
 -- the request of the words was done, as far as there was memory to read them

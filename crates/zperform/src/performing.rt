@@ -1,6 +1,6 @@
 //! Doing what the words ask for.
 
-ghost use Rattle.std.specs.Prelude.{◌≡◌, ◌≢◌, ◌⊎◌, [], ℕ, false, List, Err, OnErr, OnOk, Option, Some};
+ghost use Rattle.std.specs.Prelude.{◌≡◌, ◌≢◌, ◌⊎◌, [], ℕ, false, true, List, Err, OnErr, OnOk, Option, Some};
 ghost use Rattle.clap.specs.Kinds.{HasKind, Kinds};
 ghost use Rattle.clap.specs.Walk.{texts};
 ghost use Rattle.clap.specs.Words.{fault_of};
@@ -8,7 +8,7 @@ ghost use Rattle.std.specs.Io.KnownBytes.{Appends};
 ghost use Rattle.zfault.specs.Devices.{AppendsBeginning, RisesByOne};
 ghost use Rattle.zperform.specs.Accepting.{CheckComesTo, IsAccepted, PlayComesTo, accepted_line};
 ghost use Rattle.zcommand.specs.CommandLine.{request_of, zpc_app};
-ghost use Rattle.zperform.specs.Performing.{Comes, Explains, IsFlushed, Performs, Says, devices, seen};
+ghost use Rattle.zperform.specs.Performing.{Comes, Explains, IsFlushed, Performs, Says, Told, devices, given, is_quiet, seen, told};
 ghost use Rattle.zperform.specs.Playing.{ComesTo, Holds};
 ghost use Rattle.zperform.specs.Report.{failure_text, line_of, no_text, outcome_of, status_of, text_of};
 
@@ -17,7 +17,7 @@ use crate::files::{Files, read_file};
 use crate::listing::list_file;
 use crate::message::Message;
 use crate::outcome::{Failure, Outcome, Problem};
-use crate::unasked::{NoSaves, Zeros};
+use crate::unasked::NoSaves;
 use clap::Error;
 use clap::error::ErrorKind;
 use std::alloc::Global;
@@ -25,7 +25,7 @@ use zcheck::Accepted;
 use zcommand::{Command, read_words};
 use zfault::{Failed, Sink, Source, write_whole};
 use zplay::Session;
-use zplayer::{End, Options, play_checked};
+use zplayer::{End, Options, Seeded, play_checked};
 use zref::{CheckedMachine, Scope};
 use zstory::Story;
 
@@ -45,7 +45,7 @@ For more information, try '--help'.
 
 /// Does what the words after the program's name ask for, and answers the exit status. What a story shows, and help
 /// that was asked for, go to the writer; a line on anything else goes to `errors`, where a failure is ignored. Both are flushed.
-/// The reader isn't touched, as no opcode of this build reads.
+/// The reader gives a story its lines, and isn't touched but for a play.
 ///
 /// What is wrong is found in this order: the words, the story, its certificate, the work.
 pub fn perform<F: Files, R: Source, W: Sink, E: Sink>(
@@ -56,9 +56,8 @@ pub fn perform<F: Files, R: Source, W: Sink, E: Sink>(
     writer: &mut W,
     errors: &mut E,
 ) -> u8
-    ensures performs { fault_of zpc_app (texts words.entry.now) ≡ [] → Performs (texts words.entry.now) (F.known files.old) result (devices (F.failures files.old) (seen W.contents W.failures W.waits writer.old) (seen E.contents E.failures E.waits errors.old)) (devices (F.failures files.new) (seen W.contents W.failures W.waits writer.new) (seen E.contents E.failures E.waits errors.new)) }
-    ensures explains { fault_of zpc_app (texts words.entry.now) ≢ [] → Explains (fault_of zpc_app (texts words.entry.now)) result (devices (F.failures files.old) (seen W.contents W.failures W.waits writer.old) (seen E.contents E.failures E.waits errors.old)) (devices (F.failures files.new) (seen W.contents W.failures W.waits writer.new) (seen E.contents E.failures E.waits errors.new)) }
-    ensures reader { reader.new ≡ reader.old }
+    ensures performs { fault_of zpc_app (texts words.entry.now) ≡ [] → Performs (texts words.entry.now) (F.known files.old) result (devices (F.failures files.old) (told R.remaining R.failures reader.old) (seen W.contents W.failures W.waits writer.old) (seen E.contents E.failures E.waits errors.old)) (devices (F.failures files.new) (told R.remaining R.failures reader.new) (seen W.contents W.failures W.waits writer.new) (seen E.contents E.failures E.waits errors.new)) }
+    ensures explains { fault_of zpc_app (texts words.entry.now) ≢ [] → Explains (fault_of zpc_app (texts words.entry.now)) result (devices (F.failures files.old) (told R.remaining R.failures reader.old) (seen W.contents W.failures W.waits writer.old) (seen E.contents E.failures E.waits errors.old)) (devices (F.failures files.new) (told R.remaining R.failures reader.new) (seen W.contents W.failures W.waits writer.new) (seen E.contents E.failures E.waits errors.new)) }
     ensures kept { F.known files.new ≡ F.known files.old }
 {
     match read_words(alloc, words) {
@@ -75,14 +74,16 @@ fn carry_out<F: Files, R: Source, W: Sink>(
     reader: &mut R,
     writer: &mut W,
 ) -> Outcome
-    ensures comes { Comes (request_of command.entry) (F.known files.old) (W.contents writer.old) (W.contents writer.new) result }
+    ensures comes { Comes (request_of command.entry) (F.known files.old) (R.remaining reader.old) (W.contents writer.old) (W.contents writer.new) result }
     ensures blamed { result ≡ Outcome.Stopped (Problem.Failed Failure.Write) → RisesByOne (W.failures writer.old) (W.failures writer.new) }
     ensures quiet { result ≢ Outcome.Stopped (Problem.Failed Failure.Write) → W.failures writer.new ≡ W.failures writer.old }
     ensures flushed { result ≢ Outcome.Stopped (Problem.Failed Failure.Write) → IsFlushed W.waits writer.old writer.new }
     ensures unread { result ≡ Outcome.Stopped (Problem.Failed Failure.File) → RisesByOne (F.failures files.old) (F.failures files.new) }
     ensures unfailed { result ≢ Outcome.Stopped (Problem.Failed Failure.File) → F.failures files.new ≡ F.failures files.old }
     ensures kept { F.known files.new ≡ F.known files.old }
-    ensures reader { reader.new ≡ reader.old }
+    ensures unheard { result ≡ Outcome.Stopped (Problem.Failed Failure.Read) → RisesByOne (R.failures reader.old) (R.failures reader.new) }
+    ensures heard { result ≢ Outcome.Stopped (Problem.Failed Failure.Read) → R.failures reader.new ≡ R.failures reader.old }
+    ensures unasked { is_quiet (request_of command.entry) ≡ true → reader.new ≡ reader.old }
 {
     match command {
         Command::List { story } => list_file(alloc, story, files, writer),
@@ -92,11 +93,13 @@ fn carry_out<F: Files, R: Source, W: Sink>(
         Command::Play {
             story,
             certificate: None,
+            seed,
             budget,
             status,
         } => outcome_of(play(
             alloc,
             story,
+            seed,
             Options { budget, status },
             files,
             reader,
@@ -105,12 +108,14 @@ fn carry_out<F: Files, R: Source, W: Sink>(
         Command::Play {
             story,
             certificate: Some(certificate),
+            seed,
             budget,
             status,
         } => outcome_of(play_by_certificate(
             alloc,
             story,
             certificate,
+            seed,
             Options { budget, status },
             files,
             reader,
@@ -173,39 +178,43 @@ pub fn write_and_flush<W: Sink>(writer: &mut W, text: &[u8]) -> Result<(), Faile
 fn play<F: Files, R: Source, W: Sink>(
     alloc: Global,
     name: &str,
+    seed: u64,
     options: Options,
     files: &mut F,
     reader: &mut R,
     writer: &mut W,
 ) -> Result<End, Problem>
-    ensures comes { ComesTo (F.known files.old name.now) options (W.contents writer.old) (W.contents writer.new) (outcome_of result) }
+    ensures comes { ComesTo (F.known files.old name.now) options (given (R.remaining reader.old) seed) (W.contents writer.old) (W.contents writer.new) (outcome_of result) }
     ensures blamed { result ≡ Err (Problem.Failed Failure.Write) → RisesByOne (W.failures writer.old) (W.failures writer.new) }
     ensures quiet { result ≢ Err (Problem.Failed Failure.Write) → W.failures writer.new ≡ W.failures writer.old }
     ensures flushed { result ≢ Err (Problem.Failed Failure.Write) → IsFlushed W.waits writer.old writer.new }
     ensures unread { result ≡ Err (Problem.Failed Failure.File) → RisesByOne (F.failures files.old) (F.failures files.new) }
     ensures unfailed { result ≢ Err (Problem.Failed Failure.File) → F.failures files.new ≡ F.failures files.old }
     ensures kept { F.known files.new ≡ F.known files.old }
-    ensures reader { reader.new ≡ reader.old }
+    ensures unheard { result ≡ Err (Problem.Failed Failure.Read) → RisesByOne (R.failures reader.old) (R.failures reader.new) }
+    ensures heard { result ≢ Err (Problem.Failed Failure.Read) → R.failures reader.new ≡ R.failures reader.old }
 {
     let file = read_file(alloc, files, name, STORY_LIMIT)?;
     let story = load(alloc, file)?;
-    play_story(alloc, &story, options, reader, writer)
+    play_story(alloc, &story, seed, options, reader, writer)
 }
 
 /// Plays a story from its opening.
 fn play_story<R: Source, W: Sink>(
     alloc: Global,
     story: &Story,
+    seed: u64,
     options: Options,
     reader: &mut R,
     writer: &mut W,
 ) -> Result<End, Problem>
-    ensures comes { (file : List ℕ) → Holds file story.now → ComesTo (Some file) options (W.contents writer.old) (W.contents writer.new) (outcome_of result) }
+    ensures comes { (file : List ℕ) → Holds file story.now → ComesTo (Some file) options (given (R.remaining reader.old) seed) (W.contents writer.old) (W.contents writer.new) (outcome_of result) }
     ensures blamed { result ≡ Err (Problem.Failed Failure.Write) → RisesByOne (W.failures writer.old) (W.failures writer.new) }
     ensures quiet { result ≢ Err (Problem.Failed Failure.Write) → W.failures writer.new ≡ W.failures writer.old }
     ensures flushed { result ≢ Err (Problem.Failed Failure.Write) → IsFlushed W.waits writer.old writer.new }
     ensures no_file { result ≢ Err (Problem.Failed Failure.File) }
-    ensures reader { reader.new ≡ reader.old }
+    ensures unheard { result ≡ Err (Problem.Failed Failure.Read) → RisesByOne (R.failures reader.old) (R.failures reader.new) }
+    ensures heard { result ≢ Err (Problem.Failed Failure.Read) → R.failures reader.new ≡ R.failures reader.old }
 {
     let mut machine = CheckedMachine::new(alloc, story, Scope::All)?;
     Ok(play_checked(
@@ -214,7 +223,7 @@ fn play_story<R: Source, W: Sink>(
         reader,
         writer,
         &mut NoSaves::new(),
-        &mut Zeros,
+        &mut Seeded::new(seed),
         options,
     )?)
 }
@@ -224,38 +233,42 @@ fn play_by_certificate<F: Files, R: Source, W: Sink>(
     alloc: Global,
     story: &str,
     certificate: &str,
+    seed: u64,
     options: Options,
     files: &mut F,
     reader: &mut R,
     writer: &mut W,
 ) -> Result<End, Problem>
-    ensures comes { PlayComesTo (F.known files.old story.now) (F.known files.old certificate.now) options (W.contents writer.old) (W.contents writer.new) (outcome_of result) }
+    ensures comes { PlayComesTo (F.known files.old story.now) (F.known files.old certificate.now) options (given (R.remaining reader.old) seed) (W.contents writer.old) (W.contents writer.new) (outcome_of result) }
     ensures blamed { result ≡ Err (Problem.Failed Failure.Write) → RisesByOne (W.failures writer.old) (W.failures writer.new) }
     ensures quiet { result ≢ Err (Problem.Failed Failure.Write) → W.failures writer.new ≡ W.failures writer.old }
     ensures flushed { result ≢ Err (Problem.Failed Failure.Write) → IsFlushed W.waits writer.old writer.new }
     ensures unread { result ≡ Err (Problem.Failed Failure.File) → RisesByOne (F.failures files.old) (F.failures files.new) }
     ensures unfailed { result ≢ Err (Problem.Failed Failure.File) → F.failures files.new ≡ F.failures files.old }
     ensures kept { F.known files.new ≡ F.known files.old }
-    ensures reader { reader.new ≡ reader.old }
+    ensures unheard { result ≡ Err (Problem.Failed Failure.Read) → RisesByOne (R.failures reader.old) (R.failures reader.new) }
+    ensures heard { result ≢ Err (Problem.Failed Failure.Read) → R.failures reader.new ≡ R.failures reader.old }
 {
     let accepted = accept(alloc, story, certificate, files)?;
-    play_accepted(alloc, &accepted, options, reader, writer)
+    play_accepted(alloc, &accepted, seed, options, reader, writer)
 }
 
 /// Plays an accepted story from its opening.
 fn play_accepted<R: Source, W: Sink>(
     alloc: Global,
     accepted: &Accepted,
+    seed: u64,
     options: Options,
     reader: &mut R,
     writer: &mut W,
 ) -> Result<End, Problem>
-    ensures comes { (story certificate : Option (List ℕ)) → IsAccepted story certificate accepted.now → PlayComesTo story certificate options (W.contents writer.old) (W.contents writer.new) (outcome_of result) }
+    ensures comes { (story certificate : Option (List ℕ)) → IsAccepted story certificate accepted.now → PlayComesTo story certificate options (given (R.remaining reader.old) seed) (W.contents writer.old) (W.contents writer.new) (outcome_of result) }
     ensures blamed { result ≡ Err (Problem.Failed Failure.Write) → RisesByOne (W.failures writer.old) (W.failures writer.new) }
     ensures quiet { result ≢ Err (Problem.Failed Failure.Write) → W.failures writer.new ≡ W.failures writer.old }
     ensures flushed { result ≢ Err (Problem.Failed Failure.Write) → IsFlushed W.waits writer.old writer.new }
     ensures no_file { result ≢ Err (Problem.Failed Failure.File) }
-    ensures reader { reader.new ≡ reader.old }
+    ensures unheard { result ≡ Err (Problem.Failed Failure.Read) → RisesByOne (R.failures reader.old) (R.failures reader.new) }
+    ensures heard { result ≢ Err (Problem.Failed Failure.Read) → R.failures reader.new ≡ R.failures reader.old }
 {
     let mut session = Session::start(alloc, accepted)?;
     let end = zplayer::play_story(
@@ -264,7 +277,7 @@ fn play_accepted<R: Source, W: Sink>(
         reader,
         writer,
         &mut NoSaves::new(),
-        &mut Zeros,
+        &mut Seeded::new(seed),
         options,
     )?;
     Ok(end)
@@ -299,7 +312,7 @@ fn say<E: Sink>(text: &[u8], errors: &mut E)
 
 /// Writes clap's answer to words that name no command: to the writer where they ask for help or for the version.
 fn explain<W: Sink, E: Sink>(alloc: Global, error: &Error, writer: &mut W, errors: &mut E) -> u8
-    ensures { (kinds : Kinds) (files : ℕ) → HasKind kinds error.now → Explains kinds result (devices files (seen W.contents W.failures W.waits writer.old) (seen E.contents E.failures E.waits errors.old)) (devices files (seen W.contents W.failures W.waits writer.new) (seen E.contents E.failures E.waits errors.new)) }
+    ensures { (kinds : Kinds) (files : ℕ) (reader : Told) → HasKind kinds error.now → Explains kinds result (devices files reader (seen W.contents W.failures W.waits writer.old) (seen E.contents E.failures E.waits errors.old)) (devices files reader (seen W.contents W.failures W.waits writer.new) (seen E.contents E.failures E.waits errors.new)) }
 {
     if error.kind() == ErrorKind::OutOfMemory {
         return fail(Failure::Memory, errors);

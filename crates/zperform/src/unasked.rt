@@ -3,7 +3,7 @@
 ghost use Rattle.std.specs.Prelude.{◌≡◌, false};
 ghost use Rattle.zplayer.specs.Outside.{CountsRefusal};
 
-use zplayer::{SaveStore, Words};
+use zplayer::SaveStore;
 
 /// A store in which no save can be kept: each call fails.
 #[derive(Drop)]
@@ -37,15 +37,5 @@ impl SaveStore for NoSaves {
     {
         self.failures = self.failures.saturating_add(1);
         false
-    }
-}
-
-/// Words that are all 0, until a seed is asked for.
-#[derive(Drop)]
-pub struct Zeros;
-
-impl Words for Zeros {
-    fn next(&mut self) -> u16 {
-        0
     }
 }

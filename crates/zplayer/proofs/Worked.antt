@@ -5,8 +5,6 @@ use Rattle.std.specs.List.{All}
 use Rattle.std.proofs.lemmas.List.Elements.{All-cons, All-nil}
 use Rattle.rand_core.specs.Steps.{stream_of, u32_at, word_bytes}
 use Rattle.rand_core.specs.Stream.{fill_bytes}
-use Rattle.rand_xoshiro.specs.SplitMix64.{splitmix_seed}
-use Rattle.rand_xoshiro.specs.Xoshiro128.{of_seed}
 use Rattle.zfault.specs.declared.event.Event.TheVariants as events
 use Rattle.zfault.specs.declared.fault.Fault.TheVariants.{IllegalOpcode}
 use Rattle.zfault.specs.declared.pause.Need.TheVariants as needs
@@ -20,7 +18,7 @@ use Rattle.zplayer.specs.declared.lines.LineEnd.TheVariants.{Newline, Input}
 use Rattle.zplayer.specs.declared.lines.TheConstants.{KEPT, PIECE}
 use Rattle.zplayer.specs.declared.turns.TheConstants.{TURN}
 use Rattle.zplayer.specs.Lines.{IsEnded, IsLast, ReadsLine, Hears, line_of, unused, without_return}
-use Rattle.zplayer.specs.Outside.{Blames, CountsRefusal, words_from}
+use Rattle.zplayer.specs.Outside.{Blames, CountsRefusal, words_of}
 use Rattle.zplayer.specs.Playing.{Leads, Meets, Plays, Stage, Writes, end_of, stage}
 use Rattle.zplayer.specs.World.{Answers, Asks, Coming, Draws, Refuses, World, world}
 
@@ -60,11 +58,8 @@ blamed = (((λ is. refl), (λ other. absurd (other refl))), ((λ is. cc), (λ ot
 
 -- ---- words
 
-abbrev of_number : ℕ → Coming
-of_number seed = words_from (of_seed (splitmix_seed 16 seed))
-
 -- the first words of the seeds 1 and 0
-seeded : (of_number 1 0 ≡ 36324) × (of_number 1 1 ≡ 613) × (of_number 1 2 ≡ 10168) × (of_number 0 0 ≡ 55971) × (of_number 0 1 ≡ 11096)
+seeded : (words_of 1 0 ≡ 36324) × (words_of 1 1 ≡ 613) × (words_of 1 2 ≡ 10168) × (words_of 0 0 ≡ 55971) × (words_of 0 1 ≡ 11096)
 unfolding u32_at stream_of word_bytes fill_bytes
 seeded = (refl, refl, refl, refl, refl)
 

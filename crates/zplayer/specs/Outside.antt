@@ -1,6 +1,7 @@
 -- What calls of devices do to their counts of failures, and the words of a generator (own).
 use Rattle.std.specs.Prelude.{◌≡◌, ℕ, zero, suc, ◌%◌, Bool, List, MatchBool, Result, IsErrOf}
-use Rattle.rand_xoshiro.specs.Xoshiro128.{plus_plus}
+use Rattle.rand_xoshiro.specs.SplitMix64.{splitmix_seed}
+use Rattle.rand_xoshiro.specs.Xoshiro128.{of_seed, plus_plus}
 use Rattle.zfault.specs.Devices.{RisesByOne}
 use Rattle.zplayer.specs.declared.end.PlayError.{PlayError}
 use Rattle.zplayer.specs.World.{Coming}
@@ -17,3 +18,7 @@ Blames error result old new = (IsErrOf result error → RisesByOne old new) × (
 abbrev pub words_from : List ℕ → Coming
 words_from state zero = (plus_plus state).0 % 65536
 words_from state (suc k) = words_from (plus_plus state).1 k
+
+-- the words of a seed
+abbrev pub words_of : ℕ → Coming
+words_of seed = words_from (of_seed (splitmix_seed 16 seed))

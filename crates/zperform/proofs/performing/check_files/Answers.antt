@@ -9,7 +9,7 @@ returns-in-Err-clause-comes g c = unchecked _ _ _ c.in-Err.problem c.in-Err.ensu
 
 pub returns-in-Err-clause-blamed : goal.returns-in-Err-clause-blamed
 returns-in-Err-clause-blamed g c = λ e.
-    absurd (unblamed _ _ (g.W.Sink.contents c.args.writer.now) c.in-Err.problem c.in-Err.ensures.refused (let is : c.in-Err.problem ≡ Failed Write = cc in is))
+    absurd ((unblamed _ _ (g.W.Sink.contents c.args.writer.now) c.in-Err.problem c.in-Err.ensures.refused).0 (let is : c.in-Err.problem ≡ Failed Write = cc in is))
 
 pub returns-clause-comes : goal.returns-clause-comes
 returns-clause-comes g c =

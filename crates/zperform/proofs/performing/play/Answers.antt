@@ -1,3 +1,4 @@
+use Rattle.zperform.specs.Performing.{given}
 use Rattle.zperform.specs.declared.outcome.Outcome.TheVariants.{Stopped}
 use Rattle.zperform.proofs.PlayLemmas.{of_part, passed_on, unloaded_comes}
 use Rattle.zperform.proofs.performing.play.Goals as goal
@@ -5,11 +6,12 @@ use Rattle.zperform.proofs.performing.play.Goals as goal
 pub returns-in_err-story-clause-comes : goal.returns-in_err-story-clause-comes
 returns-in_err-story-clause-comes g c =
     let options = c.args.options in
+    let world = given (g.R.Source.remaining c.args.reader.now) c.args.seed in
     let taken = g.W.Sink.contents c.args.writer.now in
     let problem = c.in_err-story.field-0.0 in
     let file = c.in_ok-file.file.items in
-    passed_on _ options taken taken _ problem c.from_residual-in_err-story.ensures
-    (of_part _ file options taken taken c.in_ok-file.ensures.read (Stopped problem) (unloaded_comes file options taken problem c.in_err-story.ensures.unloaded))
+    passed_on _ options world taken taken _ problem c.from_residual-in_err-story.ensures
+    (of_part _ file options world taken taken c.in_ok-file.ensures.read (Stopped problem) (unloaded_comes file options world taken problem c.in_err-story.ensures.unloaded))
 
 pub returns-clause-comes : goal.returns-clause-comes
-returns-clause-comes g c = of_part _ c.in_ok-file.file.items _ _ _ c.in_ok-file.ensures.read _ (c.play_story.ensures.comes c.in_ok-file.file.items c.in_ok-story.ensures.loaded)
+returns-clause-comes g c = of_part _ c.in_ok-file.file.items _ _ _ _ c.in_ok-file.ensures.read _ (c.play_story.ensures.comes c.in_ok-file.file.items c.in_ok-story.ensures.loaded)

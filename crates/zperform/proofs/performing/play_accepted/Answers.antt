@@ -1,23 +1,24 @@
 use Rattle.std.proofs.Common.{◌≡◌, Err, ap, inl, refl}
 use Rattle.zplayer.specs.declared.end.PlayError.TheVariants as errors
+use Rattle.zperform.specs.Performing.{given}
 use Rattle.zperform.specs.Report.{problem_of_play}
-use Rattle.zperform.proofs.SessionLemmas.{as_write, broken, handed_on, played, unopened, was_no_file, was_write}
+use Rattle.zperform.proofs.SessionLemmas.{as_read, as_write, broken, handed_on, played, unopened, was_no_file, was_read, was_write}
 use Rattle.zperform.proofs.performing.play_accepted.Goals as goal
 
 pub returns-in_err-end-clause-comes : goal.returns-in_err-end-clause-comes
 returns-in_err-end-clause-comes g c = λ story certificate accepted.
     let error = c.in_err-end.field-0.0 in
-    let known = c.in_err-end.ensures in
-    handed_on story certificate c.args.options _ _ c.from_residual-in_err-end.result (problem_of_play error) c.from_residual-in_err-end.ensures
-    (broken story certificate c.args.options _ c.args.accepted.now accepted _ c.in_ok-session.ensures _ error (λ e. known.no_read (ap Err e)) (λ e. known.begun (ap Err e)) _ (λ e. known.finished (λ w. cc)) (λ e. known.wanted (ap Err e)))
+    let world = given (g.R.Source.remaining c.args.reader.now) c.args.seed in
+    handed_on story certificate c.args.options world _ _ c.from_residual-in_err-end.result (problem_of_play error) c.from_residual-in_err-end.ensures
+    (broken story certificate c.args.options world _ c.args.accepted.now accepted _ c.in_ok-session.ensures _ _ _ error ?)
 
 pub returns-in_err-end-clause-quiet : goal.returns-in_err-end-clause-quiet
 returns-in_err-end-clause-quiet g c = λ other.
     let error = c.in_err-end.field-0.0 in
-    c.in_err-end.ensures.quiet (λ w. other (as_write c.from_residual-in_err-end.result error c.from_residual-in_err-end.ensures (let is : error ≡ errors.Write = cc in is)))
+    c.in_err-end.ensures.writes.1 (λ w. other (as_write c.from_residual-in_err-end.result error c.from_residual-in_err-end.ensures (let is : error ≡ errors.Write = cc in is)))
 
 pub returns-in_err-end-clause-blamed : goal.returns-in_err-end-clause-blamed
-returns-in_err-end-clause-blamed g c = λ e. c.in_err-end.ensures.blamed (ap Err (was_write c.from_residual-in_err-end.result c.in_err-end.field-0.0 c.from_residual-in_err-end.ensures e))
+returns-in_err-end-clause-blamed g c = λ e. c.in_err-end.ensures.writes.0 (ap Err (was_write c.from_residual-in_err-end.result c.in_err-end.field-0.0 c.from_residual-in_err-end.ensures e))
 
 pub returns-in_err-end-clause-flushed : goal.returns-in_err-end-clause-flushed
 returns-in_err-end-clause-flushed g c = λ other.
@@ -27,12 +28,21 @@ returns-in_err-end-clause-flushed g c = λ other.
 pub returns-in_err-end-clause-no_file : goal.returns-in_err-end-clause-no_file
 returns-in_err-end-clause-no_file g c = was_no_file c.from_residual-in_err-end.result c.in_err-end.field-0.0 c.from_residual-in_err-end.ensures
 
+pub returns-in_err-end-clause-unheard : goal.returns-in_err-end-clause-unheard
+returns-in_err-end-clause-unheard g c = λ e. c.in_err-end.ensures.reads.0 (ap Err (was_read c.from_residual-in_err-end.result c.in_err-end.field-0.0 c.from_residual-in_err-end.ensures e))
+
+pub returns-in_err-end-clause-heard : goal.returns-in_err-end-clause-heard
+returns-in_err-end-clause-heard g c = λ other.
+    let error = c.in_err-end.field-0.0 in
+    c.in_err-end.ensures.reads.1 (λ w. other (as_read c.from_residual-in_err-end.result error c.from_residual-in_err-end.ensures (let is : error ≡ errors.Read = cc in is)))
+
 pub returns-in_err-session-clause-comes : goal.returns-in_err-session-clause-comes
 returns-in_err-session-clause-comes g c = λ story certificate accepted.
     let before = g.W.Sink.contents c.args.writer.now in
-    handed_on story certificate c.args.options before before c.from_residual.result _ c.from_residual.ensures (inl (refl, unopened story certificate c.args.options before c.args.accepted.now accepted))
+    let world = given (g.R.Source.remaining c.args.reader.now) c.args.seed in
+    handed_on story certificate c.args.options world before before c.from_residual.result _ c.from_residual.ensures (inl (refl, unopened story certificate c.args.options world before c.args.accepted.now accepted))
 
 pub returns-clause-comes : goal.returns-clause-comes
 returns-clause-comes g c = λ story certificate accepted.
     let known = c.in_ok-end.ensures in
-    played story certificate c.args.options (g.W.Sink.contents c.args.writer.now) c.args.accepted.now accepted _ c.in_ok-session.ensures (g.W.Sink.contents c.play_story.new.writer) c.in_ok-end.end known.ends known.no_fault known.written
+    played story certificate c.args.options (given (g.R.Source.remaining c.args.reader.now) c.args.seed) (g.W.Sink.contents c.args.writer.now) c.args.accepted.now accepted _ c.in_ok-session.ensures (g.W.Sink.contents c.play_story.new.writer) _ _ c.in_ok-end.end ? known.no_fault

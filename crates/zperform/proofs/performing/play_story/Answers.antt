@@ -1,11 +1,14 @@
-use Rattle.std.proofs.Common.{Err, Some, ap}
+use Rattle.std.proofs.Common.{Some}
+use Rattle.zperform.specs.Performing.{given}
 use Rattle.zperform.specs.Report.{problem_of_play}
-use Rattle.zperform.proofs.PlayLemmas.{broken, passed_on}
+use Rattle.zperform.proofs.PlayLemmas.{broken, ended, passed_on}
 use Rattle.zperform.proofs.performing.play_story.Goals as goal
 
 pub returns-in_err-play_checked-clause-comes : goal.returns-in_err-play_checked-clause-comes
 returns-in_err-play_checked-clause-comes g c = λ file holds.
     let error = c.in_err-play_checked.field-0.0 in
-    let known = c.in_err-play_checked.ensures in
-    passed_on (Some file) c.args.options (g.W.Sink.contents c.args.writer.now) (g.W.Sink.contents c.play_checked.new.writer) c.from_residual-in_err-play_checked.result (problem_of_play error) c.from_residual-in_err-play_checked.ensures
-    (broken file c.args.story.now holds c.args.options _ c.in_ok-machine.ensures _ _ error (λ e. known.no_read (ap Err e)) (λ e. known.begun (ap Err e)) _ (λ e. known.finished (λ w. cc)) (λ e. known.wanted (ap Err e)))
+    passed_on (Some file) c.args.options (given (g.R.Source.remaining c.args.reader.now) c.args.seed) (g.W.Sink.contents c.args.writer.now) (g.W.Sink.contents c.play_checked.new.writer) c.from_residual-in_err-play_checked.result (problem_of_play error) c.from_residual-in_err-play_checked.ensures
+    (broken file c.args.story.now holds c.args.options _ c.in_ok-machine.ensures _ _ _ _ _ error ?)
+
+pub returns-clause-comes : goal.returns-clause-comes
+returns-clause-comes g c = λ file holds. ?
