@@ -10,6 +10,7 @@ ghost use Rattle.zrule.specs.Described.{IsNoFault};
 ghost use Rattle.zplay.specs.Accepted.{IsAccepted};
 ghost use Rattle.zboard.specs.Play.{state_in};
 ghost use Rattle.zboard.specs.Head.{Head};
+ghost use Rattle.zboard.specs.Position.{with_outside};
 ghost use Rattle.zboard.specs.View.{position_of};
 ghost use Rattle.zboard.specs.declared.row.Row.{Row as ARow};
 ghost use Rattle.zplay.specs.Session.{game_of, setting, IsInPlay};
@@ -141,10 +142,11 @@ impl<'a, V: Spelled> Session<'a, V> {
         requires { (need : Need) × (awaited (setting self.old) self.old.state ≡ Some need) × IsTrue (answers need event) }
         ensures { self.new ≡ record self.old { state = give event self.old.state } }
     {
-        let Some(board) = &mut self.board else {
+        let Some(mut board) = self.board.take() else {
             unreachable!()
         };
-        board.outside.waiting = Some(event);
+        hand_in(&mut board, event);
+        self.board = Some(board);
     }
 
     /// Makes at most `budget` steps, with no event but one that was given, and appends what they give out to `items`.
@@ -206,4 +208,11 @@ fn known_of<V: Spelled>(accepted: &Accepted<V>)
     let _memory = accepted.story().memory();
     let _listing = accepted.listing();
     let _globals = accepted.certificate().globals();
+}
+
+/// Hands in an event.
+fn hand_in(board: &mut Board, event: Event)
+    ensures { position_of board.new ≡ with_outside (record (position_of board.old).outside { waiting = Some event }) (position_of board.old) }
+{
+    board.outside.waiting = Some(event);
 }

@@ -4,7 +4,7 @@ use Rattle.zplay.proofs.Accepting.{each_headed}
 use Rattle.zstory.specs.LoadedStory.{first_instruction}
 use Rattle.zlist.specs.Listing.{index_of}
 use Rattle.zstate.specs.State.{State}
-use Rattle.zplay.proofs.Playing.{first_found, each_spelled, each_inside, in_play_first, opens_at}
+use Rattle.zplay.proofs.Playing.{first_found, each_spelled, each_inside, in_play_first, opening_outside, opens_at}
 use Rattle.zplay.proofs.session.Session.start.Goals as goal
 
 pub unreachable-requires : goal.unreachable-requires
@@ -25,11 +25,13 @@ pub invariant_of-result : goal.invariant_of-result
 invariant_of-result g c =
     let found : Some c.in-Some.index ≡ index_of c.args.accepted.now.listing (first_instruction c.args.accepted.now.story) = rw (← c.listing.ensures.value, ← c.story-story.ensures.value, ← c.first_instruction.ensures.value) c.in-Some.ensures.value in
     let memory : c.in_ok-to_vec.field-0.items ≡ c.args.accepted.now.story.memory = search rules in
-    rw (c.in_ok-new.ensures, memory)
+    let outside : c.in_ok-new-2.field-0.value ≡ opening_outside = search rules in
+    rw (c.in_ok-new.ensures, memory, outside)
     (in_play_first g.V.Domain.operations g.met.V.Domain.sound g.V.Spelled.format c.args.accepted.now c.known_of.ensures c.in-Some.index (sym found) c.in_ok-rows.rows.items (map head_of c.in_ok-callees.callees.items) c.in_ok-rows.ensures c.in_ok-callees.ensures (c.each_step_is_safe.ensures.opening _))
 
 pub returns : goal.returns
 returns g c =
     let found : Some c.in-Some.index ≡ index_of c.args.accepted.now.listing (first_instruction c.args.accepted.now.story) = rw (← c.listing.ensures.value, ← c.story-story.ensures.value, ← c.first_instruction.ensures.value) c.in-Some.ensures.value in
     let memory : c.in_ok-to_vec.field-0.items ≡ c.args.accepted.now.story.memory = search rules in
-    rw (c.in_ok-new.ensures, memory) (ap (λ (s : State). record { accepted = c.args.accepted.now; state = s }) (opens_at g.V.Domain.operations g.met.V.Domain.sound g.V.Spelled.format c.args.accepted.now c.known_of.ensures c.in-Some.index (sym found)))
+    let outside : c.in_ok-new-2.field-0.value ≡ opening_outside = search rules in
+    rw (c.in_ok-new.ensures, memory, outside) (ap (λ (s : State). record { accepted = c.args.accepted.now; state = s }) (opens_at g.V.Domain.operations g.met.V.Domain.sound g.V.Spelled.format c.args.accepted.now c.known_of.ensures c.in-Some.index (sym found)))
