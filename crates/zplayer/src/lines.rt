@@ -62,10 +62,7 @@ impl Lines {
 
     /// The next line, if there is one: it goes up to a byte 10, or to the end of the input. What a line has beyond
     /// [`LINE_LIMIT`] bytes is dropped, and so is a byte 13 just before the 10.
-    pub(crate) fn next_line<R: Source>(
-        &mut self,
-        reader: &mut R,
-    ) -> Result<Option<Line>, PlayError>
+    pub(crate) fn next_line<R: Source>(&mut self, reader: &mut R) -> Result<Option<Line>, PlayError>
         requires ended { self.old.ended ≡ true → IsAtEnd (R.remaining reader.old) }
         ensures ended { self.new.ended ≡ true → IsAtEnd (R.remaining reader.new) }
         ensures heard { IfOk result (λ line. Hears (unused self.old (R.remaining reader.old)) line (unused self.new (R.remaining reader.new))) }

@@ -10,7 +10,7 @@ returns-in_err-end-clause-comes g c = λ story certificate accepted.
     let error = c.in_err-end.field-0.0 in
     let world = given (g.R.Source.remaining c.args.reader.now) c.args.seed in
     handed_on story certificate c.args.options world _ _ c.from_residual-in_err-end.result (problem_of_play error) c.from_residual-in_err-end.ensures
-    (broken story certificate c.args.options world _ c.args.accepted.now accepted _ c.in_ok-session.ensures _ _ _ error ?)
+    (broken story certificate c.args.options world _ c.args.accepted.now accepted _ c.in_ok-session.ensures _ _ _ error c.in_err-end.ensures.comes)
 
 pub returns-in_err-end-clause-quiet : goal.returns-in_err-end-clause-quiet
 returns-in_err-end-clause-quiet g c = λ other.
@@ -45,4 +45,4 @@ returns-in_err-session-clause-comes g c = λ story certificate accepted.
 pub returns-clause-comes : goal.returns-clause-comes
 returns-clause-comes g c = λ story certificate accepted.
     let known = c.in_ok-end.ensures in
-    played story certificate c.args.options (given (g.R.Source.remaining c.args.reader.now) c.args.seed) (g.W.Sink.contents c.args.writer.now) c.args.accepted.now accepted _ c.in_ok-session.ensures (g.W.Sink.contents c.play_story.new.writer) _ _ c.in_ok-end.end ? known.no_fault
+    played story certificate c.args.options (given (g.R.Source.remaining c.args.reader.now) c.args.seed) (g.W.Sink.contents c.args.writer.now) c.args.accepted.now accepted _ c.in_ok-session.ensures (g.W.Sink.contents c.play_story.new.writer) _ _ c.in_ok-end.end known.comes known.no_fault

@@ -44,8 +44,7 @@ pub returns-in_err-stop-clause-comes : goal.returns-in_err-stop-clause-comes
 returns-in_err-stop-clause-comes g c =
     let so_far = c.turns.invariant in
     let same = g.met.M.Machine.same_setting _ _ so_far.play in
-    let e = c.in_err-stop.ensures in
-    (
+    let e = c.in_err-stop.ensures in (
       c.turn.new.left,
       unused c.turns.lines (g.R.Source.remaining c.turns.reader),
       handed_on _ _ _ _ c.from_residual.ensures (turn_broke _ g.M.Machine.Wants _ _ _ _ _ _ _ so_far.so_far _ same _ _ _ _ _ refl e.no_read e.finished e.wanted e.in_part),
@@ -58,8 +57,7 @@ returns-in_err-supply-clause-comes g c =
     let turned = g.met.M.Machine.through _ _ _ so_far.play c.in_ok-stop.ensures.play in
     let now = g.met.M.Machine.same_setting _ _ turned in
     let made = turn_made _ g.M.Machine.Wants _ _ _ _ _ _ _ so_far.so_far _ same _ _ _ c.in_ok-stop.ensures.ok in
-    let e = c.in_err-supply.ensures in
-    (
+    let e = c.in_err-supply.ensures in (
       c.turn.new.left,
       unused c.turns.lines (g.R.Source.remaining c.turns.reader),
       handed_on _ _ _ _ c.from_residual-in_err-supply.ensures (supply_broke _ g.M.Machine.Wants _ _ _ _ _ _ _ _ made _ now _ _ _ e.kept _ _ refl e.same e.at_line e.no_memory),
@@ -72,10 +70,9 @@ returns-then-not-branch-clause-comes g c =
     let turned = g.met.M.Machine.through _ _ _ so_far.play c.in_ok-stop.ensures.play in
     let now = g.met.M.Machine.same_setting _ _ turned in
     let made = turn_made _ g.M.Machine.Wants _ _ _ _ _ _ _ so_far.so_far _ same _ _ _ c.in_ok-stop.ensures.ok in
-    let still = rw c.in-Some.is at c.in_ok-stop.ensures.stands in
-    (
+    let still = rw c.in-Some.is at c.in_ok-stop.ensures.stands in (
       c.turn.new.left,
       unused c.turns.lines (g.R.Source.remaining c.turns.reader),
       rw c.from.ensures
-      (stood _ g.M.Machine.Wants _ _ _ _ _ _ _ _ made _ now _ _ _ c.in_ok-supply.ensures.kept c.in-Some.stop _ same still.0 still.1 (world (unused c.supply.new.lines (g.R.Source.remaining c.supply.new.reader)) (g.G.Words.coming c.supply.new.words)) refl (rw c.if-not-branch.true at c.in_ok-supply.ensures.supplied)),
+          (stood _ g.M.Machine.Wants _ _ _ _ _ _ _ _ made _ now _ _ _ c.in_ok-supply.ensures.kept c.in-Some.stop _ same still.0 still.1 (world (unused c.supply.new.lines (g.R.Source.remaining c.supply.new.reader)) (g.G.Words.coming c.supply.new.words)) refl (rw c.if-not-branch.true at c.in_ok-supply.ensures.supplied)),
     )
