@@ -1,0 +1,8 @@
+mod Numbers
+mod Words
+mod Steps
+mod Order
+mod Again
+mod Takes
+mod Loops
+mod Saves

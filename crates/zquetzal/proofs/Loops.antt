@@ -1,0 +1,2 @@
+-- What is read is spelled so.
+use Rattle.std.proofs.Common.{◌≡◌, ℕ}
