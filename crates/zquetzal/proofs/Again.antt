@@ -94,7 +94,7 @@ body_is : (bytes body : List ℕ) → 12 ≤ length bytes → big_number 4 bytes
 unfolding body_of
 body_is bytes body long e f g h = rw (le-leb 12 (length bytes) long, e, f, g, eqb_same (length bytes), h) refl
 
-pub body_again : (cs : List Chunk) → length (form_bytes cs) < 2 ^ 32 → body_of (form_bytes cs) ≡ Ok (flat_map chunk_bytes cs)
+pub body_again : (cs : List Chunk) → length (form_bytes cs) < 2 ^ 32 + 8 → body_of (form_bytes cs) ≡ Ok (flat_map chunk_bytes cs)
 body_again cs short =
     let body = flat_map chunk_bytes cs in
     let size = 4 + length body in

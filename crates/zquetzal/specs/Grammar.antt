@@ -85,13 +85,13 @@ pub record Names (story : LoadedStory) (o : Origin) : Type 0 where
   pub serial : o.serial ≡ (origin_of story).serial
   pub checksum : (o.checksum ≡ (origin_of story).checksum) ⊎ (o.checksum ≡ checksum story)
 
--- bytes are a save of a story that tells this: a form whose chunks have room, and of these those that are known are `IFhd` and
+-- bytes are a save of a story that tells this: a form whose count and chunks have room, and of these those that are known are `IFhd` and
 -- behind it `UMem` and `Stks`, in either order
 pub record ReadsAs (story : LoadedStory) (bytes : List ℕ) (s : Saved) : Type 0 where
   pub chunks : List Chunk
   pub origin : Origin
   pub spelled : bytes ≡ form_bytes chunks
-  pub short : length bytes < 2 ^ 32
+  pub short : length bytes < 2 ^ 32 + 8
   pub each : AllByRecursion IsChunk chunks
   pub parts : (known chunks ≡ header_chunk origin s ∷ memory_chunk s ∷ stacks_chunk s ∷ []) ⊎ (known chunks ≡ header_chunk origin s ∷ stacks_chunk s ∷ memory_chunk s ∷ [])
   pub is_origin : IsOrigin origin

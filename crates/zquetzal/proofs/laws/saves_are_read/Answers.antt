@@ -1,8 +1,11 @@
-use Rattle.zquetzal.proofs.Words.{words_fit}
-use Rattle.zquetzal.proofs.Order.{parts_take}
-use Rattle.zquetzal.proofs.Again.{frames_again}
-use Rattle.zquetzal.proofs.Takes.{chunks_take}
+use Rattle.zquetzal.proofs.Saves.{one, written, read_again}
 use Rattle.zquetzal.proofs.laws.saves_are_read.Goals as goal
 
+pub returns-clause-relates : goal.returns-clause-relates
+returns-clause-relates c = written
+
 pub returns-clause-read : goal.returns-clause-read
-returns-clause-read c = ?
+returns-clause-read c = read_again
+
+pub returns-clause-one : goal.returns-clause-one
+returns-clause-one c = one
