@@ -108,7 +108,7 @@ frame_at_is : (bytes : List ℕ) (supplied locals stack : ℕ) (body : List ℕ)
 unfolding frame_at
 frame_at_is bytes supplied locals stack body long e few f g h = rw (le-leb 8 (length bytes) long, e, le-leb locals 15 few, f, g, h) refl
 
-framed_is : (head : List ℕ) (place result supplied locals stack : ℕ) (body rest : List ℕ) (ls ss : List ℕ) → 2 * locals + 2 * stack ≤ length body → big_number 3 head ≡ place → get_or head 4 0 ≡ result → take (2 * locals) body ≡ words_bytes ls → take (2 * stack) (drop (2 * locals) body) ≡ words_bytes ss → drop (2 * locals + 2 * stack) body ≡ rest → AllByRecursion IsWord ls → AllByRecursion IsWord ss → framed head supplied locals stack body ≡ Ok (record { return_place = place; result = result; supplied = supplied; locals = ls; stack = ss }, rest)
+framed_is : (head : List ℕ) (place result supplied locals stack : ℕ) (body rest : List ℕ) (ls ss : List ℕ) → 2 * locals + 2 * stack ≤ length body → big_number 3 head ≡ place → get_or head 4 0 ≡ result → take (2 * locals) body ≡ words_bytes ls → take (2 * stack) (drop (2 * locals) body) ≡ words_bytes ss → drop (2 * stack) (drop (2 * locals) body) ≡ rest → AllByRecursion IsWord ls → AllByRecursion IsWord ss → framed head supplied locals stack body ≡ Ok (record { return_place = place; result = result; supplied = supplied; locals = ls; stack = ss }, rest)
 unfolding framed
 framed_is head place result supplied locals stack body rest ls ss long e f g h i fit also =
     rw (le-leb (2 * locals + 2 * stack) (length body) long, e, f, g, h, i, words_again ls fit, words_again ss also) refl
@@ -135,7 +135,7 @@ frame_again f rest is =
     let long : 2 * locals + 2 * stack ≤ length body = omega (arith, length-append (ls ++ ss) rest, both) in
     let first : take (2 * locals) body ≡ ls = ap (take (2 * locals)) regrouped ∙ take_at ls (ss ++ rest) (2 * locals) l in
     let second : take (2 * stack) (drop (2 * locals) body) ≡ ss = ap (λ (b : List ℕ). take (2 * stack) (drop (2 * locals) b)) regrouped ∙ ap (take (2 * stack)) (drop_at ls (ss ++ rest) (2 * locals) l) ∙ take_at ss rest (2 * stack) s in
-    let third : drop (2 * locals + 2 * stack) body ≡ rest = drop_at (ls ++ ss) rest (2 * locals + 2 * stack) both in
+    let third : drop (2 * stack) (drop (2 * locals) body) ≡ rest = ap (λ (b : List ℕ). drop (2 * stack) (drop (2 * locals) b)) regrouped ∙ ap (drop (2 * stack)) (drop_at ls (ss ++ rest) (2 * locals) l) ∙ drop_at ss rest (2 * stack) s in
     frame_at_is bytes f.supplied locals stack body (omega arith) refl is.locals (mask_again f.supplied is.supplied) (number_again 2 stack body is.stack) refl
     ∙ framed_is bytes f.return_place f.result f.supplied locals stack body rest f.locals f.stack long (number_again 3 f.return_place (drop 3 bytes) is.return_place) refl first second third is.local_words is.stack_words
 

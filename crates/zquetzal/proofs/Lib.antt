@@ -1,8 +1,9 @@
-mod Numbers
-mod Words
-mod Steps
 mod Order
 mod Again
 mod Takes
-mod Loops
-mod Saves
+pub mod Numbers
+pub mod Words
+pub mod Steps
+pub mod Loops
+pub mod Saves
+mod Written

@@ -10,9 +10,9 @@ use Rattle.zquetzal.specs.declared.limits.TheConstants.{IFHD, UMEM, CMEM, STKS, 
 use Rattle.zquetzal.specs.Saved.{Frame}
 use Rattle.zquetzal.specs.Grammar.{Chunk, is_known}
 use Rattle.zquetzal.specs.Steps.{◌>>=◌}
-use Rattle.zquetzal.specs.Reading.{supplied_by, Found, Absent, Once, Often, found, found_in, found_then, first_known, sized_chunk, chunk_at, chunks_within, framed, frame_at, frames_within, are_frames, is_first}
+use Rattle.zquetzal.specs.Reading.{supplied_by, Found, Absent, Once, Often, found, found_in, found_then, first_known, sized_chunk, chunk_at, chunks_within, framed, frame_at, frames_within, are_frames, frames_of}
 use Rattle.zquetzal.specs.Survey.{Survey, survey_of, survey_at, first_then, noted, surveyed}
-use Rattle.zquetzal.specs.View.{list_from, frames_up_to, frames_in, count_within}
+use Rattle.zquetzal.specs.View.{list_from, frames_up_to, frames_in, count_within, count_of}
 use Rattle.zquetzal.proofs.Steps.{bind_ok, need_ok, ok_is}
 use Rattle.zquetzal.proofs.Takes.{sized_takes}
 
@@ -228,12 +228,13 @@ frame_shorter bytes x e =
     let a = need_ok (nat_le 8 (length bytes)) _ _ _ e in
     let b = need_ok (nat_le (get_or bytes 3 0) 15) _ _ _ a.1 in
     let d = bind_ok (supplied_by (get_or bytes 5 0)) _ _ b.1 in
-    let words = 2 * get_or bytes 3 0 + 2 * big_number 2 (drop 6 bytes) in
-    let o = need_ok (nat_le words (length (drop 8 bytes))) _ _ _ d.2 in
+    let locals = 2 * get_or bytes 3 0 in
+    let stack = 2 * big_number 2 (drop 6 bytes) in
+    let o = need_ok (nat_le (locals + stack) (length (drop 8 bytes))) _ _ _ d.2 in
     let long : 8 ≤ length bytes = leb-true _ _ a.0 in
-    let rest : drop words (drop 8 bytes) ≡ x.1 = ap (λ (y : Frame × List ℕ). y.1) (ok_is _ _ o.1) in
-    let same : length (drop words (drop 8 bytes)) ≡ length x.1 = ap length rest in
-    omega (arith, same, long, length-drop words (drop 8 bytes), length-drop 8 bytes)
+    let rest : drop stack (drop locals (drop 8 bytes)) ≡ x.1 = ap (λ (y : Frame × List ℕ). y.1) (ok_is _ _ o.1) in
+    let same : length (drop stack (drop locals (drop 8 bytes))) ≡ length x.1 = ap length rest in
+    omega (arith, same, long, length-drop stack (drop locals (drop 8 bytes)), length-drop locals (drop 8 bytes), length-drop 8 bytes)
 
 front_of : (n : ℕ) (bytes : List ℕ) (x : Frame × List ℕ) → frame_at bytes ≡ Ok x → frames_up_to (suc n) bytes ≡ x.0 ∷ frames_up_to n x.1
 unfolding frames_up_to
@@ -300,3 +301,40 @@ all_in (suc n) (b ∷ bytes) fs e =
     let a = bind_ok (frame_at (b ∷ bytes)) _ _ e in
     let d = bind_ok (frames_within n a.0.1) _ _ a.2 in
     frames_step (b ∷ bytes) a.0 a.1 ∙ with_front a.0.0 (frames_in a.0.1) d.0 (all_in n a.0.1 d.0 d.1) ∙ ok_is (a.0.0 ∷ d.0) fs d.2
+
+-- ---- all frames
+
+counted_were : (n : ℕ) (bytes : List ℕ) (k : ℕ) → count_within n bytes ≡ Ok k → (fs : List Frame) × (frames_within n bytes ≡ Ok fs) × (length fs ≡ k)
+counted_were n bytes k e =
+    let a = bind_ok (frames_within n bytes) (λ fs. Ok (length fs)) k e in
+    (a.0, a.1, ok_is (length a.0) k a.2)
+
+error_is : {A : Type 0} (d e : SaveError) → (let r : Result A SaveError = Err d in r) ≡ Err e → d ≡ e
+error_is d e p = cc
+
+error_was : (r : Result (List Frame) SaveError) (d : SaveError) → (r >>= λ fs. let n : Result ℕ SaveError = Ok (length fs) in n) ≡ Err d → r ≡ Err d
+error_was (Ok fs) d e = absurd cc
+error_was (Err c) d e = cc
+
+pub count_of_refused : (stacks : List ℕ) (d : SaveError) → count_within MOST_FRAMES stacks ≡ Err d → count_of stacks ≡ Err d
+unfolding frames_of
+count_of_refused stacks d e = rw (error_was (frames_within MOST_FRAMES stacks) d e) refl
+
+pub count_of_other : (stacks : List ℕ) (k : ℕ) → count_within MOST_FRAMES stacks ≡ Ok k → are_frames (frames_in stacks) ≡ false → count_of stacks ≡ Err errors.Frames
+unfolding frames_of
+count_of_other stacks k e other =
+    let a = counted_were MOST_FRAMES stacks k e in
+    let test : are_frames a.0 ≡ false = sym (ap are_frames (all_in MOST_FRAMES stacks a.0 a.1)) ∙ other in
+    rw (a.1, test) refl
+
+pub count_of_first : (stacks : List ℕ) (k : ℕ) → count_within MOST_FRAMES stacks ≡ Ok k → are_frames (frames_in stacks) ≡ true → count_of stacks ≡ Ok k
+unfolding frames_of
+count_of_first stacks k e first =
+    let a = counted_were MOST_FRAMES stacks k e in
+    let test : are_frames a.0 ≡ true = sym (ap are_frames (all_in MOST_FRAMES stacks a.0 a.1)) ∙ first in
+    rw (a.1, test) (ok_same (length a.0) k a.2)
+
+pub count_of_were : (stacks : List ℕ) (k : ℕ) → count_of stacks ≡ Ok k → (fs : List Frame) × (frames_of stacks ≡ Ok fs) × (length fs ≡ k)
+count_of_were stacks k e =
+    let a = bind_ok (frames_of stacks) (λ fs. Ok (length fs)) k e in
+    (a.0, a.1, ok_is (length a.0) k a.2)

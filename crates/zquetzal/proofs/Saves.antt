@@ -1,10 +1,10 @@
 -- Bytes are read as a save exactly where they are one.
 use Rattle.std.proofs.Common.{◌≡◌, ◌⊎◌, inl, inr, ℕ, zero, suc, ◌+◌, ◌*◌, ◌-◌, ◌%◌, ◌^◌, ◌<◌, ◌≤◌, Bool, true, false, List, [], ◌∷◌, ◌++◌, length, get_or, take, drop, Result, Ok, Err, eq-eqb, refl, sym, ap, subst, ◌∙◌, append_assoc, arith, length-append}
-use Rattle.std.specs.Prelude.{◌==◌, ◌||◌, ◌&&◌, slice_range, replicate}
+use Rattle.std.specs.Prelude.{◌==◌, ◌||◌, ◌&&◌, nat_le, slice_range, replicate, IfOk}
 use Rattle.std.specs.List.{flat_map, AllByRecursion}
 use Rattle.std.specs.Str.{bytes_eq}
 use Rattle.std.proofs.lemmas.Bool.{eqb-true, cases_Bool}
-use Rattle.std.proofs.lemmas.List.{length-take, length-drop, length-replicate}
+use Rattle.std.proofs.lemmas.List.{length-take, length-drop, length-replicate, nil_from_length}
 use Rattle.std.proofs.lemmas.Slice.Eq.{bytes_eq-Decides}
 use Rattle.byteorder.specs.Endian.{big_bytes, big_number}
 use Rattle.zstory.specs.LoadedStory.{LoadedStory, IsSound, release, serial, checksum, save_checksum, file_sum, static_base}
@@ -15,13 +15,17 @@ use Rattle.zquetzal.specs.declared.origin.Origin.{Origin}
 use Rattle.zquetzal.specs.Saved.{Frame, Saved, IsFrame, IsFirst, AreFrames, IsSaved, origin_of}
 use Rattle.zquetzal.specs.Steps.{◌>>=◌, need}
 use Rattle.zquetzal.specs.Grammar.{Chunk, IsChunk, chunk_bytes, form_bytes, header_bytes, words_bytes, frame_head, frame_bytes, frames_bytes, header_chunk, memory_chunk, stacks_chunk, save_text, known, IsOrigin, Names, ReadsAs}
-use Rattle.zquetzal.specs.Reading.{Found, Once, Parts, body_of, chunks_of, chunks_within, parts_of, parts_at, is_of, is_empty, is_first, are_frames, frames_within, frames_of, reading}
+use Rattle.zquetzal.specs.Reading.{Found, Once, Parts, body_of, chunk_at, chunks_of, chunks_within, parts_of, parts_at, is_of, is_first, are_frames, frames_within, frames_of, reading}
+use Rattle.zquetzal.specs.declared.survey.Parts as code
+use Rattle.zquetzal.specs.Survey.{Survey, survey_of, survey_at, chosen_in}
+use Rattle.zquetzal.specs.View.{Gives, seen_parts, frames_in, count_of}
 use Rattle.zquetzal.proofs.Steps.{bind_ok, need_ok, ok_is}
 use Rattle.zquetzal.proofs.Numbers.{IsBytes, IsBytes-drop, number_again, number_fits, taken_2, taken_3}
 use Rattle.zquetzal.proofs.Order.{AreInOrder, with_id, parts_again, parts_take, parts_found, data_found}
 use Rattle.zquetzal.proofs.Words.{length-words_bytes}
 use Rattle.zquetzal.proofs.Again.{chunks_again, few_chunks, body_again, frames_again}
-use Rattle.zquetzal.proofs.Takes.{body_takes, chunks_take, frames_take}
+use Rattle.zquetzal.proofs.Loops.{all_in, count_of_were}
+use Rattle.zquetzal.proofs.Takes.{sized_takes, body_takes, chunks_take, frames_take}
 
 -- ---- the header
 
@@ -103,19 +107,14 @@ named story h e =
 
 first_again : (f : Frame) → IsFirst f → is_first f ≡ true
 first_again f is =
-    let none : is_empty f.locals ≡ true = ap (is_empty {A = ℕ}) is.locals in
-    rw (is.return_place, is.result, is.supplied, none) refl
-
-empty_is : (xs : List ℕ) → is_empty xs ≡ true → xs ≡ []
-empty_is [] e = refl
-empty_is (x ∷ xs) e = absurd cc
+    rw (is.return_place, is.result, is.supplied, is.locals) refl
 
 first_takes : (f : Frame) → is_first f ≡ true → IsFirst f
 first_takes f e =
-    let a = both_true ((f.return_place == 0) && (f.result == 0) && (f.supplied == 0)) (is_empty f.locals) e in
+    let a = both_true ((f.return_place == 0) && (f.result == 0) && (f.supplied == 0)) (length f.locals == 0) e in
     let b = both_true ((f.return_place == 0) && (f.result == 0)) (f.supplied == 0) a.0 in
     let c = both_true (f.return_place == 0) (f.result == 0) b.0 in
-    record { return_place = eqb-true f.return_place 0 c.0; result = eqb-true f.result 0 c.1; supplied = eqb-true f.supplied 0 b.1; locals = empty_is f.locals a.1 }
+    record { return_place = eqb-true f.return_place 0 c.0; result = eqb-true f.result 0 c.1; supplied = eqb-true f.supplied 0 b.1; locals = nil_from_length f.locals (eqb-true (length f.locals) 0 a.1) }
 
 framing : (stacks : List ℕ) (fs : List Frame) → frames_within MOST_FRAMES stacks ≡ Ok fs → are_frames fs ≡ true → frames_of stacks ≡ Ok fs
 unfolding frames_of
@@ -160,9 +159,37 @@ same_answer s t r p q = cc
 pub one : (story : LoadedStory) (bytes : List ℕ) (s t : Saved) → ReadsAs story bytes s → ReadsAs story bytes t → s ≡ t
 one story bytes s t r q = same_answer s t (reading story bytes) (again story bytes s r) (again story bytes t q)
 
+-- a chunk's length is right where it is a header's
+abbrev HasLength : Chunk → Type 0
+HasLength c = c.id ≡ IFHD → length c.contents ≡ HEADER_LENGTH
+
+chunk_has : (bytes : List ℕ) (x : Chunk × List ℕ) → chunk_at bytes ≡ Ok x → HasLength x.0
+unfolding chunk_at
+chunk_has bytes x e =
+    let a = need_ok (nat_le 8 (length bytes)) _ _ _ e in
+    (sized_takes (big_number 4 bytes) (big_number 4 (drop 4 bytes)) (drop 8 bytes) x a.1).header
+
+each_chunk : (n : ℕ) (bytes : List ℕ) (cs : List Chunk) → chunks_within n bytes ≡ Ok cs → AllByRecursion HasLength cs
+unfolding chunks_within
+each_chunk zero [] cs e = subst (λ (x : List Chunk). AllByRecursion HasLength x) {x = []} {y = cs} (ok_is [] cs e) tt
+each_chunk (suc n) [] cs e = subst (λ (x : List Chunk). AllByRecursion HasLength x) {x = []} {y = cs} (ok_is [] cs e) tt
+each_chunk zero (b ∷ bytes) cs e = absurd cc
+each_chunk (suc n) (b ∷ bytes) cs e =
+    let a = bind_ok (chunk_at (b ∷ bytes)) _ _ e in
+    let d = bind_ok (chunks_within n a.0.1) _ _ a.2 in
+    let made : List Chunk = a.0.0 ∷ d.0 in
+    subst (λ (x : List Chunk). AllByRecursion HasLength x) {x = made} {y = cs} (ok_is made cs d.2) (chunk_has (b ∷ bytes) a.0 a.1, each_chunk n a.0.1 d.0 d.1)
+
 -- the chunks that are read, of bytes that were cut into them
 pub parts_at_takes : (body : List ℕ) (p : Parts) → parts_at body ≡ Ok p → (cs : List Chunk) × (chunks_of body ≡ Ok cs) × (parts_of cs ≡ Ok p)
 parts_at_takes body p e = bind_ok (chunks_of body) parts_of p e
+
+-- the header that is read has its length
+pub header_length : (body : List ℕ) (p : Parts) → parts_at body ≡ Ok p → length p.header ≡ 13
+header_length body p e =
+    let c = parts_at_takes body p e in
+    let each = each_chunk (length body) body c.0 c.1 in
+    (data_found IFHD HasLength c.0 p.header each (parts_found c.0 p c.2).header) refl
 
 -- what is read is a save
 pub takes : (story : LoadedStory) (bytes : List ℕ) (s : Saved) → IsBytes bytes → reading story bytes ≡ Ok s → ReadsAs story bytes s
@@ -189,7 +216,7 @@ takes story bytes s fits e =
     let parted : Parts = record { header = header_bytes origin place; memory = p.memory; stacks = frames_bytes f.0 } in
     let same : p ≡ parted = ap (λ (x : List ℕ). let y : Parts = record { header = x; memory = p.memory; stacks = p.stacks } in y) head ∙ ap (λ (x : List ℕ). let y : Parts = record { header = header_bytes origin place; memory = p.memory; stacks = x } in y) frames.1 in
     let spelled : bytes ≡ form_bytes c.0 = body.parts ∙ ap (λ (x : List ℕ). big_bytes 4 FORM ++ big_bytes 4 (4 + length x) ++ big_bytes 4 IFZS ++ x) chunks.parts in
-    subst (λ (x : Saved). ReadsAs story bytes x) {x = made} (ok_is made s f.2) (record {
+    subst (λ (x : Saved). ReadsAs story bytes x) {x = made} {y = s} (ok_is made s f.2) (record {
       chunks = c.0;
       origin = origin;
       spelled = spelled;
@@ -233,7 +260,7 @@ origin_is story sound = record {
   checksum = sum_below story sound;
 }
 
-header_long : (o : Origin) (place : ℕ) → length o.serial ≡ 6 → length (header_bytes o place) ≡ 13
+pub header_long : (o : Origin) (place : ℕ) → length o.serial ≡ 6 → length (header_bytes o place) ≡ 13
 header_long o place six =
     let front = big_bytes 2 o.release in
     omega (arith, length-append (front ++ o.serial ++ big_bytes 2 o.checksum) (big_bytes 3 place), length-append (front ++ o.serial) (big_bytes 2 o.checksum), length-append front o.serial, six)
@@ -288,3 +315,47 @@ written story s sound saved =
 
 pub read_again : (story : LoadedStory) (s : Saved) → IsSound story.memory → IsSaved story s → reading story (save_text (origin_of story) s) ≡ Ok s
 read_again story s sound saved = again story (save_text (origin_of story) s) s (written story s sound saved)
+
+-- ---- what the code reads
+
+pub record IsRead (stacks : List ℕ) (k : ℕ) : Type 0 where
+  pub frames : frames_of stacks ≡ Ok (frames_in stacks)
+  pub are : AreFrames (frames_in stacks)
+  pub count : k ≡ length (frames_in stacks)
+
+pub frames_read : (stacks : List ℕ) (k : ℕ) → IsBytes stacks → count_of stacks ≡ Ok k → IsRead stacks k
+frames_read stacks k fits e =
+    let a = count_of_were stacks k e in
+    let t = frames_of_takes stacks a.0 fits a.1 in
+    let same : a.0 ≡ frames_in stacks = sym (all_in MOST_FRAMES stacks a.0 t.0) in
+    let moved : (frames_of stacks ≡ Ok (frames_in stacks)) × AreFrames (frames_in stacks) × (k ≡ length (frames_in stacks)) = subst (λ (x : List Frame). (frames_of stacks ≡ Ok x) × AreFrames x × (k ≡ length x)) {x = a.0} {y = frames_in stacks} same (a.1, t.2, sym a.2) in
+    record { frames = moved.0; are = moved.1; count = moved.2 }
+
+pub all_read : (story : LoadedStory) (bytes body : List ℕ) (p : Parts) (k : ℕ) → body_of bytes ≡ Ok body → parts_at body ≡ Ok p → is_of story p.header ≡ true → length p.memory ≡ static_base story → IsRead p.stacks k → reading story bytes ≡ Ok (record { memory = p.memory; place = big_number 3 (drop 10 p.header); frames = frames_in p.stacks })
+all_read story bytes body p k e f g h is = reading_is story bytes body p (big_number 3 (drop 10 p.header)) (frames_in p.stacks) e f g (eq-eqb (length p.memory) (static_base story) h) refl is.frames
+
+-- a refusal leaves no save
+pub none_saved : (story : LoadedStory) (bytes : List ℕ) (d : SaveError) (s : Saved) → reading story bytes ≡ Err d → ReadsAs story bytes s → ⊥
+none_saved story bytes d s e r = let both = sym e ∙ again story bytes s r in cc
+
+-- ---- what the code answers
+
+same_parts : (body : List ℕ) (s : Survey) → survey_at body ≡ Ok s → parts_at body ≡ chosen_in s
+same_parts body s e =
+    let a = bind_ok (chunks_of body) (λ cs. Ok (survey_of cs)) s e in
+    ap (λ (r : Result (List Chunk) SaveError). r >>= parts_of) a.1 ∙ ap chosen_in (ok_is (survey_of a.0) s a.2)
+
+pub header_given : (body : List ℕ) (s : Survey) (r : Result code.Parts SaveError) → survey_at body ≡ Ok s → Gives seen_parts r (chosen_in s) → IfOk r (λ p. length p.header.now ≡ 13)
+header_given body s (Ok p) e g = header_length body (seen_parts p) (same_parts body s e ∙ g)
+header_given body s (Err d) e g = tt
+
+pub is_found : (story : LoadedStory) (bytes : List ℕ) (r : Result Saved SaveError) → IsBytes bytes → r ≡ reading story bytes → IfOk r (ReadsAs story bytes)
+is_found story bytes (Ok s) fits e = takes story bytes s fits (sym e)
+is_found story bytes (Err d) fits e = tt
+
+pub stacks_fit : (bytes body : List ℕ) (p : Parts) → IsBytes bytes → body_of bytes ≡ Ok body → parts_at body ≡ Ok p → IsBytes p.stacks
+stacks_fit bytes body p fits e f =
+    let b = body_takes bytes body fits e in
+    let c = parts_at_takes body p f in
+    let chunks = chunks_take (length body) body c.0 b.fits c.1 in
+    data_found STKS (λ (x : Chunk). IsBytes x.contents) c.0 p.stacks chunks.fits (parts_found c.0 p c.2).stacks

@@ -197,7 +197,7 @@ pub record TakesFramed (head : List ℕ) (supplied locals stack : ℕ) (body : L
   pub stack_is : length f.stack ≡ stack
   pub stack_words : AllByRecursion IsWord f.stack
   pub parts : body ≡ words_bytes f.locals ++ (words_bytes f.stack ++ rest)
-  pub rest_is : rest ≡ drop (2 * locals + 2 * stack) body
+  pub rest_is : rest ≡ drop (2 * stack) (drop (2 * locals) body)
 
 halved : (n k : ℕ) → n ≡ 2 * k → (n % 2 ≡ 0) × (n / 2 ≡ k)
 halved n k e = (omega (arith, e), omega (arith, e))
@@ -210,7 +210,7 @@ framed_takes head supplied locals stack body x fits e =
     let ls = take (2 * locals) body in
     let behind = drop (2 * locals) body in
     let ss = take (2 * stack) behind in
-    let rest = drop (2 * locals + 2 * stack) body in
+    let rest = drop (2 * stack) behind in
     let l : length ls ≡ 2 * locals = omega (arith, length-take (2 * locals) body, long) in
     let s : length ss ≡ 2 * stack = omega (arith, length-take (2 * stack) behind, length-drop (2 * locals) body, long) in
     let l2 = halved (length ls) locals l in
@@ -220,8 +220,7 @@ framed_takes head supplied locals stack body x fits e =
     let ss_fits = IsBytes-take (2 * stack) behind behind_fits in
     let lw : words_bytes (words_of ls) ≡ ls = words_taken ls ls_fits l2.0 in
     let sw : words_bytes (words_of ss) ≡ ss = words_taken ss ss_fits s2.0 in
-    let last : drop (2 * stack) behind ≡ rest = drop-drop (2 * stack) (2 * locals) body in
-    let whole : body ≡ ls ++ (ss ++ rest) = sym (take-append-drop (2 * locals) body) ∙ ap (λ (t : List ℕ). ls ++ t) (sym (take-append-drop (2 * stack) behind) ∙ ap (λ (t : List ℕ). ss ++ t) last) in
+    let whole : body ≡ ls ++ (ss ++ rest) = sym (take-append-drop (2 * locals) body) ∙ ap (λ (t : List ℕ). ls ++ t) (sym (take-append-drop (2 * stack) behind)) in
     let made : Frame × List ℕ = (record { return_place = big_number 3 head; result = get_or head 4 0; supplied = supplied; locals = words_of ls; stack = words_of ss }, rest) in
     subst (λ (y : Frame × List ℕ). TakesFramed head supplied locals stack body y.0 y.1) {x = made} (ok_is made x a.1) (record {
       return_place = refl;
@@ -275,7 +274,7 @@ frame_takes bytes x fits e =
     ∙ ap (λ (n : ℕ). headed f.return_place (length f.locals) f.result (2 ^ f.supplied - 1) n ++ behind) (sym t.stack_is)
     in
     record {
-      takes = record { parts = same ∙ regrouped (frame_head f) (words_bytes f.locals) (words_bytes f.stack) rest; rest_fits = rw t.rest_is (IsBytes-drop _ (drop 8 bytes) (IsBytes-drop 8 bytes fits)) };
+      takes = record { parts = same ∙ regrouped (frame_head f) (words_bytes f.locals) (words_bytes f.stack) rest; rest_fits = rw t.rest_is (IsBytes-drop (2 * stack) _ (IsBytes-drop (2 * get_or bytes 3 0) (drop 8 bytes) (IsBytes-drop 8 bytes fits))) };
       is = record {
         return_place = rw t.return_place (number_fits 3 bytes fits);
         result = rw t.result (fits 4);

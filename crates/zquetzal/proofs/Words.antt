@@ -3,6 +3,7 @@ use Rattle.std.proofs.Common.{◌≡◌, ℕ, zero, suc, ◌+◌, ◌*◌, ◌/�
 use Rattle.std.specs.List.{flat_map, AllByRecursion}
 use Rattle.byteorder.specs.Endian.{big_bytes, big_number}
 use Rattle.byteorder.specs.Numbers.{length-bytes_high_first}
+use Rattle.std.proofs.lemmas.List.{get_or-drop}
 use Rattle.zquetzal.specs.Saved.{IsWord}
 use Rattle.zquetzal.specs.Grammar.{words_bytes}
 use Rattle.zquetzal.specs.Reading.{words_of}
@@ -29,6 +30,18 @@ word_at_is (high ∷ low ∷ rest) (suc k) below =
     same
     ∙ ap (λ (i : ℕ). 256 * get_or bytes i 0 + get_or rest (2 * k + 1) 0) even
     ∙ ap (λ (i : ℕ). 256 * get_or bytes (2 * suc k) 0 + get_or bytes i 0) odd
+
+-- a word lies in the bytes
+pub word_inside : (bytes : List ℕ) (k : ℕ) → k < length (words_of bytes) → 2 * k + 2 ≤ length bytes
+word_inside bytes k below = omega (arith, length-words_of bytes, below)
+
+pub word_read : (bytes : List ℕ) (k : ℕ) → k < length (words_of bytes) → big_number 2 (drop (2 * k) bytes) ≡ get_or (words_of bytes) k 0
+word_read bytes k below =
+    let high = get_or-drop (2 * k) bytes 0 0 in
+    let low = get_or-drop (2 * k) bytes 1 0 in
+    let here : 2 * k + 0 ≡ 2 * k = omega arith in
+    let first : get_or (drop (2 * k) bytes) 0 0 ≡ get_or bytes (2 * k) 0 = high ∙ ap (λ (i : ℕ). get_or bytes i 0) here in
+    omega (arith, first, low, word_at_is bytes k below)
 
 -- what is written of words is read as those
 pub words_again : (words : List ℕ) → AllByRecursion IsWord words → words_of (words_bytes words) ≡ words

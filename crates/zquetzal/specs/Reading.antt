@@ -143,7 +143,7 @@ framed head supplied locals stack body = do
     supplied = supplied;
     locals = words_of (take (2 * locals) body);
     stack = words_of (take (2 * stack) (drop (2 * locals) body))
-  }, drop (2 * locals + 2 * stack) body)
+  }, drop (2 * stack) (drop (2 * locals) body))
 
 -- the frame at the front. Its flags are the count of its locals, and no more (own)
 unfoldable pub frame_at : List ℕ → Result (Frame × List ℕ) SaveError
@@ -162,12 +162,8 @@ frames_within (suc n) (b ∷ bytes) = do
   fs ← frames_within n f.1
   Ok (f.0 ∷ fs)
 
-abbrev pub is_empty : {A : Type 0} → List A → Bool
-is_empty [] = true
-is_empty (x ∷ xs) = false
-
 abbrev pub is_first : Frame → Bool
-is_first f = (f.return_place == 0) && (f.result == 0) && (f.supplied == 0) && is_empty f.locals
+is_first f = (f.return_place == 0) && (f.result == 0) && (f.supplied == 0) && (length f.locals == 0)
 
 -- the first frame, and behind it the others
 abbrev pub are_frames : List Frame → Bool

@@ -35,7 +35,8 @@ pub fn word(words: &[u8], number: usize) -> u16
     requires { number < length (words_of words.now) }
     ensures { result ≡ slice_index (words_of words.now) number }
 {
-    BigEndian::read_u16(&words[2 * number..])
+    let (_, rest) = words.split_at(2 * number);
+    BigEndian::read_u16(rest)
 }
 
 /// How many arguments a mask tells (Q 4, own).
@@ -82,17 +83,19 @@ fn framed<'a>(
     ensures value { Gives (λ x. (seen_frame x.0, x.1.now)) result (framed head.now supplied locals stack body.now) }
     ensures shorter { IfOk result (λ x. length x.1.now ≤ length body.now) }
 {
-    let locals = 2 * usize::from(locals);
-    let words = locals + 2 * usize::from(stack);
-    if body.len() < words {
+    let locals_length = 2 * usize::from(locals);
+    let stack_length = 2 * usize::from(stack);
+    if body.len() < locals_length + stack_length {
         return Err(SaveError::Frames);
     }
+    let (locals, behind) = body.split_at(locals_length);
+    let (stack, rest) = behind.split_at(stack_length);
     let frame = SavedFrame {
         return_place: BigEndian::read_u24(head),
         result: head[4],
         supplied,
-        locals: &body[..locals],
-        stack: &body[locals..words],
+        locals,
+        stack,
     };
-    Ok((frame, &body[words..]))
+    Ok((frame, rest))
 }

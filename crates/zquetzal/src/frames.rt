@@ -5,7 +5,7 @@ ghost use Rattle.zquetzal.specs.Reading.{are_frames, frames_of, frames_within, i
 ghost use Rattle.zquetzal.specs.View.{Gives, count_within, count_of, frames_in, frames_left, seen_frame};
 
 use crate::error::SaveError;
-use crate::frame::{frame_of, SavedFrame};
+use crate::frame::{frame_of, word_count, SavedFrame};
 use crate::limits::MOST_FRAMES;
 
 /// The frames of a save, the oldest first. Contracts see what is left of them.
@@ -46,7 +46,10 @@ impl<'a> Iterator for Frames<'a> {
 fn is_first(frame: SavedFrame<'_>) -> bool
     ensures { result ≡ is_first (seen_frame frame.entry) }
 {
-    frame.return_place == 0 && frame.result == 0 && frame.supplied == 0 && frame.locals.is_empty()
+    frame.return_place == 0
+        && frame.result == 0
+        && frame.supplied == 0
+        && word_count(frame.locals) == 0
 }
 
 /// Whether the frame at the front of the bytes, which are frames, is such a one.

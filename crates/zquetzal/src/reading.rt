@@ -1,6 +1,7 @@
 //! Reading a save.
 
-ghost use Rattle.std.specs.Prelude.{◌≡◌, ◌≤◌, length, IfOk, Ok};
+ghost use Rattle.std.specs.Prelude.{◌≡◌, ◌<◌, ◌^◌, length, drop, IfOk, Ok};
+ghost use Rattle.byteorder.specs.Endian.{big_number};
 ghost use Rattle.zquetzal.specs.Saved.{Saved};
 ghost use Rattle.zquetzal.specs.Grammar.{ReadsAs};
 ghost use Rattle.zquetzal.specs.Reading.{body_of, parts_at, is_of, reading};
@@ -51,19 +52,20 @@ fn is_of(story: &Story, header: &[u8]) -> bool
         && (checksum == story.save_checksum() || checksum == identity.checksum)
 }
 
-/// Reads a save of a story. It goes over the bytes once and takes no memory.
-///
-/// # Errors
-///
-/// The first cause in the order of [`SaveError`] that holds of the bytes.
+/// The place of `IFhd` (Q 5).
+fn place_of(header: &[u8]) -> u32
+    requires { length header.now ≡ 13 }
+    ensures value { result ≡ big_number 3 (drop 10 header.now) }
+    ensures low { result < 2 ^ 24 }
+{
+    let (_, place) = header.split_at(10);
+    BigEndian::read_u24(place)
+}
+
+/// What the bytes tell, or the first refusal.
 #[tactic(auto, unfolding(crate::specs::Reading::reading))]
-pub fn read<'a>(story: &Story, bytes: &'a [u8]) -> Result<SaveView<'a>, SaveError>
-    // What is read stands in the bytes.
-    ensures found { IfOk result (ReadsAs story.now bytes.now) }
-    // A save is read.
-    ensures only { (s : Saved) → ReadsAs story.now bytes.now s → result ≡ Ok s }
-    // Which refusal it is.
-    ensures exact { result ≡ reading story.now bytes.now }
+fn view_of<'a>(story: &Story, bytes: &'a [u8]) -> Result<SaveView<'a>, SaveError>
+    ensures { result ≡ reading story.now bytes.now }
 {
     let parts = parts_of(body_of(bytes)?)?;
     if !is_of(story, parts.header) {
@@ -73,11 +75,27 @@ pub fn read<'a>(story: &Story, bytes: &'a [u8]) -> Result<SaveView<'a>, SaveErro
         return Err(SaveError::MemoryLength);
     }
     let frame_count = count_frames(parts.stacks)?;
-    let place = BigEndian::read_u24(&parts.header[10..]);
+    let place = place_of(parts.header);
     Ok(SaveView::new(
         parts.memory,
         place,
         parts.stacks,
         frame_count,
     ))
+}
+
+/// Reads a save of a story. It goes over the bytes once and takes no memory.
+///
+/// # Errors
+///
+/// The first cause in the order of [`SaveError`] that holds of the bytes.
+pub fn read<'a>(story: &Story, bytes: &'a [u8]) -> Result<SaveView<'a>, SaveError>
+    // What is read stands in the bytes.
+    ensures found { IfOk result (ReadsAs story.now bytes.now) }
+    // A save is read.
+    ensures only { (s : Saved) → ReadsAs story.now bytes.now s → result ≡ Ok s }
+    // Which refusal it is.
+    ensures exact { result ≡ reading story.now bytes.now }
+{
+    view_of(story, bytes)
 }

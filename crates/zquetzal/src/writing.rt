@@ -10,7 +10,6 @@ ghost use Rattle.zquetzal.specs.View.{given_frame};
 use crate::limits::{CHUNK_HEAD, FORM, FORM_HEAD, FRAME_HEAD, HEADER_LENGTH, IFHD, IFZS, STKS, UMEM};
 use crate::origin::Origin;
 use crate::parts::{FrameParts, SaveParts};
-use byteorder::{BigEndian, ByteOrder};
 use std::alloc::{AllocError, Global};
 
 /// Writes bytes for which there is room.
@@ -52,17 +51,29 @@ fn put_chunk(out: &mut Vec<u8>, id: u32, contents: &[u8])
     }
 }
 
-/// The data of `IFhd`.
-fn header_of(origin: &Origin, place: u32) -> [u8; 13]
-    requires { place < 16777216 }
-    ensures { result ≡ header_bytes origin.now place }
+/// Writes the data of `IFhd`.
+fn put_header_data(out: &mut Vec<u8>, origin: &Origin, place: u32)
+    requires { vec_len out.old + 13 ≤ vec_capacity out.old }
+    ensures items { out.new.items ≡ out.old.items ++ header_bytes origin.now place }
+    ensures len { vec_len out.new ≡ vec_len out.old + 13 }
+    ensures room { vec_capacity out.old ≤ vec_capacity out.new }
 {
-    let mut header = [0; HEADER_LENGTH];
-    BigEndian::write_u16(&mut header, origin.release);
-    header[2..8].copy_from_slice(&origin.serial);
-    BigEndian::write_u16(&mut header[8..], origin.checksum);
-    BigEndian::write_u24(&mut header[10..], place);
-    header
+    put(out, &origin.release.to_be_bytes());
+    put(out, &origin.serial);
+    put(out, &origin.checksum.to_be_bytes());
+    put(out, &place.to_be_bytes()[1..]);
+}
+
+/// Writes `IFhd`.
+fn put_header(out: &mut Vec<u8>, origin: &Origin, place: u32)
+    requires { vec_len out.old + 22 ≤ vec_capacity out.old }
+    ensures items { out.new.items ≡ out.old.items ++ chunk_bytes (record { id = IFHD; contents = header_bytes origin.now place }) }
+    ensures len { vec_len out.new ≡ vec_len out.old + 22 }
+    ensures room { vec_capacity out.old ≤ vec_capacity out.new }
+{
+    put_head(out, IFHD, HEADER_LENGTH);
+    put_header_data(out, origin, place);
+    put(out, &[0]);
 }
 
 fn put_words(out: &mut Vec<u8>, words: &[u16])
@@ -157,32 +168,41 @@ fn body_length(memory: usize, stacks: usize) -> usize
 }
 
 /// Writes all of a save, for which there is room.
-fn put_text<S: SaveParts>(out: &mut Vec<u8>, parts: &S, body: usize, stacks: usize)
+fn put_text<S: SaveParts>(
+    out: &mut Vec<u8>,
+    parts: &S,
+    origin: &Origin,
+    body: usize,
+    stacks: usize,
+)
+    requires origin { origin.now ≡ S.origin parts.now }
     requires room { vec_len out.old + length (save_text (S.origin parts.now) (S.saved parts.now)) ≤ vec_capacity out.old }
     requires stacks { stacks ≡ length (frames_bytes (S.saved parts.now).frames) }
     requires short { stacks ≤ 134385700 }
     requires body { length (save_text (S.origin parts.now) (S.saved parts.now)) ≡ 12 + body }
-    requires body_short { body ≤ 134485700 }
+    requires size { body ≡ 38 + length (S.saved parts.now).memory + length (S.saved parts.now).memory % 2 + stacks }
     ensures { out.new.items ≡ out.old.items ++ save_text (S.origin parts.now) (S.saved parts.now) }
 {
+    let memory = parts.memory();
     put_head(out, FORM, 4 + body);
     put(out, &IFZS.to_be_bytes());
-    put_chunk(out, IFHD, &header_of(&parts.origin(), parts.place()));
-    put_chunk(out, UMEM, parts.memory());
+    put_header(out, origin, parts.place());
+    put_chunk(out, UMEM, memory);
     put_stacks(out, parts, stacks);
 }
 
 /// Writes a save behind the bytes that are there, or with no memory for it nothing. All memory is taken before the first byte is
-/// written, so that want of memory leaves the bytes as they were.
+/// written, and wanted only where there isn't room for the save.
 pub fn write_to<S: SaveParts>(out: &mut Vec<u8>, parts: &S) -> Result<(), AllocError>
     ensures ok { OnOk result (out.new.items ≡ out.old.items ++ save_text (S.origin parts.now) (S.saved parts.now)) }
     ensures err { OnErr result (out.new.items ≡ out.old.items) }
     ensures full { OnErr result (vec_capacity out.old < vec_len out.old + length (save_text (S.origin parts.now) (S.saved parts.now))) }
 {
+    let origin = parts.origin();
     let stacks = frames_length(parts);
     let body = body_length(parts.memory().len(), stacks);
     out.reserve(FORM_HEAD + body)?;
-    put_text(out, parts, body, stacks);
+    put_text(out, parts, &origin, body, stacks);
     Ok(())
 }
 
