@@ -1,17 +1,16 @@
 -- What is spelled is read.
-use Rattle.std.proofs.Common.{◌≡◌, ◌⊎◌, inl, inr, ℕ, zero, suc, ◌+◌, ◌*◌, ◌-◌, ◌%◌, ◌^◌, ◌<◌, ◌≤◌, Bool, true, false, List, [], ◌∷◌, ◌++◌, length, get_or, take, drop, Result, Ok, Err, eq-eqb, refl, sym, ap, subst, ◌∙◌, append_assoc, arith, length-append}
-use Rattle.std.specs.Prelude.{◌==◌, ◌||◌, not, replicate, slice_index}
+use Rattle.std.proofs.Common.{◌≡◌, inl, inr, ℕ, zero, suc, ◌+◌, ◌*◌, ◌-◌, ◌%◌, ◌^◌, ◌<◌, ◌≤◌, true, List, [], ◌∷◌, ◌++◌, length, get_or, take, drop, Ok, eq-eqb, refl, sym, ap, ◌∙◌, append_assoc, arith, length-append}
+use Rattle.std.specs.Prelude.{◌==◌, ◌||◌, not, replicate}
 use Rattle.std.specs.List.{flat_map, AllByRecursion}
 use Rattle.std.proofs.Math.Seq.{get_or-append_seam}
 use Rattle.std.proofs.lemmas.Bool.{le-leb, cases_Bool, eqb-true}
-use Rattle.std.proofs.lemmas.List.{take_at, drop_at, append-nil, length-replicate}
+use Rattle.std.proofs.lemmas.List.{take_at, drop_at, length-replicate}
 use Rattle.byteorder.specs.Endian.{big_bytes, big_number}
-use Rattle.byteorder.specs.Numbers.{length-bytes_high_first}
 use Rattle.zquetzal.specs.declared.limits.TheConstants.{FORM, IFZS, IFHD, HEADER_LENGTH}
 use Rattle.zquetzal.specs.Saved.{Frame, IsFrame, IsWord}
 use Rattle.zquetzal.specs.Grammar.{Chunk, IsChunk, chunk_bytes, form_bytes, words_bytes, frame_bytes, frames_bytes}
 use Rattle.zquetzal.specs.Reading.{body_of, sized_chunk, chunk_at, chunks_within, supplied_by, framed, frame_at, frames_within}
-use Rattle.zquetzal.proofs.Numbers.{drop_number, number_again}
+use Rattle.zquetzal.proofs.Numbers.{number_again}
 use Rattle.zquetzal.proofs.Words.{words_again, length-words_bytes}
 
 eqb_same : (n : ℕ) → (n == n) ≡ true

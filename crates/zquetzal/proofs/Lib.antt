@@ -7,3 +7,4 @@ pub mod Steps
 pub mod Loops
 pub mod Saves
 mod Written
+mod Worked

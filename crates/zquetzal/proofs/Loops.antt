@@ -1,8 +1,8 @@
 -- What the code's loops have found so far, and that it doesn't matter how many chunks or frames there might be.
-use Rattle.std.proofs.Common.{◌≡◌, ◌⊎◌, inl, inr, ℕ, zero, suc, ◌+◌, ◌*◌, ◌-◌, ◌%◌, ◌<◌, ◌≤◌, Bool, true, false, List, [], ◌∷◌, ◌++◌, length, get_or, take, drop, Option, Some, None, Result, Ok, Err, refl, sym, ap, subst, ◌∙◌, arith}
-use Rattle.std.specs.Prelude.{◌==◌, nat_le}
+use Rattle.std.proofs.Common.{◌≡◌, ◌⊎◌, inl, inr, ℕ, zero, suc, ◌+◌, ◌*◌, ◌-◌, ◌%◌, ◌<◌, ◌≤◌, true, false, List, [], ◌∷◌, length, get_or, drop, Option, Some, None, Result, Ok, Err, refl, sym, ap, ◌∙◌, arith}
+use Rattle.std.specs.Prelude.{nat_le}
 use Rattle.std.proofs.lemmas.Bool.{cases_Bool, leb-true}
-use Rattle.std.proofs.lemmas.List.{length-drop, nil_from_length}
+use Rattle.std.proofs.lemmas.List.{length-drop}
 use Rattle.byteorder.specs.Endian.{big_number}
 use Rattle.zquetzal.specs.declared.error.SaveError.{SaveError}
 use Rattle.zquetzal.specs.declared.error.SaveError.TheVariants as errors
@@ -10,9 +10,9 @@ use Rattle.zquetzal.specs.declared.limits.TheConstants.{IFHD, UMEM, CMEM, STKS, 
 use Rattle.zquetzal.specs.Saved.{Frame}
 use Rattle.zquetzal.specs.Grammar.{Chunk, is_known}
 use Rattle.zquetzal.specs.Steps.{◌>>=◌}
-use Rattle.zquetzal.specs.Reading.{supplied_by, Found, Absent, Once, Often, found, found_in, found_then, first_known, sized_chunk, chunk_at, chunks_within, framed, frame_at, frames_within, are_frames, frames_of}
+use Rattle.zquetzal.specs.Reading.{supplied_by, Found, Absent, Once, Often, found, found_in, found_then, first_known, chunk_at, chunks_within, framed, frame_at, frames_within, are_frames, frames_of}
 use Rattle.zquetzal.specs.Survey.{Survey, survey_of, survey_at, first_then, noted, surveyed}
-use Rattle.zquetzal.specs.View.{list_from, frames_up_to, frames_in, count_within, count_of}
+use Rattle.zquetzal.specs.View.{frames_up_to, frames_in, count_within, count_of}
 use Rattle.zquetzal.proofs.Steps.{bind_ok, need_ok, ok_is}
 use Rattle.zquetzal.proofs.Takes.{sized_takes}
 

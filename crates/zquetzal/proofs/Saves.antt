@@ -1,5 +1,5 @@
 -- Bytes are read as a save exactly where they are one.
-use Rattle.std.proofs.Common.{◌≡◌, ◌⊎◌, inl, inr, ℕ, zero, suc, ◌+◌, ◌*◌, ◌-◌, ◌%◌, ◌^◌, ◌<◌, ◌≤◌, Bool, true, false, List, [], ◌∷◌, ◌++◌, length, get_or, take, drop, Result, Ok, Err, eq-eqb, refl, sym, ap, subst, ◌∙◌, append_assoc, arith, length-append}
+use Rattle.std.proofs.Common.{◌≡◌, ◌⊎◌, inl, inr, ℕ, zero, suc, ◌+◌, ◌*◌, ◌%◌, ◌^◌, ◌<◌, ◌≤◌, Bool, true, false, List, [], ◌∷◌, ◌++◌, length, drop, Result, Ok, Err, eq-eqb, refl, sym, ap, subst, ◌∙◌, arith, length-append}
 use Rattle.std.specs.Prelude.{◌==◌, ◌||◌, ◌&&◌, nat_le, slice_range, replicate, IfOk}
 use Rattle.std.specs.List.{flat_map, AllByRecursion}
 use Rattle.std.specs.Str.{bytes_eq}
@@ -7,21 +7,20 @@ use Rattle.std.proofs.lemmas.Bool.{eqb-true, cases_Bool}
 use Rattle.std.proofs.lemmas.List.{length-take, length-drop, length-replicate, nil_from_length}
 use Rattle.std.proofs.lemmas.Slice.Eq.{bytes_eq-Decides}
 use Rattle.byteorder.specs.Endian.{big_bytes, big_number}
-use Rattle.zstory.specs.LoadedStory.{LoadedStory, IsSound, release, serial, checksum, save_checksum, file_sum, static_base}
-use Rattle.zstory.specs.Header as header
+use Rattle.zstory.specs.LoadedStory.{LoadedStory, IsSound, release, serial, checksum, save_checksum, static_base}
 use Rattle.zquetzal.specs.declared.error.SaveError.{SaveError}
-use Rattle.zquetzal.specs.declared.limits.TheConstants.{FORM, IFZS, IFHD, UMEM, STKS, HEADER_LENGTH, MOST_FRAMES}
+use Rattle.zquetzal.specs.declared.limits.TheConstants.{FORM, IFZS, IFHD, STKS, HEADER_LENGTH, MOST_FRAMES}
 use Rattle.zquetzal.specs.declared.origin.Origin.{Origin}
 use Rattle.zquetzal.specs.Saved.{Frame, Saved, IsFrame, IsFirst, AreFrames, IsSaved, origin_of}
-use Rattle.zquetzal.specs.Steps.{◌>>=◌, need}
-use Rattle.zquetzal.specs.Grammar.{Chunk, IsChunk, chunk_bytes, form_bytes, header_bytes, words_bytes, frame_head, frame_bytes, frames_bytes, header_chunk, memory_chunk, stacks_chunk, save_text, known, IsOrigin, Names, ReadsAs}
-use Rattle.zquetzal.specs.Reading.{Found, Once, Parts, body_of, chunk_at, chunks_of, chunks_within, parts_of, parts_at, is_of, is_first, are_frames, frames_within, frames_of, reading}
+use Rattle.zquetzal.specs.Steps.{◌>>=◌}
+use Rattle.zquetzal.specs.Grammar.{Chunk, IsChunk, chunk_bytes, form_bytes, header_bytes, words_bytes, frame_head, frame_bytes, frames_bytes, header_chunk, memory_chunk, stacks_chunk, save_text, IsOrigin, Names, ReadsAs}
+use Rattle.zquetzal.specs.Reading.{Parts, body_of, chunk_at, chunks_of, chunks_within, parts_of, parts_at, is_of, is_first, are_frames, frames_within, frames_of, reading}
 use Rattle.zquetzal.specs.declared.survey.Parts as code
 use Rattle.zquetzal.specs.Survey.{Survey, survey_of, survey_at, chosen_in}
 use Rattle.zquetzal.specs.View.{Gives, seen_parts, frames_in, count_of}
 use Rattle.zquetzal.proofs.Steps.{bind_ok, need_ok, ok_is}
 use Rattle.zquetzal.proofs.Numbers.{IsBytes, IsBytes-drop, number_again, number_fits, taken_2, taken_3}
-use Rattle.zquetzal.proofs.Order.{AreInOrder, with_id, parts_again, parts_take, parts_found, data_found}
+use Rattle.zquetzal.proofs.Order.{AreInOrder, parts_again, parts_take, parts_found, data_found}
 use Rattle.zquetzal.proofs.Words.{length-words_bytes}
 use Rattle.zquetzal.proofs.Again.{chunks_again, few_chunks, body_again, frames_again}
 use Rattle.zquetzal.proofs.Loops.{all_in, count_of_were}

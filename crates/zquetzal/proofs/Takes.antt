@@ -1,20 +1,18 @@
 -- What is read is spelled so.
-use Rattle.std.proofs.Common.{◌≡◌, ◌⊎◌, inl, inr, ℕ, zero, suc, ◌+◌, ◌*◌, ◌-◌, ◌/◌, ◌%◌, ◌^◌, ◌<◌, ◌≤◌, Bool, true, false, cond, List, [], ◌∷◌, ◌++◌, length, get_or, take, drop, Result, Ok, Err, refl, sym, ap, subst, ◌∙◌, append_assoc, arith, length-append}
+use Rattle.std.proofs.Common.{◌≡◌, inl, inr, ℕ, zero, suc, ◌+◌, ◌*◌, ◌-◌, ◌/◌, ◌%◌, ◌^◌, ◌<◌, ◌≤◌, Bool, true, false, List, [], ◌∷◌, ◌++◌, length, get_or, take, drop, Ok, Err, refl, sym, ap, subst, ◌∙◌, append_assoc, arith}
 use Rattle.std.specs.Prelude.{◌==◌, ◌||◌, ◌&&◌, not, replicate, nat_le}
 use Rattle.std.specs.List.{flat_map, AllByRecursion}
-use Rattle.std.proofs.Math.Seq.{drop-cons, take-add}
-use Rattle.std.proofs.lemmas.Bool.{leb-true, cases_Bool, eqb-true, cases_eq}
-use Rattle.std.proofs.lemmas.List.{take-append-drop, length-take, length-drop, append-nil, drop-drop}
+use Rattle.std.proofs.Math.Seq.{drop-cons}
+use Rattle.std.proofs.lemmas.Bool.{leb-true, cases_Bool, eqb-true}
+use Rattle.std.proofs.lemmas.List.{take-append-drop, length-take, length-drop, drop-drop}
 use Rattle.byteorder.specs.Endian.{big_bytes, big_number}
-use Rattle.zquetzal.specs.declared.error.SaveError.{SaveError}
 use Rattle.zquetzal.specs.declared.error.SaveError.TheVariants as errors
 use Rattle.zquetzal.specs.declared.limits.TheConstants.{FORM, IFZS, IFHD, HEADER_LENGTH}
 use Rattle.zquetzal.specs.Saved.{Frame, IsFrame, IsWord}
-use Rattle.zquetzal.specs.Steps.{need}
-use Rattle.zquetzal.specs.Grammar.{Chunk, IsChunk, chunk_bytes, form_bytes, words_bytes, frame_head, frame_bytes, frames_bytes}
+use Rattle.zquetzal.specs.Grammar.{Chunk, IsChunk, chunk_bytes, words_bytes, frame_head, frame_bytes, frames_bytes}
 use Rattle.zquetzal.specs.Reading.{body_of, sized_chunk, chunk_at, chunks_within, supplied_by, words_of, framed, frame_at, frames_within}
 use Rattle.zquetzal.proofs.Steps.{bind_ok, need_ok, ok_is}
-use Rattle.zquetzal.proofs.Numbers.{IsBytes, IsBytes-drop, IsBytes-take, front_3, front_4, taken_2, taken_3, number_fits}
+use Rattle.zquetzal.proofs.Numbers.{IsBytes, IsBytes-drop, IsBytes-take, front_4, taken_2, taken_3, number_fits}
 use Rattle.zquetzal.proofs.Words.{words_taken, words_fit, length-words_of}
 
 both_true : (a b : Bool) → (a && b) ≡ true → (a ≡ true) × (b ≡ true)

@@ -1,5 +1,5 @@
 -- How much was written.
-use Rattle.std.proofs.Common.{◌≡◌, ℕ, zero, suc, ◌+◌, ◌*◌, ◌%◌, ◌<◌, ◌≤◌, List, [], ◌∷◌, ◌++◌, length, take, Option, Some, None, refl, sym, ap, ◌∙◌, append_assoc, arith, length-append}
+use Rattle.std.proofs.Common.{◌≡◌, ℕ, zero, suc, ◌+◌, ◌*◌, ◌%◌, ◌≤◌, List, [], ◌∷◌, ◌++◌, length, take, Some, sym, ap, ◌∙◌, append_assoc, arith, length-append}
 use Rattle.std.specs.Prelude.{slice_get, replicate}
 use Rattle.std.proofs.lemmas.List.{append-nil}
 use Rattle.zquetzal.specs.declared.origin.Origin.{Origin}
@@ -8,7 +8,7 @@ use Rattle.std.specs.List.{flat_map}
 use Rattle.byteorder.specs.Endian.{big_bytes}
 use Rattle.zquetzal.specs.declared.limits.TheConstants.{FORM, IFZS, IFHD, STKS, HEADER_LENGTH}
 use Rattle.zquetzal.specs.Grammar.{Chunk, chunk_bytes, form_bytes, header_bytes, frame_bytes, frames_bytes, header_chunk, memory_chunk, stacks_chunk, save_text}
-use Rattle.zquetzal.proofs.Saves.{length-frame_bytes, length-chunk, header_long, frames_even, text_long}
+use Rattle.zquetzal.proofs.Saves.{length-frame_bytes, length-chunk, header_long, frames_even}
 
 some_is : (f g : Frame) → Some f ≡ Some g → f ≡ g
 some_is f g e = cc

@@ -1,5 +1,5 @@
 -- What a save tells: dynamic memory, where play goes on, and the frames.
-use Rattle.std.specs.Prelude.{◌≡◌, ℕ, ◌+◌, ◌<◌, ◌≤◌, ◌^◌, List, [], ◌∷◌, length, slice_index}
+use Rattle.std.specs.Prelude.{◌≡◌, ℕ, ◌<◌, ◌≤◌, ◌^◌, List, [], ◌∷◌, length}
 use Rattle.std.specs.List.{AllByRecursion}
 use Rattle.zstory.specs.LoadedStory.{LoadedStory, release, serial, save_checksum, static_base}
 use Rattle.zquetzal.specs.declared.origin.Origin.{Origin}

@@ -1,11 +1,11 @@
 -- How the code goes over chunks: it keeps what it found so far, and not the chunks.
-use Rattle.std.specs.Prelude.{ℕ, zero, suc, if◌then◌else◌, List, [], ◌∷◌, length, Option, Some, None, Result, Ok, Err}
+use Rattle.std.specs.Prelude.{ℕ, zero, suc, if◌then◌else◌, List, [], ◌∷◌, Option, Some, None, Result, Ok, Err}
 use Rattle.zquetzal.specs.declared.error.SaveError.{SaveError}
 use Rattle.zquetzal.specs.declared.error.SaveError.TheVariants as errors
 use Rattle.zquetzal.specs.declared.limits.TheConstants.{IFHD, UMEM, CMEM, STKS}
 use Rattle.zquetzal.specs.Grammar.{Chunk, is_known}
 use Rattle.zquetzal.specs.Steps.{◌>>=◌}
-use Rattle.zquetzal.specs.Reading.{Found, Absent, found, found_in, found_then, first_known, chunk_at, chunks_within, chunks_of, chosen, Parts}
+use Rattle.zquetzal.specs.Reading.{Found, found, found_in, found_then, first_known, chunk_at, chunks_of, chosen, Parts}
 
 pub record Survey : Type 0 where
   pub first : Option ℕ

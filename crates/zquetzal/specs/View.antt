@@ -1,5 +1,5 @@
 -- What the code's values say.
-use Rattle.std.specs.Prelude.{◌≡◌, ℕ, zero, suc, List, [], ◌∷◌, length, Option, Result, Ok, Err}
+use Rattle.std.specs.Prelude.{◌≡◌, ℕ, zero, suc, List, [], ◌∷◌, length, Result, Ok, Err}
 use Rattle.zquetzal.specs.declared.error.SaveError.{SaveError}
 use Rattle.zquetzal.specs.declared.chunk.Chunk as code_chunk
 use Rattle.zquetzal.specs.declared.survey.Found as code_found

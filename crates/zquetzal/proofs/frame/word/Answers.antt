@@ -1,4 +1,5 @@
-use Rattle.std.proofs.Common.{◌+◌, ◌*◌, ◌≤◌, length, ◌∙◌, arith, rules}
+use Rattle.byteorder.specs.Endian.{big_number}
+use Rattle.std.proofs.Common.{ℕ, List, ap, ◌*◌, ◌∙◌, arith, rules}
 use Rattle.std.proofs.lemmas.List.{length-drop}
 use Rattle.zquetzal.proofs.Words.{word_inside, word_read}
 use Rattle.zquetzal.proofs.frame.word.Goals as goal
@@ -13,4 +14,4 @@ pub read_u16-requires : goal.read_u16-requires
 read_u16-requires c = let inside = word_inside c.args.words.now c.args.number c.requires in omega (arith, inside, length-drop (2 * c.args.number) c.args.words.now)
 
 pub returns : goal.returns
-returns c = c.read_u16.ensures ∙ word_read c.args.words.now c.args.number c.requires
+returns c = c.read_u16.ensures ∙ ap (λ (b : List ℕ). big_number 2 b) c.split_at.ensures.back ∙ word_read c.args.words.now c.args.number c.requires

@@ -1,4 +1,4 @@
-use Rattle.std.proofs.Common.{◌≡◌, ℕ, List, length, true, Result, Ok, sym, ap, ◌∙◌, rules, tests, arith}
+use Rattle.std.proofs.Common.{◌≡◌, ℕ, length, true, Result, Ok, sym, ap, ◌∙◌, rules, tests}
 use Rattle.zstory.specs.LoadedStory.{static_base}
 use Rattle.zquetzal.specs.declared.error.SaveError.{SaveError}
 use Rattle.zquetzal.specs.Saved.{Saved}

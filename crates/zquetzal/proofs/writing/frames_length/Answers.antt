@@ -1,4 +1,4 @@
-use Rattle.std.proofs.Common.{arith, sym, ap, ◌∙◌}
+use Rattle.std.proofs.Common.{arith}
 use Rattle.zquetzal.specs.View.{given_frame}
 use Rattle.zquetzal.proofs.Written.{frames_longer}
 use Rattle.zquetzal.proofs.writing.frames_length.Goals as goal
