@@ -266,10 +266,10 @@ up_to_enough (suc n) zero bytes p q =
 up_to_enough (suc n) (suc m) bytes p q =
     elim (or_error (frame_at bytes)) [
       | inl o ↦
-        let short = frame_shorter bytes o.0 o.1 in
-        front_of n bytes o.0 o.1
-        ∙ with_front o.0.0 (frames_up_to n o.0.1) (frames_up_to m o.0.1) (up_to_enough n m o.0.1 (omega (arith, p, short)) (omega (arith, q, short)))
-        ∙ sym (front_of m bytes o.0 o.1)
+          let short = frame_shorter bytes o.0 o.1 in
+          front_of n bytes o.0 o.1
+          ∙ with_front o.0.0 (frames_up_to n o.0.1) (frames_up_to m o.0.1) (up_to_enough n m o.0.1 (omega (arith, p, short)) (omega (arith, q, short)))
+          ∙ sym (front_of m bytes o.0 o.1)
       | inr o ↦ front_none (suc n) bytes o.0 o.1 ∙ sym (front_none (suc m) bytes o.0 o.1)
     ]
 

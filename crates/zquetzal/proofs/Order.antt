@@ -199,10 +199,10 @@ memory_left (c ∷ cs) d each are =
     elim (one_of c.id each.0) [
       | inl (inl e) ↦ absurd (no_header c cs (Once d) Absent Absent e are)
       | inl (inr e) ↦
-        let b = behind_memory c cs Absent (Once d) Absent Absent e are in
-        let o = once_more c.contents d (found UMEM cs) b.0 in
-        let rest = none_left cs each.1 (subst (λ (f : Found). AreFound cs Absent f Absent Absent) o.1 b.1) in
-        ap (λ (x : Chunk). x ∷ cs) (chunk_is c UMEM d e o.0) ∙ ap (pair (with_id UMEM d)) rest
+          let b = behind_memory c cs Absent (Once d) Absent Absent e are in
+          let o = once_more c.contents d (found UMEM cs) b.0 in
+          let rest = none_left cs each.1 (subst (λ (f : Found). AreFound cs Absent f Absent Absent) o.1 b.1) in
+          ap (λ (x : Chunk). x ∷ cs) (chunk_is c UMEM d e o.0) ∙ ap (pair (with_id UMEM d)) rest
       | inr (inl e) ↦ absurd (no_compressed c cs Absent (Once d) Absent e are)
       | inr (inr e) ↦ absurd (no_stacks c cs Absent (Once d) Absent e are)
     ]
@@ -215,10 +215,10 @@ stacks_left (c ∷ cs) d each are =
       | inl (inr e) ↦ absurd (no_memory c cs Absent Absent (Once d) e are)
       | inr (inl e) ↦ absurd (no_compressed c cs Absent Absent (Once d) e are)
       | inr (inr e) ↦
-        let b = behind_stacks c cs Absent Absent Absent (Once d) e are in
-        let o = once_more c.contents d (found STKS cs) b.0 in
-        let rest = none_left cs each.1 (subst (λ (f : Found). AreFound cs Absent Absent Absent f) o.1 b.1) in
-        ap (λ (x : Chunk). x ∷ cs) (chunk_is c STKS d e o.0) ∙ ap (pair (with_id STKS d)) rest
+          let b = behind_stacks c cs Absent Absent Absent (Once d) e are in
+          let o = once_more c.contents d (found STKS cs) b.0 in
+          let rest = none_left cs each.1 (subst (λ (f : Found). AreFound cs Absent Absent Absent f) o.1 b.1) in
+          ap (λ (x : Chunk). x ∷ cs) (chunk_is c STKS d e o.0) ∙ ap (pair (with_id STKS d)) rest
     ]
 
 both_left : (cs : List Chunk) (m s : List ℕ) → AllByRecursion (λ (c : Chunk). is_known c.id ≡ true) cs → AreFound cs Absent (Once m) Absent (Once s) → (cs ≡ with_id UMEM m ∷ with_id STKS s ∷ []) ⊎ (cs ≡ with_id STKS s ∷ with_id UMEM m ∷ [])
@@ -227,16 +227,16 @@ both_left (c ∷ cs) m s each are =
     elim (one_of c.id each.0) [
       | inl (inl e) ↦ absurd (no_header c cs (Once m) Absent (Once s) e are)
       | inl (inr e) ↦
-        let b = behind_memory c cs Absent (Once m) Absent (Once s) e are in
-        let o = once_more c.contents m (found UMEM cs) b.0 in
-        let rest = stacks_left cs s each.1 (subst (λ (f : Found). AreFound cs Absent f Absent (Once s)) o.1 b.1) in
-        inl (ap (λ (x : Chunk). x ∷ cs) (chunk_is c UMEM m e o.0) ∙ ap (pair (with_id UMEM m)) rest)
+          let b = behind_memory c cs Absent (Once m) Absent (Once s) e are in
+          let o = once_more c.contents m (found UMEM cs) b.0 in
+          let rest = stacks_left cs s each.1 (subst (λ (f : Found). AreFound cs Absent f Absent (Once s)) o.1 b.1) in
+          inl (ap (λ (x : Chunk). x ∷ cs) (chunk_is c UMEM m e o.0) ∙ ap (pair (with_id UMEM m)) rest)
       | inr (inl e) ↦ absurd (no_compressed c cs Absent (Once m) (Once s) e are)
       | inr (inr e) ↦
-        let b = behind_stacks c cs Absent (Once m) Absent (Once s) e are in
-        let o = once_more c.contents s (found STKS cs) b.0 in
-        let rest = memory_left cs m each.1 (subst (λ (f : Found). AreFound cs Absent (Once m) Absent f) o.1 b.1) in
-        inr (ap (λ (x : Chunk). x ∷ cs) (chunk_is c STKS s e o.0) ∙ ap (pair (with_id STKS s)) rest)
+          let b = behind_stacks c cs Absent (Once m) Absent (Once s) e are in
+          let o = once_more c.contents s (found STKS cs) b.0 in
+          let rest = memory_left cs m each.1 (subst (λ (f : Found). AreFound cs Absent (Once m) Absent f) o.1 b.1) in
+          inr (ap (λ (x : Chunk). x ∷ cs) (chunk_is c STKS s e o.0) ∙ ap (pair (with_id STKS s)) rest)
     ]
 
 with_front : (c : Chunk) (cs a b : List Chunk) → (cs ≡ a) ⊎ (cs ≡ b) → (c ∷ cs ≡ c ∷ a) ⊎ (c ∷ cs ≡ c ∷ b)
@@ -274,8 +274,8 @@ data_found id P [] d each e = absurd cc
 data_found id P (c ∷ cs) d each e =
     elim (cases_Bool (c.id == id)) [
       | inl is_so ↦
-        let same = eqb-true c.id id is_so in
-        let o = once_more c.contents d (found id cs) (sym (counted id c cs same) ∙ e) in
-        subst P (chunk_is c id d same o.0) each.0
+          let same = eqb-true c.id id is_so in
+          let o = once_more c.contents d (found id cs) (sym (counted id c cs same) ∙ e) in
+          subst P (chunk_is c id d same o.0) each.0
       | inr is_not ↦ data_found id P cs d each.1 (let f : found id (c ∷ cs) ≡ found id cs = rw is_not refl in sym f ∙ e)
     ]

@@ -56,9 +56,9 @@ header_takes (a ∷ b ∷ c ∷ d ∷ e ∷ f ∷ g ∷ h ∷ i ∷ j ∷ k ∷ 
     let sum : big_bytes 2 (big_number 2 (i ∷ j ∷ k ∷ l ∷ m ∷ [])) ≡ i ∷ j ∷ [] = taken_2 (i ∷ j ∷ k ∷ l ∷ m ∷ []) (omega arith) (IsBytes-drop 8 (a ∷ b ∷ rest) fits) in
     let place : big_bytes 3 (big_number 3 (k ∷ l ∷ m ∷ [])) ≡ k ∷ l ∷ m ∷ [] = taken_3 (k ∷ l ∷ m ∷ []) (omega arith) (IsBytes-drop 10 (a ∷ b ∷ rest) fits) in
     sym (
-      ap (λ (t : List ℕ). t ++ serial ++ big_bytes 2 (big_number 2 (i ∷ j ∷ k ∷ l ∷ m ∷ [])) ++ big_bytes 3 (big_number 3 (k ∷ l ∷ m ∷ []))) first
-      ∙ ap (λ (t : List ℕ). (a ∷ b ∷ []) ++ serial ++ t ++ big_bytes 3 (big_number 3 (k ∷ l ∷ m ∷ []))) sum
-      ∙ ap (λ (t : List ℕ). (a ∷ b ∷ []) ++ serial ++ (i ∷ j ∷ []) ++ t) place
+    ap (λ (t : List ℕ). t ++ serial ++ big_bytes 2 (big_number 2 (i ∷ j ∷ k ∷ l ∷ m ∷ [])) ++ big_bytes 3 (big_number 3 (k ∷ l ∷ m ∷ []))) first
+    ∙ ap (λ (t : List ℕ). (a ∷ b ∷ []) ++ serial ++ t ++ big_bytes 3 (big_number 3 (k ∷ l ∷ m ∷ []))) sum
+    ∙ ap (λ (t : List ℕ). (a ∷ b ∷ []) ++ serial ++ (i ∷ j ∷ []) ++ t) place
     )
 header_takes h long fits = absurd (omega (arith, long))
 
@@ -303,8 +303,10 @@ written story s sound saved =
       short = omega (arith, text_long o s is.serial, base, stacks, saved.memory);
       each = (
         record { id = omega arith; size = omega (arith, head); header = λ e. head },
-        (record { id = omega arith; size = omega (arith, base, saved.memory); header = λ e. absurd (omega (arith, e)) },
-        (record { id = omega arith; size = omega (arith, stacks); header = λ e. absurd (omega (arith, e)) }, tt)),
+        (
+          record { id = omega arith; size = omega (arith, base, saved.memory); header = λ e. absurd (omega (arith, e)) },
+          (record { id = omega arith; size = omega (arith, stacks); header = λ e. absurd (omega (arith, e)) }, tt),
+        ),
       );
       parts = inl refl;
       is_origin = is;

@@ -137,13 +137,16 @@ words_of (high ∷ low ∷ rest) = (256 * high + low) ∷ words_of rest
 unfoldable pub framed : List ℕ → ℕ → ℕ → ℕ → List ℕ → Result (Frame × List ℕ) SaveError
 framed head supplied locals stack body = do
   _ ← need (nat_le (2 * locals + 2 * stack) (length body)) errors.Frames
-  Ok (record {
-    return_place = big_number 3 head;
-    result = slice_index head 4;
-    supplied = supplied;
-    locals = words_of (take (2 * locals) body);
-    stack = words_of (take (2 * stack) (drop (2 * locals) body))
-  }, drop (2 * stack) (drop (2 * locals) body))
+  Ok (
+    record {
+      return_place = big_number 3 head;
+      result = slice_index head 4;
+      supplied = supplied;
+      locals = words_of (take (2 * locals) body);
+      stack = words_of (take (2 * stack) (drop (2 * locals) body));
+    },
+    drop (2 * stack) (drop (2 * locals) body),
+  )
 
 -- the frame at the front. Its flags are the count of its locals, and no more (own)
 unfoldable pub frame_at : List ℕ → Result (Frame × List ℕ) SaveError

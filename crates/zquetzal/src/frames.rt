@@ -5,7 +5,7 @@ ghost use Rattle.zquetzal.specs.Reading.{are_frames, frames_of, frames_within, i
 ghost use Rattle.zquetzal.specs.View.{Gives, count_within, count_of, frames_in, frames_left, seen_frame};
 
 use crate::error::SaveError;
-use crate::frame::{frame_of, word_count, SavedFrame};
+use crate::frame::{SavedFrame, frame_of, word_count};
 use crate::limits::MOST_FRAMES;
 
 /// The frames of a save, the oldest first. Contracts see what is left of them.

@@ -15,7 +15,7 @@ mod view;
 mod writing;
 
 pub use error::SaveError;
-pub use frame::{word, word_count, SavedFrame};
+pub use frame::{SavedFrame, word, word_count};
 pub use frames::Frames;
 pub use laws::saves_are_read;
 pub use limits::MOST_FRAMES;

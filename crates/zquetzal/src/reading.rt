@@ -10,7 +10,7 @@ ghost use Rattle.zquetzal.specs.View.{Gives, seen_parts};
 use crate::error::SaveError;
 use crate::frames::count_frames;
 use crate::limits::{FORM, FORM_HEAD, IFZS};
-use crate::survey::{surveyed, Parts};
+use crate::survey::{Parts, surveyed};
 use crate::view::SaveView;
 use byteorder::{BigEndian, ByteOrder};
 use zstory::Story;
@@ -76,12 +76,7 @@ fn view_of<'a>(story: &Story, bytes: &'a [u8]) -> Result<SaveView<'a>, SaveError
     }
     let frame_count = count_frames(parts.stacks)?;
     let place = place_of(parts.header);
-    Ok(SaveView::new(
-        parts.memory,
-        place,
-        parts.stacks,
-        frame_count,
-    ))
+    Ok(SaveView::new(parts.memory, place, parts.stacks, frame_count))
 }
 
 /// Reads a save of a story. It goes over the bytes once and takes no memory.

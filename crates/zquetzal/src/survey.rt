@@ -6,7 +6,7 @@ ghost use Rattle.zquetzal.specs.Grammar.{is_known};
 ghost use Rattle.zquetzal.specs.Survey.{survey_of, survey_at, noted, first_then, chosen_in};
 ghost use Rattle.zquetzal.specs.View.{Gives, seen_chunk, seen_found, seen_survey, seen_parts};
 
-use crate::chunk::{chunk_of, Chunk};
+use crate::chunk::{Chunk, chunk_of};
 use crate::error::SaveError;
 use crate::limits::{CMEM, IFHD, STKS, UMEM};
 

@@ -7,7 +7,9 @@ ghost use Rattle.zquetzal.specs.Saved.{IsFrame};
 ghost use Rattle.zquetzal.specs.Grammar.{chunk_bytes, header_bytes, words_bytes, frame_head, frame_bytes, frames_bytes, stacks_chunk, save_text};
 ghost use Rattle.zquetzal.specs.View.{given_frame};
 
-use crate::limits::{CHUNK_HEAD, FORM, FORM_HEAD, FRAME_HEAD, HEADER_LENGTH, IFHD, IFZS, STKS, UMEM};
+use crate::limits::{
+    CHUNK_HEAD, FORM, FORM_HEAD, FRAME_HEAD, HEADER_LENGTH, IFHD, IFZS, STKS, UMEM,
+};
 use crate::origin::Origin;
 use crate::parts::{FrameParts, SaveParts};
 use std::alloc::{AllocError, Global};
@@ -168,13 +170,7 @@ fn body_length(memory: usize, stacks: usize) -> usize
 }
 
 /// Writes all of a save, for which there is room.
-fn put_text<S: SaveParts>(
-    out: &mut Vec<u8>,
-    parts: &S,
-    origin: &Origin,
-    body: usize,
-    stacks: usize,
-)
+fn put_text<S: SaveParts>(out: &mut Vec<u8>, parts: &S, origin: &Origin, body: usize, stacks: usize)
     requires origin { origin.now ≡ S.origin parts.now }
     requires room { vec_len out.old + length (save_text (S.origin parts.now) (S.saved parts.now)) ≤ vec_capacity out.old }
     requires stacks { stacks ≡ length (frames_bytes (S.saved parts.now).frames) }

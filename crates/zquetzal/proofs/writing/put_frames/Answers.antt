@@ -21,10 +21,10 @@ loop-number-preserved g c =
     let long = length-frame_bytes f in
     record {
       items = c.put_frame.ensures.items
-      ∙ ap (λ (t : List ℕ). t ++ frame_bytes f) c.loop-number.invariant.items
-      ∙ append_assoc old (frames_bytes (take k fs)) (frame_bytes f)
-      ∙ ap (λ (t : List ℕ). old ++ t) (sym (frames_more fs k f c.frame.ensures.value))
-      ∙ ap (λ (n : ℕ). old ++ frames_bytes (take n fs)) next;
+          ∙ ap (λ (t : List ℕ). t ++ frame_bytes f) c.loop-number.invariant.items
+          ∙ append_assoc old (frames_bytes (take k fs)) (frame_bytes f)
+          ∙ ap (λ (t : List ℕ). old ++ t) (sym (frames_more fs k f c.frame.ensures.value))
+          ∙ ap (λ (n : ℕ). old ++ frames_bytes (take n fs)) next;
       len = omega (arith, longer, long, c.put_frame.ensures.len, c.loop-number.invariant.len);
       room = omega (arith, c.put_frame.ensures.room, c.loop-number.invariant.room);
     }

@@ -12,7 +12,7 @@ returns g c =
     let head : List ℕ = big_bytes 4 STKS ++ big_bytes 4 c.args.size in
     record {
       items = c.put_frames.ensures.items
-      ∙ ap (λ (t : List ℕ). t ++ frames_bytes s.frames) c.put_head.ensures.items
-      ∙ append_assoc old head (frames_bytes s.frames)
-      ∙ ap (λ (t : List ℕ). old ++ t) (sym (stacks_text s c.args.size c.requires.size))
+          ∙ ap (λ (t : List ℕ). t ++ frames_bytes s.frames) c.put_head.ensures.items
+          ∙ append_assoc old head (frames_bytes s.frames)
+          ∙ ap (λ (t : List ℕ). old ++ t) (sym (stacks_text s c.args.size c.requires.size));
     }
