@@ -1,0 +1,10 @@
+mod Order
+mod Again
+mod Takes
+pub mod Numbers
+pub mod Words
+pub mod Steps
+pub mod Loops
+pub mod Saves
+mod Written
+mod Worked

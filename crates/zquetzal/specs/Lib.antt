@@ -1,0 +1,7 @@
+pub mod Saved
+pub mod Grammar
+pub mod Steps
+pub mod Reading
+pub mod Refusal
+pub mod Survey
+pub mod View
