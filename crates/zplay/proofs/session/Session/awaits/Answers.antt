@@ -1,4 +1,4 @@
-use Rattle.std.proofs.Common.{◌≡◌, map, ap, ◌∙◌}
+use Rattle.std.proofs.Common.{◌≡◌, map, ap}
 use Rattle.zboard.specs.Head.{head_of}
 use Rattle.zboard.specs.Play.{IsPlayable}
 use Rattle.zboard.specs.View.{position_of}
