@@ -110,6 +110,7 @@ WORDS = [
     ("too many words to check", ["check", "a", "b", "c"], Answer(2, b"", help_text("too_many_to_check.txt"))),
     ("too many words to play", ["play", "a", "b", "c"], Answer(2, b"", help_text("too_many_to_play.txt"))),
     ("a budget that is no number", ["play", "--budget", "x", "story"], Answer(2, b"", help_text("no_number.txt"))),
+    ("a seed that is no number", ["play", "--seed", "x", "story"], Answer(2, b"", help_text("no_number.txt").replace(b"--budget", b"--seed"))),
     ("a budget that is too large", ["play", "--budget", "4294967296", "story"], Answer(2, b"", help_text("too_large.txt"))),
     ("a budget of no digit", ["play", "--budget=", "story"], Answer(2, b"", help_text("empty_budget.txt"))),
     ("a budget without a number", ["play", "--budget"], Answer(2, b"", help_text("no_budget.txt"))),
