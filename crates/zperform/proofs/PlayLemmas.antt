@@ -13,7 +13,8 @@ use Rattle.zplayer.specs.declared.end.Options.{Options}
 use Rattle.zplayer.specs.declared.end.PlayError.{PlayError}
 use Rattle.zplayer.specs.declared.end.PlayError.TheVariants as errors
 use Rattle.zplayer.specs.Playing.{ComesTo as PlayComes}
-use Rattle.zplayer.specs.World.{Coming, World}
+use Rattle.zplayer.specs.Outside.{words_from}
+use Rattle.zplayer.specs.World.{Coming, World, world}
 use Rattle.zperform.specs.declared.outcome.Failure.TheVariants.{File, Read, Write, Memory}
 use Rattle.zperform.specs.declared.outcome.Problem.{Problem}
 use Rattle.zperform.specs.declared.outcome.Problem.TheVariants.{Refused, Unreadable, BreaksStory, BreaksInstruction, Unlisted, Failed}
@@ -24,6 +25,10 @@ use Rattle.zperform.specs.Report.{outcome_of, problem_of_load, problem_of_play}
 use Rattle.zperform.specs.Contents.{HasBytes}
 use Rattle.zperform.proofs.AcceptLemmas.{part_bytes, sound_bytes}
 use Rattle.zperform.proofs.StoryFiles.{holds_whole, reads, refused_whole}
+
+-- what holds with the words of a generator holds with those of one in the same state
+pub with_words : (P : World → Type 0) (input : Option (List ℕ)) (s t : List ℕ) → s ≡ t → P (world input (Some (words_from s))) → P (world input (Some (words_from t)))
+with_words P input s t is h = subst (λ (x : List ℕ). P (world input (Some (words_from x)))) is h
 
 -- what the part that was read comes to, the file comes to
 module _ (known : Option (List ℕ)) (taken : List ℕ) (options : Options) (given : World) (before now : Option (List ℕ)) (part : (file : List ℕ) → known ≡ Some file → taken ≡ take 131073 file) where
