@@ -209,10 +209,10 @@ said = (
 )
 
 -- playing never comes to an acceptance, nor checking to the end of a play or to a failed read
-never : (story certificate before now : Option (List ℕ)) (options : Options) (given : World) →
-    (ComesTo story options given before now Accepted → ⊥) × (PlayComesTo story certificate options given before now Accepted → ⊥)
+never : (story certificate before now : Option (List ℕ)) (options : Options) (outside : World) →
+    (ComesTo story options outside before now Accepted → ⊥) × (PlayComesTo story certificate options outside before now Accepted → ⊥)
     × (CheckComesTo story certificate before now (Played ends.Quit) → ⊥) × (CheckComesTo story certificate before now (Stopped (Failed Read)) → ⊥)
-never story certificate before now options given = (λ no. no, λ no. no, λ no. no, λ no. no.0)
+never story certificate before now options outside = (λ no. no, λ no. no, λ no. no, λ no. no.0)
 
 -- input is read for a play alone
 input_read : (is_quiet (ListStory (codes "hello.z3")) ≡ true) × (is_quiet (Check (codes "hello.z3") (codes "hello.cert")) ≡ true) × (is_quiet (Play (codes "hello.z3") None 1 100 false) ≡ false)
