@@ -81,6 +81,12 @@ pub enum Operation {
     Random,
     /// A line of the player is stored in the buffer at the first value, and what is said of its words in that at the second.
     ReadLine,
+    /// The game is saved, and the branch asks whether the save was kept.
+    Save,
+    /// Play goes on from a save; the branch asks whether there is one, and is done where there is none.
+    Restore,
+    /// The story begins anew.
+    Restart,
 }
 
 impl Opcode {

@@ -16,6 +16,7 @@ use Rattle.zcode.proofs.Ranges.{InRange}
 use Rattle.zfault.specs.declared.fault.Fault.{Fault}
 use Rattle.zfault.specs.declared.fault.Fault.TheVariants.{AbsentLocal, BadVariable, StackUnderflow}
 use Rattle.zstory.specs.Bytes.{AreBytes, byte_at, word_at}
+use Rattle.zstory.specs.Header.{object_table}
 use Rattle.zstory.specs.LoadedStory.{LoadedStory}
 use Rattle.zstory.specs.Objects.{object_place}
 use Rattle.zstate.specs.InTurn.{◌>>=◌, in_turn}
@@ -55,6 +56,16 @@ words_pushed x words small are = cons_below 65536 x words small are
 
 pub no_words : AreWords []
 no_words k = omega arith
+
+pub bytes_set : (memory : List ℕ) (at x : ℕ) → x < 256 → AreBytes memory → AreBytes (slice_set memory at x)
+bytes_set memory at x small are = set_below 256 memory at x small are
+
+-- the address of the table of objects stays, where another byte is written
+pub table_beside : (memory : List ℕ) (at x : ℕ) → 12 ≤ at → object_table (slice_set memory at x) ≡ object_table memory
+table_beside memory at x behind =
+    let high : byte_at (slice_set memory at x) 10 ≡ byte_at memory 10 = get_or-set_other memory at 10 x 0 (omega (arith, behind)) in
+    let low : byte_at (slice_set memory at x) 11 ≡ byte_at memory 11 = get_or-set_other memory at 11 x 0 (omega (arith, behind)) in
+    omega (arith, high, low)
 
 pub word_written : (memory : List ℕ) (at x : ℕ) → x < 65536 → AreBytes memory → AreBytes (write_word memory at x)
 word_written memory at x small are = set_below 256 (slice_set memory at (x / 256)) (at + 1) (x % 256) (omega arith) (set_below 256 memory at (x / 256) (omega (arith, small)) are)

@@ -35,7 +35,7 @@ use Rattle.zstate.specs.declared.mode.RandomMode.TheVariants.{Words, Counting}
 use Rattle.zstate.specs.InTurn.{in_turn}
 use Rattle.zstate.specs.State.{AreWords, Frame, State, Setting, has_head, usual_limit, scope_all, scope_only, first_frame, opening, IsFrame, IsFirst, AreFrames, IsCount, IsState, with_stack, with_locals, write_word, exists, has_room, put, put_named, put_in_place, read_in_place, popped, at_place, give, global, pop, found, read_named, read_variable, read_operand, read_operands}
 use Rattle.zstate.specs.Step.{Called, on, back, words_from, laid_over, calling, returning, proceeds, giving, rewriting, changed, assigning, testing, printing, quitting, showing, following, decoded, fetch, printed, print_at, effect_of, way, course, admits, pauses, settle, plan, advance, act, items_of, step}
-use Rattle.zstate.specs.Run.{stop_of, until, is_answered, need_in, awaited, run, Goes, Stands, IsLonger, IsDeeper}
+use Rattle.zstate.specs.Run.{stop_of, until, is_answered, need_in, awaited, Given, run, Goes, Stands, IsLonger, IsDeeper}
 use Rattle.zstate.proofs.Words.{no_words, words_pushed}
 use Rattle.zstate.specs.Gives.{Gives, IsNear}
 use Rattle.zstate.specs.declared.head.Head.{Head}
@@ -526,7 +526,7 @@ runs p =
     (rw a refl, rw (a, b, c) refl, rw (a, b, c, d) refl, rw (a, b, c, d) refl, rw no_step.0 refl)
 
 -- an event that nothing needs isn't used
-event_unused : run setting (events.Random 7 ∷ []) 5 (at 78) ≡ record { stop = stops.Fault IllegalOpcode (pos 78); state = at 78; items = [] }
+event_unused : run setting (Given (events.Random 7) ∷ []) 5 (at 78) ≡ record { stop = stops.Fault IllegalOpcode (pos 78); state = at 78; items = [] }
 unfolding run until at
 event_unused = rw no_step.0 refl
 

@@ -1,6 +1,7 @@
 pub mod InTurn
 pub mod State
 pub mod Step
+pub mod Saves
 pub mod Run
 pub mod Gives
 pub mod Packed
