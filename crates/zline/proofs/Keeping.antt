@@ -50,18 +50,18 @@ bytes_size place bytes memory fits =
     let rest = length-drop (place + length bytes) memory in
     omega (arith, all, behind, rest, front, fits)
 
-before_bytes : (place : ℕ) (bytes memory : List ℕ) → place + length bytes ≤ length memory → (q : ℕ) → q < place → byte_at (with_bytes place bytes memory) q ≡ byte_at memory q
+pub before_bytes : (place : ℕ) (bytes memory : List ℕ) → place + length bytes ≤ length memory → (q : ℕ) → q < place → byte_at (with_bytes place bytes memory) q ≡ byte_at memory q
 before_bytes place bytes memory fits q low =
     let front : length (take place memory) ≡ place = length-take-le place memory (omega (arith, fits)) in
     get_or_append_left (take place memory) (bytes ++ drop (place + length bytes) memory) 0 q (omega (arith, front, low)) ∙ get_or-take place memory q 0 low
 
 -- a byte from the place on is one of what follows the front
-from_bytes : (place : ℕ) (bytes memory : List ℕ) → place + length bytes ≤ length memory → (q : ℕ) → place ≤ q → byte_at (with_bytes place bytes memory) q ≡ byte_at (bytes ++ drop (place + length bytes) memory) (q - place)
+pub from_bytes : (place : ℕ) (bytes memory : List ℕ) → place + length bytes ≤ length memory → (q : ℕ) → place ≤ q → byte_at (with_bytes place bytes memory) q ≡ byte_at (bytes ++ drop (place + length bytes) memory) (q - place)
 from_bytes place bytes memory fits q high =
     let front : length (take place memory) ≡ place = length-take-le place memory (omega (arith, fits)) in
     get_or-append_right (take place memory) (bytes ++ drop (place + length bytes) memory) place q 0 front high
 
-behind_bytes : (place : ℕ) (bytes memory : List ℕ) → place + length bytes ≤ length memory → (q : ℕ) → place + length bytes ≤ q → byte_at (with_bytes place bytes memory) q ≡ byte_at memory q
+pub behind_bytes : (place : ℕ) (bytes memory : List ℕ) → place + length bytes ≤ length memory → (q : ℕ) → place + length bytes ≤ q → byte_at (with_bytes place bytes memory) q ≡ byte_at memory q
 behind_bytes place bytes memory fits q high =
     let there : place + length bytes + (q - place - length bytes) ≡ q = omega (arith, high) in
     from_bytes place bytes memory fits q (omega (arith, high))

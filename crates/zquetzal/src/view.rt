@@ -8,6 +8,7 @@ use crate::frames::Frames;
 use std::marker::Model;
 
 /// What a save tells. It borrows the bytes of the save, and takes no memory.
+#[derive(Drop)]
 pub struct SaveView<'a> {
     memory: &'a [u8],
     place: u32,

@@ -3,10 +3,12 @@ pub mod Effects
 mod InTurn
 pub mod Joins
 pub mod Keeps
+mod Piles
 pub mod Locals
 pub mod Opens
 mod Packing
 mod Reading
+pub mod Saves
 mod Stacks
 pub mod Steps
 mod Words

@@ -3,7 +3,7 @@ use Rattle.std.proofs.Common.{◌≡◌, ℕ, zero, suc, ◌+◌, ◌-◌, ◌<�
 use Rattle.std.specs.Prelude.{reverse, slice_index}
 use Rattle.std.proofs.lemmas.List.{append_assoc, drop_all, drop_at, get_or-drop, get_or-reverse, length-append, length-drop, length-reverse, length-take-le, length_push, reverse-append, set-append_left, set-append_right, take-append-drop, take-append-le, take-take, take_all, take_at, take_more, length-set}
 use Rattle.std.proofs.lemmas.Option.{get_or_from_slice_get}
-use Rattle.std.proofs.Math.Seq.{take-append-add}
+use Rattle.std.proofs.Math.Seq.{take-append-add, take-length}
 use Rattle.zstate.specs.declared.head.Head.{Head}
 use Rattle.zstate.specs.State.{Frame}
 use Rattle.zstate.specs.Packed.{ArePacked, AreBelow, Chain, Fits, below, chain_of, frame_of, frames_of, with_top}
@@ -249,6 +249,24 @@ module _ (h : Head) (items : List Head) (xs : List ℕ) (packed : ArePacked h (r
     enter_packed =
         subst (λ (g : Head). ArePacked g (reverse more) ws) (sym after) (subst (λ (hs : List Head). ArePacked f hs ws) (sym more_heads) (subst (λ (zs : List ℕ). ArePacked f (h ∷ reverse items) zs) (sym is)
         (entered_packed h (reverse items) (take (length xs - k) xs) ls cut_packed f base count 0)))
+
+  -- ---- a frame is laid above the newest, from whose stack nothing is taken
+
+  module _ (d f : Head) (after : d ≡ f) (ls ws : List ℕ) (more : List Head) (base : f.base ≡ length xs + 1) (count : f.count ≡ length ls) (is : ws ≡ (xs ++ 0 ∷ []) ++ ls) (grows : more ≡ items ++ h ∷ []) where
+    all : take (length xs - 0) xs ≡ xs
+    all = ap (λ (n : ℕ). take n xs) (omega arith) ∙ take-length xs
+
+    base_all : f.base ≡ length (take (length xs - 0) xs) + 1
+    base_all = base ∙ ap (λ (ys : List ℕ). length ys + 1) (sym all)
+
+    words_all : ws ≡ (take (length xs - 0) xs ++ 0 ∷ []) ++ ls
+    words_all = is ∙ ap (λ (ys : List ℕ). (ys ++ 0 ∷ []) ++ ls) (sym all)
+
+    pub begin_is : chain_of d (reverse more) ws ≡ record { newest = record { return_place = f.return_place; result = f.result; supplied = f.supplied; locals = ls; stack = [] }; callers = v.newest ∷ v.callers }
+    begin_is = enter_is 0 (omega arith) d f after ls ws more base_all count words_all grows
+
+    pub begin_packed : ArePacked d (reverse more) ws
+    begin_packed = enter_packed 0 (omega arith) d f after ls ws more base_all count words_all grows
 
 -- ---- a thing in a list of heads
 

@@ -1,11 +1,12 @@
 -- Words stay words, and bytes bytes.
-use Rattle.std.proofs.Common.{◌≡◌, ℕ, zero, suc, ◌+◌, ◌-◌, ◌/◌, ◌%◌, ◌<◌, ◌≤◌, take, drop, slice_set, Option, Some, None, Bool, true, false, List, [], ◌∷◌, length, Ok, refl, ap, subst, ◌∙◌, arith, if◌then◌else◌, nat_lt, inl, inr}
+use Rattle.std.proofs.Common.{◌≡◌, ℕ, zero, suc, ◌+◌, ◌-◌, ◌/◌, ◌%◌, ◌<◌, ◌≤◌, take, drop, slice_set, Option, Some, None, Bool, true, false, List, [], ◌∷◌, ◌++◌, length, Ok, refl, ap, subst, ◌∙◌, arith, if◌then◌else◌, nat_lt, inl, inr}
 use Rattle.std.specs.Prelude.{◌==◌, slice_get, slice_index}
 use Rattle.std.specs.List.{AllByRecursion}
 use Rattle.std.proofs.lemmas.Bool.{cases_lt}
 use Rattle.std.proofs.lemmas.Bool.Decides.{eqb_tells}
-use Rattle.std.proofs.lemmas.List.{length-set, get_or-set_same, get_or-set_other, get_or_past}
+use Rattle.std.proofs.lemmas.List.{length-set, get_or-drop, get_or-set_same, get_or-set_other, get_or_past}
 use Rattle.std.proofs.lemmas.Option.{get_or_from_slice_get}
+use Rattle.zline.specs.Storing.{with_bytes}
 use Rattle.zobj.specs.declared.tree.Link.{Link}
 use Rattle.zobj.specs.Entries.{HasTable}
 use Rattle.zobj.specs.Tree.{link_byte, linked}
@@ -69,6 +70,17 @@ table_beside memory at x behind =
 
 pub word_written : (memory : List ℕ) (at x : ℕ) → x < 65536 → AreBytes memory → AreBytes (write_word memory at x)
 word_written memory at x small are = set_below 256 (slice_set memory at (x / 256)) (at + 1) (x % 256) (omega arith) (set_below 256 memory at (x / 256) (omega (arith, small)) are)
+
+append_below : (bound : ℕ) (xs ys : List ℕ) → Below bound xs → Below bound ys → Below bound (xs ++ ys)
+append_below bound [] ys a b = b
+append_below bound (x ∷ xs) ys a b = cons_below bound x (xs ++ ys) (a 0) (append_below bound xs ys (λ k. a (suc k)) b)
+
+drop_below : (bound n : ℕ) (xs : List ℕ) → Below bound xs → Below bound (drop n xs)
+drop_below bound n xs below k = let e = get_or-drop n xs k 0 in omega (arith, e, below (n + k))
+
+pub bytes_over : (place : ℕ) (bytes memory : List ℕ) → AreBytes memory → AreBytes bytes → AreBytes (with_bytes place bytes memory)
+bytes_over place bytes memory are more =
+    append_below 256 (take place memory) (bytes ++ drop (place + length bytes) memory) (take_below 256 place memory (omega arith) are) (append_below 256 bytes (drop (place + length bytes) memory) more (drop_below 256 (place + length bytes) memory are))
 
 -- the table of objects stays, where that is written behind the header
 pub table_written : (memory : List ℕ) (at x objects : ℕ) → 64 ≤ at → HasTable memory objects → HasTable (write_word memory at x) objects

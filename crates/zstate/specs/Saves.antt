@@ -7,6 +7,7 @@ use Rattle.zcode.specs.declared.operation.Operation.{Operation}
 use Rattle.zcode.specs.declared.operation.Operation.TheVariants.{Save}
 use Rattle.zcode.specs.Instruction.{Instruction}
 use Rattle.zcode.specs.Operation.{operation_of}
+use Rattle.zline.specs.Storing.{with_bytes}
 use Rattle.zquetzal.specs.declared.error.SaveError.{SaveError}
 use Rattle.zquetzal.specs.declared.error.SaveError.TheVariants as errors
 use Rattle.zquetzal.specs.Saved.{Frame as SavedFrame, IsSaved, Saved}
@@ -36,9 +37,9 @@ abbrev pub with_frames : List Frame → State → State
 with_frames [] s = s
 with_frames (f ∷ callers) s = record s { frame = f; callers = callers }
 
--- memory behind the header is the save's, and what it doesn't have the story's; the header is the story's, but for Flags 2 (Z 11.1)
+-- the loaded memory, over which lies that of the save from behind the header on, with the save's Flags 2 (Z 11.1)
 abbrev pub taken_memory : LoadedStory → List ℕ → List ℕ
-taken_memory story saved = slice_set (slice_set (take 64 story.memory ++ drop 64 saved ++ drop (static_base story) story.memory) 16 (byte_at saved 16)) 17 (byte_at saved 17)
+taken_memory story saved = slice_set (slice_set (with_bytes 64 (drop 64 saved) story.memory) 16 (byte_at saved 16)) 17 (byte_at saved 17)
 
 -- where the `save` stands from which play goes on
 abbrev pub save_place : Saved → ℤ

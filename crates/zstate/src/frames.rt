@@ -13,7 +13,16 @@ use std::marker::Model;
 use std::mem;
 
 /// The words for which a call takes room: at most 15 locals (Z 5.2), and one between it and its caller.
-const ROOM: usize = 16;
+pub(crate) const ROOM: usize = 16;
+
+/// The head of the frame that nothing called.
+const FIRST: Head = Head {
+    base: 0,
+    return_place: 0,
+    result: 0,
+    supplied: 0,
+    count: 0,
+};
 
 /// The frames, of which there is always one. Contracts see the newest apart from its callers, newest first.
 ///
@@ -22,9 +31,9 @@ const ROOM: usize = 16;
 pub(crate) struct Frames {
     /// The locals and the stack of each frame, the oldest first. A word lies between two frames, in the place of which the
     /// result of the newer one can be pushed.
-    words: Vec<u16>,
-    newest: Head,
-    callers: Vec<Head>,
+    pub(crate) words: Vec<u16>,
+    pub(crate) newest: Head,
+    pub(crate) callers: Vec<Head>,
 }
 
 impl Model for Frames {
@@ -43,18 +52,20 @@ impl Frames {
     pub(crate) fn first(alloc: Global) -> Frames
         ensures { result ≡ record { newest = first_frame; callers = [] } }
     {
-        let newest = Head {
-            base: 0,
-            return_place: 0,
-            result: 0,
-            supplied: 0,
-            count: 0,
-        };
         Frames {
             words: Vec::new(alloc),
-            newest,
+            newest: FIRST,
             callers: Vec::new(alloc),
         }
+    }
+
+    /// The frame that a story opens with is the only one again.
+    pub(crate) fn reset(&mut self)
+        ensures { self.new ≡ record { newest = first_frame; callers = [] } }
+    {
+        self.words.clear();
+        self.callers.clear();
+        self.newest = FIRST;
     }
 
     /// The newest frame.

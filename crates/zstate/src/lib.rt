@@ -8,14 +8,16 @@ mod frames;
 mod halt;
 mod head;
 mod laws;
+mod laying;
 mod mode;
 mod objects;
+mod saving;
 mod state;
 mod waiting;
 
 pub use calling::{has_head, local_at};
 pub use frame::Frame;
 pub use halt::{Halt, Stop};
-pub use laws::{runs_join, steps_keep_states};
+pub use laws::{runs_join, saves_are_states, steps_keep_states};
 pub use mode::RandomMode;
 pub use state::{State, Values};

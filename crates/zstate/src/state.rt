@@ -24,8 +24,8 @@ use zstory::Story;
 #[derive(Drop)]
 pub struct State {
     pub(crate) memory: Vec<u8>,
-    frames: Frames,
-    place: i32,
+    pub(crate) frames: Frames,
+    pub(crate) place: i32,
     pub(crate) random: RandomMode,
     pub(crate) prompted: bool,
     pub(crate) waiting: Option<Event>,
