@@ -2,6 +2,7 @@ pub mod Calls
 pub mod Effects
 mod InTurn
 pub mod Joins
+mod Held
 pub mod Keeps
 mod Piles
 pub mod Locals

@@ -1,6 +1,6 @@
 //! The frames of the routines that run, packed in one list of words.
 
-ghost use Rattle.std.specs.Prelude.{◌≡◌, ◌<◌, ◌≤◌, ◌+◌, ◌++◌, ◌∷◌, [], List, true, drop, length, slice_index, slice_set, MatchOption, OnOk, OnErr, vec_len, vec_capacity};
+ghost use Rattle.std.specs.Prelude.{◌≡◌, ◌<◌, ◌≤◌, ◌+◌, ◌++◌, ◌∷◌, [], List, Some, true, drop, length, reverse, slice_get, slice_index, slice_index_or, slice_set, MatchOption, OnOk, OnErr, vec_len, vec_capacity};
 ghost use Rattle.zstate.specs.State.{Frame as FrameValue, first_frame, has_head};
 ghost use Rattle.zstate.specs.Step.{initial, laid_over};
 ghost use Rattle.zstate.specs.Packed.{frame_of, with_top};
@@ -96,6 +96,22 @@ impl Frames {
                 Some(lent(*head, words))
             }
             None => None,
+        }
+    }
+
+    /// A frame by its number from the oldest, which is 0.
+    pub(crate) fn frame(&self, number: usize) -> Frame<'_>
+        requires { number ≤ length self.now.callers }
+        ensures { slice_get (reverse (self.now.newest ∷ self.now.callers)) number ≡ Some result }
+    {
+        match self.callers.get(number) {
+            Some(head) => {
+                let above = head_above(self.callers.as_slice(), self.newest, number);
+                let (below, _) = self.words.split_at(above.base - 1);
+                let (_, words) = below.split_at(head.base);
+                lent(*head, words)
+            }
+            None => self.newest(),
         }
     }
 
@@ -241,6 +257,17 @@ impl Frames {
         self.words.truncate(self.newest.base - 1);
         self.words.push_reserved(word);
         self.newest = caller;
+    }
+}
+
+/// The head of the frame above a caller.
+fn head_above(callers: &[Head], newest: Head, number: usize) -> Head
+    requires { number < length callers.now }
+    ensures { result ≡ slice_index_or callers.now (number + 1) newest }
+{
+    match callers.get(number + 1) {
+        Some(head) => *head,
+        None => newest,
     }
 }
 

@@ -1,6 +1,6 @@
 //! The state of a machine.
 
-ghost use Rattle.std.specs.Prelude.{◌≡◌, ◌≤◌, ◌<◌, ◌+◌, ◌*◌, ◌-◌, ◌^◌, ◌==◌, ◌+ℤ◌, ◌≤ℤ◌, ◌∷◌, Some, List, drop, length, map, slice_get, slice_index, pos, negsuc, true, [], MatchOption, IfOk, OnOk, OnErr, IsOk, is_some};
+ghost use Rattle.std.specs.Prelude.{◌≡◌, ◌≤◌, ◌<◌, ◌+◌, ◌*◌, ◌-◌, ◌^◌, ◌==◌, ◌+ℤ◌, ◌≤ℤ◌, ◌∷◌, Some, List, drop, length, map, reverse, slice_get, slice_index, pos, negsuc, true, [], MatchOption, IfOk, OnOk, OnErr, IsOk, is_some};
 ghost use Rattle.zstory.specs.LoadedStory.{globals};
 ghost use Rattle.zstory.specs.Bytes.{word_at};
 ghost use Rattle.zstate.specs.State.{IsState, State as StateValue, usual_limit, has_head, opening, popped, at_place, give, global, read_named, read_variable, read_operand, read_operands, found, pop, Frame as FrameValue, exists, put, put_named, put_in_place, read_in_place, with_memory, write_word};
@@ -100,6 +100,14 @@ impl State {
         ensures { MatchOption result (self.now.callers ≡ []) (λ g. (gs : List FrameValue) × (self.now.callers ≡ g ∷ gs)) }
     {
         self.frames.caller()
+    }
+
+    /// A frame by its number from the oldest, which is 0.
+    pub(crate) fn frame_from(&self, number: usize) -> Frame<'_>
+        requires { number ≤ length self.now.callers }
+        ensures { slice_get (reverse (self.now.frame ∷ self.now.callers)) number ≡ Some result }
+    {
+        self.frames.frame(number)
     }
 
     /// How many frames stand below the newest.
