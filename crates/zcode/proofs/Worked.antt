@@ -2,7 +2,7 @@
 use Rattle.std.proofs.Common.{◌≡◌, ℕ, ◌+◌, ◌<◌, zero, suc, Bool, true, false, [], ◌∷◌, length, Some, None, Ok, Err, pos, negsuc, refl, arith, lit<, lit≤}
 use Rattle.zstory.specs.Bytes.{byte_at}
 use Rattle.zcode.specs.declared.opcode.Opcode.{Opcode}
-use Rattle.zcode.specs.declared.opcode.Opcode.TheVariants.{Je, IncChk, Dec, Or, Mul, Mod, Jz, GetChild, Jump, Not, Ret, Rtrue, Rfalse, RetPopped, Print, PrintRet, Quit, NewLine, Verify, Call, Storew, Sread, Random, Save, Load, Push, Pull, Pop}
+use Rattle.zcode.specs.declared.opcode.Opcode.TheVariants.{Restore, Restart, Je, IncChk, Dec, Or, Mul, Mod, Jz, GetChild, Jump, Not, Ret, Rtrue, Rfalse, RetPopped, Print, PrintRet, Quit, NewLine, Verify, Call, Storew, Sread, Random, Save, Load, Push, Pull, Pop}
 use Rattle.zcode.specs.declared.opcode.Excluded.TheVariants.{SplitWindow, SetWindow, OutputStream, SoundEffect}
 use Rattle.zcode.specs.declared.error.DecodeError.TheVariants.{Truncated, NoSuchOpcode, NotInProfile, Operands, Text}
 use Rattle.zcode.specs.declared.error.Unsupported.TheVariants.{Excluded, Unplayed}
@@ -52,9 +52,9 @@ followed : (stores Or ≡ true) × (stores Call ≡ true) × (stores IncChk ≡ 
 followed = (refl, refl, refl, refl, refl, refl, refl, refl)
 
 -- what this build plays is what it has an operation for
-played : (playable Print ≡ true) × (playable Je ≡ true) × (playable Pull ≡ true) × (playable Quit ≡ true) × (playable Call ≡ true) × (playable Sread ≡ true) × (playable Save ≡ false)
+played : (playable Print ≡ true) × (playable Je ≡ true) × (playable Pull ≡ true) × (playable Quit ≡ true) × (playable Call ≡ true) × (playable Sread ≡ true) × (playable Save ≡ true) × (playable Restart ≡ true)
 unfolding playable operation_of
-played = (refl, refl, refl, refl, refl, refl, refl)
+played = (refl, refl, refl, refl, refl, refl, refl, refl)
 
 -- ---- names, as codes of letters
 
@@ -159,9 +159,9 @@ agreeing = (record { size_is = refl; bytes = same }, λ a. absurd (let e = a.byt
 
 -- ---- what opcodes do
 
-done_for : (operation_of Je ≡ Some (operations.Compare questions.Equal)) × (operation_of IncChk ≡ Some (operations.Count counts.Up (Some questions.Greater))) × (operation_of Dec ≡ Some (operations.Count counts.Down None)) × (operation_of Mod ≡ Some (operations.Binary binary.Mod)) × (operation_of Push ≡ Some (operations.Unary unary.Keep)) × (operation_of Pull ≡ Some operations.Store) × (operation_of Pop ≡ Some operations.Nop) × (operation_of Ret ≡ Some operations.Return) × (operation_of RetPopped ≡ Some operations.Return) × (operation_of PrintRet ≡ Some operations.PrintReturn) × (operation_of Call ≡ Some operations.Call) × (operation_of Sread ≡ Some operations.ReadLine) × (operation_of Random ≡ Some operations.Random) × (operation_of Save ≡ None)
+done_for : (operation_of Je ≡ Some (operations.Compare questions.Equal)) × (operation_of IncChk ≡ Some (operations.Count counts.Up (Some questions.Greater))) × (operation_of Dec ≡ Some (operations.Count counts.Down None)) × (operation_of Mod ≡ Some (operations.Binary binary.Mod)) × (operation_of Push ≡ Some (operations.Unary unary.Keep)) × (operation_of Pull ≡ Some operations.Store) × (operation_of Pop ≡ Some operations.Nop) × (operation_of Ret ≡ Some operations.Return) × (operation_of RetPopped ≡ Some operations.Return) × (operation_of PrintRet ≡ Some operations.PrintReturn) × (operation_of Call ≡ Some operations.Call) × (operation_of Sread ≡ Some operations.ReadLine) × (operation_of Random ≡ Some operations.Random) × (operation_of Save ≡ Some operations.Save) × (operation_of Restore ≡ Some operations.Restore) × (operation_of Restart ≡ Some operations.Restart)
 unfolding operation_of
-done_for = (refl, refl, refl, refl, refl, refl, refl, refl, refl, refl, refl, refl, refl, refl)
+done_for = (refl, refl, refl, refl, refl, refl, refl, refl, refl, refl, refl, refl, refl, refl, refl, refl)
 
 -- what a return without an operand gives
 returned : (inputs (record { opcode = Rtrue; operands = []; store = None; branch = None; size = 1 }) ≡ Constant 1 ∷ []) × (inputs (record { opcode = Rfalse; operands = []; store = None; branch = None; size = 1 }) ≡ Constant 0 ∷ []) × (inputs (record { opcode = RetPopped; operands = []; store = None; branch = None; size = 1 }) ≡ Variable 0 ∷ [])

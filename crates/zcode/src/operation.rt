@@ -150,7 +150,9 @@ impl Opcode {
             Opcode::Storeb => Operation::StoreArray(Width::Byte),
             Opcode::Random => Operation::Random,
             Opcode::Sread => Operation::ReadLine,
-            _ => return None,
+            Opcode::Save => Operation::Save,
+            Opcode::Restore => Operation::Restore,
+            Opcode::Restart => Operation::Restart,
         })
     }
 
