@@ -11,18 +11,17 @@ use Rattle.zcert.specs.Certificate.{Instruction, Certificate}
 use Rattle.zcert.specs.Listed.{listed_at}
 use Rattle.zcert.specs.Format.{Format}
 use Rattle.zcert.specs.Spelling.{HasSpelling}
-use Rattle.zfault.specs.declared.event.Event.{Event}
-use Rattle.zstate.specs.State.{Scope, Setting, opening, scope_all, scope_only, usual_limit}
-use Rattle.zstate.specs.Run.{run}
+use Rattle.zstate.specs.State.{Scope, opening, scope_all, scope_only, usual_limit}
+use Rattle.zstate.specs.Run.{Input, run}
 use Rattle.zrule.specs.Claims.{Entry, claims_of, frozen_in}
 use Rattle.zrule.specs.Rules.{Supports}
 use Rattle.zplace.specs.Bytes.{IsFixed, frozen}
-use Rattle.zrule.specs.Described.{Described, IsListedIn, IsLoadedStory, IsNoFault}
+use Rattle.zrule.specs.Described.{AreFine, Described, IsListedIn, IsLoadedStory, IsNoFault}
 use Rattle.zrule.proofs.Listed.{entry_listed, few_there}
 use Rattle.zrule.proofs.Runs.{all_listed, run_safe}
 use Rattle.zrule.proofs.Opening.{opening_described}
 use Rattle.zcheck.specs.declared.refusal.StoryRule.TheVariants as rules
-use Rattle.zcheck.specs.Acceptance.{IsRecordOf, IsListingOf, RunsWithoutFault, RunsWithoutChange}
+use Rattle.zcheck.specs.Acceptance.{IsRecordOf, IsListingOf, RunsWithoutFault, RunsWithoutChange, playing_in}
 use Rattle.zcheck.specs.Passes.{Passes}
 use Rattle.zcheck.proofs.Heads.{heads_where, routine_there}
 
@@ -75,32 +74,26 @@ module _ {V : Type 0} (o : SetOperations V) (lawful : AreSound o) (format : Form
   }
 
   module _ (loaded : IsLoadedStory story) (passes : Passes o story c) (scope : Scope) (listed : IsListedIn o (claims_of o c) scope) where
-    setting : Setting
-    setting = record { story = story; scope = scope; limit = usual_limit }
-
-    runs : (events : List Event) (n : ℕ) → IsNoFault (run setting events n (opening story)).stop × Described o (claims_of o c) usual_limit story (run setting events n (opening story)).state
-    unfolding setting
-    runs events n =
+    runs : (inputs : List Input) (n : ℕ) → AreFine o (claims_of o c) (playing_in story scope) inputs → IsNoFault (run (playing_in story scope) inputs n (opening story)).stop × Described o (claims_of o c) usual_limit story (run (playing_in story scope) inputs n (opening story)).state
+    runs inputs n fine =
         let supports = supports_where passes in
-        run_safe o lawful (claims_of o c) setting loaded supports listed events n (opening story) (opening_described o (claims_of o c) story usual_limit loaded supports)
+        run_safe o lawful (claims_of o c) (playing_in story scope) loaded supports listed inputs n (opening story) fine (opening_described o (claims_of o c) story usual_limit loaded supports)
 
-    safe_in : RunsWithoutFault story scope
-    unfolding setting
-    safe_in events n = (runs events n).0
+    safe_in : RunsWithoutFault o (claims_of o c) story scope
+    safe_in inputs n fine = (runs inputs n fine).0
 
     -- what is frozen is fixed
     fixed_where : (p : ℕ) → IsFixed story (frozen_in (claims_of o c)) p ⊎ ((frozen_in (claims_of o c)) p ≡ true) → IsFixed story (frozen_in (claims_of o c)) p
     fixed_where p (inl fixed) = fixed
     fixed_where p (inr is) = record { closed = frozen is; unchanging = (passes.story_rules rules.Tables).unchanging p is }
 
-    same_in : RunsWithoutChange story (frozen_in (claims_of o c)) scope
-    unfolding setting
-    same_in events n p stays = (runs events n).1.memory.fixed p (fixed_where p stays)
+    same_in : RunsWithoutChange o (claims_of o c) story scope
+    same_in inputs n p fine stays = (runs inputs n fine).1.memory.fixed p (fixed_where p stays)
 
-  pub never_faults : (listing : ListedCode) → IsLoadedStory story → Passes o story c → IsListingOf story c listing → RunsWithoutFault story (scope_only listing) × RunsWithoutFault story (scope_all story)
+  pub never_faults : (listing : ListedCode) → IsLoadedStory story → Passes o story c → IsListingOf story c listing → RunsWithoutFault o (claims_of o c) story (scope_only listing) × RunsWithoutFault o (claims_of o c) story (scope_all story)
   never_faults listing loaded passes lists =
       (safe_in loaded passes (scope_only listing) (lists_where listing lists), safe_in loaded passes (scope_all story) (all_listed o (claims_of o c) story (supports_where passes)))
 
-  pub never_changes : (listing : ListedCode) → IsLoadedStory story → Passes o story c → IsListingOf story c listing → RunsWithoutChange story (frozen_in (claims_of o c)) (scope_only listing) × RunsWithoutChange story (frozen_in (claims_of o c)) (scope_all story)
+  pub never_changes : (listing : ListedCode) → IsLoadedStory story → Passes o story c → IsListingOf story c listing → RunsWithoutChange o (claims_of o c) story (scope_only listing) × RunsWithoutChange o (claims_of o c) story (scope_all story)
   never_changes listing loaded passes lists =
       (same_in loaded passes (scope_only listing) (lists_where listing lists), same_in loaded passes (scope_all story) (all_listed o (claims_of o c) story (supports_where passes)))

@@ -9,6 +9,7 @@ use Rattle.zcert.proofs.Bare.{has_spelling}
 use Rattle.zlist.specs.declared.record.Record.{Record}
 use Rattle.zrule.specs.declared.rule.Rule.{Rule}
 use Rattle.zrule.specs.declared.rule.Rule.TheVariants as instruction_rules
+use Rattle.zrule.specs.Claims.{claims_of}
 use Rattle.zrule.specs.Rules.{Keeps}
 use Rattle.zrule.proofs.Instances.{memory, story, certificate_at, claims_at, claims, at_bare, bare, bare_entry, each_listed, hello, line, stop, reads, no_first_place, supports, alone, loaded, plain, abbreviations_stay}
 use Rattle.zplace.specs.Tables.{HasPropertyTables}
@@ -90,8 +91,8 @@ spelled = has_spelling interval_format _ (point 0) (798 ∷ 803 ∷ 804 ∷ []) 
       loaded_length = omega arith;
     }
 
--- so no run of it meets a fault
-runs : RunsWithoutFault story (scope_all story)
+-- so no run of it meets a fault, but for saves that aren't fine
+runs : RunsWithoutFault interval_operations (claims_of interval_operations (certificate_at all_listed)) story (scope_all story)
 runs = (never_faults interval_operations interval_sound interval_format story (certificate_at all_listed) spelled (record { records = records; routines = [] }) loaded passes lists).1
 
 -- ---- what is refused

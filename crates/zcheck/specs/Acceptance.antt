@@ -1,20 +1,19 @@
 -- What is known of a story with a certificate that passes (own).
-use Rattle.std.specs.Prelude.{◌≡◌, ◌⊎◌, ℕ, Bool, true, List, map, drop, Ok}
+use Rattle.std.specs.Prelude.{◌≡◌, ◌⊎◌, ℕ, true, List, map, drop, Ok}
 use Rattle.std.specs.List.{AllZip}
 use Rattle.zstory.specs.Bytes.{byte_at}
 use Rattle.zstory.specs.LoadedStory.{LoadedStory}
 use Rattle.zcode.specs.Reading.{instruction_at}
-use Rattle.zfault.specs.declared.event.Event.{Event}
 use Rattle.zlist.specs.declared.record.Record.{Record}
 use Rattle.zlist.specs.Listing.{ListedCode}
 use Rattle.zcert.specs.Certificate.{Instruction, Certificate}
 use Rattle.zdomain.specs.declared.interval.Interval.{Interval}
 use Rattle.zdomain.specs.Domain.{SetOperations}
-use Rattle.zstate.specs.State.{Scope, opening, scope_all, scope_only, usual_limit}
-use Rattle.zstate.specs.Run.{run}
+use Rattle.zstate.specs.State.{Scope, Setting, opening, scope_all, scope_only, usual_limit}
+use Rattle.zstate.specs.Run.{Input, run}
 use Rattle.zplace.specs.Bytes.{IsFixed}
-use Rattle.zrule.specs.Claims.{claims_of, frozen_in}
-use Rattle.zrule.specs.Described.{IsNoFault}
+use Rattle.zrule.specs.Claims.{Claims, claims_of, frozen_in}
+use Rattle.zrule.specs.Described.{AreFine, IsNoFault}
 
 -- a story, its certificate over a type V of sets of words, and the certificate's listing
 pub record AcceptanceOver (V : Type 0) : Type 0 where
@@ -44,21 +43,28 @@ module _ {V : Type 0} where
     pub records : AreRecords story c listing.records
     pub routines : AreRoutines c listing.routines
 
--- no run of the story meets a fault in the scope, whatever the events and however many the steps
-abbrev pub RunsWithoutFault : LoadedStory → Scope → Type 0
-RunsWithoutFault story scope = (events : List Event) (n : ℕ) → IsNoFault (run (record { story = story; scope = scope; limit = usual_limit }) events n (opening story)).stop
+-- the story is played in a scope, with as many frames above the first as there usually may be
+abbrev pub playing_in : LoadedStory → Scope → Setting
+playing_in story scope = record { story = story; scope = scope; limit = usual_limit }
+
+module _ {V : Type 0} (o : SetOperations V) (claims : Claims V) where
+  -- no run of the story meets a fault in the scope, whatever the events and however many the steps, and whatever the saves
+  -- from which play goes on in described states alone
+  abbrev pub RunsWithoutFault : LoadedStory → Scope → Type 0
+  RunsWithoutFault story scope =
+      (inputs : List Input) (n : ℕ) → AreFine o claims (playing_in story scope) inputs → IsNoFault (run (playing_in story scope) inputs n (opening story)).stop
+
+  -- nor does it change a byte that is fixed or frozen
+  abbrev pub RunsWithoutChange : LoadedStory → Scope → Type 0
+  RunsWithoutChange story scope =
+      (inputs : List Input) (n p : ℕ) → AreFine o claims (playing_in story scope) inputs → IsFixed story (frozen_in claims) p ⊎ ((frozen_in claims) p ≡ true) → byte_at (run (playing_in story scope) inputs n (opening story)).state.memory p ≡ byte_at story.memory p
 
 -- with the certificate's listing as with every place of the story
-pub record NeverFaults {V : Type 0} (a : AcceptanceOver V) : Type 0 where
-  pub listed : RunsWithoutFault a.story (scope_only a.listing)
-  pub everywhere : RunsWithoutFault a.story (scope_all a.story)
-
--- no run of the story changes a byte that is fixed or frozen, whatever the events and however many the steps
-abbrev pub RunsWithoutChange : LoadedStory → (ℕ → Bool) → Scope → Type 0
-RunsWithoutChange story is_frozen scope =
-    (events : List Event) (n p : ℕ) → IsFixed story is_frozen p ⊎ (is_frozen p ≡ true) → byte_at (run (record { story = story; scope = scope; limit = usual_limit }) events n (opening story)).state.memory p ≡ byte_at story.memory p
+pub record NeverFaults {V : Type 0} (o : SetOperations V) (a : AcceptanceOver V) : Type 0 where
+  pub listed : RunsWithoutFault o (claims_of o a.certificate) a.story (scope_only a.listing)
+  pub everywhere : RunsWithoutFault o (claims_of o a.certificate) a.story (scope_all a.story)
 
 -- with the one listing as with the other
 pub record NeverChanges {V : Type 0} (o : SetOperations V) (a : AcceptanceOver V) : Type 0 where
-  pub listed : RunsWithoutChange a.story (frozen_in (claims_of o a.certificate)) (scope_only a.listing)
-  pub everywhere : RunsWithoutChange a.story (frozen_in (claims_of o a.certificate)) (scope_all a.story)
+  pub listed : RunsWithoutChange o (claims_of o a.certificate) a.story (scope_only a.listing)
+  pub everywhere : RunsWithoutChange o (claims_of o a.certificate) a.story (scope_all a.story)

@@ -16,8 +16,9 @@ use zstory::Story;
 /// Accepts a story with a certificate that passes, and else says what is wrong first (own).
 ///
 /// Whatever is typed, drawn or answered, and however long it is played, a story that is accepted meets no fault, and no
-/// byte changes that is fixed or that the certificate says is frozen. Both are taken over; a refusal hands nothing
-/// back. `OutOfMemory` is answered only for a certificate that passes.
+/// byte changes that is fixed or that the certificate says is frozen. That holds of play from saves too, where each leads
+/// to states alone that the certificate describes. Both are taken over; a refusal hands nothing back. `OutOfMemory` is
+/// answered only for a certificate that passes.
 pub fn check<V: Spelled>(
     alloc: Global,
     story: Story,
@@ -28,7 +29,7 @@ pub fn check<V: Spelled>(
     ensures lists { IfOk result (λ a. IsListingOf story certificate a.listing) }
     ensures passes { IfOk result (λ a. Passes V.operations story certificate) }
     ensures refused { IfErr result (IsRefused V.operations story certificate) }
-    ensures never_faults { IfOk result NeverFaults }
+    ensures never_faults { IfOk result (NeverFaults V.operations) }
     ensures never_changes { IfOk result (NeverChanges V.operations) }
 {
     let listing = judged_listing(alloc, &story, &certificate)?;

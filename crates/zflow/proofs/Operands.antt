@@ -3,7 +3,7 @@ use Rattle.std.proofs.Common.{◌≡◌, ℕ, Bool, List, Some, None, refl}
 use Rattle.zpairs.specs.Frozen.{FrozenStory}
 use Rattle.zcode.specs.declared.instr.Operand.{Operand}
 use Rattle.zcode.specs.declared.operation.Operation.{Operation}
-use Rattle.zcode.specs.declared.operation.Operation.TheVariants.{Unary, Binary, Compare, Count, Store, Load, Jump, Verify, PrintChar, PrintNumber, Print, NewLine, Nop, Quit, Return, PrintReturn, Call, Inside, TestAttribute, Follow, SetAttribute, ClearAttribute, Insert, Remove, Property, PropertyLength, SetProperty, PrintObject, PrintAt, ShowStatus, LoadArray, StoreArray, Random, ReadLine}
+use Rattle.zcode.specs.declared.operation.Operation.TheVariants.{Unary, Binary, Compare, Count, Store, Load, Jump, Verify, PrintChar, PrintNumber, Print, NewLine, Nop, Quit, Return, PrintReturn, Call, Inside, TestAttribute, Follow, SetAttribute, ClearAttribute, Insert, Remove, Property, PropertyLength, SetProperty, PrintObject, PrintAt, ShowStatus, LoadArray, StoreArray, Random, ReadLine, Save, Restore, Restart}
 use Rattle.zdomain.specs.Domain.{SetOperations}
 use Rattle.zflow.specs.Transfer.{Shape, demands_of, outcome_of}
 use Rattle.zflow.specs.Kept.{both}
@@ -45,6 +45,9 @@ module _ {V : Type 0} (o : SetOperations V) where
   demands_read (StoreArray width) arg = refl
   demands_read Random arg = refl
   demands_read ReadLine arg = refl
+  demands_read Save arg = refl
+  demands_read Restore arg = refl
+  demands_read Restart arg = refl
 
   pub outcome_read : (globals : List V) (told : FrozenStory) (operation : Operation) (operands : List Operand) (arg : ℕ → V) (e : Shape V) (c : Bool) → outcome_of o globals told operation operands arg e c ≡ outcome_of o globals told operation operands (both (arg 0) (arg 1)) e c
   unfolding outcome_of
@@ -83,3 +86,6 @@ module _ {V : Type 0} (o : SetOperations V) where
   outcome_read globals told (StoreArray width) operands arg e c = refl
   outcome_read globals told Random operands arg e c = refl
   outcome_read globals told ReadLine operands arg e c = refl
+  outcome_read globals told Save operands arg e c = refl
+  outcome_read globals told Restore operands arg e c = refl
+  outcome_read globals told Restart operands arg e c = refl

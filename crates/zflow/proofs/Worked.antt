@@ -4,6 +4,7 @@ use Rattle.std.specs.Option.{option_and_then}
 use Rattle.zpairs.specs.Frozen.{FrozenStory}
 use Rattle.zcode.specs.declared.opcode.Opcode.{Opcode}
 use Rattle.zcode.specs.declared.opcode.Opcode.TheVariants as opcodes
+use Rattle.zcode.specs.declared.operation.Operation.{Operation}
 use Rattle.zcode.specs.declared.operation.Operation.TheVariants as operations
 use Rattle.zcode.specs.declared.instr.Operand.{Operand}
 use Rattle.zcode.specs.declared.instr.Operand.TheVariants.{Constant, Variable}
@@ -360,6 +361,19 @@ heard = (refl, refl, refl, refl, refl)
 hears : (slots_on (plain opcodes.Sread (Constant 640 ∷ Variable 0 ∷ [])) true ≡ Some (span 20 30 ∷ [])) × (locals_on (plain opcodes.Sread (Constant 640 ∷ Constant 656 ∷ [])) true ≡ Some (span 0 9 ∷ only 1 ∷ span 0 1 ∷ [])) × (outcome_on (plain opcodes.Sread (Constant 640 ∷ Constant 656 ∷ [])) false ≡ nothing)
 unfolding operation_of outcome_of shape globals
 hears = (refl, refl, refl)
+
+-- ---- saves
+
+abbrev of_saves : Operation → Bool → Option (Outcome Interval)
+of_saves operation c = outcome_of interval_operations globals (with_objects 0) operation [] (λ k. from (pos 0) (pos 0) refl) shape c
+
+abbrev tested : Option (Outcome Interval) → Option (Option Bool)
+tested w = option_map (λ x. x.tests) w
+
+-- whether a save is kept isn't known; of a restore only that there is no save to go on from; nothing comes of a restart
+saves : (tested (of_saves operations.Save true) ≡ Some (Some true)) × (tested (of_saves operations.Save false) ≡ Some (Some false)) × (of_saves operations.Restore true ≡ nothing) × (tested (of_saves operations.Restore false) ≡ Some (Some false)) × (of_saves operations.Restart true ≡ nothing) × (of_saves operations.Restart false ≡ nothing)
+unfolding outcome_of globals shape
+saves = (refl, refl, refl, refl, refl, refl)
 
 -- nothing comes of quit, and of an opcode of which nothing is said
 ends_there : (outcome_on (plain opcodes.Quit []) true ≡ nothing) × (outcome_on (plain opcodes.Quit []) false ≡ nothing) × (outcome_on (plain opcodes.Restart []) true ≡ nothing)

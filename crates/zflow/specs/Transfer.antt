@@ -15,7 +15,7 @@ use Rattle.zcode.specs.declared.instr.Branch.{Branch}
 use Rattle.zcode.specs.declared.instr.Destination.{Destination}
 use Rattle.zcode.specs.declared.instr.Destination.TheVariants.{ReturnFalse, ReturnTrue, Relative}
 use Rattle.zcode.specs.declared.operation.Operation.{Operation}
-use Rattle.zcode.specs.declared.operation.Operation.TheVariants.{Unary, Binary, Compare, Count, Store, Load, Jump, Verify, PrintChar, PrintNumber, Print, NewLine, Nop, Quit, Return, PrintReturn, Call, Inside, TestAttribute, Follow, SetAttribute, ClearAttribute, Insert, Remove, Property, PropertyLength, SetProperty, PrintObject, PrintAt, ShowStatus, LoadArray, StoreArray, Random, ReadLine}
+use Rattle.zcode.specs.declared.operation.Operation.TheVariants.{Unary, Binary, Compare, Count, Store, Load, Jump, Verify, PrintChar, PrintNumber, Print, NewLine, Nop, Quit, Return, PrintReturn, Call, Inside, TestAttribute, Follow, SetAttribute, ClearAttribute, Insert, Remove, Property, PropertyLength, SetProperty, PrintObject, PrintAt, ShowStatus, LoadArray, StoreArray, Random, ReadLine, Save, Restore, Restart}
 use Rattle.zcode.specs.Instruction.{Instruction}
 use Rattle.zcode.specs.Operation.{operation_of, inputs, target}
 use Rattle.zdomain.specs.Domain.{SetOperations}
@@ -126,6 +126,9 @@ module _ {V : Type 0} (o : SetOperations V) where
   demands_of (StoreArray width) arg = record nothing { elements = Some (record { access = Writing; width = width; arrays = arg 0; indices = arg 1 }) }
   demands_of Random arg = nothing
   demands_of ReadLine arg = record nothing { buffers = Some (record { texts = arg 0; parses = arg 1 }); shows_status = true }
+  demands_of Save arg = nothing
+  demands_of Restore arg = nothing
+  demands_of Restart arg = nothing
 
   abbrev pub demands_if : Option Operation → (ℕ → V) → Demands V
   demands_if None arg = nothing
@@ -218,9 +221,15 @@ drawn_set o a =
     if holds Greater (o.lowest a) 0 then o.between 1 (o.highest a)
     else (if holds Greater (o.highest a) 0 then o.between 0 (o.highest a) else o.single 0)
 
+-- a save that is taken is no step, so that nothing comes where a condition would hold (own)
+abbrev pub unrestored : {V : Type 0} → Bool → Option (Outcome V)
+unrestored true = None
+unrestored false = Some (asks false untold)
+
 module _ {V : Type 0} (o : SetOperations V) (globals : List V) (told : FrozenStory) where
   -- What may come of an operation where its condition is answered so, from the sets of what it reads; e is what is known
-  -- once that was read, and what is frozen stays as it is. None comes of an edge that can't be taken, and of `quit`.
+  -- once that was read, and what is frozen stays as it is. None comes of an edge that can't be taken, of `quit`, and of
+  -- `restart`, behind which nothing is as it was.
   unfoldable pub outcome_of : Operation → List Operand → (ℕ → V) → Shape V → Bool → Option (Outcome V)
   outcome_of (Unary op) operands arg e c = once c (gives_in (o.unary op (arg 0)))
   outcome_of (Binary op) operands arg e c = once c (gives_in (o.binary op (arg 0) (arg 1)))
@@ -257,6 +266,9 @@ module _ {V : Type 0} (o : SetOperations V) (globals : List V) (told : FrozenSto
   outcome_of (StoreArray width) operands arg e c = once c goes_on
   outcome_of Random operands arg e c = once c (gives_in (drawn_set o (arg 0)))
   outcome_of ReadLine operands arg e c = once c goes_on
+  outcome_of Save operands arg e c = Some (asks c untold)
+  outcome_of Restore operands arg e c = unrestored c
+  outcome_of Restart operands arg e c = None
 
   abbrev pub outcome_if : Option Operation → List Operand → (ℕ → V) → Shape V → Bool → Option (Outcome V)
   outcome_if None operands arg e c = None

@@ -71,7 +71,10 @@ fn demands_of<V: Domain>(operation: Operation, first: V, second: V) -> Demands<V
         | Operation::Quit
         | Operation::Return
         | Operation::Call
-        | Operation::Random => {}
+        | Operation::Random
+        | Operation::Save
+        | Operation::Restore
+        | Operation::Restart => {}
     }
     demands
 }

@@ -3,7 +3,7 @@
 ghost use Rattle.std.specs.Prelude.{◌≡◌, List, [], Some, None, true, false, option_map};
 ghost use Rattle.zcode.specs.declared.instr.Operand.{Operand as AnOperand};
 ghost use Rattle.zcode.specs.declared.operation.Operation.TheVariants.{Count};
-ghost use Rattle.zflow.specs.Transfer.{asks, assigns_in, called_outcome, compared_kept, counted_kept, counts_in, drawn_set, followed_outcome, follows_in, gives_in, goes_on, jumps, local_kept, once_known, operand_kept, outcome_if, outcome_of, returns_in, small, untold, variable_set};
+ghost use Rattle.zflow.specs.Transfer.{asks, assigns_in, called_outcome, compared_kept, counted_kept, counts_in, drawn_set, followed_outcome, follows_in, gives_in, goes_on, jumps, local_kept, once_known, operand_kept, outcome_if, outcome_of, returns_in, small, unrestored, untold, variable_set};
 ghost use Rattle.zflow.specs.Kept.{both};
 ghost use Rattle.zflow.specs.View.{seen};
 ghost use Rattle.zpairs.specs.Frozen.{FrozenStory};
@@ -83,11 +83,12 @@ fn outcomes_of<V: Domain>(
         | Operation::ShowStatus
         | Operation::StoreArray(_)
         | Operation::ReadLine => once(goes_on()),
-        Operation::Quit => never(),
+        Operation::Quit | Operation::Restart => never(),
         Operation::Return => once(returns_in(first)),
         Operation::PrintReturn => once(returns_in(V::single(1))),
         Operation::Call => called(first),
-        Operation::Inside | Operation::TestAttribute => either(),
+        Operation::Inside | Operation::TestAttribute | Operation::Save => either(),
+        Operation::Restore => unrestored(),
         Operation::Follow(_) => followed(tables.story().objects()),
         Operation::Property(question) => {
             once(gives_in(tables.properties().answers(question, first, second)))
@@ -378,6 +379,17 @@ fn either<V: Domain>() -> Outcomes<V>
     Outcomes {
         held: Some(asks(true, untold())),
         failed: Some(asks(false, untold())),
+    }
+}
+
+/// A save that is taken is no step: what comes is that there is none.
+fn unrestored<V: Domain>() -> Outcomes<V>
+    ensures held { result.held ≡ unrestored true }
+    ensures failed { result.failed ≡ unrestored false }
+{
+    Outcomes {
+        held: None,
+        ..either()
     }
 }
 

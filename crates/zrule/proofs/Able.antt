@@ -26,7 +26,7 @@ use Rattle.zrule.proofs.Settling.{pauses_none, pauses_full, room_there}
 use Rattle.zrule.proofs.Stepping.{done_at, made_by}
 use Rattle.zrule.proofs.Pieces.{not_both}
 use Rattle.zfault.specs.declared.pause.Need.{Need}
-use Rattle.zrule.proofs.Standing.{IsStill, Still, a_quit, a_need, a_prompt}
+use Rattle.zrule.proofs.Standing.{IsStill, Still, a_quit, a_need, a_prompt, a_restart}
 use Rattle.zrule.proofs.Landing.{LeadsIn}
 use Rattle.zrule.proofs.Safety.{Expected, ComesOf, Matches, admitted, all, expected, fetches, leads_in, returns, settled, steps, still_admitted}
 
@@ -84,12 +84,13 @@ module _ {V : Type 0} (o : SetOperations V) (lawful : AreSound o) (claims : Clai
   admitted_is : (effect : Effect) → Still effect → made_by m s t i effect ≡ (pauses m.limit (target i) effect (course effect i.branch) t >>= λ _. Ok (done_at m s t i effect))
   admitted_is effect still = settled o lawful claims m loaded supports listed s d i there effect (still_admitted o lawful claims m loaded supports listed s d i there effect still)
 
-  -- what leads nowhere is no call, and a prompt is made
+  -- what leads nowhere is no call, and a prompt or a restart is made
   still_able : (effect : Effect) → Still effect → IsStill effect → IsAble (made_by m s t i effect)
   unfolding IsAble pauses
   still_able effect still (a_quit needs quits) = let ok = admitted_is effect still in inr (inl (ok ∙ rw (needs, quits) refl))
   still_able effect still (a_need need needs) = let ok = admitted_is effect still in inr (inr (inl (need, ok ∙ rw needs refl)))
   still_able effect still (a_prompt line is) = let ok = admitted_is effect still in inl (done_at m s t i effect, ok ∙ rw is refl)
+  still_able effect still (a_restart is) = let ok = admitted_is effect still in inl (done_at m s t i effect, ok ∙ rw is refl)
 
   able_by : (r : Result Effect Halt) → effect_if m (operation_of i.opcode) (all o lawful claims m loaded supports listed s d i there).values t ≡ r → Expected o lawful claims m loaded supports listed s d i there (operation_of i.opcode) r → IsAble (r >>= made_by m s t i)
   unfolding Expected IsAble

@@ -32,6 +32,7 @@ pub mod Able
 pub mod Steps
 pub mod Relied
 pub mod Rewriting
+pub mod Restarting
 pub mod Runs
 mod Worked
 pub mod Instances

@@ -19,7 +19,7 @@ use Rattle.zrule.specs.Rules.{Begins, IsThere, Supports, comes_back}
 use Rattle.zrule.specs.Described.{Described, IsListedIn, IsLoadedStory}
 use Rattle.zrule.proofs.Sets.{ReadsAll, zip_length}
 use Rattle.zrule.proofs.Settling.{pauses_there}
-use Rattle.zrule.proofs.Standing.{IsStill, a_quit, a_need, a_prompt}
+use Rattle.zrule.proofs.Standing.{IsStill, a_quit, a_need, a_prompt, a_restart}
 use Rattle.zrule.proofs.Pieces.{not_zero, no_lower, same_read}
 use Rattle.zrule.proofs.Safety.{ComesOf, Matches, Expected, edge, expected, all, asked, known_jump, CallsOf, begins_said, entry_edge, fetches}
 use Rattle.zrule.proofs.Able.{low, low_read}
@@ -79,6 +79,7 @@ module _ {V : Type 0} (o : SetOperations V) (lawful : AreSound o) (claims : Clai
   low_still effect (a_quit needs quits) ok = absurd (pauses_there m.limit (target i) effect (course effect i.branch) (popped (pops operands) s) (inr quits) ok)
   low_still effect (a_need need needs) ok = absurd (pauses_there m.limit (target i) effect (course effect i.branch) (popped (pops operands) s) (inl (ap is_some needs)) ok)
   low_still effect (a_prompt line is) ok = rw is (low_read o lawful claims m loaded supports listed s d i there)
+  low_still effect (a_restart is) ok = rw is (low_read o lawful claims m loaded supports listed s d i there)
 
   low_if : (effect : Effect) → Expected o lawful claims m loaded supports listed s d i there (operation_of i.opcode) (Ok effect) → settle m.limit i effect (popped (pops operands) s) ≡ Ok tt → length (changed m.story i effect (popped (pops operands) s)).frame.stack ≤ 64
   unfolding Expected

@@ -135,7 +135,7 @@ module _ {V : Type 0} (o : SetOperations V) (claims : Claims V) (story : LoadedS
           omega (arith, stays, now, was, small, now_is, was_is);
     }
 
-    written_described : header.object_table after ≡ object_table story → DescribedMemory o claims story after
+    pub written_described : header.object_table after ≡ object_table story → DescribedMemory o claims story after
     written_described place = record { long = differs.size ∙ d.long; values = written_values; tree = written_tree place; fixed = written_fixed }
 
   -- a property is given a word

@@ -18,7 +18,7 @@ use Rattle.ztext.specs.Output.{output_at}
 use Rattle.zcode.specs.declared.instr.Operand.{Operand}
 use Rattle.zcode.specs.declared.instr.Operand.TheVariants.{Constant, Variable}
 use Rattle.zcode.specs.declared.operation.Operation.{Operation}
-use Rattle.zcode.specs.declared.operation.Operation.TheVariants.{Unary, Binary, Compare, Count, Store, Load, Jump, Verify, PrintChar, PrintNumber, Print, NewLine, Nop, Quit, Return, PrintReturn, Call, Inside, TestAttribute, Follow, SetAttribute, ClearAttribute, Insert, Remove, Property, PropertyLength, SetProperty, PrintObject, PrintAt, ShowStatus, LoadArray, StoreArray, Random, ReadLine}
+use Rattle.zcode.specs.declared.operation.Operation.TheVariants.{Unary, Binary, Compare, Count, Store, Load, Jump, Verify, PrintChar, PrintNumber, Print, NewLine, Nop, Quit, Return, PrintReturn, Call, Inside, TestAttribute, Follow, SetAttribute, ClearAttribute, Insert, Remove, Property, PropertyLength, SetProperty, PrintObject, PrintAt, ShowStatus, LoadArray, StoreArray, Random, ReadLine, Save, Restore, Restart}
 use Rattle.zcode.specs.Instruction.{Instruction}
 use Rattle.zcode.specs.Operation.{operation_of, inputs, target}
 use Rattle.zcode.specs.Playable.{playable}
@@ -43,7 +43,7 @@ use Rattle.zstate.specs.declared.halt.Halt.{Halt}
 use Rattle.zstate.specs.declared.halt.Halt.TheVariants as halts
 use Rattle.zstate.specs.InTurn.{◌>>=◌}
 use Rattle.zstate.specs.State.{State, Setting, IsState, popped, with_stack, with_locals, with_memory, write_word, global, exists, put_named, put_in_place, read_in_place, has_head, fault}
-use Rattle.zstate.specs.Step.{Move, on, back, calling, closing, called_at, call_of, unpacked, arguments, Effect, Done, way, arg, asked_of, giving, assigning, testing, printing, jumping, following, marking, rearranging, rewriting, rewritten, answering, reading, filling, storing, showing, is_data_writable, fetch, printed, print_at, effect_of, effect_if, has_caller, is_taken, turned, course, admits, pauses, assigned, changed, stored, advance, act, step, came, drawn, used}
+use Rattle.zstate.specs.Step.{Move, on, back, calling, closing, called_at, call_of, unpacked, arguments, Effect, Done, way, arg, asked_of, giving, assigning, testing, printing, jumping, following, marking, rearranging, rewriting, rewritten, answering, reading, filling, storing, showing, proceeds, saving, unrestored, is_data_writable, fetch, printed, print_at, effect_of, effect_if, has_caller, is_taken, turned, course, admits, pauses, assigned, changed, stored, advance, act, step, came, drawn, used}
 use Rattle.zstate.proofs.Effects.{table_place}
 use Rattle.zstate.proofs.Keeps.{changed_aside, step_keeps}
 use Rattle.zflow.specs.declared.parts.Kept.{Kept}
@@ -61,11 +61,15 @@ use Rattle.zrule.proofs.Unchanged.{static_fixed, drop_same}
 use Rattle.zrule.proofs.Called.{called_same, head_same, arguments_in}
 use Rattle.zrule.proofs.Settling.{PausesAtMost, pauses_fine, pauses_there, admits_is}
 use Rattle.zrule.proofs.Landing.{LeadsIn, IsCall, judged, lands, turned_in}
-use Rattle.zrule.proofs.Standing.{IsStill, Still, a_quit, a_need, a_prompt}
+use Rattle.zrule.proofs.Standing.{IsStill, Still, a_quit, a_need, a_prompt, a_restart}
+use Rattle.zrule.proofs.Restarting.{restarted_described}
 use Rattle.zrule.proofs.Given.{prompted_described, spent_mid}
 use Rattle.zrule.proofs.Drawing.{Draws, number_drawn, word_needed, random_comes}
 use Rattle.zrule.proofs.Hearing.{Hears, first_asked, line_stored, line_needed, buffer_read, hearing_comes, line_described, line_taken}
 use Rattle.zruns.specs.Buffers.{AreBuffers, IsParseBuffer, IsTextBuffer}
+use Rattle.zfault.specs.declared.event.Event.{Event}
+use Rattle.zfault.specs.declared.event.Event.TheVariants as events
+use Rattle.zfault.specs.declared.pause.Need.{Need}
 use Rattle.zfault.specs.declared.pause.Need.TheVariants as needs
 use Rattle.zrule.proofs.Framed.{FitsFrame, in_place_fits, result_fits}
 use Rattle.zrule.proofs.Fitting.{IsIn, exists_in, named_in, length_with, Mid, GivenIn, stored_mid}
@@ -185,10 +189,11 @@ module _ {V : Type 0} (o : SetOperations V) (lawful : AreSound o) (claims : Clai
     tests : effect.tests ≡ w.tests
     leads : LeadsIn o lawful claims m loaded supports s d i w.leads effect.moves
     kept : Hold o lawful w.kept (changed m.story i effect t).frame.locals
-    -- it needs no event, the machine goes on, and all is done at once
+    -- it needs no event, the machine goes on, all is done at once, and nothing begins anew
     pub needs : effect.needs ≡ None
     pub goes : effect.quits ≡ false
     pub acts : effect.prompts ≡ false
+    pub stays : effect.restarts ≡ false
 
   -- the effect is one that the rules expect, or it leads nowhere
   unfoldable pub Expected : Option Operation → Result Effect Halt → Type 0
@@ -246,19 +251,19 @@ module _ {V : Type 0} (o : SetOperations V) (lawful : AreSound o) (claims : Clai
   -- what prints, or does nothing, and goes on
   goes_expected : (k : Operation) (bytes : List ℕ) → ComesOf (Some k) goes_on → Expected (Some k) (Ok (printing bytes))
   unfolding Expected LeadsIn AssignedIn changed
-  goes_expected k bytes comes = inr (goes_on, comes, record { gives = tt; assigns = tt; tests = refl; leads = refl; kept = (tt, tt); memory = tt; needs = refl; goes = refl; acts = refl })
+  goes_expected k bytes comes = inr (goes_on, comes, record { gives = tt; assigns = tt; tests = refl; leads = refl; kept = (tt, tt); memory = tt; needs = refl; goes = refl; acts = refl; stays = refl })
 
   gives_expected : (k : Operation) (a : V) (x : ℕ) → ComesOf (Some k) (gives_in a) → In o a x → Expected (Some k) (Ok (giving x))
   unfolding Expected LeadsIn AssignedIn changed
-  gives_expected k a x comes member = inr (gives_in a, comes, record { gives = member; assigns = tt; tests = refl; leads = refl; kept = (tt, tt); memory = tt; needs = refl; goes = refl; acts = refl })
+  gives_expected k a x comes member = inr (gives_in a, comes, record { gives = member; assigns = tt; tests = refl; leads = refl; kept = (tt, tt); memory = tt; needs = refl; goes = refl; acts = refl; stays = refl })
 
   assigns_expected : (k : Operation) (v : ℕ) (a : V) (w x : ℕ) → ComesOf (Some k) (assigns_in v a) → w ≡ v → In o a x → IsVariable o claims d.entry.shape v → Expected (Some k) (Ok (assigning w x))
   unfolding Expected LeadsIn AssignedIn changed
-  assigns_expected k v a w x comes same member exists = inr (assigns_in v a, comes, record { gives = tt; assigns = (same, member, exists); tests = refl; leads = refl; kept = (tt, tt); memory = tt; needs = refl; goes = refl; acts = refl })
+  assigns_expected k v a w x comes same member exists = inr (assigns_in v a, comes, record { gives = tt; assigns = (same, member, exists); tests = refl; leads = refl; kept = (tt, tt); memory = tt; needs = refl; goes = refl; acts = refl; stays = refl })
 
   asks_expected : (k : Operation) (c : Bool) (kept : Kept V) → ComesOf (Some k) (asks c kept) → Hold o lawful kept s.frame.locals → Expected (Some k) (Ok (testing c))
   unfolding Expected LeadsIn AssignedIn changed
-  asks_expected k c kept comes hold = inr (asks c kept, comes, record { gives = tt; assigns = tt; tests = refl; leads = refl; kept = hold; memory = tt; needs = refl; goes = refl; acts = refl })
+  asks_expected k c kept comes hold = inr (asks c kept, comes, record { gives = tt; assigns = tt; tests = refl; leads = refl; kept = hold; memory = tt; needs = refl; goes = refl; acts = refl; stays = refl })
 
   printed_expected : (k : Operation) (r : Result (List ℕ) TextError) → IsOk r → ComesOf (Some k) goes_on → Expected (Some k) (printed r)
   printed_expected k (Ok bytes) ok comes = goes_expected k bytes comes
@@ -269,7 +274,7 @@ module _ {V : Type 0} (o : SetOperations V) (lawful : AreSound o) (claims : Clai
 
   shows_expected : (line : StatusLine) → ComesOf (Some ShowStatus) goes_on → Expected (Some ShowStatus) (Ok (showing line))
   unfolding Expected LeadsIn AssignedIn changed
-  shows_expected line comes = inr (goes_on, comes, record { gives = tt; assigns = tt; tests = refl; leads = refl; kept = (tt, tt); memory = tt; needs = refl; goes = refl; acts = refl })
+  shows_expected line comes = inr (goes_on, comes, record { gives = tt; assigns = tt; tests = refl; leads = refl; kept = (tt, tt); memory = tt; needs = refl; goes = refl; acts = refl; stays = refl })
 
   compared_two : (q : Question) (c : Bool) (p : V × V) → (length operands == 2) ≡ true → o.narrow q c (args 0) (args 1) ≡ Some p → ComesOf (Some (Compare q)) (asks c (both_kept operands p))
   unfolding outcome_of
@@ -306,7 +311,7 @@ module _ {V : Type 0} (o : SetOperations V) (lawful : AreSound o) (claims : Clai
       let kept : Kept V = record untold { first = local_kept p.v n.0.0 } in
       let held : Hold o lawful kept (put_in_place m.story p.v new t).frame.locals = (counted_local p.v new n.0.0 t (sym same_count) p.exists n.2.0, tt) in
       let named = p.named in let comes = counted_asked op q c p.v n.0 p.variable n.1 in
-      rw r (inr (counts_in p.v a c kept, comes, record { gives = tt; assigns = (named, counted_in op p, p.exists); tests = refl; leads = refl; kept = rw named held; memory = tt; needs = refl; goes = refl; acts = refl }))
+      rw r (inr (counts_in p.v a c kept, comes, record { gives = tt; assigns = (named, counted_in op p, p.exists); tests = refl; leads = refl; kept = rw named held; memory = tt; needs = refl; goes = refl; acts = refl; stays = refl }))
 
   pub known_jump : IsTrue (is_some (o.known (args 0))) → (x : ℕ) × (o.known (args 0) ≡ Some x) × (arg all.values 0 ≡ x)
   known_jump h = by_known (o.known (args 0)) refl h
@@ -317,11 +322,11 @@ module _ {V : Type 0} (o : SetOperations V) (lawful : AreSound o) (claims : Clai
 
   jumps_expected : (x : ℕ) → o.known (args 0) ≡ Some x → arg all.values 0 ≡ x → Expected (Some Jump) (Ok (jumping (arg all.values 0)))
   unfolding Expected LeadsIn AssignedIn outcome_of changed
-  jumps_expected x known is = inr (jumps x, (true, rw known refl), record { gives = tt; assigns = tt; tests = refl; leads = rw is refl; kept = (tt, tt); memory = tt; needs = refl; goes = refl; acts = refl })
+  jumps_expected x known is = inr (jumps x, (true, rw known refl), record { gives = tt; assigns = tt; tests = refl; leads = rw is refl; kept = (tt, tt); memory = tt; needs = refl; goes = refl; acts = refl; stays = refl })
 
   returns_expected : (k : Operation) (bytes : List ℕ) (a : V) (x : ℕ) → ComesOf (Some k) (returns_in a) → In o a x → Expected (Some k) (Ok (record (printing bytes) { moves = back x }))
   unfolding Expected LeadsIn AssignedIn changed
-  returns_expected k bytes a x comes member = inr (returns_in a, comes, record { gives = tt; assigns = tt; tests = refl; leads = member; kept = (tt, tt); memory = tt; needs = refl; goes = refl; acts = refl })
+  returns_expected k bytes a x comes member = inr (returns_in a, comes, record { gives = tt; assigns = tt; tests = refl; leads = member; kept = (tt, tt); memory = tt; needs = refl; goes = refl; acts = refl; stays = refl })
 
   closes_expected : (r : Result (List ℕ) TextError) → IsOk r → ComesOf (Some PrintReturn) (returns_in (o.single 1)) → Expected (Some PrintReturn) (printed r >>= λ effect. Ok (closing effect))
   closes_expected (Ok bytes) ok comes = returns_expected PrintReturn (bytes ++ 10 ∷ []) (o.single 1) 1 comes (lawful.single 1 (omega arith))
@@ -370,12 +375,12 @@ module _ {V : Type 0} (o : SetOperations V) (lawful : AreSound o) (claims : Clai
           let can = can_be_called (unpacked x) begins in
           let routine = can.0 in
           let head = can.1 in
-          rw (routine, head) (inr (enters_in on_edge.a, on_edge.comes, record { gives = tt; assigns = tt; tests = refl; leads = (x, on_edge.member, some, (arguments all.values, arguments_in o args (length operands) all.values all.count all.members, can.2)); kept = (tt, tt); memory = tt; needs = refl; goes = refl; acts = refl }))
+          rw (routine, head) (inr (enters_in on_edge.a, on_edge.comes, record { gives = tt; assigns = tt; tests = refl; leads = (x, on_edge.member, some, (arguments all.values, arguments_in o args (length operands) all.values all.count all.members, can.2)); kept = (tt, tt); memory = tt; needs = refl; goes = refl; acts = refl; stays = refl }))
 
   -- what a link leads to is an object, or none
   follows_expected : (k : Operation) (c : Bool) (a : V) (x : ℕ) → ComesOf (Some k) (follows_in c a) → In o a x → not (x == 0) ≡ c → Expected (Some k) (Ok (following x))
   unfolding Expected LeadsIn AssignedIn changed
-  follows_expected k c a x comes member is = inr (follows_in c a, comes, record { gives = member; assigns = tt; tests = ap (λ (b : Bool). Some b) is; leads = refl; kept = (tt, tt); memory = tt; needs = refl; goes = refl; acts = refl })
+  follows_expected k c a x comes member is = inr (follows_in c a, comes, record { gives = member; assigns = tt; tests = ap (λ (b : Bool). Some b) is; leads = refl; kept = (tt, tt); memory = tt; needs = refl; goes = refl; acts = refl; stays = refl })
 
   to_object : (link : Link) → (m.story.objects == 0) ≡ false → ComesOf (Some (Follow link)) (follows_in true (o.between 1 m.story.objects))
   unfolding outcome_of
@@ -392,7 +397,7 @@ module _ {V : Type 0} (o : SetOperations V) (lawful : AreSound o) (claims : Clai
   -- what rewrites memory so that it stays as is said
   rewrites : (k : Operation) (after : List ℕ) → ComesOf (Some k) goes_on → DescribedMemory o claims m.story after → Expected (Some k) (Ok (rewriting after))
   unfolding Expected LeadsIn AssignedIn changed
-  rewrites k after comes is = inr (goes_on, comes, record { gives = tt; assigns = tt; memory = is; tests = refl; leads = refl; kept = (tt, tt); needs = refl; goes = refl; acts = refl })
+  rewrites k after comes is = inr (goes_on, comes, record { gives = tt; assigns = tt; memory = is; tests = refl; leads = refl; kept = (tt, tt); needs = refl; goes = refl; acts = refl; stays = refl })
 
   rearranges : (k : Operation) (r : Result (List ℕ) ObjectError) → ComesOf (Some k) goes_on → IsOkAnd r (DescribedMemory o claims m.story) → Expected (Some k) (rearranging r)
   rearranges k (Ok after) comes is = rewrites k after comes is
@@ -446,7 +451,7 @@ module _ {V : Type 0} (o : SetOperations V) (lawful : AreSound o) (claims : Clai
   -- a number is drawn, or a word is needed
   draws : (effect : Effect) → Draws o lawful (args 0) (arg all.values 0) (all.members 0) effect → Expected (Some Random) (Ok effect)
   unfolding Expected LeadsIn AssignedIn outcome_of changed
-  draws effect (number_drawn x mode uses is member) = subst (λ (e : Effect). Expected (Some Random) (Ok e)) (sym is) (inr (gives_in (drawn_set o (args 0)), (true, refl), record { gives = member; assigns = tt; tests = refl; leads = refl; kept = (tt, tt); memory = tt; needs = refl; goes = refl; acts = refl }))
+  draws effect (number_drawn x mode uses is member) = subst (λ (e : Effect). Expected (Some Random) (Ok e)) (sym is) (inr (gives_in (drawn_set o (args 0)), (true, refl), record { gives = member; assigns = tt; tests = refl; leads = refl; kept = (tt, tt); memory = tt; needs = refl; goes = refl; acts = refl; stays = refl }))
   draws effect (word_needed is) = subst (λ (e : Effect). Expected (Some Random) (Ok e)) (sym is) (inl (record { tests = refl; moves = refl; why = a_need needs.Random refl }))
 
   -- a line is asked for, stored, or needed
@@ -455,8 +460,34 @@ module _ {V : Type 0} (o : SetOperations V) (lawful : AreSound o) (claims : Clai
   hears shown text parse effect (first_asked is) = inl (record { tests = ap (λ (e : Effect). e.tests) is; moves = ap (λ (e : Effect). e.moves) is; why = a_prompt shown is })
   hears shown text parse effect (line_stored line is) =
       let memory = line_described o lawful claims m.story loaded supports s.memory d.memory (arg all.values 0) (arg all.values 1) text parse line d.is_state.bytes d.is_state.objects d.is_state.tables in
-      subst (λ (e : Effect). Expected (Some ReadLine) (Ok e)) (sym is) (inr (goes_on, (true, refl), record { gives = tt; assigns = tt; tests = refl; leads = refl; kept = (tt, tt); memory = memory; needs = refl; goes = refl; acts = refl }))
+      subst (λ (e : Effect). Expected (Some ReadLine) (Ok e)) (sym is) (inr (goes_on, (true, refl), record { gives = tt; assigns = tt; tests = refl; leads = refl; kept = (tt, tt); memory = memory; needs = refl; goes = refl; acts = refl; stays = refl }))
   hears shown text parse effect (line_needed is) = inl (record { tests = ap (λ (e : Effect). e.tests) is; moves = ap (λ (e : Effect). e.moves) is; why = a_need needs.Line (ap (λ (e : Effect). e.needs) is) })
+
+  -- an event that is used answers a branch, or is needed
+  answers_by : (k : Operation) (c : Bool) (need : Need) → ComesOf (Some k) (asks c untold) → Expected (Some k) (Ok (record (testing c) { uses = Some need }))
+  unfolding Expected LeadsIn AssignedIn changed
+  answers_by k c need comes = inr (asks c untold, comes, record { gives = tt; assigns = tt; tests = refl; leads = refl; kept = (tt, tt); memory = tt; needs = refl; goes = refl; acts = refl; stays = refl })
+
+  waits_for : (k : Operation) (need : Need) → Expected (Some k) (Ok (record proceeds { needs = Some need }))
+  unfolding Expected
+  waits_for k need = inl (record { tests = refl; moves = refl; why = a_need need refl })
+
+  saves_expected : (waiting : Option Event) → Expected (Some Save) (Ok (saving waiting))
+  unfolding outcome_of
+  saves_expected (Some (events.Saved kept)) = answers_by Save kept needs.Saved (kept, refl)
+  saves_expected (Some (events.Line line)) = waits_for Save needs.Saved
+  saves_expected (Some (events.Random w)) = waits_for Save needs.Saved
+  saves_expected (Some events.NotRestored) = waits_for Save needs.Saved
+  saves_expected None = waits_for Save needs.Saved
+
+  -- that there is no save to go on from is the one edge of a restore
+  restores_expected : (waiting : Option Event) → Expected (Some Restore) (Ok (unrestored waiting))
+  unfolding outcome_of
+  restores_expected (Some events.NotRestored) = answers_by Restore false needs.Restore (false, refl)
+  restores_expected (Some (events.Line line)) = waits_for Restore needs.Restore
+  restores_expected (Some (events.Random w)) = waits_for Restore needs.Restore
+  restores_expected (Some (events.Saved kept)) = waits_for Restore needs.Restore
+  restores_expected None = waits_for Restore needs.Restore
 
   by_operation : (k : Operation) → Asked (demands_of o k args) → CallsOf (Some k) → Expected (Some k) (effect_of m k all.values t)
   unfolding Expected demands_of outcome_of effect_of
@@ -527,6 +558,9 @@ module _ {V : Type 0} (o : SetOperations V) (lawful : AreSound o) (claims : Clai
       let line = line_shown o lawful claims m.story loaded supports s.memory d.memory rule.line in let shown = line.1 in
       let taken = line_taken o lawful claims m.story loaded supports s.memory d.memory (arg all.values 0) (arg all.values 1) text parse in
       rw (shown, taken) (hears line.0 text parse _ (hearing_comes m.story (arg all.values 0) (arg all.values 1) s.memory line.0 s.prompted s.waiting))
+  by_operation Save rule begins = saves_expected t.waiting
+  by_operation Restore rule begins = restores_expected t.waiting
+  by_operation Restart rule begins = inl (record { tests = refl; moves = refl; why = a_restart refl })
 
   by_played : (k : Option Operation) → IsTrue (is_some k) → Asked (demands_if o k args) → CallsOf k → Expected k (effect_if m k all.values t)
   by_played None played rule begins = absurd cc
@@ -693,14 +727,15 @@ module _ {V : Type 0} (o : SetOperations V) (lawful : AreSound o) (claims : Clai
       steps ∙ ap (λ (r : Result Effect Halt). r >>= made_by m s t i) is ∙ settled effect admitted ∙ ap (λ (r : Result (Unit {0}) Halt). r >>= λ _. Ok (done_at m s t i effect)) unpaused
 
   -- all of it is done at once
-  came_is : (effect : Effect) → effect.prompts ≡ false → came m.story i effect t s ≡ act m.story i effect t
-  came_is effect acts = rw acts refl
+  came_is : (effect : Effect) → effect.prompts ≡ false → effect.restarts ≡ false → came m.story i effect t s ≡ act m.story i effect t
+  came_is effect acts stays = rw (acts, stays) refl
 
-  -- one that leads nowhere isn't done, or leaves a mark
+  -- one that leads nowhere isn't done, leaves a mark, or begins anew
   still_described : (effect : Effect) → IsStill effect → pauses m.limit (target i) effect (course effect i.branch) t ≡ Ok tt → Described o claims m.limit m.story (came m.story i effect t s)
   still_described effect (a_quit needs stands) ok = absurd (pauses_there m.limit (target i) effect (course effect i.branch) t (inr stands) ok)
   still_described effect (a_need need needs) ok = absurd (pauses_there m.limit (target i) effect (course effect i.branch) t (inl (ap is_some needs)) ok)
   still_described effect (a_prompt line is) ok = subst (λ (e : Effect). Described o claims m.limit m.story (came m.story i e t s)) (sym is) (prompted_described o claims m.story m.limit s d)
+  still_described effect (a_restart is) ok = subst (λ (e : Effect). Described o claims m.limit m.story (came m.story i e t s)) (sym is) (restarted_described o claims m.story loaded supports m.limit t d.is_state.count)
 
   finish : (r : Result Effect Halt) → effect_if m (operation_of i.opcode) all.values t ≡ r → Expected (operation_of i.opcode) r → IsSafe o claims m.limit m.story (r >>= made_by m s t i)
   unfolding Expected
@@ -709,7 +744,7 @@ module _ {V : Type 0} (o : SetOperations V) (lawful : AreSound o) (claims : Clai
       (paused effect (pauses m.limit (target i) effect (course effect i.branch) t) (pauses_fine m.limit (target i) effect (course effect i.branch) t) (still_described effect still.why))
   finish (Ok effect) is (inr (w, comes, matches)) =
       let ok = admitted w effect comes matches in
-      let same = came_is effect matches.acts in
+      let same = came_is effect matches.acts matches.stays in
       subst (IsSafe o claims m.limit m.story) (sym (settled effect ok))
       (paused effect (pauses m.limit (target i) effect (course effect i.branch) t) (pauses_fine m.limit (target i) effect (course effect i.branch) t)
       (λ unpaused. subst (Described o claims m.limit m.story) (sym same) (acted w effect comes matches (subst (IsState m.limit m.story) same (step_keeps m s (done_at m s t i effect) loaded.sound d.is_state (made_is effect is ok unpaused))))))

@@ -1,18 +1,18 @@
 -- When claims describe a state (own).
 use Rattle.std.specs.Prelude.{◌≡◌, ℕ, ◌-◌, ◌<◌, ◌≤◌, true, List, [], ◌∷◌, length, Some, MatchOption, Result, Ok, Err, pos, slice_get, slice_set, ◌==◌, nat_lt}
 use Rattle.std.specs.Bool.{MatchBool}
-use Rattle.std.specs.List.{AllZip}
+use Rattle.std.specs.List.{AllByRecursion, AllZip}
 use Rattle.zstory.specs.Bytes.{byte_at}
 use Rattle.zstory.specs.LoadedStory.{LoadedStory}
 use Rattle.zdomain.specs.Domain.{SetOperations, In}
 use Rattle.zstate.specs.declared.halt.Halt.{Halt}
 use Rattle.zstate.specs.declared.halt.Halt.TheVariants as halts
-use Rattle.zstate.specs.State.{Frame, State, Scope, Setting, IsState, opening, scope_all}
+use Rattle.zstate.specs.State.{Frame, State, Scope, Setting, IsCount, IsState, opening, restarted, scope_all}
+use Rattle.zstate.specs.Saves.{restoring}
 use Rattle.zstate.specs.Step.{Done, step}
-use Rattle.zstate.specs.Run.{run}
+use Rattle.zstate.specs.Run.{Input, Given, Restored, run}
 use Rattle.zstate.specs.declared.halt.Stop.{Stop}
 use Rattle.zstate.specs.declared.halt.Stop.TheVariants as stops
-use Rattle.zfault.specs.declared.event.Event.{Event}
 use Rattle.zstory.specs.LoadedStory.{IsSound}
 use Rattle.zstory.specs.Objects.{IsObjectCount}
 use Rattle.zobj.specs.Tree.{IsTree}
@@ -67,6 +67,18 @@ module _ {V : Type 0} (o : SetOperations V) (claims : Claims V) where
   IsSafe limit story (Err halts.Quit) = Unit {0}
   IsSafe limit story (Err halts.FrameLimit) = Unit {0}
 
+  -- bytes of a save from which play goes on in described states alone, wherever it is asked for (own)
+  abbrev pub IsFineSave : Setting → List ℕ → Type 0
+  IsFineSave m bytes = (s t : State) → IsState m.limit m.story s → restoring m bytes s ≡ Ok t → Described m.limit m.story t
+
+  -- every event is fine
+  abbrev pub IsFine : Setting → Input → Type 0
+  IsFine m (Given e) = Unit {0}
+  IsFine m (Restored bytes) = IsFineSave m bytes
+
+  abbrev pub AreFine : Setting → List Input → Type 0
+  AreFine m inputs = AllByRecursion (IsFine m) inputs
+
   -- every listed place may be played there, and every routine called
   pub record IsListedIn (scope : Scope) : Type 0 where
     pub places : (p : ℕ) (e : Entry V) → claims.entry p ≡ Some e → scope.instructions p ≡ true
@@ -89,14 +101,19 @@ module _ {V : Type 0} (o : SetOperations V) (claims : Claims V) where
   abbrev pub OpensDescribed : Type 0
   OpensDescribed = (story : LoadedStory) (limit : ℕ) → IsLoadedStory story → Supports o claims story → Described o claims limit story (opening story)
 
+  -- and so is the state after a restart, whatever was before it
+  abbrev pub RestartsDescribed : Type 0
+  RestartsDescribed = (story : LoadedStory) (limit : ℕ) (s : State) → IsLoadedStory story → Supports o claims story → IsCount s.random → Described o claims limit story (restarted story s)
+
   -- a step from a described state is no fault, and leads to a described state
   abbrev pub StepsSafely : Type 0
   StepsSafely = (m : Setting) (s : State) → IsLoadedStory m.story → Supports o claims m.story → IsListedIn o claims m.scope → Described o claims m.limit m.story s → IsSafe o claims m.limit m.story (step m s)
 
-  -- a run from a described state stops with no fault, in a described state, whatever the events and the number of steps
+  -- a run from a described state stops with no fault, in a described state, whatever the events and the number of steps, and
+  -- whatever the saves, as long as they are fine
   abbrev pub RunsSafely : Type 0
-  RunsSafely = (m : Setting) (events : List Event) (n : ℕ) (s : State) → IsLoadedStory m.story → Supports o claims m.story → IsListedIn o claims m.scope → Described o claims m.limit m.story s → IsNoFault (run m events n s).stop × Described o claims m.limit m.story (run m events n s).state
+  RunsSafely = (m : Setting) (inputs : List Input) (n : ℕ) (s : State) → IsLoadedStory m.story → Supports o claims m.story → IsListedIn o claims m.scope → AreFine o claims m inputs → Described o claims m.limit m.story s → IsNoFault (run m inputs n s).stop × Described o claims m.limit m.story (run m inputs n s).state
 
   -- a story of which the claims hold never faults, where every place of it may be played, however many frames there may be
   abbrev pub NeverFaults : Type 0
-  NeverFaults = (story : LoadedStory) (limit : ℕ) (events : List Event) (n : ℕ) → IsLoadedStory story → Supports o claims story → IsNoFault (run (record { story = story; scope = scope_all story; limit = limit }) events n (opening story)).stop
+  NeverFaults = (story : LoadedStory) (limit : ℕ) (inputs : List Input) (n : ℕ) → IsLoadedStory story → Supports o claims story → AreFine o claims (record { story = story; scope = scope_all story; limit = limit }) inputs → IsNoFault (run (record { story = story; scope = scope_all story; limit = limit }) inputs n (opening story)).stop

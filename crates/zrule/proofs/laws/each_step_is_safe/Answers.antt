@@ -1,4 +1,5 @@
 use Rattle.zrule.proofs.Opening.{opening_described}
+use Rattle.zrule.proofs.Restarting.{restarted_described}
 use Rattle.zrule.proofs.Steps.{step_safe}
 use Rattle.zrule.proofs.Runs.{run_safe, never_faults}
 use Rattle.zrule.proofs.laws.each_step_is_safe.Goals as goal
@@ -6,11 +7,14 @@ use Rattle.zrule.proofs.laws.each_step_is_safe.Goals as goal
 pub returns-clause-opening : goal.returns-clause-opening
 returns-clause-opening g c = λ claims. opening_described g.V.Domain.operations claims
 
+pub returns-clause-restart : goal.returns-clause-restart
+returns-clause-restart g c = λ claims story limit s loaded supports count. restarted_described g.V.Domain.operations claims story loaded supports limit s count
+
 pub returns-clause-step : goal.returns-clause-step
 returns-clause-step g c = λ claims m s loaded supports listed d. step_safe g.V.Domain.operations g.met.V.Domain.sound claims m s loaded supports listed d
 
 pub returns-clause-runs : goal.returns-clause-runs
-returns-clause-runs g c = λ claims m events n s loaded supports listed d. run_safe g.V.Domain.operations g.met.V.Domain.sound claims m loaded supports listed events n s d
+returns-clause-runs g c = λ claims m inputs n s loaded supports listed fine d. run_safe g.V.Domain.operations g.met.V.Domain.sound claims m loaded supports listed inputs n s fine d
 
 pub returns-clause-never_faults : goal.returns-clause-never_faults
-returns-clause-never_faults g c = λ claims story limit events n loaded supports. never_faults g.V.Domain.operations g.met.V.Domain.sound claims story limit events n loaded supports
+returns-clause-never_faults g c = λ claims story limit inputs n loaded supports fine. never_faults g.V.Domain.operations g.met.V.Domain.sound claims story limit inputs n loaded supports fine
