@@ -12,4 +12,4 @@ returns-in-Err c = record {
 
 pub returns : goal.returns
 returns c =
-    restart_made c.args.story.now c.args.row.now c.args.state.now c.restart.new.state c.globals_are_dynamic.ensures c.requires.loaded c.in_default.field-0 c.in_default.ensures c.restart.ensures
+    restart_made c.args.story.now c.args.row.now c.args.state.now c.restart.new.self c.globals_are_dynamic.ensures c.requires.loaded c.in_default.field-0 c.in_default.ensures c.restart.ensures
