@@ -6,7 +6,9 @@ mod Hearing
 mod Keeping
 pub mod Running
 mod Plain
+mod Resuming
 mod Rewriting
+mod Saving
 mod Short
 mod Showing
 mod Stepping

@@ -4,3 +4,4 @@ pub mod Machine
 pub mod Plan
 pub mod Random
 pub mod Row
+pub mod Saves

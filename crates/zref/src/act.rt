@@ -117,7 +117,13 @@ fn assigned_on_leaving(effect: Effect, target: u8) -> Option<(u8, u16)>
 
 /// Changes variables, and goes back to the caller with a value.
 #[inline(always)]
-fn go_back(story: &Story, state: &mut State, assigns: Option<(u8, u16)>, popped: usize, word: u16)
+pub(crate) fn go_back(
+    story: &Story,
+    state: &mut State,
+    assigns: Option<(u8, u16)>,
+    popped: usize,
+    word: u16,
+)
     requires memory { length state.old.memory ≡ length story.now.memory }
     requires reached { state.old.frame.return_place < 2 ^ 24 }
     requires way { IsOpenWay (Course.Back word) state.old }

@@ -66,7 +66,7 @@ fn halt_next(
 
 /// The row of the instruction at the place.
 #[tactic(auto, unfolding(zstate::specs::Step::fetch))]
-fn row_of_next(story: &Story, scope: &Scope, state: &State) -> Result<Row, Halt>
+pub(crate) fn row_of_next(story: &Story, scope: &Scope, state: &State) -> Result<Row, Halt>
     requires memory { length state.now.memory ≡ length story.now.memory }
     requires loaded { IsAsLoaded story.now state.now.memory }
     ensures found { IfOk result (IsFetched (scope_of story.now scope.now) state.now.place state.now.memory) }

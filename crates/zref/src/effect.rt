@@ -1,7 +1,8 @@
 //! What an instruction does, once nothing is wrong with it.
 
 /// The effect of a plain instruction, in parts that don't depend on one another. Plain is what neither calls nor changes what objects or
-/// arrays keep, and shows no status line, draws no number and reads no line. What is printed stands aside.
+/// arrays keep, shows no status line, draws no number, reads no line and has to do with no save nor restart. What is printed stands
+/// aside.
 #[derive(Clone, Copy)]
 pub(crate) struct Effect {
     /// The value that goes to the result variable.

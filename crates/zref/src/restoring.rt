@@ -1,0 +1,76 @@
+//! Saves from which play goes on (Z 15 restore).
+
+ghost use Rattle.std.specs.Prelude.{◌≡◌, length, Ok, Some, IfErr, IfOk};
+ghost use Rattle.zstory.specs.Bytes.{AreBytes};
+ghost use Rattle.zstory.specs.LoadedStory.{IsSound};
+ghost use Rattle.zstate.specs.Saves.{is_save, restoring, saves};
+ghost use Rattle.zstate.specs.State.{IsState, usual_limit};
+ghost use Rattle.zstate.specs.Step.{fetch};
+ghost use Rattle.zref.specs.Machine.{scope_of, setting_of};
+ghost use Rattle.zref.specs.Row.{IsAsLoaded};
+ghost use Rattle.zref.specs.Saves.{IsRefused};
+
+use crate::awaiting::row_of_next;
+use crate::scope::Scope;
+use std::alloc::Global;
+use zcode::Operation;
+use zquetzal::{SaveError, read};
+use zstate::{State, saves_are_states};
+use zstory::Story;
+
+/// The state in which play goes on from a save, which is judged as a whole first.
+pub(crate) fn restored(
+    alloc: Global,
+    story: &Story,
+    scope: &Scope,
+    state: &State,
+    save: &[u8],
+) -> Result<State, SaveError>
+    requires sound { IsSound story.now.memory }
+    requires state { IsState usual_limit story.now state.now }
+    ensures ok { IfOk result (λ next. restoring (setting_of story.now scope.now) save.now state.now ≡ Ok next) }
+    ensures err { IfErr result (IsRefused (setting_of story.now scope.now) save.now state.now) }
+    ensures holds { IfOk result (IsState usual_limit story.now) }
+    ensures loaded { IfOk result (λ next. IsAsLoaded story.now next.memory) }
+{
+    let view = match read(story, save) {
+        Ok(view) => view,
+        Err(error) => return Err(error),
+    };
+    saves_are_states();
+    are_bytes(view.memory());
+    let next = match State::resumed(alloc, story, &view, state) {
+        Ok(next) => next,
+        Err(_) => return Err(SaveError::OutOfMemory),
+    };
+    if is_at_save(story, scope, &next) {
+        Ok(next)
+    } else {
+        Err(SaveError::Place)
+    }
+}
+
+/// Whether a `save` stands at the place, and may be played.
+fn is_at_save(story: &Story, scope: &Scope, state: &State) -> bool
+    requires memory { length state.now.memory ≡ length story.now.memory }
+    requires loaded { IsAsLoaded story.now state.now.memory }
+    ensures { result ≡ saves (fetch (scope_of story.now scope.now) state.now.place state.now.memory) }
+{
+    match row_of_next(story, scope, state) {
+        Ok(row) => is_save(row.operation),
+        Err(_) => false,
+    }
+}
+
+/// Whether an operation is that of `save`.
+#[tactic(auto, using(crate::proofs::Resuming::seeking))]
+fn is_save(operation: Operation) -> bool
+    ensures { result ≡ is_save (Some operation) }
+{
+    matches!(operation, Operation::Save)
+}
+
+/// Bytes are below 256.
+fn are_bytes(bytes: &[u8])
+    ensures { AreBytes bytes.now }
+{}
