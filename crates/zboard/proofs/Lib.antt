@@ -10,6 +10,7 @@ pub mod StepLemmas
 pub mod Reading
 pub mod Changes
 pub mod FromOutside
+pub mod Told
 pub mod Onward
 pub mod Families
 pub mod Full
