@@ -19,5 +19,6 @@ pub mod Stepped
 pub mod Inside
 pub mod Known
 pub mod Playing
+pub mod Laying
 pub mod Rows
 mod Worked

@@ -7,3 +7,4 @@ pub mod View
 pub mod Table
 pub mod Met
 pub mod Play
+pub mod Resuming

@@ -13,6 +13,7 @@ mod outside;
 mod place;
 mod properties;
 mod quick;
+mod resuming;
 mod returning;
 mod row;
 mod running;
