@@ -20,5 +20,6 @@ pub mod Inside
 pub mod Known
 pub mod Playing
 pub mod Laying
+pub mod Kept
 pub mod Rows
 mod Worked

@@ -8,3 +8,4 @@ pub mod Table
 pub mod Met
 pub mod Play
 pub mod Resuming
+pub mod Saving
