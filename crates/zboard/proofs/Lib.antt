@@ -13,6 +13,7 @@ pub mod FromOutside
 pub mod Told
 pub mod Onward
 pub mod Families
+pub mod Operations
 pub mod Full
 pub mod Quiet
 pub mod Stepped

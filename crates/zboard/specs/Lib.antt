@@ -3,6 +3,7 @@ pub mod Position
 pub mod Head
 pub mod Outside
 pub mod Deed
+pub mod Doing
 pub mod View
 pub mod Table
 pub mod Met
