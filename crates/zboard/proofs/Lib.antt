@@ -10,13 +10,17 @@ pub mod StepLemmas
 pub mod Reading
 pub mod Changes
 pub mod FromOutside
+pub mod Told
 pub mod Onward
 pub mod Families
+pub mod Operations
 pub mod Full
 pub mod Quiet
 pub mod Stepped
 pub mod Inside
 pub mod Known
 pub mod Playing
+pub mod Laying
+pub mod Kept
 pub mod Rows
 mod Worked

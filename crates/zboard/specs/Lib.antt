@@ -3,7 +3,10 @@ pub mod Position
 pub mod Head
 pub mod Outside
 pub mod Deed
+pub mod Doing
 pub mod View
 pub mod Table
 pub mod Met
 pub mod Play
+pub mod Resuming
+pub mod Saving

@@ -1,8 +1,9 @@
-//! What comes to a game from outside: random numbers and lines of the player.
+//! What comes to a game from outside: random numbers, lines of the player, and what is told of saves.
 
 ghost use Rattle.std.specs.Prelude.{◌≡◌, ◌<◌, ◌≤◌};
-ghost use Rattle.zboard.specs.Outside.{after_draw, lacks_line, lacks_word, number_drawn};
+ghost use Rattle.zboard.specs.Outside.{after_draw, after_told, lacks_line, lacks_word, number_drawn, told};
 
+use crate::row::Outcome;
 use zfault::Event;
 use zstate::RandomMode;
 
@@ -81,5 +82,30 @@ impl Outside {
         ensures { result ≡ lacks_line self.now }
     {
         self.prompted && !matches!(self.waiting, Some(Event::Line(_)))
+    }
+
+    /// What was told of a save, which is used up; `None` where it wasn't told (Z 15 save, restore).
+    #[inline(never)]
+    pub(crate) fn tell(&mut self, kind: Outcome) -> Option<bool>
+        ensures told { result ≡ told kind self.old.waiting }
+        ensures rest { self.new ≡ after_told (told kind self.old.waiting) self.old }
+    {
+        let told = self.told(kind);
+        if told.is_some() {
+            self.waiting = None;
+        }
+        told
+    }
+
+    /// What was told of a save, if it was.
+    #[inline(never)]
+    pub(crate) fn told(&self, kind: Outcome) -> Option<bool>
+        ensures { result ≡ told kind self.now.waiting }
+    {
+        match (kind, &self.waiting) {
+            (Outcome::Saved, Some(Event::Saved(kept))) => Some(*kept),
+            (Outcome::Restored, Some(Event::NotRestored)) => Some(false),
+            _ => None,
+        }
     }
 }
