@@ -7,6 +7,7 @@ mod lines;
 mod machine;
 mod outside;
 mod player;
+mod saving;
 mod seeded;
 mod turns;
 
