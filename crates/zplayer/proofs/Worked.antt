@@ -117,10 +117,10 @@ gets = (refl, (λ e. cc), λ e. cc)
 -- ---- the world
 
 module _ (m : Setting) (s : State) (store : Store) where
-  any : State → Type 0
+  abbrev any : State → Type 0
   any t = ⊤
 
-  silent : World
+  abbrev silent : World
   silent = world None None store
 
   -- a line goes to a line, and a word to a random word, and neither one does to a save

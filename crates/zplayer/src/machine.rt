@@ -139,16 +139,14 @@ impl<'a> Machine for CheckedMachine<'a> {
 impl<'a, V: Spelled> Machine for Session<'a, V> {
     ghost use Rattle.std.specs.Prelude.{refl};
     ghost use Rattle.std.proofs.Common.{◌∙◌, ap, subst, sym};
-    ghost use Rattle.zplay.specs.Accepted.{claims};
     ghost use Rattle.zplay.specs.Session.{setting as setting_of_session, setting_of};
-    ghost use Rattle.zrule.specs.Described.{Described};
-    ghost use Rattle.zstate.specs.State.{usual_limit};
+    ghost use Rattle.zplayer.specs.Stories.{Describes};
 
     ghost setting = { setting_of_session };
 
     ghost state = { λ p. p.state };
 
-    ghost Takes = { λ p. Described V.operations (claims V.operations p.accepted) usual_limit p.accepted.story };
+    ghost Takes = { λ p. Describes V.operations p.accepted };
 
     ghost Wants = { GivesOrSaves };
 
@@ -180,5 +178,5 @@ impl<'a, V: Spelled> Machine for Session<'a, V> {
 
     ghost same_setting = { λ old new same. ap setting_of same };
 
-    ghost same_takes = { λ old new same s. (subst (λ a. Described V.operations (claims V.operations a) usual_limit a.story s) same, subst (λ a. Described V.operations (claims V.operations a) usual_limit a.story s) (sym same)) };
+    ghost same_takes = { λ old new same s. (subst (λ a. Describes V.operations a s) same, subst (λ a. Describes V.operations a s) (sym same)) };
 }

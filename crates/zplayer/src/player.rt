@@ -3,15 +3,13 @@
 ghost use Rattle.std.specs.Prelude.{◌≡◌, ◌≢◌, ℤ, false, true, [], Some, IsErrOf, IfOk, MatchBool, MatchResult, OnErr, ⊤};
 ghost use Rattle.std.specs.Io.KnownBytes.{IsAtEnd, Keeps};
 ghost use Rattle.zfault.specs.declared.fault.Fault.{Fault as AFault};
-ghost use Rattle.zrule.specs.Described.{Described};
 ghost use Rattle.zstate.specs.Run.{awaited};
-ghost use Rattle.zstate.specs.State.{usual_limit};
 ghost use Rattle.zref.specs.Machine.{setting, SamePlay};
-ghost use Rattle.zplay.specs.Accepted.{claims};
 ghost use Rattle.zplay.specs.Session.{setting_of};
 ghost use Rattle.zplayer.specs.Lines.{Hears, unused};
 ghost use Rattle.zplayer.specs.Outside.{Blames};
 ghost use Rattle.zplayer.specs.Playing.{ComesTo, GivesOrSaves, Supplies, WantsOrSaves};
+ghost use Rattle.zplayer.specs.Stories.{Describes};
 ghost use Rattle.zplayer.specs.World.{Asks, told, world};
 
 use crate::end::{End, Options, PlayError};
@@ -64,7 +62,7 @@ pub fn play_story<V: Spelled, R: Source, W: Sink, S: SaveStore, G: Words>(
     options: Options,
 ) -> Result<End, PlayError>
     ensures play { session.new.accepted ≡ session.old.accepted }
-    ensures comes { ComesTo (setting_of session.old.accepted) (Described V.operations (claims V.operations session.old.accepted) usual_limit session.old.accepted.story) (GivesOrSaves (setting_of session.old.accepted)) options (world (R.remaining reader.old) (G.coming words.old) (told S.kept S.failures store.old)) session.old.state session.new.state (G.coming words.new) (told S.kept S.failures store.new) (W.contents writer.old) (W.contents writer.new) result }
+    ensures comes { ComesTo (setting_of session.old.accepted) (Describes V.operations session.old.accepted) (GivesOrSaves (setting_of session.old.accepted)) options (world (R.remaining reader.old) (G.coming words.old) (told S.kept S.failures store.old)) session.old.state session.new.state (G.coming words.new) (told S.kept S.failures store.new) (W.contents writer.old) (W.contents writer.new) result }
     ensures no_fault { IfOk result (λ end. (fault : AFault) (place : ℤ) → end ≢ End.Fault fault place) }
     ensures reads { Blames PlayError.Read result (R.failures reader.old) (R.failures reader.new) }
     ensures writes { Blames PlayError.Write result (W.failures writer.old) (W.failures writer.new) }
