@@ -1,16 +1,17 @@
 -- Which subcommand clap enters where it makes matches.
-use Rattle.std.proofs.Common.{◌≡◌, ◌∙◌, ◌&&◌, ◌||◌, Bool, true, false, not, refl, sym, ap, ap₂, subst, ℕ, ◌⊎◌, inl, inr, List, [], ◌∷◌, ◌++◌, Option, Some, None, if◌then◌else◌}
-use Rattle.std.specs.Prelude.{codes, fold, is_some, option_map, unwrap_or}
+use Rattle.std.proofs.Common.{◌≡◌, ◌∙◌, ◌&&◌, ◌||◌, Bool, true, false, true≢false, not, refl, sym, ap, ap₂, subst, ℕ, ◌⊎◌, inl, inr, List, [], ◌∷◌, ◌++◌, Option, Some, None, if◌then◌else◌}
+use Rattle.std.specs.Prelude.{IsErr, IsErrAnd, IsSomeAnd, Result, Ok, Err, codes, fold, is_some, option_map, unwrap_or}
 use Rattle.std.specs.List.{list_any}
 use Rattle.std.specs.Str.{bytes_eq}
 use Rattle.clap.specs.Facts.{explicit_source}
 use Rattle.clap.specs.Takes.{is_given}
 use Rattle.std.proofs.lemmas.Slice.Eq.{bytes_eq-Decides}
 use Rattle.clap.specs.Lexer.{long_of, short_of}
-use Rattle.clap.specs.Kinds.{Kinds, check_kinds, or_else}
+use Rattle.clap.specs.Kinds.{FailsBy, HasKind, Kinds, check_kinds, or_else}
 use Rattle.clap.specs.Walk.{Held, Names, Outcome, Rule, Step, Text, Waiting, Walk, after_flag, after_step, answers_to, arg_by_index, done, finished, idle, long_or_other, next, nothing_held, option, plain, plain_word, positional, refused, settled, short_or_plain, subcommand, subcommand_met, subcommand_or_other, to_positional, trailing, value, waits, walk, walk_from, walked, walked_from, word_met}
 use Rattle.clap.specs.Simple.{App, Shape, built, entered, label_of, names_of, rows_at}
 use Rattle.clap.specs.Faults.{built_fault, check_fault, defaults_fault, entered_fault, fault_of, is_simple_and_free, other_fault, settle_fault, turn_fault, walk_fault}
+use Rattle.clap.specs.declared.error.Error.{Error}
 use Rattle.clap.specs.declared.error.kind.ErrorKind.TheVariants as kinds
 use Rattle.clap.specs.Words.{HasMatchesOf, Row, app_of, is_simple, subcommand_name_of, subcommand_of, subcommand_rows_of}
 use Rattle.clap.specs.declared.builder.command.Command.{Command}
@@ -206,6 +207,12 @@ module _ (program : Command) (m : ArgMatches) (words : List Text) (is : app_of p
   pub no_fault : fault_of zpc_app words ≡ []
   no_fault = subst (λ (a : App). fault_of a words ≡ []) is (free (ap is_simple_and_free is))
 
+  -- what holds of the matches that it makes holds of those of the definition
+  pub command_read : (P : Text × List Row → Type 0) → HasMatchesOf (app_of program) words m → IsSomeAnd (subcommand_rows_of m) P → IsSomeAnd (subcommand_of zpc_app words) P
+  command_read P matches h =
+      let rows : (subcommand_rows_of m) ≡ subcommand_of zpc_app words = (matches (ap is_simple is)).1 ∙ ap (λ (a : App). subcommand_of a words) is in
+      subst (λ (o : Option (Text × List Row)). IsSomeAnd o P) rows h
+
   pub command_named : HasMatchesOf (app_of program) words m → (subcommand_name_of m ≡ Some (codes "list")) ⊎ ((subcommand_name_of m ≡ Some (codes "check")) ⊎ (subcommand_name_of m ≡ Some (codes "play")))
   command_named matches = go (command_entered words no_fault)
     where
@@ -220,3 +227,10 @@ module _ (program : Command) (m : ArgMatches) (words : List Text) (is : app_of p
       go (found, e, inl name) = inl (named_so found e _ name)
       go (found, e, inr (inl name)) = inr (inl (named_so found e _ name))
       go (found, e, inr (inr name)) = inr (inr (named_so found e _ name))
+
+-- and what it fails with has a kind that the definition names
+pub command_fails : {T : Type 0} (program : Command) (words : List Text) (error : Error) (r : Result T Error) → app_of program ≡ zpc_app → (is_simple_and_free (app_of program) ≡ true → HasKind (fault_of (app_of program) words) error)
+    → IsErr r × IsErrAnd r (λ e. e ≡ error) → FailsBy (fault_of zpc_app words) r
+command_fails program words error (Ok x) is fails (err, same) = absurd (true≢false (sym err))
+command_fails program words error (Err e) is fails (err, same) =
+    subst (λ (x : Error). HasKind (fault_of zpc_app words) x) (sym same) (subst (λ (a : App). HasKind (fault_of a words) error) is (fails (ap is_simple_and_free is)))

@@ -17,7 +17,7 @@ use Rattle.clap.specs.Words.{ReadsOne, Row, Text, first_value, one_text, rows_of
 use Rattle.clap.specs.declared.parser.matches.ArgMatches.{ArgMatches}
 use Rattle.clap.specs.declared.parser.matches.ArgMatches.TheViews.{out-ArgMatches, out-SubCommand}
 use Rattle.clap.specs.Simple.{subcommand_rows}
-use Rattle.zcommand.specs.CommandLine.{certificate_of, is_status_asked, number_in, number_of, story_of}
+use Rattle.zcommand.specs.CommandLine.{certificate_of, is_status_asked, number_in, number_of, save_of, story_of}
 
 digits_pass : (ds : List ℕ) → AllDigits 10 ds → list_all (λ d. nat_lt (digit_value d) 10) ds ≡ true
 digits_pass [] h = refl
@@ -62,6 +62,10 @@ story_read found o d r given empty is =
 -- what the getter of texts gives of a certificate, and else the empty text
 pub certificate_given : (found : Found) (o : Option (Bor Text)) → option_map (λ s. s.now) o ≡ first_value found (codes "CERT") → option_map (λ s. s.now) o ≡ certificate_of (rows_of found)
 certificate_given found o given = given ∙ first_value-rows found (codes "CERT")
+
+-- and of a file for saves
+pub save_given : (found : Found) (o : Option (Bor Text)) → option_map (λ s. s.now) o ≡ first_value found (codes "save") → option_map (λ s. s.now) o ≡ save_of (rows_of found)
+save_given found o given = given ∙ first_value-rows found (codes "save")
 
 pub certificate_read : (found : Found) (o : Option (Bor Text)) (d r : Bor Text) → option_map (λ s. s.now) o ≡ first_value found (codes "CERT") → d.now ≡ [] → r ≡ unwrap_or o d → r.now ≡ unwrap_or (certificate_of (rows_of found)) []
 certificate_read found o d r given empty is =

@@ -38,6 +38,10 @@ budget_rule = record (new_rule (codes "budget")) {
 abbrev pub status_rule : Rule
 status_rule = record (new_rule (codes "status")) { long = Some (codes "status"); action = Some SetTrue }
 
+-- `--save FILE`
+abbrev pub save_rule : Rule
+save_rule = record (new_rule (codes "save")) { long = Some (codes "save"); value_names = 1 }
+
 -- `CERT`, which has to be there or may be
 abbrev pub certificate_rule : Bool → Rule
 certificate_rule required = record (new_rule (codes "CERT")) { required = required }
@@ -54,9 +58,9 @@ list_app = with_rule (new_app (codes "list")) story_rule
 abbrev pub check_app : App
 check_app = files_app (codes "check") true
 
--- `play STORY [CERT] --seed N --budget N --status`
+-- `play STORY [CERT] --seed N --budget N --status --save FILE`
 abbrev pub play_app : App
-play_app = with_rule (with_rule (with_rule (files_app (codes "play") false) seed_rule) budget_rule) status_rule
+play_app = with_rule (with_rule (with_rule (with_rule (files_app (codes "play") false) seed_rule) budget_rule) status_rule) save_rule
 
 -- the program, before its commands: its words don't begin with its name, and one of them is a command
 abbrev pub bare_app : App
@@ -97,26 +101,30 @@ is_status_asked rows = option_map_or (λ text. bytes_eq text (codes "true")) (on
 abbrev pub certificate_of : List Row → Option Text
 certificate_of rows = first_of (codes "CERT") rows
 
+-- the name of the file for saves among the matches of `play`, if there is one
+abbrev pub save_of : List Row → Option Text
+save_of rows = first_of (codes "save") rows
+
 -- what is asked for, by the names of files
 pub data Request : Type 0 where
   ListStory : (story : Text) → Request
   Check : (story certificate : Text) → Request
-  Play : (story : Text) (certificate : Option Text) (seed budget : ℕ) (status : Bool) → Request
+  Play : (story : Text) (certificate : Option Text) (seed budget : ℕ) (status : Bool) (save : Option Text) → Request
 
 -- the request is the one that clap's matches name, with the values among them
 abbrev pub Asks : Text × List Row → Request → Type 0
 Asks matches (ListStory story) = (matches.0 ≡ codes "list") × (story ≡ story_of matches.1)
 Asks matches (Check story certificate) =
     (matches.0 ≡ codes "check") × (story ≡ story_of matches.1) × (certificate ≡ unwrap_or (certificate_of matches.1) [])
-Asks matches (Play story certificate seed budget status) =
+Asks matches (Play story certificate seed budget status save) =
     (matches.0 ≡ codes "play") × (story ≡ story_of matches.1) × (certificate ≡ certificate_of matches.1) × (seed ≡ seed_of matches.1) × (budget ≡ budget_of matches.1)
-    × (status ≡ is_status_asked matches.1)
+    × (status ≡ is_status_asked matches.1) × (save ≡ save_of matches.1)
 
 -- what a command asks for
 abbrev pub request_of : Command → Request
 request_of (commands.List story) = ListStory story.now
 request_of (commands.Check story certificate) = Check story.now certificate.now
-request_of (commands.Play story certificate seed budget status) = Play story.now (option_map (λ c. c.now) certificate) seed budget status
+request_of (commands.Play story certificate seed budget status save) = Play story.now (option_map (λ c. c.now) certificate) seed budget status (option_map (λ f. f.now) save)
 
 -- the command is the one that clap's matches name
 abbrev pub IsReadFrom : Text × List Row → Command → Type 0

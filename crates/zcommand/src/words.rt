@@ -4,7 +4,7 @@ ghost use Rattle.std.specs.Prelude.{◌≡◌, ◌⊎◌, IfOk, IsSomeAnd, Some,
 ghost use Rattle.clap.specs.Walk.{texts};
 ghost use Rattle.clap.specs.Words.{FailsBy, app_of, fault_of, found_of, rows_of, rule_of, subcommand_name_of, subcommand_of, subcommand_rows_of};
 ghost use Rattle.clap.specs.declared.builder.command.Command.TheViews.{out-Command as fields_of};
-ghost use Rattle.zcommand.specs.CommandLine.{IsReadFrom, bare_app, budget_rule, certificate_rule, check_app, files_app, list_app, play_app, seed_rule, status_rule, story_rule, zpc_app};
+ghost use Rattle.zcommand.specs.CommandLine.{IsReadFrom, bare_app, budget_rule, certificate_rule, check_app, files_app, list_app, play_app, save_rule, seed_rule, status_rule, story_rule, zpc_app};
 
 use clap::{Arg, ArgAction, ArgMatches, Error, value_parser};
 use std::alloc::{AllocError, Global};
@@ -45,6 +45,8 @@ pub enum Command<'a> {
         budget: u32,
         /// Whether status lines are written too.
         status: bool,
+        /// The name of the file that saves are kept in, if there is one.
+        save: Option<&'a str>,
     },
 }
 
@@ -100,12 +102,14 @@ fn play_of<'a>(matches: &ArgMatches<'a>) -> Command<'a>
     let seed = matches.get_one("seed").unwrap_or(0);
     let budget = matches.get_one("budget").unwrap_or(0);
     let status = matches.get_one("status").unwrap_or(false);
+    let save = matches.get_str("save");
     Command::Play {
         story,
         certificate,
         seed,
         budget,
         status,
+        save,
     }
 }
 
@@ -155,8 +159,8 @@ fn play<'a>(alloc: Global) -> Result<clap::Command<'a>, AllocError>
         "Plays a story, with a certificate or without",
         false,
     )?;
-    let play = play.arg(seed(alloc))?;
-    play.arg(budget(alloc))?.arg(status(alloc))
+    let play = play.arg(seed(alloc))?.arg(budget(alloc))?;
+    play.arg(status(alloc))?.arg(save(alloc))
 }
 
 /// A command on a story and a certificate, which has to be there or may be.
@@ -223,4 +227,14 @@ fn status<'a>(alloc: Global) -> Arg<'a>
         .long("status")
         .help("Writes status lines too")
         .action(ArgAction::SetTrue)
+}
+
+fn save<'a>(alloc: Global) -> Arg<'a>
+    ensures rule { rule_of result ≡ save_rule }
+    ensures local { result.global ≡ false }
+{
+    Arg::new(alloc, "save")
+        .long("save")
+        .help("The file that saves are kept in")
+        .value_name("FILE")
 }

@@ -1,20 +1,20 @@
 -- What a play of a loaded story comes to.
 use Rattle.std.proofs.Common.{◌≡◌, ◌≢◌, ◌⊎◌, inl, inr, ◌∙◌, ℕ, List, [], Option, Some, true≢false, Result, Ok, Err, IsErr, IsErrAnd, refl, sym, ap, subst, arith, take}
+use Rattle.std.specs.Prelude.{⊤}
 use Rattle.zstory.specs.LoadedStory.{LoadedStory}
 use Rattle.zstory.specs.Refusal.{IsCause, IsLowest}
 use Rattle.zstory.specs.declared.load_error.LoadError.{LoadError}
 use Rattle.zstory.specs.declared.load_error.LoadError.TheVariants.{TooShort, TooLong, NotVersion3, LengthWord, StaticBase, Globals, Objects, Dictionary, EntryLength, DictionaryOrder, FirstInstruction, OutOfMemory}
 use Rattle.zstate.specs.State.{State, opening}
-use Rattle.zstate.specs.Run.{WantsMemory}
 use Rattle.zref.specs.Machine.{Machine, setting}
 use Rattle.zref.specs.declared.scope.Scope.TheVariants.{All}
 use Rattle.zplayer.specs.declared.end.End.{End}
 use Rattle.zplayer.specs.declared.end.Options.{Options}
 use Rattle.zplayer.specs.declared.end.PlayError.{PlayError}
 use Rattle.zplayer.specs.declared.end.PlayError.TheVariants as errors
-use Rattle.zplayer.specs.Playing.{ComesTo as PlayComes}
-use Rattle.zplayer.specs.Outside.{words_from}
-use Rattle.zplayer.specs.World.{Coming, World, world}
+use Rattle.zplayer.specs.Playing.{WantsOrSaves, ComesTo as PlayComes}
+use Rattle.zplayer.specs.Outside.{Coming, words_from}
+use Rattle.zplayer.specs.World.{Store, World, world}
 use Rattle.zperform.specs.declared.outcome.Failure.TheVariants.{File, Read, Write, Memory}
 use Rattle.zperform.specs.declared.outcome.Problem.{Problem}
 use Rattle.zperform.specs.declared.outcome.Problem.TheVariants.{Refused, Unreadable, BreaksStory, BreaksInstruction, Unlisted, Failed}
@@ -27,8 +27,8 @@ use Rattle.zperform.proofs.AcceptLemmas.{part_bytes, sound_bytes}
 use Rattle.zperform.proofs.StoryFiles.{holds_whole, reads, refused_whole}
 
 -- what holds with the words of a generator holds with those of one in the same state
-pub with_words : (P : World → Type 0) (input : Option (List ℕ)) (s t : List ℕ) → s ≡ t → P (world input (Some (words_from s))) → P (world input (Some (words_from t)))
-with_words P input s t is h = subst (λ (x : List ℕ). P (world input (Some (words_from x)))) is h
+pub with_words : (P : World → Type 0) (input : Option (List ℕ)) (store : Store) (s t : List ℕ) → s ≡ t → P (world input (Some (words_from s)) store) → P (world input (Some (words_from t)) store)
+with_words P input store s t is h = subst (λ (x : List ℕ). P (world input (Some (words_from x)) store)) is h
 
 -- what the part that was read comes to, the file comes to
 module _ (known : Option (List ℕ)) (taken : List ℕ) (options : Options) (given : World) (before now : Option (List ℕ)) (part : (file : List ℕ) → known ≡ Some file → taken ≡ take 131073 file) where
@@ -38,7 +38,7 @@ module _ (known : Option (List ℕ)) (taken : List ℕ) (options : Options) (giv
   played_along : (result : Result End PlayError) → Reads (Some taken) (λ file. IsPlayed file options given before now result) → Reads known (λ file. IsPlayed file options given before now result)
   played_along result h =
       along (λ file. IsPlayed file options given before now result)
-      (λ file e p. record { story = p.story; holds = holds_whole 131073 taken file (omega arith) e p.story p.holds; state = p.state; words = p.words; comes = p.comes }) h
+      (λ file e p. record { story = p.story; holds = holds_whole 131073 taken file (omega arith) e p.story p.holds; state = p.state; words = p.words; store = p.store; comes = p.comes }) h
 
   pub of_part : (outcome : Outcome) → ComesTo (Some taken) options given before now outcome → ComesTo known options given before now outcome
   of_part (Played end) h = played_along (Ok end) h
@@ -105,17 +105,17 @@ passed_on known options given before now (Ok end) problem (is, same) h = absurd 
 passed_on known options given before now (Err q) problem (is, same) h = subst (λ (x : Problem). ComesTo known options given before now (Stopped x)) (sym same) h
 
 -- a story that was loaded from a file is played
-module _ (file : List ℕ) (story : LoadedStory) (holds : Holds file story) (options : Options) (m : Machine) (opened : m ≡ record { story = story; scope = All; state = opening story }) (given : World) (before now : Option (List ℕ)) (state : State) (words : Option Coming) where
-  played : (result : Result End PlayError) → PlayComes (setting m) (WantsMemory (setting m)) options given m.state state words before now result → Reads (Some file) (λ file. IsPlayed file options given before now result)
+module _ (file : List ℕ) (story : LoadedStory) (holds : Holds file story) (options : Options) (m : Machine) (opened : m ≡ record { story = story; scope = All; state = opening story }) (given : World) (before now : Option (List ℕ)) (state : State) (words : Option Coming) (store : Store) where
+  played : (result : Result End PlayError) → PlayComes (setting m) (λ _. ⊤) (WantsOrSaves (setting m)) options given m.state state words store before now result → Reads (Some file) (λ file. IsPlayed file options given before now result)
   played result comes =
-      (file, refl, record { story = story; holds = holds; state = state; words = words; comes = subst (λ (x : Machine). PlayComes (setting x) (WantsMemory (setting x)) options given x.state state words before now result) opened comes })
+      (file, refl, record { story = story; holds = holds; state = state; words = words; store = store; comes = subst (λ (x : Machine). PlayComes (setting x) (λ _. ⊤) (WantsOrSaves (setting x)) options given x.state state words store before now result) opened comes })
 
   -- to its end
-  pub ended : (end : End) → PlayComes (setting m) (WantsMemory (setting m)) options given m.state state words before now (Ok end) → ComesTo (Some file) options given before now (Played end)
+  pub ended : (end : End) → PlayComes (setting m) (λ _. ⊤) (WantsOrSaves (setting m)) options given m.state state words store before now (Ok end) → ComesTo (Some file) options given before now (Played end)
   ended end comes = played (Ok end) comes
 
   -- or it broke off
-  pub broken : (error : PlayError) → PlayComes (setting m) (WantsMemory (setting m)) options given m.state state words before now (Err error) → ComesTo (Some file) options given before now (Stopped (problem_of_play error))
+  pub broken : (error : PlayError) → PlayComes (setting m) (λ _. ⊤) (WantsOrSaves (setting m)) options given m.state state words store before now (Err error) → ComesTo (Some file) options given before now (Stopped (problem_of_play error))
   broken errors.Read comes = played (Err errors.Read) comes
   broken errors.Write comes = played (Err errors.Write) comes
   broken errors.OutOfMemory comes = inr (played (Err errors.OutOfMemory) comes)

@@ -5,7 +5,7 @@ use Rattle.std.specs.Io.KnownBytes.{Appends}
 use Rattle.zfault.specs.declared.fault.Fault.{Fault}
 use Rattle.zfault.specs.Devices.{AppendsBeginning}
 use Rattle.zstate.specs.State.{State, opening}
-use Rattle.zstate.specs.Run.{GivesOut}
+use Rattle.zdomain.specs.Interval.{interval_operations}
 use Rattle.zcheck.specs.Acceptance.{Acceptance}
 use Rattle.zplay.specs.Session.{Playing, setting_of}
 use Rattle.zplayer.specs.declared.end.End.{End}
@@ -13,8 +13,10 @@ use Rattle.zplayer.specs.declared.end.End.TheVariants as ends
 use Rattle.zplayer.specs.declared.end.Options.{Options}
 use Rattle.zplayer.specs.declared.end.PlayError.{PlayError}
 use Rattle.zplayer.specs.declared.end.PlayError.TheVariants as errors
-use Rattle.zplayer.specs.Playing.{ComesTo as PlayComes}
-use Rattle.zplayer.specs.World.{Coming, World}
+use Rattle.zplayer.specs.Outside.{Coming}
+use Rattle.zplayer.specs.Playing.{GivesOrSaves, ComesTo as PlayComes}
+use Rattle.zplayer.specs.Stories.{Describes}
+use Rattle.zplayer.specs.World.{Store, World}
 use Rattle.zperform.specs.declared.outcome.Failure.{Failure}
 use Rattle.zperform.specs.declared.outcome.Failure.TheVariants.{File, Read, Write, Memory}
 use Rattle.zperform.specs.declared.outcome.Problem.{Problem}
@@ -114,16 +116,16 @@ module _ (story certificate : Option (List ℕ)) (options : Options) (given : Wo
   unopened a accepted = story_bytes story a.story accepted.story
 
   -- a session that opened
-  module _ (a : Acceptance) (accepted : IsAccepted story certificate a) (p : Playing) (opened : p ≡ record { accepted = a; state = opening a.story }) (now : Option (List ℕ)) (state : State) (words : Option Coming) where
-    by : (result : Result End PlayError) → PlayComes (setting_of p.accepted) (GivesOut (setting_of p.accepted)) options given p.state state words before now result → IfOk result (λ end. (fault : Fault) (place : ℤ) → end ≢ ends.Fault fault place)
+  module _ (a : Acceptance) (accepted : IsAccepted story certificate a) (p : Playing) (opened : p ≡ record { accepted = a; state = opening a.story }) (now : Option (List ℕ)) (state : State) (words : Option Coming) (store : Store) where
+    by : (result : Result End PlayError) → PlayComes (setting_of p.accepted) (Describes interval_operations p.accepted) (GivesOrSaves (setting_of p.accepted)) options given p.state state words store before now result → IfOk result (λ end. (fault : Fault) (place : ℤ) → end ≢ ends.Fault fault place)
         → Accepts story certificate (λ a. IsPlayedBy a options given before now result)
     by result comes safe =
-        (a, accepted, record { state = state; words = words; comes = subst (λ (q : Playing). PlayComes (setting_of q.accepted) (GivesOut (setting_of q.accepted)) options given q.state state words before now result) opened comes; safe = safe })
+        (a, accepted, record { state = state; words = words; store = store; comes = subst (λ (q : Playing). PlayComes (setting_of q.accepted) (Describes interval_operations q.accepted) (GivesOrSaves (setting_of q.accepted)) options given q.state state words store before now result) opened comes; safe = safe })
 
-    pub played : (end : End) → PlayComes (setting_of p.accepted) (GivesOut (setting_of p.accepted)) options given p.state state words before now (Ok end) → ((fault : Fault) (place : ℤ) → end ≢ ends.Fault fault place) → PlayComesTo story certificate options given before now (Played end)
+    pub played : (end : End) → PlayComes (setting_of p.accepted) (Describes interval_operations p.accepted) (GivesOrSaves (setting_of p.accepted)) options given p.state state words store before now (Ok end) → ((fault : Fault) (place : ℤ) → end ≢ ends.Fault fault place) → PlayComesTo story certificate options given before now (Played end)
     played end comes safe = by (Ok end) comes safe
 
-    pub broken : (error : PlayError) → PlayComes (setting_of p.accepted) (GivesOut (setting_of p.accepted)) options given p.state state words before now (Err error) → PlayComesTo story certificate options given before now (Stopped (problem_of_play error))
+    pub broken : (error : PlayError) → PlayComes (setting_of p.accepted) (Describes interval_operations p.accepted) (GivesOrSaves (setting_of p.accepted)) options given p.state state words store before now (Err error) → PlayComesTo story certificate options given before now (Stopped (problem_of_play error))
     broken errors.Read comes = by (Err errors.Read) comes tt
     broken errors.Write comes = by (Err errors.Write) comes tt
     broken errors.OutOfMemory comes = inr (by (Err errors.OutOfMemory) comes tt)

@@ -215,5 +215,5 @@ never : (story certificate before now : Option (List ℕ)) (options : Options) (
 never story certificate before now options outside = (λ no. no, λ no. no, λ no. no, λ no. no.0)
 
 -- input is read for a play alone
-input_read : (is_quiet (ListStory (codes "hello.z3")) ≡ true) × (is_quiet (Check (codes "hello.z3") (codes "hello.cert")) ≡ true) × (is_quiet (Play (codes "hello.z3") None 1 100 false) ≡ false)
+input_read : (is_quiet (ListStory (codes "hello.z3")) ≡ true) × (is_quiet (Check (codes "hello.z3") (codes "hello.cert")) ≡ true) × (is_quiet (Play (codes "hello.z3") None 1 100 false None) ≡ false)
 input_read = (refl, refl, refl)

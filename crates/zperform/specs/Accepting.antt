@@ -5,15 +5,16 @@ use Rattle.zfault.specs.Devices.{AppendsBeginning}
 use Rattle.zfault.specs.declared.fault.Fault.{Fault}
 use Rattle.zstory.specs.LoadedStory.{LoadedStory}
 use Rattle.zstate.specs.State.{State, opening}
-use Rattle.zstate.specs.Run.{GivesOut}
 use Rattle.zplay.specs.Session.{setting_of}
 use Rattle.zplayer.specs.declared.end.End.{End}
 use Rattle.zplayer.specs.declared.end.End.TheVariants as ends
 use Rattle.zplayer.specs.declared.end.Options.{Options}
 use Rattle.zplayer.specs.declared.end.PlayError.{PlayError}
 use Rattle.zplayer.specs.declared.end.PlayError.TheVariants as errors
-use Rattle.zplayer.specs.Playing.{ComesTo as PlayComes}
-use Rattle.zplayer.specs.World.{Coming, World}
+use Rattle.zplayer.specs.Outside.{Coming}
+use Rattle.zplayer.specs.Playing.{GivesOrSaves, ComesTo as PlayComes}
+use Rattle.zplayer.specs.Stories.{Describes}
+use Rattle.zplayer.specs.World.{Store, World}
 use Rattle.zdomain.specs.declared.interval.Interval.{Interval}
 use Rattle.zdomain.specs.Interval.{interval_operations}
 use Rattle.zcert.specs.Certificate.{Certificate}
@@ -107,7 +108,8 @@ CheckComesTo story_known certificate_known before now (Stopped problem) = IsUnac
 pub record IsPlayedBy (a : Acceptance) (options : Options) (given : World) (before now : Option (List ℕ)) (result : Result End PlayError) : Type 0 where
   pub state : State
   pub words : Option Coming
-  pub comes : PlayComes (setting_of a) (GivesOut (setting_of a)) options given (opening a.story) state words before now result
+  pub store : Store
+  pub comes : PlayComes (setting_of a) (Describes interval_operations a) (GivesOrSaves (setting_of a)) options given (opening a.story) state words store before now result
   pub safe : IfOk result (λ end. (fault : Fault) (place : ℤ) → end ≢ ends.Fault fault place)
 
 abbrev pub Accepts : Option (List ℕ) → Option (List ℕ) → (Acceptance → Type 0) → Type 0

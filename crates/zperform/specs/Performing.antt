@@ -8,7 +8,7 @@ use Rattle.clap.specs.declared.error.kind.ErrorKind.TheVariants.{DisplayHelp, Di
 use Rattle.zfault.specs.Devices.{AppendsBeginning, RisesByOne}
 use Rattle.zcommand.specs.CommandLine.{Asks, Request, ListStory, Check, Play, zpc_app}
 use Rattle.zplayer.specs.Outside.{words_of}
-use Rattle.zplayer.specs.World.{World, world}
+use Rattle.zplayer.specs.World.{Store, World, world}
 use Rattle.zperform.specs.Playing.{ComesTo}
 use Rattle.zperform.specs.Accepting.{CheckComesTo, PlayComesTo}
 use Rattle.zperform.specs.Listing.{ListComesTo}
@@ -35,14 +35,22 @@ pub record Told : Type 0 where
 abbrev pub told : {Source : Type 0} → (Source → Option (List ℕ)) → (Source → ℕ) → Source → Told
 told remaining failures source = record { remaining = remaining source; failures = failures source }
 
--- the files' count of failures, the reader, the writer, and the errors
+-- what is told of files: the bytes of each, by its name, where they are known, and their count of failures
+pub record Held : Type 0 where
+  pub known : List ℕ → Option (List ℕ)
+  pub failures : ℕ
+
+abbrev pub held : {Files : Type 0} → (Files → List ℕ → Option (List ℕ)) → (Files → ℕ) → Files → Held
+held known failures files = record { known = known files; failures = failures files }
+
+-- the files, the reader, the writer, and the errors
 pub record Devices : Type 0 where
-  pub files : ℕ
+  pub files : Held
   pub reader : Told
   pub writer : Seen
   pub errors : Seen
 
-abbrev pub devices : ℕ → Told → Seen → Seen → Devices
+abbrev pub devices : Held → Told → Seen → Seen → Devices
 devices files reader writer errors = record { files = files; reader = reader; writer = writer; errors = errors }
 
 -- a text was taken whole and flushed, with no failure
@@ -103,43 +111,55 @@ Explains kinds status old new =
 
 -- ---- words that name one
 
--- what a play is given: the input, and the words of a seed
-abbrev pub given : Option (List ℕ) → ℕ → World
-given input seed = world input (Some (words_of seed))
+-- where saves are kept at first: in a file, of which nothing is told, or nowhere
+abbrev pub store_of : Option Text → Store
+store_of None = record { kept = Some None; failures = 0 }
+store_of (Some name) = record { kept = None; failures = 0 }
+
+-- what a play is given: the input, the words of a seed, and a store
+abbrev pub given : Option (List ℕ) → ℕ → Store → World
+given input seed store = world input (Some (words_of seed)) store
 
 -- what comes of a request, with the input, and with what the writer took before and has taken now
 abbrev pub Comes : Request → (List ℕ → Option (List ℕ)) → Option (List ℕ) → Option (List ℕ) → Option (List ℕ) → Outcome → Type 0
 Comes (ListStory story) known input before now outcome = ListComesTo (known story) before now outcome
 Comes (Check story certificate) known input before now outcome = CheckComesTo (known story) (known certificate) before now outcome
-Comes (Play story None seed budget status) known input before now outcome =
-    ComesTo (known story) (record { budget = budget; status = status }) (given input seed) before now outcome
-Comes (Play story (Some certificate) seed budget status) known input before now outcome =
-    PlayComesTo (known story) (known certificate) (record { budget = budget; status = status }) (given input seed) before now outcome
+Comes (Play story None seed budget status save) known input before now outcome =
+    ComesTo (known story) (record { budget = budget; status = status }) (given input seed (store_of save)) before now outcome
+Comes (Play story (Some certificate) seed budget status save) known input before now outcome =
+    PlayComesTo (known story) (known certificate) (record { budget = budget; status = status }) (given input seed (store_of save)) before now outcome
 
 -- a request whose answer needs no input
 abbrev pub is_quiet : Request → Bool
-is_quiet (Play story certificate seed budget status) = false
+is_quiet (Play story certificate seed budget status save) = false
 is_quiet _ = true
 
+-- the name of the file that a request may write
+abbrev pub save_in : Request → Option Text
+save_in (Play story certificate seed budget status save) = save
+save_in _ = None
+
 -- A request, with the values among clap's matches: what it comes to is reported. The writer is blamed just where it failed, and
--- so are the files and the reader, which isn't asked but for a play; what was written is flushed unless the writer failed.
-pub record Does (words : List Text) (known : List ℕ → Option (List ℕ)) (status : ℕ) (old new : Devices) : Type 0 where
+-- so are the reader, which isn't asked but for a play, and the files, unless saves are kept in one: then they may fail, and the play goes
+-- on. No file is written but for saves. What was written is flushed unless the writer failed.
+pub record Does (words : List Text) (status : ℕ) (old new : Devices) : Type 0 where
   pub matches : Text × List Row
   pub named : subcommand_of zpc_app words ≡ Some matches
   pub request : Request
   pub asks : Asks matches request
   pub outcome : Outcome
-  pub comes : Comes request known old.reader.remaining old.writer.contents new.writer.contents outcome
+  pub comes : Comes request old.files.known old.reader.remaining old.writer.contents new.writer.contents outcome
   pub blamed : outcome ≡ Stopped (Failed Write) → RisesByOne old.writer.failures new.writer.failures
   pub quiet : outcome ≢ Stopped (Failed Write) → new.writer.failures ≡ old.writer.failures
   pub flushed : outcome ≢ Stopped (Failed Write) → IsFlushed (λ (writer : Seen). writer.waits) old.writer new.writer
-  pub unread : outcome ≡ Stopped (Failed File) → RisesByOne old.files new.files
-  pub unfailed : outcome ≢ Stopped (Failed File) → new.files ≡ old.files
+  pub unread : outcome ≡ Stopped (Failed File) → RisesByOne old.files.failures new.files.failures
+  pub unfailed : save_in request ≡ None → outcome ≢ Stopped (Failed File) → new.files.failures ≡ old.files.failures
+  pub kept : save_in request ≡ None → new.files.known ≡ old.files.known
   pub unheard : outcome ≡ Stopped (Failed Read) → RisesByOne old.reader.failures new.reader.failures
   pub heard : outcome ≢ Stopped (Failed Read) → new.reader.failures ≡ old.reader.failures
   pub unasked : is_quiet request ≡ true → new.reader ≡ old.reader
   pub reported : Reports outcome status old.errors new.errors
 
 -- the request of the words was done, as far as there was memory to read them
-abbrev pub Performs : List Text → (List ℕ → Option (List ℕ)) → ℕ → Devices → Devices → Type 0
-Performs words known status old new = Does words known status old new ⊎ Lacks status old new
+abbrev pub Performs : List Text → ℕ → Devices → Devices → Type 0
+Performs words status old new = Does words status old new ⊎ Lacks status old new

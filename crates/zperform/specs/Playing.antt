@@ -1,20 +1,20 @@
 -- What playing a story file comes to (own).
-use Rattle.std.specs.Prelude.{◌≡◌, ◌≢◌, ℕ, List, Option, IfSome, Result, Ok, Err, ◌⊎◌}
+use Rattle.std.specs.Prelude.{◌≡◌, ◌≢◌, ℕ, List, Option, IfSome, Result, Ok, Err, ◌⊎◌, ⊤}
 use Rattle.zstory.specs.LoadedStory.{LoadedStory}
 use Rattle.zstory.specs.Loading.{IsLoaded}
 use Rattle.zstory.specs.Refusal.{HasNone, IsCause, IsLowest}
 use Rattle.zstory.specs.declared.load_error.LoadError.{LoadError}
 use Rattle.zstory.specs.declared.load_error.LoadError.TheVariants.{OutOfMemory as NoMemoryToLoad}
 use Rattle.zstate.specs.State.{State, opening}
-use Rattle.zstate.specs.Run.{WantsMemory}
 use Rattle.zref.specs.Machine.{setting_of}
 use Rattle.zref.specs.declared.scope.Scope.TheVariants.{All}
 use Rattle.zplayer.specs.declared.end.End.{End}
 use Rattle.zplayer.specs.declared.end.Options.{Options}
 use Rattle.zplayer.specs.declared.end.PlayError.{PlayError}
 use Rattle.zplayer.specs.declared.end.PlayError.TheVariants as errors
-use Rattle.zplayer.specs.Playing.{ComesTo as PlayComes}
-use Rattle.zplayer.specs.World.{Coming, World}
+use Rattle.zplayer.specs.Outside.{Coming}
+use Rattle.zplayer.specs.Playing.{WantsOrSaves, ComesTo as PlayComes}
+use Rattle.zplayer.specs.World.{Store, World}
 use Rattle.zperform.specs.Contents.{HasBytes}
 use Rattle.zperform.specs.declared.outcome.Failure.TheVariants.{File, Read, Write, Memory}
 use Rattle.zperform.specs.declared.outcome.Problem.{Problem}
@@ -33,7 +33,8 @@ pub record IsPlayed (file : List ℕ) (options : Options) (given : World) (befor
   pub holds : Holds file story
   pub state : State
   pub words : Option Coming
-  pub comes : PlayComes (setting_of story All) (WantsMemory (setting_of story All)) options given (opening story) state words before now result
+  pub store : Store
+  pub comes : PlayComes (setting_of story All) (λ _. ⊤) (WantsOrSaves (setting_of story All)) options given (opening story) state words store before now result
 
 -- a file is no story, for its cause with the lowest number; want of memory is none
 pub record IsRefused (file : List ℕ) (error : LoadError) : Type 0 where

@@ -6,10 +6,11 @@ ghost use Rattle.zplayer.specs.Outside.{CountsRefusal};
 ghost use Rattle.zperform.specs.Contents.{CountsNone, HasBytes, IsBeginning, ReadsPart};
 
 use crate::outcome::{Failure, Problem};
-use arrayvec::ArrayVec;
+use arrayvec::{ArrayString, ArrayVec};
 use std::alloc::Global;
 use std::fs;
-use std::io::{Read, Seek, SeekFrom};
+use std::fs::OpenFile;
+use std::io::{self, ErrorKind, Read, Seek, SeekFrom, Write};
 use std::rt::Runtime;
 
 /// The most bytes that are read of a file in one call.
@@ -117,12 +118,48 @@ impl<'a, R: Runtime> Files for Disk<'a, R> {
 
     fn put(&mut self, name: &str, bytes: &[u8]) -> bool {
         self.last = None;
-        let done = fs::write(self.rt, name, bytes).is_ok();
+        let done = replace(self.rt, name, bytes).is_ok();
         if !done {
             self.count_failure();
         }
         done
     }
+}
+
+/// What is added to the name of a file that is written beside another.
+const BESIDE: &str = ".part";
+
+/// The longest name of a file beside another.
+const BESIDE_LIMIT: usize = NAME_LIMIT + BESIDE.len();
+
+/// Writes a file whole in the place of the one of its name. A plain file is written beside it first, and takes its name once it is
+/// through, so that a full disk leaves the old one; anything else, as a pipe or a link, is written to.
+fn replace<R: Runtime>(rt: &R, name: &str, bytes: &[u8]) -> io::Result<()> {
+    match fs::symlink_metadata(rt, name) {
+        Ok(there) if !there.is_file() => fs::write(rt, name, bytes),
+        _ => replace_plain(rt, name, bytes),
+    }
+}
+
+/// Writes a plain file beside the one of its name, and gives it that name.
+fn replace_plain<R: Runtime>(rt: &R, name: &str, bytes: &[u8]) -> io::Result<()> {
+    let mut beside = ArrayString::<BESIDE_LIMIT>::new();
+    if beside.try_push_str(name).is_err() || beside.try_push_str(BESIDE).is_err() {
+        return Err(io::Error::from(ErrorKind::InvalidFilename));
+    }
+    let written = write_through(rt, beside.as_str(), bytes);
+    let done = written.and_then(|()| fs::rename(rt, beside.as_str(), name));
+    if done.is_err() {
+        let _ = fs::remove_file(rt, beside.as_str());
+    }
+    done
+}
+
+/// Writes a file, and sees that it is on its device.
+fn write_through<R: Runtime>(rt: &R, name: &str, bytes: &[u8]) -> io::Result<()> {
+    let mut file = fs::File::create(rt, name)?;
+    file.write_all(bytes)?;
+    file.sync_all()
 }
 
 /// The bytes of a file, at most so many, whatever size the system says that it has. Memory is taken for the bytes that were

@@ -7,7 +7,7 @@ mod listing;
 mod message;
 mod outcome;
 mod performing;
-mod unasked;
+mod saves;
 
 pub use files::{Disk, Files};
 pub use outcome::{Failure, Outcome, Problem};

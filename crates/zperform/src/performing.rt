@@ -1,6 +1,6 @@
 //! Doing what the words ask for.
 
-ghost use Rattle.std.specs.Prelude.{◌≡◌, ◌≢◌, ◌⊎◌, [], ℕ, false, true, List, Err, OnErr, OnOk, Option, Some};
+ghost use Rattle.std.specs.Prelude.{◌≡◌, ◌≢◌, ◌⊎◌, [], ℕ, false, true, List, Err, None, OnErr, OnOk, Option, Some, option_map};
 ghost use Rattle.clap.specs.Kinds.{HasKind, Kinds};
 ghost use Rattle.clap.specs.Walk.{texts};
 ghost use Rattle.clap.specs.Words.{fault_of};
@@ -8,7 +8,8 @@ ghost use Rattle.std.specs.Io.KnownBytes.{Appends};
 ghost use Rattle.zfault.specs.Devices.{AppendsBeginning, RisesByOne};
 ghost use Rattle.zperform.specs.Accepting.{CheckComesTo, IsAccepted, PlayComesTo, accepted_line};
 ghost use Rattle.zcommand.specs.CommandLine.{request_of, zpc_app};
-ghost use Rattle.zperform.specs.Performing.{Comes, Explains, IsFlushed, Performs, Says, Told, devices, given, is_quiet, seen, told};
+ghost use Rattle.zperform.specs.Performing.{Comes, Explains, IsFlushed, Performs, Says, Told, devices, given, held, is_quiet, save_in, seen, store_of, told, Held};
+ghost use Rattle.zplayer.specs.World.{told as told_store};
 ghost use Rattle.zperform.specs.Playing.{ComesTo, Holds};
 ghost use Rattle.zperform.specs.Report.{failure_text, line_of, no_text, outcome_of, status_of, text_of};
 
@@ -17,7 +18,7 @@ use crate::files::{Files, read_file};
 use crate::listing::list_file;
 use crate::message::Message;
 use crate::outcome::{Failure, Outcome, Problem};
-use crate::unasked::NoSaves;
+use crate::saves::{FileSaves, NoSaves};
 use clap::Error;
 use clap::error::ErrorKind;
 use std::alloc::Global;
@@ -25,7 +26,7 @@ use zcheck::Accepted;
 use zcommand::{Command, read_words};
 use zfault::{Failed, Sink, Source, write_whole};
 use zplay::Session;
-use zplayer::{End, Options, Seeded, play_checked};
+use zplayer::{End, Options, SaveStore, Seeded, play_checked};
 use zref::{CheckedMachine, Scope};
 use zstory::Story;
 
@@ -56,9 +57,8 @@ pub fn perform<F: Files, R: Source, W: Sink, E: Sink>(
     writer: &mut W,
     errors: &mut E,
 ) -> u8
-    ensures performs { fault_of zpc_app (texts words.entry.now) ≡ [] → Performs (texts words.entry.now) (F.known files.old) result (devices (F.failures files.old) (told R.remaining R.failures reader.old) (seen W.contents W.failures W.waits writer.old) (seen E.contents E.failures E.waits errors.old)) (devices (F.failures files.new) (told R.remaining R.failures reader.new) (seen W.contents W.failures W.waits writer.new) (seen E.contents E.failures E.waits errors.new)) }
-    ensures explains { fault_of zpc_app (texts words.entry.now) ≢ [] → Explains (fault_of zpc_app (texts words.entry.now)) result (devices (F.failures files.old) (told R.remaining R.failures reader.old) (seen W.contents W.failures W.waits writer.old) (seen E.contents E.failures E.waits errors.old)) (devices (F.failures files.new) (told R.remaining R.failures reader.new) (seen W.contents W.failures W.waits writer.new) (seen E.contents E.failures E.waits errors.new)) }
-    ensures kept { F.known files.new ≡ F.known files.old }
+    ensures performs { fault_of zpc_app (texts words.entry.now) ≡ [] → Performs (texts words.entry.now) result (devices (held F.known F.failures files.old) (told R.remaining R.failures reader.old) (seen W.contents W.failures W.waits writer.old) (seen E.contents E.failures E.waits errors.old)) (devices (held F.known F.failures files.new) (told R.remaining R.failures reader.new) (seen W.contents W.failures W.waits writer.new) (seen E.contents E.failures E.waits errors.new)) }
+    ensures explains { fault_of zpc_app (texts words.entry.now) ≢ [] → Explains (fault_of zpc_app (texts words.entry.now)) result (devices (held F.known F.failures files.old) (told R.remaining R.failures reader.old) (seen W.contents W.failures W.waits writer.old) (seen E.contents E.failures E.waits errors.old)) (devices (held F.known F.failures files.new) (told R.remaining R.failures reader.new) (seen W.contents W.failures W.waits writer.new) (seen E.contents E.failures E.waits errors.new)) }
 {
     match read_words(alloc, words) {
         Ok(command) => report(&carry_out(alloc, command, files, reader, writer), errors),
@@ -79,8 +79,8 @@ fn carry_out<F: Files, R: Source, W: Sink>(
     ensures quiet { result ≢ Outcome.Stopped (Problem.Failed Failure.Write) → W.failures writer.new ≡ W.failures writer.old }
     ensures flushed { result ≢ Outcome.Stopped (Problem.Failed Failure.Write) → IsFlushed W.waits writer.old writer.new }
     ensures unread { result ≡ Outcome.Stopped (Problem.Failed Failure.File) → RisesByOne (F.failures files.old) (F.failures files.new) }
-    ensures unfailed { result ≢ Outcome.Stopped (Problem.Failed Failure.File) → F.failures files.new ≡ F.failures files.old }
-    ensures kept { F.known files.new ≡ F.known files.old }
+    ensures unfailed { save_in (request_of command.entry) ≡ None → result ≢ Outcome.Stopped (Problem.Failed Failure.File) → F.failures files.new ≡ F.failures files.old }
+    ensures kept { save_in (request_of command.entry) ≡ None → F.known files.new ≡ F.known files.old }
     ensures unheard { result ≡ Outcome.Stopped (Problem.Failed Failure.Read) → RisesByOne (R.failures reader.old) (R.failures reader.new) }
     ensures heard { result ≢ Outcome.Stopped (Problem.Failed Failure.Read) → R.failures reader.new ≡ R.failures reader.old }
     ensures unasked { is_quiet (request_of command.entry) ≡ true → reader.new ≡ reader.old }
@@ -96,11 +96,13 @@ fn carry_out<F: Files, R: Source, W: Sink>(
             seed,
             budget,
             status,
+            save,
         } => outcome_of(play(
             alloc,
             story,
             seed,
             Options { budget, status },
+            save,
             files,
             reader,
             writer,
@@ -111,12 +113,14 @@ fn carry_out<F: Files, R: Source, W: Sink>(
             seed,
             budget,
             status,
+            save,
         } => outcome_of(play_by_certificate(
             alloc,
             story,
             certificate,
             seed,
             Options { budget, status },
+            save,
             files,
             reader,
             writer,
@@ -180,35 +184,66 @@ fn play<F: Files, R: Source, W: Sink>(
     name: &str,
     seed: u64,
     options: Options,
+    save: Option<&str>,
     files: &mut F,
     reader: &mut R,
     writer: &mut W,
 ) -> Result<End, Problem>
-    ensures comes { ComesTo (F.known files.old name.now) options (given (R.remaining reader.old) seed) (W.contents writer.old) (W.contents writer.new) (outcome_of result) }
+    ensures comes { ComesTo (F.known files.old name.now) options (given (R.remaining reader.old) seed (store_of (option_map (λ n. n.now) save))) (W.contents writer.old) (W.contents writer.new) (outcome_of result) }
     ensures blamed { result ≡ Err (Problem.Failed Failure.Write) → RisesByOne (W.failures writer.old) (W.failures writer.new) }
     ensures quiet { result ≢ Err (Problem.Failed Failure.Write) → W.failures writer.new ≡ W.failures writer.old }
     ensures flushed { result ≢ Err (Problem.Failed Failure.Write) → IsFlushed W.waits writer.old writer.new }
     ensures unread { result ≡ Err (Problem.Failed Failure.File) → RisesByOne (F.failures files.old) (F.failures files.new) }
-    ensures unfailed { result ≢ Err (Problem.Failed Failure.File) → F.failures files.new ≡ F.failures files.old }
-    ensures kept { F.known files.new ≡ F.known files.old }
+    ensures unfailed { option_map (λ n. n.now) save ≡ None → result ≢ Err (Problem.Failed Failure.File) → F.failures files.new ≡ F.failures files.old }
+    ensures kept { option_map (λ n. n.now) save ≡ None → F.known files.new ≡ F.known files.old }
     ensures unheard { result ≡ Err (Problem.Failed Failure.Read) → RisesByOne (R.failures reader.old) (R.failures reader.new) }
     ensures heard { result ≢ Err (Problem.Failed Failure.Read) → R.failures reader.new ≡ R.failures reader.old }
 {
     let file = read_file(alloc, files, name, STORY_LIMIT)?;
     let story = load(alloc, file)?;
-    play_story(alloc, &story, seed, options, reader, writer)
+    play_story(alloc, &story, seed, options, save, files, reader, writer)
 }
 
-/// Plays a story from its opening.
-fn play_story<R: Source, W: Sink>(
+/// Plays a story from its opening, with its saves in the file of a name, or nowhere.
+fn play_story<F: Files, R: Source, W: Sink>(
     alloc: Global,
     story: &Story,
     seed: u64,
     options: Options,
+    save: Option<&str>,
+    files: &mut F,
     reader: &mut R,
     writer: &mut W,
 ) -> Result<End, Problem>
-    ensures comes { (file : List ℕ) → Holds file story.now → ComesTo (Some file) options (given (R.remaining reader.old) seed) (W.contents writer.old) (W.contents writer.new) (outcome_of result) }
+    ensures comes { (file : List ℕ) → Holds file story.now → ComesTo (Some file) options (given (R.remaining reader.old) seed (store_of (option_map (λ n. n.now) save))) (W.contents writer.old) (W.contents writer.new) (outcome_of result) }
+    ensures blamed { result ≡ Err (Problem.Failed Failure.Write) → RisesByOne (W.failures writer.old) (W.failures writer.new) }
+    ensures quiet { result ≢ Err (Problem.Failed Failure.Write) → W.failures writer.new ≡ W.failures writer.old }
+    ensures flushed { result ≢ Err (Problem.Failed Failure.Write) → IsFlushed W.waits writer.old writer.new }
+    ensures no_file { result ≢ Err (Problem.Failed Failure.File) }
+    ensures unheard { result ≡ Err (Problem.Failed Failure.Read) → RisesByOne (R.failures reader.old) (R.failures reader.new) }
+    ensures heard { result ≢ Err (Problem.Failed Failure.Read) → R.failures reader.new ≡ R.failures reader.old }
+    ensures unsaved { option_map (λ n. n.now) save ≡ None → files.new ≡ files.old }
+{
+    match save {
+        Some(name) => {
+            let mut store = FileSaves::new(alloc, files, name);
+            play_keeping(alloc, story, seed, options, &mut store, reader, writer)
+        }
+        None => play_keeping(alloc, story, seed, options, &mut NoSaves::new(), reader, writer),
+    }
+}
+
+/// Plays a story from its opening, with its saves in a store.
+fn play_keeping<S: SaveStore, R: Source, W: Sink>(
+    alloc: Global,
+    story: &Story,
+    seed: u64,
+    options: Options,
+    store: &mut S,
+    reader: &mut R,
+    writer: &mut W,
+) -> Result<End, Problem>
+    ensures comes { (file : List ℕ) → Holds file story.now → ComesTo (Some file) options (given (R.remaining reader.old) seed (told_store S.kept S.failures store.old)) (W.contents writer.old) (W.contents writer.new) (outcome_of result) }
     ensures blamed { result ≡ Err (Problem.Failed Failure.Write) → RisesByOne (W.failures writer.old) (W.failures writer.new) }
     ensures quiet { result ≢ Err (Problem.Failed Failure.Write) → W.failures writer.new ≡ W.failures writer.old }
     ensures flushed { result ≢ Err (Problem.Failed Failure.Write) → IsFlushed W.waits writer.old writer.new }
@@ -222,7 +257,7 @@ fn play_story<R: Source, W: Sink>(
         &mut machine,
         reader,
         writer,
-        &mut NoSaves::new(),
+        store,
         &mut Seeded::new(seed),
         options,
     )?)
@@ -235,34 +270,73 @@ fn play_by_certificate<F: Files, R: Source, W: Sink>(
     certificate: &str,
     seed: u64,
     options: Options,
+    save: Option<&str>,
     files: &mut F,
     reader: &mut R,
     writer: &mut W,
 ) -> Result<End, Problem>
-    ensures comes { PlayComesTo (F.known files.old story.now) (F.known files.old certificate.now) options (given (R.remaining reader.old) seed) (W.contents writer.old) (W.contents writer.new) (outcome_of result) }
+    ensures comes { PlayComesTo (F.known files.old story.now) (F.known files.old certificate.now) options (given (R.remaining reader.old) seed (store_of (option_map (λ n. n.now) save))) (W.contents writer.old) (W.contents writer.new) (outcome_of result) }
     ensures blamed { result ≡ Err (Problem.Failed Failure.Write) → RisesByOne (W.failures writer.old) (W.failures writer.new) }
     ensures quiet { result ≢ Err (Problem.Failed Failure.Write) → W.failures writer.new ≡ W.failures writer.old }
     ensures flushed { result ≢ Err (Problem.Failed Failure.Write) → IsFlushed W.waits writer.old writer.new }
     ensures unread { result ≡ Err (Problem.Failed Failure.File) → RisesByOne (F.failures files.old) (F.failures files.new) }
-    ensures unfailed { result ≢ Err (Problem.Failed Failure.File) → F.failures files.new ≡ F.failures files.old }
-    ensures kept { F.known files.new ≡ F.known files.old }
+    ensures unfailed { option_map (λ n. n.now) save ≡ None → result ≢ Err (Problem.Failed Failure.File) → F.failures files.new ≡ F.failures files.old }
+    ensures kept { option_map (λ n. n.now) save ≡ None → F.known files.new ≡ F.known files.old }
     ensures unheard { result ≡ Err (Problem.Failed Failure.Read) → RisesByOne (R.failures reader.old) (R.failures reader.new) }
     ensures heard { result ≢ Err (Problem.Failed Failure.Read) → R.failures reader.new ≡ R.failures reader.old }
 {
     let accepted = accept(alloc, story, certificate, files)?;
-    play_accepted(alloc, &accepted, seed, options, reader, writer)
+    play_accepted(alloc, &accepted, seed, options, save, files, reader, writer)
 }
 
-/// Plays an accepted story from its opening.
-fn play_accepted<R: Source, W: Sink>(
+/// Plays an accepted story from its opening, with its saves in the file of a name, or nowhere.
+fn play_accepted<F: Files, R: Source, W: Sink>(
     alloc: Global,
     accepted: &Accepted,
     seed: u64,
     options: Options,
+    save: Option<&str>,
+    files: &mut F,
     reader: &mut R,
     writer: &mut W,
 ) -> Result<End, Problem>
-    ensures comes { (story certificate : Option (List ℕ)) → IsAccepted story certificate accepted.now → PlayComesTo story certificate options (given (R.remaining reader.old) seed) (W.contents writer.old) (W.contents writer.new) (outcome_of result) }
+    ensures comes { (story certificate : Option (List ℕ)) → IsAccepted story certificate accepted.now → PlayComesTo story certificate options (given (R.remaining reader.old) seed (store_of (option_map (λ n. n.now) save))) (W.contents writer.old) (W.contents writer.new) (outcome_of result) }
+    ensures blamed { result ≡ Err (Problem.Failed Failure.Write) → RisesByOne (W.failures writer.old) (W.failures writer.new) }
+    ensures quiet { result ≢ Err (Problem.Failed Failure.Write) → W.failures writer.new ≡ W.failures writer.old }
+    ensures flushed { result ≢ Err (Problem.Failed Failure.Write) → IsFlushed W.waits writer.old writer.new }
+    ensures no_file { result ≢ Err (Problem.Failed Failure.File) }
+    ensures unheard { result ≡ Err (Problem.Failed Failure.Read) → RisesByOne (R.failures reader.old) (R.failures reader.new) }
+    ensures heard { result ≢ Err (Problem.Failed Failure.Read) → R.failures reader.new ≡ R.failures reader.old }
+    ensures unsaved { option_map (λ n. n.now) save ≡ None → files.new ≡ files.old }
+{
+    match save {
+        Some(name) => {
+            let mut store = FileSaves::new(alloc, files, name);
+            play_accepted_keeping(alloc, accepted, seed, options, &mut store, reader, writer)
+        }
+        None => play_accepted_keeping(
+            alloc,
+            accepted,
+            seed,
+            options,
+            &mut NoSaves::new(),
+            reader,
+            writer,
+        ),
+    }
+}
+
+/// Plays an accepted story from its opening, with its saves in a store.
+fn play_accepted_keeping<S: SaveStore, R: Source, W: Sink>(
+    alloc: Global,
+    accepted: &Accepted,
+    seed: u64,
+    options: Options,
+    store: &mut S,
+    reader: &mut R,
+    writer: &mut W,
+) -> Result<End, Problem>
+    ensures comes { (story certificate : Option (List ℕ)) → IsAccepted story certificate accepted.now → PlayComesTo story certificate options (given (R.remaining reader.old) seed (told_store S.kept S.failures store.old)) (W.contents writer.old) (W.contents writer.new) (outcome_of result) }
     ensures blamed { result ≡ Err (Problem.Failed Failure.Write) → RisesByOne (W.failures writer.old) (W.failures writer.new) }
     ensures quiet { result ≢ Err (Problem.Failed Failure.Write) → W.failures writer.new ≡ W.failures writer.old }
     ensures flushed { result ≢ Err (Problem.Failed Failure.Write) → IsFlushed W.waits writer.old writer.new }
@@ -276,7 +350,7 @@ fn play_accepted<R: Source, W: Sink>(
         &mut session,
         reader,
         writer,
-        &mut NoSaves::new(),
+        store,
         &mut Seeded::new(seed),
         options,
     )?;
@@ -312,7 +386,7 @@ fn say<E: Sink>(text: &[u8], errors: &mut E)
 
 /// Writes clap's answer to words that name no command: to the writer where they ask for help or for the version.
 fn explain<W: Sink, E: Sink>(alloc: Global, error: &Error, writer: &mut W, errors: &mut E) -> u8
-    ensures { (kinds : Kinds) (files : ℕ) (reader : Told) → HasKind kinds error.now → Explains kinds result (devices files reader (seen W.contents W.failures W.waits writer.old) (seen E.contents E.failures E.waits errors.old)) (devices files reader (seen W.contents W.failures W.waits writer.new) (seen E.contents E.failures E.waits errors.new)) }
+    ensures { (kinds : Kinds) (files : Held) (reader : Told) → HasKind kinds error.now → Explains kinds result (devices files reader (seen W.contents W.failures W.waits writer.old) (seen E.contents E.failures E.waits errors.old)) (devices files reader (seen W.contents W.failures W.waits writer.new) (seen E.contents E.failures E.waits errors.new)) }
 {
     if error.kind() == ErrorKind::OutOfMemory {
         return fail(Failure::Memory, errors);

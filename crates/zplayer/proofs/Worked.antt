@@ -1,6 +1,6 @@
 -- Values of the definitions, computed.
-use Rattle.std.proofs.Common.{◌≡◌, ◌≢◌, inl, inr, ℕ, zero, suc, Bool, true, false, List, [], ◌∷◌, ◌++◌, replicate, Option, Some, None, Result, Ok, Err, refl, arith}
-use Rattle.std.specs.Prelude.{pos}
+use Rattle.std.proofs.Common.{◌≡◌, ◌≢◌, inl, inr, ℕ, zero, suc, Bool, true, false, List, [], ◌∷◌, ◌++◌, replicate, Option, Some, None, Result, Ok, Err, refl, subst, arith}
+use Rattle.std.specs.Prelude.{pos, ⊤}
 use Rattle.std.specs.List.{All}
 use Rattle.std.proofs.lemmas.List.Elements.{All-cons, All-nil}
 use Rattle.rand_core.specs.Steps.{stream_of, u32_at, word_bytes}
@@ -11,6 +11,7 @@ use Rattle.zfault.specs.declared.pause.Need.TheVariants as needs
 use Rattle.zfault.specs.declared.pause.Pause.TheVariants as pauses
 use Rattle.zstate.specs.declared.halt.Stop.TheVariants as stops
 use Rattle.zstate.specs.State.{State, Setting}
+use Rattle.zstate.specs.Run.{Given, Restored}
 use Rattle.zplayer.specs.declared.end.End.TheVariants as ends
 use Rattle.zplayer.specs.declared.end.PlayError.{PlayError}
 use Rattle.zplayer.specs.declared.end.PlayError.TheVariants as errors
@@ -18,9 +19,9 @@ use Rattle.zplayer.specs.declared.lines.LineEnd.TheVariants.{Newline, Input}
 use Rattle.zplayer.specs.declared.lines.TheConstants.{KEPT, PIECE}
 use Rattle.zplayer.specs.declared.turns.TheConstants.{TURN}
 use Rattle.zplayer.specs.Lines.{IsEnded, IsLast, ReadsLine, Hears, line_of, unused, without_return}
-use Rattle.zplayer.specs.Outside.{Blames, CountsRefusal, words_of}
+use Rattle.zplayer.specs.Outside.{Blames, Coming, CountsRefusal, words_of}
 use Rattle.zplayer.specs.Playing.{Leads, Meets, Plays, Stage, Writes, end_of, stage}
-use Rattle.zplayer.specs.World.{Answers, Asks, Coming, Draws, Refuses, World, world}
+use Rattle.zplayer.specs.World.{Answers, Draws, Gets, HasNone, Puts, Refuses, Resumes, Store, World, world}
 
 -- ---- how playing ends
 
@@ -104,26 +105,43 @@ known = (λ h. h, tt)
 none_left : Hears (Some []) None (Some []) × (Hears (Some (10 ∷ [])) None (Some []) → ⊥) × Hears None None None
 none_left = (refl, λ e. cc, tt)
 
+-- ---- saves
+
+-- a store keeps what it was given, and where it fails what it kept; one that keeps nothing gives nothing
+kept : Puts (Some None) (1 ∷ []) true (Some (Some (1 ∷ []))) × Puts (Some (Some (2 ∷ []))) (1 ∷ []) false (Some (Some (2 ∷ []))) × (Puts (Some None) (1 ∷ []) true (Some (Some (2 ∷ []))) → ⊥) × (Puts (Some (Some (2 ∷ []))) (1 ∷ []) true None → ⊥)
+kept = (refl, refl, (λ e. cc), λ e. cc)
+
+gets : Gets (Some (Some (1 ∷ []))) (1 ∷ []) × (Gets (Some (Some (1 ∷ []))) (2 ∷ []) → ⊥) × (Gets (Some None) (1 ∷ []) → ⊥)
+gets = (refl, (λ e. cc), λ e. cc)
+
 -- ---- the world
 
--- a line goes to a line, and a word to a random word; saves come to no answer
-answered : (w : World) → Answers needs.Line (world None w.words) (events.Line (110 ∷ [])) (world None w.words) × (Answers needs.Random w (events.Line []) w → ⊥) × (Answers needs.Saved w (events.Saved true) w → ⊥) × (Answers needs.Restore w events.NotRestored w → ⊥)
-answered w = ((tt, refl), (λ h. h), (λ h. h), λ h. h)
+module _ (m : Setting) (s : State) (store : Store) where
+  abbrev any : State → Type 0
+  any t = ⊤
 
--- only where no byte is left there is no line, and there is always a word
-unanswered : Refuses needs.Line (world (Some []) None) × (Refuses needs.Line (world (Some (10 ∷ [])) None) → ⊥) × (Refuses needs.Random (world (Some []) None) → ⊥) × Refuses needs.Saved (world None None) × Refuses needs.Restore (world None None)
-unanswered = (refl, (λ e. cc), (λ h. h), tt, tt)
+  abbrev silent : World
+  silent = world None None store
 
--- no word is drawn where there is no answer
-asked : Asks needs.Saved (world None (Some three)) None (world None (Some three))
-asked = (tt, refl)
+  -- a line goes to a line, and a word to a random word, and neither one does to a save
+  answered : Answers m any s needs.Line silent (Given (events.Line (110 ∷ []))) silent × (Answers m any s needs.Random silent (Given (events.Line [])) silent → ⊥) × (Answers m any s needs.Saved silent (Given events.NotRestored) silent → ⊥) × (Answers m any s needs.Restore silent (Given (events.Saved true)) silent → ⊥) × (Answers m any s needs.Line silent (Restored []) silent → ⊥)
+  answered = ((tt, refl, refl), (λ h. h), (λ h. h), (λ h. h), λ h. h)
+
+  -- only where no byte is left there is no line, and there is always a word, and an answer to a save
+  unanswered : Refuses needs.Line (world (Some []) None store) × (Refuses needs.Line (world (Some (10 ∷ [])) None store) → ⊥) × (Refuses needs.Random silent → ⊥) × (Refuses needs.Saved silent → ⊥) × (Refuses needs.Restore silent → ⊥)
+  unanswered = (refl, (λ e. cc), (λ h. h), (λ h. h), λ h. h)
+
+-- of a store that keeps a save and doesn't fail, the machine is told that there is none only where it doesn't go on from it
+not_told : (m : Setting) (Takes : State → Type 0) (s t : State) (save : List ℕ) → Resumes m Takes save s t → HasNone m Takes s (record { kept = Some (Some save); failures = 3 }) (record { kept = Some (Some save); failures = 3 }) → ⊥
+not_told m Takes s t save goes_on (same, inl risen) = omega (arith, risen)
+not_told m Takes s t save goes_on (same, inr (quiet, bytes, given, refused)) = let is : save ≡ bytes = cc in refused t (subst (λ (b : List ℕ). Resumes m Takes b s t) is goes_on)
 
 -- ---- stages
 
 -- never more steps are made than the budget has
-module _ (m : Setting) (asked : Bool) (s t : State) (w : World) (a b : Option (List ℕ)) where
+module _ (m : Setting) (Takes : State → Type 0) (asked : Bool) (s t : State) (w : World) (a b : Option (List ℕ)) where
   not_more : Writes m asked 5 6 s t a b → ⊥
   not_more writes = omega (arith, writes.all)
 
-  not_more_at_a_need : Meets m (events.Random 7) (stage 5 s w) (stage 6 t w) [] → ⊥
+  not_more_at_a_need : Meets m Takes (Given (events.Random 7)) (stage 5 s w) (stage 6 t w) [] → ⊥
   not_more_at_a_need meets = omega (arith, meets.all)

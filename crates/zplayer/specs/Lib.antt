@@ -1,4 +1,5 @@
 pub mod Lines
 pub mod Outside
 pub mod Playing
+pub mod Stories
 pub mod World

@@ -1,5 +1,6 @@
 //! How playing is asked for, and how it ends.
 
+use std::alloc::AllocError;
 use thiserror::Error;
 use zfault::{Fault, Pause};
 use zstate::Stop;
@@ -60,4 +61,15 @@ pub enum PlayError {
     /// P3: memory was refused.
     #[error("out of memory")]
     OutOfMemory,
+}
+
+impl From<AllocError> for PlayError {
+    ghost use Rattle.std.specs.Prelude.{◌≡◌};
+    ghost use Rattle.zplayer.specs.declared.end.PlayError.TheVariants.{OutOfMemory};
+
+    ghost from_gives = { λ _ error. error ≡ OutOfMemory };
+
+    fn from(_: AllocError) -> PlayError {
+        PlayError::OutOfMemory
+    }
 }

@@ -1,9 +1,22 @@
 //! Laws of the definitions: the contracts of these functions, which do nothing.
 
-ghost use Rattle.zplayer.specs.Playing.{PlaysRun};
+ghost use Rattle.std.specs.Prelude.{⊤};
+ghost use Rattle.zstate.specs.State.{Setting};
+ghost use Rattle.zplay.specs.Session.{setting_of};
+ghost use Rattle.zplayer.specs.Playing.{IsRunOf};
+ghost use Rattle.zplayer.specs.Stories.{Describes};
 
-/// A play is the beginning of the run over its events, and whatever others come behind them.
+use zcert::Spelled;
+use zcheck::Accepted;
+
+/// A play of a checked machine is the beginning of the run over what the world answered, and whatever else comes behind it.
 #[tactic(auto, using(crate::proofs::Stages::leads_run))]
 pub fn plays_are_runs()
-    ensures { PlaysRun }
+    ensures { (m : Setting) → IsRunOf m (λ _. ⊤) }
+{}
+
+/// And so is a play of a session.
+#[tactic(auto, using(crate::proofs::Stages::leads_run))]
+pub fn story_plays_are_runs<V: Spelled>(_accepted: &Accepted<V>)
+    ensures { IsRunOf (setting_of _accepted.now) (Describes V.operations _accepted.now) }
 {}

@@ -7,11 +7,12 @@ mod lines;
 mod machine;
 mod outside;
 mod player;
+mod saving;
 mod seeded;
 mod turns;
 
 pub use end::{End, Options, PlayError};
-pub use laws::plays_are_runs;
+pub use laws::{plays_are_runs, story_plays_are_runs};
 pub use outside::{SaveStore, Words};
 pub use player::{play_checked, play_story};
 pub use seeded::Seeded;

@@ -1,14 +1,20 @@
 //! What a player asks of a machine.
 
-ghost use Rattle.std.specs.Prelude.{◌≡◌, ◌+◌, ℕ, [], Ok, Some, IfOk, IsTrue, OnErr};
+ghost use Rattle.std.specs.Prelude.{◌≡◌, ◌≢◌, ◌+◌, ℕ, [], Ok, Some, IfOk, IsTrue, OnErr, false, true};
 ghost use Rattle.zfault.specs.Answers.{answers};
+ghost use Rattle.zquetzal.specs.Grammar.{save_text};
+ghost use Rattle.zquetzal.specs.Saved.{origin_of};
+ghost use Rattle.zstate.specs.Saves.{saved_of};
 ghost use Rattle.zstate.specs.State.{Setting, State, give};
-ghost use Rattle.zstate.specs.Run.{awaited, run, Ends, GivesOut, Makes, Stands, WantsMemory};
+ghost use Rattle.zstate.specs.Run.{awaited, run, Ends, Makes, Stands};
+ghost use Rattle.zplayer.specs.Playing.{GivesOrSaves, WantsOrSaves};
+ghost use Rattle.zplayer.specs.World.{Resumes};
 
-use std::alloc::AllocError;
+use std::alloc::{AllocError, Global};
 use zcert::Spelled;
 use zfault::{Event, Items, Need, Pause};
 use zplay::Session;
+use zquetzal::SaveError;
 use zref::CheckedMachine;
 use zstate::Stop;
 
@@ -20,7 +26,10 @@ pub(crate) trait Machine {
     /// The state that it is in.
     ghost state: { Self → State };
 
-    /// Where memory may be wanted for the next step.
+    /// In which states of a save it goes on.
+    ghost Takes: { Self → State → Type 0 };
+
+    /// Where memory may be refused for what comes next.
     ghost Wants: { Setting → State → Type 0 };
 
     /// The second is the first, moved on: all that a play never changes is the same.
@@ -49,6 +58,22 @@ pub(crate) trait Machine {
         ensures play { IsSamePlay self.old self.new }
         ensures state { state self.new ≡ give event (state self.old) };
 
+    /// The bytes of a save, where the state awaits whether it was kept.
+    fn save_bytes(&self, alloc: Global) -> Result<Vec<u8>, AllocError>
+        requires { awaited (setting self.now) (state self.now) ≡ Some Need.Saved }
+        ensures ok { IfOk result (λ save. save.items ≡ save_text (origin_of (setting self.now).story) (saved_of (setting self.now).story (state self.now))) }
+        ensures err { OnErr result (Wants (setting self.now) (state self.now)) };
+
+    /// Goes on from the bytes of a save, where the state awaits one. Answers whether it does: else nothing changes, and neither
+    /// does it where memory is refused.
+    fn restore(&mut self, alloc: Global, save: &[u8]) -> Result<bool, AllocError>
+        requires { awaited (setting self.old) (state self.old) ≡ Some Need.Restore }
+        ensures play { IsSamePlay self.old self.new }
+        ensures taken { result ≡ Ok true → Resumes (setting self.old) (Takes self.old) save.now (state self.old) (state self.new) }
+        ensures refused { result ≡ Ok false → (t : State) → ¬ Resumes (setting self.old) (Takes self.old) save.now (state self.old) t }
+        ensures same { result ≢ Ok true → state self.new ≡ state self.old }
+        ensures err { OnErr result (Wants (setting self.old) (state self.old)) };
+
     /// A machine that didn't move.
     ghost itself: { (m : Self) → IsSamePlay m m };
 
@@ -57,10 +82,13 @@ pub(crate) trait Machine {
 
     /// What it is played in stays the same.
     ghost same_setting: { (old new : Self) → IsSamePlay old new → setting new ≡ setting old };
+
+    /// And so do the states in which it goes on.
+    ghost same_takes: { (old new : Self) → IsSamePlay old new → (s : State) → (Takes new s → Takes old s) × (Takes old s → Takes new s) };
 }
 
 impl<'a> Machine for CheckedMachine<'a> {
-    ghost use Rattle.std.specs.Prelude.{refl};
+    ghost use Rattle.std.specs.Prelude.{refl, ⊤};
     ghost use Rattle.std.proofs.Common.{◌∙◌};
     ghost use Rattle.zref.specs.Machine.{SamePlay, setting as setting_of_checked};
     ghost use Rattle.zref.proofs.Running.{same_setting as same_setting_of_checked};
@@ -69,7 +97,9 @@ impl<'a> Machine for CheckedMachine<'a> {
 
     ghost state = { λ m. m.state };
 
-    ghost Wants = { WantsMemory };
+    ghost Takes = { λ _ _. ⊤ };
+
+    ghost Wants = { WantsOrSaves };
 
     ghost IsSamePlay = { SamePlay };
 
@@ -85,23 +115,40 @@ impl<'a> Machine for CheckedMachine<'a> {
         CheckedMachine::give(self, event);
     }
 
+    fn save_bytes(&self, alloc: Global) -> Result<Vec<u8>, AllocError> {
+        CheckedMachine::save_bytes(self, alloc)
+    }
+
+    fn restore(&mut self, alloc: Global, save: &[u8]) -> Result<bool, AllocError> {
+        match CheckedMachine::restore(self, alloc, save) {
+            Ok(()) => Ok(true),
+            Err(SaveError::OutOfMemory) => Err(AllocError),
+            Err(_) => Ok(false),
+        }
+    }
+
     ghost itself = { λ m. record { story = refl; scope = refl } };
 
     ghost through = { λ old now new first then. record { story = then.story ∙ first.story; scope = then.scope ∙ first.scope } };
 
     ghost same_setting = { same_setting_of_checked };
+
+    ghost same_takes = { λ old new same s. ((λ taken. taken), λ taken. taken) };
 }
 
 impl<'a, V: Spelled> Machine for Session<'a, V> {
     ghost use Rattle.std.specs.Prelude.{refl};
-    ghost use Rattle.std.proofs.Common.{◌∙◌, ap};
+    ghost use Rattle.std.proofs.Common.{◌∙◌, ap, subst, sym};
     ghost use Rattle.zplay.specs.Session.{setting as setting_of_session, setting_of};
+    ghost use Rattle.zplayer.specs.Stories.{Describes};
 
     ghost setting = { setting_of_session };
 
     ghost state = { λ p. p.state };
 
-    ghost Wants = { GivesOut };
+    ghost Takes = { λ p. Describes V.operations p.accepted };
+
+    ghost Wants = { GivesOrSaves };
 
     ghost IsSamePlay = { λ old new. new.accepted ≡ old.accepted };
 
@@ -117,9 +164,19 @@ impl<'a, V: Spelled> Machine for Session<'a, V> {
         Session::give(self, event);
     }
 
+    fn save_bytes(&self, alloc: Global) -> Result<Vec<u8>, AllocError> {
+        Session::save_bytes(self, alloc)
+    }
+
+    fn restore(&mut self, _alloc: Global, save: &[u8]) -> Result<bool, AllocError> {
+        Ok(Session::restore(self, save).is_ok())
+    }
+
     ghost itself = { λ p. refl };
 
     ghost through = { λ old now new first then. then ∙ first };
 
     ghost same_setting = { λ old new same. ap setting_of same };
+
+    ghost same_takes = { λ old new same s. (subst (λ a. Describes V.operations a s) same, subst (λ a. Describes V.operations a s) (sym same)) };
 }

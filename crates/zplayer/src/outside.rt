@@ -1,23 +1,28 @@
 //! What a player asks of the world beside its reader and its writer.
 
-ghost use Rattle.std.specs.Prelude.{ℕ, List, None, Option};
-ghost use Rattle.zplayer.specs.Outside.{CountsRefusal};
-ghost use Rattle.zplayer.specs.World.{Coming, Draws};
+ghost use Rattle.std.specs.Prelude.{◌≡◌, ℕ, None, Option, true};
+ghost use Rattle.zplayer.specs.Outside.{Coming, CountsRefusal};
+ghost use Rattle.zplayer.specs.World.{Draws, Gets, Kept, Puts};
 
 /// Where saves are kept.
 pub trait SaveStore {
-    /// The save that is kept, where it is known.
-    ghost kept: { Self → Option (List ℕ) } = { λ _. None };
+    /// The save that is kept, if there is one, where that is known.
+    ghost kept: { Self → Option Kept } = { λ _. None };
 
     /// How often a call failed so far, a `u64` that stays at its last value.
     ghost failures: { Self → ℕ };
 
-    /// Keeps a save in place of the one before. False where it failed, and only then the count of failures rises.
+    /// Keeps a save in place of the one before. False where it failed: then the one before is still kept, and only then the
+    /// count of failures rises.
     fn put(&mut self, save: &[u8]) -> bool
+        ensures stores { Puts (kept self.old) save.now result (kept self.new) }
         ensures counts { CountsRefusal (failures self.old) (failures self.new) result };
 
-    /// Puts the save that is kept into `save`. False where it failed, and only then the count of failures rises.
+    /// Puts the save that is kept into `save`, in the place of what is there. False where it failed, as where none is kept, and
+    /// only then the count of failures rises.
     fn get(&mut self, save: &mut Vec<u8>) -> bool
+        ensures gives { result ≡ true → Gets (kept self.old) save.new.items }
+        ensures same { kept self.new ≡ kept self.old }
         ensures counts { CountsRefusal (failures self.old) (failures self.new) result };
 }
 

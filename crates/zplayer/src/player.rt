@@ -1,20 +1,22 @@
 //! The player of a machine.
 
-ghost use Rattle.std.specs.Prelude.{◌≡◌, ◌≢◌, ℤ, false, true, [], Some, IsErrOf, IfOk, MatchBool, MatchResult, OnErr};
+ghost use Rattle.std.specs.Prelude.{◌≡◌, ◌≢◌, ℤ, false, true, [], Some, IsErrOf, IfOk, MatchBool, MatchResult, OnErr, ⊤};
 ghost use Rattle.std.specs.Io.KnownBytes.{IsAtEnd, Keeps};
 ghost use Rattle.zfault.specs.declared.fault.Fault.{Fault as AFault};
-ghost use Rattle.zstate.specs.Run.{awaited, GivesOut, WantsMemory};
+ghost use Rattle.zstate.specs.Run.{awaited};
 ghost use Rattle.zref.specs.Machine.{setting, SamePlay};
 ghost use Rattle.zplay.specs.Session.{setting_of};
 ghost use Rattle.zplayer.specs.Lines.{Hears, unused};
 ghost use Rattle.zplayer.specs.Outside.{Blames};
-ghost use Rattle.zplayer.specs.Playing.{ComesTo, Supplies};
-ghost use Rattle.zplayer.specs.World.{Asks, world};
+ghost use Rattle.zplayer.specs.Playing.{ComesTo, GivesOrSaves, Supplies, WantsOrSaves};
+ghost use Rattle.zplayer.specs.Stories.{Describes};
+ghost use Rattle.zplayer.specs.World.{Asks, told, world};
 
 use crate::end::{End, Options, PlayError};
 use crate::lines::Lines;
 use crate::machine::Machine;
 use crate::outside::{SaveStore, Words};
+use crate::saving::{resume, save};
 use crate::turns::{flush, turn};
 use std::alloc::Global;
 use zcert::Spelled;
@@ -24,69 +26,70 @@ use zref::CheckedMachine;
 
 /// Plays the machine from the state that it is in: makes at most the budget's steps, writes what they give out, with status
 /// lines where the options ask for them, and hands in what they need. A line comes from the reader, of which more may be read
-/// than was used, and before it is read all that was given out is written and flushed. A random word comes from `words`.
+/// than was used, and before it is read all that was given out is written and flushed. A random word comes from `words`. A save goes
+/// to the store, and comes from it: what doesn't go there, or from where the machine doesn't go on, the story is told, and plays on.
 ///
-/// No opcode of this build saves, so the store isn't touched yet.
 /// After P2 a beginning of what the finished steps give out was written, and the writer isn't called again; after P1 and P3 all
-/// of it. After P1 the machine awaits a line, and after P3 the next step gives something out or makes a stack longer. At any
-/// other end than P2 what was written is flushed.
+/// of it. After P1 the machine awaits a line, and after P3 the next step gives something out or makes a stack longer, or it is a
+/// save or a restore. At any other end than P2 what was written is flushed.
 pub fn play_checked<R: Source, W: Sink, S: SaveStore, G: Words>(
     alloc: Global,
     machine: &mut CheckedMachine,
     reader: &mut R,
     writer: &mut W,
-    _store: &mut S,
+    store: &mut S,
     words: &mut G,
     options: Options,
 ) -> Result<End, PlayError>
     ensures play { SamePlay machine.old machine.new }
-    ensures comes { ComesTo (setting machine.old) (WantsMemory (setting machine.old)) options (world (R.remaining reader.old) (G.coming words.old)) machine.old.state machine.new.state (G.coming words.new) (W.contents writer.old) (W.contents writer.new) result }
+    ensures comes { ComesTo (setting machine.old) (λ _. ⊤) (WantsOrSaves (setting machine.old)) options (world (R.remaining reader.old) (G.coming words.old) (told S.kept S.failures store.old)) machine.old.state machine.new.state (G.coming words.new) (told S.kept S.failures store.new) (W.contents writer.old) (W.contents writer.new) result }
     ensures reads { Blames PlayError.Read result (R.failures reader.old) (R.failures reader.new) }
     ensures writes { Blames PlayError.Write result (W.failures writer.old) (W.failures writer.new) }
     ensures flushed { ¬ IsErrOf result PlayError.Write → W.waits writer.new ≡ false }
-    ensures store { _store.new ≡ _store.old }
 {
-    play_machine(alloc, machine, reader, writer, words, options)
+    play_machine(alloc, machine, reader, writer, store, words, options)
 }
 
-/// Plays the session from the state that it is in, as `play_checked` does a machine. It meets no fault.
+/// Plays the session from the state that it is in, as `play_checked` does a machine. It meets no fault. It goes on from those saves
+/// alone whose state its certificate describes, and takes no memory for that.
 pub fn play_story<V: Spelled, R: Source, W: Sink, S: SaveStore, G: Words>(
     alloc: Global,
     session: &mut Session<'_, V>,
     reader: &mut R,
     writer: &mut W,
-    _store: &mut S,
+    store: &mut S,
     words: &mut G,
     options: Options,
 ) -> Result<End, PlayError>
     ensures play { session.new.accepted ≡ session.old.accepted }
-    ensures comes { ComesTo (setting_of session.old.accepted) (GivesOut (setting_of session.old.accepted)) options (world (R.remaining reader.old) (G.coming words.old)) session.old.state session.new.state (G.coming words.new) (W.contents writer.old) (W.contents writer.new) result }
+    ensures comes { ComesTo (setting_of session.old.accepted) (Describes V.operations session.old.accepted) (GivesOrSaves (setting_of session.old.accepted)) options (world (R.remaining reader.old) (G.coming words.old) (told S.kept S.failures store.old)) session.old.state session.new.state (G.coming words.new) (told S.kept S.failures store.new) (W.contents writer.old) (W.contents writer.new) result }
     ensures no_fault { IfOk result (λ end. (fault : AFault) (place : ℤ) → end ≢ End.Fault fault place) }
     ensures reads { Blames PlayError.Read result (R.failures reader.old) (R.failures reader.new) }
     ensures writes { Blames PlayError.Write result (W.failures writer.old) (W.failures writer.new) }
     ensures flushed { ¬ IsErrOf result PlayError.Write → W.waits writer.new ≡ false }
-    ensures store { _store.new ≡ _store.old }
 {
+    let played = play_machine(alloc, session, reader, writer, store, words, options);
     session.never_faults();
-    play_machine(alloc, session, reader, writer, words, options)
+    played
 }
 
 /// Plays a machine, and flushes what was written, but for a failed write, which is the last call of the writer.
-fn play_machine<M: Machine, R: Source, W: Sink, G: Words>(
+fn play_machine<M: Machine, R: Source, W: Sink, S: SaveStore, G: Words>(
     alloc: Global,
     machine: &mut M,
     reader: &mut R,
     writer: &mut W,
+    store: &mut S,
     words: &mut G,
     options: Options,
 ) -> Result<End, PlayError>
     ensures play { M.IsSamePlay machine.old machine.new }
-    ensures comes { ComesTo (M.setting machine.old) (M.Wants (M.setting machine.old)) options (world (R.remaining reader.old) (G.coming words.old)) (M.state machine.old) (M.state machine.new) (G.coming words.new) (W.contents writer.old) (W.contents writer.new) result }
+    ensures comes { ComesTo (M.setting machine.old) (M.Takes machine.old) (M.Wants (M.setting machine.old)) options (world (R.remaining reader.old) (G.coming words.old) (told S.kept S.failures store.old)) (M.state machine.old) (M.state machine.new) (G.coming words.new) (told S.kept S.failures store.new) (W.contents writer.old) (W.contents writer.new) result }
     ensures reads { Blames PlayError.Read result (R.failures reader.old) (R.failures reader.new) }
     ensures writes { Blames PlayError.Write result (W.failures writer.old) (W.failures writer.new) }
     ensures flushed { ¬ IsErrOf result PlayError.Write → W.waits writer.new ≡ false }
 {
-    match play_turns(alloc, machine, reader, writer, words, options) {
+    match play_turns(alloc, machine, reader, writer, store, words, options) {
         // At a failed read all was flushed before it.
         Err(error @ (PlayError::Write | PlayError::Read)) => Err(error),
         played => {
@@ -97,16 +100,17 @@ fn play_machine<M: Machine, R: Source, W: Sink, G: Words>(
 }
 
 /// Makes steps in turns, and hands in what they need.
-fn play_turns<M: Machine, R: Source, W: Sink, G: Words>(
+fn play_turns<M: Machine, R: Source, W: Sink, S: SaveStore, G: Words>(
     alloc: Global,
     machine: &mut M,
     reader: &mut R,
     writer: &mut W,
+    store: &mut S,
     words: &mut G,
     options: Options,
 ) -> Result<End, PlayError>
     ensures play { M.IsSamePlay machine.old machine.new }
-    ensures comes { ComesTo (M.setting machine.old) (M.Wants (M.setting machine.old)) options (world (R.remaining reader.old) (G.coming words.old)) (M.state machine.old) (M.state machine.new) (G.coming words.new) (W.contents writer.old) (W.contents writer.new) result }
+    ensures comes { ComesTo (M.setting machine.old) (M.Takes machine.old) (M.Wants (M.setting machine.old)) options (world (R.remaining reader.old) (G.coming words.old) (told S.kept S.failures store.old)) (M.state machine.old) (M.state machine.new) (G.coming words.new) (told S.kept S.failures store.new) (W.contents writer.old) (W.contents writer.new) result }
     ensures reads { Blames PlayError.Read result (R.failures reader.old) (R.failures reader.new) }
     ensures writes { Blames PlayError.Write result (W.failures writer.old) (W.failures writer.new) }
     ensures flushed { IsErrOf result PlayError.Read → W.waits writer.new ≡ false }
@@ -116,7 +120,7 @@ fn play_turns<M: Machine, R: Source, W: Sink, G: Words>(
     let mut left = options.budget;
     'turns: loop {
         if let Some(stop) = turn(machine, writer, options.status, &mut left, &mut items)? {
-            if !supply(machine, &mut lines, reader, writer, words)? {
+            if !supply(alloc, machine, &mut lines, reader, writer, store, words)? {
                 return Ok(End::from(stop));
             }
         }
@@ -124,29 +128,35 @@ fn play_turns<M: Machine, R: Source, W: Sink, G: Words>(
 }
 
 /// Hands in what the machine awaits. Answers whether the world had it.
-fn supply<M: Machine, R: Source, W: Sink, G: Words>(
+fn supply<M: Machine, R: Source, W: Sink, S: SaveStore, G: Words>(
+    alloc: Global,
     machine: &mut M,
     lines: &mut Lines,
     reader: &mut R,
     writer: &mut W,
+    store: &mut S,
     words: &mut G,
 ) -> Result<bool, PlayError>
     requires ended { lines.old.ended ≡ true → IsAtEnd (R.remaining reader.old) }
     ensures ended { lines.new.ended ≡ true → IsAtEnd (R.remaining reader.new) }
     ensures play { M.IsSamePlay machine.old machine.new }
-    ensures supplied { IfOk result (λ some. Supplies (M.setting machine.old) (M.state machine.old) (world (unused lines.old (R.remaining reader.old)) (G.coming words.old)) some (M.state machine.new) (world (unused lines.new (R.remaining reader.new)) (G.coming words.new))) }
-    ensures same { OnErr result ((M.state machine.new ≡ M.state machine.old) × (G.coming words.new ≡ G.coming words.old)) }
+    ensures supplied { IfOk result (λ some. Supplies (M.setting machine.old) (M.Takes machine.old) (M.state machine.old) (world (unused lines.old (R.remaining reader.old)) (G.coming words.old) (told S.kept S.failures store.old)) some (M.state machine.new) (world (unused lines.new (R.remaining reader.new)) (G.coming words.new) (told S.kept S.failures store.new))) }
+    ensures same { OnErr result ((M.state machine.new ≡ M.state machine.old) × (G.coming words.new ≡ G.coming words.old) × (told S.kept S.failures store.new ≡ told S.kept S.failures store.old)) }
     ensures kept { Keeps (W.contents writer.old) (W.contents writer.new) }
     ensures at_line { IsErrOf result PlayError.Read → awaited (M.setting machine.old) (M.state machine.old) ≡ Some Need.Line }
+    ensures wanted { IsErrOf result PlayError.OutOfMemory → M.Wants (M.setting machine.old) (M.state machine.old) }
     ensures reads { Blames PlayError.Read result (R.failures reader.old) (R.failures reader.new) }
     ensures writes { Blames PlayError.Write result (W.failures writer.old) (W.failures writer.new) }
     ensures flushed { IsErrOf result PlayError.Read → W.waits writer.new ≡ false }
-    ensures no_memory { ¬ IsErrOf result PlayError.OutOfMemory }
 {
     let Some(need) = machine.awaits() else {
         return Ok(false);
     };
-    match ask(need, lines, reader, writer, words)? {
+    if let Need::Restore = need {
+        resume(alloc, machine, store)?;
+        return Ok(true);
+    }
+    match ask(alloc, need, machine, lines, reader, writer, store, words)? {
         Some(event) => {
             machine.give(event);
             Ok(true)
@@ -155,24 +165,29 @@ fn supply<M: Machine, R: Source, W: Sink, G: Words>(
     }
 }
 
-/// What answers a need, if anything does. Before a line is read, all that was written is flushed.
-fn ask<R: Source, W: Sink, G: Words>(
+/// What answers a need of an event, if anything does. Before a line is read, all that was written is flushed.
+fn ask<M: Machine, R: Source, W: Sink, S: SaveStore, G: Words>(
+    alloc: Global,
     need: Need,
+    machine: &M,
     lines: &mut Lines,
     reader: &mut R,
     writer: &mut W,
+    store: &mut S,
     words: &mut G,
 ) -> Result<Option<Event>, PlayError>
+    requires awaits { awaited (M.setting machine.now) (M.state machine.now) ≡ Some need }
+    requires event { need ≢ Need.Restore }
     requires ended { lines.old.ended ≡ true → IsAtEnd (R.remaining reader.old) }
     ensures ended { lines.new.ended ≡ true → IsAtEnd (R.remaining reader.new) }
-    ensures asked { IfOk result (λ event. Asks need (world (unused lines.old (R.remaining reader.old)) (G.coming words.old)) event (world (unused lines.new (R.remaining reader.new)) (G.coming words.new))) }
-    ensures same { OnErr result (G.coming words.new ≡ G.coming words.old) }
+    ensures asked { IfOk result (λ event. Asks (M.setting machine.now) (M.Takes machine.now) (M.state machine.now) need (world (unused lines.old (R.remaining reader.old)) (G.coming words.old) (told S.kept S.failures store.old)) event (world (unused lines.new (R.remaining reader.new)) (G.coming words.new) (told S.kept S.failures store.new))) }
+    ensures same { OnErr result ((G.coming words.new ≡ G.coming words.old) × (store.new ≡ store.old)) }
     ensures kept { Keeps (W.contents writer.old) (W.contents writer.new) }
     ensures at_line { IsErrOf result PlayError.Read → need ≡ Need.Line }
+    ensures wanted { IsErrOf result PlayError.OutOfMemory → M.Wants (M.setting machine.now) (M.state machine.now) }
     ensures reads { Blames PlayError.Read result (R.failures reader.old) (R.failures reader.new) }
     ensures writes { Blames PlayError.Write result (W.failures writer.old) (W.failures writer.new) }
     ensures flushed { IsErrOf result PlayError.Read → W.waits writer.new ≡ false }
-    ensures no_memory { ¬ IsErrOf result PlayError.OutOfMemory }
 {
     match need {
         Need::Line => {
@@ -181,7 +196,8 @@ fn ask<R: Source, W: Sink, G: Words>(
             Ok(line.map(Event::Line))
         }
         Need::Random => Ok(Some(Event::Random(words.next()))),
-        Need::Saved | Need::Restore => Ok(None),
+        Need::Saved => Ok(Some(Event::Saved(save(alloc, machine, store)?))),
+        Need::Restore => unreachable!(),
     }
 }
 

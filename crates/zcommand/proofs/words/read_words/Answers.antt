@@ -1,10 +1,19 @@
-use Rattle.zcommand.proofs.Entered.{no_fault, command_named}
+use Rattle.zcommand.specs.CommandLine.{IsReadFrom}
+use Rattle.zcommand.proofs.Entered.{no_fault, command_fails, command_named, command_read}
 use Rattle.zcommand.proofs.words.read_words.Goals as goal
 
 pub command_of-requires : goal.command_of-requires
 command_of-requires c =
     let parsed = c.in_ok-matches.ensures in
     command_named _ _ _ c.in_ok-program.ensures parsed.kinds parsed.matches
+
+pub returns-in_err-matches-clause-fails : goal.returns-in_err-matches-clause-fails
+returns-in_err-matches-clause-fails c = command_fails _ _ _ _ c.in_ok-program.ensures c.in_err-matches.ensures.kinds c.from_residual-in_err-matches.ensures
+
+pub returns-clause-read : goal.returns-clause-read
+returns-clause-read c =
+    let parsed = c.in_ok-matches.ensures in
+    command_read _ _ _ c.in_ok-program.ensures parsed.kinds _ parsed.matches c.command_of.ensures
 
 pub returns-clause-fails : goal.returns-clause-fails
 returns-clause-fails c = no_fault _ c.in_ok-matches.matches _ c.in_ok-program.ensures c.in_ok-matches.ensures.kinds

@@ -1,4 +1,5 @@
-use Rattle.zperform.specs.Performing.{given}
+use Rattle.std.specs.Prelude.{option_map}
+use Rattle.zperform.specs.Performing.{given, store_of}
 use Rattle.zperform.specs.declared.outcome.Outcome.TheVariants.{Stopped}
 use Rattle.zperform.proofs.PlayLemmas.{of_part, passed_on, unloaded_comes}
 use Rattle.zperform.proofs.performing.play.Goals as goal
@@ -6,7 +7,7 @@ use Rattle.zperform.proofs.performing.play.Goals as goal
 pub returns-in_err-story-clause-comes : goal.returns-in_err-story-clause-comes
 returns-in_err-story-clause-comes g c =
     let options = c.args.options in
-    let world = given (g.R.Source.remaining c.args.reader.now) c.args.seed in
+    let world = given (g.R.Source.remaining c.args.reader.now) c.args.seed (store_of (option_map (λ n. n.now) c.args.save)) in
     let taken = g.W.Sink.contents c.args.writer.now in
     let problem = c.in_err-story.field-0.0 in
     let file = c.in_ok-file.file.items in

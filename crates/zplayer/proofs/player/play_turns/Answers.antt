@@ -1,13 +1,13 @@
 use Rattle.std.proofs.Common.{◌∙◌, refl, rules}
 use Rattle.zplayer.specs.Lines.{unused}
-use Rattle.zplayer.specs.World.{world}
+use Rattle.zplayer.specs.World.{told, world}
 use Rattle.zplayer.proofs.Stages.{fewer_to_come, given_to_come, handed_on, starts, stood, supplied, supply_broke, turn_broke, turn_made}
 use Rattle.zplayer.proofs.player.play_turns.Goals as goal
 
 pub turns-init : goal.turns-init
 turns-init g c = record {
   play = g.met.M.Machine.itself _;
-  so_far = starts _ _ _ _ _ _ _ _ c.new-lines.ensures;
+  so_far = starts _ _ _ _ _ _ _ _ _ _ c.new-lines.ensures;
   ended = search rules;
   unread = refl;
   quiet = refl;
@@ -19,7 +19,7 @@ turns-preserved g c =
     let same = g.met.M.Machine.same_setting _ _ so_far.play in
     record {
       play = g.met.M.Machine.through _ _ _ so_far.play c.in_ok-stop.ensures.play;
-      so_far = turn_made _ g.M.Machine.Wants _ _ _ _ _ _ _ so_far.so_far _ same _ _ _ c.in_ok-stop.ensures.ok;
+      so_far = turn_made _ _ g.M.Machine.Wants _ _ _ _ _ _ _ so_far.so_far _ same _ _ _ c.in_ok-stop.ensures.ok;
       ended = so_far.ended;
       unread = so_far.unread;
       quiet = search rules;
@@ -31,10 +31,11 @@ turns-preserved-else-not-branch g c =
     let same = g.met.M.Machine.same_setting _ _ so_far.play in
     let turned = g.met.M.Machine.through _ _ _ so_far.play c.in_ok-stop.ensures.play in
     let now = g.met.M.Machine.same_setting _ _ turned in
-    let made = turn_made _ g.M.Machine.Wants _ _ _ _ _ _ _ so_far.so_far _ same _ _ _ c.in_ok-stop.ensures.ok in
+    let takes = g.met.M.Machine.same_takes _ _ turned in
+    let made = turn_made _ _ g.M.Machine.Wants _ _ _ _ _ _ _ so_far.so_far _ same _ _ _ c.in_ok-stop.ensures.ok in
     record {
       play = g.met.M.Machine.through _ _ _ turned c.in_ok-supply.ensures.play;
-      so_far = supplied _ g.M.Machine.Wants _ _ _ _ _ _ _ _ made _ now _ (g.G.Words.coming c.supply.new.words) _ c.in_ok-supply.ensures.kept _ (rw c.if-not-branch.false at c.in_ok-supply.ensures.supplied);
+      so_far = supplied _ _ g.M.Machine.Wants _ _ _ _ _ _ _ _ _ made _ now _ takes _ _ c.in_ok-supply.ensures.kept _ (rw c.if-not-branch.false at c.in_ok-supply.ensures.supplied);
       ended = c.in_ok-supply.ensures.ended;
       unread = search rules;
       quiet = search rules;
@@ -47,7 +48,7 @@ returns-in_err-stop-clause-comes g c =
     let e = c.in_err-stop.ensures in (
       c.turn.new.left,
       unused c.turns.lines (g.R.Source.remaining c.turns.reader),
-      handed_on _ _ _ _ c.from_residual.ensures (turn_broke _ g.M.Machine.Wants _ _ _ _ _ _ _ so_far.so_far _ same _ _ _ _ _ refl e.no_read e.finished e.wanted e.in_part),
+      handed_on _ _ _ _ c.from_residual.ensures (turn_broke _ _ g.M.Machine.Wants _ _ _ _ _ _ _ so_far.so_far _ same _ _ _ _ _ refl e.no_read e.finished e.wanted e.in_part),
     )
 
 pub returns-in_err-supply-clause-comes : goal.returns-in_err-supply-clause-comes
@@ -56,11 +57,12 @@ returns-in_err-supply-clause-comes g c =
     let same = g.met.M.Machine.same_setting _ _ so_far.play in
     let turned = g.met.M.Machine.through _ _ _ so_far.play c.in_ok-stop.ensures.play in
     let now = g.met.M.Machine.same_setting _ _ turned in
-    let made = turn_made _ g.M.Machine.Wants _ _ _ _ _ _ _ so_far.so_far _ same _ _ _ c.in_ok-stop.ensures.ok in
+    let takes = g.met.M.Machine.same_takes _ _ turned in
+    let made = turn_made _ _ g.M.Machine.Wants _ _ _ _ _ _ _ so_far.so_far _ same _ _ _ c.in_ok-stop.ensures.ok in
     let e = c.in_err-supply.ensures in (
       c.turn.new.left,
       unused c.turns.lines (g.R.Source.remaining c.turns.reader),
-      handed_on _ _ _ _ c.from_residual-in_err-supply.ensures (supply_broke _ g.M.Machine.Wants _ _ _ _ _ _ _ _ made _ now _ _ _ e.kept _ _ refl e.same e.at_line e.no_memory),
+      handed_on _ _ _ _ c.from_residual-in_err-supply.ensures (supply_broke _ _ g.M.Machine.Wants _ _ _ _ _ _ _ _ _ made _ now _ takes _ _ e.kept _ _ _ _ refl e.same e.at_line e.wanted),
     )
 
 pub returns-then-not-branch-clause-comes : goal.returns-then-not-branch-clause-comes
@@ -69,10 +71,14 @@ returns-then-not-branch-clause-comes g c =
     let same = g.met.M.Machine.same_setting _ _ so_far.play in
     let turned = g.met.M.Machine.through _ _ _ so_far.play c.in_ok-stop.ensures.play in
     let now = g.met.M.Machine.same_setting _ _ turned in
-    let made = turn_made _ g.M.Machine.Wants _ _ _ _ _ _ _ so_far.so_far _ same _ _ _ c.in_ok-stop.ensures.ok in
+    let takes = g.met.M.Machine.same_takes _ _ turned in
+    let made = turn_made _ _ g.M.Machine.Wants _ _ _ _ _ _ _ so_far.so_far _ same _ _ _ c.in_ok-stop.ensures.ok in
     let still = rw c.in-Some.is at c.in_ok-stop.ensures.stands in (
       c.turn.new.left,
       unused c.turns.lines (g.R.Source.remaining c.turns.reader),
       rw c.from.ensures
-          (stood _ g.M.Machine.Wants _ _ _ _ _ _ _ _ made _ now _ _ _ c.in_ok-supply.ensures.kept c.in-Some.stop _ same still.0 still.1 (world (unused c.supply.new.lines (g.R.Source.remaining c.supply.new.reader)) (g.G.Words.coming c.supply.new.words)) refl (rw c.if-not-branch.true at c.in_ok-supply.ensures.supplied)),
+          (stood _ _ g.M.Machine.Wants _ _ _ _ _ _ _ _ _ made _ now _ takes _ _ c.in_ok-supply.ensures.kept _ _ c.in-Some.stop _ same still.0 still.1 (world (unused c.supply.new.lines (g.R.Source.remaining c.supply.new.reader)) (g.G.Words.coming c.supply.new.words) (told g.S.SaveStore.kept g.S.SaveStore.failures c.supply.new.store)) refl refl (rw c.if-not-branch.true at c.in_ok-supply.ensures.supplied)),
     )
+
+pub turns-smaller-else-not-branch : goal.turns-smaller-else-not-branch
+turns-smaller-else-not-branch g c = given_to_come _ _ _ _ _ _ _ _ _ _ _ _ _ c.in_ok-stop.ensures.ok (rw c.if-not-branch.false at c.in_ok-supply.ensures.supplied)

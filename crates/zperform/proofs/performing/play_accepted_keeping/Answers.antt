@@ -1,6 +1,6 @@
 use Rattle.std.proofs.Common.{◌≡◌, Err, Some, ap, inl, refl}
 use Rattle.zplayer.specs.Outside.{words_from}
-use Rattle.zplayer.specs.World.{world}
+use Rattle.zplayer.specs.World.{told, world}
 use Rattle.zperform.specs.declared.outcome.Outcome.TheVariants.{Played, Stopped}
 use Rattle.zperform.specs.Accepting.{PlayComesTo}
 use Rattle.zperform.proofs.PlayLemmas.{with_words}
@@ -8,17 +8,18 @@ use Rattle.zplayer.specs.declared.end.PlayError.TheVariants as errors
 use Rattle.zperform.specs.Performing.{given}
 use Rattle.zperform.specs.Report.{problem_of_play}
 use Rattle.zperform.proofs.SessionLemmas.{as_read, as_write, broken, handed_on, played, unopened, was_no_file, was_read, was_write}
-use Rattle.zperform.proofs.performing.play_accepted.Goals as goal
+use Rattle.zperform.proofs.performing.play_accepted_keeping.Goals as goal
 
 pub returns-in_err-end-clause-comes : goal.returns-in_err-end-clause-comes
 returns-in_err-end-clause-comes g c = λ story certificate accepted.
     let error = c.in_err-end.field-0.0 in
     let input = g.R.Source.remaining c.args.reader.now in
+    let store = told g.S.SaveStore.kept g.S.SaveStore.failures c.args.store.now in
     let before = g.W.Sink.contents c.args.writer.now in
     let now = g.W.Sink.contents c.play_story.new.writer in
-    handed_on story certificate c.args.options (given input c.args.seed) before now c.from_residual-in_err-end.result (problem_of_play error) c.from_residual-in_err-end.ensures
-    (with_words (λ w. PlayComesTo story certificate c.args.options w before now (Stopped (problem_of_play error))) input c.new-2.result _ c.new-2.ensures
-    (broken story certificate c.args.options (world input (Some (words_from c.new-2.result))) before c.args.accepted.now accepted _ c.in_ok-session.ensures now _ _ error c.in_err-end.ensures.comes))
+    handed_on story certificate c.args.options (given input c.args.seed store) before now c.from_residual-in_err-end.result (problem_of_play error) c.from_residual-in_err-end.ensures
+    (with_words (λ w. PlayComesTo story certificate c.args.options w before now (Stopped (problem_of_play error))) input store c.new.result _ c.new.ensures
+    (broken story certificate c.args.options (world input (Some (words_from c.new.result)) store) before c.args.accepted.now accepted _ c.in_ok-session.ensures now _ _ _ error c.in_err-end.ensures.comes))
 
 pub returns-in_err-end-clause-quiet : goal.returns-in_err-end-clause-quiet
 returns-in_err-end-clause-quiet g c = λ other.
@@ -47,14 +48,15 @@ returns-in_err-end-clause-heard g c = λ other.
 pub returns-in_err-session-clause-comes : goal.returns-in_err-session-clause-comes
 returns-in_err-session-clause-comes g c = λ story certificate accepted.
     let before = g.W.Sink.contents c.args.writer.now in
-    let begun = given (g.R.Source.remaining c.args.reader.now) c.args.seed in
+    let begun = given (g.R.Source.remaining c.args.reader.now) c.args.seed (told g.S.SaveStore.kept g.S.SaveStore.failures c.args.store.now) in
     handed_on story certificate c.args.options begun before before c.from_residual.result _ c.from_residual.ensures (inl (refl, unopened story certificate c.args.options begun before c.args.accepted.now accepted))
 
 pub returns-clause-comes : goal.returns-clause-comes
 returns-clause-comes g c = λ story certificate accepted.
     let known = c.in_ok-end.ensures in
     let input = g.R.Source.remaining c.args.reader.now in
+    let store = told g.S.SaveStore.kept g.S.SaveStore.failures c.args.store.now in
     let before = g.W.Sink.contents c.args.writer.now in
     let now = g.W.Sink.contents c.play_story.new.writer in
-    with_words (λ w. PlayComesTo story certificate c.args.options w before now (Played c.in_ok-end.end)) input c.new-2.result _ c.new-2.ensures
-    (played story certificate c.args.options (world input (Some (words_from c.new-2.result))) before c.args.accepted.now accepted _ c.in_ok-session.ensures now _ _ c.in_ok-end.end known.comes known.no_fault)
+    with_words (λ w. PlayComesTo story certificate c.args.options w before now (Played c.in_ok-end.end)) input store c.new.result _ c.new.ensures
+    (played story certificate c.args.options (world input (Some (words_from c.new.result)) store) before c.args.accepted.now accepted _ c.in_ok-session.ensures now _ _ _ c.in_ok-end.end known.comes known.no_fault)

@@ -1,0 +1,258 @@
+#!/usr/bin/env python3
+"""Saves, restores and restarts, on both machines. The bytes of each save are put together here after the Quetzal standard and
+docs/MACHINE.md, and what is printed is worked out by hand. Each byte of a save is altered in four ways, and each beginning of it tried.
+
+    saves.py PROGRAM
+"""
+import os
+import struct
+import subprocess
+import sys
+import tempfile
+
+from altered import changes
+from plays import PRINT_FIRST, PRINT_TOP, SAY_NO, SAY_YES, single
+from program import Answer, Count, Program, side_by_side
+from samples import CODE, HELLO, QUIT, RELEASE, SERIAL, STATIC, certificate, changed, interval, story, word
+
+SAVE = b"\xb5\xc2"  # to what follows, whether it was kept or not
+RESTORE = b"\xb6\x42"  # to what follows, where nothing is restored
+RESTART = b"\xb7"
+FLAGS = 0x11  # the low byte of Flags 2
+LOAD_FLAGS = b"\x10\0\x11\0"  # loadb 0 17, to the stack
+FIRST_FRAME = bytes(8)
+IN_SAVE = 42  # where dynamic memory begins in a save
+
+
+def chunk(name, data):
+    return name + struct.pack(">I", len(data)) + data + b"\0" * (len(data) % 2)
+
+
+def saved(made, place, memory=None, frames=FIRST_FRAME, checksum=None, before=b"", release=RELEASE, serial=SERIAL):
+    """A save of a story at the `save` that begins at the place, with the checksum of its header or another."""
+    head = word(release) + serial + (made[0x1C:0x1E] if checksum is None else word(checksum)) + struct.pack(">I", place + 1)[1:]
+    chunks = before + chunk(b"IFhd", head) + chunk(b"UMem", memory or made[:STATIC]) + chunk(b"Stks", frames)
+    return b"FORM" + struct.pack(">I", len(chunks) + 4) + b"IFZS" + chunks
+
+
+def done(output=b"", errors=b""):
+    return Answer(0, output, errors)
+
+
+# ---- stories
+
+# It saves, tries to restore, and quits.
+SAVES = story(SAVE + b"\xb6\xc2" + QUIT)
+SAVES_LISTED = certificate(SAVES, [0x324, 0x326, 0x328])
+THAT_SAVE = saved(SAVES, 0x324)
+
+# It tries to restore. Where a save leads to the `save` at 326, it prints y; then what global 16 is.
+RESTORES = story(b"\xb6\x47" + SAVE + SAY_YES + PRINT_FIRST + QUIT)
+RESTORES_LISTED = certificate(RESTORES, [0x324, 0x326, 0x328, 0x32B, 0x32E])
+ITS_SAVE = saved(RESTORES, 0x326)
+
+# It tries to restore, and else prints n and calls a routine with 3, which pushes 5, saves, prints both, and gives 3 back.
+INSIDE = story(
+    RESTORE + SAY_NO + b"\xe0\x1f\x01\x9a\x03\x10" + PRINT_FIRST + QUIT + b"\0"
+    + b"\x01\0\0" + b"\xe8\x7f\x05" + SAVE + b"\xe6\xbf\x01" + PRINT_TOP + b"\xab\x01"
+)
+INSIDE_LISTED = certificate(
+    INSIDE, [0x324, 0x326, 0x329, 0x32F, 0x332, 0x337, 0x33A, 0x33C, 0x33F, 0x342],
+    stacks=dict.fromkeys([0x33A, 0x33C, 0x33F], single(5)), routines=[(0x334, 1, (3, 3))],
+    inside=dict.fromkeys([0x337, 0x33A, 0x33C, 0x33F, 0x342], (1, single(3))), own={16: (0, 3)},
+)
+# it returns to 32F with variable 16, has one local and one argument, and a stack of one word
+INSIDE_FRAME = b"\0\x03\x2f\x01\x10\x01" + word(1) + word(3) + word(5)
+
+# It prints what it finds in Flags 2 and in global 16. If the first is 0 it sets all bits there, gives the global 5, and begins anew.
+ANEW = story(
+    LOAD_FLAGS + PRINT_TOP + PRINT_FIRST + LOAD_FLAGS + b"\xa0\0\xc3" + QUIT + b"\xe2\x57\0\x11\xff" + b"\x0d\x10\x05" + PRINT_FIRST + RESTART
+)
+BYTE = interval(0, 255)
+ANEW_LISTED = certificate(
+    ANEW, [0x324, 0x328, 0x32B, 0x32E, 0x332, 0x335, 0x336, 0x33B, 0x33E, 0x341], stacks={0x328: BYTE, 0x332: BYTE}, own={16: (0, 5)}
+)
+
+# With a bit of Flags 2 set it draws two numbers up to 3. Else it sets it, begins to count to 3, draws one, and begins anew.
+DRAW = b"\xe7\x7f\x03\0"
+COUNTS = story(
+    LOAD_FLAGS + b"\xa0\0\xd1" + (DRAW + PRINT_TOP) * 2 + QUIT + b"\xe2\x57\0\x11\x01" + b"\xe7\x3f\xff\xfd\0" + PRINT_TOP + DRAW + PRINT_TOP + RESTART
+)
+DRAWN = interval(1, 3)
+COUNTS_LISTED = certificate(
+    COUNTS, [0x324, 0x328, 0x32B, 0x32F, 0x332, 0x336, 0x339, 0x33A, 0x33F, 0x344, 0x347, 0x34B, 0x34E],
+    stacks={0x328: BYTE, 0x32F: DRAWN, 0x336: DRAWN, 0x344: single(0), 0x34B: DRAWN},
+)
+
+# It sets bit 1 of Flags 2 and restores; at the `save` at 32C it prints Flags 2.
+KEEPS = story(b"\xe2\x57\0\x11\x02" + RESTORE + QUIT + SAVE + LOAD_FLAGS + PRINT_TOP + QUIT)
+KEEPS_LISTED = certificate(KEEPS, [0x324, 0x329, 0x32B, 0x32C, 0x32E, 0x332, 0x335], stacks={0x332: BYTE})
+
+# It begins to count to 3, draws and prints a number, and restores; at the `save` at 333 it draws and prints another.
+GOES_ON = story(
+    b"\xe7\x3f\xff\xfd\x10" + b"\xe7\x7f\x03\x10" + PRINT_FIRST + RESTORE + QUIT + SAVE + b"\xe7\x7f\x03\x10" + PRINT_FIRST + QUIT
+)
+GOES_ON_LISTED = certificate(GOES_ON, [0x324, 0x329, 0x32D, 0x330, 0x332, 0x333, 0x335, 0x339, 0x33C], own={16: (0, 3)})
+
+# It says whether it saved, and whether it restored.
+TELLS = story(b"\xb5\xc3" + QUIT + HELLO + QUIT)
+TELLS_LISTED = certificate(TELLS, [0x324, 0x326, 0x327, 0x32C])
+TELLS_NONE = story(b"\xb6\x43" + QUIT + HELLO + QUIT)
+TELLS_NONE_LISTED = certificate(TELLS_NONE, [0x324, 0x327, 0x32C])
+
+QUITS = story(SAVE + QUIT)
+QUITS_LISTED = certificate(QUITS, [0x324, 0x326])
+
+# the save of the story that quits, byte by byte: 664 of them
+QUITS_SAVE = (
+    b"FORM\0\0\x02\x90IFZS" + b"IFhd\0\0\0\x0d\0\x01260101\x39\x6e\0\x03\x25\0" + b"UMem\0\0\x02\x5e" + QUITS[:606] + b"Stks\0\0\0\x08" + bytes(8)
+)
+NO_SUM = changed(RESTORES, 0x1C, 0, 0)  # a header that says nothing of the sum
+SUM = sum(RESTORES[64:]) % 65536
+
+# ---- plays: name, story, its certificate, options, what is kept before, what is printed, what is kept then
+
+PLAYS = [
+    ("a save", QUITS, QUITS_LISTED, ["--save", "kept"], None, b"", QUITS_SAVE),
+    ("a save in the place of another", QUITS, QUITS_LISTED, ["--save", "kept"], bytes(1000), b"", QUITS_SAVE),
+    ("a save that is kept", TELLS, TELLS_LISTED, ["--save", "kept"], None, b"hello", saved(TELLS, 0x324)),
+    ("a save that is kept nowhere", TELLS, TELLS_LISTED, [], None, b"", None),
+    ("a save to a folder", TELLS, TELLS_LISTED, ["--save", "."], None, b"", None),
+    ("a save to a full device", TELLS, TELLS_LISTED, ["--save", "/dev/full"], None, b"", None),
+    ("a save to a folder that isn't there", TELLS, TELLS_LISTED, ["--save", "absent/kept"], None, b"", None),
+    ("nothing to restore", TELLS_NONE, TELLS_NONE_LISTED, ["--save", "kept"], None, b"hello", None),
+    ("nowhere to restore from", TELLS_NONE, TELLS_NONE_LISTED, [], None, b"hello", None),
+    ("a folder to restore from", TELLS_NONE, TELLS_NONE_LISTED, ["--save", "."], None, b"hello", None),
+    ("neither a save nor a restore", SAVES, SAVES_LISTED, ["--save", "."], None, b"", None),
+    ("a save", RESTORES, RESTORES_LISTED, ["--save", "kept"], ITS_SAVE, b"y0", ITS_SAVE),
+    ("an empty file", RESTORES, RESTORES_LISTED, ["--save", "kept"], b"", b"0", b""),
+    ("a byte behind a save", RESTORES, RESTORES_LISTED, ["--save", "kept"], ITS_SAVE + b"\0", b"0", ITS_SAVE + b"\0"),
+    ("a save of compressed memory", RESTORES, RESTORES_LISTED, ["--save", "kept"], ITS_SAVE.replace(b"UMem", b"CMem"), b"0", None),
+    ("a save of another release", RESTORES, RESTORES_LISTED, ["--save", "kept"], saved(RESTORES, 0x326, release=2), b"0", None),
+    ("a save of another serial", RESTORES, RESTORES_LISTED, ["--save", "kept"], saved(RESTORES, 0x326, serial=b"260102"), b"0", None),
+    ("a save with a chunk before it", RESTORES, RESTORES_LISTED, ["--save", "kept"], saved(RESTORES, 0x326, before=chunk(b"ANNO", b"odd")), b"y0", None),
+    ("a save at a `restore`", RESTORES, RESTORES_LISTED, ["--save", "kept"], saved(RESTORES, 0x324), b"0", None),
+    ("a save at another place", RESTORES, RESTORES_LISTED, ["--save", "kept"], saved(RESTORES, 0x327), b"0", None),
+    ("of a story without a sum, the sum of the file", NO_SUM, certificate(NO_SUM, [0x324, 0x326, 0x328, 0x32B, 0x32E]), ["--save", "kept"], saved(NO_SUM, 0x326, checksum=SUM), b"y0", None),
+    ("of a story without a sum, none", NO_SUM, certificate(NO_SUM, [0x324, 0x326, 0x328, 0x32B, 0x32E]), ["--save", "kept"], saved(NO_SUM, 0x326, checksum=0), b"y0", None),
+    ("of a story without a sum, another", NO_SUM, certificate(NO_SUM, [0x324, 0x326, 0x328, 0x32B, 0x32E]), ["--save", "kept"], saved(NO_SUM, 0x326, checksum=1), b"0", None),
+    ("a frame more than the first", INSIDE, INSIDE_LISTED, ["--save", "kept"], None, b"n353", saved(INSIDE, 0x33A, frames=FIRST_FRAME + INSIDE_FRAME)),
+    ("a story that begins anew", ANEW, ANEW_LISTED, [], None, b"00530", None),
+    ("a count that goes on in a story that begins anew", COUNTS, COUNTS_LISTED, [], None, b"0231", None),
+    ("Flags 2 of a save, but for two bits", KEEPS, KEEPS_LISTED, ["--save", "kept"], changed(saved(KEEPS, 0x32C), IN_SAVE + FLAGS, 0xFF), b"254", None),
+    ("Flags 2, where a save has one of the bits", KEEPS, KEEPS_LISTED, ["--save", "kept"], changed(saved(KEEPS, 0x32C), IN_SAVE + FLAGS, 1), b"2", None),
+    ("a count that goes on after a restore", GOES_ON, GOES_ON_LISTED, ["--save", "kept"], saved(GOES_ON, 0x333), b"23", None),
+    ("a release of a save's header", RESTORES, RESTORES_LISTED, ["--save", "kept"], changed(ITS_SAVE, IN_SAVE + 2, 0, 9), b"y0", None),
+]
+
+# ---- the same with ends that are said: what is printed, and what is said
+
+ENDS = [
+    ("a save that leads back to itself", SAVES, SAVES_LISTED, ["--budget", "100"], None, b"", b"end: budget\n"),
+    ("three steps after a restore", RESTORES, RESTORES_LISTED, ["--budget", "3"], ITS_SAVE, b"y0", b""),
+    ("two steps after a restore", RESTORES, RESTORES_LISTED, ["--budget", "2"], ITS_SAVE, b"y", b"end: budget\n"),
+    ("two steps without one", RESTORES, RESTORES_LISTED, ["--budget", "2"], None, b"0", b""),
+    ("one step without one", RESTORES, RESTORES_LISTED, ["--budget", "1"], None, b"", b"end: budget\n"),
+]
+
+
+def on_both(program, made, listed, options, kept):
+    """What each machine answers, what it keeps, and whether there is any other file then."""
+    for machine, words in (("checked", ["story"]), ("by its certificate", ["story", "certificate"])):
+        with tempfile.TemporaryDirectory(prefix="saves-") as room:
+            files = {"story": made, "certificate": listed, **({} if kept is None else {"kept": kept})}
+            for name, contents in files.items():
+                with open(os.path.join(room, name), "wb") as file:
+                    file.write(contents)
+            answer = program.run_in(room, ["play", *options, *words])
+            there = os.path.join(room, "kept")
+            left = None
+            if os.path.exists(there):
+                with open(there, "rb") as file:
+                    left = file.read()
+            yield machine, answer, left, sorted(set(os.listdir(room)) - {"story", "certificate", "kept"})
+
+
+def see_plays(program, count):
+    for name, made, listed, options, kept, output, wanted in PLAYS:
+        for machine, answer, left, others in on_both(program, made, listed, options, kept):
+            well = answer == done(output) and not others and left == (kept if wanted is None else wanted)
+            count.see(well, f"{name}, {machine}: {answer}, wanted was {output}; kept {left and left[:60]}, and {others}")
+    for name, made, listed, options, kept, output, errors in ENDS:
+        for machine, answer, left, others in on_both(program, made, listed, ["--save", "kept", *options], kept):
+            wanted = THAT_SAVE if made is SAVES else kept
+            count.see(answer == done(output, errors) and left == wanted and not others, f"{name}, {machine}: {answer}; kept {left and left[:60]}")
+
+
+def what_is_printed(at):
+    """What the story that restores prints where this byte of its save is altered: nothing is restored by the machine that tests
+    everything unless the byte is one of dynamic memory; nor by the certificate, by which each global is 0 and property defaults stay,
+    unless it is one of the header, which a restore leaves but for Flags 2."""
+    checked = IN_SAVE <= at < IN_SAVE + STATIC
+    listed = IN_SAVE <= at < IN_SAVE + 64
+    return checked, listed
+
+
+def see_altered(program, count):
+    """Each byte of a save altered, and each beginning."""
+    def wanted(file):
+        if len(file) < len(ITS_SAVE):
+            return b"0", b"0"
+        at = next(index for index, byte in enumerate(file) if byte != ITS_SAVE[index])
+        checked, listed = what_is_printed(at)
+        first = struct.unpack(">h", file[IN_SAVE + 64 : IN_SAVE + 66])[0]
+        return b"y%d" % first if checked else b"0", b"y0" if listed else b"0"
+
+    def answers(case):
+        return [(answer, left == case[1], others) for _, answer, left, others in on_both(program, RESTORES, RESTORES_LISTED, ["--save", "kept"], case[1])]
+
+    cases = list(changes(ITS_SAVE))
+    for (name, file), both in zip(cases, side_by_side(answers, cases)):
+        for (answer, same, others), output in zip(both, wanted(file)):
+            count.see(answer == done(output) and same and not others, f"save, {name}: {answer}, wanted was {output}")
+
+
+def see_processes(program, count):
+    """A save of one process is restored by another, of either machine."""
+    for first in (["story"], ["story", "certificate"]):
+        for second in (["story"], ["story", "certificate"]):
+            with tempfile.TemporaryDirectory(prefix="saves-") as room:
+                for name, contents in (("story", INSIDE), ("certificate", INSIDE_LISTED)):
+                    with open(os.path.join(room, name), "wb") as file:
+                        file.write(contents)
+                count.is_answer(f"a first process, {first}", program.run_in(room, ["play", "--save", "kept", *first]), done(b"n353"))
+                count.is_answer(f"a second process, {first}, {second}", program.run_in(room, ["play", "--save", "kept", *second]), done(b"353"))
+
+
+def see_files(program, count):
+    """What happens to the file of an old save."""
+    for name, script, output, wanted in [
+        ("a disk that has no room", 'printf old >kept; trap "" XFSZ; ulimit -f 0; "$1" play --save kept story certificate', b"", b"old"),
+        ("a link", 'printf old >other; ln -s other kept; "$1" play --save kept story certificate; test -L kept && cat other >&2', b"hello", None),
+        ("a name as long as may be", '"$1" play --save "$(printf "%0250d" 0)" story certificate; cp "$(printf "%0250d" 0)" kept', b"hello", saved(TELLS, 0x324)),
+    ]:
+        with tempfile.TemporaryDirectory(prefix="saves-") as room:
+            for file_name, contents in (("story", TELLS), ("certificate", TELLS_LISTED)):
+                with open(os.path.join(room, file_name), "wb") as file:
+                    file.write(contents)
+            ran = subprocess.run(["bash", "-c", script, "run", program.path], cwd=room, stdin=subprocess.DEVNULL, capture_output=True, timeout=60)
+            with open(os.path.join(room, "kept"), "rb") as file:
+                left = file.read()
+            parts = [it for it in os.listdir(room) if it.endswith(".part")]
+            well = ran.stdout == output and left == (saved(TELLS, 0x324) if wanted is None else wanted) and not parts
+            count.see(well, f"{name}: {ran.stdout} on the output, {ran.stderr[:100]}; kept {left[:60]}, {parts}")
+
+
+def main():
+    program = Program(sys.argv[1])
+    count = Count("saves")
+    assert len(QUITS_SAVE) == len(ITS_SAVE) == 664
+    see_plays(program, count)
+    see_processes(program, count)
+    see_files(program, count)
+    see_altered(program, count)
+    count.end()
+
+
+if __name__ == "__main__":
+    main()
