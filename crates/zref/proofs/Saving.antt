@@ -1,5 +1,5 @@
 -- Steps that ask what was told of a save, and the one with which the story begins anew, over plain variables.
-use Rattle.std.proofs.Common.{◌≡◌, ℕ, ◌+◌, ◌/◌, ◌%◌, ◌*◌, ◌<◌, ◌≤◌, Bool, true, false, List, [], drop, length, Result, Ok, Err, Option, Some, None, refl, sym, ap, ◌∙◌, arith}
+use Rattle.std.proofs.Common.{◌≡◌, ℕ, ◌+◌, ◌/◌, ◌%◌, ◌*◌, ◌<◌, ◌≤◌, Bool, true, false, List, [], drop, length, Ok, Err, Option, Some, None, refl, sym, ap, ◌∙◌, arith}
 use Rattle.std.specs.Prelude.{is_some, MatchOption}
 use Rattle.std.proofs.lemmas.List.{append-nil, drop-set-lt}
 use Rattle.zcode.specs.declared.operation.Operation.TheVariants.{Save, Restore, Restart}
@@ -12,7 +12,7 @@ use Rattle.zstory.specs.LoadedStory.{LoadedStory, globals, static_base}
 use Rattle.zstate.specs.declared.halt.Halt.{Halt}
 use Rattle.zstate.specs.declared.halt.Halt.TheVariants as halts
 use Rattle.zstate.specs.State.{State, Scope, Setting, keeping_flags, popped, read_operands, restarted, usual_limit}
-use Rattle.zstate.specs.Step.{Effect, act, admits, changed, course, effect_of, pauses, restarting, saving, settle, unrestored}
+use Rattle.zstate.specs.Step.{act, admits, changed, course, effect_of, pauses, restarting, saving, settle, unrestored}
 use Rattle.zref.specs.declared.effect.Course.{Course}
 use Rattle.zref.specs.declared.effect.Course.TheVariants.{On, Back}
 use Rattle.zref.specs.declared.effect.Effect.{Effect as TheEffect}

@@ -8,7 +8,7 @@ ghost use Rattle.zstate.specs.Step.{course, restarting, saving, unrestored};
 ghost use Rattle.zref.specs.Machine.{Judges};
 ghost use Rattle.zref.specs.Plan.{IsOpenWay, effect_with, move_of, proceeding, went};
 ghost use Rattle.zref.specs.Row.{IsAsLoaded, IsFit, StepsQuietly, plan_by, shape_of, step_by, within};
-ghost use Rattle.zref.specs.Saves.{Asks, answered, told};
+ghost use Rattle.zref.specs.Saves.{Asks, told};
 
 use crate::act::{globals_are_dynamic, go_back};
 use crate::effect::Course;
