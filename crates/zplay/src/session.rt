@@ -4,10 +4,9 @@ ghost use Rattle.std.specs.Prelude.{◌≡◌, ◌≤◌, ◌+◌, ℕ, List, []
 ghost use Rattle.zfault.specs.Answers.{answers};
 ghost use Rattle.zstate.specs.declared.halt.Stop.TheVariants.{Paused};
 ghost use Rattle.zstate.specs.State.{opening, give};
-ghost use Rattle.zstate.specs.Run.{awaited, run, Ends, GivesOut, Makes, Stands};
-ghost use Rattle.zfault.specs.declared.event.Event.{Event as AnEvent};
-ghost use Rattle.zrule.specs.Described.{IsNoFault};
-ghost use Rattle.zplay.specs.Accepted.{IsAccepted};
+ghost use Rattle.zstate.specs.Run.{awaited, run, Ends, GivesOut, Input, Makes, Stands};
+ghost use Rattle.zrule.specs.Described.{AreFine, IsNoFault};
+ghost use Rattle.zplay.specs.Accepted.{IsAccepted, claims};
 ghost use Rattle.zboard.specs.Play.{state_in};
 ghost use Rattle.zboard.specs.Head.{Head};
 ghost use Rattle.zboard.specs.Position.{with_outside};
@@ -192,9 +191,10 @@ impl<'a, V: Spelled> Session<'a, V> {
         played.outcome
     }
 
-    /// The law of sessions: no run from here meets a fault, whatever the events and however many the steps.
+    /// The law of sessions: no run from here meets a fault, whatever the events and however many the steps, as long as each save leads
+    /// to described states alone.
     pub fn never_faults(&self)
-        ensures { (events : List AnEvent) (n : ℕ) → IsNoFault (run (setting self.now) events n self.now.state).stop }
+        ensures { (inputs : List Input) (n : ℕ) → AreFine V.operations (claims V.operations self.now.accepted) (setting self.now) inputs → IsNoFault (run (setting self.now) inputs n self.now.state).stop }
     {
         each_step_is_safe::<V>();
         let _board = self.board();
