@@ -1,0 +1,176 @@
+//! The frames of a save.
+
+ghost use Rattle.std.specs.Prelude.{◌≡◌, ◌↔◌, ◌+◌, ◌<◌, ◌≤◌, ℕ, IsTrue, IfNone, IfSome, [], map, option_map};
+ghost use Rattle.zcert.specs.Certificate.{Certificate as ACertificate};
+ghost use Rattle.zcert.specs.Listed.{seen};
+ghost use Rattle.zdomain.specs.Domain.{In};
+ghost use Rattle.zquetzal.specs.View.{frames_left, seen_frame};
+ghost use Rattle.zstate.specs.Saves.{taken_frame};
+ghost use Rattle.zrule.specs.Claims.{Entry, claims_of, entry_of};
+ghost use Rattle.zrule.specs.Described.{Fits, FitsWith};
+ghost use Rattle.zjudge.specs.Frames.{AreDescribed, AreDescribedFrom, GoesOnAt, IsCalled};
+ghost use Rattle.zjudge.specs.View.{waiting_of};
+
+use crate::words::{are_in, are_in_with};
+use zcert::{Certificate, Instruction, Spelled};
+use zdomain::Domain;
+use zquetzal::{Frames, SavedFrame, word_count};
+
+/// The least variable that is a global (Z 4.2.2).
+const FIRST_GLOBAL: u8 = 16;
+
+/// A frame that waits for what the routine above it gives, with what is listed at the place to which that returns.
+#[derive(Clone, Copy)]
+pub(crate) struct Caller<'a, V> {
+    listed: Instruction<'a, V>,
+    frame: SavedFrame<'a>,
+}
+
+/// Whether all frames of a save are described, the newest at a place. They are gone over once, from the oldest up: when the place is
+/// known where a frame goes on, so is its routine, and the frame below can be judged under every value that this may give.
+pub(crate) fn are_frames_described<V: Spelled>(
+    certificate: &Certificate<V>,
+    frames: Frames<'_>,
+    place: u32,
+) -> bool
+    ensures { IsTrue result ↔ AreDescribed V.operations (claims_of V.operations certificate.now) (map taken_frame (frames_left frames)) place }
+{
+    let mut above = frames;
+    let Some(mut frame) = above.next() else {
+        return false;
+    };
+    let mut below = None;
+    while let Some(next) = above.next() {
+        let Some(listed) = going_on_at(certificate, below, frame, next.return_place) else {
+            return false;
+        };
+        below = Some(Caller { listed, frame });
+        frame = next;
+    }
+    is_newest_described(certificate, below, frame, place)
+}
+
+/// Whether the newest frame is described at a place.
+fn is_newest_described<V: Spelled>(
+    certificate: &Certificate<V>,
+    below: Option<Caller<'_, V>>,
+    frame: SavedFrame<'_>,
+    place: u32,
+) -> bool
+    ensures { IsTrue result ↔ AreDescribedFrom V.operations (claims_of V.operations certificate.now) (option_map waiting_of below) (taken_frame (seen_frame frame)) [] place }
+{
+    match going_on_at(certificate, below, frame, place) {
+        Some(listed) => fits(&listed, frame),
+        None => false,
+    }
+}
+
+/// What is listed at a place where a frame goes on, if it may have been called in that routine.
+fn going_on_at<'a, V: Spelled>(
+    certificate: &'a Certificate<V>,
+    below: Option<Caller<'_, V>>,
+    frame: SavedFrame<'_>,
+    place: u32,
+) -> Option<Instruction<'a, V>>
+    ensures some { IfSome result (λ i. GoesOnAt V.operations (claims_of V.operations certificate.now) (option_map waiting_of below) (taken_frame (seen_frame frame)) place (entry_of (seen i))) }
+    ensures none { IfNone result ((e : Entry V) → GoesOnAt V.operations (claims_of V.operations certificate.now) (option_map waiting_of below) (taken_frame (seen_frame frame)) place e → ⊥) }
+{
+    let listed = certificate.instruction_at(place)?;
+    if is_called(certificate, below, frame.result, listed.routine) {
+        Some(listed)
+    } else {
+        None
+    }
+}
+
+/// Whether a frame of a routine, whose result goes to a variable, may stand above another, or above none.
+fn is_called<V: Spelled>(
+    certificate: &Certificate<V>,
+    below: Option<Caller<'_, V>>,
+    result: u8,
+    routine: u16,
+) -> bool
+    ensures { IsTrue result ↔ IsCalled V.operations (claims_of V.operations certificate.now) (option_map waiting_of below) result.entry routine }
+{
+    match below {
+        Some(caller) => {
+            routine > 0
+                && fits_with(
+                    certificate,
+                    &caller,
+                    result,
+                    result_of(certificate, usize::from(routine) - 1),
+                )
+        }
+        None => routine == 0,
+    }
+}
+
+/// The values that a routine may give, by its index: any, where there is none of the index.
+fn result_of<V: Spelled>(certificate: &Certificate<V>, index: usize) -> V
+    ensures { result ≡ (claims_of V.operations certificate.now).result (index + 1) }
+{
+    match certificate.routines().get(index) {
+        Some(routine) => routine.result,
+        None => V::any(),
+    }
+}
+
+/// Whether the words of a frame lie in the sets that are listed, and are as many.
+fn fits<V: Spelled>(listed: &Instruction<'_, V>, frame: SavedFrame<'_>) -> bool
+    ensures { (certificate : ACertificate V) → IsTrue result ↔ Fits V.operations (claims_of V.operations certificate) (entry_of (seen listed.now)).shape (taken_frame (seen_frame frame)).locals (taken_frame (seen_frame frame)).stack }
+{
+    are_in(listed.locals, frame.locals) && are_in(listed.slots, frame.stack)
+}
+
+/// Whether a caller fits, whichever value of a set goes to a variable, and a global that takes it has it in its set.
+fn fits_with<V: Spelled>(
+    certificate: &Certificate<V>,
+    caller: &Caller<'_, V>,
+    variable: u8,
+    values: V,
+) -> bool
+    ensures { IsTrue result ↔ ((x : ℕ) → In V.operations values x → FitsWith V.operations (claims_of V.operations certificate.now) variable x (waiting_of caller.now).entry.shape (waiting_of caller.now).frame) }
+{
+    if variable == 0 {
+        fits_pushed(&caller.listed, caller.frame, values)
+    } else if variable < FIRST_GLOBAL {
+        fits_stored(&caller.listed, caller.frame, usize::from(variable) - 1, values)
+    } else {
+        let global = usize::from(variable - FIRST_GLOBAL);
+        values.is_within(certificate.globals()[global]) && fits(&caller.listed, caller.frame)
+    }
+}
+
+/// Whether a frame fits with any value of a set on top of its stack.
+fn fits_pushed<V: Spelled>(
+    listed: &Instruction<'_, V>,
+    frame: SavedFrame<'_>,
+    values: V,
+) -> bool
+    ensures { (certificate : ACertificate V) → IsTrue result ↔ ((x : ℕ) → In V.operations values x → FitsWith V.operations (claims_of V.operations certificate) 0 x (entry_of (seen listed.now)).shape (taken_frame (seen_frame frame))) }
+{
+    match listed.slots.split_last() {
+        Some((top, slots)) => {
+            values.is_within(*top)
+                && are_in(slots, frame.stack)
+                && are_in(listed.locals, frame.locals)
+        }
+        None => false,
+    }
+}
+
+/// Whether it does with any of them in the place of a local, if it has that.
+fn fits_stored<V: Spelled>(
+    listed: &Instruction<'_, V>,
+    frame: SavedFrame<'_>,
+    local: usize,
+    values: V,
+) -> bool
+    requires { local < 15 }
+    ensures { (certificate : ACertificate V) → IsTrue result ↔ ((x : ℕ) → In V.operations values x → FitsWith V.operations (claims_of V.operations certificate) (local + 1) x (entry_of (seen listed.now)).shape (taken_frame (seen_frame frame))) }
+{
+    local < word_count(frame.locals)
+        && are_in_with(listed.locals, frame.locals, local, values)
+        && are_in(listed.slots, frame.stack)
+}

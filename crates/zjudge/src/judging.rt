@@ -1,0 +1,65 @@
+//! The judge of saves.
+
+ghost use Rattle.std.specs.Prelude.{◌≡◌, ◌↔◌, ◌≤◌, ℕ, IsTrue, map, true};
+ghost use Rattle.zstory.specs.LoadedStory.{static_base};
+ghost use Rattle.zlist.specs.Listing.{is_listed};
+ghost use Rattle.zquetzal.specs.Saved.{IsSaved};
+ghost use Rattle.zstate.specs.State.{IsState, State, usual_limit};
+ghost use Rattle.zstate.specs.Saves.{taken_frame};
+ghost use Rattle.zrule.specs.Claims.{claims_of};
+ghost use Rattle.zjudge.specs.Frames.{AreDescribed};
+ghost use Rattle.zjudge.specs.Judging.{IsJudged, listed_setting};
+ghost use Rattle.zjudge.specs.Memory.{IsDescribedMemory};
+
+use crate::frames::are_frames_described;
+use crate::memory::is_memory_described;
+use crate::place::is_save_before;
+use zcert::{Certificate, Spelled};
+use zlist::Listing;
+use zquetzal::{SaveError, SaveView};
+use zstory::Story;
+
+/// Judges the whole of a save: whether play may go on from it, and then in a state that the certificate describes. Every frame is
+/// judged, and each caller under every value that the routine above it may give. It takes no memory.
+///
+/// What the state was like before makes no difference, since what stays of it, two bits of Flags 2 and where random numbers come from,
+/// isn't described.
+///
+/// # Errors
+///
+/// `Place` where no `save` is listed before the place of the save, and else `NotDescribed` where the certificate doesn't describe
+/// the state in which play would go on. No other is answered.
+pub fn judge_save<V: Spelled>(
+    story: &Story,
+    certificate: &Certificate<V>,
+    listing: &Listing,
+    view: &SaveView<'_>,
+) -> Result<(), SaveError>
+    // What was read is a save of the story.
+    requires saved { IsSaved story.now view.now }
+    // All listed instructions stand in static memory.
+    requires fixed { (p : ℕ) → is_listed listing.now p ≡ true → static_base story.now ≤ p }
+    ensures { (s : State) → IsState usual_limit story.now s → IsJudged V.operations (claims_of V.operations certificate.now) (listed_setting story.now listing.now) view.now s result }
+{
+    if !is_save_before(story, listing, view.place()) {
+        return Err(SaveError::Place);
+    }
+    if !is_described(story, certificate, view) {
+        return Err(SaveError::NotDescribed);
+    }
+    Ok(())
+}
+
+/// Whether the frames of a save and its memory are described.
+fn is_described<V: Spelled>(
+    story: &Story,
+    certificate: &Certificate<V>,
+    view: &SaveView<'_>,
+) -> bool
+    requires { 1 ≤ view.now.place }
+    ensures { IsTrue result ↔ (IsDescribedMemory V.operations (claims_of V.operations certificate.now) story.now view.now.memory × AreDescribed V.operations (claims_of V.operations certificate.now) (map taken_frame view.now.frames) (view.now.place - 1)) }
+{
+    let at = view.place() - 1;
+    is_memory_described(story, certificate, view.memory())
+        && are_frames_described(certificate, view.frames(), at)
+}
