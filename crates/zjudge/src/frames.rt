@@ -1,6 +1,6 @@
 //! The frames of a save.
 
-ghost use Rattle.std.specs.Prelude.{◌≡◌, ◌↔◌, ◌+◌, ◌<◌, ◌≤◌, ℕ, IsTrue, IfNone, IfSome, [], map, option_map};
+ghost use Rattle.std.specs.Prelude.{◌≡◌, ◌↔◌, ◌+◌, ◌<◌, ℕ, IsTrue, IfNone, IfSome, [], map, option_map};
 ghost use Rattle.zcert.specs.Certificate.{Certificate as ACertificate};
 ghost use Rattle.zcert.specs.Listed.{seen};
 ghost use Rattle.zdomain.specs.Domain.{In};
@@ -11,7 +11,7 @@ ghost use Rattle.zrule.specs.Described.{Fits, FitsWith};
 ghost use Rattle.zjudge.specs.Frames.{AreDescribed, AreDescribedFrom, GoesOnAt, IsCalled};
 ghost use Rattle.zjudge.specs.View.{waiting_of};
 
-use crate::words::{are_in, are_in_with};
+use crate::words::{are_in, are_in_with, has_word};
 use zcert::{Certificate, Instruction, Spelled};
 use zdomain::Domain;
 use zquetzal::{Frames, SavedFrame, word_count};
@@ -33,7 +33,7 @@ pub(crate) fn are_frames_described<V: Spelled>(
     frames: Frames<'_>,
     place: u32,
 ) -> bool
-    ensures { IsTrue result ↔ AreDescribed V.operations (claims_of V.operations certificate.now) (map taken_frame (frames_left frames)) place }
+    ensures { IsTrue result ↔ AreDescribed V.operations (claims_of V.operations certificate.now) (map taken_frame (frames_left frames.entry)) place }
 {
     let mut above = frames;
     let Some(mut frame) = above.next() else {
@@ -57,7 +57,7 @@ fn is_newest_described<V: Spelled>(
     frame: SavedFrame<'_>,
     place: u32,
 ) -> bool
-    ensures { IsTrue result ↔ AreDescribedFrom V.operations (claims_of V.operations certificate.now) (option_map waiting_of below) (taken_frame (seen_frame frame)) [] place }
+    ensures { IsTrue result ↔ AreDescribedFrom V.operations (claims_of V.operations certificate.now) (option_map waiting_of below.entry) (taken_frame (seen_frame frame.entry)) [] place }
 {
     match going_on_at(certificate, below, frame, place) {
         Some(listed) => fits(&listed, frame),
@@ -72,8 +72,8 @@ fn going_on_at<'a, V: Spelled>(
     frame: SavedFrame<'_>,
     place: u32,
 ) -> Option<Instruction<'a, V>>
-    ensures some { IfSome result (λ i. GoesOnAt V.operations (claims_of V.operations certificate.now) (option_map waiting_of below) (taken_frame (seen_frame frame)) place (entry_of (seen i))) }
-    ensures none { IfNone result ((e : Entry V) → GoesOnAt V.operations (claims_of V.operations certificate.now) (option_map waiting_of below) (taken_frame (seen_frame frame)) place e → ⊥) }
+    ensures some { IfSome result (λ i. GoesOnAt V.operations (claims_of V.operations certificate.now) (option_map waiting_of below.entry) (taken_frame (seen_frame frame.entry)) place (entry_of (seen i))) }
+    ensures none { IfNone result ((e : Entry V) → GoesOnAt V.operations (claims_of V.operations certificate.now) (option_map waiting_of below.entry) (taken_frame (seen_frame frame.entry)) place e → ⊥) }
 {
     let listed = certificate.instruction_at(place)?;
     if is_called(certificate, below, frame.result, listed.routine) {
@@ -87,10 +87,10 @@ fn going_on_at<'a, V: Spelled>(
 fn is_called<V: Spelled>(
     certificate: &Certificate<V>,
     below: Option<Caller<'_, V>>,
-    result: u8,
+    variable: u8,
     routine: u16,
 ) -> bool
-    ensures { IsTrue result ↔ IsCalled V.operations (claims_of V.operations certificate.now) (option_map waiting_of below) result.entry routine }
+    ensures { IsTrue result ↔ IsCalled V.operations (claims_of V.operations certificate.now) (option_map waiting_of below.entry) variable routine }
 {
     match below {
         Some(caller) => {
@@ -98,7 +98,7 @@ fn is_called<V: Spelled>(
                 && fits_with(
                     certificate,
                     &caller,
-                    result,
+                    variable,
                     result_of(certificate, usize::from(routine) - 1),
                 )
         }
@@ -118,7 +118,7 @@ fn result_of<V: Spelled>(certificate: &Certificate<V>, index: usize) -> V
 
 /// Whether the words of a frame lie in the sets that are listed, and are as many.
 fn fits<V: Spelled>(listed: &Instruction<'_, V>, frame: SavedFrame<'_>) -> bool
-    ensures { (certificate : ACertificate V) → IsTrue result ↔ Fits V.operations (claims_of V.operations certificate) (entry_of (seen listed.now)).shape (taken_frame (seen_frame frame)).locals (taken_frame (seen_frame frame)).stack }
+    ensures { (certificate : ACertificate V) → IsTrue result ↔ Fits V.operations (claims_of V.operations certificate) (entry_of (seen listed.now)).shape (taken_frame (seen_frame frame.entry)).locals (taken_frame (seen_frame frame.entry)).stack }
 {
     are_in(listed.locals, frame.locals) && are_in(listed.slots, frame.stack)
 }
@@ -137,9 +137,22 @@ fn fits_with<V: Spelled>(
     } else if variable < FIRST_GLOBAL {
         fits_stored(&caller.listed, caller.frame, usize::from(variable) - 1, values)
     } else {
-        let global = usize::from(variable - FIRST_GLOBAL);
-        values.is_within(certificate.globals()[global]) && fits(&caller.listed, caller.frame)
+        fits_beside(certificate, caller, usize::from(variable - FIRST_GLOBAL), values)
     }
+}
+
+/// Whether a frame fits, and a global has each value of a set in its own.
+fn fits_beside<V: Spelled>(
+    certificate: &Certificate<V>,
+    caller: &Caller<'_, V>,
+    global: usize,
+    values: V,
+) -> bool
+    requires { global < 240 }
+    ensures { IsTrue result ↔ ((x : ℕ) → In V.operations values x → FitsWith V.operations (claims_of V.operations certificate.now) (global + 16) x (waiting_of caller.now).entry.shape (waiting_of caller.now).frame) }
+{
+    has_word(values);
+    values.is_within(certificate.globals()[global]) && fits(&caller.listed, caller.frame)
 }
 
 /// Whether a frame fits with any value of a set on top of its stack.
@@ -148,8 +161,9 @@ fn fits_pushed<V: Spelled>(
     frame: SavedFrame<'_>,
     values: V,
 ) -> bool
-    ensures { (certificate : ACertificate V) → IsTrue result ↔ ((x : ℕ) → In V.operations values x → FitsWith V.operations (claims_of V.operations certificate) 0 x (entry_of (seen listed.now)).shape (taken_frame (seen_frame frame))) }
+    ensures { (certificate : ACertificate V) → IsTrue result ↔ ((x : ℕ) → In V.operations values x → FitsWith V.operations (claims_of V.operations certificate) 0 x (entry_of (seen listed.now)).shape (taken_frame (seen_frame frame.entry))) }
 {
+    has_word(values);
     match listed.slots.split_last() {
         Some((top, slots)) => {
             values.is_within(*top)
@@ -168,7 +182,7 @@ fn fits_stored<V: Spelled>(
     values: V,
 ) -> bool
     requires { local < 15 }
-    ensures { (certificate : ACertificate V) → IsTrue result ↔ ((x : ℕ) → In V.operations values x → FitsWith V.operations (claims_of V.operations certificate) (local + 1) x (entry_of (seen listed.now)).shape (taken_frame (seen_frame frame))) }
+    ensures { (certificate : ACertificate V) → IsTrue result ↔ ((x : ℕ) → In V.operations values x → FitsWith V.operations (claims_of V.operations certificate) (local + 1) x (entry_of (seen listed.now)).shape (taken_frame (seen_frame frame.entry))) }
 {
     local < word_count(frame.locals)
         && are_in_with(listed.locals, frame.locals, local, values)

@@ -1,6 +1,6 @@
 //! The judge of saves.
 
-ghost use Rattle.std.specs.Prelude.{◌≡◌, ◌↔◌, ◌≤◌, ℕ, IsTrue, map, true};
+ghost use Rattle.std.specs.Prelude.{◌≡◌, ◌↔◌, ◌≤◌, ◌-◌, ℕ, IsTrue, map, true};
 ghost use Rattle.zstory.specs.LoadedStory.{static_base};
 ghost use Rattle.zlist.specs.Listing.{is_listed};
 ghost use Rattle.zquetzal.specs.Saved.{IsSaved};

@@ -3,14 +3,15 @@
 //! The story's own tables are gone over once, and each place of each range. Only where a byte differs is it asked whether instructions
 //! change it.
 
-ghost use Rattle.std.specs.Prelude.{◌≡◌, ◌↔◌, ◌+◌, ◌*◌, ◌≤◌, IsTrue, true};
+ghost use Rattle.std.specs.Prelude.{◌≡◌, ◌↔◌, ◌+◌, ◌*◌, ◌≤◌, All, IsTrue};
 ghost use Rattle.zstory.specs.LoadedStory.{object_table};
 ghost use Rattle.zplace.specs.Bytes.{IsAbbreviation, IsClosed, IsPropertyFrame, IsSizePlace, IsTableFrame, IsWithin};
-ghost use Rattle.zpairs.specs.Frozen.{frozen_by, is_inside};
+ghost use Rattle.zpairs.specs.Frozen.{frozen_by};
+ghost use Rattle.ztext.specs.Abbreviations.{readable_word};
 ghost use Rattle.zjudge.specs.Memory.{AreKept, IsKept};
-ghost use Rattle.zjudge.specs.Parts.{IsInText, IsLedTo};
+ghost use Rattle.zjudge.specs.Parts.{IsInText, IsLedTo, IsRangeKept};
 
-use crate::bytes::{byte_at, word_at};
+use crate::bytes::byte_at;
 use zcert::Range;
 use zplace::{data_end, is_changing, list_place, name_words, read_length, table_of};
 use zstory::{DEFAULTS_LENGTH, OBJECT_ENTRY_LENGTH, Story};
@@ -117,40 +118,47 @@ fn are_abbreviations_kept(story: &Story, saved: &[u8]) -> bool
 
 /// Whether a word that leads to an abbreviation is, and what a reading of its text goes over.
 fn is_abbreviation_kept(story: &Story, saved: &[u8], entry: usize) -> bool
-    requires { entry ≤ 1000000 }
     ensures { IsTrue result ↔ AreKept story.now saved.now (IsLedTo story.now.memory entry) }
 {
-    are_kept(story, saved, entry, 2) && is_text_kept(story, saved, entry)
+    let word = readable_word(story.memory(), entry);
+    are_kept(story, saved, entry, 2) && is_text_kept(story, saved, word)
 }
 
-/// Whether what a reading goes over of the text that the word at a place leads to is.
-fn is_text_kept(story: &Story, saved: &[u8], entry: usize) -> bool
-    requires { entry ≤ 1000000 }
-    ensures { IsTrue result ↔ AreKept story.now saved.now (IsInText story.now.memory entry) }
+/// Whether what a reading goes over of the text that a word leads to is.
+fn is_text_kept(story: &Story, saved: &[u8], found: Option<u16>) -> bool
+    ensures { IsTrue result ↔ AreKept story.now saved.now (IsInText story.now.memory found) }
 {
-    let memory = story.memory();
-    if entry + 1 >= memory.len().min(READABLE_LENGTH) {
-        return true;
+    match found {
+        Some(word) => {
+            let place = 2 * usize::from(word);
+            are_kept(story, saved, place, read_length(story.memory(), place))
+        }
+        None => true,
     }
-    let place = 2 * usize::from(word_at(memory, entry));
-    are_kept(story, saved, place, read_length(memory, place))
+}
+
+/// The word at a place of readable memory.
+fn readable_word(memory: &[u8], at: usize) -> Option<u16>
+    ensures { result ≡ readable_word memory.now at }
+{
+    match memory[..memory.len().min(READABLE_LENGTH)].get(at..)? {
+        [high, low, ..] => Some(u16::from_be_bytes([*high, *low])),
+        _ => None,
+    }
 }
 
 /// Whether each place of each range is.
 fn are_ranges_kept(story: &Story, ranges: &[Range], saved: &[u8]) -> bool
-    ensures { IsTrue result ↔ AreKept story.now saved.now (λ p. frozen_by ranges.now p ≡ true) }
+    ensures { IsTrue result ↔ All (IsRangeKept story.now saved.now) ranges.now }
 {
-    for index in 0..ranges.len() {
-        if !is_range_kept(story, ranges[index], saved) {
-            return false;
-        }
-    }
-    true
+    ranges
+        .iter()
+        .all(|range| is_range_kept(story, *range, saved))
 }
 
 /// Whether each place of one range is.
 fn is_range_kept(story: &Story, range: Range, saved: &[u8]) -> bool
-    ensures { IsTrue result ↔ AreKept story.now saved.now (λ p. is_inside p range ≡ true) }
+    ensures { IsTrue result ↔ IsRangeKept story.now saved.now range }
 {
     let first = usize::from(range.first);
     let end = usize::from(range.last) + 1;

@@ -30,7 +30,7 @@ fn is_save_at(story: &Story, place: usize) -> bool
     ensures { result ≡ saves (decoded (instruction_at (drop place story.now.memory))) }
 {
     match decode(story.memory(), place) {
-        Ok(instruction) => is_save(instruction.opcode),
+        Ok(instruction) => is_save(instruction.opcode()),
         Err(_) => false,
     }
 }

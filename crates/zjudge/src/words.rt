@@ -46,10 +46,17 @@ fn is_in_with<V: Domain>(sets: &[V], words: &[u8], put: usize, values: V, index:
     requires words { length (words_of words.now) ≡ length sets.now }
     ensures { IsTrue result ↔ ((x : ℕ) → In V.operations values x → IsSomeAnd (slice_get sets.now index) (λ set. In V.operations set (slice_index (slice_set (words_of words.now) put x) index))) }
 {
-    let set = sets[index];
+    has_word(values);
     if index == put {
-        values.is_within(set)
+        values.is_within(sets[index])
     } else {
-        set.contains(word(words, index))
+        sets[index].contains(word(words, index))
     }
+}
+
+/// Each set has a word, so that what holds whichever value is taken isn't said of nothing.
+pub(crate) fn has_word<V: Domain>(values: V)
+    ensures { (x : ℕ) × In V.operations values x }
+{
+    let _word = values.member();
 }

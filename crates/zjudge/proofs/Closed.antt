@@ -1,0 +1,184 @@
+-- Which bytes of a save are as loaded, part by part.
+use Rattle.std.proofs.Common.{◌≡◌, ◌↔◌, ◌⊎◌, inl, inr, ℕ, zero, suc, ◌+◌, ◌*◌, ◌-◌, ◌/◌, ◌<◌, ◌≤◌, Bool, true, false, List, [], ◌∷◌, length, Option, Some, None, refl, sym, subst, ◌∙◌, arith}
+use Rattle.std.specs.Prelude.{All, nat_le, ◌&&◌, ◌||◌, ◌≢◌}
+use Rattle.std.specs.List.{list_any, AllByRecursion}
+use Rattle.std.proofs.lemmas.Bool.{cases_lt, leb-true, le-leb}
+use Rattle.std.proofs.lemmas.Option.{same_Some}
+use Rattle.zstory.specs.Bytes.{byte_at}
+use Rattle.zstory.specs.LoadedStory.{LoadedStory, object_table, static_base, abbreviations}
+use Rattle.zstory.specs.Objects.{property_table}
+use Rattle.ztext.specs.Abbreviations.{readable_word}
+use Rattle.zobj.specs.Properties.{list_place, data_end}
+use Rattle.zcert.specs.declared.parts.Range.{Range}
+use Rattle.zplace.specs.Bytes.{IsWithin, IsChanging, IsSizePlace, here, behind, IsTableFrame, IsPropertyFrame, IsAbbreviation, IsClosed, header, a_global, a_default, an_entry, a_property, an_abbreviation, frozen, static, read_length}
+use Rattle.zpairs.specs.Frozen.{is_inside, frozen_by}
+use Rattle.zjudge.specs.Memory.{IsKept, AreKept}
+use Rattle.zjudge.specs.Parts.{IsInText, IsLedTo, IsRangeKept}
+
+-- ---- of one more
+
+pub one_more : (P : ℕ → Type 0) (below : ℕ) → ((object : ℕ) → 1 ≤ object → object ≤ below → P object) → P (below + 1) → (object : ℕ) → 1 ≤ object → object ≤ below + 1 → P object
+one_more P below each next object first last = by_order (cases_lt object (below + 1))
+  where
+    by_order : (object < below + 1) ⊎ (below + 1 ≤ object) → P object
+    by_order (inl low) = each object first (omega (arith, low))
+    by_order (inr high) = let same : below + 1 ≡ object = omega (arith, high, last) in subst P same next
+
+pub one_more_below : (P : ℕ → Type 0) (below : ℕ) → ((number : ℕ) → number < below → P number) → P below → (number : ℕ) → number < below + 1 → P number
+one_more_below P below each next number last = by_order (cases_lt number below)
+  where
+    by_order : (number < below) ⊎ (below ≤ number) → P number
+    by_order (inl low) = each number low
+    by_order (inr high) = let same : below ≡ number = omega (arith, high, last) in subst P same next
+
+-- ---- lists of size bytes
+
+size_split : (memory : List ℕ) (p at : ℕ) → IsSizePlace memory p at → (p ≡ at) ⊎ IsSizePlace memory p (data_end memory at)
+size_split memory p at (here _ is inside) = inl is
+size_split memory p at (behind _ some rest) = inr rest
+
+one_at_end : (memory : List ℕ) (p at : ℕ) → byte_at memory at ≡ 0 → IsSizePlace memory p at → p ≡ at
+one_at_end memory p at end (here _ is inside) = is
+one_at_end memory p at end (behind _ some rest) = absurd (some end)
+
+module _ (story : LoadedStory) (saved : List ℕ) where
+  -- so many bytes from a place on, one by one
+  pub run_more : (from at : ℕ) → ((p : ℕ) → from ≤ p → p < at → IsKept story saved p) → IsKept story saved at → (p : ℕ) → from ≤ p → p < at + 1 → IsKept story saved p
+  run_more from at each next p low high = by_order (cases_lt p at)
+    where
+      by_order : (p < at) ⊎ (at ≤ p) → IsKept story saved p
+      by_order (inl l) = each p low l
+      by_order (inr g) = let same : at ≡ p = omega (arith, g, high) in subst (IsKept story saved) same next
+
+  -- all of them, where those below static memory are
+  pub run_whole : (from size : ℕ) → ((p : ℕ) → from ≤ p → p < from + size → p < static_base story → IsKept story saved p) → AreKept story saved (IsWithin from size)
+  run_whole from size each p inside above below = each p inside.0 inside.1 below above below
+
+  pub sizes_more : (at end : ℕ) → byte_at story.memory at ≢ 0 → end ≡ data_end story.memory at → at < length story.memory → AreKept story saved (λ p. IsSizePlace story.memory p at) ↔ (IsKept story saved at × AreKept story saved (λ p. IsSizePlace story.memory p end))
+  sizes_more at end some is inside = (
+    λ all. (all at (here at refl inside), λ p there. all p (behind at some (subst (IsSizePlace story.memory p) is there))),
+    λ parts p there. by parts p (size_split story.memory p at there),
+  )
+    where
+      by : IsKept story saved at × AreKept story saved (λ p. IsSizePlace story.memory p end) → (p : ℕ) → (p ≡ at) ⊎ IsSizePlace story.memory p (data_end story.memory at) → IsKept story saved p
+      by parts p (inl same) = subst (IsKept story saved) (sym same) parts.0
+      by parts p (inr rest) = parts.1 p (subst (IsSizePlace story.memory p) (sym is) rest)
+
+  pub sizes_last : (at : ℕ) → byte_at story.memory at ≡ 0 → static_base story ≤ length story.memory → AreKept story saved (λ p. IsSizePlace story.memory p at) ↔ IsKept story saved at
+  sizes_last at end within = (
+    λ all. by (cases_lt at (length story.memory)) all,
+    λ one p there. subst (IsKept story saved) (sym (one_at_end story.memory p at end there)) one,
+  )
+    where
+      by : (at < length story.memory) ⊎ (length story.memory ≤ at) → AreKept story saved (λ p. IsSizePlace story.memory p at) → IsKept story saved at
+      by (inl inside) all = all at (here at refl inside)
+      by (inr outside) all = λ above below unchanging. absurd (omega (arith, outside, below, within))
+
+  -- ---- tables
+
+  pub frames_where : AreKept story saved (IsPropertyFrame story) ↔ ((object : ℕ) → 1 ≤ object → object ≤ story.objects → AreKept story saved (IsTableFrame story.memory (property_table story.memory object)))
+  frames_where = (
+    λ all object first last p inside. all p (record { object = object; first = first; last = last; inside = inside }),
+    λ each p frame. each frame.object frame.first frame.last p frame.inside,
+  )
+
+  pub frame_where : (table : ℕ) → AreKept story saved (IsTableFrame story.memory table) ↔ (AreKept story saved (IsWithin table (1 + 2 * byte_at story.memory table)) × AreKept story saved (λ p. IsSizePlace story.memory p (list_place story.memory table)))
+  frame_where table = ((λ all. (λ p inside. all p (inl inside), λ p there. all p (inr there))), by)
+    where
+      by : AreKept story saved (IsWithin table (1 + 2 * byte_at story.memory table)) × AreKept story saved (λ p. IsSizePlace story.memory p (list_place story.memory table)) → AreKept story saved (IsTableFrame story.memory table)
+      by both p (inl inside) = both.0 p inside
+      by both p (inr there) = both.1 p there
+
+  -- ---- abbreviations
+
+  in_text : (found : Option ℕ) (p word : ℕ) → found ≡ Some word → IsWithin (2 * word) (read_length story.memory (2 * word)) p → IsInText story.memory found p
+  in_text None p word e inside = absurd cc
+  in_text (Some w) p word e inside = subst (λ (v : ℕ). IsWithin (2 * v) (read_length story.memory (2 * v)) p) (sym (same_Some w word e)) inside
+
+  led : (found : Option ℕ) (p : ℕ) → IsInText story.memory found p → (word : ℕ) × (found ≡ Some word) × IsWithin (2 * word) (read_length story.memory (2 * word)) p
+  led None p h = absurd h
+  led (Some w) p h = (w, refl, h)
+
+  pub abbreviations_where : AreKept story saved (IsAbbreviation story) ↔ ((number : ℕ) → number < 96 → AreKept story saved (IsLedTo story.memory (abbreviations story + 2 * number)))
+  abbreviations_where = (there, λ each p its. back each p its.number its.last its.inside)
+    where
+      there : AreKept story saved (IsAbbreviation story) → (number : ℕ) → number < 96 → AreKept story saved (IsLedTo story.memory (abbreviations story + 2 * number))
+      there all number few p (inl inside) = all p (record { number = number; last = few; inside = inl inside })
+      there all number few p (inr inside) = all p (record { number = number; last = few; inside = inr (led (readable_word story.memory (abbreviations story + 2 * number)) p inside) })
+
+      back : ((number : ℕ) → number < 96 → AreKept story saved (IsLedTo story.memory (abbreviations story + 2 * number))) → (p number : ℕ) → number < 96 → (IsWithin (abbreviations story + 2 * number) 2 p ⊎ ((word : ℕ) × (readable_word story.memory (abbreviations story + 2 * number) ≡ Some word) × IsWithin (2 * word) (read_length story.memory (2 * word)) p)) → IsKept story saved p
+      back each p number few (inl inside) = each number few p (inl inside)
+      back each p number few (inr (word, found, inside)) = each number few p (inr (in_text (readable_word story.memory (abbreviations story + 2 * number)) p word found inside))
+
+  pub led_where : (entry : ℕ) → AreKept story saved (IsLedTo story.memory entry) ↔ (AreKept story saved (IsWithin entry 2) × AreKept story saved (IsInText story.memory (readable_word story.memory entry)))
+  led_where entry = ((λ all. (λ p inside. all p (inl inside), λ p there. all p (inr there))), by)
+    where
+      by : AreKept story saved (IsWithin entry 2) × AreKept story saved (IsInText story.memory (readable_word story.memory entry)) → AreKept story saved (IsLedTo story.memory entry)
+      by both p (inl inside) = both.0 p inside
+      by both p (inr there) = both.1 p there
+
+  -- ---- ranges
+
+  and_true : (a b : Bool) → (a && b) ≡ true → (a ≡ true) × (b ≡ true)
+  and_true true b e = (refl, e)
+  and_true false b e = absurd cc
+
+  or_left : (a b : Bool) → a ≡ true → (a || b) ≡ true
+  or_left true b e = refl
+  or_left false b e = absurd cc
+
+  or_right : (a b : Bool) → b ≡ true → (a || b) ≡ true
+  or_right true b e = refl
+  or_right false b e = e
+
+  none_in : (p : ℕ) → list_any (is_inside p) [] ≡ true → ⊥
+  none_in p e = cc
+
+  inside_where : (range : Range) (p : ℕ) → (is_inside p range ≡ true) ↔ ((range.first ≤ p) × (p ≤ range.last))
+  inside_where range p = (
+    λ e. let both = and_true (nat_le range.first p) (nat_le p range.last) e in (leb-true range.first p both.0, leb-true p range.last both.1),
+    λ within. let a = le-leb range.first p within.0 in let b = le-leb p range.last within.1 in rw (a, b) refl,
+  )
+
+  pub range_where : (range : Range) → AreKept story saved (IsWithin range.first (range.last + 1 - range.first)) ↔ IsRangeKept story saved range
+  range_where range = (
+    λ all p e. let w = (inside_where range p).0 e in all p (w.0, omega (arith, w.0, w.1)),
+    λ all p w. all p ((inside_where range p).1 (w.0, omega (arith, w.0, w.1))),
+  )
+
+  each_range : (ranges : List Range) → AllByRecursion (IsRangeKept story saved) ranges ↔ AreKept story saved (λ p. list_any (is_inside p) ranges ≡ true)
+  each_range [] = (λ t p e. absurd (none_in p e), λ all. tt)
+  each_range (r ∷ ranges) =
+      let rest = each_range ranges in (
+        λ each p e. by_first p (rest.0 each.1 p) each.0 (is_inside p r) refl e,
+        λ all. (λ p e. all p (or_left (is_inside p r) (list_any (is_inside p) ranges) e), rest.1 (λ p e. all p (or_right (is_inside p r) (list_any (is_inside p) ranges) e))),
+      )
+    where
+      by_first : (p : ℕ) → (list_any (is_inside p) ranges ≡ true → IsKept story saved p) → IsRangeKept story saved r → (b : Bool) → is_inside p r ≡ b → (b || list_any (is_inside p) ranges) ≡ true → IsKept story saved p
+      by_first p rest here true is e = here p is
+      by_first p rest here false is e = rest e
+
+  -- ---- all that is closed
+
+  pub closed_where : (ranges : List Range) → AreKept story saved (IsClosed story (frozen_by ranges)) ↔ (AreKept story saved (IsWithin (object_table story) (62 + 9 * story.objects)) × AreKept story saved (IsPropertyFrame story) × AreKept story saved (IsAbbreviation story) × AreKept story saved (λ p. frozen_by ranges p ≡ true))
+  closed_where ranges = (
+    λ all. (λ p inside. all p (in_table p inside), λ p frame. all p (a_property frame), λ p text. all p (an_abbreviation text), λ p is. all p (frozen is)),
+    λ parts p closed. by parts p closed,
+  )
+    where
+      in_table : (p : ℕ) → IsWithin (object_table story) (62 + 9 * story.objects) p → IsClosed story (frozen_by ranges) p
+      in_table p inside = by_order (cases_lt p (object_table story + 62))
+        where
+          by_order : (p < object_table story + 62) ⊎ (object_table story + 62 ≤ p) → IsClosed story (frozen_by ranges) p
+          by_order (inl low) = a_default (inside.0, low)
+          by_order (inr high) = an_entry (record { object = (p - (object_table story + 62)) / 9 + 1; first = omega arith; last = omega (arith, inside.1, high); inside = (omega (arith, high), omega (arith, high)) })
+
+      by : AreKept story saved (IsWithin (object_table story) (62 + 9 * story.objects)) × AreKept story saved (IsPropertyFrame story) × AreKept story saved (IsAbbreviation story) × AreKept story saved (λ p. frozen_by ranges p ≡ true) → (p : ℕ) → IsClosed story (frozen_by ranges) p → IsKept story saved p
+      by parts p (header h) = λ above below unchanging. absurd (omega (arith, h.0, above))
+      by parts p (a_global within) = λ above below unchanging. absurd (unchanging (inr (inl within)))
+      by parts p (a_default within) = parts.0 p (within.0, omega (arith, within.1))
+      by parts p (an_entry entry) = parts.0 p (omega (arith, entry.inside.0, entry.first), omega (arith, entry.inside.1, entry.first, entry.last))
+      by parts p (a_property frame) = parts.1 p frame
+      by parts p (an_abbreviation text) = parts.2 p text
+      by parts p (frozen is) = parts.3 p is
+      by parts p (static from) = λ above below unchanging. absurd (omega (arith, from, below))

@@ -1,0 +1,5 @@
+mod Closed
+mod Zips
+mod Climbing
+mod Taken
+mod Values
