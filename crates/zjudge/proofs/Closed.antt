@@ -6,13 +6,14 @@ use Rattle.std.proofs.lemmas.Bool.{cases_lt, leb-true, le-leb}
 use Rattle.std.proofs.lemmas.Option.{same_Some}
 use Rattle.zstory.specs.Bytes.{byte_at}
 use Rattle.zstory.specs.LoadedStory.{LoadedStory, object_table, static_base, abbreviations}
-use Rattle.zstory.specs.Objects.{property_table}
+use Rattle.zstory.specs.Objects.{object_place, property_table}
 use Rattle.ztext.specs.Abbreviations.{readable_word}
 use Rattle.zobj.specs.Properties.{list_place, data_end}
 use Rattle.zcert.specs.declared.parts.Range.{Range}
 use Rattle.zplace.specs.Bytes.{IsWithin, IsChanging, IsSizePlace, here, behind, IsTableFrame, IsPropertyFrame, IsAbbreviation, IsClosed, header, a_global, a_default, an_entry, a_property, an_abbreviation, frozen, static, read_length}
 use Rattle.zpairs.specs.Frozen.{is_inside, frozen_by}
-use Rattle.zjudge.specs.Memory.{IsKept, AreKept}
+use Rattle.zobj.specs.declared.tree.Link.TheVariants.{Parent, Sibling, Child}
+use Rattle.zjudge.specs.Memory.{IsKept, AreKept, HasLinks}
 use Rattle.zjudge.specs.Parts.{IsInText, IsLedTo, IsRangeKept}
 
 -- ---- of one more
@@ -42,6 +43,23 @@ one_at_end memory p at end (here _ is inside) = is
 one_at_end memory p at end (behind _ some rest) = absurd (some end)
 
 module _ (story : LoadedStory) (saved : List ℕ) where
+  -- a byte that differs is one that instructions change
+  pub kept_where : (p : ℕ) (changes : Bool) → (changes ≡ true) ↔ IsChanging story p → 64 ≤ p → p < static_base story → (byte_at saved p ≡ byte_at story.memory p → ⊥) → (changes ≡ true) ↔ IsKept story saved p
+  kept_where p true is above below differs = (λ t. λ a b unchanging. absurd (unchanging (is.0 t)), λ kept. refl)
+  kept_where p false is above below differs = (λ t. absurd cc, λ kept. absurd (differs (kept above below (λ changing. let f = is.1 changing in cc))))
+
+  -- the three bytes of an object's links
+  pub links_where : {A : Type 0} (object place : ℕ) → place ≡ object_place story.memory object + 4 → A ↔ ((byte_at saved place ≤ story.objects) × (byte_at saved (place + 1) ≤ story.objects) × (byte_at saved (place + 2) ≤ story.objects)) → A ↔ HasLinks story saved object
+  links_where {A} object place at parts = (λ a. each (parts.0 a), λ all. parts.1 (moved (omega (arith, at)) (all Parent), moved (omega (arith, at)) (all Sibling), moved (omega (arith, at)) (all Child)))
+    where
+      moved : {p q : ℕ} → p ≡ q → byte_at saved p ≤ story.objects → byte_at saved q ≤ story.objects
+      moved {p} {q} e small = subst (λ (k : ℕ). byte_at saved k ≤ story.objects) e small
+
+      each : (byte_at saved place ≤ story.objects) × (byte_at saved (place + 1) ≤ story.objects) × (byte_at saved (place + 2) ≤ story.objects) → HasLinks story saved object
+      each small Parent = moved (omega (arith, at)) small.0
+      each small Sibling = moved (omega (arith, at)) small.1
+      each small Child = moved (omega (arith, at)) small.2
+
   -- so many bytes from a place on, one by one
   pub run_more : (from at : ℕ) → ((p : ℕ) → from ≤ p → p < at → IsKept story saved p) → IsKept story saved at → (p : ℕ) → from ≤ p → p < at + 1 → IsKept story saved p
   run_more from at each next p low high = by_order (cases_lt p at)

@@ -3,3 +3,7 @@ mod Zips
 mod Climbing
 mod Taken
 mod Values
+mod Going
+mod Listed
+mod Fitted
+mod Rising

@@ -11,6 +11,12 @@ module _ {A : Type 0} (R : A → ℕ → Type 0) where
   abbrev pub At : List A → List ℕ → ℕ → Type 0
   At xs ys k = IsSomeAnd (slice_get xs k) (λ a. R a (slice_index ys k))
 
+  pub at_here : (xs : List A) (ys : List ℕ) (k : ℕ) (a : A) → slice_get xs k ≡ Some a → At xs ys k → R a (slice_index ys k)
+  at_here xs ys k a e at = subst (λ (found : Option A). IsSomeAnd found (λ b. R b (slice_index ys k))) e at
+
+  pub at_is : (xs : List A) (ys : List ℕ) (k : ℕ) (a : A) → slice_get xs k ≡ Some a → R a (slice_index ys k) → At xs ys k
+  at_is xs ys k a e r = subst (λ (found : Option A). IsSomeAnd found (λ b. R b (slice_index ys k))) (sym e) r
+
   -- as many of both, and each with its own
   pub zip_where : (xs : List A) (ys : List ℕ) → AllZip R xs ys ↔ ((length ys ≡ length xs) × ((k : ℕ) → k < length xs → At xs ys k))
   zip_where [] [] = (λ t. (refl, λ k below. absurd (omega (arith, below))), λ t. tt)

@@ -1,9 +1,11 @@
 //! The frames of a save.
 
-ghost use Rattle.std.specs.Prelude.{◌≡◌, ◌↔◌, ◌+◌, ◌<◌, ℕ, IsTrue, IfNone, IfSome, [], map, option_map};
+ghost use Rattle.std.specs.Prelude.{◌≡◌, ◌↔◌, ◌+◌, ◌<◌, ◌≤◌, ℕ, IsTrue, IfNone, IfSome, [], length, map, option_map};
 ghost use Rattle.zcert.specs.Certificate.{Certificate as ACertificate};
 ghost use Rattle.zcert.specs.Listed.{seen};
 ghost use Rattle.zdomain.specs.Domain.{In};
+ghost use Rattle.std.specs.List.{AllByRecursion};
+ghost use Rattle.zquetzal.specs.Reading.{words_of};
 ghost use Rattle.zquetzal.specs.View.{frames_left, seen_frame};
 ghost use Rattle.zstate.specs.Saves.{taken_frame};
 ghost use Rattle.zrule.specs.Claims.{Entry, claims_of, entry_of};
@@ -33,7 +35,8 @@ pub(crate) fn are_frames_described<V: Spelled>(
     frames: Frames<'_>,
     place: u32,
 ) -> bool
-    ensures { IsTrue result ↔ AreDescribed V.operations (claims_of V.operations certificate.now) (map taken_frame (frames_left frames.entry)) place }
+    ensures low { IsTrue result → AllByRecursion (λ f. length f.stack ≤ 64) (frames_left frames.entry) }
+    ensures value { IsTrue result ↔ AreDescribed V.operations (claims_of V.operations certificate.now) (map taken_frame (frames_left frames.entry)) place }
 {
     let mut above = frames;
     let Some(mut frame) = above.next() else {
@@ -57,7 +60,9 @@ fn is_newest_described<V: Spelled>(
     frame: SavedFrame<'_>,
     place: u32,
 ) -> bool
-    ensures { IsTrue result ↔ AreDescribedFrom V.operations (claims_of V.operations certificate.now) (option_map waiting_of below.entry) (taken_frame (seen_frame frame.entry)) [] place }
+    requires height { IfSome below (λ c. length c.listed.slots.now ≤ 64) }
+    ensures low { IsTrue result → IfSome below.entry (λ c. length (words_of c.frame.stack.now) ≤ 64) × (length (words_of frame.entry.stack.now) ≤ 64) }
+    ensures value { IsTrue result ↔ AreDescribedFrom V.operations (claims_of V.operations certificate.now) (option_map waiting_of below.entry) (taken_frame (seen_frame frame.entry)) [] place }
 {
     match going_on_at(certificate, below, frame, place) {
         Some(listed) => fits(&listed, frame),
@@ -72,6 +77,9 @@ fn going_on_at<'a, V: Spelled>(
     frame: SavedFrame<'_>,
     place: u32,
 ) -> Option<Instruction<'a, V>>
+    requires height { IfSome below (λ c. length c.listed.slots.now ≤ 64) }
+    ensures height { IfSome result (λ i. length i.slots.now ≤ 64) }
+    ensures low { IfSome result (λ i. IfSome below.entry (λ c. length (words_of c.frame.stack.now) ≤ 64)) }
     ensures some { IfSome result (λ i. GoesOnAt V.operations (claims_of V.operations certificate.now) (option_map waiting_of below.entry) (taken_frame (seen_frame frame.entry)) place (entry_of (seen i))) }
     ensures none { IfNone result ((e : Entry V) → GoesOnAt V.operations (claims_of V.operations certificate.now) (option_map waiting_of below.entry) (taken_frame (seen_frame frame.entry)) place e → ⊥) }
 {
@@ -90,7 +98,8 @@ fn is_called<V: Spelled>(
     variable: u8,
     routine: u16,
 ) -> bool
-    ensures { IsTrue result ↔ IsCalled V.operations (claims_of V.operations certificate.now) (option_map waiting_of below.entry) variable routine }
+    ensures low { IsTrue result → IfSome below.entry (λ c. length (words_of c.frame.stack.now) ≤ length c.listed.slots.now) }
+    ensures value { IsTrue result ↔ IsCalled V.operations (claims_of V.operations certificate.now) (option_map waiting_of below.entry) variable routine }
 {
     match below {
         Some(caller) => {
@@ -118,7 +127,8 @@ fn result_of<V: Spelled>(certificate: &Certificate<V>, index: usize) -> V
 
 /// Whether the words of a frame lie in the sets that are listed, and are as many.
 fn fits<V: Spelled>(listed: &Instruction<'_, V>, frame: SavedFrame<'_>) -> bool
-    ensures { (certificate : ACertificate V) → IsTrue result ↔ Fits V.operations (claims_of V.operations certificate) (entry_of (seen listed.now)).shape (taken_frame (seen_frame frame.entry)).locals (taken_frame (seen_frame frame.entry)).stack }
+    ensures low { IsTrue result → length (words_of frame.entry.stack.now) ≤ length listed.now.slots.now }
+    ensures value { (certificate : ACertificate V) → IsTrue result ↔ Fits V.operations (claims_of V.operations certificate) (entry_of (seen listed.now)).shape (taken_frame (seen_frame frame.entry)).locals (taken_frame (seen_frame frame.entry)).stack }
 {
     are_in(listed.locals, frame.locals) && are_in(listed.slots, frame.stack)
 }
@@ -130,7 +140,8 @@ fn fits_with<V: Spelled>(
     variable: u8,
     values: V,
 ) -> bool
-    ensures { IsTrue result ↔ ((x : ℕ) → In V.operations values x → FitsWith V.operations (claims_of V.operations certificate.now) variable x (waiting_of caller.now).entry.shape (waiting_of caller.now).frame) }
+    ensures low { IsTrue result → length (words_of caller.now.frame.stack.now) ≤ length caller.now.listed.slots.now }
+    ensures value { IsTrue result ↔ ((x : ℕ) → In V.operations values x → FitsWith V.operations (claims_of V.operations certificate.now) variable x (waiting_of caller.now).entry.shape (waiting_of caller.now).frame) }
 {
     if variable == 0 {
         fits_pushed(&caller.listed, caller.frame, values)
@@ -149,7 +160,8 @@ fn fits_beside<V: Spelled>(
     values: V,
 ) -> bool
     requires { global < 240 }
-    ensures { IsTrue result ↔ ((x : ℕ) → In V.operations values x → FitsWith V.operations (claims_of V.operations certificate.now) (global + 16) x (waiting_of caller.now).entry.shape (waiting_of caller.now).frame) }
+    ensures low { IsTrue result → length (words_of caller.now.frame.stack.now) ≤ length caller.now.listed.slots.now }
+    ensures value { IsTrue result ↔ ((x : ℕ) → In V.operations values x → FitsWith V.operations (claims_of V.operations certificate.now) (global + 16) x (waiting_of caller.now).entry.shape (waiting_of caller.now).frame) }
 {
     has_word(values);
     values.is_within(certificate.globals()[global]) && fits(&caller.listed, caller.frame)
@@ -161,7 +173,8 @@ fn fits_pushed<V: Spelled>(
     frame: SavedFrame<'_>,
     values: V,
 ) -> bool
-    ensures { (certificate : ACertificate V) → IsTrue result ↔ ((x : ℕ) → In V.operations values x → FitsWith V.operations (claims_of V.operations certificate) 0 x (entry_of (seen listed.now)).shape (taken_frame (seen_frame frame.entry))) }
+    ensures low { IsTrue result → length (words_of frame.entry.stack.now) ≤ length listed.now.slots.now }
+    ensures value { (certificate : ACertificate V) → IsTrue result ↔ ((x : ℕ) → In V.operations values x → FitsWith V.operations (claims_of V.operations certificate) 0 x (entry_of (seen listed.now)).shape (taken_frame (seen_frame frame.entry))) }
 {
     has_word(values);
     match listed.slots.split_last() {
@@ -182,7 +195,8 @@ fn fits_stored<V: Spelled>(
     values: V,
 ) -> bool
     requires { local < 15 }
-    ensures { (certificate : ACertificate V) → IsTrue result ↔ ((x : ℕ) → In V.operations values x → FitsWith V.operations (claims_of V.operations certificate) (local + 1) x (entry_of (seen listed.now)).shape (taken_frame (seen_frame frame.entry))) }
+    ensures low { IsTrue result → length (words_of frame.entry.stack.now) ≤ length listed.now.slots.now }
+    ensures value { (certificate : ACertificate V) → IsTrue result ↔ ((x : ℕ) → In V.operations values x → FitsWith V.operations (claims_of V.operations certificate) (local + 1) x (entry_of (seen listed.now)).shape (taken_frame (seen_frame frame.entry))) }
 {
     local < word_count(frame.locals)
         && are_in_with(listed.locals, frame.locals, local, values)

@@ -1,7 +1,10 @@
 //! The judge of saves.
 
-ghost use Rattle.std.specs.Prelude.{◌≡◌, ◌↔◌, ◌≤◌, ◌-◌, ℕ, IsTrue, map, true};
-ghost use Rattle.zstory.specs.LoadedStory.{static_base};
+ghost use Rattle.std.specs.Prelude.{◌≡◌, ◌↔◌, ◌≤◌, ◌-◌, ℕ, IsTrue, OnOk, length, map, true};
+ghost use Rattle.std.specs.List.{AllByRecursion};
+ghost use Rattle.zstory.specs.Bytes.{AreBytes};
+ghost use Rattle.zstory.specs.LoadedStory.{IsSound, static_base};
+ghost use Rattle.zstory.specs.Objects.{IsObjectCount};
 ghost use Rattle.zlist.specs.Listing.{is_listed};
 ghost use Rattle.zquetzal.specs.Saved.{IsSaved};
 ghost use Rattle.zstate.specs.State.{IsState, State, usual_limit};
@@ -39,8 +42,11 @@ pub fn judge_save<V: Spelled>(
     requires saved { IsSaved story.now view.now }
     // All listed instructions stand in static memory.
     requires fixed { (p : ℕ) → is_listed listing.now p ≡ true → static_base story.now ≤ p }
-    ensures { (s : State) → IsState usual_limit story.now s → IsJudged V.operations (claims_of V.operations certificate.now) (listed_setting story.now listing.now) view.now s result }
+    // Each stack is as low as those of a certificate.
+    ensures low { OnOk result (AllByRecursion (λ f. length f.stack ≤ 64) view.now.frames) }
+    ensures value { (s : State) → IsState usual_limit story.now s → IsJudged V.operations (claims_of V.operations certificate.now) (listed_setting story.now listing.now) view.now s result }
 {
+    are_known(story, certificate, view);
     if !is_save_before(story, listing, view.place()) {
         return Err(SaveError::Place);
     }
@@ -56,10 +62,24 @@ fn is_described<V: Spelled>(
     certificate: &Certificate<V>,
     view: &SaveView<'_>,
 ) -> bool
-    requires { 1 ≤ view.now.place }
-    ensures { IsTrue result ↔ (IsDescribedMemory V.operations (claims_of V.operations certificate.now) story.now view.now.memory × AreDescribed V.operations (claims_of V.operations certificate.now) (map taken_frame view.now.frames) (view.now.place - 1)) }
+    requires some { 1 ≤ view.now.place }
+    requires whole { length view.now.memory ≡ static_base story.now }
+    ensures low { IsTrue result → AllByRecursion (λ f. length f.stack ≤ 64) view.now.frames }
+    ensures value { IsTrue result ↔ (IsDescribedMemory V.operations (claims_of V.operations certificate.now) story.now view.now.memory × AreDescribed V.operations (claims_of V.operations certificate.now) (map taken_frame view.now.frames) (view.now.place - 1)) }
 {
     let at = view.place() - 1;
     is_memory_described(story, certificate, view.memory())
         && are_frames_described(certificate, view.frames(), at)
+}
+
+/// What is known of every story, certificate and save.
+fn are_known<V: Spelled>(story: &Story, certificate: &Certificate<V>, view: &SaveView<'_>)
+    ensures sound { IsSound story.now.memory }
+    ensures counted { IsObjectCount story.now.memory story.now.objects }
+    ensures globals { length certificate.now.globals ≤ 240 }
+    ensures bytes { AreBytes view.now.memory }
+{
+    let _loaded = story.memory();
+    let _globals = certificate.globals();
+    let _saved = view.memory();
 }

@@ -1,12 +1,11 @@
 //! The dynamic memory of a save.
 
-ghost use Rattle.std.specs.Prelude.{◌↔◌, ◌≤◌, ℕ, IsTrue};
-ghost use Rattle.zplace.specs.Bytes.{IsClosed};
-ghost use Rattle.zrule.specs.Claims.{claims_of, frozen_in};
-ghost use Rattle.zrule.specs.Rules.{HasGlobals};
-ghost use Rattle.zjudge.specs.Memory.{AreKept, HasLinks, IsDescribedMemory};
+ghost use Rattle.std.specs.Prelude.{◌≡◌, ◌↔◌, ◌≤◌, ◌<◌, ℕ, IsTrue, length};
+ghost use Rattle.zstory.specs.LoadedStory.{static_base};
+ghost use Rattle.zrule.specs.Claims.{claims_of};
+ghost use Rattle.zrule.specs.Rules.{HasGlobals, global_in};
+ghost use Rattle.zjudge.specs.Memory.{HasLinks, IsDescribedMemory};
 
-use crate::bytes::{byte_at, word_at};
 use crate::kept::are_closed_kept;
 use zcert::{Certificate, Spelled};
 use zstory::{DEFAULTS_LENGTH, OBJECT_ENTRY_LENGTH, Story};
@@ -20,6 +19,7 @@ pub(crate) fn is_memory_described<V: Spelled>(
     certificate: &Certificate<V>,
     saved: &[u8],
 ) -> bool
+    requires whole { length saved.now ≡ static_base story.now }
     ensures { IsTrue result ↔ IsDescribedMemory V.operations (claims_of V.operations certificate.now) story.now saved.now }
 {
     has_globals(story, certificate, saved)
@@ -29,19 +29,31 @@ pub(crate) fn is_memory_described<V: Spelled>(
 
 /// Whether each global lies in its set.
 fn has_globals<V: Spelled>(story: &Story, certificate: &Certificate<V>, saved: &[u8]) -> bool
+    requires whole { length saved.now ≡ static_base story.now }
     ensures { IsTrue result ↔ HasGlobals V.operations (claims_of V.operations certificate.now) story.now saved.now }
 {
     let sets = certificate.globals();
     for index in 0..sets.len() {
-        if !sets[index].contains(word_at(saved, story.globals() + 2 * index)) {
+        if !sets[index].contains(global_at(story, saved, index)) {
             return false;
         }
     }
     true
 }
 
+/// The value of a global, counted from variable 16.
+fn global_at(story: &Story, saved: &[u8], index: usize) -> u16
+    requires whole { length saved.now ≡ static_base story.now }
+    requires few { index < 240 }
+    ensures { result ≡ global_in story.now saved.now index }
+{
+    let place = story.globals() + 2 * index;
+    u16::from_be_bytes([saved[place], saved[place + 1]])
+}
+
 /// Whether each link of each object leads to an object, or to none.
 fn has_tree(story: &Story, saved: &[u8]) -> bool
+    requires whole { length saved.now ≡ static_base story.now }
     ensures { IsTrue result ↔ ((object : ℕ) → 1 ≤ object → object ≤ story.now.objects → HasLinks story.now saved.now object) }
 {
     for below in 0..story.objects() {
@@ -54,13 +66,13 @@ fn has_tree(story: &Story, saved: &[u8]) -> bool
 
 /// Whether each link of one object does.
 fn has_links(story: &Story, saved: &[u8], object: u8) -> bool
-    requires { 1 ≤ object }
+    requires whole { length saved.now ≡ static_base story.now }
+    requires least { 1 ≤ object }
+    requires most { object ≤ story.now.objects }
     ensures { IsTrue result ↔ HasLinks story.now saved.now object }
 {
+    let objects = story.objects();
     let entry = OBJECT_ENTRY_LENGTH * (usize::from(object) - 1);
     let place = story.object_table() + DEFAULTS_LENGTH + entry + LINKS;
-    let objects = story.objects();
-    byte_at(saved, place) <= objects
-        && byte_at(saved, place + 1) <= objects
-        && byte_at(saved, place + 2) <= objects
+    saved[place] <= objects && saved[place + 1] <= objects && saved[place + 2] <= objects
 }

@@ -11,7 +11,8 @@ use zquetzal::{word, word_count};
 
 /// Whether there are as many words as sets, and each lies in its own.
 pub(crate) fn are_in<V: Domain>(sets: &[V], words: &[u8]) -> bool
-    ensures { IsTrue result ↔ AllZip (In V.operations) sets.now (words_of words.now) }
+    ensures as_many { IsTrue result → length (words_of words.now) ≡ length sets.now }
+    ensures value { IsTrue result ↔ AllZip (In V.operations) sets.now (words_of words.now) }
 {
     if word_count(words) != sets.len() {
         return false;

@@ -1,0 +1,113 @@
+-- What is asked of a frame, by its words as a save and sets as a certificate have them: the bottom first.
+use Rattle.std.proofs.Common.{◌≡◌, ◌↔◌, ◌⊎◌, inl, inr, ℕ, zero, suc, ◌+◌, ◌-◌, ◌<◌, ◌≤◌, nat_lt, Bool, true, false, List, [], ◌∷◌, ◌++◌, length, reverse, Option, Some, None, refl, sym, ap, subst, ◌∙◌, arith, slice_set}
+use Rattle.std.specs.Prelude.{◌==◌, MatchOption, slice_get, slice_index}
+use Rattle.std.specs.Bool.{MatchBool}
+use Rattle.std.specs.List.{AllZip}
+use Rattle.std.specs.Option.{IsSomeAnd}
+use Rattle.std.proofs.lemmas.Bool.{eqb-true, ltb-false, ltb-true}
+use Rattle.std.proofs.lemmas.List.{get_or-set_other, get_or-set_same, length-set, reverse-append}
+use Rattle.zcert.specs.Certificate.{Instruction as Listed}
+use Rattle.zdomain.specs.Domain.{SetOperations, In, Within}
+use Rattle.zquetzal.specs.Saved.{Frame as SavedFrame}
+use Rattle.zstate.specs.State.{Frame}
+use Rattle.zstate.specs.Saves.{taken_frame}
+use Rattle.zrule.specs.Claims.{Claims, entry_of}
+use Rattle.zrule.specs.Described.{Fits, FitsWith}
+use Rattle.zjudge.proofs.Zips.{At, reversed_where, zip_reversed, zip_where}
+
+module _ {V : Type 0} (o : SetOperations V) (claims : Claims V) (i : Listed V) (f : SavedFrame) where
+  pub fits_where : (AllZip (In o) i.locals f.locals × AllZip (In o) i.slots f.stack) ↔ Fits o claims (entry_of i).shape (taken_frame f).locals (taken_frame f).stack
+  fits_where = (
+    λ both. record { in_locals = both.0; in_slots = zip_reversed (In o) i.slots f.stack both.1 },
+    λ fits. (fits.in_locals, (reversed_where (In o) i.slots f.stack).1 fits.in_slots),
+  )
+
+  -- ---- whichever value is put where; a set has one at least
+  module _ (values : V) (some : (x : ℕ) × In o values x) where
+    -- on top of the stack: the last slot is the top one
+    pub pushed_where : (slots : List V) (top : V) → i.slots ≡ slots ++ top ∷ [] → (Within o values top × AllZip (In o) slots f.stack × AllZip (In o) i.locals f.locals) ↔ ((x : ℕ) → In o values x → FitsWith o claims 0 x (entry_of i).shape (taken_frame f))
+    pushed_where slots top is = (there, back)
+      where
+        turned : reverse i.slots ≡ top ∷ reverse slots
+        turned = ap reverse is ∙ reverse-append slots (top ∷ [])
+
+        there : Within o values top × AllZip (In o) slots f.stack × AllZip (In o) i.locals f.locals → (x : ℕ) → In o values x → FitsWith o claims 0 x (entry_of i).shape (taken_frame f)
+        there (within, stack, locals) x member = record { in_locals = locals; in_slots = subst (λ (vs : List V). AllZip (In o) vs (x ∷ reverse f.stack)) (sym turned) (within x member, zip_reversed (In o) slots f.stack stack) }
+
+        back : ((x : ℕ) → In o values x → FitsWith o claims 0 x (entry_of i).shape (taken_frame f)) → Within o values top × AllZip (In o) slots f.stack × AllZip (In o) i.locals f.locals
+        back all =
+            let parts : (x : ℕ) → In o values x → In o top x × AllZip (In o) (reverse slots) (reverse f.stack) = λ x member. subst (λ (vs : List V). AllZip (In o) vs (x ∷ reverse f.stack)) turned (all x member).in_slots in
+            (λ x member. (parts x member).0, (reversed_where (In o) slots f.stack).1 (parts some.0 some.1).1, (all some.0 some.1).in_locals)
+
+    -- where no slot takes it
+    pub none_pushed : i.slots ≡ [] → ((x : ℕ) → In o values x → FitsWith o claims 0 x (entry_of i).shape (taken_frame f)) → ⊥
+    none_pushed is all = subst (λ (vs : List V). AllZip (In o) (reverse vs) (some.0 ∷ reverse f.stack)) is (all some.0 some.1).in_slots
+
+    -- in the place of a local
+    pub stored_where : (local : ℕ) → local < 15 → ((local < length f.locals) × ((x : ℕ) → In o values x → AllZip (In o) i.locals (slice_set f.locals local x)) × AllZip (In o) i.slots f.stack) ↔ ((x : ℕ) → In o values x → FitsWith o claims (local + 1) x (entry_of i).shape (taken_frame f))
+    stored_where local few = by_kind (local + 1 == 0) (nat_lt (local + 1) 16) refl refl
+      where
+        same : local + 1 - 1 ≡ local
+        same = omega arith
+
+        by_kind : (b c : Bool) → (local + 1 == 0) ≡ b → nat_lt (local + 1) 16 ≡ c → ((local < length f.locals) × ((x : ℕ) → In o values x → AllZip (In o) i.locals (slice_set f.locals local x)) × AllZip (In o) i.slots f.stack)
+            ↔ ((x : ℕ) → In o values x → MatchBool b (Fits o claims (entry_of i).shape (taken_frame f).locals (x ∷ (taken_frame f).stack)) (MatchBool c ((local + 1 ≤ length f.locals) × Fits o claims (entry_of i).shape (slice_set f.locals (local + 1 - 1) x) (taken_frame f).stack) ((local + 1 < 256) × MatchOption (slice_get claims.globals (local + 1 - 16)) ⊥ (λ set. In o set x) × Fits o claims (entry_of i).shape (taken_frame f).locals (taken_frame f).stack)))
+        by_kind true c e g = absurd (let none = eqb-true (local + 1) 0 e in omega (arith, none))
+        by_kind false false e g = absurd (let high = ltb-false (local + 1) 16 g in omega (arith, high, few))
+        by_kind false true e g = (
+          λ (below, locals, stack) x member. (omega (arith, below), record { in_locals = subst (λ (k : ℕ). AllZip (In o) i.locals (slice_set f.locals k x)) (sym same) (locals x member); in_slots = zip_reversed (In o) i.slots f.stack stack }),
+          λ all. (
+            let few_locals = (all some.0 some.1).0 in omega (arith, few_locals),
+            λ x member. subst (λ (k : ℕ). AllZip (In o) i.locals (slice_set f.locals k x)) same (all x member).1.in_locals,
+            (reversed_where (In o) i.slots f.stack).1 (all some.0 some.1).1.in_slots,
+          ),
+        )
+
+    -- in a global
+    pub global_where : (global : ℕ) (set : V) → global < 240 → slice_get claims.globals global ≡ Some set → (Within o values set × Fits o claims (entry_of i).shape (taken_frame f).locals (taken_frame f).stack) ↔ ((x : ℕ) → In o values x → FitsWith o claims (global + 16) x (entry_of i).shape (taken_frame f))
+    global_where global set few found = by_kind (global + 16 == 0) (nat_lt (global + 16) 16) refl refl
+      where
+        there : slice_get claims.globals (global + 16 - 16) ≡ Some set
+        there = subst (λ (k : ℕ). slice_get claims.globals k ≡ Some set) (omega arith) found
+
+        takes : (x : ℕ) → In o set x → MatchOption (slice_get claims.globals (global + 16 - 16)) ⊥ (λ values. In o values x)
+        takes x member = subst (λ (found : Option V). MatchOption found ⊥ (λ values. In o values x)) (sym there) member
+
+        taken : (x : ℕ) → MatchOption (slice_get claims.globals (global + 16 - 16)) ⊥ (λ values. In o values x) → In o set x
+        taken x h = subst (λ (found : Option V). MatchOption found ⊥ (λ values. In o values x)) there h
+
+        by_kind : (b c : Bool) → (global + 16 == 0) ≡ b → nat_lt (global + 16) 16 ≡ c → (Within o values set × Fits o claims (entry_of i).shape (taken_frame f).locals (taken_frame f).stack)
+            ↔ ((x : ℕ) → In o values x → MatchBool b (Fits o claims (entry_of i).shape (taken_frame f).locals (x ∷ (taken_frame f).stack)) (MatchBool c ((global + 16 ≤ length f.locals) × Fits o claims (entry_of i).shape (slice_set f.locals (global + 16 - 1) x) (taken_frame f).stack) ((global + 16 < 256) × MatchOption (slice_get claims.globals (global + 16 - 16)) ⊥ (λ values. In o values x) × Fits o claims (entry_of i).shape (taken_frame f).locals (taken_frame f).stack)))
+        by_kind true c e g = absurd (let none = eqb-true (global + 16) 0 e in omega (arith, none))
+        by_kind false true e g = absurd (let low = ltb-true (global + 16) 16 g in omega (arith, low))
+        by_kind false false e g = (
+          λ both x member. (omega (arith, few), takes x (both.0 x member), both.1),
+          λ all. (λ x member. taken x (all x member).1, (all some.0 some.1).2),
+        )
+
+  -- ---- one word of some, whichever value is put in the place of another
+
+  module _ (sets : List V) (ws : List ℕ) (values : V) (put index : ℕ) (set : V) (found : slice_get sets index ≡ Some set) where
+    at_set : (x : ℕ) → At (In o) sets (slice_set ws put x) index ↔ In o set (slice_index (slice_set ws put x) index)
+    at_set x = (
+      λ at. subst (λ (s : Option V). IsSomeAnd s (λ a. In o a (slice_index (slice_set ws put x) index))) found at,
+      λ member. subst (λ (s : Option V). IsSomeAnd s (λ a. In o a (slice_index (slice_set ws put x) index))) (sym found) member,
+    )
+
+    pub put_there : index ≡ put → put < length ws → Within o values set ↔ ((x : ℕ) → In o values x → At (In o) sets (slice_set ws put x) index)
+    put_there same below = (
+      λ within x member. (at_set x).1 (subst (In o set) (sym (is x)) (within x member)),
+      λ all x member. subst (In o set) (is x) ((at_set x).0 (all x member)),
+    )
+      where
+        is : (x : ℕ) → slice_index (slice_set ws put x) index ≡ x
+        is x = ap (slice_index (slice_set ws put x)) same ∙ get_or-set_same ws put x 0 below
+
+    pub put_elsewhere : (index ≡ put → ⊥) → ((x : ℕ) × In o values x) → In o set (slice_index ws index) ↔ ((x : ℕ) → In o values x → At (In o) sets (slice_set ws put x) index)
+    put_elsewhere other some = (
+      λ member x of_values. (at_set x).1 (subst (In o set) (sym (is x)) member),
+      λ all. subst (In o set) (is some.0) ((at_set some.0).0 (all some.0 some.1)),
+    )
+      where
+        is : (x : ℕ) → slice_index (slice_set ws put x) index ≡ slice_index ws index
+        is x = get_or-set_other ws put index x 0 other
