@@ -1,7 +1,7 @@
 -- Frames judged from the oldest up are frames described from the newest down.
-use Rattle.std.proofs.Common.{◌≡◌, ◌↔◌, ℕ, ◌≤◌, List, [], ◌∷◌, Option, Some, None, refl, sym, ap, subst, ◌∙◌}
+use Rattle.std.proofs.Common.{◌≡◌, ◌↔◌, ℕ, ◌≤◌, List, [], ◌∷◌, ◌++◌, Option, Some, None, refl, sym, ap, subst, ◌∙◌}
 use Rattle.std.specs.Prelude.{map, reverse}
-use Rattle.std.proofs.Math.ListN.{reverse_aux}
+use Rattle.std.proofs.lemmas.List.{append_assoc, reverse-append}
 use Rattle.std.proofs.lemmas.Option.{same_Some}
 use Rattle.zdomain.specs.Domain.{SetOperations, In}
 use Rattle.zquetzal.specs.Saved.{Frame as SavedFrame}
@@ -16,13 +16,16 @@ pub stacked : Frame → List Frame → List Frame → Frame × List Frame
 stacked f callers [] = (f, callers)
 stacked f callers (g ∷ above) = stacked g (f ∷ callers) above
 
-stacked_above : (f : SavedFrame) (callers above : List SavedFrame) (s : State) → with_frames (map taken_frame (reverse_aux above (f ∷ callers))) s ≡ record s { frame = (stacked (taken_frame f) (map taken_frame callers) (map taken_frame above)).0; callers = (stacked (taken_frame f) (map taken_frame callers) (map taken_frame above)).1 }
+stacked_above : (f : SavedFrame) (callers above : List SavedFrame) (s : State) → with_frames (map taken_frame (reverse above ++ f ∷ callers)) s ≡ record s { frame = (stacked (taken_frame f) (map taken_frame callers) (map taken_frame above)).0; callers = (stacked (taken_frame f) (map taken_frame callers) (map taken_frame above)).1 }
 stacked_above f callers [] s = refl
-stacked_above f callers (g ∷ above) s = stacked_above g (f ∷ callers) above s
+stacked_above f callers (g ∷ above) s = ap (λ (fs : List SavedFrame). with_frames (map taken_frame fs) s) (turned_more g above (f ∷ callers)) ∙ stacked_above g (f ∷ callers) above s
+  where
+    turned_more : (x : SavedFrame) (xs ys : List SavedFrame) → reverse (x ∷ xs) ++ ys ≡ reverse xs ++ x ∷ ys
+    turned_more x xs ys = ap (λ (zs : List SavedFrame). zs ++ ys) (reverse-append (x ∷ []) xs) ∙ append_assoc (reverse xs) (x ∷ []) ys
 
 -- the frames of a save, turned round
 pub turned_round : (f : SavedFrame) (above : List SavedFrame) (s : State) → with_frames (map taken_frame (reverse (f ∷ above))) s ≡ record s { frame = (stacked (taken_frame f) [] (map taken_frame above)).0; callers = (stacked (taken_frame f) [] (map taken_frame above)).1 }
-turned_round f above s = stacked_above f [] above s
+turned_round f above s = ap (λ (fs : List SavedFrame). with_frames (map taken_frame fs) s) (reverse-append (f ∷ []) above) ∙ stacked_above f [] above s
 
 module _ {V : Type 0} (o : SetOperations V) (claims : Claims V) where
   -- what is said of a newest frame and its callers at a place

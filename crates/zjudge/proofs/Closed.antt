@@ -1,6 +1,6 @@
 -- Which bytes of a save are as loaded, part by part.
 use Rattle.std.proofs.Common.{◌≡◌, ◌↔◌, ◌⊎◌, inl, inr, ℕ, zero, suc, ◌+◌, ◌*◌, ◌-◌, ◌/◌, ◌<◌, ◌≤◌, Bool, true, false, List, [], ◌∷◌, length, Option, Some, None, refl, sym, subst, ◌∙◌, arith}
-use Rattle.std.specs.Prelude.{All, nat_le, ◌&&◌, ◌||◌, ◌≢◌}
+use Rattle.std.specs.Prelude.{All, nat_le, ◌&&◌, ◌||◌, ◌≢◌, slice_index_or}
 use Rattle.std.specs.List.{list_any, AllByRecursion}
 use Rattle.std.proofs.lemmas.Bool.{cases_lt, leb-true, le-leb}
 use Rattle.std.proofs.lemmas.Option.{same_Some}
@@ -15,6 +15,9 @@ use Rattle.zpairs.specs.Frozen.{is_inside, frozen_by}
 use Rattle.zobj.specs.declared.tree.Link.TheVariants.{Parent, Sibling, Child}
 use Rattle.zjudge.specs.Memory.{IsKept, AreKept, HasLinks}
 use Rattle.zjudge.specs.Parts.{IsInText, IsLedTo, IsRangeKept}
+
+pub through : {A B C : Type 0} → A ↔ B → B ↔ C → A ↔ C
+through f g = (λ a. g.0 (f.0 a), λ c. f.1 (g.1 c))
 
 -- ---- of one more
 
@@ -31,6 +34,17 @@ one_more_below P below each next number last = by_order (cases_lt number below)
     by_order : (number < below) ⊎ (below ≤ number) → P number
     by_order (inl low) = each number low
     by_order (inr high) = let same : below ≡ number = omega (arith, high, last) in subst P same next
+
+-- of each element, by their places and by recursion
+each_of : {A : Type 0} (P : A → Type 0) (xs : List A) → All P xs ↔ AllByRecursion P xs
+each_of P [] = (λ all. tt, λ each k d less. absurd (omega (arith, less)))
+each_of P (x ∷ xs) =
+    let rest = each_of P xs in
+    (λ all. (all 0 x (omega arith), rest.0 (λ k d less. all (suc k) d (omega (arith, less)))), λ each k d less. by_place (rest.1 each.1) each.0 k d less)
+  where
+    by_place : All P xs → P x → (k : ℕ) (d : _) → k < length (x ∷ xs) → P (slice_index_or (x ∷ xs) k d)
+    by_place all first zero d less = first
+    by_place all first (suc k) d less = all k d (omega (arith, less))
 
 -- ---- lists of size bytes
 
@@ -128,6 +142,13 @@ module _ (story : LoadedStory) (saved : List ℕ) where
       back each p number few (inl inside) = each number few p (inl inside)
       back each p number few (inr (word, found, inside)) = each number few p (inr (in_text (readable_word story.memory (abbreviations story + 2 * number)) p word found inside))
 
+  pub text_where : (word place size : ℕ) → place ≡ 2 * word → size ≡ read_length story.memory place → AreKept story saved (IsWithin place size) ↔ AreKept story saved (IsInText story.memory (Some word))
+  text_where word place size at long =
+      let same : size ≡ read_length story.memory (2 * word) = subst (λ (p : ℕ). size ≡ read_length story.memory p) at long in (
+        λ all p inside. all p (omega (arith, at, inside.0), omega (arith, at, same, inside.1)),
+        λ all p inside. all p (omega (arith, at, inside.0), omega (arith, at, same, inside.1)),
+      )
+
   pub led_where : (entry : ℕ) → AreKept story saved (IsLedTo story.memory entry) ↔ (AreKept story saved (IsWithin entry 2) × AreKept story saved (IsInText story.memory (readable_word story.memory entry)))
   led_where entry = ((λ all. (λ p inside. all p (inl inside), λ p there. all p (inr there))), by)
     where
@@ -173,8 +194,11 @@ module _ (story : LoadedStory) (saved : List ℕ) where
       )
     where
       by_first : (p : ℕ) → (list_any (is_inside p) ranges ≡ true → IsKept story saved p) → IsRangeKept story saved r → (b : Bool) → is_inside p r ≡ b → (b || list_any (is_inside p) ranges) ≡ true → IsKept story saved p
-      by_first p rest here true is e = here p is
-      by_first p rest here false is e = rest e
+      by_first p rest own true is e = own p is
+      by_first p rest own false is e = rest e
+
+  pub ranges_where : (ranges : List Range) → All (IsRangeKept story saved) ranges ↔ AreKept story saved (λ p. frozen_by ranges p ≡ true)
+  ranges_where ranges = through (each_of (IsRangeKept story saved) ranges) (each_range ranges)
 
   -- ---- all that is closed
 

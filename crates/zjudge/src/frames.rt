@@ -198,6 +198,7 @@ fn fits_stored<V: Spelled>(
     ensures low { IsTrue result → length (words_of frame.entry.stack.now) ≤ length listed.now.slots.now }
     ensures value { (certificate : ACertificate V) → IsTrue result ↔ ((x : ℕ) → In V.operations values x → FitsWith V.operations (claims_of V.operations certificate) (local + 1) x (entry_of (seen listed.now)).shape (taken_frame (seen_frame frame.entry))) }
 {
+    has_word(values);
     local < word_count(frame.locals)
         && are_in_with(listed.locals, frame.locals, local, values)
         && are_in(listed.slots, frame.stack)

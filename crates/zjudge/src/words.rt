@@ -30,6 +30,7 @@ pub(crate) fn are_in_with<V: Domain>(sets: &[V], words: &[u8], put: usize, value
     requires { put < length (words_of words.now) }
     ensures { IsTrue result ↔ ((x : ℕ) → In V.operations values x → AllZip (In V.operations) sets.now (slice_set (words_of words.now) put x)) }
 {
+    has_word(values);
     if word_count(words) != sets.len() {
         return false;
     }
