@@ -12,7 +12,7 @@ use Rattle.zrule.specs.Described.{Callers, Fits, FitsWith}
 use Rattle.zjudge.specs.Frames.{AreDescribed, AreDescribedFrom, GoesOnAt, IsCalled, Waiting}
 
 -- the newest frame and its callers, of a frame that stands above some, with others above it
-pub stacked : Frame → List Frame → List Frame → Frame × List Frame
+abbrev pub stacked : Frame → List Frame → List Frame → Frame × List Frame
 stacked f callers [] = (f, callers)
 stacked f callers (g ∷ above) = stacked g (f ∷ callers) above
 
@@ -69,18 +69,15 @@ module _ {V : Type 0} (o : SetOperations V) (claims : Claims V) where
     λ (entry, goes, fits). record { entry = entry; listed = goes.listed; fits = fits; callers = called below f gs entry.routine stands goes.called },
     λ newest. (newest.entry, record { listed = newest.listed; called = calls below f gs newest.entry.routine stands newest.callers }, newest.fits),
   )
-  climb below f gs (g ∷ above) place stands = (there, back)
-    where
-      there : AreDescribedFrom o claims below f (g ∷ above) place → IsNewest place (stacked g (f ∷ gs) above).0 (stacked g (f ∷ gs) above).1
-      there (entry, goes, rest) = (climb (Some (record { entry = entry; frame = f })) g (f ∷ gs) above place (refl, goes.listed, called below f gs entry.routine stands goes.called)).0 rest
-
-      back : IsNewest place (stacked g (f ∷ gs) above).0 (stacked g (f ∷ gs) above).1 → AreDescribedFrom o claims below f (g ∷ above) place
-      back newest =
-          let (entry, listed, callers) = below_is f gs g above place newest in (
-            entry,
-            record { listed = listed; called = calls below f gs entry.routine stands callers },
-            (climb (Some (record { entry = entry; frame = f })) g (f ∷ gs) above place (refl, listed, callers)).1 newest,
-          )
+  climb below f gs (g ∷ above) place stands = (
+    λ (entry, goes, rest). (climb (Some (record { entry = entry; frame = f })) g (f ∷ gs) above place (refl, goes.listed, called below f gs entry.routine stands goes.called)).0 rest,
+    λ newest.
+        let under = below_is f gs g above place newest in (
+          under.0,
+          record { listed = under.1; called = calls below f gs under.0.routine stands under.2 },
+          (climb (Some (record { entry = under.0; frame = f })) g (f ∷ gs) above place (refl, under.1, under.2)).1 newest,
+        ),
+  )
 
   -- all frames, from the oldest up and from the newest down
   pub climbed : (f : Frame) (above : List Frame) (place : ℕ) → AreDescribed o claims (f ∷ above) place ↔ IsNewest place (stacked f [] above).0 (stacked f [] above).1

@@ -2,6 +2,7 @@
 use Rattle.std.proofs.Common.{◌≡◌, ◌≢◌, ◌↔◌, ◌⊎◌, inl, inr, ℕ, zero, suc, ◌+◌, ◌-◌, ◌<◌, ◌≤◌, Bool, true, false, if◌then◌else◌, List, [], ◌∷◌, length, drop, Result, Ok, Err, refl, sym, ap, subst, ◌∙◌, arith}
 use Rattle.std.specs.Prelude.{ℤ, pos, negsuc, ◌-ℤ◌, map, reverse, Some}
 use Rattle.std.proofs.lemmas.Bool.{le-leb}
+use Rattle.std.proofs.lemmas.Int.{ints}
 use Rattle.std.proofs.lemmas.List.{get_or-drop, length-drop}
 use Rattle.std.proofs.lemmas.Grind.{same_number_lists}
 use Rattle.zstory.specs.Bytes.{AreBytes, byte_at}
@@ -22,7 +23,7 @@ use Rattle.zrule.specs.Described.{Described}
 use Rattle.zjudge.specs.Frames.{AreDescribed}
 use Rattle.zjudge.specs.Judging.{IsJudged, listed_setting}
 use Rattle.zjudge.specs.Memory.{IsDescribedMemory}
-use Rattle.zjudge.proofs.Climbing.{climbed, turned_round}
+use Rattle.zjudge.proofs.Climbing.{climbed, stacked, turned_round}
 use Rattle.zjudge.proofs.Taken.{IsTaken, memory_where}
 
 -- ---- the place
@@ -93,7 +94,7 @@ module _ {V : Type 0} (o : SetOperations V) (claims : Claims V) (story : LoadedS
   described_frames limit (f ∷ above) u saved place are taken at state =
       subst (λ (t : State). IsState limit story t → (IsDescribedMemory o claims story saved × AreDescribed o claims (taken_frame f ∷ map taken_frame above) place) ↔ Described o claims limit story t) (sym (turned_round f above u)) by state
     where
-      by : IsState limit story _ → (IsDescribedMemory o claims story saved × AreDescribed o claims (taken_frame f ∷ map taken_frame above) place) ↔ Described o claims limit story _
+      by : IsState limit story (record u { frame = (stacked (taken_frame f) [] (map taken_frame above)).0; callers = (stacked (taken_frame f) [] (map taken_frame above)).1 }) → (IsDescribedMemory o claims story saved × AreDescribed o claims (taken_frame f ∷ map taken_frame above) place) ↔ Described o claims limit story (record u { frame = (stacked (taken_frame f) [] (map taken_frame above)).0; callers = (stacked (taken_frame f) [] (map taken_frame above)).1 })
       by held =
           let round = climbed o claims (taken_frame f) (map taken_frame above) place in
           let memory = memory_where o claims story saved u.memory sound counted few taken in (
@@ -128,10 +129,10 @@ module _ {V : Type 0} (o : SetOperations V) (claims : Claims V) (story : LoadedS
 
     -- what is answered
     pub judged_place : saves (fetch (scope_only listing) (save_place saved) story.memory) ≡ false → going_on (listed_setting story listing) saved s ≡ Err errors.Place
-    judged_place no = refused_there (listed_setting story listing) saved s (saves_there ∙ no)
+    judged_place none = refused_there (listed_setting story listing) saved s (saves_there ∙ none)
 
     pub judged_there : saves (fetch (scope_only listing) (save_place saved) story.memory) ≡ true → going_on (listed_setting story listing) saved s ≡ Ok (resumed story saved s)
-    judged_there yes = goes_on (listed_setting story listing) saved s (saves_there ∙ yes) (few_frames saved.frames is.frames)
+    judged_there there = goes_on (listed_setting story listing) saved s (saves_there ∙ there) (few_frames saved.frames is.frames)
 
     pub judged_described : 1 ≤ saved.place → (IsDescribedMemory o claims story saved.memory × AreDescribed o claims (map taken_frame saved.frames) (saved.place - 1)) ↔ Described o claims usual_limit story (resumed story saved s)
     judged_described some = described_where some
