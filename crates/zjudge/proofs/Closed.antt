@@ -1,9 +1,9 @@
 -- Which bytes of a save are as loaded, part by part.
 use Rattle.std.proofs.Common.{◌≡◌, ◌↔◌, ◌⊎◌, inl, inr, ℕ, zero, suc, ◌+◌, ◌*◌, ◌-◌, ◌/◌, ◌<◌, ◌≤◌, Bool, true, false, List, [], ◌∷◌, length, Option, Some, None, refl, sym, subst, ◌∙◌, arith}
-use Rattle.std.specs.Prelude.{All, nat_le, ◌&&◌, ◌||◌, ◌≢◌, slice_index_or}
+use Rattle.std.specs.Prelude.{All, nat_le, ◌&&◌, ◌||◌, ◌≢◌, slice_get, slice_index_or}
 use Rattle.std.specs.List.{list_any, AllByRecursion}
 use Rattle.std.proofs.lemmas.Bool.{cases_lt, leb-true, le-leb}
-use Rattle.std.proofs.lemmas.Option.{same_Some}
+use Rattle.std.proofs.lemmas.Option.{get_or_from_slice_get, same_Some, slice_get_within}
 use Rattle.zstory.specs.Bytes.{byte_at}
 use Rattle.zstory.specs.LoadedStory.{LoadedStory, object_table, static_base, abbreviations}
 use Rattle.zstory.specs.Objects.{object_place, property_table}
@@ -18,6 +18,9 @@ use Rattle.zjudge.specs.Parts.{IsInText, IsLedTo, IsRangeKept}
 
 pub through : {A B C : Type 0} → A ↔ B → B ↔ C → A ↔ C
 through f g = (λ a. g.0 (f.0 a), λ c. f.1 (g.1 c))
+
+pub flipped : {A B : Type 0} → A ↔ B → B ↔ A
+flipped f = (f.1, f.0)
 
 -- ---- of one more
 
@@ -121,6 +124,16 @@ module _ (story : LoadedStory) (saved : List ℕ) where
       by both p (inl inside) = both.0 p inside
       by both p (inr there) = both.1 p there
 
+  -- the same, by what is read of a memory that is the same
+  pub frame_read : (read : List ℕ) (table words list : ℕ) → read ≡ story.memory → words ≡ byte_at read table → list ≡ list_place read table → AreKept story saved (IsTableFrame story.memory table) ↔ (AreKept story saved (IsWithin table (1 + 2 * words)) × AreKept story saved (λ p. IsSizePlace story.memory p list))
+  frame_read read table words list same counted at =
+      let here : words ≡ byte_at story.memory table = subst (λ (m : List ℕ). words ≡ byte_at m table) same counted in
+      let there : list ≡ list_place story.memory table = subst (λ (m : List ℕ). list ≡ list_place m table) same at in
+      let parts = frame_where table in (
+        λ all. (λ p inside. (parts.0 all).0 p (inside.0, omega (arith, inside.1, here)), λ p size. (parts.0 all).1 p (subst (IsSizePlace story.memory p) there size)),
+        λ both. parts.1 (λ p inside. both.0 p (inside.0, omega (arith, inside.1, here)), λ p size. both.1 p (subst (IsSizePlace story.memory p) (sym there) size)),
+      )
+
   -- ---- abbreviations
 
   in_text : (found : Option ℕ) (p word : ℕ) → found ≡ Some word → IsWithin (2 * word) (read_length story.memory (2 * word)) p → IsInText story.memory found p
@@ -181,8 +194,8 @@ module _ (story : LoadedStory) (saved : List ℕ) where
 
   pub range_where : (range : Range) → AreKept story saved (IsWithin range.first (range.last + 1 - range.first)) ↔ IsRangeKept story saved range
   range_where range = (
-    λ all p e. let w = (inside_where range p).0 e in all p (w.0, omega (arith, w.0, w.1)),
-    λ all p w. all p ((inside_where range p).1 (w.0, omega (arith, w.0, w.1))),
+    λ all. record { kept = λ p e. let w = (inside_where range p).0 e in all p (w.0, omega (arith, w.0, w.1)) },
+    λ all p w. all.kept p ((inside_where range p).1 (w.0, omega (arith, w.0, w.1))),
   )
 
   each_range : (ranges : List Range) → AllByRecursion (IsRangeKept story saved) ranges ↔ AreKept story saved (λ p. list_any (is_inside p) ranges ≡ true)
@@ -190,15 +203,23 @@ module _ (story : LoadedStory) (saved : List ℕ) where
   each_range (r ∷ ranges) =
       let rest = each_range ranges in (
         λ each p e. by_first p (rest.0 each.1 p) each.0 (is_inside p r) refl e,
-        λ all. (λ p e. all p (or_left (is_inside p r) (list_any (is_inside p) ranges) e), rest.1 (λ p e. all p (or_right (is_inside p r) (list_any (is_inside p) ranges) e))),
+        λ all. (record { kept = λ p e. all p (or_left (is_inside p r) (list_any (is_inside p) ranges) e) }, rest.1 (λ p e. all p (or_right (is_inside p r) (list_any (is_inside p) ranges) e))),
       )
     where
       by_first : (p : ℕ) → (list_any (is_inside p) ranges ≡ true → IsKept story saved p) → IsRangeKept story saved r → (b : Bool) → is_inside p r ≡ b → (b || list_any (is_inside p) ranges) ≡ true → IsKept story saved p
-      by_first p rest own true is e = own p is
+      by_first p rest own true is e = own.kept p is
       by_first p rest own false is e = rest e
 
   pub ranges_where : (ranges : List Range) → All (IsRangeKept story saved) ranges ↔ AreKept story saved (λ p. frozen_by ranges p ≡ true)
   ranges_where ranges = through (each_of (IsRangeKept story saved) ranges) (each_range ranges)
+
+  -- one range after another
+  pub ranges_more : (ranges : List Range) (n : ℕ) → ((k : ℕ) → k < n → (d : Range) → IsRangeKept story saved (slice_index_or ranges k d)) → {r : Range} → IsRangeKept story saved r → slice_get ranges n ≡ Some r → (k : ℕ) → k < n + 1 → (d : Range) → IsRangeKept story saved (slice_index_or ranges k d)
+  ranges_more ranges n each {r} own found =
+      one_more_below (λ k. (d : Range) → IsRangeKept story saved (slice_index_or ranges k d)) n each (λ d. subst (IsRangeKept story saved) (sym (get_or_from_slice_get ranges n r d found)) own)
+
+  pub range_at : (ranges : List Range) (n : ℕ) {r : Range} → slice_get ranges n ≡ Some r → All (IsRangeKept story saved) ranges → IsRangeKept story saved r
+  range_at ranges n {r} found all = subst (IsRangeKept story saved) (get_or_from_slice_get ranges n r r found) (all n r (slice_get_within ranges n r found))
 
   -- ---- all that is closed
 

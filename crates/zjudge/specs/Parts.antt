@@ -17,5 +17,5 @@ abbrev pub IsLedTo : List ℕ → ℕ → ℕ → Type 0
 IsLedTo memory entry p = IsWithin entry 2 p ⊎ IsInText memory (readable_word memory entry) p
 
 -- what a range has is as loaded
-abbrev pub IsRangeKept : LoadedStory → List ℕ → Range → Type 0
-IsRangeKept story saved range = AreKept story saved (λ p. is_inside p range ≡ true)
+pub record IsRangeKept (story : LoadedStory) (saved : List ℕ) (range : Range) : Type 0 where
+  pub kept : AreKept story saved (λ p. is_inside p range ≡ true)

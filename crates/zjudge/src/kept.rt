@@ -30,10 +30,17 @@ const READABLE_LENGTH: usize = 65_536;
 pub(crate) fn are_closed_kept(story: &Story, ranges: &[Range], saved: &[u8]) -> bool
     ensures { IsTrue result ↔ AreKept story.now saved.now (IsClosed story.now (frozen_by ranges.now)) }
 {
-    are_entries_kept(story, saved)
-        && are_frames_kept(story, saved)
-        && are_abbreviations_kept(story, saved)
-        && are_ranges_kept(story, ranges, saved)
+    if !are_objects_kept(story, saved) {
+        return false;
+    }
+    are_abbreviations_kept(story, saved) && are_ranges_kept(story, ranges, saved)
+}
+
+/// Whether the object table and what property tables are beside their data are.
+fn are_objects_kept(story: &Story, saved: &[u8]) -> bool
+    ensures { IsTrue result ↔ (AreKept story.now saved.now (IsWithin (object_table story.now) (62 + 9 * story.now.objects)) × AreKept story.now saved.now (IsPropertyFrame story.now)) }
+{
+    are_entries_kept(story, saved) && are_frames_kept(story, saved)
 }
 
 /// Whether a byte is.
@@ -151,9 +158,12 @@ fn readable_word(memory: &[u8], at: usize) -> Option<u16>
 fn are_ranges_kept(story: &Story, ranges: &[Range], saved: &[u8]) -> bool
     ensures { IsTrue result ↔ All (IsRangeKept story.now saved.now) ranges.now }
 {
-    ranges
-        .iter()
-        .all(|range| is_range_kept(story, *range, saved))
+    for index in 0..ranges.len() {
+        if !is_range_kept(story, ranges[index], saved) {
+            return false;
+        }
+    }
+    true
 }
 
 /// Whether each place of one range is.
