@@ -1,6 +1,6 @@
 -- What is asked of a frame, by its words as a save and sets as a certificate have them: the bottom first.
 use Rattle.std.proofs.Common.{◌≡◌, ◌↔◌, ◌⊎◌, inl, inr, ℕ, zero, suc, ◌+◌, ◌-◌, ◌<◌, ◌≤◌, nat_lt, Bool, true, false, List, [], ◌∷◌, ◌++◌, length, reverse, Option, Some, None, refl, sym, ap, subst, ◌∙◌, arith, slice_set}
-use Rattle.std.specs.Prelude.{◌==◌, MatchOption, slice_get, slice_index}
+use Rattle.std.specs.Prelude.{◌==◌, IsTrue, MatchOption, slice_get, slice_index}
 use Rattle.std.specs.Bool.{MatchBool}
 use Rattle.std.specs.List.{AllZip}
 use Rattle.std.specs.Option.{IsSomeAnd}
@@ -14,6 +14,10 @@ use Rattle.zstate.specs.Saves.{taken_frame}
 use Rattle.zrule.specs.Claims.{Claims, entry_of}
 use Rattle.zrule.specs.Described.{Fits, FitsWith}
 use Rattle.zjudge.proofs.Zips.{At, reversed_where, zip_reversed, zip_where}
+
+-- no answer is both
+pub no_and_yes : (b : Bool) → b ≡ false → b ≡ true → ⊥
+no_and_yes b isnt is = let clash : false ≡ true = sym isnt ∙ is in absurd cc
 
 module _ {V : Type 0} (o : SetOperations V) (claims : Claims V) (i : Listed V) (f : SavedFrame) where
   pub fits_where : (AllZip (In o) i.locals f.locals × AllZip (In o) i.slots f.stack) ↔ Fits o claims (entry_of i).shape (taken_frame f).locals (taken_frame f).stack
@@ -84,6 +88,10 @@ module _ {V : Type 0} (o : SetOperations V) (claims : Claims V) (i : Listed V) (
           λ both x member. (omega (arith, few), takes x (both.0 x member), both.1),
           λ all. (λ x member. taken x (all x member).1, (all some.0 some.1).2),
         )
+
+  -- of the same variable
+  pub with_same : (values : V) (b : Bool) (v w : ℕ) → w ≡ v → IsTrue b ↔ ((x : ℕ) → In o values x → FitsWith o claims v x (entry_of i).shape (taken_frame f)) → IsTrue b ↔ ((x : ℕ) → In o values x → FitsWith o claims w x (entry_of i).shape (taken_frame f))
+  with_same values b v w same told = subst (λ (n : ℕ). IsTrue b ↔ ((x : ℕ) → In o values x → FitsWith o claims n x (entry_of i).shape (taken_frame f))) (sym same) told
 
   -- ---- one word of some, whichever value is put in the place of another
 
