@@ -146,9 +146,19 @@ fn fits_with<V: Spelled>(
     if variable == 0 {
         fits_pushed(&caller.listed, caller.frame, values)
     } else if variable < FIRST_GLOBAL {
-        fits_stored(&caller.listed, caller.frame, usize::from(variable) - 1, values)
+        fits_stored(
+            &caller.listed,
+            caller.frame,
+            usize::from(variable) - 1,
+            values,
+        )
     } else {
-        fits_beside(certificate, caller, usize::from(variable - FIRST_GLOBAL), values)
+        fits_beside(
+            certificate,
+            caller,
+            usize::from(variable - FIRST_GLOBAL),
+            values,
+        )
     }
 }
 
@@ -168,11 +178,7 @@ fn fits_beside<V: Spelled>(
 }
 
 /// Whether a frame fits with any value of a set on top of its stack.
-fn fits_pushed<V: Spelled>(
-    listed: &Instruction<'_, V>,
-    frame: SavedFrame<'_>,
-    values: V,
-) -> bool
+fn fits_pushed<V: Spelled>(listed: &Instruction<'_, V>, frame: SavedFrame<'_>, values: V) -> bool
     ensures low { IsTrue result → length (words_of frame.entry.stack.now) ≤ length listed.now.slots.now }
     ensures value { (certificate : ACertificate V) → IsTrue result ↔ ((x : ℕ) → In V.operations values x → FitsWith V.operations (claims_of V.operations certificate) 0 x (entry_of (seen listed.now)).shape (taken_frame (seen_frame frame.entry))) }
 {

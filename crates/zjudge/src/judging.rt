@@ -81,5 +81,12 @@ fn are_known<V: Spelled>(story: &Story, certificate: &Certificate<V>, view: &Sav
 {
     let _loaded = story.memory();
     let _globals = certificate.globals();
-    let _saved = view.memory();
+    are_bytes(view.memory());
+}
+
+/// A slice of bytes has bytes alone.
+fn are_bytes(memory: &[u8])
+    ensures { AreBytes memory.now }
+{
+    let _length = memory.len();
 }

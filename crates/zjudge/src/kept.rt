@@ -70,7 +70,12 @@ fn are_entries_kept(story: &Story, saved: &[u8]) -> bool
     ensures { IsTrue result ↔ AreKept story.now saved.now (IsWithin (object_table story.now) (62 + 9 * story.now.objects)) }
 {
     let entries = OBJECT_ENTRY_LENGTH * usize::from(story.objects());
-    are_kept(story, saved, story.object_table(), DEFAULTS_LENGTH + entries)
+    are_kept(
+        story,
+        saved,
+        story.object_table(),
+        DEFAULTS_LENGTH + entries,
+    )
 }
 
 /// Whether what the property tables of all objects are beside their data is.

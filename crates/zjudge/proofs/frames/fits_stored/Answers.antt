@@ -17,7 +17,7 @@ returns-then-are_in_with-clause-value g c certificate =
     let stored = stored_where o (claims_of o certificate) (seen c.args.listed.now) (seen_frame c.args.frame) c.args.values c.has_word.ensures c.args.local c.requires in
     let counted = c.word_count.ensures in
     let first : (c.args.local < length ws) × ((x : ℕ) → In o c.args.values x → AllZip (In o) c.args.listed.now.locals.now (slice_set ws c.args.local x)) = elim c.if-local-word_count.branch [
-      then-local-word_count w ↦ (let below = w.if-local-word_count.true in omega (arith, below, counted), w.are_in_with.ensures.0 (sym w.value-is ∙ c.if-are_in_with.true))
+      | then-local-word_count w ↦ (let below = w.if-local-word_count.true in omega (arith, below, counted), w.are_in_with.ensures.0 (sym w.value-is ∙ c.if-are_in_with.true))
       | else-local-word_count w ↦ absurd (let low = ltb-true c.args.local c.word_count.result (sym w.value-is ∙ c.if-are_in_with.true) in let above = w.if-local-word_count.false in omega (arith, low, above))
     ] in
     (λ t. stored.0 (first.0, first.1, c.are_in.ensures.value.0 t), λ all. c.are_in.ensures.value.1 (stored.1 all).2)
@@ -29,7 +29,7 @@ returns-else-are_in_with-clause-value g c certificate =
     let stored = stored_where o (claims_of o certificate) (seen c.args.listed.now) (seen_frame c.args.frame) c.args.values c.has_word.ensures c.args.local c.requires in
     let counted = c.word_count.ensures in
     let back : c.args.local < length ws → ((x : ℕ) → In o c.args.values x → AllZip (In o) c.args.listed.now.locals.now (slice_set ws c.args.local x)) → c.if-local-word_count.value ≡ true = λ low locals. elim c.if-local-word_count.branch [
-      then-local-word_count w ↦ w.value-is ∙ w.are_in_with.ensures.1 locals
+      | then-local-word_count w ↦ w.value-is ∙ w.are_in_with.ensures.1 locals
       | else-local-word_count w ↦ absurd (let above = w.if-local-word_count.false in omega (arith, above, low, counted))
     ] in
     (λ t. absurd (no_and_yes c.if-local-word_count.value c.if-are_in_with.false t), λ all. back (stored.1 all).0 (stored.1 all).1)

@@ -15,8 +15,7 @@ pub returns-then-not-is_described-clause-value : goal.returns-then-not-is_descri
 returns-then-not-is_described-clause-value g c = λ s held.
     let yes : saves (fetch (scope_only c.args.listing.now) (save_place c.args.view.now) c.args.story.now.memory) ≡ true = search rules in
     let some : 1 ≤ c.args.view.now.place = search (rules, arith) in
-    let where_described = judged_described g.V.Domain.operations (claims_of g.V.Domain.operations c.args.certificate.now) c.args.story.now c.are_known.ensures.sound c.are_known.ensures.counted c.are_known.ensures.globals c.args.listing.now c.args.view.now c.requires.saved c.are_known.ensures.bytes c.requires.fixed s held some in
-    (
+    let where_described = judged_described g.V.Domain.operations (claims_of g.V.Domain.operations c.args.certificate.now) c.args.story.now c.are_known.ensures.sound c.are_known.ensures.counted c.are_known.ensures.globals c.args.listing.now c.args.view.now c.requires.saved c.are_known.ensures.bytes c.requires.fixed s held some in (
       judged_there g.V.Domain.operations (claims_of g.V.Domain.operations c.args.certificate.now) c.args.story.now c.are_known.ensures.sound c.are_known.ensures.counted c.are_known.ensures.globals c.args.listing.now c.args.view.now c.requires.saved c.are_known.ensures.bytes c.requires.fixed s held yes,
       λ d. let both = where_described.1 d in search (rules, both),
     )
@@ -25,8 +24,7 @@ pub returns-clause-value : goal.returns-clause-value
 returns-clause-value g c = λ s held.
     let yes : saves (fetch (scope_only c.args.listing.now) (save_place c.args.view.now) c.args.story.now.memory) ≡ true = search rules in
     let some : 1 ≤ c.args.view.now.place = search (rules, arith) in
-    let where_described = judged_described g.V.Domain.operations (claims_of g.V.Domain.operations c.args.certificate.now) c.args.story.now c.are_known.ensures.sound c.are_known.ensures.counted c.are_known.ensures.globals c.args.listing.now c.args.view.now c.requires.saved c.are_known.ensures.bytes c.requires.fixed s held some in
-    (
+    let where_described = judged_described g.V.Domain.operations (claims_of g.V.Domain.operations c.args.certificate.now) c.args.story.now c.are_known.ensures.sound c.are_known.ensures.counted c.are_known.ensures.globals c.args.listing.now c.args.view.now c.requires.saved c.are_known.ensures.bytes c.requires.fixed s held some in (
       judged_there g.V.Domain.operations (claims_of g.V.Domain.operations c.args.certificate.now) c.args.story.now c.are_known.ensures.sound c.are_known.ensures.counted c.are_known.ensures.globals c.args.listing.now c.args.view.now c.requires.saved c.are_known.ensures.bytes c.requires.fixed s held yes,
       where_described.0 (search rules),
     )
