@@ -1,3 +1,4 @@
 pub mod Accepting
 pub mod Playing
+pub mod Resumed
 mod Worked

@@ -1,5 +1,5 @@
 -- The session, as contracts see it.
-use Rattle.std.specs.Prelude.{ℕ, List, Option, Some, None, Result, Ok, drop}
+use Rattle.std.specs.Prelude.{◌≡◌, ◌⊎◌, ℕ, List, Option, Some, None, Result, Ok, Err, drop}
 use Rattle.zcode.specs.declared.error.DecodeError.{DecodeError}
 use Rattle.zcode.specs.declared.operation.Operation.{Operation}
 use Rattle.zcode.specs.declared.operation.Operation.TheVariants.{Jump}
@@ -12,6 +12,9 @@ use Rattle.zcert.specs.Listed.{listed_at}
 use Rattle.zdomain.specs.declared.interval.Interval.{Interval}
 use Rattle.zdomain.specs.Domain.{SetOperations}
 use Rattle.zflow.specs.Transfer.{read_set}
+use Rattle.zquetzal.specs.declared.error.SaveError.{SaveError}
+use Rattle.zquetzal.specs.declared.error.SaveError.TheVariants as errors
+use Rattle.zstate.specs.Saves.{restoring}
 use Rattle.zstate.specs.State.{State, Setting, opening, scope_only, usual_limit}
 use Rattle.zboard.specs.declared.row.Row.{Row}
 use Rattle.zboard.specs.declared.board.Board.{Board}
@@ -39,6 +42,12 @@ setting_of a = record { story = a.story; scope = scope_only a.listing; limit = u
 
 abbrev pub setting : {V : Type 0} → PlayingOver V → Setting
 setting p = setting_of p.accepted
+
+-- why a save is refused: play can't go on from it, for that reason, or only in a state that isn't described
+abbrev pub IsRefusedSave : {V : Type 0} → SetOperations V → PlayingOver V → List ℕ → SaveError → Type 0
+IsRefusedSave o p bytes e =
+    (restoring (setting p) bytes p.state ≡ Err e)
+    ⊎ ((e ≡ errors.NotDescribed) × (t : State) × (restoring (setting p) bytes p.state ≡ Ok t) × (Described o (claims o p.accepted) usual_limit p.accepted.story t → ⊥))
 
 -- ---- the board that it is played on
 

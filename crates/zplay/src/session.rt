@@ -1,30 +1,36 @@
 //! The session.
 
-ghost use Rattle.std.specs.Prelude.{◌≡◌, ◌≤◌, ◌+◌, ℕ, List, [], Ok, Some, IfOk, OnErr, IsTrue};
+ghost use Rattle.std.specs.Prelude.{◌≡◌, ◌≤◌, ◌+◌, ℕ, List, [], Ok, Some, IfErr, IfOk, OnErr, OnOk, IsTrue};
 ghost use Rattle.zfault.specs.Answers.{answers};
 ghost use Rattle.zstate.specs.declared.halt.Stop.TheVariants.{Paused};
-ghost use Rattle.zstate.specs.State.{opening, give};
+ghost use Rattle.zstate.specs.State.{opening, give, usual_limit};
 ghost use Rattle.zstate.specs.Run.{awaited, run, Ends, GivesOut, Input, Makes, Stands};
-ghost use Rattle.zrule.specs.Described.{AreFine, IsNoFault};
+ghost use Rattle.zfault.specs.declared.pause.Need.TheVariants.{Saved as ASave, Restore as ARestore};
+ghost use Rattle.zquetzal.specs.Grammar.{save_text};
+ghost use Rattle.zquetzal.specs.Saved.{origin_of};
+ghost use Rattle.zstate.specs.Saves.{restoring, saved_of};
+ghost use Rattle.zrule.specs.Described.{AreFine, Described, IsNoFault};
 ghost use Rattle.zplay.specs.Accepted.{IsAccepted, claims};
 ghost use Rattle.zboard.specs.Play.{state_in};
 ghost use Rattle.zboard.specs.Head.{Head};
 ghost use Rattle.zboard.specs.Position.{with_outside};
 ghost use Rattle.zboard.specs.View.{position_of};
 ghost use Rattle.zboard.specs.declared.row.Row.{Row as ARow};
-ghost use Rattle.zplay.specs.Session.{game_of, setting, IsInPlay};
+ghost use Rattle.zplay.specs.Session.{game_of, setting, IsInPlay, IsRefusedSave};
 
 use crate::rows::{callees_of, rows_of};
 use std::alloc::{AllocError, Global};
 use std::marker::Model;
-use zboard::{Board, Callee, Outside, Row, awaits, play};
+use zboard::{Board, Callee, Outside, Row, SavedBoard, awaits, play};
 use zcert::Spelled;
 use zcheck::Accepted;
 use zdomain::Interval;
 use zfault::{Event, Items, Need, Pause};
 use zframe::Frames;
+use zjudge::judge_save;
+use zquetzal::{SaveError, read, write};
 use zrule::each_step_is_safe;
-use zstate::RandomMode;
+use zstate::{RandomMode, saves_are_states};
 
 /// How many frames may stand above the first (own).
 const FRAME_LIMIT: u16 = 1024;
@@ -189,6 +195,51 @@ impl<'a, V: Spelled> Session<'a, V> {
         self.board = Some(played.board);
         *left = played.left;
         played.outcome
+    }
+
+    /// The bytes of a save of the state, in which a save is awaited (Z 15 save, Q 3 to 6). Want of memory is the only error.
+    pub fn save_bytes(&self, alloc: Global) -> Result<Vec<u8>, AllocError>
+        requires { awaited (setting self.now) self.now.state ≡ Some ASave }
+        ensures { IfOk result (λ save. save.items ≡ save_text (origin_of self.now.accepted.story) (saved_of self.now.accepted.story self.now.state)) }
+    {
+        saves_are_states();
+        let parts = SavedBoard::new(
+            self.accepted.story(),
+            self.accepted.listing(),
+            self.board(),
+        );
+        write(alloc, &parts)
+    }
+
+    /// Goes on from the bytes of a save, where one is awaited (Z 15 restore). All of the save is judged before any of it is taken over,
+    /// and memory isn't asked for: an error changes nothing.
+    ///
+    /// # Errors
+    ///
+    /// The lowest that refuses the save: what `zquetzal::read` says of the bytes, `Place` where no `save` is listed before the save's
+    /// place, `NotDescribed` where the certificate doesn't describe the state in which play would go on.
+    pub fn restore(&mut self, save: &[u8]) -> Result<(), SaveError>
+        requires { awaited (setting self.old) self.old.state ≡ Some ARestore }
+        ensures play { self.new.accepted ≡ self.old.accepted }
+        ensures ok { OnOk result ((restoring (setting self.old) save.now self.old.state ≡ Ok self.new.state) × Described V.operations (claims V.operations self.old.accepted) usual_limit self.old.accepted.story self.new.state) }
+        ensures same { OnErr result (self.new ≡ self.old) }
+        ensures refused { IfErr result (IsRefusedSave V.operations self.old save.now) }
+    {
+        let accepted = self.accepted;
+        known_of(accepted);
+        let view = read(accepted.story(), save)?;
+        judge_save(
+            accepted.story(),
+            accepted.certificate(),
+            accepted.listing(),
+            &view,
+        )?;
+        let Some(mut board) = self.board.take() else {
+            unreachable!()
+        };
+        board.resume(accepted.story(), accepted.listing(), &view);
+        self.board = Some(board);
+        Ok(())
     }
 
     /// The law of sessions: no run from here meets a fault, whatever the events and however many the steps, as long as each save leads
