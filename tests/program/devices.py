@@ -75,6 +75,8 @@ def see_saves(devices, count, words):
     count.is_answer(f"{' '.join(play)}", ample, Answer(0, b"", b"end: budget\n"))
     last = max(index for index, call in enumerate(calls, 1) if call[0] == "open")
     for number, call in enumerate(calls, 1):
+        if call[:2] == ("write", "2"):
+            continue
         answer, made = devices.run(play, files, {"FAIL": number, "ERROR": errno.EIO})
         told = ample if number >= last else Answer(0, b"", b"")
         wanted = Answer(4, b"", b"failed: file\n") if number <= before else told
