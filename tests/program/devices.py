@@ -12,6 +12,7 @@ import tempfile
 
 from program import Answer, Count, Program
 from samples import HELLO, QUIT, certificate, printed, story
+from saves import SAVES, SAVES_LISTED
 
 HERE = os.path.dirname(os.path.abspath(__file__))
 
@@ -63,6 +64,25 @@ def see_each(devices, count, words, files, settings):
     return ample
 
 
+def see_saves(devices, count, words):
+    """Has each call fail of a story that saves, and then goes on from its save five times. One that has to do with the save is told to the
+    story, which quits; but at the last of its restores no step of the budget is left."""
+    files = {"story": SAVES, "certificate": SAVES_LISTED}
+    _, reading = devices.run(["play", "--budget", "0", *words], files, {})
+    before = sum(call[:2] != ("write", "2") for call in reading)
+    play = ["play", "--budget", "5", "--save", "kept", *words]
+    ample, calls = devices.run(play, files, {})
+    count.is_answer(f"{' '.join(play)}", ample, Answer(0, b"", b"end: budget\n"))
+    last = max(index for index, call in enumerate(calls, 1) if call[0] == "open")
+    for number, call in enumerate(calls, 1):
+        if call[:2] == ("write", "2"):
+            continue
+        answer, made = devices.run(play, files, {"FAIL": number, "ERROR": errno.EIO})
+        told = ample if number >= last else Answer(0, b"", b"")
+        wanted = Answer(4, b"", b"failed: file\n") if number <= before else told
+        count.is_answer(f"{' '.join(play)} with call {number} failing, {call}, calls {made[number - 1:]}", answer, wanted)
+
+
 def main():
     program = Program(sys.argv[1])
     count = Count("devices")
@@ -76,6 +96,8 @@ def main():
                 see_each(devices, count, words, files, settings)
             for words in (["--help"], ["--version"], ["play"], ["list"], ["check", "story", "story"]):
                 see_each(devices, count, words, files, settings)
+        see_saves(devices, count, ["story"])
+        see_saves(devices, count, ["story", "certificate"])
         # a byte a call: the text is whole, and each beginning of it is met
         ample = see_each(devices, count, ["check", "story", "certificate"], files, {"SHORT": 400})
         count.is_answer("reading by 400 bytes", ample, Answer(0, b"accepted\n", b""))

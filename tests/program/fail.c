@@ -71,3 +71,13 @@ ssize_t write(int file, const void *from, size_t count)
 {
     return fails("write", file) ? -1 : (ssize_t)syscall(SYS_write, file, from, cut(count));
 }
+
+int fsync(int file)
+{
+    return fails("fsync", file) ? -1 : (int)syscall(SYS_fsync, file);
+}
+
+int rename(const char *from, const char *to)
+{
+    return fails("rename", 3) ? -1 : (int)syscall(SYS_renameat, AT_FDCWD, from, AT_FDCWD, to);
+}

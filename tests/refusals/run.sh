@@ -13,6 +13,20 @@ for name, contents in files(deep(3), [LEVELS]).items():
     with open(f"{sys.argv[1]}/{name}", "wb") as file:
         file.write(contents)
 ' "$work") || exit 1
+# A story that saves, one that restores, a save of that, and their certificates.
+(cd "$here/../program" && python3 -c '
+import sys
+import saves
+for name, contents in (
+    ("saves", saves.QUITS), ("saves.cert", saves.QUITS_LISTED),
+    ("restores", saves.RESTORES), ("restores.cert", saves.RESTORES_LISTED), ("kept", saves.ITS_SAVE),
+):
+    with open(f"{sys.argv[1]}/{name}", "wb") as file:
+        file.write(contents)
+' "$work") || exit 1
+
+# what a play prints besides, where memory to read a save was refused: that is a failure of the store, which the story is told
+unrestored=
 
 # answer NAME SETTINGS WORD..: the status, output and errors of a run, in files of that name. The settings are of the
 # program's environment alone.
@@ -42,6 +56,8 @@ refuse_each() {
         if cmp -s "$work/ample.status" "$work/refused.status" && cmp -s "$work/ample.out" "$work/refused.out" && cmp -s "$work/ample.err" "$work/refused.err"; then
             passed=$((passed + 1))
         elif [ "$(cat "$work/refused.status")" = 4 ] && [ "$(cat "$work/refused.err")" = "failed: memory" ] && is_beginning "$work/refused.out" "$work/ample.out"; then
+            passed=$((passed + 1))
+        elif [ -n "$unrestored" ] && [ "$(cat "$work/refused.status")" = 0 ] && [ "$(cat "$work/refused.out")" = "$unrestored" ] && [ ! -s "$work/refused.err" ]; then
             passed=$((passed + 1))
         else
             failed=$((failed + 1))
@@ -76,6 +92,12 @@ refuse_each play "$work/story"
 refuse_each play "$work/story" "$work/certificate"
 refuse_each check "$work/story" "$work/certificate"
 refuse_each list "$work/story"
+refuse_each play --save "$work/new" "$work/saves"
+refuse_each play --save "$work/new" "$work/saves" "$work/saves.cert"
+unrestored=0
+refuse_each play --save "$work/kept" "$work/restores"
+refuse_each play --save "$work/kept" "$work/restores" "$work/restores.cert"
+unrestored=
 refuse_each play
 refuse_each check hello.z3
 refuse_each --help

@@ -64,7 +64,7 @@ impl Sink for Page {
     }
 }
 
-/// A store that no opcode of this build asks for a save.
+/// A store that says of each save that it keeps it, and gives an empty one.
 #[derive(Drop)]
 pub struct Nothing;
 

@@ -229,7 +229,15 @@ fn play_story<F: Files, R: Source, W: Sink>(
             let mut store = FileSaves::new(alloc, files, name);
             play_keeping(alloc, story, seed, options, &mut store, reader, writer)
         }
-        None => play_keeping(alloc, story, seed, options, &mut NoSaves::new(), reader, writer),
+        None => play_keeping(
+            alloc,
+            story,
+            seed,
+            options,
+            &mut NoSaves::new(),
+            reader,
+            writer,
+        ),
     }
 }
 
