@@ -1,19 +1,24 @@
 -- A session goes on from a save that was judged.
-use Rattle.std.proofs.Common.{◌≡◌, ◌⊎◌, inl, inr, ℕ, zero, suc, ◌+◌, ◌<◌, ◌≤◌, true, List, [], ◌∷◌, length, map, reverse, Option, Some, Result, Ok, Err, refl, sym, ap, subst, ◌∙◌, arith}
+use Rattle.std.proofs.Common.{◌≡◌, ◌⊎◌, inl, inr, ℕ, zero, suc, ◌+◌, ◌<◌, ◌≤◌, true, List, [], ◌∷◌, length, map, reverse, Option, Some, None, Result, Ok, Err, refl, sym, ap, subst, ◌∙◌, arith}
 use Rattle.std.specs.Prelude.{slice_get, nat_le}
 use Rattle.std.proofs.lemmas.Bool.Decides.{nat_tests}
 use Rattle.std.proofs.lemmas.List.{length-map}
 use Rattle.zstory.specs.LoadedStory.{LoadedStory, static_base}
 use Rattle.zlist.specs.declared.record.Record.{Record}
-use Rattle.zlist.specs.Listing.{is_listed}
+use Rattle.zlist.specs.Listing.{ListedCode, is_listed}
 use Rattle.zcert.specs.Format.{Format}
 use Rattle.zdomain.specs.Domain.{SetOperations, AreSound}
 use Rattle.zquetzal.specs.declared.error.SaveError.{SaveError}
 use Rattle.zquetzal.specs.declared.error.SaveError.TheVariants as errors
+use Rattle.zquetzal.specs.Reading.{reading}
 use Rattle.zquetzal.specs.Saved.{AreFrames, Saved}
+use Rattle.zjudge.specs.Judging.{IsJudged, listed_setting}
+use Rattle.zcert.specs.Certificate.{Certificate}
+use Rattle.zrule.specs.Claims.{claims_of}
 use Rattle.zframe.specs.Frames.{Frame}
-use Rattle.zstate.specs.State.{Frame as StateFrame, Setting, State, usual_limit}
-use Rattle.zstate.specs.Saves.{StatesAreSaved, resumed, save_place, taken_frame, with_frames}
+use Rattle.zstate.specs.State.{Frame as StateFrame, IsState, Setting, State, usual_limit}
+use Rattle.zstate.specs.Saves.{StatesAreSaved, going_on, restoring, resumed, save_place, taken_frame, with_frames}
+use Rattle.zboard.specs.declared.board.Board.{Board}
 use Rattle.zboard.specs.declared.row.Row.{Row}
 use Rattle.zboard.specs.Deed.{deed_of}
 use Rattle.zboard.specs.Head.{Head}
@@ -30,7 +35,7 @@ use Rattle.zrule.specs.declared.rule.Rule.TheVariants as rules
 use Rattle.zrule.specs.Described.{Described}
 use Rattle.zcheck.specs.Acceptance.{AcceptanceOver}
 use Rattle.zplay.specs.Accepted.{IsAccepted, claims}
-use Rattle.zplay.specs.Session.{IsInPlay, game_of, setting_of}
+use Rattle.zplay.specs.Session.{IsInPlay, IsPlayed, IsRefusedSave, game_of, setting_of, stands_in}
 use Rattle.zplay.proofs.Accepting.{listed_each, supported}
 use Rattle.zrule.proofs.Stepping.{read_within}
 use Rattle.zplay.proofs.Playing.{always_met, judged_at, within_listing}
@@ -104,3 +109,36 @@ module _ {V : Type 0} (o : SetOperations V) (lawful : AreSound o) (format : Form
           };
           described = described;
         }
+
+-- ---- what is answered of a save
+
+-- a session stands in a described state
+pub described_in : {V : Type 0} (o : SetOperations V) (format : Format V) (a : AcceptanceOver V) (rows : List Row) (heads : List Head) (board : Option Board) → IsPlayed o format a rows heads board → Described o (claims o a) usual_limit a.story (stands_in o a board)
+described_in o format a rows heads None play = absurd play
+described_in o format a rows heads (Some board) play = play.described
+
+module _ {V : Type 0} (o : SetOperations V) (a : AcceptanceOver V) (s : State) (saved : Saved) (bytes : List ℕ) (is : reading a.story bytes ≡ Ok saved) where
+  pub refused_is : (e : SaveError) → IsJudged o (claims o a) {X = Unit {0}} (setting_of a) saved s (Err e) → IsRefusedSave o (record { accepted = a; state = s }) bytes e
+  refused_is errors.Place j = inl (rw is j)
+  refused_is errors.NotDescribed j = inr (refl, resumed a.story saved s, rw is j.0, j.1)
+  refused_is errors.NotForm j = absurd j
+  refused_is errors.Length j = absurd j
+  refused_is errors.ChunkMissing j = absurd j
+  refused_is errors.ChunkTwice j = absurd j
+  refused_is errors.Compressed j = absurd j
+  refused_is errors.OtherStory j = absurd j
+  refused_is errors.MemoryLength j = absurd j
+  refused_is errors.Frames j = absurd j
+  refused_is errors.OutOfMemory j = absurd j
+
+  -- where it was judged by what the session has
+  pub refused_by : (story : LoadedStory) (certificate : Certificate V) (listing : ListedCode) (e : SaveError) → story ≡ a.story → certificate ≡ a.certificate → listing ≡ a.listing → ((t : State) → IsState usual_limit story t → IsJudged o (claims_of o certificate) {X = Unit {0}} (listed_setting story listing) saved t (Err e)) → IsState usual_limit a.story s → IsRefusedSave o (record { accepted = a; state = s }) bytes e
+  refused_by story certificate listing e of_story of_certificate of_listing judged is_state =
+      let one = subst (λ (x : LoadedStory). (t : State) → IsState usual_limit x t → IsJudged o (claims_of o certificate) {X = Unit {0}} (listed_setting x listing) saved t (Err e)) of_story judged in
+      let two = subst (λ (x : Certificate V). (t : State) → IsState usual_limit a.story t → IsJudged o (claims_of o x) {X = Unit {0}} (listed_setting a.story listing) saved t (Err e)) of_certificate one in
+      let three = subst (λ (x : ListedCode). (t : State) → IsState usual_limit a.story t → IsJudged o (claims_of o a.certificate) {X = Unit {0}} (listed_setting a.story x) saved t (Err e)) of_listing two in
+      refused_is e (three s is_state)
+
+  -- play goes on from one that wasn't
+  pub restored_is : (t : State) → t ≡ resumed a.story saved s → going_on (setting_of a) saved s ≡ Ok (resumed a.story saved s) → restoring (setting_of a) bytes s ≡ Ok t
+  restored_is t same j = rw (is, same) j
