@@ -1,5 +1,5 @@
 -- Which bytes of a save are as loaded, part by part.
-use Rattle.std.proofs.Common.{◌≡◌, ◌↔◌, ◌⊎◌, inl, inr, ℕ, zero, suc, ◌+◌, ◌*◌, ◌-◌, ◌/◌, ◌<◌, ◌≤◌, Bool, true, false, List, [], ◌∷◌, length, Option, Some, None, refl, sym, subst, ◌∙◌, arith}
+use Rattle.std.proofs.Common.{◌≡◌, ◌↔◌, ◌⊎◌, inl, inr, ℕ, zero, suc, ◌+◌, ◌*◌, ◌-◌, ◌/◌, ◌<◌, ◌≤◌, Bool, true, false, List, [], ◌∷◌, length, Option, Some, None, refl, sym, subst, arith}
 use Rattle.std.specs.Prelude.{All, nat_le, ◌&&◌, ◌||◌, ◌≢◌, slice_get, slice_index_or}
 use Rattle.std.specs.List.{list_any, AllByRecursion}
 use Rattle.std.proofs.lemmas.Bool.{cases_lt, leb-true, le-leb}
@@ -84,10 +84,6 @@ module _ (story : LoadedStory) (saved : List ℕ) where
       by_order : (p < at) ⊎ (at ≤ p) → IsKept story saved p
       by_order (inl l) = each p low l
       by_order (inr g) = let same : at ≡ p = omega (arith, g, high) in subst (IsKept story saved) same next
-
-  -- all of them, where those below static memory are
-  pub run_whole : (from size : ℕ) → ((p : ℕ) → from ≤ p → p < from + size → p < static_base story → IsKept story saved p) → AreKept story saved (IsWithin from size)
-  run_whole from size each p inside above below = each p inside.0 inside.1 below above below
 
   pub sizes_more : (at end : ℕ) → byte_at story.memory at ≢ 0 → end ≡ data_end story.memory at → at < length story.memory → AreKept story saved (λ p. IsSizePlace story.memory p at) ↔ (IsKept story saved at × AreKept story saved (λ p. IsSizePlace story.memory p end))
   sizes_more at end some is inside = (

@@ -1,19 +1,18 @@
 -- What is asked of a frame, by its words as a save and sets as a certificate have them: the bottom first.
-use Rattle.std.proofs.Common.{◌≡◌, ◌↔◌, ◌⊎◌, inl, inr, ℕ, zero, suc, ◌+◌, ◌-◌, ◌<◌, ◌≤◌, nat_lt, Bool, true, false, List, [], ◌∷◌, ◌++◌, length, reverse, Option, Some, None, refl, sym, ap, subst, ◌∙◌, arith, slice_set}
+use Rattle.std.proofs.Common.{◌≡◌, ◌↔◌, ℕ, ◌+◌, ◌-◌, ◌<◌, ◌≤◌, nat_lt, Bool, true, false, List, [], ◌∷◌, ◌++◌, length, reverse, Option, Some, refl, sym, ap, subst, ◌∙◌, arith, slice_set}
 use Rattle.std.specs.Prelude.{◌==◌, IsTrue, MatchOption, slice_get, slice_index}
 use Rattle.std.specs.Bool.{MatchBool}
 use Rattle.std.specs.List.{AllZip}
 use Rattle.std.specs.Option.{IsSomeAnd}
 use Rattle.std.proofs.lemmas.Bool.{eqb-true, ltb-false, ltb-true}
-use Rattle.std.proofs.lemmas.List.{get_or-set_other, get_or-set_same, length-set, reverse-append}
+use Rattle.std.proofs.lemmas.List.{get_or-set_other, get_or-set_same, reverse-append}
 use Rattle.zcert.specs.Certificate.{Instruction as Listed}
 use Rattle.zdomain.specs.Domain.{SetOperations, In, Within}
 use Rattle.zquetzal.specs.Saved.{Frame as SavedFrame}
-use Rattle.zstate.specs.State.{Frame}
 use Rattle.zstate.specs.Saves.{taken_frame}
 use Rattle.zrule.specs.Claims.{Claims, entry_of}
 use Rattle.zrule.specs.Described.{Fits, FitsWith}
-use Rattle.zjudge.proofs.Zips.{At, reversed_where, zip_reversed, zip_where}
+use Rattle.zjudge.proofs.Zips.{At, reversed_where, zip_reversed}
 
 -- no answer is both
 pub no_and_yes : (b : Bool) → b ≡ false → b ≡ true → ⊥

@@ -1,15 +1,11 @@
 -- Frames judged one after another.
-use Rattle.std.proofs.Common.{◌≡◌, ◌↔◌, ℕ, ◌≤◌, List, [], ◌∷◌, length, Option, Some, None, refl, sym, subst, ◌∙◌}
-use Rattle.std.specs.Prelude.{map, option_map}
-use Rattle.std.specs.List.{AllByRecursion}
+use Rattle.std.proofs.Common.{◌≡◌, ◌↔◌, ℕ, List, [], ◌∷◌, Option, Some, sym, subst, ◌∙◌}
 use Rattle.std.proofs.lemmas.Option.{same_Some}
 use Rattle.zdomain.specs.Domain.{SetOperations}
-use Rattle.zquetzal.specs.Saved.{Frame as SavedFrame}
 use Rattle.zstate.specs.State.{Frame}
-use Rattle.zstate.specs.Saves.{taken_frame}
 use Rattle.zrule.specs.Claims.{Entry, Claims}
 use Rattle.zrule.specs.Described.{Fits}
-use Rattle.zjudge.specs.Frames.{AreDescribed, AreDescribedFrom, GoesOnAt, Waiting}
+use Rattle.zjudge.specs.Frames.{AreDescribedFrom, GoesOnAt, Waiting}
 
 module _ {V : Type 0} (o : SetOperations V) (claims : Claims V) (below : Option (Waiting V)) (f : Frame) where
   same_entry : (place : ℕ) (e d : Entry V) → GoesOnAt o claims below f place e → GoesOnAt o claims below f place d → d ≡ e
