@@ -1,15 +1,15 @@
 -- Frames judged from the oldest up are frames described from the newest down.
-use Rattle.std.proofs.Common.{◌≡◌, ◌↔◌, ℕ, ◌≤◌, List, [], ◌∷◌, ◌++◌, Option, Some, None, refl, sym, ap, subst, ◌∙◌}
+use Rattle.std.proofs.Common.{◌≡◌, ◌↔◌, ℕ, List, [], ◌∷◌, ◌++◌, Option, Some, None, refl, sym, ap, subst, ◌∙◌}
 use Rattle.std.specs.Prelude.{map, reverse}
 use Rattle.std.proofs.lemmas.List.{append_assoc, reverse-append}
 use Rattle.std.proofs.lemmas.Option.{same_Some}
-use Rattle.zdomain.specs.Domain.{SetOperations, In}
+use Rattle.zdomain.specs.Domain.{SetOperations}
 use Rattle.zquetzal.specs.Saved.{Frame as SavedFrame}
 use Rattle.zstate.specs.State.{Frame, State}
 use Rattle.zstate.specs.Saves.{taken_frame, with_frames}
 use Rattle.zrule.specs.Claims.{Entry, Claims}
 use Rattle.zrule.specs.Described.{Callers, Fits, FitsWith}
-use Rattle.zjudge.specs.Frames.{AreDescribed, AreDescribedFrom, GoesOnAt, IsCalled, Waiting}
+use Rattle.zjudge.specs.Frames.{AreDescribed, AreDescribedFrom, IsCalled, Waiting}
 
 -- the newest frame and its callers, of a frame that stands above some, with others above it
 abbrev pub stacked : Frame → List Frame → List Frame → Frame × List Frame

@@ -1,8 +1,8 @@
 -- Which bytes of a save are as loaded, part by part.
-use Rattle.std.proofs.Common.{◌≡◌, ◌↔◌, ◌⊎◌, inl, inr, ℕ, zero, suc, ◌+◌, ◌*◌, ◌-◌, ◌/◌, ◌<◌, ◌≤◌, Bool, true, false, List, [], ◌∷◌, length, Option, Some, None, refl, sym, subst, ◌∙◌, arith}
-use Rattle.std.specs.Prelude.{All, nat_le, ◌&&◌, ◌||◌, ◌≢◌, slice_get, slice_index_or}
+use Rattle.std.proofs.Common.{◌≡◌, ◌↔◌, ◌⊎◌, inl, inr, ℕ, zero, suc, ◌+◌, ◌*◌, ◌-◌, ◌/◌, ◌<◌, ◌≤◌, Bool, true, false, List, [], ◌∷◌, length, Option, Some, None, refl, sym, subst, arith}
+use Rattle.std.specs.Prelude.{All, ◌||◌, ◌≢◌, slice_get, slice_index_or}
 use Rattle.std.specs.List.{list_any, AllByRecursion}
-use Rattle.std.proofs.lemmas.Bool.{cases_lt, leb-true, le-leb}
+use Rattle.std.proofs.lemmas.Bool.{cases_lt}
 use Rattle.std.proofs.lemmas.Option.{get_or_from_slice_get, same_Some, slice_get_within}
 use Rattle.zstory.specs.Bytes.{byte_at}
 use Rattle.zstory.specs.LoadedStory.{LoadedStory, object_table, static_base, abbreviations}
@@ -18,9 +18,6 @@ use Rattle.zjudge.specs.Parts.{IsInText, IsLedTo, IsRangeKept}
 
 pub through : {A B C : Type 0} → A ↔ B → B ↔ C → A ↔ C
 through f g = (λ a. g.0 (f.0 a), λ c. f.1 (g.1 c))
-
-pub flipped : {A B : Type 0} → A ↔ B → B ↔ A
-flipped f = (f.1, f.0)
 
 -- ---- of one more
 
@@ -84,10 +81,6 @@ module _ (story : LoadedStory) (saved : List ℕ) where
       by_order : (p < at) ⊎ (at ≤ p) → IsKept story saved p
       by_order (inl l) = each p low l
       by_order (inr g) = let same : at ≡ p = omega (arith, g, high) in subst (IsKept story saved) same next
-
-  -- all of them, where those below static memory are
-  pub run_whole : (from size : ℕ) → ((p : ℕ) → from ≤ p → p < from + size → p < static_base story → IsKept story saved p) → AreKept story saved (IsWithin from size)
-  run_whole from size each p inside above below = each p inside.0 inside.1 below above below
 
   pub sizes_more : (at end : ℕ) → byte_at story.memory at ≢ 0 → end ≡ data_end story.memory at → at < length story.memory → AreKept story saved (λ p. IsSizePlace story.memory p at) ↔ (IsKept story saved at × AreKept story saved (λ p. IsSizePlace story.memory p end))
   sizes_more at end some is inside = (
@@ -171,10 +164,6 @@ module _ (story : LoadedStory) (saved : List ℕ) where
 
   -- ---- ranges
 
-  and_true : (a b : Bool) → (a && b) ≡ true → (a ≡ true) × (b ≡ true)
-  and_true true b e = (refl, e)
-  and_true false b e = absurd cc
-
   or_left : (a b : Bool) → a ≡ true → (a || b) ≡ true
   or_left true b e = refl
   or_left false b e = absurd cc
@@ -185,18 +174,6 @@ module _ (story : LoadedStory) (saved : List ℕ) where
 
   none_in : (p : ℕ) → list_any (is_inside p) [] ≡ true → ⊥
   none_in p e = cc
-
-  inside_where : (range : Range) (p : ℕ) → (is_inside p range ≡ true) ↔ ((range.first ≤ p) × (p ≤ range.last))
-  inside_where range p = (
-    λ e. let both = and_true (nat_le range.first p) (nat_le p range.last) e in (leb-true range.first p both.0, leb-true p range.last both.1),
-    λ within. let a = le-leb range.first p within.0 in let b = le-leb p range.last within.1 in rw (a, b) refl,
-  )
-
-  pub range_where : (range : Range) → AreKept story saved (IsWithin range.first (range.last + 1 - range.first)) ↔ IsRangeKept story saved range
-  range_where range = (
-    λ all. record { kept = λ p e. let w = (inside_where range p).0 e in all p (w.0, omega (arith, w.0, w.1)) },
-    λ all p w. all.kept p ((inside_where range p).1 (w.0, omega (arith, w.0, w.1))),
-  )
 
   each_range : (ranges : List Range) → AllByRecursion (IsRangeKept story saved) ranges ↔ AreKept story saved (λ p. list_any (is_inside p) ranges ≡ true)
   each_range [] = (λ t p e. absurd (none_in p e), λ all. tt)

@@ -1,19 +1,17 @@
 -- What is asked of a frame, by its words as a save and sets as a certificate have them: the bottom first.
-use Rattle.std.proofs.Common.{◌≡◌, ◌↔◌, ◌⊎◌, inl, inr, ℕ, zero, suc, ◌+◌, ◌-◌, ◌<◌, ◌≤◌, nat_lt, Bool, true, false, List, [], ◌∷◌, ◌++◌, length, reverse, Option, Some, None, refl, sym, ap, subst, ◌∙◌, arith, slice_set}
-use Rattle.std.specs.Prelude.{◌==◌, IsTrue, MatchOption, slice_get, slice_index}
+use Rattle.std.proofs.Common.{◌≡◌, ◌↔◌, ℕ, ◌+◌, ◌-◌, ◌<◌, ◌≤◌, nat_lt, Bool, true, false, List, [], ◌∷◌, ◌++◌, length, reverse, Option, Some, refl, sym, ap, subst, ◌∙◌, arith, slice_set}
+use Rattle.std.specs.Prelude.{◌==◌, IsTrue, MatchOption, slice_get}
 use Rattle.std.specs.Bool.{MatchBool}
 use Rattle.std.specs.List.{AllZip}
-use Rattle.std.specs.Option.{IsSomeAnd}
 use Rattle.std.proofs.lemmas.Bool.{eqb-true, ltb-false, ltb-true}
-use Rattle.std.proofs.lemmas.List.{get_or-set_other, get_or-set_same, length-set, reverse-append}
+use Rattle.std.proofs.lemmas.List.{reverse-append}
 use Rattle.zcert.specs.Certificate.{Instruction as Listed}
 use Rattle.zdomain.specs.Domain.{SetOperations, In, Within}
 use Rattle.zquetzal.specs.Saved.{Frame as SavedFrame}
-use Rattle.zstate.specs.State.{Frame}
 use Rattle.zstate.specs.Saves.{taken_frame}
 use Rattle.zrule.specs.Claims.{Claims, entry_of}
 use Rattle.zrule.specs.Described.{Fits, FitsWith}
-use Rattle.zjudge.proofs.Zips.{At, reversed_where, zip_reversed, zip_where}
+use Rattle.zjudge.proofs.Zips.{reversed_where, zip_reversed}
 
 -- no answer is both
 pub no_and_yes : (b : Bool) → b ≡ false → b ≡ true → ⊥
@@ -42,10 +40,6 @@ module _ {V : Type 0} (o : SetOperations V) (claims : Claims V) (i : Listed V) (
         back all =
             let parts : (x : ℕ) → In o values x → In o top x × AllZip (In o) (reverse slots) (reverse f.stack) = λ x member. subst (λ (vs : List V). AllZip (In o) vs (x ∷ reverse f.stack)) turned (all x member).in_slots in
             (λ x member. (parts x member).0, (reversed_where (In o) slots f.stack).1 (parts some.0 some.1).1, (all some.0 some.1).in_locals)
-
-    -- where no slot takes it
-    pub none_pushed : i.slots ≡ [] → ((x : ℕ) → In o values x → FitsWith o claims 0 x (entry_of i).shape (taken_frame f)) → ⊥
-    none_pushed is all = subst (λ (vs : List V). AllZip (In o) (reverse vs) (some.0 ∷ reverse f.stack)) is (all some.0 some.1).in_slots
 
     -- in the place of a local
     pub stored_where : (local : ℕ) → local < 15 → ((local < length f.locals) × ((x : ℕ) → In o values x → AllZip (In o) i.locals (slice_set f.locals local x)) × AllZip (In o) i.slots f.stack) ↔ ((x : ℕ) → In o values x → FitsWith o claims (local + 1) x (entry_of i).shape (taken_frame f))
@@ -92,30 +86,3 @@ module _ {V : Type 0} (o : SetOperations V) (claims : Claims V) (i : Listed V) (
   -- of the same variable
   pub with_same : (values : V) (b : Bool) (v w : ℕ) → w ≡ v → IsTrue b ↔ ((x : ℕ) → In o values x → FitsWith o claims v x (entry_of i).shape (taken_frame f)) → IsTrue b ↔ ((x : ℕ) → In o values x → FitsWith o claims w x (entry_of i).shape (taken_frame f))
   with_same values b v w same told = subst (λ (n : ℕ). IsTrue b ↔ ((x : ℕ) → In o values x → FitsWith o claims n x (entry_of i).shape (taken_frame f))) (sym same) told
-
-  -- ---- one word of some, whichever value is put in the place of another
-
-  module _ (sets : List V) (ws : List ℕ) (values : V) (put index : ℕ) (set : V) (found : slice_get sets index ≡ Some set) where
-    at_set : (x : ℕ) → At (In o) sets (slice_set ws put x) index ↔ In o set (slice_index (slice_set ws put x) index)
-    at_set x = (
-      λ at. subst (λ (s : Option V). IsSomeAnd s (λ a. In o a (slice_index (slice_set ws put x) index))) found at,
-      λ member. subst (λ (s : Option V). IsSomeAnd s (λ a. In o a (slice_index (slice_set ws put x) index))) (sym found) member,
-    )
-
-    pub put_there : index ≡ put → put < length ws → Within o values set ↔ ((x : ℕ) → In o values x → At (In o) sets (slice_set ws put x) index)
-    put_there same below = (
-      λ within x member. (at_set x).1 (subst (In o set) (sym (is x)) (within x member)),
-      λ all x member. subst (In o set) (is x) ((at_set x).0 (all x member)),
-    )
-      where
-        is : (x : ℕ) → slice_index (slice_set ws put x) index ≡ x
-        is x = ap (slice_index (slice_set ws put x)) same ∙ get_or-set_same ws put x 0 below
-
-    pub put_elsewhere : (index ≡ put → ⊥) → ((x : ℕ) × In o values x) → In o set (slice_index ws index) ↔ ((x : ℕ) → In o values x → At (In o) sets (slice_set ws put x) index)
-    put_elsewhere other some = (
-      λ member x of_values. (at_set x).1 (subst (In o set) (sym (is x)) member),
-      λ all. subst (In o set) (is some.0) ((at_set some.0).0 (all some.0 some.1)),
-    )
-      where
-        is : (x : ℕ) → slice_index (slice_set ws put x) index ≡ slice_index ws index
-        is x = get_or-set_other ws put index x 0 other

@@ -1,5 +1,5 @@
 -- Whether play can go on from a save, and in a described state.
-use Rattle.std.proofs.Common.{◌≡◌, ◌≢◌, ◌↔◌, ◌⊎◌, inl, inr, ℕ, zero, suc, ◌+◌, ◌-◌, ◌<◌, ◌≤◌, Bool, true, false, if◌then◌else◌, List, [], ◌∷◌, length, drop, Result, Ok, Err, refl, sym, ap, subst, ◌∙◌, arith}
+use Rattle.std.proofs.Common.{◌≡◌, ◌↔◌, ℕ, zero, suc, ◌+◌, ◌-◌, ◌<◌, ◌≤◌, Bool, true, false, List, [], ◌∷◌, length, drop, Ok, Err, refl, sym, ap, subst, ◌∙◌, arith}
 use Rattle.std.specs.Prelude.{ℤ, pos, negsuc, ◌-ℤ◌, map, reverse, Some}
 use Rattle.std.proofs.lemmas.Bool.{le-leb}
 use Rattle.std.proofs.lemmas.Int.{ints}
@@ -21,7 +21,7 @@ use Rattle.zdomain.specs.Domain.{SetOperations}
 use Rattle.zrule.specs.Claims.{Claims}
 use Rattle.zrule.specs.Described.{Described}
 use Rattle.zjudge.specs.Frames.{AreDescribed}
-use Rattle.zjudge.specs.Judging.{IsJudged, listed_setting}
+use Rattle.zjudge.specs.Judging.{listed_setting}
 use Rattle.zjudge.specs.Memory.{IsDescribedMemory}
 use Rattle.zjudge.proofs.Climbing.{climbed, stacked, turned_round}
 use Rattle.zjudge.proofs.Taken.{IsTaken, memory_where}

@@ -1,15 +1,11 @@
 -- Frames judged one after another.
-use Rattle.std.proofs.Common.{◌≡◌, ◌↔◌, ℕ, ◌≤◌, List, [], ◌∷◌, length, Option, Some, None, refl, sym, subst, ◌∙◌}
-use Rattle.std.specs.Prelude.{map, option_map}
-use Rattle.std.specs.List.{AllByRecursion}
+use Rattle.std.proofs.Common.{◌≡◌, ◌↔◌, ℕ, [], Option, sym, subst, ◌∙◌}
 use Rattle.std.proofs.lemmas.Option.{same_Some}
 use Rattle.zdomain.specs.Domain.{SetOperations}
-use Rattle.zquetzal.specs.Saved.{Frame as SavedFrame}
 use Rattle.zstate.specs.State.{Frame}
-use Rattle.zstate.specs.Saves.{taken_frame}
 use Rattle.zrule.specs.Claims.{Entry, Claims}
 use Rattle.zrule.specs.Described.{Fits}
-use Rattle.zjudge.specs.Frames.{AreDescribed, AreDescribedFrom, GoesOnAt, Waiting}
+use Rattle.zjudge.specs.Frames.{AreDescribedFrom, GoesOnAt, Waiting}
 
 module _ {V : Type 0} (o : SetOperations V) (claims : Claims V) (below : Option (Waiting V)) (f : Frame) where
   same_entry : (place : ℕ) (e d : Entry V) → GoesOnAt o claims below f place e → GoesOnAt o claims below f place d → d ≡ e
@@ -20,15 +16,3 @@ module _ {V : Type 0} (o : SetOperations V) (claims : Claims V) (below : Option 
     λ fits. (e, goes, fits),
     λ (d, others, fits). subst (λ (x : Entry V). Fits o claims x.shape f.locals f.stack) (same_entry place e d goes others) fits,
   )
-
-  pub newest_nowhere : (place : ℕ) → ((e : Entry V) → GoesOnAt o claims below f place e → ⊥) → AreDescribedFrom o claims below f [] place → ⊥
-  newest_nowhere place none (d, goes, fits) = none d goes
-
-  pub next_where : (g : Frame) (above : List Frame) (place : ℕ) (e : Entry V) → GoesOnAt o claims below f g.return_place e → AreDescribedFrom o claims below f (g ∷ above) place ↔ AreDescribedFrom o claims (Some (record { entry = e; frame = f })) g above place
-  next_where g above place e goes = (
-    λ (d, others, rest). subst (λ (x : Entry V). AreDescribedFrom o claims (Some (record { entry = x; frame = f })) g above place) (same_entry g.return_place e d goes others) rest,
-    λ rest. (e, goes, rest),
-  )
-
-  pub next_nowhere : (g : Frame) (above : List Frame) (place : ℕ) → ((e : Entry V) → GoesOnAt o claims below f g.return_place e → ⊥) → AreDescribedFrom o claims below f (g ∷ above) place → ⊥
-  next_nowhere g above place none (d, goes, rest) = none d goes

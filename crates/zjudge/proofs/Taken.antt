@@ -9,13 +9,13 @@ use Rattle.zstory.specs.LoadedStory.{LoadedStory, IsSound, globals, object_table
 use Rattle.zstory.specs.Objects.{IsObjectCount, object_place}
 use Rattle.zobj.specs.declared.tree.Link.{Link}
 use Rattle.zobj.specs.declared.tree.Link.TheVariants.{Parent, Sibling, Child}
-use Rattle.zobj.specs.Tree.{IsTree, link_byte, linked}
+use Rattle.zobj.specs.Tree.{link_byte, linked}
 use Rattle.zobj.proofs.Bytes.{no_zero}
-use Rattle.zplace.specs.Bytes.{IsFixed, IsChanging}
+use Rattle.zplace.specs.Bytes.{IsFixed}
 use Rattle.zdomain.specs.Domain.{SetOperations, In}
 use Rattle.zrule.specs.Claims.{Claims, frozen_in}
 use Rattle.zrule.specs.Described.{DescribedMemory}
-use Rattle.zjudge.specs.Memory.{HasLinks, IsDescribedMemory, IsKept}
+use Rattle.zjudge.specs.Memory.{IsDescribedMemory, IsKept}
 
 -- a memory that has the dynamic memory of a save behind the header, and is else as loaded, but for Flags 2
 pub record IsTaken (story : LoadedStory) (saved memory : List ℕ) : Type 0 where

@@ -1,4 +1,4 @@
-use Rattle.std.proofs.Common.{ℕ, ◌↔◌, ◌≤◌, ◌∷◌, length}
+use Rattle.std.proofs.Common.{◌↔◌, ◌≤◌, ◌∷◌, length}
 use Rattle.std.specs.Prelude.{IfSome, map, option_map}
 use Rattle.std.specs.List.{AllByRecursion}
 use Rattle.zquetzal.specs.Reading.{words_of}

@@ -1,4 +1,4 @@
-use Rattle.std.proofs.Common.{◌≡◌, ◌∙◌, true, refl, sym}
+use Rattle.std.proofs.Common.{◌≡◌, ◌∙◌, true, sym}
 use Rattle.std.specs.List.{AllZip}
 use Rattle.zcert.specs.Listed.{seen}
 use Rattle.zdomain.specs.Domain.{In, Within}

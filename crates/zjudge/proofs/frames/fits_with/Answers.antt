@@ -1,4 +1,4 @@
-use Rattle.std.proofs.Common.{◌≡◌, ◌+◌, ◌-◌, refl, rules, arith}
+use Rattle.std.proofs.Common.{◌≡◌, ◌+◌, ◌-◌, rules, arith}
 use Rattle.zcert.specs.Listed.{seen}
 use Rattle.zquetzal.specs.View.{seen_frame}
 use Rattle.zrule.specs.Claims.{claims_of}

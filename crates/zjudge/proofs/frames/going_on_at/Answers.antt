@@ -1,4 +1,4 @@
-use Rattle.std.proofs.Common.{sym, rules}
+use Rattle.std.proofs.Common.{rules}
 use Rattle.zcert.specs.Listed.{seen}
 use Rattle.zjudge.proofs.Listed.{listed_low}
 use Rattle.zjudge.proofs.frames.going_on_at.Goals as goal

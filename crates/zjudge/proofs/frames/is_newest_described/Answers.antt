@@ -1,4 +1,3 @@
-use Rattle.std.proofs.Common.{rules}
 use Rattle.std.specs.Prelude.{option_map}
 use Rattle.zcert.specs.Listed.{seen}
 use Rattle.zquetzal.specs.View.{seen_frame}

@@ -1,4 +1,4 @@
-use Rattle.std.proofs.Common.{◌≡◌, ◌∙◌, ◌-◌, ◌≤◌, true, false, sym, ap, subst, refl, rules, arith}
+use Rattle.std.proofs.Common.{◌≡◌, ◌≤◌, true, false, rules, arith}
 use Rattle.zrule.specs.Claims.{claims_of}
 use Rattle.zstate.specs.State.{scope_only}
 use Rattle.zstate.specs.Step.{fetch}

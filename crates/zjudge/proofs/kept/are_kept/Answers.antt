@@ -1,4 +1,4 @@
-use Rattle.std.proofs.Common.{◌≤◌, ◌<◌, ◌+◌, refl, rules, arith}
+use Rattle.std.proofs.Common.{refl, rules, arith}
 use Rattle.zjudge.proofs.Closed.{run_more}
 use Rattle.zjudge.proofs.kept.are_kept.Goals as goal
 

@@ -1,6 +1,5 @@
-use Rattle.std.proofs.Common.{ℕ, List, ◌≡◌, ◌≤◌, length, refl, sym, subst, arith}
+use Rattle.std.proofs.Common.{ℕ, List, ◌≡◌, length, refl, subst}
 use Rattle.zstory.specs.Bytes.{byte_at}
-use Rattle.zstory.specs.LoadedStory.{static_base}
 use Rattle.zobj.specs.Properties.{data_end}
 use Rattle.std.specs.Prelude.{◌≢◌, ◌<◌}
 use Rattle.zjudge.proofs.Closed.{sizes_more, sizes_last}

@@ -1,4 +1,4 @@
-use Rattle.std.proofs.Common.{ℕ, ◌↔◌, ◌-◌, length}
+use Rattle.std.proofs.Common.{◌↔◌, ◌-◌, length}
 use Rattle.zplace.specs.Bytes.{IsSizePlace}
 use Rattle.zjudge.specs.Memory.{AreKept}
 use Rattle.zjudge.proofs.kept.are_sizes_kept.Given as goal

@@ -1,4 +1,4 @@
-use Rattle.std.proofs.Common.{ℕ, ◌↔◌, ◌∙◌, Option, refl, ap, subst, rules}
+use Rattle.std.proofs.Common.{ℕ, ◌↔◌, ◌∙◌, Option, refl, ap, subst}
 use Rattle.std.specs.Prelude.{IsTrue}
 use Rattle.ztext.specs.Abbreviations.{readable_word}
 use Rattle.zjudge.specs.Memory.{AreKept}

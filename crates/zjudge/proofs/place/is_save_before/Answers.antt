@@ -1,4 +1,4 @@
-use Rattle.std.proofs.Common.{◌≡◌, ◌-◌, ◌∙◌, sym, ap, rules, arith}
+use Rattle.std.proofs.Common.{◌≡◌, ◌-◌, sym, ap, rules, arith}
 use Rattle.std.specs.Prelude.{pos, ◌-ℤ◌, ℤ}
 use Rattle.zstate.specs.State.{scope_only}
 use Rattle.zstate.specs.Step.{fetch}
