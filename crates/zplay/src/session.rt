@@ -203,11 +203,7 @@ impl<'a, V: Spelled> Session<'a, V> {
         ensures { IfOk result (λ save. save.items ≡ save_text (origin_of self.now.accepted.story) (saved_of self.now.accepted.story self.now.state)) }
     {
         saves_are_states();
-        let parts = SavedBoard::new(
-            self.accepted.story(),
-            self.accepted.listing(),
-            self.board(),
-        );
+        let parts = SavedBoard::new(self.accepted.story(), self.accepted.listing(), self.board());
         write(alloc, &parts)
     }
 
