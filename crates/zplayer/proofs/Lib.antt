@@ -2,4 +2,5 @@ mod ReadLemmas
 mod Stages
 mod Writes
 mod Ends
+mod Sessions
 mod Worked
