@@ -14,7 +14,7 @@ use Rattle.zplayer.specs.declared.end.PlayError.{PlayError}
 use Rattle.zplayer.specs.declared.end.PlayError.TheVariants as errors
 use Rattle.zplayer.specs.Playing.{WantsOrSaves, ComesTo as PlayComes}
 use Rattle.zplayer.specs.Outside.{Coming, words_from}
-use Rattle.zplayer.specs.World.{Store, World, world}
+use Rattle.zplayer.specs.World.{Kept, Store, World, world}
 use Rattle.zperform.specs.declared.outcome.Failure.TheVariants.{File, Read, Write, Memory}
 use Rattle.zperform.specs.declared.outcome.Problem.{Problem}
 use Rattle.zperform.specs.declared.outcome.Problem.TheVariants.{Refused, Unreadable, BreaksStory, BreaksInstruction, Unlisted, Failed}
@@ -29,6 +29,10 @@ use Rattle.zperform.proofs.StoryFiles.{holds_whole, reads, refused_whole}
 -- what holds with the words of a generator holds with those of one in the same state
 pub with_words : (P : World → Type 0) (input : Option (List ℕ)) (store : Store) (s t : List ℕ) → s ≡ t → P (world input (Some (words_from s)) store) → P (world input (Some (words_from t)) store)
 with_words P input store s t is h = subst (λ (x : List ℕ). P (world input (Some (words_from x)) store)) is h
+
+-- what holds with a new store, which has failed so often, holds with one that hasn't
+pub with_store : (P : Store → Type 0) (kept : Option Kept) (n : ℕ) → n ≡ 0 → P (record { kept = kept; failures = n }) → P (record { kept = kept; failures = 0 })
+with_store P kept n none h = subst (λ (k : ℕ). P (record { kept = kept; failures = k })) none h
 
 -- what the part that was read comes to, the file comes to
 module _ (known : Option (List ℕ)) (taken : List ℕ) (options : Options) (given : World) (before now : Option (List ℕ)) (part : (file : List ℕ) → known ≡ Some file → taken ≡ take 131073 file) where

@@ -189,13 +189,13 @@ fn play<F: Files, R: Source, W: Sink>(
     reader: &mut R,
     writer: &mut W,
 ) -> Result<End, Problem>
-    ensures comes { ComesTo (F.known files.old name.now) options (given (R.remaining reader.old) seed (store_of (option_map (λ n. n.now) save))) (W.contents writer.old) (W.contents writer.new) (outcome_of result) }
+    ensures comes { ComesTo (F.known files.old name.now) options (given (R.remaining reader.old) seed (store_of (option_map (λ n. n.now) save.entry))) (W.contents writer.old) (W.contents writer.new) (outcome_of result) }
     ensures blamed { result ≡ Err (Problem.Failed Failure.Write) → RisesByOne (W.failures writer.old) (W.failures writer.new) }
     ensures quiet { result ≢ Err (Problem.Failed Failure.Write) → W.failures writer.new ≡ W.failures writer.old }
     ensures flushed { result ≢ Err (Problem.Failed Failure.Write) → IsFlushed W.waits writer.old writer.new }
     ensures unread { result ≡ Err (Problem.Failed Failure.File) → RisesByOne (F.failures files.old) (F.failures files.new) }
-    ensures unfailed { option_map (λ n. n.now) save ≡ None → result ≢ Err (Problem.Failed Failure.File) → F.failures files.new ≡ F.failures files.old }
-    ensures kept { option_map (λ n. n.now) save ≡ None → F.known files.new ≡ F.known files.old }
+    ensures unfailed { option_map (λ n. n.now) save.entry ≡ None → result ≢ Err (Problem.Failed Failure.File) → F.failures files.new ≡ F.failures files.old }
+    ensures kept { option_map (λ n. n.now) save.entry ≡ None → F.known files.new ≡ F.known files.old }
     ensures unheard { result ≡ Err (Problem.Failed Failure.Read) → RisesByOne (R.failures reader.old) (R.failures reader.new) }
     ensures heard { result ≢ Err (Problem.Failed Failure.Read) → R.failures reader.new ≡ R.failures reader.old }
 {
@@ -215,14 +215,14 @@ fn play_story<F: Files, R: Source, W: Sink>(
     reader: &mut R,
     writer: &mut W,
 ) -> Result<End, Problem>
-    ensures comes { (file : List ℕ) → Holds file story.now → ComesTo (Some file) options (given (R.remaining reader.old) seed (store_of (option_map (λ n. n.now) save))) (W.contents writer.old) (W.contents writer.new) (outcome_of result) }
+    ensures comes { (file : List ℕ) → Holds file story.now → ComesTo (Some file) options (given (R.remaining reader.old) seed (store_of (option_map (λ n. n.now) save.entry))) (W.contents writer.old) (W.contents writer.new) (outcome_of result) }
     ensures blamed { result ≡ Err (Problem.Failed Failure.Write) → RisesByOne (W.failures writer.old) (W.failures writer.new) }
     ensures quiet { result ≢ Err (Problem.Failed Failure.Write) → W.failures writer.new ≡ W.failures writer.old }
     ensures flushed { result ≢ Err (Problem.Failed Failure.Write) → IsFlushed W.waits writer.old writer.new }
     ensures no_file { result ≢ Err (Problem.Failed Failure.File) }
     ensures unheard { result ≡ Err (Problem.Failed Failure.Read) → RisesByOne (R.failures reader.old) (R.failures reader.new) }
     ensures heard { result ≢ Err (Problem.Failed Failure.Read) → R.failures reader.new ≡ R.failures reader.old }
-    ensures unsaved { option_map (λ n. n.now) save ≡ None → files.new ≡ files.old }
+    ensures unsaved { option_map (λ n. n.now) save.entry ≡ None → files.new ≡ files.old }
 {
     match save {
         Some(name) => {
@@ -283,13 +283,13 @@ fn play_by_certificate<F: Files, R: Source, W: Sink>(
     reader: &mut R,
     writer: &mut W,
 ) -> Result<End, Problem>
-    ensures comes { PlayComesTo (F.known files.old story.now) (F.known files.old certificate.now) options (given (R.remaining reader.old) seed (store_of (option_map (λ n. n.now) save))) (W.contents writer.old) (W.contents writer.new) (outcome_of result) }
+    ensures comes { PlayComesTo (F.known files.old story.now) (F.known files.old certificate.now) options (given (R.remaining reader.old) seed (store_of (option_map (λ n. n.now) save.entry))) (W.contents writer.old) (W.contents writer.new) (outcome_of result) }
     ensures blamed { result ≡ Err (Problem.Failed Failure.Write) → RisesByOne (W.failures writer.old) (W.failures writer.new) }
     ensures quiet { result ≢ Err (Problem.Failed Failure.Write) → W.failures writer.new ≡ W.failures writer.old }
     ensures flushed { result ≢ Err (Problem.Failed Failure.Write) → IsFlushed W.waits writer.old writer.new }
     ensures unread { result ≡ Err (Problem.Failed Failure.File) → RisesByOne (F.failures files.old) (F.failures files.new) }
-    ensures unfailed { option_map (λ n. n.now) save ≡ None → result ≢ Err (Problem.Failed Failure.File) → F.failures files.new ≡ F.failures files.old }
-    ensures kept { option_map (λ n. n.now) save ≡ None → F.known files.new ≡ F.known files.old }
+    ensures unfailed { option_map (λ n. n.now) save.entry ≡ None → result ≢ Err (Problem.Failed Failure.File) → F.failures files.new ≡ F.failures files.old }
+    ensures kept { option_map (λ n. n.now) save.entry ≡ None → F.known files.new ≡ F.known files.old }
     ensures unheard { result ≡ Err (Problem.Failed Failure.Read) → RisesByOne (R.failures reader.old) (R.failures reader.new) }
     ensures heard { result ≢ Err (Problem.Failed Failure.Read) → R.failures reader.new ≡ R.failures reader.old }
 {
@@ -308,14 +308,14 @@ fn play_accepted<F: Files, R: Source, W: Sink>(
     reader: &mut R,
     writer: &mut W,
 ) -> Result<End, Problem>
-    ensures comes { (story certificate : Option (List ℕ)) → IsAccepted story certificate accepted.now → PlayComesTo story certificate options (given (R.remaining reader.old) seed (store_of (option_map (λ n. n.now) save))) (W.contents writer.old) (W.contents writer.new) (outcome_of result) }
+    ensures comes { (story certificate : Option (List ℕ)) → IsAccepted story certificate accepted.now → PlayComesTo story certificate options (given (R.remaining reader.old) seed (store_of (option_map (λ n. n.now) save.entry))) (W.contents writer.old) (W.contents writer.new) (outcome_of result) }
     ensures blamed { result ≡ Err (Problem.Failed Failure.Write) → RisesByOne (W.failures writer.old) (W.failures writer.new) }
     ensures quiet { result ≢ Err (Problem.Failed Failure.Write) → W.failures writer.new ≡ W.failures writer.old }
     ensures flushed { result ≢ Err (Problem.Failed Failure.Write) → IsFlushed W.waits writer.old writer.new }
     ensures no_file { result ≢ Err (Problem.Failed Failure.File) }
     ensures unheard { result ≡ Err (Problem.Failed Failure.Read) → RisesByOne (R.failures reader.old) (R.failures reader.new) }
     ensures heard { result ≢ Err (Problem.Failed Failure.Read) → R.failures reader.new ≡ R.failures reader.old }
-    ensures unsaved { option_map (λ n. n.now) save ≡ None → files.new ≡ files.old }
+    ensures unsaved { option_map (λ n. n.now) save.entry ≡ None → files.new ≡ files.old }
 {
     match save {
         Some(name) => {

@@ -1,7 +1,8 @@
 //! Where the saves of a play are kept: in a file, or nowhere.
 
-ghost use Rattle.std.specs.Prelude.{◌≡◌, false};
+ghost use Rattle.std.specs.Prelude.{◌≡◌, false, true, None, Some};
 ghost use Rattle.zplayer.specs.Outside.{CountsRefusal};
+ghost use Rattle.zplayer.specs.World.{Gets, Puts};
 
 use crate::files::{Files, read_file};
 use std::alloc::Global;
@@ -27,14 +28,14 @@ impl NoSaves {
 }
 
 impl SaveStore for NoSaves {
-    ghost use Rattle.std.specs.Prelude.{None, Some};
-
     ghost kept = { λ _. Some None };
 
     ghost failures = { λ store. store.failures };
 
     fn put(&mut self, _save: &[u8]) -> bool
         ensures none { result ≡ false }
+        ensures stores { Puts (Some None) _save.now result (Some None) }
+        ensures counts { CountsRefusal self.old.failures self.new.failures result }
     {
         self.failures = self.failures.saturating_add(1);
         false
@@ -42,6 +43,8 @@ impl SaveStore for NoSaves {
 
     fn get(&mut self, _save: &mut Vec<u8>) -> bool
         ensures none { result ≡ false }
+        ensures gives { result ≡ true → Gets (Some None) _save.new.items }
+        ensures counts { CountsRefusal self.old.failures self.new.failures result }
     {
         self.failures = self.failures.saturating_add(1);
         false

@@ -16,7 +16,7 @@ pub returns-in-Play-default-None-default-default-default-default-clause-unread :
 returns-in-Play-default-None-default-default-default-default-clause-unread g c = λ e. c.play.ensures.unread (stopped_is c.play.result _ (sym c.outcome_of.ensures ∙ e))
 
 pub returns-in-Play-default-None-default-default-default-default-clause-unfailed : goal.returns-in-Play-default-None-default-default-default-default-clause-unfailed
-returns-in-Play-default-None-default-default-default-default-clause-unfailed g c = λ none other. c.play.ensures.unfailed none (λ w. other (c.outcome_of.ensures ∙ ap outcome_of w))
+returns-in-Play-default-None-default-default-default-default-clause-unfailed g c = λ none other. c.play.ensures.unfailed (rw c.in-Play-default-None-default-default-default-default.is at none) (λ w. other (c.outcome_of.ensures ∙ ap outcome_of w))
 
 pub returns-in-Play-default-Some-default-default-default-default-clause-blamed : goal.returns-in-Play-default-Some-default-default-default-default-clause-blamed
 returns-in-Play-default-Some-default-default-default-default-clause-blamed g c = λ e. c.play_by_certificate.ensures.blamed (stopped_is c.play_by_certificate.result _ (sym c.outcome_of-in-Play-default-Some-default-default-default-default.ensures ∙ e))
@@ -31,7 +31,7 @@ pub returns-in-Play-default-Some-default-default-default-default-clause-unread :
 returns-in-Play-default-Some-default-default-default-default-clause-unread g c = λ e. c.play_by_certificate.ensures.unread (stopped_is c.play_by_certificate.result _ (sym c.outcome_of-in-Play-default-Some-default-default-default-default.ensures ∙ e))
 
 pub returns-in-Play-default-Some-default-default-default-default-clause-unfailed : goal.returns-in-Play-default-Some-default-default-default-default-clause-unfailed
-returns-in-Play-default-Some-default-default-default-default-clause-unfailed g c = λ none other. c.play_by_certificate.ensures.unfailed none (λ w. other (c.outcome_of-in-Play-default-Some-default-default-default-default.ensures ∙ ap outcome_of w))
+returns-in-Play-default-Some-default-default-default-default-clause-unfailed g c = λ none other. c.play_by_certificate.ensures.unfailed (rw c.in-Play-default-Some-default-default-default-default.is at none) (λ w. other (c.outcome_of-in-Play-default-Some-default-default-default-default.ensures ∙ ap outcome_of w))
 
 pub returns-in-Play-default-None-default-default-default-default-clause-unheard : goal.returns-in-Play-default-None-default-default-default-default-clause-unheard
 returns-in-Play-default-None-default-default-default-default-clause-unheard g c = λ e. c.play.ensures.unheard (stopped_is c.play.result _ (sym c.outcome_of.ensures ∙ e))
