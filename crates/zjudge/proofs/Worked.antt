@@ -140,10 +140,10 @@ linked_to : ℕ → ℕ → ℕ → List ℕ
 linked_to parent sibling child = replicate 130 0 ++ parent ∷ sibling ∷ child ∷ []
 
 links : HasLinks one_object (linked_to 1 0 1) 1 × (HasLinks one_object (linked_to 2 0 0) 1 → ⊥) × (HasLinks one_object (linked_to 0 2 0) 1 → ⊥) × (HasLinks one_object (linked_to 0 0 2) 1 → ⊥)
+unfolding one_object linked_to
 links = (all, λ h. too_high (h Parent), λ h. too_high (h Sibling), λ h. too_high (h Child))
   where
     all : HasLinks one_object (linked_to 1 0 1) 1
-    unfolding one_object linked_to
     all Parent = lit≤ tt
     all Sibling = lit≤ tt
     all Child = lit≤ tt
