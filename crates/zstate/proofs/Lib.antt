@@ -16,3 +16,4 @@ mod Words
 mod Worked
 mod WorkedCall
 mod WorkedNeeds
+mod WorkedSaves
