@@ -11,7 +11,7 @@ ghost use Rattle.zstate.specs.Step.{Done, fetch, step};
 ghost use Rattle.zref.specs.Machine.{Judges, scope_of, setting_of};
 ghost use Rattle.zref.specs.Row.{IsAsLoaded, IsFetched};
 
-use crate::cache::row_at;
+use crate::cache::{address_of, row_at};
 use crate::plan::StepError;
 use crate::row::Row;
 use crate::scope::Scope;
@@ -72,9 +72,8 @@ pub(crate) fn row_of_next(story: &Story, scope: &Scope, state: &State) -> Result
     ensures found { IfOk result (IsFetched (scope_of story.now scope.now) state.now.place state.now.memory) }
     ensures halted { IfErr result (λ h. fetch (scope_of story.now scope.now) state.now.place state.now.memory ≡ Err h) }
 {
-    let place = state.place();
-    if place < 0 {
-        return Err(Halt::Fault(Fault::UnlistedInstruction));
+    match address_of(state.place()) {
+        Some(place) => row_at(story, scope, state, place),
+        None => Err(Halt::Fault(Fault::UnlistedInstruction)),
     }
-    row_at(story, scope, state, place as usize)
 }

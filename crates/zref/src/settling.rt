@@ -13,6 +13,9 @@ use zcode::{Branch, Destination};
 use zfault::Fault;
 use zstate::{Halt, State};
 
+/// The lowest number of a global (Z 4.2.2).
+const FIRST_GLOBAL: u8 = 16;
+
 /// How many frames may stand above the first (own).
 const LIMIT: usize = 1024;
 
@@ -58,6 +61,14 @@ fn course_of(effect: Effect, branch: Option<Branch>) -> Course
     }
 }
 
+/// Whether a variable is there. Globals are told first, since that takes no look at the frame.
+#[inline(always)]
+fn is_there(variable: u8, state: &State) -> bool
+    ensures { result ≡ exists variable state.now.frame }
+{
+    variable >= FIRST_GLOBAL || state.frame().has(variable)
+}
+
 /// The faults: of the result variable, of a return from the first frame, and of the caller's result variable.
 #[inline(always)]
 #[tactic(auto, unfolding(zstate::specs::Step::admits))]
@@ -67,7 +78,7 @@ fn admit(target: u8, effect: Effect, course: Course, state: &State) -> Result<()
     ensures way { IfOk result (λ _. IsOpenWay course state.now) }
     ensures there { IfOk result (λ _. is_some effect.gives ≡ true → exists target state.now.frame ≡ true) }
 {
-    if effect.gives.is_some() && !state.frame().has(target) {
+    if effect.gives.is_some() && !is_there(target, state) {
         return Err(Halt::Fault(Fault::AbsentLocal));
     }
     match course {
