@@ -44,8 +44,8 @@ fn need_in(judged: Result<(), StepError>) -> Option<Need>
     }
 }
 
-/// What keeps the next step from being made, as `halt_of` says it, with no row kept.
-fn halt_next(
+/// What keeps the next step from being made, and no row is kept for it.
+pub(crate) fn halt_next(
     story: &Story,
     scope: &Scope,
     state: &State,
