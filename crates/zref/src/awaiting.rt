@@ -1,6 +1,6 @@
 //! What a step waits for that can't be made for want of an event.
 
-ghost use Rattle.std.specs.Prelude.{◌≡◌, ◌^◌, ◌<◌, Result, Err, IfErr, IfOk, length};
+ghost use Rattle.std.specs.Prelude.{◌≡◌, ◌^◌, ◌<◌, ◌<ℤ◌, MatchOption, pos, Result, Err, IfErr, IfOk, length};
 ghost use Rattle.zobj.specs.Entries.{HasTable};
 ghost use Rattle.zstory.specs.Header as header;
 ghost use Rattle.zstory.specs.LoadedStory.{object_table};
@@ -11,7 +11,7 @@ ghost use Rattle.zstate.specs.Step.{Done, fetch, step};
 ghost use Rattle.zref.specs.Machine.{Judges, scope_of, setting_of};
 ghost use Rattle.zref.specs.Row.{IsAsLoaded, IsFetched};
 
-use crate::cache::{address_of, row_at};
+use crate::cache::row_at;
 use crate::plan::StepError;
 use crate::row::Row;
 use crate::scope::Scope;
@@ -76,4 +76,14 @@ pub(crate) fn row_of_next(story: &Story, scope: &Scope, state: &State) -> Result
         Some(place) => row_at(story, scope, state, place),
         None => Err(Halt::Fault(Fault::UnlistedInstruction)),
     }
+}
+
+/// A place as an address, where it is one: none is below 0.
+fn address_of(place: i32) -> Option<usize>
+    ensures { MatchOption result (place <ℤ pos 0) (λ address. pos address ≡ place) }
+{
+    if place < 0 {
+        return None;
+    }
+    Some(place as usize)
 }

@@ -8,13 +8,10 @@ ghost use Rattle.zref.specs.Row.{shape_of};
 ghost use Rattle.zref.specs.Plan.{IsApart, IsOpenWay, IsShortWay, effect_with, move_of};
 
 use crate::effect::{Course, Effect};
-use crate::row::Row;
+use crate::row::{FIRST_GLOBAL, Row};
 use zcode::{Branch, Destination};
 use zfault::Fault;
 use zstate::{Halt, State};
-
-/// The lowest number of a global (Z 4.2.2).
-const FIRST_GLOBAL: u8 = 16;
 
 /// How many frames may stand above the first (own).
 const LIMIT: usize = 1024;
