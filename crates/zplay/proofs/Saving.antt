@@ -26,7 +26,7 @@ use Rattle.zplay.specs.Session.{Accepts, IsDescribed, IsInPlay, IsRefusedSave, P
 use Rattle.zplay.proofs.Accepting.{listed_each, supported}
 
 module _ {V : Type 0} (o : SetOperations V) (lawful : AreSound o) (format : Format V) (a : AcceptanceOver V) (rows : List Row) (heads : List Head) (p : Position) (play : IsInPlay o format a rows heads p) where
-  s : State
+  abbrev s : State
   s = state_in (game_of o a) p
 
   -- where a save is asked for, `save` is fetched
