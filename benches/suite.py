@@ -33,7 +33,7 @@ FEW, MANY = 50, 550  # rounds
 
 ROWS = {kind: functools.partial(loop.made, kind) for kind in [*loop.KINDS, *loop.ROUTINES]}
 for module in arrays, objects:
-    ROWS.update({kind: functools.partial(module.made, kind, 20) for kind in module.KINDS if kind != "all"})
+    ROWS.update({f"{module.__name__}: {kind}": functools.partial(module.made, kind, 20) for kind in module.KINDS if kind != "all"})
 
 
 def host(words, stdin=b""):
@@ -77,7 +77,7 @@ def round_of(program, made):
 
 def row(name, figures):
     """A line of a table, with a dash for what isn't installed."""
-    return f"{name:<14}" + "".join(f"{it:>12.1f}" for it in figures) + ("" if DFROTZ else f"{'-':>12}")
+    return f"{name:<18}" + "".join(f"{it:>12.1f}" for it in figures) + ("" if DFROTZ else f"{'-':>12}")
 
 
 def table(program, pool, rows):
@@ -89,7 +89,7 @@ def table(program, pool, rows):
 
 def instructions(program, pool, word):
     """The first table."""
-    print(f"{'of one':<14}{'session':>12}{'checked':>12}{'dfrotz':>12}", flush=True)
+    print(f"{'of one':<18}{'session':>12}{'checked':>12}{'dfrotz':>12}", flush=True)
     rows = {name: made for name, made in ROWS.items() if name.startswith(word) and name != "empty"}
     for name, cost, played in table(program, pool, rows):
         print(row(name, [it / played for it in cost]), flush=True)
@@ -97,7 +97,7 @@ def instructions(program, pool, word):
 
 def reading(program, pool):
     """The second table: what a line costs that is read and answered, and what its answer alone."""
-    print(f"\n{'of a line':<14}{'session':>12}{'checked':>12}{'dfrotz':>12}", flush=True)
+    print(f"\n{'of a line':<18}{'session':>12}{'checked':>12}{'dfrotz':>12}", flush=True)
     (_, both, _), (_, alone, _) = table(program, pool, {kind: functools.partial(lines.made, kind) for kind in ("read", "answer")})
     print(row("with answer", both))
     print(row("answer alone", alone))
@@ -156,4 +156,5 @@ def main():
     calls(words.program, words.only)
 
 
-main()
+if __name__ == "__main__":
+    main()
