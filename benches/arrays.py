@@ -1,11 +1,10 @@
 #!/usr/bin/env python3
-"""Writes a story of version 3 that goes round a loop of loads and stores for ever, and its certificate.
+"""Writes a story of version 3 that goes round a loop of loads and stores, or has many that are played once, and its certificate.
 
-    arrays.py KIND COUNT STORY CERTIFICATE
+    arrays.py KIND COUNT ROUNDS STORY CERTIFICATE
 
 KIND is load (loadw, loadb), store (storew, storeb) or all: these four in turn, a loadw of a table that stays as it is, and a print_addr and a
-print_paddr of a text in that table. COUNT says how many there are in the loop; where they are more than a jump can go back over, they are
-played once. Each has a constant array of 5,000 bytes, and its index, or the text its address, from a global that may be any that lies in the
+print_paddr of a text in that table. COUNT says how many there are in the loop, and ROUNDS how often it is gone round; with 0 there is none. Each has a constant array of 5,000 bytes, and its index, or the text its address, from a global that may be any that lies in the
 array by the certificate, at no whole block from either end.
 """
 import struct
@@ -17,6 +16,7 @@ import straight
 INDEX, VALUE, TEXT, PACKED = 16, 17, 18, 19  # globals
 LENGTH = 5000
 LAST = 2490  # the greatest index
+ANY = struct.pack(">hh", -32768, 32767)
 OPEN = straight.DEFAULTS + 62 + 1  # an odd place in dynamic memory
 STATIC = OPEN + LENGTH + 1
 DICTIONARY = STATIC + 2 * 96 + 2
@@ -54,25 +54,22 @@ def certificate(length, checksum, addresses):
     """One that lists these addresses in the main code, with an empty stack."""
     head = struct.pack(">4sBH6sHI", b"ZPCC", 1, straight.RELEASE, straight.SERIAL, checksum, length)
     texts = struct.pack(">hhhh", TABLE, TABLE + LENGTH - 4, TABLE // 2 + 1, (TABLE + LENGTH - 4) // 2)
-    values = struct.pack(">hhhh", 0, LAST, -32768, 32767) + texts + bytes(4 * 236)
+    values = struct.pack(">hh", 0, LAST) + ANY + texts + bytes(4 * 235) + ANY
     entries = b"".join(struct.pack(">IHB", address, 0, 0) for address in addresses)
     return head + struct.pack(">H", 0) + values + struct.pack(">H", 0) + struct.pack(">I", len(addresses)) + entries
 
 
-def main(kind, count, story_name, certificate_name):
-    code, addresses = b"", []
-    for instruction in islice(cycle(KINDS[kind]), int(count)):
-        addresses.append(CODE + len(code))
+def made(kind, count, rounds):
+    """The story with so many of this kind in a loop of so many rounds, its certificate, and how many instructions are played in a round."""
+    code, places = b"", []
+    for instruction in islice(cycle(KINDS[kind]), count):
+        places.append(len(code))
         code += instruction
-    addresses.append(CODE + len(code))
-    back = 2 - 3 - len(code)
-    code += b"\x8c" + struct.pack(">h", back) if back >= -32768 else straight.QUIT
+    code, ends = straight.looped(code) if rounds else (code + straight.QUIT, [len(code)])
     whole, checksum = story(code)
-    with open(story_name, "wb") as file:
-        file.write(whole)
-    with open(certificate_name, "wb") as file:
-        file.write(certificate(len(whole), checksum, addresses))
+    listed = certificate(len(whole), checksum, [CODE + place for place in places + ends])
+    return straight.with_rounds(whole, max(rounds, 1)), listed, len(places) + 2
 
 
 if __name__ == "__main__":
-    main(*sys.argv[1:])
+    straight.write(made(sys.argv[1], int(sys.argv[2]), int(sys.argv[3])), *sys.argv[4:])

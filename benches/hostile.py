@@ -114,4 +114,5 @@ def main():
         file.write(its_certificate)
 
 
-main()
+if __name__ == "__main__":
+    main()

@@ -1,11 +1,11 @@
 #!/usr/bin/env python3
-"""Writes a story of version 3 that goes round a loop of plain instructions for ever, and its certificate.
+"""Writes a story of version 3 that goes round a loop of plain instructions, and its certificate.
 
-    loop.py KIND STORY CERTIFICATE
+    loop.py KIND ROUNDS STORY CERTIFICATE
 
-KIND is the name of one instruction, played again and again, or sentence, a print of 114 bytes, or mix: thirteen of them in turn; or call, of a
-routine that returns a constant, or call_3, with three arguments, of which it returns the first. All but the prints and the jump at the end work on
-globals, constants and the stack. Its certificate lists each instruction, and says that a global may be any word.
+KIND is the name of one instruction, twenty of which are in the loop, or empty, or sentence, a print of 114 bytes, or mix: thirteen of them in
+turn; or call, of a routine that returns a constant, or call_3, with three arguments, of which it returns the first. All but the prints and the end of
+the loop work on globals, constants and the stack. Its certificate lists each instruction, and says that a global may be any word.
 """
 import struct
 import sys
@@ -31,6 +31,7 @@ PUSH = bytes([0xE8, 0xBF, G[1]])
 PULL = bytes([0xE9, 0x7F, G[0]])
 
 KINDS = {
+    "empty": [],
     "nop": [b"\xb4"],
     "add": [ADD],
     "store": [STORE],
@@ -38,19 +39,14 @@ KINDS = {
     "jl": [JL],
     "inc": [INC],
     "push": [PUSH, PULL],
-    "print": [straight.KINDS["print"]],
+    "print": [b"\xb2" + straight.encoded("hello ")],
     "sentence": [straight.KINDS["sentence"]],
     "mix": [ADD, SUB, JE, STORE_GLOBAL, INC, JL, AND, JZ, STORE, INC_CHK, ADD_CONSTANT, PUSH, PULL],
 }
-ROUNDS = 20
+TIMES = 20
 
 # routines: the arguments of a call, how many locals, and the one instruction
 ROUTINES = {"call": ([], 0, b"\x9b\x05"), "call_3": (G[:3], 3, b"\xab\x01")}
-
-
-def jump(back):
-    """A jump that goes back so many bytes from its own first one."""
-    return b"\x8c" + struct.pack(">h", 2 - 3 - back)
 
 
 def call(place, arguments):
@@ -62,7 +58,7 @@ def call(place, arguments):
 def instructions(kind, place):
     """The instructions of the loop, with the height of the stack before each, where its routine lies at a place."""
     height = 0
-    for instruction in KINDS[kind] * ROUNDS if kind in KINDS else [call(place, ROUTINES[kind][0])] * ROUNDS:
+    for instruction in KINDS[kind] * TIMES if kind in KINDS else [call(place, ROUTINES[kind][0])] * TIMES:
         yield instruction, height
         height += {PUSH: 1, PULL: -1}.get(instruction, 0)
 
@@ -76,31 +72,31 @@ def certificate(listed, routines, checksum, length):
     return head + struct.pack(">H", 0) + ANY * 240 + struct.pack(">H", len(routines)) + heads + struct.pack(">I", len(listed)) + entries
 
 
-def main(kind, story_name, certificate_name):
+def made(kind, rounds):
+    """The story of this kind that goes round so many times, its certificate, and how many instructions are played in a round."""
     code, listed, routines = b"", [], []
     for instruction, height in instructions(kind, place_behind(kind)):
         listed.append((straight.CODE + len(code), 0, 0, height))
         code += instruction
-    listed.append((straight.CODE + len(code), 0, 0, 0))
-    code += jump(len(code))
+    played = len(listed) + 2
+    code, ends = straight.looped(code)
+    listed.extend((straight.CODE + end, 0, 0, 0) for end in ends)
     if kind in ROUTINES:
         _, count, instruction = ROUTINES[kind]
         code += bytes(place_behind(kind) - straight.CODE - len(code)) + bytes([count]) + bytes(2 * count)
         routines.append((place_behind(kind), count))
         listed.append((straight.CODE + len(code), 1, count, 0))
         code += instruction
+        played += TIMES
     story, checksum = straight.story(code)
-    with open(story_name, "wb") as file:
-        file.write(story)
-    with open(certificate_name, "wb") as file:
-        file.write(certificate(listed, routines, checksum, len(story)))
+    return straight.with_rounds(story, rounds), certificate(listed, routines, checksum, len(story)), played
 
 
 def place_behind(kind):
     """The first even place behind the loop."""
-    end = straight.CODE + sum(len(instruction) for instruction, _ in instructions(kind, 0)) + len(jump(0))
+    end = straight.CODE + len(straight.looped(b"".join(instruction for instruction, _ in instructions(kind, 0)))[0])
     return end + end % 2
 
 
 if __name__ == "__main__":
-    main(*sys.argv[1:])
+    straight.write(made(sys.argv[1], int(sys.argv[2])), *sys.argv[3:])

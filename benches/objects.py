@@ -1,11 +1,12 @@
 #!/usr/bin/env python3
-"""Writes a story of version 3 with 255 objects that goes round a loop of object instructions for ever, and its certificate.
+"""Writes a story of version 3 with 255 objects that goes round a loop of object instructions, or has many that are played once, and its
+certificate.
 
-    objects.py KIND COUNT STORY CERTIFICATE
+    objects.py KIND COUNT ROUNDS STORY CERTIFICATE
 
 KIND is ask (jin, test_attr and the three that follow a link), mark (set_attr, clear_attr), move (insert_obj, remove_obj), property (the
-four that ask for properties, put_prop and print_obj) or all of them in turn; COUNT says how many there are in the loop; where they are
-more than a jump can go back over, they are played once. Each takes its objects, attributes and properties from globals, which may be any
+four that ask for properties, put_prop and print_obj) or all of them in turn; COUNT says how many there are in the loop, and ROUNDS how
+often it is gone round; with 0 there is none. Each takes its objects, attributes and properties from globals, which may be any
 of them by the certificate. Objects 1 and 2 are asked for, of which the second is in the first, and property 20 of the 31 of two bytes
 that each object has.
 """
@@ -25,6 +26,7 @@ VALUES = {
     NUMBER: (1, 31),
     ADDRESS: (0, 1000),
     VALUE: (-32768, 32767),
+    straight.COUNTER: (-32768, 32767),
 }
 FIRST = {OBJECT: 1, OTHER: 2, ATTRIBUTE: 9, NUMBER: 20, ADDRESS: 1000}
 BRANCH = 0xC2  # where the condition holds, to the next instruction
@@ -82,20 +84,17 @@ def certificate(length, checksum, addresses):
     return head + struct.pack(">H", 0) + values + struct.pack(">H", 0) + struct.pack(">I", len(addresses)) + entries
 
 
-def main(kind, count, story_name, certificate_name):
-    code, addresses = b"", []
-    for instruction in islice(cycle(KINDS[kind]), int(count)):
-        addresses.append(CODE + len(code))
+def made(kind, count, rounds):
+    """The story with so many of this kind in a loop of so many rounds, its certificate, and how many instructions are played in a round."""
+    code, places = b"", []
+    for instruction in islice(cycle(KINDS[kind]), count):
+        places.append(len(code))
         code += instruction
-    addresses.append(CODE + len(code))
-    back = 2 - 3 - len(code)
-    code += b"\x8c" + struct.pack(">h", back) if back >= -32768 else straight.QUIT
+    code, ends = straight.looped(code) if rounds else (code + straight.QUIT, [len(code)])
     whole, checksum = story(code)
-    with open(story_name, "wb") as file:
-        file.write(whole)
-    with open(certificate_name, "wb") as file:
-        file.write(certificate(len(whole), checksum, addresses))
+    listed = certificate(len(whole), checksum, [CODE + place for place in places + ends])
+    return straight.with_rounds(whole, max(rounds, 1)), listed, len(places) + 2
 
 
 if __name__ == "__main__":
-    main(*sys.argv[1:])
+    straight.write(made(sys.argv[1], int(sys.argv[2]), int(sys.argv[3])), *sys.argv[4:])

@@ -59,6 +59,22 @@ def body(texts):
     return dynamic + abbreviations + b"\x94\xa5" + bytes([0, 4, 0, 0])
 
 
+COUNTER = 255  # the global that counts the rounds of a loop
+
+
+def looped(code):
+    """A loop round this code that ends by itself: once the counter, less 1 each time, is below 0. And where its last three instructions,
+    which are dec_chk, jump and quit, begin in it."""
+    places = [len(code), len(code) + 4, len(code) + 7]
+    return code + bytes([0x04, COUNTER, 0, 0xC5]) + b"\x8c" + struct.pack(">h", 2 - 3 - places[1]) + QUIT, places
+
+
+def with_rounds(story, rounds):
+    """The story with a counter for so many rounds. Its checksum stays as it was, which no loop asks for."""
+    place = GLOBALS + 2 * (COUNTER - 16)
+    return story[:place] + struct.pack(">H", rounds - 1) + story[place + 2 :]
+
+
 def header(length, checksum):
     """The header of a story of a length and a checksum."""
     words = struct.pack(
@@ -91,6 +107,13 @@ def certificate(loaded_length, checksum, addresses):
     return b"".join(parts)
 
 
+def write(made, story_name, certificate_name):
+    """Writes a story and its certificate to files of these names."""
+    for name, contents in zip((story_name, certificate_name), made):
+        with open(name, "wb") as file:
+            file.write(contents)
+
+
 def main():
     if len(sys.argv) != 5 or sys.argv[1] not in KINDS or not sys.argv[2].isdigit():
         sys.exit(__doc__)
@@ -99,10 +122,7 @@ def main():
     count = int(count)
     whole, checksum = story(instruction * count + QUIT)
     addresses = range(CODE, CODE + len(instruction) * count + 1, len(instruction))
-    with open(story_name, "wb") as file:
-        file.write(whole)
-    with open(certificate_name, "wb") as file:
-        file.write(certificate(len(whole), checksum, addresses))
+    write((whole, certificate(len(whole), checksum, addresses)), story_name, certificate_name)
 
 
 if __name__ == "__main__":

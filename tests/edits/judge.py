@@ -258,6 +258,8 @@ HALVED = {
         "CheckedMachine::awaits",
         "act::print_and_act",
         "arrays::element",
+        "call::halt_call",
+        "call::step_call",
         "changes::step_change",
         "families::binary",
         "families::count",
@@ -272,11 +274,9 @@ HALVED = {
         "settling::admit",
         "settling::course_of",
         "settling::settle",
-        "step::halt_call",
-        "step::step_attribute",
-        "step::step_call",
         "step::step_rest",
-        "step::step_set_element",
+        "ways::step_attribute",
+        "ways::step_set_element",
     ),
 }
 

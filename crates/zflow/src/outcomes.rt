@@ -69,7 +69,8 @@ pub(crate) fn outcomes_of<V: Domain>(
         Operation::Return => once(returns_in(first)),
         Operation::PrintReturn => once(returns_in(V::single(1))),
         Operation::Call => called(first),
-        Operation::Inside | Operation::TestAttribute | Operation::Save => either(),
+        Operation::Inside | Operation::TestAttribute => either(),
+        Operation::Save => saved(),
         Operation::Restore => unrestored(),
         Operation::Follow(_) => followed(tables.story().objects()),
         Operation::Property(question) => {
@@ -362,6 +363,14 @@ fn either<V: Domain>() -> Outcomes<V>
         held: Some(asks(true, untold())),
         failed: Some(asks(false, untold())),
     }
+}
+
+/// It isn't known whether a save is kept.
+fn saved<V: Domain>() -> Outcomes<V>
+    ensures held { result.held ≡ Some (asks true untold) }
+    ensures failed { result.failed ≡ Some (asks false untold) }
+{
+    either()
 }
 
 /// A save that is taken is no step: what comes is that there is none.

@@ -5,7 +5,7 @@ ghost use Rattle.zfault.specs.declared.item.Item.TheVariants.{Text};
 ghost use Rattle.zstory.specs.LoadedStory.{LoadedStory, globals, static_base};
 ghost use Rattle.zstate.specs.Run.{IsLonger};
 ghost use Rattle.zstate.specs.State as spec;
-ghost use Rattle.zstate.specs.State.{exists, popped, popped as taken};
+ghost use Rattle.zstate.specs.State.{exists, popped, popped as taken, put};
 ghost use Rattle.zstate.specs.Step.{act, assigned, course, stored};
 ghost use Rattle.zref.specs.Machine.{Grows};
 ghost use Rattle.zref.specs.Row.{shape_of};
@@ -13,7 +13,7 @@ ghost use Rattle.zref.specs.Plan.{EndsBy, IsAssignable, IsOpenWay, IsReady, IsSh
 
 use crate::effect::{Course, Effect};
 use crate::plan::Plan;
-use crate::row::Row;
+use crate::row::{FIRST_GLOBAL, Row};
 use std::alloc::AllocError;
 use zfault::Items;
 use zstate::State;
@@ -159,12 +159,38 @@ fn go_on(
     ensures wants { OnErr result (IsLonger state.old (on_from (shape_of row.now) distance (stored story.now plan.effect.gives row.now.target (assigned story.now plan.effect.assigns (popped plan.popped state.old))))) }
 {
     match plan.effect.gives {
-        Some(word) => state.put(story, row.target, plan.popped, word)?,
+        Some(word) => give(story, state, row.target, plan.popped, word)?,
         None => change(story, state, plan.effect.assigns, plan.popped),
     }
     state.advance(row.size as usize);
     state.go(distance);
     Ok(())
+}
+
+/// Takes the words of the operands off the stack, and gives the result variable its value. Globals are told first, since that takes no look
+/// at the frame.
+#[inline(always)]
+#[tactic(auto, using(crate::proofs::Doing::put_other))]
+fn give(
+    story: &Story,
+    state: &mut State,
+    variable: u8,
+    popped: usize,
+    word: u16,
+) -> Result<(), AllocError>
+    requires memory { length state.old.memory ≡ length story.now.memory }
+    requires within { popped ≤ length state.old.frame.stack }
+    requires there { exists variable state.old.frame ≡ true }
+    ensures ok { OnOk result (state.new ≡ put story.now variable word (taken popped state.old)) }
+    ensures err { OnErr result (state.new ≡ state.old) }
+    ensures wants { OnErr result ((variable ≡ 0) × (popped ≡ 0)) }
+{
+    if variable >= FIRST_GLOBAL {
+        state.pop(popped);
+        state.put_named(story, variable, word);
+        return Ok(());
+    }
+    state.put(story, variable, popped, word)
 }
 
 /// Takes the words of the operands off the stack, and gives a variable its value.

@@ -41,8 +41,17 @@ pub(crate) fn element_to_set(
     ensures within { IfOk result (λ p. p + span width ≤ length story.now.memory) }
 {
     let address = width.place(array, index);
-    if !are_writable(usize::from(address), u16::from(width.span()), story) {
+    if !are_writable(usize::from(address), length_of(width), story) {
         return Err(Halt::Fault(Fault::WriteOutside));
     }
     Ok(address)
+}
+
+/// How many bytes an element has.
+#[inline(always)]
+fn length_of(width: Width) -> u16
+    ensures value { result ≡ span width }
+    ensures some { 1 ≤ result }
+{
+    u16::from(width.span())
 }

@@ -1,6 +1,6 @@
 //! What a step waits for that can't be made for want of an event.
 
-ghost use Rattle.std.specs.Prelude.{◌≡◌, ◌^◌, ◌<◌, Result, Err, IfErr, IfOk, length};
+ghost use Rattle.std.specs.Prelude.{◌≡◌, ◌^◌, ◌<◌, ◌<ℤ◌, MatchOption, pos, Result, Err, IfErr, IfOk, length};
 ghost use Rattle.zobj.specs.Entries.{HasTable};
 ghost use Rattle.zstory.specs.Header as header;
 ghost use Rattle.zstory.specs.LoadedStory.{object_table};
@@ -44,8 +44,8 @@ fn need_in(judged: Result<(), StepError>) -> Option<Need>
     }
 }
 
-/// What keeps the next step from being made, as `halt_of` says it, with no row kept.
-fn halt_next(
+/// What keeps the next step from being made, and no row is kept for it.
+pub(crate) fn halt_next(
     story: &Story,
     scope: &Scope,
     state: &State,
@@ -72,9 +72,18 @@ pub(crate) fn row_of_next(story: &Story, scope: &Scope, state: &State) -> Result
     ensures found { IfOk result (IsFetched (scope_of story.now scope.now) state.now.place state.now.memory) }
     ensures halted { IfErr result (λ h. fetch (scope_of story.now scope.now) state.now.place state.now.memory ≡ Err h) }
 {
-    let place = state.place();
-    if place < 0 {
-        return Err(Halt::Fault(Fault::UnlistedInstruction));
+    match address_of(state.place()) {
+        Some(place) => row_at(story, scope, state, place),
+        None => Err(Halt::Fault(Fault::UnlistedInstruction)),
     }
-    row_at(story, scope, state, place as usize)
+}
+
+/// A place as an address, where it is one: none is below 0.
+fn address_of(place: i32) -> Option<usize>
+    ensures { MatchOption result (place <ℤ pos 0) (λ address. pos address ≡ place) }
+{
+    if place < 0 {
+        return None;
+    }
+    Some(place as usize)
 }

@@ -5,6 +5,7 @@ mod act;
 mod arrays;
 mod awaiting;
 mod cache;
+mod call;
 mod changes;
 mod effect;
 mod families;
@@ -20,6 +21,7 @@ mod scope;
 mod settling;
 mod status;
 mod step;
+mod ways;
 mod writing;
 
 pub use machine::CheckedMachine;

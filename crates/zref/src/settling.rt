@@ -8,7 +8,7 @@ ghost use Rattle.zref.specs.Row.{shape_of};
 ghost use Rattle.zref.specs.Plan.{IsApart, IsOpenWay, IsShortWay, effect_with, move_of};
 
 use crate::effect::{Course, Effect};
-use crate::row::Row;
+use crate::row::{FIRST_GLOBAL, Row};
 use zcode::{Branch, Destination};
 use zfault::Fault;
 use zstate::{Halt, State};
@@ -58,6 +58,14 @@ fn course_of(effect: Effect, branch: Option<Branch>) -> Course
     }
 }
 
+/// Whether a variable is there. Globals are told first, since that takes no look at the frame.
+#[inline(always)]
+fn is_there(variable: u8, state: &State) -> bool
+    ensures { result ≡ exists variable state.now.frame }
+{
+    variable >= FIRST_GLOBAL || state.frame().has(variable)
+}
+
 /// The faults: of the result variable, of a return from the first frame, and of the caller's result variable.
 #[inline(always)]
 #[tactic(auto, unfolding(zstate::specs::Step::admits))]
@@ -67,7 +75,7 @@ fn admit(target: u8, effect: Effect, course: Course, state: &State) -> Result<()
     ensures way { IfOk result (λ _. IsOpenWay course state.now) }
     ensures there { IfOk result (λ _. is_some effect.gives ≡ true → exists target state.now.frame ≡ true) }
 {
-    if effect.gives.is_some() && !state.frame().has(target) {
+    if effect.gives.is_some() && !is_there(target, state) {
         return Err(Halt::Fault(Fault::AbsentLocal));
     }
     match course {

@@ -1,6 +1,6 @@
 //! Which bytes of memory an instruction may write.
 
-ghost use Rattle.std.specs.Prelude.{◌≡◌, ◌+◌, ◌≤◌, ◌&&◌, nat_le, length, IsTrue};
+ghost use Rattle.std.specs.Prelude.{◌≡◌, ◌+◌, ◌≤◌, ◌&&◌, nat_le, nat_lt, length, IsTrue};
 ghost use Rattle.zstory.specs.LoadedStory.{static_base};
 ghost use Rattle.zstate.specs.Step.{are_writable};
 
@@ -24,9 +24,25 @@ pub(crate) fn are_writable(place: usize, count: u16, story: &Story) -> bool
 {
     let end = place + usize::from(count);
     let base = story.static_base();
-    if place < HEADER_LENGTH {
+    if is_in_header(place) {
         return is_in_flags_2(place, end);
     }
+    is_dynamic(end, base)
+}
+
+/// Whether a place lies in the header.
+#[inline(always)]
+fn is_in_header(place: usize) -> bool
+    ensures { result ≡ nat_lt place 64 }
+{
+    place < HEADER_LENGTH
+}
+
+/// Whether what ends there lies below the base of static memory.
+#[inline(always)]
+fn is_dynamic(end: usize, base: usize) -> bool
+    ensures { result ≡ nat_le end base }
+{
     end <= base
 }
 
