@@ -9,20 +9,17 @@ ghost use Rattle.zfind.specs.declared.error.FindError.TheVariants.{NotFound, Rou
 
 use crate::certificate::certificate_of;
 use crate::code::Code;
-use crate::error::{FindError, Obstacle};
+use crate::error::FindError;
 use crate::settling::settled;
 use crate::state::Plan;
 use crate::visits::MOST_VISITS;
 use crate::walk::Walk;
-use std::alloc::{AllocError, Global};
+use std::alloc::Global;
 use zcert::Certificate;
 use zcheck::examine;
 use zdomain::Interval;
 use zlist::list_story;
 use zstory::Story;
-
-/// How many are visited to find what is broken in every certificate (own).
-const MOST_FAIR_VISITS: u32 = 60_000;
 
 /// How often a thing grows before it is widened, walk by walk.
 const DELAYS: [u16; 7] = [2, 2, 2, 2, 2, 10, 10];
@@ -138,44 +135,12 @@ fn attempt(
 }
 
 /// A certificate, if it passes.
-fn tried(story: &Story, certificate: Certificate) -> Result<Certificate, FindError>
+pub(crate) fn tried(story: &Story, certificate: Certificate) -> Result<Certificate, FindError>
     ensures passes { IfOk result (Passes interval_operations story.now) }
     ensures failed { IfErr result (λ error. (obstacle : Obstacle) × (error ≡ NotFound obstacle) × IsTried story.now obstacle) }
 {
     match examine(story, &certificate) {
         None => Ok(certificate),
         Some(refusal) => Err(FindError::from(refusal)),
-    }
-}
-
-/// What stands in the way of every certificate of a story, as far as that is found out (own): the first rule that is broken whatever a
-/// certificate says. `None` where none is found. The one error is want of memory.
-///
-/// That such a rule is broken in each certificate is tried, and not proved.
-pub fn broken_in_all(alloc: Global, story: &Story) -> Result<Option<Obstacle>, FindError>
-{
-    let listing = match list_story(alloc, story) {
-        Ok(listing) => listing,
-        Err(fault) => return obstacle_in(FindError::from(fault)),
-    };
-    let code = Code::new(alloc, story, &listing)?;
-    let mut walk: Walk<'_, Interval> = Walk::fair(alloc, &code)?;
-    let mut left = MOST_FAIR_VISITS;
-    let grown = walk.grow(alloc, &mut left);
-    if let Err(FindError::OutOfMemory) = grown {
-        return Err(FindError::OutOfMemory);
-    }
-    let certificate = certificate_of(alloc, &code, &mut walk)?;
-    match tried(story, certificate) {
-        Ok(_) => Ok(None),
-        Err(error) => obstacle_in(error),
-    }
-}
-
-/// What stands in the way.
-fn obstacle_in(error: FindError) -> Result<Option<Obstacle>, FindError> {
-    match error {
-        FindError::NotFound(obstacle) => Ok(Some(obstacle)),
-        _ => Err(error),
     }
 }

@@ -12,6 +12,7 @@ mod error;
 mod finding;
 mod frame;
 mod groups;
+mod obstacles;
 mod openings;
 mod queue;
 mod recursion;
@@ -22,5 +23,6 @@ mod visits;
 mod walk;
 
 pub use error::{FindError, Obstacle};
-pub use finding::{Found, broken_in_all, find, find_counted};
+pub use finding::{Found, find, find_counted};
+pub use obstacles::broken_in_all;
 pub use visits::MOST_VISITS;

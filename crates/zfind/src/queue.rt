@@ -32,14 +32,24 @@ impl Queue {
         Ok(())
     }
 
-    /// The next one, taken out.
-    pub(crate) fn pop(&mut self) -> Option<usize> {
-        let key = self.heap.pop()?;
-        let index = index_of(key);
-        if let Some(waiting) = self.waiting.get_mut(index) {
+    /// The next one.
+    pub(crate) fn next(&self) -> Option<usize> {
+        Some(index_of(*self.heap.peek()?))
+    }
+
+    /// Takes the next one out.
+    pub(crate) fn remove_next(&mut self) {
+        let Some(key) = self.heap.pop() else {
+            return;
+        };
+        if let Some(waiting) = self.waiting.get_mut(index_of(key)) {
             *waiting = false;
         }
-        Some(index)
+    }
+
+    /// Whether it is there.
+    pub(crate) fn has(&self, index: usize) -> bool {
+        self.waiting.get(index).copied().unwrap_or(false)
     }
 
     /// Whether there is none.

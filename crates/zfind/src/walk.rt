@@ -92,8 +92,9 @@ impl<'a, V: Domain> Walk<'a, V> {
         ensures fewer { left.new ≤ left.old }
         ensures stopped { IfErr result (IsStopped left.new) }
     {
-        while let Some(index) = self.queue.pop() {
+        while let Some(index) = self.queue.next() {
             count_visit(left)?;
+            self.queue.remove_next();
             let ranges = self.bytes.ranges(alloc)?;
             let tables = Tables::new(self.code.story, &ranges);
             self.visit(&tables, index)?;
@@ -108,8 +109,9 @@ impl<'a, V: Domain> Walk<'a, V> {
         ensures fewer { left.new ≤ left.old }
         ensures stopped { IfErr result (IsStopped left.new) }
     {
-        while let Some(index) = self.queue.pop() {
+        while let Some(index) = self.queue.next() {
             count_visit(left)?;
+            self.queue.remove_next();
             self.visit(tables, index)?;
         }
         Ok(())
@@ -308,6 +310,11 @@ impl<'a, V: Domain> Walk<'a, V> {
             self.wake(to)?;
         }
         Ok(())
+    }
+
+    /// Whether an instruction is to be visited.
+    pub(crate) fn is_waiting(&self, index: usize) -> bool {
+        self.queue.has(index)
     }
 
     /// Has a place visited, if it was reached.
