@@ -156,7 +156,10 @@ fn take_instruction<V: Spelled>(
     let Some(frame) = walk.state.frame_at(index) else {
         return Ok(());
     };
-    let routine = numbers.get(usize::from(record.routine)).copied().unwrap_or(0);
+    let routine = numbers
+        .get(usize::from(record.routine))
+        .copied()
+        .unwrap_or(0);
     builder.take(Field::InstructionAddress(record.address))?;
     builder.take(Field::RoutineNumber(routine))?;
     builder.take(Field::Height(frame.slots().len().min(64) as u8))?;

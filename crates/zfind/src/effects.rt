@@ -4,8 +4,9 @@ use crate::code::Code;
 use crate::frame::{Frame, MOST_HEIGHT};
 use crate::state::State;
 use zdomain::Domain;
-use zflow::{Edge, Flow, Lead, argument_set};
+use zflow::{Edge, Flow, Lead, argument_set, flow_of};
 use zlist::Record;
+use zruns::Tables;
 
 /// How many routines an instruction may call that are followed: of more none has an interval of such words alone.
 pub(crate) const MOST_CALLEES: usize = 1024;
@@ -49,6 +50,17 @@ pub(crate) struct Visit<'a, V> {
 }
 
 impl<'a, V: Domain> Visit<'a, V> {
+    /// What may come of the instruction.
+    pub(crate) fn flow(self, tables: &Tables<'_>) -> Flow<'a, V> {
+        flow_of(
+            tables,
+            self.state.globals(),
+            self.frame.locals(),
+            self.frame.slots(),
+            &self.record.instruction,
+        )
+    }
+
     /// What the instruction does.
     pub(crate) fn effects(self, flow: &Flow<'_, V>) -> Effects<V> {
         Effects {

@@ -2,10 +2,12 @@
 
 ghost use Rattle.std.specs.Prelude.{◌≡◌, ◌≤◌, IfErr, IfOk, Err};
 ghost use Rattle.zdomain.specs.Interval.{interval_operations};
+ghost use Rattle.zlist.specs.Listed.{Lists};
 ghost use Rattle.zcheck.specs.Passes.{Passes};
 ghost use Rattle.zfind.specs.Attempts.{IsAttempt};
 ghost use Rattle.zfind.specs.Finding.{IsFailure, IsStopped, IsTried, IsWalkFailure};
 ghost use Rattle.zfind.specs.declared.error.FindError.TheVariants.{NotFound, RoundLimit};
+ghost use Rattle.zfind.specs.declared.error.Obstacle.{Obstacle as AnObstacle};
 
 use crate::certificate::certificate_of;
 use crate::code::Code;
@@ -18,7 +20,7 @@ use std::alloc::Global;
 use zcert::Certificate;
 use zcheck::examine;
 use zdomain::Interval;
-use zlist::list_story;
+use zlist::{Listing, list_story};
 use zstory::Story;
 
 /// How often a thing grows before it is widened, walk by walk.
@@ -73,14 +75,28 @@ pub fn find_counted(alloc: Global, story: &Story) -> Found
     }
 }
 
+/// The listing of a story, or what is at fault with it.
+#[tactic(auto, using(crate::proofs::Failures::told, crate::proofs::Failures::not_limit))]
+pub(crate) fn listing_of(alloc: Global, story: &Story) -> Result<Listing, FindError>
+    ensures lists { IfOk result (Lists story.now) }
+    ensures failed { IfErr result (IsFailure story.now) }
+    ensures plain { result ≡ Err RoundLimit → ⊥ }
+{
+    match list_story(alloc, story) {
+        Ok(listing) => Ok(listing),
+        Err(fault) => Err(FindError::from(fault)),
+    }
+}
+
 /// A certificate of a story, if it has a listing. So many visits are left.
+#[tactic(auto, using(crate::proofs::Failures::of_walk, crate::proofs::Failures::limit_of_walk))]
 fn listed(alloc: Global, story: &Story, left: &mut u32) -> Result<Certificate, FindError>
     ensures passes { IfOk result (Passes interval_operations story.now) }
     ensures failed { IfErr result (IsFailure story.now) }
     ensures fewer { left.new ≤ left.old }
     ensures limit { result ≡ Err RoundLimit → left.new ≡ 0 }
 {
-    let listing = list_story(alloc, story)?;
+    let listing = listing_of(alloc, story)?;
     let code = Code::new(alloc, story, &listing)?;
     walked(alloc, &code, left)
 }
@@ -137,7 +153,7 @@ fn attempt(
 /// A certificate, if it passes.
 pub(crate) fn tried(story: &Story, certificate: Certificate) -> Result<Certificate, FindError>
     ensures passes { IfOk result (Passes interval_operations story.now) }
-    ensures failed { IfErr result (λ error. (obstacle : Obstacle) × (error ≡ NotFound obstacle) × IsTried story.now obstacle) }
+    ensures failed { IfErr result (λ error. (obstacle : AnObstacle) × (error ≡ NotFound obstacle) × IsTried story.now obstacle) }
 {
     match examine(story, &certificate) {
         None => Ok(certificate),

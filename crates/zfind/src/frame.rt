@@ -39,7 +39,12 @@ impl<V: Domain> Frame<V> {
 
     /// What is known behind an instruction that takes so many slots off the stack, where this is known before it. `None` where what a branch
     /// says leaves a local no value.
-    pub(crate) fn behind(self, popped: usize, outcome: &Outcome<V>, target: u8) -> Option<Frame<V>> {
+    pub(crate) fn behind(
+        self,
+        popped: usize,
+        outcome: &Outcome<V>,
+        target: u8,
+    ) -> Option<Frame<V>> {
         let mut frame = self;
         frame.pop(popped);
         if let Some((variable, set)) = outcome.assigns {

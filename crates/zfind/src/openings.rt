@@ -35,7 +35,11 @@ fn open_elements<V: Domain>(bytes: &mut Bytes, elements: Elements<V>) {
         Access::Reading => {}
         Access::Writing => {
             let run = Run::of(elements.width, elements.arrays, elements.indices);
-            open_places(bytes, usize::from(run.first), run_length(elements.width, run));
+            open_places(
+                bytes,
+                usize::from(run.first),
+                run_length(elements.width, run),
+            );
         }
     }
 }

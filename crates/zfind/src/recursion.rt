@@ -49,7 +49,7 @@ fn calls_of(alloc: Global, listing: &Listing) -> Result<Vec<Call>, AllocError> {
 
 /// The routine that an instruction calls by a constant.
 fn called_by(listing: &Listing, record: &Record) -> Option<u16> {
-    let Some(Operation::Call) = record.instruction.opcode().operation() else {
+    let Operation::Call = record.instruction.opcode().operation() else {
         return None;
     };
     match record.instruction.operands().as_slice().first() {

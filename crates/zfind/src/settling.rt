@@ -11,7 +11,6 @@ use crate::visits::count_visit;
 use crate::walk::Walk;
 use std::alloc::{AllocError, Global};
 use zdomain::Domain;
-use zflow::flow_of;
 use zruns::Tables;
 
 /// What each place, global and routine is given by all that leads there, where this is known of each place. Where it is less than that,
@@ -45,7 +44,10 @@ fn settle<V: Domain>(
     next: &mut Walk<'_, V>,
     index: usize,
 ) -> Result<(), AllocError> {
-    let (Some(record), Some(frame)) = (code.records().get(index), state.frame_at(index)) else {
+    let Some(record) = code.records().get(index) else {
+        return Ok(());
+    };
+    let Some(frame) = state.frame_at(index) else {
         return Ok(());
     };
     let visit = Visit {
@@ -54,12 +56,6 @@ fn settle<V: Domain>(
         record,
         frame: &frame,
     };
-    let flow = flow_of(
-        tables,
-        state.globals(),
-        frame.locals(),
-        frame.slots(),
-        &record.instruction,
-    );
+    let flow = visit.flow(tables);
     next.apply(index, record, &visit.effects(&flow))
 }

@@ -4,7 +4,7 @@ ghost use Rattle.std.specs.Prelude.{◌≤◌, IfErr};
 ghost use Rattle.zfind.specs.Finding.{IsStopped};
 
 use crate::bytes::{Bytes, Span};
-use crate::code::{Code, operation_of};
+use crate::code::Code;
 use crate::effects::{Calls, Effect, Effects, MOST_CALLEES, Visit, next_callee};
 use crate::error::FindError;
 use crate::frame::Frame;
@@ -16,7 +16,7 @@ use crate::visits::count_visit;
 use std::alloc::{AllocError, Global};
 use zcode::{Operand, Operation};
 use zdomain::Domain;
-use zflow::{first_known, flow_of};
+use zflow::{Demands, first_known};
 use zlist::Record;
 use zruns::Tables;
 
@@ -38,6 +38,17 @@ pub(crate) struct Walk<'a, V> {
     found: u32,
     /// How often each instruction was visited, where those come first that were visited least.
     visits: Option<Vec<u32>>,
+}
+
+/// What is seen of an instruction.
+#[derive(Clone, Copy)]
+struct Seen<V> {
+    effects: Effects<V>,
+    /// Words that it compares with.
+    learned: [Option<u16>; 2],
+    /// Where it looks for values.
+    reach: Option<Span>,
+    demands: Demands<V>,
 }
 
 impl<'a, V: Domain> Walk<'a, V> {
@@ -67,10 +78,7 @@ impl<'a, V: Domain> Walk<'a, V> {
     }
 
     /// One that widens nothing, where those instructions come first that were visited least.
-    pub(crate) fn fair(
-        alloc: Global,
-        code: &'a Code<'a>,
-    ) -> Result<Walk<'a, V>, AllocError> {
+    pub(crate) fn fair(alloc: Global, code: &'a Code<'a>) -> Result<Walk<'a, V>, AllocError> {
         let mut walk = Walk::new(alloc, code, Plan::joining(alloc))?;
         walk.visits = Some(vec![in alloc; 0; code.records().len()]?);
         Ok(walk)
@@ -145,29 +153,19 @@ impl<'a, V: Domain> Walk<'a, V> {
 
     /// Visits an instruction.
     fn visit(&mut self, tables: &Tables<'_>, index: usize) -> Result<(), AllocError> {
-        let (Some(record), Some(frame)) = (self.code.records().get(index), self.state.frame_at(index)) else {
+        let code = self.code;
+        let Some(record) = code.records().get(index) else {
             return Ok(());
         };
-        let visit = Visit {
-            code: self.code,
-            state: &self.state,
-            record,
-            frame: &frame,
+        let Some(frame) = self.state.frame_at(index) else {
+            return Ok(());
         };
-        let flow = flow_of(
-            tables,
-            self.state.globals(),
-            frame.locals(),
-            frame.slots(),
-            &record.instruction,
-        );
-        let effects = visit.effects(&flow);
-        let learned = learned_at(visit);
-        self.note_visit(index, reach_of(self.code, &flow.demands))?;
-        open_written(self.code, &mut self.bytes, &flow.demands);
+        let seen = look(code, tables, &self.state, record, &frame);
+        self.note_visit(index, seen.reach)?;
+        open_written(code, &mut self.bytes, &seen.demands);
         self.note_loaders()?;
-        self.learn(learned)?;
-        self.apply(index, record, &effects)
+        self.learn(seen.learned)?;
+        self.apply(index, record, &seen.effects)
     }
 
     /// Notes where an instruction looked, and that it was visited once more.
@@ -320,7 +318,8 @@ impl<'a, V: Domain> Walk<'a, V> {
     /// Has a place visited, if it was reached.
     fn wake(&mut self, index: usize) -> Result<(), AllocError> {
         if self.state.is_reached(index) {
-            self.queue.push(index, self.rank_of(index))?;
+            let rank = self.rank_of(index);
+            self.queue.push(index, rank)?;
         }
         Ok(())
     }
@@ -336,7 +335,11 @@ impl<'a, V: Domain> Walk<'a, V> {
     /// That of its routine.
     fn routine_rank(&self, index: usize) -> u32 {
         match self.code.records().get(index) {
-            Some(record) => self.ranks.get(usize::from(record.routine)).copied().unwrap_or(0),
+            Some(record) => self
+                .ranks
+                .get(usize::from(record.routine))
+                .copied()
+                .unwrap_or(0),
             None => 0,
         }
     }
@@ -406,6 +409,29 @@ impl<'a, V: Domain> Walk<'a, V> {
     }
 }
 
+/// What an instruction asks for and does, where this is known of the places.
+fn look<V: Domain>(
+    code: &Code<'_>,
+    tables: &Tables<'_>,
+    state: &State<V>,
+    record: &Record,
+    frame: &Frame<V>,
+) -> Seen<V> {
+    let visit = Visit {
+        code,
+        state,
+        record,
+        frame,
+    };
+    let flow = visit.flow(tables);
+    Seen {
+        effects: visit.effects(&flow),
+        learned: learned_at(visit),
+        reach: reach_of(code, &flow.demands),
+        demands: flow.demands,
+    }
+}
+
 /// The words that an instruction compares with what else it compares, where they are known of variables.
 fn learned_at<V: Domain>(visit: Visit<'_, V>) -> [Option<u16>; 2] {
     let instruction = &visit.record.instruction;
@@ -413,12 +439,9 @@ fn learned_at<V: Domain>(visit: Visit<'_, V>) -> [Option<u16>; 2] {
     let [first, second, ..] = inputs.as_slice() else {
         return [None, None];
     };
-    match operation_of(instruction) {
-        Some(Operation::Compare(_)) => [
-            first_word(visit, *first),
-            second_word(visit, *second),
-        ],
-        Some(Operation::Count(_, Some(_))) => [None, second_word(visit, *second)],
+    match instruction.opcode().operation() {
+        Operation::Compare(_) => [first_word(visit, *first), second_word(visit, *second)],
+        Operation::Count(_, Some(_)) => [None, second_word(visit, *second)],
         _ => [None, None],
     }
 }
