@@ -299,7 +299,7 @@ impl<V: Domain> State<V> {
             && self.has_places_within(other)
     }
 
-    /// Whether what each routine gives is known there too.
+    /// Whether what each routine gives is known there too. Of one that never returns something is said all the same.
     fn has_results_within(&self, other: &State<V>) -> bool {
         let mut both = self.results.iter().zip(other.results.iter());
         both.all(|(inner, outer)| is_option_within(inner.set, outer.set))
@@ -371,11 +371,10 @@ fn are_within<V: Domain>(inner: &[V], outer: &[V]) -> bool {
     inner.len() == outer.len() && inner.iter().zip(outer.iter()).all(|(a, b)| a.is_within(*b))
 }
 
-/// Whether a set is within another, if it is there.
+/// Whether a set is within another, where there are both.
 fn is_option_within<V: Domain>(inner: Option<V>, outer: Option<V>) -> bool {
     match (inner, outer) {
-        (None, _) => true,
         (Some(inner), Some(outer)) => inner.is_within(outer),
-        (Some(_), None) => false,
+        _ => true,
     }
 }
