@@ -113,20 +113,20 @@ fn walked(alloc: Global, code: &Code<'_>, left: &mut u32) -> Result<Certificate,
             continue;
         }
         plan.delay = delay;
-        match attempt(alloc, code, plan, left)? {
+        match make_attempt(alloc, code, plan, left)? {
             Attempt::Passed(certificate) => return Ok(certificate),
             Attempt::Failed(next) => plan = next,
         }
     }
     plan.delay = LAST_DELAY;
     let mut walk = Walk::new(alloc, code, plan)?;
-    walk.grow(alloc, left)?;
+    walk.grow(left)?;
     let certificate = certificate_of(alloc, code, &mut walk)?;
     tried(code.story, certificate)
 }
 
 /// A walk, and whether its certificate passes.
-fn attempt(
+fn make_attempt(
     alloc: Global,
     code: &Code<'_>,
     plan: Plan<Interval>,
@@ -137,7 +137,7 @@ fn attempt(
     ensures stopped { IfErr result (IsStopped left.new) }
 {
     let mut walk = Walk::new(alloc, code, plan)?;
-    walk.grow(alloc, left)?;
+    walk.grow(left)?;
     let certificate = certificate_of(alloc, code, &mut walk)?;
     if let Ok(certificate) = tried(code.story, certificate) {
         return Ok(Attempt::Passed(certificate));

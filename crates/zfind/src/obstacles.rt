@@ -33,7 +33,7 @@ pub fn broken_in_all(alloc: Global, story: &Story) -> Result<Option<Obstacle>, F
     let code = Code::new(alloc, story, &listing)?;
     let mut walk = Walk::fair(alloc, &code)?;
     let mut left = MOST_FAIR_VISITS;
-    let grown = walk.grow(alloc, &mut left);
+    let grown = walk.grow(&mut left);
     let certificate = certificate_of(alloc, &code, &mut walk)?;
     match grown {
         Ok(()) => obstacle_for(story, certificate),

@@ -31,13 +31,14 @@ pub(crate) fn settled<V: Domain>(
         if walk.state.is_reached(index) {
             count_visit(left)?;
         }
-        settle(code, &tables, &walk.state, &mut next, index)?;
+        settle(alloc, code, &tables, &walk.state, &mut next, index)?;
     }
     Ok(next.into_state())
 }
 
 /// Does what an instruction does by what is known, to what is found anew.
 fn settle<V: Domain>(
+    alloc: Global,
     code: &Code<'_>,
     tables: &Tables<'_>,
     state: &State<V>,
@@ -47,15 +48,18 @@ fn settle<V: Domain>(
     let Some(record) = code.records().get(index) else {
         return Ok(());
     };
-    let Some(frame) = state.frame_at(index) else {
+    let Some((locals, slots)) = state.sets_at(index) else {
         return Ok(());
     };
     let visit = Visit {
+        alloc,
         code,
         state,
         record,
-        frame: &frame,
+        locals,
+        slots,
     };
     let flow = visit.flow(tables);
-    next.apply(index, record, &visit.effects(&flow))
+    let effects = visit.effects(&flow)?;
+    next.apply(index, record, &effects)
 }

@@ -160,10 +160,12 @@ impl<V: Domain> State<V> {
         }
     }
 
-    /// The sets of a place that was reached.
-    pub(crate) fn frame_at(&self, index: usize) -> Option<Frame<V>> {
+    /// The sets of the locals and those of the slots of a place that was reached.
+    pub(crate) fn sets_at(&self, index: usize) -> Option<(&[V], &[V])> {
         let spot = self.reached_spot(index)?;
-        Some(Frame::of(usize::from(spot.locals), self.sets_of(spot)))
+        let sets = self.sets_of(spot);
+        let locals = usize::from(spot.locals).min(sets.len());
+        Some(sets.split_at(locals))
     }
 
     /// A place, if it was reached.
@@ -219,8 +221,8 @@ impl<V: Domain> State<V> {
         if let Some(spot) = self.spots.get_mut(index) {
             *spot = Spot {
                 start,
-                locals: frame.locals().len().min(15) as u8,
-                height: frame.slots().len().min(64) as u8,
+                locals: frame.local_count().min(15) as u8,
+                height: frame.height().min(64) as u8,
                 is_reached: true,
                 growths: NO_GROWTHS,
             };
@@ -362,8 +364,7 @@ fn loaded_globals<V: Domain>(alloc: Global, code: &Code<'_>) -> Result<Vec<V>, A
 
 /// Whether a frame has as many locals and slots as a place.
 fn has_shape<V: Domain>(spot: Spot, frame: &Frame<V>) -> bool {
-    frame.locals().len() == usize::from(spot.locals)
-        && frame.slots().len() == usize::from(spot.height)
+    frame.local_count() == usize::from(spot.locals) && frame.height() == usize::from(spot.height)
 }
 
 /// Whether there are as many sets, and each is within its own.

@@ -23,6 +23,7 @@ use zruns::Tables;
 /// A walk: what is known so far, and which instructions are to be visited since that grew.
 #[derive(Drop)]
 pub(crate) struct Walk<'a, V> {
+    alloc: Global,
     code: &'a Code<'a>,
     pub(crate) plan: Plan<V>,
     pub(crate) state: State<V>,
@@ -41,7 +42,7 @@ pub(crate) struct Walk<'a, V> {
 }
 
 /// What is seen of an instruction.
-#[derive(Clone, Copy)]
+#[derive(Drop)]
 struct Seen<V> {
     effects: Effects<V>,
     /// Words that it compares with.
@@ -60,6 +61,7 @@ impl<'a, V: Domain> Walk<'a, V> {
     ) -> Result<Walk<'a, V>, AllocError> {
         let count = code.records().len();
         let mut walk = Walk {
+            alloc,
             code,
             plan,
             state: State::new(alloc, code)?,
@@ -72,7 +74,7 @@ impl<'a, V: Domain> Walk<'a, V> {
             visits: None,
         };
         if let Some(first) = code.first() {
-            walk.join(first, &Frame::empty(), false)?;
+            walk.join(first, &Frame::empty(alloc), false)?;
         }
         Ok(walk)
     }
@@ -96,14 +98,14 @@ impl<'a, V: Domain> Walk<'a, V> {
 
     /// Walks until nothing more is found, with at most so many visits. What looks where bytes were opened is visited once more when
     /// nothing else is left, so that tables are seldom made.
-    pub(crate) fn grow(&mut self, alloc: Global, left: &mut u32) -> Result<(), FindError>
+    pub(crate) fn grow(&mut self, left: &mut u32) -> Result<(), FindError>
         ensures fewer { left.new ≤ left.old }
         ensures stopped { IfErr result (IsStopped left.new) }
     {
         while let Some(index) = self.queue.next() {
             count_visit(left)?;
             self.queue.remove_next();
-            let ranges = self.bytes.ranges(alloc)?;
+            let ranges = self.bytes.ranges(self.alloc)?;
             let tables = Tables::new(self.code.story, &ranges);
             self.visit(&tables, index)?;
             self.run(&tables, left)?;
@@ -157,10 +159,20 @@ impl<'a, V: Domain> Walk<'a, V> {
         let Some(record) = code.records().get(index) else {
             return Ok(());
         };
-        let Some(frame) = self.state.frame_at(index) else {
+        let Some((locals, slots)) = self.state.sets_at(index) else {
             return Ok(());
         };
-        let seen = look(code, tables, &self.state, record, &frame);
+        let seen = look(
+            tables,
+            Visit {
+                alloc: self.alloc,
+                code,
+                state: &self.state,
+                record,
+                locals,
+                slots,
+            },
+        )?;
         self.note_visit(index, seen.reach)?;
         open_written(code, &mut self.bytes, &seen.demands);
         self.note_loaders()?;
@@ -276,12 +288,12 @@ impl<'a, V: Domain> Walk<'a, V> {
             return Ok(());
         };
         self.rank(number);
-        let mut frame = Frame::empty();
+        let mut frame = Frame::empty(self.alloc);
         for index in 0..self.code.local_count(number) {
-            frame.push(match calls.arguments.get(usize::from(index)) {
-                Some(Some(set)) => *set,
-                _ => V::single(self.code.initial(number, index)),
-            });
+            frame.push(match calls.argument(index) {
+                Some(set) => set,
+                None => V::single(self.code.initial(number, index)),
+            })?;
         }
         frame.end_locals();
         self.join(entry, &frame, self.code.is_recursive(number))
@@ -409,27 +421,15 @@ impl<'a, V: Domain> Walk<'a, V> {
     }
 }
 
-/// What an instruction asks for and does, where this is known of the places.
-fn look<V: Domain>(
-    code: &Code<'_>,
-    tables: &Tables<'_>,
-    state: &State<V>,
-    record: &Record,
-    frame: &Frame<V>,
-) -> Seen<V> {
-    let visit = Visit {
-        code,
-        state,
-        record,
-        frame,
-    };
+/// What an instruction asks for and does.
+fn look<V: Domain>(tables: &Tables<'_>, visit: Visit<'_, V>) -> Result<Seen<V>, AllocError> {
     let flow = visit.flow(tables);
-    Seen {
-        effects: visit.effects(&flow),
+    Ok(Seen {
+        effects: visit.effects(&flow)?,
         learned: learned_at(visit),
-        reach: reach_of(code, &flow.demands),
+        reach: reach_of(visit.code, &flow.demands),
         demands: flow.demands,
-    }
+    })
 }
 
 /// The words that an instruction compares with what else it compares, where they are known of variables.
@@ -452,8 +452,8 @@ fn first_word<V: Domain>(visit: Visit<'_, V>, operand: Operand) -> Option<u16> {
         Operand::Constant(_) => None,
         Operand::Variable(_) => first_known(
             visit.state.globals(),
-            visit.frame.locals(),
-            visit.frame.slots(),
+            visit.locals,
+            visit.slots,
             &visit.record.instruction,
         ),
     }
