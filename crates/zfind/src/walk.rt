@@ -31,8 +31,8 @@ pub(crate) struct Walk<'a, V> {
     queue: Queue,
     /// Where each instruction looked for values that bytes make known which stay as they are.
     reaches: Vec<Option<Span>>,
-    /// Those that looked where bytes were opened since the tables were made.
-    outdated: Vec<usize>,
+    /// Whether each looked where bytes were opened since the tables were made.
+    outdated: Vec<bool>,
     /// The rank of each routine, by its number: those that are found later are followed first.
     ranks: Vec<u32>,
     /// How many were found.
@@ -68,7 +68,7 @@ impl<'a, V: Domain> Walk<'a, V> {
             bytes: Bytes::new(alloc, code.story)?,
             queue: Queue::new(alloc, count)?,
             reaches: vec![in alloc; None; count]?,
-            outdated: Vec::new(alloc),
+            outdated: vec![in alloc; false; count]?,
             ranks: vec![in alloc; 0; code.routines().len().saturating_add(1)]?,
             found: 0,
             visits: None,
@@ -155,6 +155,7 @@ impl<'a, V: Domain> Walk<'a, V> {
 
     /// Visits an instruction.
     fn visit(&mut self, tables: &Tables<'_>, index: usize) -> Result<(), AllocError> {
+        let alloc = self.alloc;
         let code = self.code;
         let Some(record) = code.records().get(index) else {
             return Ok(());
@@ -165,7 +166,7 @@ impl<'a, V: Domain> Walk<'a, V> {
         let seen = look(
             tables,
             Visit {
-                alloc: self.alloc,
+                alloc,
                 code,
                 state: &self.state,
                 record,
@@ -173,27 +174,26 @@ impl<'a, V: Domain> Walk<'a, V> {
                 slots,
             },
         )?;
-        self.note_visit(index, seen.reach)?;
+        self.note_visit(index, seen.reach);
         open_written(code, &mut self.bytes, &seen.demands);
-        self.note_loaders()?;
+        self.note_loaders();
         self.learn(seen.learned)?;
         self.apply(index, record, &seen.effects)
     }
 
     /// Notes where an instruction looked, and that it was visited once more.
-    fn note_visit(&mut self, index: usize, reach: Option<Span>) -> Result<(), AllocError> {
+    fn note_visit(&mut self, index: usize, reach: Option<Span>) {
         if let Some(noted) = self.reaches.get_mut(index) {
             *noted = reach;
         }
         if self.bytes.is_stale(reach) {
-            self.outdated.push(index)?;
+            self.put_off(index);
         }
         if let Some(visits) = &mut self.visits {
             if let Some(count) = visits.get_mut(index) {
                 *count = count.saturating_add(1);
             }
         }
-        Ok(())
     }
 
     /// Notes the words that something was compared with.
@@ -388,28 +388,45 @@ impl<'a, V: Domain> Walk<'a, V> {
         Ok(())
     }
 
-    /// Notes what looked where bytes were opened now.
-    fn note_loaders(&mut self) -> Result<(), AllocError> {
+    /// Puts off what looked where bytes were opened now.
+    fn note_loaders(&mut self) {
         let Some(fresh) = self.bytes.take_fresh() else {
-            return Ok(());
+            return;
         };
         let code = self.code;
         for index in code.loaders() {
             if self.looked_at(*index as usize, fresh) {
-                self.outdated.push(*index as usize)?;
+                self.put_off(*index as usize);
+            }
+        }
+    }
+
+    /// Puts off an instruction until nothing else is left.
+    fn put_off(&mut self, index: usize) {
+        if let Some(mark) = self.outdated.get_mut(index) {
+            *mark = true;
+        }
+    }
+
+    /// Has all visited that looked where bytes were opened since the tables were made.
+    fn wake_outdated(&mut self) -> Result<(), AllocError> {
+        let code = self.code;
+        for index in code.loaders() {
+            if self.was_put_off(*index as usize) {
+                self.wake(*index as usize)?;
             }
         }
         Ok(())
     }
 
-    /// Has all visited that looked where bytes were opened since the tables were made.
-    fn wake_outdated(&mut self) -> Result<(), AllocError> {
-        for at in 0..self.outdated.len() {
-            let index = self.outdated.get(at).copied().unwrap_or(0);
-            self.wake(index)?;
-        }
-        self.outdated.clear();
-        Ok(())
+    /// Whether an instruction was put off; it no longer is.
+    fn was_put_off(&mut self, index: usize) -> bool {
+        let Some(mark) = self.outdated.get_mut(index) else {
+            return false;
+        };
+        let was = *mark;
+        *mark = false;
+        was
     }
 
     /// Whether an instruction looked there.
