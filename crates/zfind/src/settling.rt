@@ -4,8 +4,8 @@ ghost use Rattle.std.specs.Prelude.{◌≤◌, IfErr};
 ghost use Rattle.zfind.specs.Finding.{IsStopped};
 
 use crate::code::Code;
-use crate::effects::Visit;
 use crate::error::FindError;
+use crate::looking::look;
 use crate::state::{Plan, State};
 use crate::visits::count_visit;
 use crate::walk::Walk;
@@ -48,18 +48,8 @@ fn settle<V: Domain>(
     let Some(record) = code.records().get(index) else {
         return Ok(());
     };
-    let Some((locals, slots)) = state.sets_at(index) else {
-        return Ok(());
-    };
-    let visit = Visit {
-        alloc,
-        code,
-        state,
-        record,
-        locals,
-        slots,
-    };
-    let flow = visit.flow(tables);
-    let effects = visit.effects(&flow)?;
-    next.apply(index, record, &effects)
+    match look(alloc, code, tables, state, record, index)? {
+        Some(seen) => next.apply(index, record, &seen.effects),
+        None => Ok(()),
+    }
 }

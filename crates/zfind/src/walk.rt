@@ -5,18 +5,17 @@ ghost use Rattle.zfind.specs.Finding.{IsStopped};
 
 use crate::bytes::{Bytes, Span};
 use crate::code::Code;
-use crate::effects::{Calls, Effect, Effects, MOST_CALLEES, Visit, next_callee};
+use crate::effects::{Calls, Effect, Effects, MOST_CALLEES, next_callee};
 use crate::error::FindError;
 use crate::frame::Frame;
 use crate::groups::{Groups, index_in};
-use crate::openings::{open_written, reach_of};
+use crate::looking::look;
+use crate::openings::open_written;
 use crate::queue::Queue;
 use crate::state::{Plan, State};
 use crate::visits::count_visit;
 use std::alloc::{AllocError, Global};
-use zcode::{Operand, Operation};
 use zdomain::Domain;
-use zflow::{Demands, first_known};
 use zlist::Record;
 use zruns::Tables;
 
@@ -39,17 +38,6 @@ pub(crate) struct Walk<'a, V> {
     found: u32,
     /// How often each instruction was visited, where those come first that were visited least.
     visits: Option<Vec<u32>>,
-}
-
-/// What is seen of an instruction.
-#[derive(Drop)]
-struct Seen<V> {
-    effects: Effects<V>,
-    /// Words that it compares with.
-    learned: [Option<u16>; 2],
-    /// Where it looks for values.
-    reach: Option<Span>,
-    demands: Demands<V>,
 }
 
 impl<'a, V: Domain> Walk<'a, V> {
@@ -155,25 +143,13 @@ impl<'a, V: Domain> Walk<'a, V> {
 
     /// Visits an instruction.
     fn visit(&mut self, tables: &Tables<'_>, index: usize) -> Result<(), AllocError> {
-        let alloc = self.alloc;
         let code = self.code;
         let Some(record) = code.records().get(index) else {
             return Ok(());
         };
-        let Some((locals, slots)) = self.state.sets_at(index) else {
+        let Some(seen) = look(self.alloc, code, tables, &self.state, record, index)? else {
             return Ok(());
         };
-        let seen = look(
-            tables,
-            Visit {
-                alloc,
-                code,
-                state: &self.state,
-                record,
-                locals,
-                slots,
-            },
-        )?;
         self.note_visit(index, seen.reach);
         open_written(code, &mut self.bytes, &seen.demands);
         self.note_loaders();
@@ -435,51 +411,5 @@ impl<'a, V: Domain> Walk<'a, V> {
             Some(Some(reach)) => reach.meets(span),
             _ => false,
         }
-    }
-}
-
-/// What an instruction asks for and does.
-fn look<V: Domain>(tables: &Tables<'_>, visit: Visit<'_, V>) -> Result<Seen<V>, AllocError> {
-    let flow = visit.flow(tables);
-    Ok(Seen {
-        effects: visit.effects(&flow)?,
-        learned: learned_at(visit),
-        reach: reach_of(visit.code, &flow.demands),
-        demands: flow.demands,
-    })
-}
-
-/// The words that an instruction compares with what else it compares, where they are known of variables.
-fn learned_at<V: Domain>(visit: Visit<'_, V>) -> [Option<u16>; 2] {
-    let instruction = &visit.record.instruction;
-    let inputs = instruction.inputs();
-    let [first, second, ..] = inputs.as_slice() else {
-        return [None, None];
-    };
-    match instruction.opcode().operation() {
-        Operation::Compare(_) => [first_word(visit, *first), second_word(visit, *second)],
-        Operation::Count(_, Some(_)) => [None, second_word(visit, *second)],
-        _ => [None, None],
-    }
-}
-
-/// The word that a first operand has, if it is a variable of which one is known.
-fn first_word<V: Domain>(visit: Visit<'_, V>, operand: Operand) -> Option<u16> {
-    match operand {
-        Operand::Constant(_) => None,
-        Operand::Variable(_) => first_known(
-            visit.state.globals(),
-            visit.locals,
-            visit.slots,
-            &visit.record.instruction,
-        ),
-    }
-}
-
-/// The word that a second one has.
-fn second_word<V: Domain>(visit: Visit<'_, V>, operand: Operand) -> Option<u16> {
-    match operand {
-        Operand::Constant(_) => None,
-        Operand::Variable(_) => visit.argument(0)?.known(),
     }
 }
