@@ -1,0 +1,75 @@
+-- What the finder answers (own).
+use Rattle.std.specs.Prelude.{◌≡◌, ◌⊎◌, ⊤, ℕ}
+use Rattle.std.specs.Int.{w32, cast_signed}
+use Rattle.zstory.specs.LoadedStory.{LoadedStory}
+use Rattle.zlist.specs.declared.list_error.ListError.{ListError}
+use Rattle.zlist.specs.declared.list_error.ListError.TheVariants as faults
+use Rattle.zlist.specs.Listing.{ListedCode}
+use Rattle.zlist.specs.Listed.{IsLowestFault, Lists}
+use Rattle.zdomain.specs.declared.interval.Interval.{Interval}
+use Rattle.zdomain.specs.Interval.{interval_operations}
+use Rattle.zcert.specs.Certificate.{Certificate}
+use Rattle.zrule.specs.declared.rule.Rule.TheVariants.{Decodes, Successor}
+use Rattle.zcheck.specs.declared.refusal.Refusal.{Refusal}
+use Rattle.zcheck.specs.declared.refusal.Refusal.TheVariants as refusals
+use Rattle.zcheck.specs.Passes.{IsCause}
+use Rattle.zfind.specs.declared.error.FindError.{FindError}
+use Rattle.zfind.specs.declared.error.FindError.TheVariants.{NotFound, RoundLimit, OutOfMemory}
+use Rattle.zfind.specs.declared.error.Obstacle.{Obstacle}
+use Rattle.zfind.specs.declared.error.Obstacle.TheVariants as obstacles
+
+abbrev pub number_of : FindError → ℕ
+number_of (NotFound _) = 1
+number_of RoundLimit = 2
+number_of OutOfMemory = 3
+
+-- What a lister finds at fault, as what stands in the way of a certificate: no instruction stands at a place, or play leads on as no
+-- certificate can say, since the place is in one routine and goes one known way.
+abbrev pub told_of : ListError → FindError
+told_of (faults.Decode p _) = NotFound (obstacles.Place p Decodes)
+told_of (faults.TwoRoutines a) = NotFound (obstacles.Place (cast_signed w32 a) Successor)
+told_of (faults.ComputedJump a) = NotFound (obstacles.Place (cast_signed w32 a) Successor)
+told_of faults.OutOfMemory = OutOfMemory
+
+-- what a checker refuses a certificate for
+abbrev pub refused_for : Refusal → FindError
+refused_for (refusals.Story rule) = NotFound (obstacles.Story rule)
+refused_for (refusals.Instruction a rule) = NotFound (obstacles.Place (cast_signed w32 a) rule)
+refused_for refusals.OutOfMemory = OutOfMemory
+
+-- why a walk stops that may make so many visits more: none is left, or memory was refused
+abbrev pub IsStopped : ℕ → FindError → Type 0
+IsStopped left (NotFound _) = ⊥
+IsStopped left RoundLimit = left ≡ 0
+IsStopped left OutOfMemory = ⊤
+
+module _ (story : LoadedStory) where
+  -- the story lists something at fault, which is this
+  pub record IsFaulty (error : FindError) : Type 0 where
+    pub fault : ListError
+    pub lowest : IsLowestFault story fault
+    pub told : error ≡ told_of fault
+
+  -- nothing that the story lists is at fault
+  pub record IsListable : Type 0 where
+    pub listing : ListedCode
+    pub lists : Lists story listing
+
+  -- a certificate was tried, and this is wrong with it first
+  pub record IsTried (obstacle : Obstacle) : Type 0 where
+    pub certificate : Certificate Interval
+    pub refusal : Refusal
+    pub cause : IsCause interval_operations story certificate refusal
+    pub told : refused_for refusal ≡ NotFound obstacle
+
+  -- Why no certificate is found: a story that lists something at fault is refused for that, and for nothing else but want of memory.
+  abbrev pub IsFailure : FindError → Type 0
+  IsFailure (NotFound obstacle) = IsFaulty (NotFound obstacle) ⊎ (IsListable × IsTried obstacle)
+  IsFailure RoundLimit = IsListable
+  IsFailure OutOfMemory = ⊤
+
+  -- why none is found of a story that lists nothing at fault, where so many visits are left
+  abbrev pub IsWalkFailure : ℕ → FindError → Type 0
+  IsWalkFailure left (NotFound obstacle) = IsTried obstacle
+  IsWalkFailure left RoundLimit = left ≡ 0
+  IsWalkFailure left OutOfMemory = ⊤

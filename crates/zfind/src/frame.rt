@@ -1,0 +1,138 @@
+//! What is known of a frame.
+
+use std::alloc::{AllocError, Global};
+use zdomain::Domain;
+use zflow::Outcome;
+
+/// The greatest height of a stack before an instruction.
+pub(crate) const MOST_HEIGHT: usize = 64;
+
+/// The sets of a frame's locals, and behind them of its slots, the top last.
+#[derive(Drop)]
+pub(crate) struct Frame<V> {
+    locals: usize,
+    sets: Vec<V>,
+}
+
+impl<V: Domain> Frame<V> {
+    /// One of no local and no slot.
+    pub(crate) fn empty(alloc: Global) -> Frame<V> {
+        Frame {
+            locals: 0,
+            sets: Vec::new(alloc),
+        }
+    }
+
+    /// What is known behind an instruction, where it left these sets of the locals and of the slots that it didn't take. `None` where what
+    /// a branch says leaves a local no value.
+    pub(crate) fn behind(
+        alloc: Global,
+        locals: &[V],
+        slots: &[V],
+        outcome: &Outcome<V>,
+        target: u8,
+    ) -> Result<Option<Frame<V>>, AllocError> {
+        let mut frame = Frame {
+            locals: locals.len(),
+            sets: Vec::from_slice(alloc, locals)?,
+        };
+        frame.sets.extend_from_slice(slots)?;
+        if let Some((variable, set)) = outcome.assigns {
+            frame.replace(variable, set);
+        }
+        if let Some(set) = outcome.gives {
+            frame.give(target, set)?;
+        }
+        if frame.keeps(outcome.kept.first) && frame.keeps(outcome.kept.second) {
+            Ok(Some(frame))
+        } else {
+            Ok(None)
+        }
+    }
+
+    /// Gives a variable a value of a set in place, if that is the top slot or one of the locals.
+    fn replace(&mut self, variable: u8, set: V) {
+        if variable > 0 {
+            self.give_local(variable, set);
+            return;
+        }
+        match self.sets.len().checked_sub(1) {
+            Some(top) if self.locals <= top => self.put(top, set),
+            _ => {}
+        }
+    }
+
+    /// Leaves a local the values that a branch says that it has, if it says that of one. Whether there are any.
+    fn keeps(&mut self, kept: Option<(u8, V)>) -> bool {
+        let Some((variable, set)) = kept else {
+            return true;
+        };
+        let index = usize::from(variable.saturating_sub(1));
+        let Some(before) = self.locals().get(index).copied() else {
+            return true;
+        };
+        match before.meet(set) {
+            Some(left) => {
+                self.put(index, left);
+                true
+            }
+            None => false,
+        }
+    }
+
+    /// Puts a set behind those that are there: of a local, as long as there is no slot, or of a new top slot.
+    pub(crate) fn push(&mut self, set: V) -> Result<(), AllocError> {
+        self.sets.push(set)?;
+        Ok(())
+    }
+
+    /// Says that all sets that are there are those of locals.
+    pub(crate) fn end_locals(&mut self) {
+        self.locals = self.sets.len();
+    }
+
+    /// Gives a value of a set to a variable, if that is the stack or one of the locals.
+    pub(crate) fn give(&mut self, variable: u8, set: V) -> Result<(), AllocError> {
+        if variable == 0 {
+            self.push(set)?;
+        } else {
+            self.give_local(variable, set);
+        }
+        Ok(())
+    }
+
+    /// Gives a value of a set to a variable, if that is one of the locals.
+    fn give_local(&mut self, variable: u8, set: V) {
+        let index = usize::from(variable.saturating_sub(1));
+        if index < self.locals {
+            self.put(index, set);
+        }
+    }
+
+    /// Puts a set in the place of another.
+    fn put(&mut self, index: usize, set: V) {
+        if let Some(there) = self.sets.get_mut(index) {
+            *there = set;
+        }
+    }
+
+    /// The sets of the locals.
+    fn locals(&self) -> &[V] {
+        self.sets.as_slice().get(..self.locals).unwrap_or(&[])
+    }
+
+    /// How many locals there are.
+    pub(crate) fn local_count(&self) -> usize {
+        self.locals
+    }
+
+    /// How many slots there are.
+    pub(crate) fn height(&self) -> usize {
+        self.sets.len().saturating_sub(self.locals)
+    }
+
+    /// The sets of the locals, and behind them those of the slots.
+    pub(crate) fn sets(&self) -> &[V] {
+        &self.sets
+    }
+}
