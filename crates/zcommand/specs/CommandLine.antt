@@ -12,9 +12,13 @@ use Rattle.clap.specs.declared.builder.value_parser.ValueParser.TheVariants as p
 use Rattle.zcommand.specs.declared.words.Command.{Command}
 use Rattle.zcommand.specs.declared.words.Command.TheVariants as commands
 
+-- a word without a name before it, which has to be there or may be
+abbrev pub word_rule : Text → Bool → Rule
+word_rule name required = record (new_rule name) { required = required }
+
 -- `STORY`, which has to be there
 abbrev pub story_rule : Rule
-story_rule = record (new_rule (codes "STORY")) { required = true }
+story_rule = word_rule (codes "STORY") true
 
 -- `--seed N`, where N is a u64
 abbrev pub seed_rule : Rule
@@ -44,11 +48,11 @@ save_rule = record (new_rule (codes "save")) { long = Some (codes "save"); value
 
 -- `CERT`, which has to be there or may be
 abbrev pub certificate_rule : Bool → Rule
-certificate_rule required = record (new_rule (codes "CERT")) { required = required }
+certificate_rule required = word_rule (codes "CERT") required
 
 -- `CODE`, which has to be there
 abbrev pub code_rule : Rule
-code_rule = record (new_rule (codes "CODE")) { required = true }
+code_rule = word_rule (codes "CODE") true
 
 -- a command on a story, and on a certificate, which has to be there or may be
 abbrev pub files_app : Text → Bool → App

@@ -4,7 +4,7 @@ ghost use Rattle.std.specs.Prelude.{◌≡◌, IfOk, IsSomeAnd, codes, false};
 ghost use Rattle.clap.specs.Walk.{texts};
 ghost use Rattle.clap.specs.Words.{FailsBy, app_of, fault_of, found_of, rows_of, rule_of, subcommand_name_of, subcommand_of, subcommand_rows_of};
 ghost use Rattle.clap.specs.declared.builder.command.Command.TheViews.{out-Command as fields_of};
-ghost use Rattle.zcommand.specs.CommandLine.{IsCommand, IsReadFrom, bare_app, budget_rule, certificate_rule, certifying_app, check_app, code_rule, explain_app, files_app, find_app, list_app, play_app, save_rule, seed_rule, status_rule, story_rule, zpc_app};
+ghost use Rattle.zcommand.specs.CommandLine.{IsCommand, IsReadFrom, bare_app, budget_rule, certificate_rule, certifying_app, check_app, code_rule, explain_app, files_app, find_app, list_app, play_app, save_rule, seed_rule, status_rule, story_rule, word_rule, zpc_app};
 
 use clap::{Arg, ArgAction, ArgMatches, Error, value_parser};
 use std::alloc::{AllocError, Global};
@@ -236,31 +236,38 @@ fn on_files<'a>(
     command.arg(story(alloc))?.arg(certificate(alloc, required))
 }
 
+/// A word without a name before it, which has to be there or may be.
+fn word<'a>(alloc: Global, name: &'a str, help: &'a str, required: bool) -> Arg<'a>
+    ensures rule { rule_of result ≡ word_rule name.now required }
+    ensures local { result.global ≡ false }
+{
+    Arg::new(alloc, name).help(help).required(required)
+}
+
 fn story<'a>(alloc: Global) -> Arg<'a>
     ensures rule { rule_of result ≡ story_rule }
     ensures local { result.global ≡ false }
 {
-    Arg::new(alloc, "STORY")
-        .help("The story's file")
-        .required(true)
+    word(alloc, "STORY", "The story's file", true)
 }
 
 fn certificate<'a>(alloc: Global, required: bool) -> Arg<'a>
     ensures rule { rule_of result ≡ certificate_rule required }
     ensures local { result.global ≡ false }
 {
-    Arg::new(alloc, "CERT")
-        .help("The certificate's file")
-        .required(required)
+    word(alloc, "CERT", "The certificate's file", required)
 }
 
 fn code<'a>(alloc: Global) -> Arg<'a>
     ensures rule { rule_of result ≡ code_rule }
     ensures local { result.global ≡ false }
 {
-    Arg::new(alloc, "CODE")
-        .help("The code of a refusal, a fault or a failure, as I5 or F11")
-        .required(true)
+    word(
+        alloc,
+        "CODE",
+        "The code of a refusal, a fault or a failure, as I5 or F11",
+        true,
+    )
 }
 
 fn seed<'a>(alloc: Global) -> Arg<'a>
