@@ -17,6 +17,7 @@ pub mod Operations
 pub mod Full
 pub mod Quiet
 pub mod Stepped
+pub mod Awaiting
 pub mod Inside
 pub mod Known
 pub mod Playing

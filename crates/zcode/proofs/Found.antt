@@ -1,7 +1,7 @@
--- What is read is spelled, and played.
+-- What is read is spelled.
 use Rattle.std.proofs.Common.{◌≡◌, ℕ, ◌-◌, ◌<◌, List, [], ◌∷◌, ◌++◌, length, Ok, Option, Some, None, refl, sym, subst, ◌∙◌, append_assoc, arith, length-append, Bool}
 use Rattle.std.specs.Option.{option_to_list}
-use Rattle.std.specs.Prelude.{IsTrue, is_some}
+use Rattle.std.specs.Prelude.{is_some}
 use Rattle.zcode.specs.declared.types.OperandType.{OperandType}
 use Rattle.zcode.specs.declared.instr.Operand.{Operand}
 use Rattle.zcode.specs.declared.instr.Branch.{Branch}
@@ -9,7 +9,7 @@ use Rattle.zcode.specs.declared.opcode.Opcode.{Opcode}
 use Rattle.zcode.specs.Instruction.{Instruction, IsWellFormed}
 use Rattle.zcode.specs.Opcodes.{TakesOperands, stores, branches, prints_text}
 use Rattle.zcode.specs.Spelling.{Form, Long, ShortOne, ShortZero, VariableTwo, VariableMany, SpellsHead, Spells, IsAtFront, SpellsOperands, SpellsBranchIf, SpellsTextIf}
-use Rattle.zcode.specs.Reading.{head_at, operands_at, store_if, branch_if, text_if, instruction_by}
+use Rattle.zcode.specs.Reading.{head_at, operands_at, store_if, branch_if, text_if, instruction_at}
 use Rattle.zcode.proofs.Steps.{bind_ok, ok_is}
 use Rattle.zcode.proofs.FoundHead.{HeadFrom, found_head}
 use Rattle.zcode.proofs.FoundParts.{found_operands, found_store, found_branch_if, found_text_if}
@@ -20,53 +20,44 @@ joined bytes a b s c d rest e = e ∙ simp append_assoc
 sized : (bytes front rest : List ℕ) → bytes ≡ front ++ rest → length bytes - length rest ≡ length front
 sized bytes front rest e = rw e (omega (arith, length-append front rest))
 
--- what is read, with how it is spelled
-pub record IsFound (plays : Opcode → Bool) (bytes : List ℕ) (i : Instruction) : Type 0 where
-  pub spelled : IsAtFront bytes i
-  pub played : IsTrue (plays i.opcode)
-
 -- the parts, one after another, are the whole
-assembled : (plays : Opcode → Bool) (i : Instruction) (ts : List OperandType) (bytes after_head operands after_operands after_store branch after_branch text rest : List ℕ)
-    → HeadFrom plays bytes (record { opcode = i.opcode; operand_types = ts }) after_head
+assembled : (i : Instruction) (ts : List OperandType) (bytes after_head operands after_operands after_store branch after_branch text rest : List ℕ)
+    → HeadFrom bytes (record { opcode = i.opcode; operand_types = ts }) after_head
     → after_head ≡ operands ++ after_operands → SpellsOperands ts operands i.operands
     → after_operands ≡ option_to_list i.store ++ after_store → is_some i.store ≡ stores i.opcode
     → after_store ≡ branch ++ after_branch → SpellsBranchIf (branches i.opcode) branch i.branch
     → after_branch ≡ text ++ rest → SpellsTextIf (prints_text i.opcode) text
     → i.size ≡ length bytes - length rest
-    → IsFound plays bytes i
-assembled plays i ts bytes after_head operands after_operands after_store branch after_branch text rest head operands_at operands_are store_at store_is branch_at branch_is text_at text_is size_is =
+    → IsAtFront bytes i
+assembled i ts bytes after_head operands after_operands after_store branch after_branch text rest head operands_at operands_are store_at store_is branch_at branch_is text_at text_is size_is =
     let store = option_to_list i.store in
     let nested : bytes ≡ head.front ++ (operands ++ (store ++ (branch ++ (text ++ rest)))) = rw (head.whole, operands_at, store_at, branch_at, text_at) refl in
-    let whole : bytes ≡ (head.front ++ operands ++ store ++ branch ++ text) ++ rest = joined bytes head.front operands store branch text rest nested in
-    record {
-      spelled = (
-        head.front ++ operands ++ store ++ branch ++ text,
-        rest,
-        whole,
-        record {
-          form = head.form;
-          operand_types = ts;
-          head = head.front;
-          operands = operands;
-          branch = branch;
-          text = text;
-          whole = refl;
-          head_is = head.spelled;
-          number_is = head.number;
-          operands_are = operands_are;
-          store_is = store_is;
-          branch_is = branch_is;
-          text_is = text_is;
-          size_is = size_is ∙ sized bytes _ rest whole;
-        },
-      );
-      played = head.played;
-    }
+    let whole : bytes ≡ (head.front ++ operands ++ store ++ branch ++ text) ++ rest = joined bytes head.front operands store branch text rest nested in (
+      head.front ++ operands ++ store ++ branch ++ text,
+      rest,
+      whole,
+      record {
+        form = head.form;
+        operand_types = ts;
+        head = head.front;
+        operands = operands;
+        branch = branch;
+        text = text;
+        whole = refl;
+        head_is = head.spelled;
+        number_is = head.number;
+        operands_are = operands_are;
+        store_is = store_is;
+        branch_is = branch_is;
+        text_is = text_is;
+        size_is = size_is ∙ sized bytes _ rest whole;
+      },
+    )
 
-pub found : (plays : Opcode → Bool) (bytes : List ℕ) (i : Instruction) → instruction_by plays bytes ≡ Ok i → IsFound plays bytes i
-unfolding instruction_by
-found plays bytes i e =
-    let h = bind_ok (head_at plays bytes) _ _ e in
+pub found : (bytes : List ℕ) (i : Instruction) → instruction_at bytes ≡ Ok i → IsAtFront bytes i
+unfolding instruction_at
+found bytes i e =
+    let h = bind_ok (head_at bytes) _ _ e in
     let o = bind_ok (operands_at h.0.0.operand_types h.0.1) _ _ h.2 in
     let s = bind_ok (store_if (stores h.0.0.opcode) o.0.1) _ _ o.2 in
     let b = bind_ok (branch_if (branches h.0.0.opcode) s.0.1) _ _ s.2 in
@@ -75,7 +66,7 @@ found plays bytes i e =
     let sf = found_store (stores h.0.0.opcode) o.0.1 s.0.0 s.0.1 s.1 in
     let bf = found_branch_if (branches h.0.0.opcode) s.0.1 b.0.0 b.0.1 b.1 in
     let xf = found_text_if (prints_text h.0.0.opcode) b.0.1 x.0 x.1 in
-    subst (λ (j : Instruction). IsFound plays bytes j) (ok_is _ _ x.2) (assembled plays _ h.0.0.operand_types bytes h.0.1 of.0 o.0.1 s.0.1 bf.0 b.0.1 xf.0 x.0 (found_head plays bytes h.0.0 h.0.1 h.1) of.1 of.2 sf.0 sf.1 bf.1 bf.2 xf.1 xf.2 refl)
+    subst (λ (j : Instruction). IsAtFront bytes j) (ok_is _ _ x.2) (assembled _ h.0.0.operand_types bytes h.0.1 of.0 o.0.1 s.0.1 bf.0 b.0.1 xf.0 x.0 (found_head bytes h.0.0 h.0.1 h.1) of.1 of.2 sf.0 sf.1 bf.1 bf.2 xf.1 xf.2 refl)
 
 -- ---- what is spelled is well formed
 
@@ -106,5 +97,5 @@ spelled_well_formed bytes i s = record {
       );
 }
 
-pub well_formed : (plays : Opcode → Bool) (bytes : List ℕ) (i : Instruction) → instruction_by plays bytes ≡ Ok i → IsWellFormed i
-well_formed plays bytes i e = let f = found plays bytes i e in spelled_well_formed f.spelled.0 i f.spelled.3
+pub well_formed : (bytes : List ℕ) (i : Instruction) → instruction_at bytes ≡ Ok i → IsWellFormed i
+well_formed bytes i e = let f = found bytes i e in spelled_well_formed f.0 i f.3

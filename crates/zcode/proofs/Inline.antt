@@ -12,7 +12,6 @@ use Rattle.zcode.specs.declared.instr.Branch.{Branch}
 use Rattle.zcode.specs.declared.opcode.Opcode.{Opcode}
 use Rattle.zcode.specs.declared.opcode.Opcode.TheVariants.{Print, PrintRet}
 use Rattle.zcode.specs.Opcodes.{Entry, missing, table, operand_bounds, stores, branches, prints_text}
-use Rattle.zcode.specs.Playable.{playable}
 use Rattle.zcode.specs.Instruction.{Instruction}
 use Rattle.zcode.specs.Reading.{instruction_at}
 use Rattle.zcode.specs.Spelling.{Form, Long, ShortOne, ShortZero, VariableTwo, VariableMany, SpellsHead, IsAtFront, SpellsOperands, SpellsBranchIf, SpellsTextIf}
@@ -94,4 +93,4 @@ inline_front cut memory at i (front, rest, whole, s) text =
     ap (option_map length) (ap front_text later ∙ cut s.text rest is_text) ∙ ap (λ (n : ℕ). Some n) (omega (arith, long))
 
 pub inline_length : ((text rest : List ℕ) → IsText text → front_text (text ++ rest) ≡ Some text) → (memory : List ℕ) (at : ℕ) (i : Instruction) → instruction_at (drop at memory) ≡ Ok i → IsTrue (prints_text i.opcode) → length_at memory (at + 1) ≡ Some (i.size - 1)
-inline_length cut memory at i e text = inline_front cut memory at i (found playable (drop at memory) i e).spelled text
+inline_length cut memory at i e text = inline_front cut memory at i (found (drop at memory) i e) text

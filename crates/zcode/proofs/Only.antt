@@ -1,8 +1,8 @@
--- What is spelled and played is read.
+-- What is spelled is read.
 use Rattle.std.proofs.Common.{◌≡◌, ℕ, ◌/◌, ◌%◌, ◌-◌, Bool, true, false, List, [], ◌∷◌, ◌++◌, length, Ok, Option, Some, None, refl, ap, ◌∙◌, append_assoc, arith, length-append}
 use Rattle.std.proofs.lemmas.Bool.{le-ltb, lt-ltb}
 use Rattle.std.specs.Option.{option_to_list}
-use Rattle.std.specs.Prelude.{IsTrue, is_some}
+use Rattle.std.specs.Prelude.{is_some}
 use Rattle.ztext.specs.Words.{IsText, after_text}
 use Rattle.zcode.specs.declared.types.OperandType.{OperandType}
 use Rattle.zcode.specs.declared.types.OperandType.TheVariants.{Large, Small, Variable}
@@ -14,7 +14,7 @@ use Rattle.zcode.specs.declared.opcode.Opcode.{Opcode}
 use Rattle.zcode.specs.Instruction.{Instruction}
 use Rattle.zcode.specs.Opcodes.{TakesOperands, branches, opcode_of, prints_text, stores}
 use Rattle.zcode.specs.Spelling.{Form, Long, ShortOne, ShortZero, VariableTwo, VariableMany, IsAtFront, SpellsBranch, SpellsBranchIf, SpellsHead, SpellsOperand, SpellsOperands, SpellsTextIf, long_type, types_of}
-use Rattle.zcode.specs.Reading.{Head, branch_at, branch_if, checked_head, head_at, instruction_by, long_head, operand_at, operands_at, played_opcode, short_head, store_if, text_if, variable_head}
+use Rattle.zcode.specs.Reading.{Head, branch_at, branch_if, checked_head, head_at, instruction_at, long_head, operand_at, operands_at, short_head, store_if, text_if, variable_head}
 
 -- ---- what follows the head
 
@@ -68,70 +68,62 @@ again_text_if true front rest s = rw (again_text front rest s, text_if) refl
 abbrev head_of : Opcode → List OperandType → Head
 head_of opcode ts = record { opcode = opcode; operand_types = ts }
 
--- what the reading of a head needs of its opcode and types, beside how they are spelled
-abbrev IsPlayed : (Opcode → Bool) → Opcode → List OperandType → Type 0
-IsPlayed plays opcode ts = IsTrue (plays opcode) × TakesOperands opcode (length ts)
-
-again_played : (plays : Opcode → Bool) (count : OperandCount) (number : ℕ) (opcode : Opcode) → opcode_of count number ≡ Ok opcode → IsTrue (plays opcode) → played_opcode plays count number ≡ Ok opcode
-unfolding played_opcode
-again_played plays count number opcode e played = rw (e, played) refl
-
 again_checked : (opcode : Opcode) (ts : List OperandType) → TakesOperands opcode (length ts) → checked_head opcode ts ≡ Ok (head_of opcode ts)
 unfolding checked_head
 again_checked opcode ts fits = rw (le-ltb _ _ fits.0, le-ltb _ _ fits.1) refl
 
-again_long : (plays : Opcode → Bool) (b : ℕ) (opcode : Opcode) (ts : List OperandType) → opcode_of Two (b % 32) ≡ Ok opcode → ts ≡ long_type (b / 64 % 2) ∷ long_type (b / 32 % 2) ∷ [] → IsPlayed plays opcode ts → long_head plays b ≡ Ok (head_of opcode ts)
+again_long : (b : ℕ) (opcode : Opcode) (ts : List OperandType) → opcode_of Two (b % 32) ≡ Ok opcode → ts ≡ long_type (b / 64 % 2) ∷ long_type (b / 32 % 2) ∷ [] → TakesOperands opcode (length ts) → long_head b ≡ Ok (head_of opcode ts)
 unfolding long_head
-again_long plays b opcode ts e is p = rw (again_played plays Two (b % 32) opcode e p.0, ← is) (again_checked opcode ts p.1)
+again_long b opcode ts e is p = rw (e, ← is) (again_checked opcode ts p)
 
-again_short : (plays : Opcode → Bool) (b : ℕ) (opcode : Opcode) (t : OperandType) → opcode_of One (b % 16) ≡ Ok opcode → IsPlayed plays opcode (t ∷ []) → short_head plays b (Some t) ≡ Ok (head_of opcode (t ∷ []))
+again_short : (b : ℕ) (opcode : Opcode) (t : OperandType) → opcode_of One (b % 16) ≡ Ok opcode → TakesOperands opcode (length (t ∷ [])) → short_head b (Some t) ≡ Ok (head_of opcode (t ∷ []))
 unfolding short_head
-again_short plays b opcode t e p = rw (again_played plays One (b % 16) opcode e p.0) (again_checked opcode (t ∷ []) p.1)
+again_short b opcode t e p = rw (e) (again_checked opcode (t ∷ []) p)
 
-again_bare : (plays : Opcode → Bool) (b : ℕ) (opcode : Opcode) → opcode_of Zero (b % 16) ≡ Ok opcode → IsPlayed plays opcode [] → short_head plays b None ≡ Ok (head_of opcode [])
+again_bare : (b : ℕ) (opcode : Opcode) → opcode_of Zero (b % 16) ≡ Ok opcode → TakesOperands opcode 0 → short_head b None ≡ Ok (head_of opcode [])
 unfolding short_head
-again_bare plays b opcode e p = rw (again_played plays Zero (b % 16) opcode e p.0) (again_checked opcode [] p.1)
+again_bare b opcode e p = rw (e) (again_checked opcode [] p)
 
-again_variable : (plays : Opcode → Bool) (count : OperandCount) (b t : ℕ) (rest : List ℕ) (opcode : Opcode) (ts : List OperandType) → opcode_of count (b % 32) ≡ Ok opcode → ts ≡ types_of t → IsPlayed plays opcode ts → variable_head plays count b (t ∷ rest) ≡ Ok (head_of opcode ts, rest)
+again_variable : (count : OperandCount) (b t : ℕ) (rest : List ℕ) (opcode : Opcode) (ts : List OperandType) → opcode_of count (b % 32) ≡ Ok opcode → ts ≡ types_of t → TakesOperands opcode (length ts) → variable_head count b (t ∷ rest) ≡ Ok (head_of opcode ts, rest)
 unfolding variable_head
-again_variable plays count b t rest opcode ts e is p = rw (again_played plays count (b % 32) opcode e p.0, ← is, again_checked opcode ts p.1) refl
+again_variable count b t rest opcode ts e is p = rw (e, ← is, again_checked opcode ts p) refl
 
-again_head : (plays : Opcode → Bool) (form : Form) (front rest : List ℕ) (opcode : Opcode) (ts : List OperandType) → SpellsHead form front opcode ts → IsPlayed plays opcode ts → head_at plays (front ++ rest) ≡ Ok (head_of opcode ts, rest)
+again_head : (form : Form) (front rest : List ℕ) (opcode : Opcode) (ts : List OperandType) → SpellsHead form front opcode ts → TakesOperands opcode (length ts) → head_at (front ++ rest) ≡ Ok (head_of opcode ts, rest)
 unfolding head_at
-again_head plays Long [] rest opcode ts s p = absurd s
-again_head plays Long (b ∷ []) rest opcode ts s p = rw (lt-ltb b 0x80 s.0, again_long plays b opcode ts s.1 s.2 p) refl
-again_head plays Long (b ∷ c ∷ front) rest opcode ts s p = absurd s
-again_head plays ShortOne [] rest opcode ts s p = absurd s
-again_head plays ShortOne (b ∷ []) rest opcode ts s p =
+again_head Long [] rest opcode ts s p = absurd s
+again_head Long (b ∷ []) rest opcode ts s p = rw (lt-ltb b 0x80 s.0, again_long b opcode ts s.1 s.2 p) refl
+again_head Long (b ∷ c ∷ front) rest opcode ts s p = absurd s
+again_head ShortOne [] rest opcode ts s p = absurd s
+again_head ShortOne (b ∷ []) rest opcode ts s p =
     let is = s.5 in
-    rw (le-ltb b 0x80 s.0, lt-ltb b 0xC0 s.1, s.4, is, again_short plays b opcode s.3 s.2 (rw is at p)) refl
-again_head plays ShortOne (b ∷ c ∷ front) rest opcode ts s p = absurd s
-again_head plays ShortZero [] rest opcode ts s p = absurd s
-again_head plays ShortZero (b ∷ []) rest opcode ts s p =
+    rw (le-ltb b 0x80 s.0, lt-ltb b 0xC0 s.1, s.4, is, again_short b opcode s.3 s.2 (rw is at p)) refl
+again_head ShortOne (b ∷ c ∷ front) rest opcode ts s p = absurd s
+again_head ShortZero [] rest opcode ts s p = absurd s
+again_head ShortZero (b ∷ []) rest opcode ts s p =
     let is = s.4 in
-    rw (le-ltb b 0x80 s.0, lt-ltb b 0xC0 s.1, s.3, is, again_bare plays b opcode s.2 (rw is at p)) refl
-again_head plays ShortZero (b ∷ c ∷ front) rest opcode ts s p = absurd s
-again_head plays VariableTwo [] rest opcode ts s p = absurd s
-again_head plays VariableTwo (b ∷ []) rest opcode ts s p = absurd s
-again_head plays VariableTwo (b ∷ t ∷ []) rest opcode ts s p = rw (le-ltb b 0x80 (omega (arith, s.0)), le-ltb b 0xC0 s.0, lt-ltb b 0xE0 s.1) (again_variable plays Two b t rest opcode ts s.2 s.3 p)
-again_head plays VariableTwo (b ∷ t ∷ c ∷ front) rest opcode ts s p = absurd s
-again_head plays VariableMany [] rest opcode ts s p = absurd s
-again_head plays VariableMany (b ∷ []) rest opcode ts s p = absurd s
-again_head plays VariableMany (b ∷ t ∷ []) rest opcode ts s p = rw (le-ltb b 0x80 (omega (arith, s.0)), le-ltb b 0xC0 (omega (arith, s.0)), le-ltb b 0xE0 s.0) (again_variable plays Many b t rest opcode ts s.1 s.2 p)
-again_head plays VariableMany (b ∷ t ∷ c ∷ front) rest opcode ts s p = absurd s
+    rw (le-ltb b 0x80 s.0, lt-ltb b 0xC0 s.1, s.3, is, again_bare b opcode s.2 (rw is at p)) refl
+again_head ShortZero (b ∷ c ∷ front) rest opcode ts s p = absurd s
+again_head VariableTwo [] rest opcode ts s p = absurd s
+again_head VariableTwo (b ∷ []) rest opcode ts s p = absurd s
+again_head VariableTwo (b ∷ t ∷ []) rest opcode ts s p = rw (le-ltb b 0x80 (omega (arith, s.0)), le-ltb b 0xC0 s.0, lt-ltb b 0xE0 s.1) (again_variable Two b t rest opcode ts s.2 s.3 p)
+again_head VariableTwo (b ∷ t ∷ c ∷ front) rest opcode ts s p = absurd s
+again_head VariableMany [] rest opcode ts s p = absurd s
+again_head VariableMany (b ∷ []) rest opcode ts s p = absurd s
+again_head VariableMany (b ∷ t ∷ []) rest opcode ts s p = rw (le-ltb b 0x80 (omega (arith, s.0)), le-ltb b 0xC0 (omega (arith, s.0)), le-ltb b 0xE0 s.0) (again_variable Many b t rest opcode ts s.1 s.2 p)
+again_head VariableMany (b ∷ t ∷ c ∷ front) rest opcode ts s p = absurd s
 
 -- ---- the whole
 
 apart : (a b s c d rest : List ℕ) → (a ++ b ++ s ++ c ++ d) ++ rest ≡ a ++ (b ++ (s ++ (c ++ (d ++ rest))))
 apart a b s c d rest = simp append_assoc
 
-pub only : (plays : Opcode → Bool) (bytes : List ℕ) (i : Instruction) → IsAtFront bytes i → IsTrue (plays i.opcode) → instruction_by plays bytes ≡ Ok i
-unfolding instruction_by
-only plays bytes i (front, rest, parts, s) played =
+pub only : (bytes : List ℕ) (i : Instruction) → IsAtFront bytes i → instruction_at bytes ≡ Ok i
+unfolding instruction_at
+only bytes i (front, rest, parts, s) =
     let store = option_to_list i.store in
     let size : length bytes - length rest ≡ i.size = rw (parts, s.size_is) (omega (arith, length-append front rest)) in
     let nested : bytes ≡ s.head ++ (s.operands ++ (store ++ (s.branch ++ (s.text ++ rest)))) = parts ∙ ap (λ (xs : List ℕ). xs ++ rest) s.whole ∙ apart s.head s.operands store s.branch s.text rest in
-    let head : head_at plays bytes ≡ Ok (head_of i.opcode s.operand_types, s.operands ++ (store ++ (s.branch ++ (s.text ++ rest)))) = ap (head_at plays) nested ∙ again_head plays s.form s.head _ i.opcode s.operand_types s.head_is (played, s.number_is) in
+    let head : head_at bytes ≡ Ok (head_of i.opcode s.operand_types, s.operands ++ (store ++ (s.branch ++ (s.text ++ rest)))) = ap head_at nested ∙ again_head s.form s.head _ i.opcode s.operand_types s.head_is s.number_is in
     rw (
       head,
       again_operands s.operand_types s.operands (store ++ (s.branch ++ (s.text ++ rest))) i.operands s.operands_are,

@@ -1,15 +1,9 @@
--- What is played does something.
-use Rattle.std.proofs.Common.{◌≡◌, ◌≤◌, ◌+◌, ℕ, length, true, arith}
-use Rattle.std.specs.Prelude.{is_some}
+-- What an instruction reads.
+use Rattle.std.proofs.Common.{◌≤◌, ◌+◌, ℕ, length, arith}
 use Rattle.zcode.specs.declared.opcode.Opcode.{Opcode}
 use Rattle.zcode.specs.declared.opcode.Opcode.TheVariants.{Je}
-use Rattle.zcode.specs.Playable.{playable}
 use Rattle.zcode.specs.Opcodes.{TakesOperands}
-use Rattle.zcode.specs.Operation.{operation_of, implied}
-
-pub played_operate : (opcode : Opcode) → playable opcode ≡ true → is_some (operation_of opcode) ≡ true
-unfolding playable
-played_operate opcode h = h
+use Rattle.zcode.specs.Operation.{implied}
 
 -- what is implied stands behind at most one operand
 pub few_inputs : (opcode : Opcode) (n : ℕ) → TakesOperands opcode n → n + length (implied opcode) ≤ 4

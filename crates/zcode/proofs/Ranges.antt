@@ -13,7 +13,6 @@ use Rattle.zcode.specs.declared.instr.Operand.{Operand}
 use Rattle.zcode.specs.declared.instr.Operand.TheVariants.{Constant, Variable}
 use Rattle.zcode.specs.Instruction.{Instruction}
 use Rattle.zcode.specs.Operation.{implied, inputs, target}
-use Rattle.zcode.specs.Playable.{playable}
 use Rattle.zcode.specs.Reading.{instruction_at}
 use Rattle.zcode.specs.Spelling.{SpellsOperand, SpellsOperands, Spells}
 use Rattle.zcode.proofs.Found.{found}
@@ -88,6 +87,6 @@ spelled_ranges front i are s =
 
 pub read_ranges : (memory : List ℕ) (at : ℕ) (i : Instruction) → AreBytes memory → instruction_at (drop at memory) ≡ Ok i → HasRanges i
 read_ranges memory at i are e =
-    let spelled = (found playable (drop at memory) i e).spelled in
+    let spelled = found (drop at memory) i e in
     let all : AreBytes (spelled.0 ++ spelled.1) = subst AreBytes spelled.2 (bytes_from memory at are) in
     spelled_ranges spelled.0 i (bytes_before spelled.0 spelled.1 all) spelled.3

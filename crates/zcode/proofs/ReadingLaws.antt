@@ -1,64 +1,56 @@
 -- Laws of reading and spelling.
 use Rattle.std.proofs.Common.{◌≡◌, ℕ, ◌<◌, ◌≤◌, ◌+◌, ◌-◌, Bool, true, List, [], ◌++◌, length, get_or, Result, Ok, Err, refl, sym, ap, ◌∙◌, take, drop, arith, length-append, length-drop, ◌↔◌}
 use Rattle.std.proofs.lemmas.List.{take_at, ext_get_or, get_or-take, get_or-drop, take-append-drop, length-take, drop_all}
-use Rattle.std.specs.Prelude.{IfOk, IsTrue}
+use Rattle.std.specs.Prelude.{IfOk}
 use Rattle.zcode.specs.declared.error.DecodeError.{DecodeError}
 use Rattle.zcode.specs.declared.error.DecodeError.TheVariants.{Truncated}
 use Rattle.zcode.specs.declared.opcode.Opcode.{Opcode}
 use Rattle.zcode.specs.Instruction.{Instruction}
-use Rattle.zcode.specs.Playable.{playable}
 use Rattle.zcode.specs.Spelling.{IsAtFront, Spells}
-use Rattle.zcode.specs.Reading.{Agree, head_at, instruction_at, instruction_by}
+use Rattle.zcode.specs.Reading.{Agree, head_at, instruction_at}
 use Rattle.zcode.proofs.Found.{found, well_formed}
 use Rattle.zcode.proofs.Only.{only}
 
 -- ---- what the clauses of `decode` say, from what it answers
 
 pub nothing_there : instruction_at [] ≡ Err Truncated
-unfolding instruction_by head_at
+unfolding instruction_at head_at
 nothing_there = refl
 
 pub nothing_past : (memory : List ℕ) (at : ℕ) → length memory ≤ at → Err Truncated ≡ instruction_at (drop at memory)
 nothing_past memory at past = rw (drop_all at memory past) (sym nothing_there)
 
 pub found_if : (r : Result Instruction DecodeError) (bytes : List ℕ) → r ≡ instruction_at bytes → IfOk r (λ i. IsAtFront bytes i)
-found_if (Ok i) bytes e = (found playable bytes i (sym e)).spelled
+found_if (Ok i) bytes e = found bytes i (sym e)
 found_if (Err d) bytes e = tt
 
-pub played_if : (r : Result Instruction DecodeError) (bytes : List ℕ) → r ≡ instruction_at bytes → IfOk r (λ i. IsTrue (playable i.opcode))
-played_if (Ok i) bytes e = (found playable bytes i (sym e)).played
-played_if (Err d) bytes e = tt
-
-pub only_if : (r : Result Instruction DecodeError) (bytes : List ℕ) → r ≡ instruction_at bytes → (i : Instruction) → IsAtFront bytes i → IsTrue (playable i.opcode) → r ≡ Ok i
-only_if r bytes e i s p = e ∙ only playable bytes i s p
+pub only_if : (r : Result Instruction DecodeError) (bytes : List ℕ) → r ≡ instruction_at bytes → (i : Instruction) → IsAtFront bytes i → r ≡ Ok i
+only_if r bytes e i s = e ∙ only bytes i s
 
 size_within : (bytes : List ℕ) (i : Instruction) → IsAtFront bytes i → i.size ≤ length bytes
 size_within bytes i (front, rest, parts, s) = rw (s.size_is, parts) (omega (arith, length-append front rest))
 
 pub within : (memory : List ℕ) (at : ℕ) (i : Instruction) → instruction_at (drop at memory) ≡ Ok i → at + i.size ≤ length memory
 within memory at i e =
-    let positive = (well_formed playable (drop at memory) i e).size in
-    let fits = size_within (drop at memory) i (found playable (drop at memory) i e).spelled in
+    let positive = (well_formed (drop at memory) i e).size in
+    let fits = size_within (drop at memory) i (found (drop at memory) i e) in
     omega (arith, length-drop at memory)
 
 pub within_if : (r : Result Instruction DecodeError) (memory : List ℕ) (at : ℕ) → r ≡ instruction_at (drop at memory) → IfOk r (λ i. at + i.size ≤ length memory)
 within_if (Ok i) memory at e = within memory at i (sym e)
 within_if (Err d) memory at e = tt
 
-pub reads_iff_spelled : (bytes : List ℕ) (i : Instruction) → (instruction_at bytes ≡ Ok i) ↔ (IsAtFront bytes i × IsTrue (playable i.opcode))
+pub reads_iff_spelled : (bytes : List ℕ) (i : Instruction) → (instruction_at bytes ≡ Ok i) ↔ IsAtFront bytes i
 reads_iff_spelled bytes i =
-    (λ e. (let f = found playable bytes i e in (f.spelled, f.played)), λ s. only playable bytes i s.0 s.1)
+    (found bytes i, only bytes i)
 
 -- ---- at most one instruction is spelled
-
-abbrev all_played : Opcode → Bool
-all_played _ = true
 
 some_instruction : (i j : Instruction) (r : Result Instruction DecodeError) → r ≡ Ok i → r ≡ Ok j → i ≡ j
 some_instruction i j r p q = cc
 
 pub one_instruction : (bytes : List ℕ) (i j : Instruction) → IsAtFront bytes i → IsAtFront bytes j → i ≡ j
-one_instruction bytes i j p q = some_instruction i j (instruction_by all_played bytes) (only all_played bytes i p refl) (only all_played bytes j q refl)
+one_instruction bytes i j p q = some_instruction i j (instruction_at bytes) (only bytes i p) (only bytes j q)
 
 pub one_front : (a b x y : List ℕ) (i j : Instruction) → Spells a i → Spells b j → a ++ x ≡ b ++ y → (a ≡ b) × (i ≡ j)
 one_front a b x y i j p q e =
@@ -80,9 +72,9 @@ same_front before now front rest at n same parts long positive =
 
 pub kept : (before now : List ℕ) (at : ℕ) (i : Instruction) → instruction_at (drop at before) ≡ Ok i → Agree before now at i.size → instruction_at (drop at now) ≡ Ok i
 kept before now at i e same =
-    let f = found playable (drop at before) i e in
-    let front = f.spelled.0 in
-    let positive = (well_formed playable (drop at before) i e).size in
-    let front_is : take i.size (drop at now) ≡ front = same_front before now front f.spelled.1 at i.size same f.spelled.2 f.spelled.3.size_is positive in
+    let f = found (drop at before) i e in
+    let front = f.0 in
+    let positive = (well_formed (drop at before) i e).size in
+    let front_is : take i.size (drop at now) ≡ front = same_front before now front f.1 at i.size same f.2 f.3.size_is positive in
     let parts : drop at now ≡ front ++ drop i.size (drop at now) = sym (take-append-drop i.size (drop at now)) ∙ ap (λ (xs : List ℕ). xs ++ drop i.size (drop at now)) front_is in
-    only playable (drop at now) i (front, drop i.size (drop at now), parts, f.spelled.3) f.played
+    only (drop at now) i (front, drop i.size (drop at now), parts, f.3)

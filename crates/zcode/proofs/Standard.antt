@@ -3,7 +3,6 @@
 use Rattle.std.proofs.Common.{◌≡◌, ℕ, Bool, true, false, List, [], ◌∷◌, map, Ok, Err, refl}
 use Rattle.std.specs.Prelude.{codes}
 use Rattle.zcode.specs.declared.error.DecodeError.TheVariants.{NoSuchOpcode, NotInProfile}
-use Rattle.zcode.specs.declared.error.Unsupported.TheVariants.{Excluded}
 use Rattle.zcode.specs.declared.table.OperandCount.TheVariants.{Two, One, Zero, Many}
 use Rattle.zcode.specs.Names.{name_of, excluded_name}
 use Rattle.zcode.specs.Opcodes.{Entry, table, operand_bounds, stores, branches, prints_text}
@@ -18,7 +17,7 @@ data Said : Type 0 where
 said : Entry → Said
 said (Ok opcode) = row (name_of opcode) (operand_bounds opcode).0 (operand_bounds opcode).1 (stores opcode) (branches opcode) (prints_text opcode)
 said (Err NoSuchOpcode) = nothing
-said (Err (NotInProfile (Excluded opcode))) = left_out (excluded_name opcode)
+said (Err (NotInProfile opcode)) = left_out (excluded_name opcode)
 said (Err _) = other
 
 two_operands : map said (table Two) ≡

@@ -6,7 +6,6 @@ use Rattle.std.specs.Option.{option_to_list}
 use Rattle.zcode.specs.declared.types.OperandType.{OperandType}
 use Rattle.zcode.specs.declared.instr.Operand.{Operand}
 use Rattle.zcode.specs.declared.instr.Branch.{Branch}
-use Rattle.zcode.specs.Playable.{playable}
 use Rattle.zcode.specs.Reading.{Head, head_at, operands_at, store_if, branch_if}
 use Rattle.zcode.proofs.FoundHead.{found_head}
 use Rattle.zcode.proofs.FoundParts.{found_operands, found_store, found_branch_if}
@@ -32,9 +31,9 @@ tail_after memory bytes front rest tail e =
     last_are memory (before ++ front) rest (whole ∙ ap (λ (xs : List ℕ). before ++ xs) e ∙ sym (append_assoc before front rest))
 
 -- what comes before a text leaves the last bytes
-pub text_tail : (memory bytes : List ℕ) (head : Head) (after_head : List ℕ) (ts : List OperandType) (operands : List Operand) (after_operands : List ℕ) (stores : Bool) (store : Option ℕ) (after_store : List ℕ) (branches : Bool) (branch : Option Branch) (rest : List ℕ) → IsTail memory bytes → head_at playable bytes ≡ Ok (head, after_head) → operands_at ts after_head ≡ Ok (operands, after_operands) → store_if stores after_operands ≡ Ok (store, after_store) → branch_if branches after_store ≡ Ok (branch, rest) → IsTail memory rest
+pub text_tail : (memory bytes : List ℕ) (head : Head) (after_head : List ℕ) (ts : List OperandType) (operands : List Operand) (after_operands : List ℕ) (stores : Bool) (store : Option ℕ) (after_store : List ℕ) (branches : Bool) (branch : Option Branch) (rest : List ℕ) → IsTail memory bytes → head_at bytes ≡ Ok (head, after_head) → operands_at ts after_head ≡ Ok (operands, after_operands) → store_if stores after_operands ≡ Ok (store, after_store) → branch_if branches after_store ≡ Ok (branch, rest) → IsTail memory rest
 text_tail memory bytes head after_head ts operands after_operands stores store after_store branches branch rest tail h o s b =
-    let hf = found_head playable bytes head after_head h in
+    let hf = found_head bytes head after_head h in
     let of = found_operands ts after_head operands after_operands o in
     let sf = found_store stores after_operands store after_store s in
     let bf = found_branch_if branches after_store branch rest b in

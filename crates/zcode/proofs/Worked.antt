@@ -5,7 +5,6 @@ use Rattle.zcode.specs.declared.opcode.Opcode.{Opcode}
 use Rattle.zcode.specs.declared.opcode.Opcode.TheVariants.{Restore, Restart, Je, IncChk, Dec, Or, Mul, Mod, Jz, GetChild, Jump, Not, Ret, Rtrue, Rfalse, RetPopped, Print, PrintRet, Quit, NewLine, Verify, Call, Storew, Sread, Random, Save, Load, Push, Pull, Pop}
 use Rattle.zcode.specs.declared.opcode.Excluded.TheVariants.{SplitWindow, SetWindow, OutputStream, SoundEffect}
 use Rattle.zcode.specs.declared.error.DecodeError.TheVariants.{Truncated, NoSuchOpcode, NotInProfile, Operands, Text}
-use Rattle.zcode.specs.declared.error.Unsupported.TheVariants.{Excluded, Unplayed}
 use Rattle.zcode.specs.declared.table.OperandCount.TheVariants.{Two, One, Zero, Many}
 use Rattle.zcode.specs.declared.types.OperandType.TheVariants as types
 use Rattle.zcode.specs.declared.instr.Operand.TheVariants.{Constant, Variable}
@@ -17,12 +16,11 @@ use Rattle.zword.specs.declared.count.CountOp.TheVariants as counts
 use Rattle.zcode.specs.declared.operation.Operation.TheVariants as operations
 use Rattle.zcode.specs.Operation.{operation_of, inputs, target}
 use Rattle.zcode.specs.Instruction.{Instruction, IsWellFormed, destination}
-use Rattle.zcode.specs.Names.{name_of, excluded_name, unsupported_name}
+use Rattle.zcode.specs.Names.{name_of, excluded_name}
 use Rattle.zcode.specs.Opcodes.{missing, table, opcode_of, operand_bounds, TakesOperands, stores, branches, prints_text}
 use Rattle.zcode.specs.Places.{padded, typed, type_byte}
-use Rattle.zcode.specs.Playable.{playable}
 use Rattle.zcode.specs.Spelling.{type_of, long_type, before_omitted, types_of, Long, ShortOne, VariableTwo, VariableMany, SpellsHead, SpellsOperand, SpellsOperands, SpellsBranch, SpellsBranchIf, SpellsTextIf, signed_14}
-use Rattle.zcode.specs.Reading.{Gives, first_byte, played_opcode, checked_head, long_head, short_head, variable_head, head_at, operand_at, operands_at, store_if, branch_at, branch_if, text_if, instruction_by, Agree}
+use Rattle.zcode.specs.Reading.{Gives, first_byte, checked_head, long_head, short_head, variable_head, head_at, operand_at, operands_at, store_if, branch_at, branch_if, text_if, instruction_at, Agree}
 
 -- ---- opcodes
 
@@ -39,7 +37,7 @@ of_one = (refl, refl, refl, refl)
 of_zero : (opcode_of Zero 0 ≡ Ok Rtrue) × (opcode_of Zero 2 ≡ Ok Print) × (opcode_of Zero 13 ≡ Ok Verify) × (opcode_of Zero 14 ≡ missing)
 of_zero = (refl, refl, refl, refl)
 
-of_many : (opcode_of Many 0 ≡ Ok Call) × (opcode_of Many 9 ≡ Ok Pull) × (opcode_of Many 10 ≡ Err (NotInProfile (Excluded SplitWindow))) × (opcode_of Many 12 ≡ missing) × (opcode_of Many 18 ≡ missing) × (opcode_of Many 19 ≡ Err (NotInProfile (Excluded OutputStream))) × (opcode_of Many 21 ≡ Err (NotInProfile (Excluded SoundEffect))) × (opcode_of Many 22 ≡ missing)
+of_many : (opcode_of Many 0 ≡ Ok Call) × (opcode_of Many 9 ≡ Ok Pull) × (opcode_of Many 10 ≡ Err (NotInProfile SplitWindow)) × (opcode_of Many 12 ≡ missing) × (opcode_of Many 18 ≡ missing) × (opcode_of Many 19 ≡ Err (NotInProfile OutputStream)) × (opcode_of Many 21 ≡ Err (NotInProfile SoundEffect)) × (opcode_of Many 22 ≡ missing)
 of_many = (refl, refl, refl, refl, refl, refl, refl, refl)
 
 bounds : (operand_bounds Je ≡ (2, 4)) × (operand_bounds Call ≡ (1, 4)) × (operand_bounds Storew ≡ (3, 3)) × (operand_bounds Sread ≡ (2, 2)) × (operand_bounds Jz ≡ (1, 1)) × (operand_bounds Pull ≡ (1, 1)) × (operand_bounds Quit ≡ (0, 0))
@@ -51,18 +49,13 @@ taken = ((lit≤ tt, lit≤ tt), (lit≤ tt, lit≤ tt), (λ t. omega (arith, t.
 followed : (stores Or ≡ true) × (stores Call ≡ true) × (stores IncChk ≡ false) × (branches IncChk ≡ true) × (branches GetChild ≡ true) × (branches Call ≡ false) × (prints_text PrintRet ≡ true) × (prints_text NewLine ≡ false)
 followed = (refl, refl, refl, refl, refl, refl, refl, refl)
 
--- what this build plays is what it has an operation for
-played : (playable Print ≡ true) × (playable Je ≡ true) × (playable Pull ≡ true) × (playable Quit ≡ true) × (playable Call ≡ true) × (playable Sread ≡ true) × (playable Save ≡ true) × (playable Restart ≡ true)
-unfolding playable operation_of
-played = (refl, refl, refl, refl, refl, refl, refl, refl)
-
 -- ---- names, as codes of letters
 
 names : (name_of Je ≡ 106 ∷ 101 ∷ []) × (name_of Or ≡ 111 ∷ 114 ∷ []) × (name_of NewLine ≡ 110 ∷ 101 ∷ 119 ∷ 95 ∷ 108 ∷ 105 ∷ 110 ∷ 101 ∷ [])
 names = (refl, refl, refl)
 
-refused_names : (excluded_name SetWindow ≡ 115 ∷ 101 ∷ 116 ∷ 95 ∷ 119 ∷ 105 ∷ 110 ∷ 100 ∷ 111 ∷ 119 ∷ []) × (unsupported_name (Unplayed Jz) ≡ 106 ∷ 122 ∷ []) × (length (unsupported_name (Excluded SoundEffect)) ≡ 12)
-refused_names = (refl, refl, refl)
+refused_names : (excluded_name SetWindow ≡ 115 ∷ 101 ∷ 116 ∷ 95 ∷ 119 ∷ 105 ∷ 110 ∷ 100 ∷ 111 ∷ 119 ∷ []) × (length (excluded_name SoundEffect) ≡ 12)
+refused_names = (refl, refl)
 
 -- ---- instructions
 
@@ -113,26 +106,16 @@ spelled_texts = ((lit< tt, lit≤ tt), refl, (λ t. t), (λ t. omega (arith, t))
 
 -- ---- reading
 
-abbrev every : Opcode → Bool
-every _ = true
-
-abbrev no : Opcode → Bool
-no _ = false
-
 bytes_read : (first_byte [] ≡ Err Truncated) × (first_byte (1 ∷ 2 ∷ []) ≡ Ok (1, 2 ∷ [])) × Gives (λ (n : ℕ). n + 1) (Ok 1) (Ok 2) × (Gives (λ (n : ℕ). n + 1) (Ok 1) (Err Text) → ⊥)
 bytes_read = (refl, refl, refl, λ e. absurd cc)
 
-opcodes_read : (played_opcode every Two 5 ≡ Ok IncChk) × (played_opcode no Two 5 ≡ Err (NotInProfile (Unplayed IncChk))) × (played_opcode every Two 0 ≡ Err NoSuchOpcode) × (played_opcode no Many 11 ≡ Err (NotInProfile (Excluded SetWindow)))
-unfolding played_opcode
-opcodes_read = (refl, refl, refl, refl)
-
-heads_read : (checked_head Je (types.Small ∷ []) ≡ Err Operands) × (long_head every 0x25 ≡ Ok (record { opcode = IncChk; operand_types = types.Small ∷ types.Variable ∷ [] })) × (short_head every 0xA0 (Some types.Variable) ≡ Ok (record { opcode = Jz; operand_types = types.Variable ∷ [] })) × (short_head every 0xBA None ≡ Ok (record { opcode = Quit; operand_types = [] }))
-unfolding checked_head long_head short_head played_opcode
+heads_read : (checked_head Je (types.Small ∷ []) ≡ Err Operands) × (long_head 0x25 ≡ Ok (record { opcode = IncChk; operand_types = types.Small ∷ types.Variable ∷ [] })) × (short_head 0xA0 (Some types.Variable) ≡ Ok (record { opcode = Jz; operand_types = types.Variable ∷ [] })) × (short_head 0xBA None ≡ Ok (record { opcode = Quit; operand_types = [] }))
+unfolding checked_head long_head short_head
 heads_read = (refl, refl, refl, refl)
 
 -- an opcode is judged before its type byte, and their number before the operands
-first_faults : (variable_head no Many 0xE0 [] ≡ Err (NotInProfile (Unplayed Call))) × (variable_head every Many 0xE0 [] ≡ Err Truncated) × (variable_head every Many 0xE1 (0xFF ∷ []) ≡ Err Operands) × (head_at every (0xBE ∷ []) ≡ Err NoSuchOpcode) × (head_at every [] ≡ Err Truncated)
-unfolding head_at short_head variable_head played_opcode checked_head
+first_faults : (variable_head Many 0xEB [] ≡ Err (NotInProfile SetWindow)) × (variable_head Many 0xE0 [] ≡ Err Truncated) × (variable_head Many 0xE1 (0xFF ∷ []) ≡ Err Operands) × (head_at (0xBE ∷ []) ≡ Err NoSuchOpcode) × (head_at [] ≡ Err Truncated)
+unfolding head_at short_head variable_head checked_head
 first_faults = (refl, refl, refl, refl, refl)
 
 operands_read : (operand_at types.Large (0x03 ∷ 0xE8 ∷ 9 ∷ []) ≡ Ok (Constant 1000, 9 ∷ [])) × (operand_at types.Large (0x03 ∷ []) ≡ Err Truncated) × (operands_at (types.Small ∷ types.Variable ∷ []) (7 ∷ 8 ∷ 9 ∷ []) ≡ Ok (Constant 7 ∷ Variable 8 ∷ [], 9 ∷ [])) × (operands_at (types.Small ∷ types.Variable ∷ []) (7 ∷ []) ≡ Err Truncated)
@@ -144,8 +127,8 @@ unfolding store_if branch_at branch_if text_if
 rest_read = (refl, refl, refl, refl, refl, refl, refl)
 
 -- the whole, with a byte that follows
-instructions_read : (instruction_by every (0x05 ∷ 0x02 ∷ 0x00 ∷ 0xD4 ∷ 9 ∷ []) ≡ Ok inc_chk) × (instruction_by every (0xE0 ∷ 0x3F ∷ 0x01 ∷ 0x97 ∷ 0x00 ∷ 9 ∷ []) ≡ Ok (record { opcode = Call; operands = Constant 407 ∷ []; store = Some 0; branch = None; size = 5 })) × (instruction_by every (0xB2 ∷ 0x35 ∷ 0x51 ∷ 0xC6 ∷ 0x85 ∷ 9 ∷ []) ≡ Ok (record { opcode = Print; operands = []; store = None; branch = None; size = 5 })) × (instruction_by every (0xB2 ∷ []) ≡ Err Text)
-unfolding instruction_by head_at long_head short_head variable_head played_opcode checked_head operands_at operand_at store_if branch_if branch_at text_if inc_chk
+instructions_read : (instruction_at (0x05 ∷ 0x02 ∷ 0x00 ∷ 0xD4 ∷ 9 ∷ []) ≡ Ok inc_chk) × (instruction_at (0xE0 ∷ 0x3F ∷ 0x01 ∷ 0x97 ∷ 0x00 ∷ 9 ∷ []) ≡ Ok (record { opcode = Call; operands = Constant 407 ∷ []; store = Some 0; branch = None; size = 5 })) × (instruction_at (0xB2 ∷ 0x35 ∷ 0x51 ∷ 0xC6 ∷ 0x85 ∷ 9 ∷ []) ≡ Ok (record { opcode = Print; operands = []; store = None; branch = None; size = 5 })) × (instruction_at (0xB2 ∷ []) ≡ Err Text)
+unfolding instruction_at head_at long_head short_head variable_head checked_head operands_at operand_at store_if branch_if branch_at text_if inc_chk
 instructions_read = (refl, refl, refl, refl)
 
 -- memories that differ at 0 alone agree from 1 on
@@ -159,7 +142,7 @@ agreeing = (record { size_is = refl; bytes = same }, λ a. absurd (let e = a.byt
 
 -- ---- what opcodes do
 
-done_for : (operation_of Je ≡ Some (operations.Compare questions.Equal)) × (operation_of IncChk ≡ Some (operations.Count counts.Up (Some questions.Greater))) × (operation_of Dec ≡ Some (operations.Count counts.Down None)) × (operation_of Mod ≡ Some (operations.Binary binary.Mod)) × (operation_of Push ≡ Some (operations.Unary unary.Keep)) × (operation_of Pull ≡ Some operations.Store) × (operation_of Pop ≡ Some operations.Nop) × (operation_of Ret ≡ Some operations.Return) × (operation_of RetPopped ≡ Some operations.Return) × (operation_of PrintRet ≡ Some operations.PrintReturn) × (operation_of Call ≡ Some operations.Call) × (operation_of Sread ≡ Some operations.ReadLine) × (operation_of Random ≡ Some operations.Random) × (operation_of Save ≡ Some operations.Save) × (operation_of Restore ≡ Some operations.Restore) × (operation_of Restart ≡ Some operations.Restart)
+done_for : (operation_of Je ≡ operations.Compare questions.Equal) × (operation_of IncChk ≡ operations.Count counts.Up (Some questions.Greater)) × (operation_of Dec ≡ operations.Count counts.Down None) × (operation_of Mod ≡ operations.Binary binary.Mod) × (operation_of Push ≡ operations.Unary unary.Keep) × (operation_of Pull ≡ operations.Store) × (operation_of Pop ≡ operations.Nop) × (operation_of Ret ≡ operations.Return) × (operation_of RetPopped ≡ operations.Return) × (operation_of PrintRet ≡ operations.PrintReturn) × (operation_of Call ≡ operations.Call) × (operation_of Sread ≡ operations.ReadLine) × (operation_of Random ≡ operations.Random) × (operation_of Save ≡ operations.Save) × (operation_of Restore ≡ operations.Restore) × (operation_of Restart ≡ operations.Restart)
 unfolding operation_of
 done_for = (refl, refl, refl, refl, refl, refl, refl, refl, refl, refl, refl, refl, refl, refl, refl, refl)
 

@@ -1,5 +1,4 @@
 pub mod Opcodes
-pub mod Playable
 pub mod Names
 pub mod Places
 pub mod Instruction

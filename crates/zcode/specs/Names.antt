@@ -4,8 +4,6 @@ use Rattle.zcode.specs.declared.opcode.Opcode.{Opcode}
 use Rattle.zcode.specs.declared.opcode.Opcode.TheVariants.{Je, Jl, Jg, DecChk, IncChk, Jin, Test, Or, And, TestAttr, SetAttr, ClearAttr, Store, InsertObj, Loadw, Loadb, GetProp, GetPropAddr, GetNextProp, Add, Sub, Mul, Div, Mod, Jz, GetSibling, GetChild, GetParent, GetPropLen, Inc, Dec, PrintAddr, RemoveObj, PrintObj, Ret, Jump, PrintPaddr, Load, Not, Rtrue, Rfalse, Print, PrintRet, Nop, Save, Restore, Restart, RetPopped, Pop, Quit, NewLine, ShowStatus, Verify, Call, Storew, Storeb, PutProp, Sread, PrintChar, PrintNum, Random, Push, Pull}
 use Rattle.zcode.specs.declared.opcode.Excluded.{Excluded}
 use Rattle.zcode.specs.declared.opcode.Excluded.TheVariants.{SplitWindow, SetWindow, OutputStream, InputStream, SoundEffect}
-use Rattle.zcode.specs.declared.error.Unsupported.{Unsupported}
-use Rattle.zcode.specs.declared.error.Unsupported.TheVariants as unsupported
 
 abbrev pub name_of : Opcode → List ℕ
 name_of Je = codes "je"
@@ -78,7 +76,3 @@ excluded_name SetWindow = codes "set_window"
 excluded_name OutputStream = codes "output_stream"
 excluded_name InputStream = codes "input_stream"
 excluded_name SoundEffect = codes "sound_effect"
-
-abbrev pub unsupported_name : Unsupported → List ℕ
-unsupported_name (unsupported.Excluded opcode) = excluded_name opcode
-unsupported_name (unsupported.Unplayed opcode) = name_of opcode

@@ -4,21 +4,20 @@ ghost use Rattle.std.specs.Prelude.{◌≡◌, ◌↔◌, ◌++◌, ◌+◌, ◌
 ghost use Rattle.ztext.specs.Words.{length_at};
 ghost use Rattle.zcode.specs.Opcodes.{prints_text};
 ghost use Rattle.zcode.specs.Instruction.{Instruction, IsWellFormed};
-ghost use Rattle.zcode.specs.Playable.{PlayedOperate, playable};
 ghost use Rattle.zcode.specs.Reading.{Agree, instruction_at};
 ghost use Rattle.zcode.specs.Spelling.{IsAtFront, Spells};
 
 use ztext::text_is_at_front;
 
-/// A place spells at most one instruction, whether this build plays it or not, and tells which bytes it takes.
+/// A place spells at most one instruction, and tells which bytes it takes.
 pub fn one_spelling()
     ensures instruction { (bytes : List ℕ) (i j : Instruction) → IsAtFront bytes i → IsAtFront bytes j → i ≡ j }
     ensures bytes { (a b x y : List ℕ) (i j : Instruction) → Spells a i → Spells b j → a ++ x ≡ b ++ y → (a ≡ b) × (i ≡ j) }
 {}
 
-/// What `decode` reads is what is spelled and played.
+/// What `decode` reads is what is spelled.
 pub fn reading_is_spelling()
-    ensures same { (bytes : List ℕ) (i : Instruction) → (instruction_at bytes ≡ Ok i) ↔ (IsAtFront bytes i × IsTrue (playable i.opcode)) }
+    ensures same { (bytes : List ℕ) (i : Instruction) → (instruction_at bytes ≡ Ok i) ↔ IsAtFront bytes i }
     ensures well_formed { (bytes : List ℕ) (i : Instruction) → IsAtFront bytes i → IsWellFormed i }
 {}
 
@@ -33,8 +32,3 @@ pub fn text_ends_instruction()
 {
     text_is_at_front();
 }
-
-/// Each opcode that this build plays does something.
-pub fn played_operate()
-    ensures { PlayedOperate }
-{}

@@ -10,16 +10,13 @@ mod names;
 mod opcode;
 mod operands;
 mod operation;
-mod playable;
 mod reading;
 mod table;
 mod types;
 
-pub use error::{DecodeError, Unsupported};
+pub use error::DecodeError;
 pub use instr::{Branch, Destination, Instr, Operand};
-pub use laws::{
-    one_spelling, played_operate, reading_is_local, reading_is_spelling, text_ends_instruction,
-};
+pub use laws::{one_spelling, reading_is_local, reading_is_spelling, text_ends_instruction};
 pub use opcode::{Excluded, Opcode};
 pub use operation::Operation;
 pub use reading::{decode, decode_by};

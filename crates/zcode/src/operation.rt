@@ -90,12 +90,12 @@ pub enum Operation {
 }
 
 impl Opcode {
-    /// What the opcode does, where that is said.
+    /// What the opcode does.
     #[tactic(auto, unfolding(crate::specs::Operation::operation_of))]
-    pub fn operation(self) -> Option<Operation>
+    pub fn operation(self) -> Operation
         ensures { result ≡ operation_of self }
     {
-        Some(match self {
+        match self {
             Opcode::Je | Opcode::Jz => Operation::Compare(Question::Equal),
             Opcode::Jl => Operation::Compare(Question::Less),
             Opcode::Jg => Operation::Compare(Question::Greater),
@@ -153,7 +153,7 @@ impl Opcode {
             Opcode::Save => Operation::Save,
             Opcode::Restore => Operation::Restore,
             Opcode::Restart => Operation::Restart,
-        })
+        }
     }
 
     /// What the opcode takes that isn't spelled, behind its operands: at most one.

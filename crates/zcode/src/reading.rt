@@ -1,8 +1,7 @@
 //! Reading an instruction, in one pass. Each function hands on the bytes after what it read.
 
-ghost use Rattle.std.specs.Prelude.{◌≡◌, ℕ, ◌/◌, ◌%◌, ◌<◌, ◌≤◌, ◌+◌, ◌-◌, ◌++◌, ◌↔◌, length, drop, take, IfOk, IsTrue, List, Ok};
+ghost use Rattle.std.specs.Prelude.{◌≡◌, ℕ, ◌/◌, ◌%◌, ◌<◌, ◌≤◌, ◌+◌, ◌-◌, ◌++◌, ◌↔◌, length, drop, take, IfOk, List, Ok};
 ghost use Rattle.zcode.specs.Instruction.{Instruction};
-ghost use Rattle.zcode.specs.Playable.{playable};
 ghost use Rattle.zcode.specs.Spelling.{Spells, IsAtFront, type_of, types_of};
 ghost use Rattle.zcode.specs.Reading.{Gives, first_byte, long_head, short_head, variable_head, checked_head, head_at, operand_at, operands_at, store_if, branch_at, branch_if, text_if, instruction_at};
 
@@ -10,7 +9,7 @@ use crate::error::DecodeError;
 use crate::instr::{Branch, Instr, Operand};
 use crate::opcode::Opcode;
 use crate::operands::Operands;
-use crate::table::{OperandCount, played_opcode};
+use crate::table::{OperandCount, opcode_of};
 use crate::types::{OperandType, long_types, short_types, type_count, type_of};
 use std::marker::Model;
 use ztext::TextEnds;
@@ -59,26 +58,26 @@ fn checked_head(opcode: Opcode, types: u8, count: usize) -> Result<Head, DecodeE
 #[inline(always)]
 #[tactic(auto, unfolding(crate::specs::Reading::long_head))]
 fn long_head(first: u8) -> Result<Head, DecodeError>
-    ensures { result ≡ long_head playable first }
+    ensures { result ≡ long_head first }
 {
-    let opcode = played_opcode(OperandCount::Two, first & 0x1f)?;
+    let opcode = opcode_of(OperandCount::Two, first & 0x1f)?;
     checked_head(opcode, long_types(first), 2)
 }
 
 #[inline(always)]
 #[tactic(auto, unfolding(crate::specs::Reading::short_head))]
 fn short_head(first: u8) -> Result<Head, DecodeError>
-    ensures { result ≡ short_head playable first (type_of (first / 16 % 4)) }
+    ensures { result ≡ short_head first (type_of (first / 16 % 4)) }
 {
     let bits = (first >> 4) & 3;
     let types = short_types(bits);
     match type_of(bits) {
         Some(_) => {
-            let opcode = played_opcode(OperandCount::One, first & 0x0f)?;
+            let opcode = opcode_of(OperandCount::One, first & 0x0f)?;
             checked_head(opcode, types, 1)
         }
         None => {
-            let opcode = played_opcode(OperandCount::Zero, first & 0x0f)?;
+            let opcode = opcode_of(OperandCount::Zero, first & 0x0f)?;
             checked_head(opcode, types, 0)
         }
     }
@@ -87,9 +86,9 @@ fn short_head(first: u8) -> Result<Head, DecodeError>
 #[inline(always)]
 #[tactic(auto, unfolding(crate::specs::Reading::variable_head))]
 fn variable_head(count: OperandCount, first: u8, bytes: &[u8]) -> Result<(Head, &[u8]), DecodeError>
-    ensures { Gives (λ x. (x.0, x.1.now)) result (variable_head playable count first bytes.now) }
+    ensures { Gives (λ x. (x.0, x.1.now)) result (variable_head count first bytes.now) }
 {
-    let opcode = played_opcode(count, first & 0x1f)?;
+    let opcode = opcode_of(count, first & 0x1f)?;
     let (types, rest) = first_byte(bytes)?;
     Ok((checked_head(opcode, types, type_count(types))?, rest))
 }
@@ -97,7 +96,7 @@ fn variable_head(count: OperandCount, first: u8, bytes: &[u8]) -> Result<(Head, 
 #[inline(always)]
 #[tactic(auto, unfolding(crate::specs::Reading::head_at))]
 fn head_at(bytes: &[u8]) -> Result<(Head, &[u8]), DecodeError>
-    ensures { Gives (λ x. (x.0, x.1.now)) result (head_at playable bytes.now) }
+    ensures { Gives (λ x. (x.0, x.1.now)) result (head_at bytes.now) }
 {
     let (first, rest) = first_byte(bytes)?;
     match first {
@@ -219,7 +218,7 @@ fn text_if<'a>(
 
 /// The instruction at the front of the last bytes of the memory.
 #[inline(always)]
-#[tactic(auto, unfolding(crate::specs::Reading::instruction_by))]
+#[tactic(auto, unfolding(crate::specs::Reading::instruction_at))]
 fn instruction_at<'a>(ends: &mut TextEnds<'a>, bytes: &'a [u8]) -> Result<Instr, DecodeError>
     requires { bytes.now ≡ drop (length ends.old - length bytes.now) ends.old }
     ensures memory { ends.new ≡ ends.old }
@@ -240,15 +239,13 @@ fn instruction_at<'a>(ends: &mut TextEnds<'a>, bytes: &'a [u8]) -> Result<Instr,
 
 /// The instruction at the place `at` of `memory` (Z 4), or the first thing that is wrong there. It takes no memory.
 ///
-/// The opcode is judged first: J2 where no opcode has the number, J3 where the profile leaves it out or this build
-/// doesn't play it. Then come, in reading order, J1 where the bytes end, J4 at the type byte, and J5 at the text.
+/// The opcode is judged first: J2 where no opcode has the number, J3 where the profile leaves it out. Then come, in
+/// reading order, J1 where the bytes end, J4 at the type byte, and J5 at the text.
 pub fn decode(memory: &[u8], at: usize) -> Result<Instr, DecodeError>
     // What is read is spelled there.
     ensures found { IfOk result (λ i. IsAtFront (drop at memory.now) i) }
-    // This build plays what is read.
-    ensures played { IfOk result (λ i. IsTrue (playable i.opcode)) }
-    // What is spelled there and played is read.
-    ensures only { (i : Instruction) → IsAtFront (drop at memory.now) i → IsTrue (playable i.opcode) → result ≡ Ok i }
+    // What is spelled there is read.
+    ensures only { (i : Instruction) → IsAtFront (drop at memory.now) i → result ≡ Ok i }
     // Which fault it is.
     ensures exact { result ≡ instruction_at (drop at memory.now) }
     ensures within { IfOk result (λ i. at + i.size ≤ length memory.now) }
@@ -261,8 +258,7 @@ pub fn decode(memory: &[u8], at: usize) -> Result<Instr, DecodeError>
 pub fn decode_by(ends: &mut TextEnds<'_>, at: usize) -> Result<Instr, DecodeError>
     ensures memory { ends.new ≡ ends.old }
     ensures found { IfOk result (λ i. IsAtFront (drop at ends.old) i) }
-    ensures played { IfOk result (λ i. IsTrue (playable i.opcode)) }
-    ensures only { (i : Instruction) → IsAtFront (drop at ends.old) i → IsTrue (playable i.opcode) → result ≡ Ok i }
+    ensures only { (i : Instruction) → IsAtFront (drop at ends.old) i → result ≡ Ok i }
     ensures exact { result ≡ instruction_at (drop at ends.old) }
     ensures within { IfOk result (λ i. at + i.size ≤ length ends.old) }
 {

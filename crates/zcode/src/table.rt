@@ -2,10 +2,8 @@
 
 ghost use Rattle.std.specs.Prelude.{◌≡◌, Err};
 ghost use Rattle.zcode.specs.Opcodes.{opcode_of};
-ghost use Rattle.zcode.specs.Playable.{playable};
-ghost use Rattle.zcode.specs.Reading.{played_opcode};
 
-use crate::error::{DecodeError, Unsupported};
+use crate::error::DecodeError;
 use crate::opcode::{Excluded, Opcode};
 
 /// The operand counts by which opcodes are numbered (Z 4.3). How many operands an opcode takes is
@@ -22,7 +20,7 @@ pub enum OperandCount {
     Many,
 }
 
-/// The opcode of a number, whether this build plays it or not.
+/// The opcode of a number, or why there is none.
 #[inline(always)]
 pub(crate) fn opcode_of(count: OperandCount, number: u8) -> Result<Opcode, DecodeError>
     ensures { result ≡ opcode_of count number }
@@ -142,21 +140,7 @@ fn many_operands(number: u8) -> Result<Opcode, DecodeError>
 
 /// The refusal of an opcode that the profile leaves out.
 fn excluded(opcode: Excluded) -> Result<Opcode, DecodeError>
-    ensures { result ≡ Err (DecodeError.NotInProfile (Unsupported.Excluded opcode)) }
+    ensures { result ≡ Err (DecodeError.NotInProfile opcode) }
 {
-    Err(DecodeError::NotInProfile(Unsupported::Excluded(opcode)))
-}
-
-/// The opcode of a number, if this build plays it.
-#[inline(always)]
-#[tactic(auto, unfolding(crate::specs::Reading::played_opcode))]
-pub(crate) fn played_opcode(count: OperandCount, number: u8) -> Result<Opcode, DecodeError>
-    ensures { result ≡ played_opcode playable count number }
-{
-    let opcode = opcode_of(count, number)?;
-    if opcode.is_playable() {
-        Ok(opcode)
-    } else {
-        Err(DecodeError::NotInProfile(Unsupported::Unplayed(opcode)))
-    }
+    Err(DecodeError::NotInProfile(opcode))
 }

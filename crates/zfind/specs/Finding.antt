@@ -1,5 +1,5 @@
 -- What the finder answers (own).
-use Rattle.std.specs.Prelude.{◌≡◌, ◌⊎◌, ⊤, ⊥, ℕ, ℤ, pos, Option, Some, None, Result, Ok, Err}
+use Rattle.std.specs.Prelude.{◌≡◌, ◌⊎◌, ⊤, ⊥, ℕ}
 use Rattle.std.specs.Int.{w32, cast_signed}
 use Rattle.zstory.specs.LoadedStory.{LoadedStory}
 use Rattle.zlist.specs.declared.list_error.ListError.{ListError}
@@ -31,11 +31,17 @@ told_of (faults.TwoRoutines a) = NotFound (obstacles.Place (cast_signed w32 a) S
 told_of (faults.ComputedJump a) = NotFound (obstacles.Place (cast_signed w32 a) Successor)
 told_of faults.OutOfMemory = OutOfMemory
 
--- what a checker refuses a certificate for, but for want of memory
-abbrev pub obstacle_of : Refusal → Option Obstacle
-obstacle_of (refusals.Story rule) = Some (obstacles.Story rule)
-obstacle_of (refusals.Instruction a rule) = Some (obstacles.Place (cast_signed w32 a) rule)
-obstacle_of refusals.OutOfMemory = None
+-- what a checker refuses a certificate for
+abbrev pub refused_for : Refusal → FindError
+refused_for (refusals.Story rule) = NotFound (obstacles.Story rule)
+refused_for (refusals.Instruction a rule) = NotFound (obstacles.Place (cast_signed w32 a) rule)
+refused_for refusals.OutOfMemory = OutOfMemory
+
+-- why a walk stops that may make so many visits more: none is left, or memory was refused
+abbrev pub IsStopped : ℕ → FindError → Type 0
+IsStopped left (NotFound _) = ⊥
+IsStopped left RoundLimit = left ≡ 0
+IsStopped left OutOfMemory = ⊤
 
 module _ (story : LoadedStory) where
   -- the story lists something at fault, which is this
@@ -54,10 +60,16 @@ module _ (story : LoadedStory) where
     pub certificate : Certificate Interval
     pub refusal : Refusal
     pub cause : IsCause interval_operations story certificate refusal
-    pub told : obstacle_of refusal ≡ Some obstacle
+    pub told : refused_for refusal ≡ NotFound obstacle
 
   -- Why no certificate is found: a story that lists something at fault is refused for that, and for nothing else but want of memory.
   abbrev pub IsFailure : FindError → Type 0
   IsFailure (NotFound obstacle) = IsFaulty (NotFound obstacle) ⊎ (IsListable × IsTried obstacle)
   IsFailure RoundLimit = IsListable
   IsFailure OutOfMemory = ⊤
+
+  -- why none is found of a story that lists nothing at fault, where so many visits are left
+  abbrev pub IsWalkFailure : ℕ → FindError → Type 0
+  IsWalkFailure left (NotFound obstacle) = IsTried obstacle
+  IsWalkFailure left RoundLimit = left ≡ 0
+  IsWalkFailure left OutOfMemory = ⊤

@@ -2,10 +2,11 @@
 
 ghost use Rattle.std.specs.Prelude.{◌≡◌};
 ghost use Rattle.zfind.specs.declared.error.FindError.TheVariants.{OutOfMemory};
-ghost use Rattle.zfind.specs.Finding.{obstacle_of, told_of};
+ghost use Rattle.zfind.specs.Finding.{refused_for, told_of};
 
 use std::alloc::AllocError;
 use thiserror::Error;
+use zcert::CertError;
 use zcheck::{Refusal, StoryRule};
 use zlist::ListError;
 use zrule::Rule;
@@ -67,5 +68,28 @@ impl From<ListError> for FindError {
             }
             ListError::OutOfMemory => FindError::OutOfMemory,
         }
+    }
+}
+
+impl From<Refusal> for FindError {
+    ghost from_gives = { λ refusal error. error ≡ refused_for refusal };
+
+    fn from(refusal: Refusal) -> FindError {
+        match refusal {
+            Refusal::Story(rule) => FindError::NotFound(Obstacle::Story(rule)),
+            Refusal::Instruction(address, rule) => {
+                FindError::NotFound(Obstacle::Place(address.cast_signed(), rule))
+            }
+            Refusal::OutOfMemory => FindError::OutOfMemory,
+        }
+    }
+}
+
+// A builder refuses nothing else of what is found, since its fields come in their turn and keep the limits.
+impl From<CertError> for FindError {
+    ghost from_gives = { λ _ error. error ≡ OutOfMemory };
+
+    fn from(_: CertError) -> FindError {
+        FindError::OutOfMemory
     }
 }

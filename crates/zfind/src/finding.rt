@@ -3,17 +3,29 @@
 ghost use Rattle.std.specs.Prelude.{◌≡◌, ◌≤◌, IfErr, IfOk, Err};
 ghost use Rattle.zdomain.specs.Interval.{interval_operations};
 ghost use Rattle.zcheck.specs.Passes.{Passes};
-ghost use Rattle.zfind.specs.Finding.{IsFailure};
-ghost use Rattle.zfind.specs.declared.error.FindError.TheVariants.{RoundLimit};
+ghost use Rattle.zfind.specs.Attempts.{IsAttempt};
+ghost use Rattle.zfind.specs.Finding.{IsFailure, IsStopped, IsTried, IsWalkFailure};
+ghost use Rattle.zfind.specs.declared.error.FindError.TheVariants.{NotFound, RoundLimit};
 
-use crate::error::{FindError, Obstacle};
+use crate::certificate::certificate_of;
+use crate::code::Code;
+use crate::error::FindError;
+use crate::settling::settled;
+use crate::state::Plan;
+use crate::visits::MOST_VISITS;
+use crate::walk::Walk;
 use std::alloc::Global;
 use zcert::Certificate;
+use zcheck::examine;
+use zdomain::Interval;
 use zlist::list_story;
 use zstory::Story;
 
-/// How many instructions are visited at most (own).
-pub const MOST_VISITS: u32 = 4_000_000;
+/// How often a thing grows before it is widened, walk by walk.
+const DELAYS: [u16; 7] = [2, 2, 2, 2, 2, 10, 10];
+
+/// How often in the last walk.
+const LAST_DELAY: u16 = 60;
 
 /// What was found, with what it took.
 #[derive(Drop)]
@@ -22,6 +34,15 @@ pub struct Found {
     pub certificate: Result<Certificate, FindError>,
     /// How many instructions were visited.
     pub visits: u32,
+}
+
+/// What comes of a walk.
+#[derive(Drop)]
+enum Attempt {
+    /// Its certificate passes.
+    Passed(Certificate),
+    /// It doesn't, and this is how the next one goes.
+    Failed(Plan<Interval>),
 }
 
 /// A certificate that passes for a story, if one is found (own).
@@ -37,40 +58,89 @@ pub fn find(alloc: Global, story: &Story) -> Result<Certificate, FindError>
     find_counted(alloc, story).certificate
 }
 
-/// A certificate that `find` answers, with how many instructions were visited.
+/// What `find` answers, with how many instructions were visited.
 pub fn find_counted(alloc: Global, story: &Story) -> Found
     ensures passes { IfOk result.certificate (Passes interval_operations story.now) }
     ensures failed { IfErr result.certificate (IsFailure story.now) }
     ensures few { result.visits ≤ 4000000 }
     ensures limit { result.certificate ≡ Err RoundLimit → result.visits ≡ 4000000 }
 {
+    let mut left = MOST_VISITS;
+    let certificate = listed(alloc, story, &mut left);
     Found {
-        certificate: walked(alloc, story),
-        visits: 0,
+        certificate,
+        visits: MOST_VISITS - left,
     }
 }
 
-/// The certificate of a walk.
-fn walked(alloc: Global, story: &Story) -> Result<Certificate, FindError>
+/// A certificate of a story, if it has a listing. So many visits are left.
+fn listed(alloc: Global, story: &Story, left: &mut u32) -> Result<Certificate, FindError>
     ensures passes { IfOk result (Passes interval_operations story.now) }
     ensures failed { IfErr result (IsFailure story.now) }
-    ensures limit { result ≡ Err RoundLimit → ⊥ }
+    ensures fewer { left.new ≤ left.old }
+    ensures limit { result ≡ Err RoundLimit → left.new ≡ 0 }
 {
-    let _listing = list_story(alloc, story)?;
-    Err(FindError::OutOfMemory)
+    let listing = list_story(alloc, story)?;
+    let code = Code::new(alloc, story, &listing)?;
+    walked(alloc, &code, left)
 }
 
-/// What stands in the way of every certificate of a story, as far as that is found out (own): the first rule that is broken whatever a
-/// certificate says. `None` where none is found. The one error is want of memory.
-///
-/// That such a rule is broken in each certificate is tried, and not proved.
-pub fn broken_in_all(alloc: Global, story: &Story) -> Result<Option<Obstacle>, FindError>
+/// The certificate of one of several walks, of which each is kept from widening beyond what the one before left.
+fn walked(alloc: Global, code: &Code<'_>, left: &mut u32) -> Result<Certificate, FindError>
+    ensures passes { IfOk result (Passes interval_operations code.now.story.now) }
+    ensures failed { IfErr result (IsWalkFailure code.now.story.now left.new) }
+    ensures fewer { left.new ≤ left.old }
 {
-    match list_story(alloc, story) {
-        Ok(_) => Ok(None),
-        Err(fault) => match FindError::from(fault) {
-            FindError::NotFound(obstacle) => Ok(Some(obstacle)),
-            error => Err(error),
-        },
+    let mut plan = Plan::widening(code.thresholds(alloc)?);
+    for delay in DELAYS {
+        if plan.is_settled && plan.delay == delay {
+            continue;
+        }
+        plan.delay = delay;
+        match attempt(alloc, code, plan, left)? {
+            Attempt::Passed(certificate) => return Ok(certificate),
+            Attempt::Failed(next) => plan = next,
+        }
+    }
+    plan.delay = LAST_DELAY;
+    let mut walk = Walk::new(alloc, code, plan)?;
+    walk.grow(alloc, left)?;
+    let certificate = certificate_of(alloc, code, &mut walk)?;
+    tried(code.story, certificate)
+}
+
+/// A walk, and whether its certificate passes.
+fn attempt(
+    alloc: Global,
+    code: &Code<'_>,
+    plan: Plan<Interval>,
+    left: &mut u32,
+) -> Result<Attempt, FindError>
+    ensures passes { IfOk result (IsAttempt code.now.story.now) }
+    ensures fewer { left.new ≤ left.old }
+    ensures stopped { IfErr result (IsStopped left.new) }
+{
+    let mut walk = Walk::new(alloc, code, plan)?;
+    walk.grow(alloc, left)?;
+    let certificate = certificate_of(alloc, code, &mut walk)?;
+    if let Ok(certificate) = tried(code.story, certificate) {
+        return Ok(Attempt::Passed(certificate));
+    }
+    let caps = settled(alloc, code, &mut walk, left)?;
+    Ok(Attempt::Failed(Plan {
+        is_settled: walk.state.is_within(&caps),
+        caps: Some(caps),
+        ..walk.into_plan()
+    }))
+}
+
+/// A certificate, if it passes.
+pub(crate) fn tried(story: &Story, certificate: Certificate) -> Result<Certificate, FindError>
+    ensures passes { IfOk result (Passes interval_operations story.now) }
+    ensures failed { IfErr result (λ error. (obstacle : Obstacle) × (error ≡ NotFound obstacle) × IsTried story.now obstacle) }
+{
+    match examine(story, &certificate) {
+        None => Ok(certificate),
+        Some(refusal) => Err(FindError::from(refusal)),
     }
 }

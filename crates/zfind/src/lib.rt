@@ -1,8 +1,28 @@
 //! The finder of certificates.
+//!
+//! `find` walks over what a story lists, and keeps for each place a set of the values of each local and slot, as it does for each global
+//! and for what each routine gives. What it answers was accepted by the checker.
 #![tactic(auto)]
 
+mod bytes;
+mod certificate;
+mod code;
+mod effects;
 mod error;
 mod finding;
+mod frame;
+mod groups;
+mod obstacles;
+mod openings;
+mod queue;
+mod recursion;
+mod settling;
+mod state;
+mod thresholds;
+mod visits;
+mod walk;
 
 pub use error::{FindError, Obstacle};
-pub use finding::{Found, broken_in_all, find, find_counted};
+pub use finding::{Found, find, find_counted};
+pub use obstacles::broken_in_all;
+pub use visits::MOST_VISITS;

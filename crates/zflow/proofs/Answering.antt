@@ -11,26 +11,18 @@ use Rattle.zdomain.specs.Domain.{SetOperations}
 use Rattle.zflow.specs.declared.flow.Edge.{Edge}
 use Rattle.zflow.specs.declared.parts.Demands.{Demands}
 use Rattle.zflow.specs.declared.parts.Outcome.{Outcome}
-use Rattle.zflow.specs.Transfer.{Shape, pops, below, operand_set, demands_if, demands_at, outcome_if, outcome_at, mid_shape, after, narrowed, with_result, with_assigned}
+use Rattle.zflow.specs.Transfer.{Shape, pops, below, operand_set, demands_of, demands_at, outcome_of, outcome_at, mid_shape, after, narrowed, with_result, with_assigned}
 use Rattle.zflow.specs.Kept.{both, shape_of}
 use Rattle.zflow.proofs.Operands.{demands_read, outcome_read}
 
 module _ {V : Type 0} (o : SetOperations V) where
-  demands_if_read : (operation : Option Operation) (arg : ℕ → V) → demands_if o operation (both (arg 0) (arg 1)) ≡ demands_if o operation arg
-  demands_if_read None arg = refl
-  demands_if_read (Some operation) arg = sym (demands_read o operation arg)
-
-  outcome_if_read : (globals : List V) (told : FrozenStory) (operation : Option Operation) (operands : List Operand) (arg : ℕ → V) (e : Shape V) (c : Bool) → outcome_if o globals told operation operands (both (arg 0) (arg 1)) e c ≡ outcome_if o globals told operation operands arg e c
-  outcome_if_read globals told None operands arg e c = refl
-  outcome_if_read globals told (Some operation) operands arg e c = sym (outcome_read o globals told operation operands arg e c)
-
-  pub demands_are : (globals : List V) (i : Instruction) (e : Shape V) (opcode : Opcode) (operation : Option Operation) (operands : List Operand) (first second : V) (d : Demands V) → opcode ≡ i.opcode → operation ≡ operation_of opcode → operands ≡ inputs i → first ≡ operand_set o globals operands e 0 → second ≡ operand_set o globals operands e 1 → d ≡ demands_if o operation (both first second) → d ≡ demands_at o globals i e
+  pub demands_are : (globals : List V) (i : Instruction) (e : Shape V) (opcode : Opcode) (operation : Operation) (operands : List Operand) (first second : V) (d : Demands V) → opcode ≡ i.opcode → operation ≡ operation_of opcode → operands ≡ inputs i → first ≡ operand_set o globals operands e 0 → second ≡ operand_set o globals operands e 1 → d ≡ demands_of o operation (both first second) → d ≡ demands_at o globals i e
   demands_are globals i e opcode operation operands first second d same_opcode same_operation same_operands is_first is_second is =
-      rw (is, is_first, is_second, same_operation, same_opcode, same_operands) (demands_if_read (operation_of i.opcode) (operand_set o globals (inputs i) e))
+      rw (is, is_first, is_second, same_operation, same_opcode, same_operands) (sym (demands_read o (operation_of i.opcode) (operand_set o globals (inputs i) e)))
 
-  pub outcome_is : (globals : List V) (told : FrozenStory) (i : Instruction) (e : Shape V) (opcode : Opcode) (operation : Option Operation) (operands : List Operand) (first second : V) (seen_globals : List V) (popped : ℕ) (m : Shape V) (c : Bool) (w : Option (Outcome V)) → opcode ≡ i.opcode → operation ≡ operation_of opcode → operands ≡ inputs i → first ≡ operand_set o globals operands e 0 → second ≡ operand_set o globals operands e 1 → seen_globals ≡ globals → popped ≡ pops operands → m ≡ below popped e → w ≡ outcome_if o seen_globals told operation operands (both first second) m c → w ≡ outcome_at o globals i e told c
+  pub outcome_is : (globals : List V) (told : FrozenStory) (i : Instruction) (e : Shape V) (opcode : Opcode) (operation : Operation) (operands : List Operand) (first second : V) (seen_globals : List V) (popped : ℕ) (m : Shape V) (c : Bool) (w : Option (Outcome V)) → opcode ≡ i.opcode → operation ≡ operation_of opcode → operands ≡ inputs i → first ≡ operand_set o globals operands e 0 → second ≡ operand_set o globals operands e 1 → seen_globals ≡ globals → popped ≡ pops operands → m ≡ below popped e → w ≡ outcome_of o seen_globals told operation operands (both first second) m c → w ≡ outcome_at o globals i e told c
   outcome_is globals told i e opcode operation operands first second seen_globals popped m c w same_opcode same_operation same_operands is_first is_second same_globals is_popped is_mid is =
-      rw (is, is_mid, is_popped, same_globals, is_first, is_second, same_operation, same_opcode, same_operands) (outcome_if_read globals told (operation_of i.opcode) (inputs i) (operand_set o globals (inputs i) e) (below (pops (inputs i)) e) c)
+      rw (is, is_mid, is_popped, same_globals, is_first, is_second, same_operation, same_opcode, same_operands) (sym (outcome_read o globals told (operation_of i.opcode) (inputs i) (operand_set o globals (inputs i) e) (below (pops (inputs i)) e) c))
 
   pub mid_is : (globals : List V) (i : Instruction) (locals slots rest : List V) (operands : List Operand) (popped : ℕ) → operands ≡ inputs i → popped ≡ pops operands → reverse rest ≡ drop popped (reverse slots) → shape_of locals rest ≡ mid_shape o globals i (shape_of locals slots)
   mid_is globals i locals slots rest operands popped same_operands is_popped is_rest = rw (is_rest, is_popped, same_operands) refl

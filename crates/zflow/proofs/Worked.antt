@@ -375,7 +375,7 @@ saves : (tested (of_saves operations.Save true) ≡ Some (Some true)) × (tested
 unfolding outcome_of globals shape
 saves = (refl, refl, refl, refl, refl, refl)
 
--- nothing comes of quit, and of an opcode of which nothing is said
+-- nothing comes of quit
 ends_there : (outcome_on (plain opcodes.Quit []) true ≡ nothing) × (outcome_on (plain opcodes.Quit []) false ≡ nothing) × (outcome_on (plain opcodes.Restart []) true ≡ nothing)
 unfolding operation_of outcome_of shape globals
 ends_there = (refl, refl, refl)

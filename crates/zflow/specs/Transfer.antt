@@ -130,10 +130,6 @@ module _ {V : Type 0} (o : SetOperations V) where
   demands_of Restore arg = nothing
   demands_of Restart arg = nothing
 
-  abbrev pub demands_if : Option Operation → (ℕ → V) → Demands V
-  demands_if None arg = nothing
-  demands_if (Some operation) arg = demands_of operation arg
-
 -- ---- what may come of it
 
 abbrev pub untold : {V : Type 0} → Kept V
@@ -270,10 +266,6 @@ module _ {V : Type 0} (o : SetOperations V) (globals : List V) (told : FrozenSto
   outcome_of Restore operands arg e c = unrestored c
   outcome_of Restart operands arg e c = None
 
-  abbrev pub outcome_if : Option Operation → List Operand → (ℕ → V) → Shape V → Bool → Option (Outcome V)
-  outcome_if None operands arg e c = None
-  outcome_if (Some operation) operands arg e c = outcome_of operation operands arg e c
-
 -- ---- what is known after
 
 abbrev pub locals_with : {V : Type 0} → Option V → ℕ → List V → List V
@@ -343,10 +335,10 @@ module _ {V : Type 0} (o : SetOperations V) (globals : List V) (i : Instruction)
   argument_sets = arguments (sets read_set (length (inputs i)))
 
   abbrev pub demands_at : Demands V
-  demands_at = demands_if o (operation_of i.opcode) read_set
+  demands_at = demands_of o (operation_of i.opcode) read_set
 
   abbrev pub outcome_at : FrozenStory → Bool → Option (Outcome V)
-  outcome_at told c = outcome_if o globals told (operation_of i.opcode) (inputs i) read_set mid_shape c
+  outcome_at told c = outcome_of o globals told (operation_of i.opcode) (inputs i) read_set mid_shape c
 
   -- what is known after it came to this, before what a branch says of locals
   abbrev pub changed_by : Outcome V → Shape V

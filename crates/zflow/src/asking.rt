@@ -1,7 +1,7 @@
 //! What an operation asks for, once for an instruction.
 
 ghost use Rattle.std.specs.Prelude.{◌≡◌};
-ghost use Rattle.zflow.specs.Transfer.{demands_if, demands_of, divisor_of, naming, nothing, small};
+ghost use Rattle.zflow.specs.Transfer.{demands_of, divisor_of, naming, nothing, small};
 ghost use Rattle.zflow.specs.Kept.{both};
 
 use crate::parts::{Access, Asked, Buffers, Demands, Elements, Pairs, Texts};
@@ -12,7 +12,7 @@ use zword::BinaryOp;
 
 /// What an operation asks for, by the sets of its first two operands.
 #[tactic(auto, unfolding(crate::specs::Transfer::demands_of))]
-fn demands_of<V: Domain>(operation: Operation, first: V, second: V) -> Demands<V>
+pub(crate) fn demands_of<V: Domain>(operation: Operation, first: V, second: V) -> Demands<V>
     ensures { result ≡ demands_of V.operations operation (both first second) }
 {
     let mut demands = nothing();
@@ -77,16 +77,6 @@ fn demands_of<V: Domain>(operation: Operation, first: V, second: V) -> Demands<V
         | Operation::Restart => {}
     }
     demands
-}
-
-/// What an instruction asks for; of one that does nothing, nothing.
-pub(crate) fn demands_if<V: Domain>(operation: Option<Operation>, first: V, second: V) -> Demands<V>
-    ensures { result ≡ demands_if V.operations operation (both first second) }
-{
-    match operation {
-        None => nothing(),
-        Some(operation) => demands_of(operation, first, second),
-    }
 }
 
 /// The variable that a value of the set names, where that is known.

@@ -6,9 +6,9 @@ ghost use Rattle.zcode.specs.Operation.{target};
 ghost use Rattle.zflow.specs.Kept.{shape_of};
 ghost use Rattle.zflow.specs.Flow.{IsFlow};
 
-use crate::asking::demands_if;
+use crate::asking::demands_of;
 use crate::known::Known;
-use crate::outcomes::outcomes_if;
+use crate::outcomes::outcomes_of;
 use crate::parts::{Demands, Lead, Outcome};
 use crate::view::{View, below, pops};
 use zcode::{Branch, Destination, Instr};
@@ -60,7 +60,7 @@ pub fn flow_of<'a, V: Domain>(
     let popped = pops(operands);
     let operation = instruction.opcode().operation();
     let (first, second) = before.read(operands);
-    let outcomes = outcomes_if(
+    let outcomes = outcomes_of(
         tables,
         operation,
         operands,
@@ -71,7 +71,7 @@ pub fn flow_of<'a, V: Domain>(
     let left = below(popped, slots);
     Flow {
         popped,
-        demands: demands_if(operation, first, second),
+        demands: demands_of(operation, first, second),
         held: edge_of(locals, left, instruction, outcomes.held),
         failed: edge_of(locals, left, instruction, outcomes.failed),
     }

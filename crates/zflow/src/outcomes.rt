@@ -3,7 +3,7 @@
 ghost use Rattle.std.specs.Prelude.{◌≡◌, List, [], Some, None, true, false, option_map};
 ghost use Rattle.zcode.specs.declared.instr.Operand.{Operand as AnOperand};
 ghost use Rattle.zcode.specs.declared.operation.Operation.TheVariants.{Count};
-ghost use Rattle.zflow.specs.Transfer.{asks, assigns_in, called_outcome, compared_kept, counted_kept, counts_in, drawn_set, followed_outcome, follows_in, gives_in, goes_on, jumps, local_kept, once_known, operand_kept, outcome_if, outcome_of, returns_in, small, unrestored, untold, variable_set};
+ghost use Rattle.zflow.specs.Transfer.{asks, assigns_in, called_outcome, compared_kept, counted_kept, counts_in, drawn_set, followed_outcome, follows_in, gives_in, goes_on, jumps, local_kept, once_known, operand_kept, outcome_of, returns_in, small, unrestored, untold, variable_set};
 ghost use Rattle.zflow.specs.Kept.{both};
 ghost use Rattle.zflow.specs.View.{seen};
 ghost use Rattle.zpairs.specs.Frozen.{FrozenStory};
@@ -28,27 +28,9 @@ pub(crate) struct Outcomes<V> {
     pub(crate) failed: Option<Outcome<V>>,
 }
 
-/// What may come of an instruction, by what it does; of one that does nothing, nothing.
-pub(crate) fn outcomes_if<V: Domain>(
-    tables: &Tables<'_>,
-    operation: Option<Operation>,
-    operands: &[Operand],
-    first: V,
-    second: V,
-    view: View<'_, V>,
-) -> Outcomes<V>
-    ensures held { result.held ≡ outcome_if V.operations view.entry.globals.now tables.now operation operands.now (both first second) (seen view.entry) true }
-    ensures failed { result.failed ≡ outcome_if V.operations view.entry.globals.now tables.now operation operands.now (both first second) (seen view.entry) false }
-{
-    match operation {
-        None => never(),
-        Some(operation) => outcomes_of(tables, operation, operands, first, second, view),
-    }
-}
-
 /// What may come of an operation on operands whose first two have these sets. `view` is what is known once they were read.
 #[tactic(auto, unfolding(crate::specs::Transfer::outcome_of))]
-fn outcomes_of<V: Domain>(
+pub(crate) fn outcomes_of<V: Domain>(
     tables: &Tables<'_>,
     operation: Operation,
     operands: &[Operand],

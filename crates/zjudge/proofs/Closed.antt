@@ -11,6 +11,7 @@ use Rattle.ztext.specs.Abbreviations.{readable_word}
 use Rattle.zobj.specs.Properties.{list_place, data_end}
 use Rattle.zcert.specs.declared.parts.Range.{Range}
 use Rattle.zplace.specs.Bytes.{IsWithin, IsChanging, IsSizePlace, here, behind, IsTableFrame, IsPropertyFrame, IsAbbreviation, IsClosed, header, a_global, a_default, an_entry, a_property, an_abbreviation, frozen, static, read_length}
+use Rattle.zplace.proofs.Each.{one_more_below}
 use Rattle.zpairs.specs.Frozen.{is_inside, frozen_by}
 use Rattle.zobj.specs.declared.tree.Link.TheVariants.{Parent, Sibling, Child}
 use Rattle.zjudge.specs.Memory.{IsKept, AreKept, HasLinks}
@@ -18,22 +19,6 @@ use Rattle.zjudge.specs.Parts.{IsInText, IsLedTo, IsRangeKept}
 
 pub through : {A B C : Type 0} → A ↔ B → B ↔ C → A ↔ C
 through f g = (λ a. g.0 (f.0 a), λ c. f.1 (g.1 c))
-
--- ---- of one more
-
-pub one_more : (P : ℕ → Type 0) (below : ℕ) → ((object : ℕ) → 1 ≤ object → object ≤ below → P object) → P (below + 1) → (object : ℕ) → 1 ≤ object → object ≤ below + 1 → P object
-one_more P below each next object first last = by_order (cases_lt object (below + 1))
-  where
-    by_order : (object < below + 1) ⊎ (below + 1 ≤ object) → P object
-    by_order (inl low) = each object first (omega (arith, low))
-    by_order (inr high) = let same : below + 1 ≡ object = omega (arith, high, last) in subst P same next
-
-pub one_more_below : (P : ℕ → Type 0) (below : ℕ) → ((number : ℕ) → number < below → P number) → P below → (number : ℕ) → number < below + 1 → P number
-one_more_below P below each next number last = by_order (cases_lt number below)
-  where
-    by_order : (number < below) ⊎ (below ≤ number) → P number
-    by_order (inl low) = each number low
-    by_order (inr high) = let same : below ≡ number = omega (arith, high, last) in subst P same next
 
 -- of each element, by their places and by recursion
 each_of : {A : Type 0} (P : A → Type 0) (xs : List A) → All P xs ↔ AllByRecursion P xs

@@ -7,3 +7,4 @@ mod Going
 mod Listed
 mod Fitted
 mod Rising
+mod Worked

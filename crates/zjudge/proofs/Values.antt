@@ -6,7 +6,7 @@ use Rattle.zstory.specs.LoadedStory.{LoadedStory}
 use Rattle.zdomain.specs.Domain.{SetOperations, In}
 use Rattle.zcert.specs.Certificate.{Certificate}
 use Rattle.zrule.specs.Rules.{global_in}
-use Rattle.zjudge.proofs.Closed.{one_more_below}
+use Rattle.zplace.proofs.Each.{one_more_below}
 
 module _ {V : Type 0} (o : SetOperations V) (story : LoadedStory) (c : Certificate V) (saved : List ℕ) where
   -- each of the first globals is in its set

@@ -40,7 +40,7 @@ fn is_save(opcode: Opcode) -> bool
     ensures { result ≡ is_save (operation_of opcode) }
 {
     match opcode.operation() {
-        Some(Operation::Save) => true,
+        Operation::Save => true,
         _ => false,
     }
 }

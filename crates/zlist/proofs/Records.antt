@@ -8,7 +8,7 @@ use Rattle.std.proofs.lemmas.List.Elements.{All-push, All-map}
 use Rattle.std.proofs.lemmas.Grind.{get_or_default_zero}
 use Rattle.zstory.specs.LoadedStory.{LoadedStory}
 use Rattle.zcode.specs.declared.error.DecodeError.TheVariants.{Truncated}
-use Rattle.zcode.specs.Reading.{head_at, instruction_at, instruction_by}
+use Rattle.zcode.specs.Reading.{head_at, instruction_at}
 use Rattle.zlist.specs.declared.owner.Owner.{Owner}
 use Rattle.zlist.specs.declared.owner.Owner.TheVariants.{Main, Routine}
 use Rattle.zlist.specs.declared.record.Record.{Record}
@@ -66,7 +66,7 @@ past (b ∷ memory) zero l = absurd (omega (arith, l))
 past (b ∷ memory) (suc a) l = past memory a (omega (arith, l))
 
 nothing_past : (memory : List ℕ) (a : ℕ) → length memory ≤ a → spelled memory (pos a) ≡ Err Truncated
-unfolding instruction_by head_at
+unfolding instruction_at head_at
 nothing_past memory a l = ap (λ (bytes : List ℕ). instruction_at bytes) (past memory a l)
 
 -- ---- address by address

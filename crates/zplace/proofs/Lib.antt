@@ -1,6 +1,6 @@
 mod Changing
 mod Tables
 mod Lists
-mod Each
+pub mod Each
 pub mod Staying
 mod Worked

@@ -1,4 +1,5 @@
 pub mod Accepting
 pub mod Playing
 pub mod Resumed
+mod Saving
 mod Worked

@@ -2,8 +2,7 @@
 use Rattle.std.proofs.Common.{◌≡◌, ℕ, false, List, [], ◌∷◌, ◌++◌, replicate, Some, None, refl, arith}
 use Rattle.std.specs.Prelude.{pos}
 use Rattle.zstory.specs.LoadedStory.{LoadedStory}
-use Rattle.zcode.specs.Reading.{instruction_by, head_at, short_head, played_opcode, checked_head, operand_at, operands_at, store_if, branch_if, text_if}
-use Rattle.zcode.specs.Playable.{playable}
+use Rattle.zcode.specs.Reading.{instruction_at, head_at, short_head, checked_head, operand_at, operands_at, store_if, branch_if, text_if}
 use Rattle.zcode.specs.Operation.{operation_of}
 use Rattle.zcert.specs.Certificate.{Certificate}
 use Rattle.zdomain.specs.declared.interval.Interval.{Interval}
@@ -38,7 +37,7 @@ a = record { story = story; certificate = certificate; listing = record { record
 
 -- a jump whose certificate leaves it one word, one of two, one that isn't listed, and what is no jump
 firsts : (first_at interval_operations a 64 ≡ Some 5) × (first_at interval_operations a 66 ≡ None) × (first_at interval_operations a 68 ≡ None) × (first_at interval_operations a 70 ≡ None)
-unfolding a certificate either story memory operation_of playable instruction_by head_at short_head played_opcode checked_head operand_at operands_at store_if branch_if text_if
+unfolding a certificate either story memory operation_of instruction_at head_at short_head checked_head operand_at operands_at store_if branch_if text_if
 firsts = (refl, refl, refl, refl)
 
 -- only what is listed is played, with the usual limit of frames; where there is no board, it stands as it opens

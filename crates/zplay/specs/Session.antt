@@ -23,7 +23,7 @@ use Rattle.zboard.specs.Head.{Head}
 use Rattle.zboard.specs.Play.{Game, IsPlayable, state_in}
 use Rattle.zboard.specs.View.{position_of}
 use Rattle.zrule.specs.Claims.{entry_of}
-use Rattle.zrule.specs.Described.{Described}
+use Rattle.zrule.specs.Described.{Described, IsAcceptedIn}
 use Rattle.zcheck.specs.Acceptance.{AcceptanceOver}
 use Rattle.zplay.specs.Accepted.{IsAccepted, claims}
 
@@ -43,6 +43,14 @@ setting_of a = record { story = a.story; scope = scope_only a.listing; limit = u
 abbrev pub setting : {V : Type 0} → PlayingOver V → Setting
 setting p = setting_of p.accepted
 
+-- a session stands in a state that its certificate describes
+abbrev pub IsDescribed : {V : Type 0} → SetOperations V → PlayingOver V → Type 0
+IsDescribed o p = Described o (claims o p.accepted) usual_limit p.accepted.story p.state
+
+-- what a session accepts: bytes of a save from which play goes on, and then in such a state
+abbrev pub Accepts : {V : Type 0} → SetOperations V → PlayingOver V → List ℕ → Type 0
+Accepts o p bytes = IsAcceptedIn o (claims o p.accepted) (setting p) bytes p.state
+
 -- why a save is refused: play can't go on from it, for that reason, or only in a state that isn't described
 abbrev pub IsRefusedSave : {V : Type 0} → SetOperations V → PlayingOver V → List ℕ → SaveError → Type 0
 IsRefusedSave o p bytes e =
@@ -53,8 +61,8 @@ IsRefusedSave o p bytes e =
 
 module _ {V : Type 0} (o : SetOperations V) where
   -- the word that an instruction reads first, where that is a jump and its certificate leaves it but one
-  abbrev pub first_of : AcceptanceOver V → Listed V → Instruction → Option Operation → Option ℕ
-  first_of a l i (Some Jump) = o.known (read_set o a.certificate.globals i (entry_of l).shape 0)
+  abbrev pub first_of : AcceptanceOver V → Listed V → Instruction → Operation → Option ℕ
+  first_of a l i Jump = o.known (read_set o a.certificate.globals i (entry_of l).shape 0)
   first_of a l i _ = None
 
   abbrev pub first_there : AcceptanceOver V → Option (Listed V) → Result Instruction DecodeError → Option ℕ

@@ -1,22 +1,22 @@
 //! The session.
 
-ghost use Rattle.std.specs.Prelude.{◌≡◌, ◌≤◌, ◌+◌, ℕ, List, [], Ok, Some, IfErr, IfOk, OnErr, OnOk, IsTrue};
+ghost use Rattle.std.specs.Prelude.{◌≡◌, ◌↔◌, ◌≤◌, ◌+◌, ℕ, List, [], Ok, Some, IfErr, IfOk, IsOk, OnErr, OnOk, IsTrue};
 ghost use Rattle.zfault.specs.Answers.{answers};
 ghost use Rattle.zstate.specs.declared.halt.Stop.TheVariants.{Paused};
-ghost use Rattle.zstate.specs.State.{opening, give, usual_limit};
+ghost use Rattle.zstate.specs.State.{Scope, opening, give, usual_limit};
 ghost use Rattle.zstate.specs.Run.{awaited, run, Ends, GivesOut, Input, Makes, Stands};
 ghost use Rattle.zfault.specs.declared.pause.Need.TheVariants.{Saved as ASave, Restore as ARestore};
 ghost use Rattle.zquetzal.specs.Grammar.{save_text};
 ghost use Rattle.zquetzal.specs.Saved.{origin_of};
 ghost use Rattle.zstate.specs.Saves.{restoring, saved_of};
-ghost use Rattle.zrule.specs.Described.{AreFine, Described, IsNoFault};
+ghost use Rattle.zrule.specs.Described.{AreFine, Described, IsFineSave, IsNoFault};
 ghost use Rattle.zplay.specs.Accepted.{IsAccepted, claims};
 ghost use Rattle.zboard.specs.Play.{state_in};
 ghost use Rattle.zboard.specs.Head.{Head};
 ghost use Rattle.zboard.specs.Position.{with_outside};
 ghost use Rattle.zboard.specs.View.{position_of};
 ghost use Rattle.zboard.specs.declared.row.Row.{Row as ARow};
-ghost use Rattle.zplay.specs.Session.{game_of, setting, IsInPlay, IsRefusedSave};
+ghost use Rattle.zplay.specs.Session.{game_of, setting, Accepts, IsDescribed, IsInPlay, IsRefusedSave, PlayingOver};
 
 use crate::rows::{callees_of, rows_of};
 use std::alloc::{AllocError, Global};
@@ -29,7 +29,7 @@ use zfault::{Event, Items, Need, Pause};
 use zframe::Frames;
 use zjudge::judge_save;
 use zquetzal::{SaveError, read, write};
-use zrule::each_step_is_safe;
+use zrule::{each_step_is_safe, saves_are_accepted};
 use zstate::{RandomMode, saves_are_states};
 
 /// How many frames may stand above the first (own).
@@ -220,6 +220,7 @@ impl<'a, V: Spelled> Session<'a, V> {
         ensures ok { OnOk result ((restoring (setting self.old) save.now self.old.state ≡ Ok self.new.state) × Described V.operations (claims V.operations self.old.accepted) usual_limit self.old.accepted.story self.new.state) }
         ensures same { OnErr result (self.new ≡ self.old) }
         ensures refused { IfErr result (IsRefusedSave V.operations self.old save.now) }
+        ensures exact { IsOk result ↔ Accepts V.operations self.old save.now }
     {
         let accepted = self.accepted;
         known_of(accepted);
@@ -244,6 +245,18 @@ impl<'a, V: Spelled> Session<'a, V> {
         ensures { (inputs : List Input) (n : ℕ) → AreFine V.operations (claims V.operations self.now.accepted) (setting self.now) inputs → IsNoFault (run (setting self.now) inputs n self.now.state).stop }
     {
         each_step_is_safe::<V>();
+        let _board = self.board();
+    }
+
+    /// The laws of saves. A session stands in a state that its certificate describes. What it saves is accepted by every session of the
+    /// same story and certificate, in whatever described state that stands. And a save that a session accepts leads to described states
+    /// alone, wherever and in whatever scope it is handed in: so no run over events and accepted saves meets a fault.
+    pub fn saves_are_accepted(&self)
+        ensures described { IsDescribed V.operations self.now }
+        ensures saved { awaited (setting self.now) self.now.state ≡ Some ASave → (other : PlayingOver V) → other.accepted ≡ self.now.accepted → IsDescribed V.operations other → Accepts V.operations other (save_text (origin_of self.now.accepted.story) (saved_of self.now.accepted.story self.now.state)) }
+        ensures fine { (save : List ℕ) (scope : Scope) → Accepts V.operations self.now save → IsFineSave V.operations (claims V.operations self.now.accepted) (record (setting self.now) { scope = scope }) save }
+    {
+        saves_are_accepted::<V>();
         let _board = self.board();
     }
 }

@@ -65,7 +65,7 @@ fn is_at_save(story: &Story, scope: &Scope, state: &State) -> bool
 /// Whether an operation is that of `save`.
 #[tactic(auto, using(crate::proofs::Resuming::seeking))]
 fn is_save(operation: Operation) -> bool
-    ensures { result ≡ is_save (Some operation) }
+    ensures { result ≡ is_save operation }
 {
     matches!(operation, Operation::Save)
 }

@@ -13,7 +13,7 @@ use Rattle.zstate.specs.declared.halt.Halt.TheVariants as halts
 use Rattle.zstate.specs.InTurn.{◌>>=◌}
 use Rattle.zstate.specs.State.{Frame, State, Setting, popped, has_room}
 use Rattle.zstate.specs.Run.{IsFull}
-use Rattle.zstate.specs.Step.{Called, Move, on, back, into, Effect, Done, effect_if, is_roomy, course, pauses, step}
+use Rattle.zstate.specs.Step.{Called, Move, on, back, into, Effect, Done, effect_of, is_roomy, course, pauses, step}
 use Rattle.zflow.specs.declared.parts.Lead.{Lead}
 use Rattle.zflow.specs.declared.parts.Lead.TheVariants.{Ahead, Returning, Entering}
 use Rattle.zflow.specs.declared.parts.Outcome.{Outcome}
@@ -65,7 +65,7 @@ module _ {V : Type 0} (o : SetOperations V) (lawful : AreSound o) (claims : Clai
   IsAble : Result Done Halt → Type 0
   IsAble r = ((x : Done) × (r ≡ Ok x)) ⊎ ((r ≡ Err halts.Quit) ⊎ (((need : Need) × (r ≡ Err (halts.Need need))) ⊎ ((r ≡ Err halts.FrameLimit) × IsFull m s)))
 
-  made_able : (w : Outcome V) (effect : Effect) → effect_if m (operation_of i.opcode) (all o lawful claims m loaded supports listed s d i there).values t ≡ Ok effect → ComesOf o lawful claims m loaded supports listed s d i there (operation_of i.opcode) w → Matches o lawful claims m loaded supports listed s d i there w effect → IsAble (made_by m s t i effect)
+  made_able : (w : Outcome V) (effect : Effect) → effect_of m (operation_of i.opcode) (all o lawful claims m loaded supports listed s d i there).values t ≡ Ok effect → ComesOf o lawful claims m loaded supports listed s d i there (operation_of i.opcode) w → Matches o lawful claims m loaded supports listed s d i there w effect → IsAble (made_by m s t i effect)
   unfolding IsAble
   made_able w effect does comes matches = by_room (is_roomy m.limit (course effect i.branch) s.frame.result s.callers) refl
     where
@@ -92,7 +92,7 @@ module _ {V : Type 0} (o : SetOperations V) (lawful : AreSound o) (claims : Clai
   still_able effect still (a_prompt line is) = let ok = admitted_is effect still in inl (done_at m s t i effect, ok ∙ rw is refl)
   still_able effect still (a_restart is) = let ok = admitted_is effect still in inl (done_at m s t i effect, ok ∙ rw is refl)
 
-  able_by : (r : Result Effect Halt) → effect_if m (operation_of i.opcode) (all o lawful claims m loaded supports listed s d i there).values t ≡ r → Expected o lawful claims m loaded supports listed s d i there (operation_of i.opcode) r → IsAble (r >>= made_by m s t i)
+  able_by : (r : Result Effect Halt) → effect_of m (operation_of i.opcode) (all o lawful claims m loaded supports listed s d i there).values t ≡ r → Expected o lawful claims m loaded supports listed s d i there (operation_of i.opcode) r → IsAble (r >>= made_by m s t i)
   unfolding Expected IsAble
   able_by (Ok effect) does (inl still) = still_able effect still still.why
   able_by (Ok effect) does (inr (w, comes, matches)) = made_able w effect does comes matches
@@ -100,4 +100,4 @@ module _ {V : Type 0} (o : SetOperations V) (lawful : AreSound o) (claims : Clai
 
   pub able_there : ((x : Done) × (step m s ≡ Ok x)) ⊎ ((step m s ≡ Err halts.Quit) ⊎ (((need : Need) × (step m s ≡ Err (halts.Need need))) ⊎ ((step m s ≡ Err halts.FrameLimit) × IsFull m s)))
   unfolding IsAble
-  able_there = subst IsAble (sym (steps o lawful claims m loaded supports listed s d i there)) (able_by (effect_if m (operation_of i.opcode) (all o lawful claims m loaded supports listed s d i there).values t) refl (expected o lawful claims m loaded supports listed s d i there))
+  able_there = subst IsAble (sym (steps o lawful claims m loaded supports listed s d i there)) (able_by (effect_of m (operation_of i.opcode) (all o lawful claims m loaded supports listed s d i there).values t) refl (expected o lawful claims m loaded supports listed s d i there))

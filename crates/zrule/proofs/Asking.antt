@@ -11,7 +11,7 @@ use Rattle.zcode.specs.Operation.{operation_of, target}
 use Rattle.zdomain.specs.Domain.{SetOperations}
 use Rattle.zflow.specs.declared.parts.Demands.{Demands}
 use Rattle.zflow.specs.declared.flow.Flow.{Flow}
-use Rattle.zflow.specs.Transfer.{demands_of, demands_if, read_set, argument_sets}
+use Rattle.zflow.specs.Transfer.{demands_of, read_set, argument_sets}
 use Rattle.zflow.specs.Flow.{IsFlow}
 use Rattle.zrule.specs.declared.rule.Rule.{Rule}
 use Rattle.zrule.specs.declared.rule.Rule.TheVariants.{Decodes, Height, Local, Successor, Object, Attribute, Property, Divisor, Write, Read, Text, Called, Returned, Buffers, Known, Stored, High, Status}
@@ -27,7 +27,7 @@ one_there : (story : LoadedStory) (p : ℕ) (i j : Instruction) → IsThere stor
 one_there story p i j a b = let x = a.decodes in let y = b.decodes in cc
 
 -- what is asked of a text is asked of an opcode that prints one
-pub text_asked : {V : Type 0} (o : SetOperations V) (arg : ℕ → V) (op : Opcode) → (demands_if o (operation_of op) arg).has_text ≡ true → prints_text op ≡ true
+pub text_asked : {V : Type 0} (o : SetOperations V) (arg : ℕ → V) (op : Opcode) → (demands_of o (operation_of op) arg).has_text ≡ true → prints_text op ≡ true
 unfolding operation_of demands_of
 text_asked o arg Print h = refl
 text_asked o arg PrintRet h = refl

@@ -13,10 +13,9 @@ use Rattle.ztext.specs.Words.{text_at, characters_in}
 use Rattle.ztext.specs.Codes.{abbreviations_used}
 use Rattle.ztext.specs.Abbreviations.{readable_word, abbreviation_at, IsPlainAbbreviation}
 use Rattle.zcode.specs.declared.opcode.Opcode.TheVariants.{Print, NewLine, Quit}
-use Rattle.zcode.specs.Playable.{playable}
 use Rattle.zcode.specs.Instruction.{Instruction}
 use Rattle.zcode.specs.Operation.{operation_of}
-use Rattle.zcode.specs.Reading.{instruction_at, instruction_by, head_at, short_head, played_opcode, checked_head, operands_at, store_if, branch_if, text_if}
+use Rattle.zcode.specs.Reading.{instruction_at, head_at, short_head, checked_head, operands_at, store_if, branch_if, text_if}
 use Rattle.zdomain.specs.declared.interval.Interval.{Interval}
 use Rattle.zdomain.specs.Domain.{In}
 use Rattle.zdomain.specs.IntervalLaw.{interval_sound}
@@ -207,7 +206,7 @@ unfoldable pub stop : Instruction
 stop = record { opcode = Quit; operands = []; store = None; branch = None; size = 1 }
 
 pub reads : (instruction_at (drop 798 memory) ≡ Ok hello) × (instruction_at (drop 803 memory) ≡ Ok line) × (instruction_at (drop 804 memory) ≡ Ok stop)
-unfolding memory hello line stop playable instruction_by head_at short_head played_opcode checked_head operands_at store_if branch_if text_if operation_of
+unfolding memory hello line stop instruction_at head_at short_head checked_head operands_at store_if branch_if text_if operation_of
 reads = (refl, refl, refl)
 
 same_ok : {A E : Type 0} (x y : A) → ◌≡◌ {A = Result A E} (Ok x) (Ok y) → x ≡ y

@@ -33,6 +33,7 @@ pub mod Steps
 pub mod Relied
 pub mod Rewriting
 pub mod Restarting
+pub mod Elsewhere
 pub mod Runs
 mod Worked
 pub mod Instances

@@ -9,10 +9,10 @@ use Rattle.zcode.specs.Operation.{operation_of, inputs, target}
 use Rattle.zcode.specs.Reading.{instruction_at}
 use Rattle.zdomain.specs.Domain.{SetOperations, AreSound, In}
 use Rattle.zstate.specs.State.{State, Setting, popped, read_operands}
-use Rattle.zstate.specs.Step.{Effect, admits, arg, changed, course, effect_if, fetch, pauses, plan, settle, unpacked}
+use Rattle.zstate.specs.Step.{Effect, admits, arg, changed, course, effect_of, fetch, pauses, plan, settle, unpacked}
 use Rattle.zstate.proofs.Steps.{bind_ok, ok_is}
 use Rattle.zflow.specs.declared.parts.Outcome.{Outcome}
-use Rattle.zflow.specs.Transfer.{Shape, pops, slots_with, leading, demands_of, demands_if, read_set, argument_sets, enters_in}
+use Rattle.zflow.specs.Transfer.{Shape, pops, slots_with, leading, demands_of, read_set, argument_sets, enters_in}
 use Rattle.zrule.specs.declared.rule.Rule.TheVariants as rules
 use Rattle.zrule.specs.Claims.{Claims}
 use Rattle.zrule.specs.Rules.{Begins, IsThere, Supports, comes_back}
@@ -43,26 +43,26 @@ module _ {V : Type 0} (o : SetOperations V) (lawful : AreSound o) (claims : Clai
       let same : values ≡ all_there.values = ap (λ (p : List ℕ × State). p.0) (same_read (values, u) (all_there.values, popped (pops operands) s) (sym read ∙ all_there.read)) in
       ap (λ (ys : List ℕ). arg ys 0) same ∙ lawful.known (args 0) x (arg all_there.values 0) known (all_there.members 0)
 
-  known_for : IsTrue (demands_if o (Some Jump) args).certain → (x : ℕ) × (o.known (args 0) ≡ Some x)
+  known_for : IsTrue (demands_of o Jump args).certain → (x : ℕ) × (o.known (args 0) ≡ Some x)
   unfolding demands_of
   known_for sure = let k = known_jump o lawful claims m loaded supports listed s d i there sure in (k.0, k.1)
 
-  pub jumps_as_known : operation_of i.opcode ≡ Some Jump → (values : List ℕ) (u : State) → read_operands m.story operands s ≡ Ok (values, u) → o.known (args 0) ≡ Some (arg values 0)
+  pub jumps_as_known : operation_of i.opcode ≡ Jump → (values : List ℕ) (u : State) → read_operands m.story operands s ≡ Ok (values, u) → o.known (args 0) ≡ Some (arg values 0)
   jumps_as_known jump values u read =
-      let sure : IsTrue (demands_if o (Some Jump) args).certain = subst (λ (k : Option Operation). IsTrue (demands_if o k args).certain) jump (asked o lawful claims m loaded supports listed s d i there).certain in
+      let sure : IsTrue (demands_of o Jump args).certain = subst (λ (k : Operation). IsTrue (demands_of o k args).certain) jump (asked o lawful claims m loaded supports listed s d i there).certain in
       let k = known_for sure in
       k.1 ∙ ap (λ (n : ℕ). Some n) (sym (first_read values u k.0 k.1 read))
 
   -- what is called is a routine that begins as is said
-  called_begins : CallsOf o lawful claims m loaded supports listed s d i there (Some Call) → (arg all_there.values 0 == 0) ≡ false → Begins o claims m.story given_args (unpacked (arg all_there.values 0))
+  called_begins : CallsOf o lawful claims m loaded supports listed s d i there Call → (arg all_there.values 0 == 0) ≡ false → Begins o claims m.story given_args (unpacked (arg all_there.values 0))
   unfolding CallsOf
   called_begins rule e = let on_edge = entry_edge o lawful claims m loaded supports listed s d i there e in rule (enters_in on_edge.a) on_edge.comes (arg all_there.values 0) on_edge.member (not_zero (arg all_there.values 0) e)
 
-  pub called_as_said : operation_of i.opcode ≡ Some Call → (values : List ℕ) (u : State) → read_operands m.story operands s ≡ Ok (values, u) → (arg values 0 == 0) ≡ false → Begins o claims m.story given_args (unpacked (arg values 0))
+  pub called_as_said : operation_of i.opcode ≡ Call → (values : List ℕ) (u : State) → read_operands m.story operands s ≡ Ok (values, u) → (arg values 0 == 0) ≡ false → Begins o claims m.story given_args (unpacked (arg values 0))
   called_as_said call values u read some =
       let same : all_there.values ≡ values = ap (λ (p : List ℕ × State). p.0) (same_read (all_there.values, popped (pops operands) s) (values, u) (sym all_there.read ∙ read)) in
       subst (λ (ys : List ℕ). Begins o claims m.story given_args (unpacked (arg ys 0))) same
-      (called_begins (subst (λ (k : Option Operation). CallsOf o lawful claims m loaded supports listed s d i there k) call (begins_said o lawful claims m loaded supports listed s d i there)) (subst (λ (ys : List ℕ). (arg ys 0 == 0) ≡ false) (sym same) some))
+      (called_begins (subst (λ (k : Operation). CallsOf o lawful claims m loaded supports listed s d i there k) call (begins_said o lawful claims m loaded supports listed s d i there)) (subst (λ (ys : List ℕ). (arg ys 0 == 0) ≡ false) (sym same) some))
 
   -- with what an effect gives, a stack is low
   low_with : (w : Outcome V) (effect : Effect) (comes : ComesOf o lawful claims m loaded supports listed s d i there (operation_of i.opcode) w) (matches : Matches o lawful claims m loaded supports listed s d i there w effect) → length (changed m.story i effect (popped (pops operands) s)).frame.stack ≤ 64
@@ -92,13 +92,13 @@ module _ {V : Type 0} (o : SetOperations V) (lawful : AreSound o) (claims : Clai
   low_planned j effect u planned =
       let f = bind_ok (fetch m.scope s.place s.memory) _ (j, effect, u) planned in
       let v = bind_ok (read_operands m.story (inputs f.0) s) _ (j, effect, u) f.2 in
-      let x = bind_ok (effect_if m (operation_of f.0.opcode) v.0.0 v.0.1) _ (j, effect, u) v.2 in
+      let x = bind_ok (effect_of m (operation_of f.0.opcode) v.0.0 v.0.1) _ (j, effect, u) v.2 in
       let y = bind_ok (settle m.limit f.0 x.0 v.0.1) _ (j, effect, u) x.2 in
       let parts : (f.0, x.0, v.0.1) ≡ (j, effect, u) = ok_is (f.0, x.0, v.0.1) (j, effect, u) y.2 in
       let one : i ≡ f.0 = ok_is i f.0 (sym (fetches o lawful claims m loaded supports listed s d i there) ∙ f.1) in
       let read : read_operands m.story operands s ≡ Ok v.0 = subst (λ (k : Instruction). read_operands m.story (inputs k) s ≡ Ok v.0) (sym one) v.1 in
       let both : (all_there.values, popped (pops operands) s) ≡ v.0 = same_read (all_there.values, popped (pops operands) s) v.0 (sym all_there.read ∙ read) in
-      let does : effect_if m (operation_of i.opcode) all_there.values (popped (pops operands) s) ≡ Ok x.0 = subst (λ (k : Instruction). effect_if m (operation_of k.opcode) all_there.values (popped (pops operands) s) ≡ Ok x.0) (sym one) (subst (λ (r : List ℕ × State). effect_if m (operation_of f.0.opcode) r.0 r.1 ≡ Ok x.0) (sym both) x.1) in
+      let does : effect_of m (operation_of i.opcode) all_there.values (popped (pops operands) s) ≡ Ok x.0 = subst (λ (k : Instruction). effect_of m (operation_of k.opcode) all_there.values (popped (pops operands) s) ≡ Ok x.0) (sym one) (subst (λ (r : List ℕ × State). effect_of m (operation_of f.0.opcode) r.0 r.1 ≡ Ok x.0) (sym both) x.1) in
       let settled : settle m.limit i x.0 (popped (pops operands) s) ≡ Ok tt = subst (λ (k : Instruction). settle m.limit k x.0 (popped (pops operands) s) ≡ Ok tt) (sym one) (subst (λ (r : List ℕ × State). settle m.limit f.0 x.0 r.1 ≡ Ok tt) (sym both) y.1) in
       let low : length (changed m.story i x.0 (popped (pops operands) s)).frame.stack ≤ 64 = low_if x.0 (subst (Expected o lawful claims m loaded supports listed s d i there (operation_of i.opcode)) does (expected o lawful claims m loaded supports listed s d i there)) settled in
       let there_low : length (changed m.story f.0 x.0 v.0.1).frame.stack ≤ 64 = subst (λ (k : Instruction). length (changed m.story k x.0 v.0.1).frame.stack ≤ 64) one (subst (λ (r : List ℕ × State). length (changed m.story i x.0 r.1).frame.stack ≤ 64) both low) in
@@ -114,7 +114,7 @@ module _ {V : Type 0} (o : SetOperations V) (lawful : AreSound o) (claims : Clai
   reads_it = fetches o lawful claims m loaded supports listed s d i there
 
   -- a jump goes as far as is known
-  pub jumps_known : operation_of i.opcode ≡ Some Jump → (values : List ℕ) (u : State) → read_operands m.story (inputs i) s ≡ Ok (values, u) → o.known (read_set o claims.globals i d.entry.shape 0) ≡ Some (arg values 0)
+  pub jumps_known : operation_of i.opcode ≡ Jump → (values : List ℕ) (u : State) → read_operands m.story (inputs i) s ≡ Ok (values, u) → o.known (read_set o claims.globals i d.entry.shape 0) ≡ Some (arg values 0)
   jumps_known = jumps_as_known o lawful claims m loaded supports listed s d i there
 
   -- its stack is low
@@ -122,7 +122,7 @@ module _ {V : Type 0} (o : SetOperations V) (lawful : AreSound o) (claims : Clai
   stack_low = low o lawful claims m loaded supports listed s d i there
 
   -- what it calls is a routine that begins as is said
-  pub calls_begin : operation_of i.opcode ≡ Some Call → (values : List ℕ) (u : State) → read_operands m.story (inputs i) s ≡ Ok (values, u) → (arg values 0 == 0) ≡ false → Begins o claims m.story (argument_sets o claims.globals i d.entry.shape) (unpacked (arg values 0))
+  pub calls_begin : operation_of i.opcode ≡ Call → (values : List ℕ) (u : State) → read_operands m.story (inputs i) s ≡ Ok (values, u) → (arg values 0 == 0) ≡ false → Begins o claims m.story (argument_sets o claims.globals i d.entry.shape) (unpacked (arg values 0))
   calls_begin = called_as_said o lawful claims m loaded supports listed s d i there
 
   -- with what it gives, its stack is low

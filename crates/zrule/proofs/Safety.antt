@@ -21,10 +21,7 @@ use Rattle.zcode.specs.declared.operation.Operation.{Operation}
 use Rattle.zcode.specs.declared.operation.Operation.TheVariants.{Unary, Binary, Compare, Count, Store, Load, Jump, Verify, PrintChar, PrintNumber, Print, NewLine, Nop, Quit, Return, PrintReturn, Call, Inside, TestAttribute, Follow, SetAttribute, ClearAttribute, Insert, Remove, Property, PropertyLength, SetProperty, PrintObject, PrintAt, ShowStatus, LoadArray, StoreArray, Random, ReadLine, Save, Restore, Restart}
 use Rattle.zcode.specs.Instruction.{Instruction}
 use Rattle.zcode.specs.Operation.{operation_of, inputs, target}
-use Rattle.zcode.specs.Playable.{playable}
 use Rattle.zcode.specs.Reading.{instruction_at}
-use Rattle.zcode.proofs.Found.{found}
-use Rattle.zcode.proofs.Operating.{played_operate}
 use Rattle.std.specs.Result.{IsOkAnd}
 use Rattle.zobj.specs.declared.error.ObjectError.{ObjectError}
 use Rattle.zobj.specs.declared.tree.Link.{Link}
@@ -43,14 +40,14 @@ use Rattle.zstate.specs.declared.halt.Halt.{Halt}
 use Rattle.zstate.specs.declared.halt.Halt.TheVariants as halts
 use Rattle.zstate.specs.InTurn.{◌>>=◌}
 use Rattle.zstate.specs.State.{State, Setting, IsState, popped, with_stack, with_locals, with_memory, write_word, global, exists, put_named, put_in_place, read_in_place, has_head, fault}
-use Rattle.zstate.specs.Step.{Move, on, back, calling, closing, called_at, call_of, unpacked, arguments, Effect, Done, way, arg, asked_of, giving, assigning, testing, printing, jumping, following, marking, rearranging, rewriting, rewritten, answering, reading, filling, storing, showing, proceeds, saving, unrestored, is_data_writable, fetch, printed, print_at, effect_of, effect_if, has_caller, is_taken, turned, course, admits, pauses, assigned, changed, stored, advance, act, step, came, drawn, used}
+use Rattle.zstate.specs.Step.{Move, on, back, calling, closing, called_at, call_of, unpacked, arguments, Effect, Done, way, arg, asked_of, giving, assigning, testing, printing, jumping, following, marking, rearranging, rewriting, rewritten, answering, reading, filling, storing, showing, proceeds, saving, unrestored, is_data_writable, fetch, printed, print_at, effect_of, has_caller, is_taken, turned, course, admits, pauses, assigned, changed, stored, advance, act, step, came, drawn, used}
 use Rattle.zstate.proofs.Effects.{table_place}
 use Rattle.zstate.proofs.Keeps.{changed_aside, step_keeps}
 use Rattle.zflow.specs.declared.parts.Kept.{Kept}
 use Rattle.zflow.specs.declared.parts.Outcome.{Outcome}
 use Rattle.zflow.specs.declared.parts.Demands.{Demands}
 use Rattle.zpairs.specs.Pairs.{AreUnfrozen}
-use Rattle.zflow.specs.Transfer.{Shape, drawn_set, pops, variable_set, small, local_kept, operand_kept, both_kept, untold, counted_set, demands_of, demands_if, goes_on, gives_in, assigns_in, asks, counts_in, follows_in, returns_in, enters_in, argument_sets, jumps, outcome_of, outcome_if, leading, named_with, with_result, with_assigned, narrowed, read_set, mid_shape, changed_by, after}
+use Rattle.zflow.specs.Transfer.{Shape, drawn_set, pops, variable_set, small, local_kept, operand_kept, both_kept, untold, counted_set, demands_of, goes_on, gives_in, assigns_in, asks, counts_in, follows_in, returns_in, enters_in, argument_sets, jumps, outcome_of, leading, named_with, with_result, with_assigned, narrowed, read_set, mid_shape, changed_by, after}
 use Rattle.zrule.specs.declared.rule.Rule.TheVariants as rules
 use Rattle.zrule.specs.Claims.{Claims, frozen_in, told_of}
 use Rattle.zrule.specs.Rules.{Begins, Enters, TakesBack, HasLineObject, IsThere, IsKnown, IsNamed, IsVariable, HasTop, Supports, Takes, TakesInPlace, GoesOn, Returns, OnEdge, Whatever, IsLow, demands_at, AreObjects, NamesObject, Finds, FindsProperty, Spares, AreRead, AreWritten, KnowsAnswers}
@@ -95,8 +92,8 @@ module _ {V : Type 0} (o : SetOperations V) (lawful : AreSound o) (claims : Clai
   t = popped (pops operands) s
 
   -- what may come of an operation there, where its condition is answered so
-  abbrev pub ComesOf : Option Operation → Outcome V → Type 0
-  ComesOf k w = (c : Bool) × (outcome_if o claims.globals (told_of claims m.story) k operands args mid c ≡ Some w)
+  abbrev pub ComesOf : Operation → Outcome V → Type 0
+  ComesOf k w = (c : Bool) × (outcome_of o claims.globals (told_of claims m.story) k operands args mid c ≡ Some w)
 
   -- a state in mid-instruction, of which this is known
   abbrev Known_in : Shape V → State → Type 0
@@ -150,7 +147,7 @@ module _ {V : Type 0} (o : SetOperations V) (lawful : AreSound o) (claims : Clai
   abbrev successor : IsTrue (demands_at o claims i d.entry.shape).certain × Whatever o claims m.story i d.entry.shape (λ w. IsLow o claims i d.entry.shape w → OnEdge o claims w i d.entry.shape (λ f. GoesOn o claims d.entry.routine (target i) f (d.at + i.size) (leading o w i.branch)))
   successor = supports.each d.at d.entry d.listed rules.Successor i there (supports.each d.at d.entry d.listed rules.Divisor i there) (supports.each d.at d.entry d.listed rules.Read i there) answers_known (supports.each d.at d.entry d.listed rules.Called i there)
 
-  pub asked : Asked (demands_if o (operation_of i.opcode) args)
+  pub asked : Asked (demands_of o (operation_of i.opcode) args)
   asked = record {
     top = height.1;
     exists = local.2;
@@ -196,7 +193,7 @@ module _ {V : Type 0} (o : SetOperations V) (lawful : AreSound o) (claims : Clai
     pub stays : effect.restarts ≡ false
 
   -- the effect is one that the rules expect, or it leads nowhere
-  unfoldable pub Expected : Option Operation → Result Effect Halt → Type 0
+  unfoldable pub Expected : Operation → Result Effect Halt → Type 0
   Expected k (Ok effect) = Still effect ⊎ ((w : Outcome V) × ComesOf k w × Matches w effect)
   Expected k (Err h) = ⊥
 
@@ -249,30 +246,30 @@ module _ {V : Type 0} (o : SetOperations V) (lawful : AreSound o) (claims : Clai
       by_kind least few b false e f h = absurd (let g = ltb-false v 16 f in omega (arith, g, few))
 
   -- what prints, or does nothing, and goes on
-  goes_expected : (k : Operation) (bytes : List ℕ) → ComesOf (Some k) goes_on → Expected (Some k) (Ok (printing bytes))
+  goes_expected : (k : Operation) (bytes : List ℕ) → ComesOf k goes_on → Expected k (Ok (printing bytes))
   unfolding Expected LeadsIn AssignedIn changed
   goes_expected k bytes comes = inr (goes_on, comes, record { gives = tt; assigns = tt; tests = refl; leads = refl; kept = (tt, tt); memory = tt; needs = refl; goes = refl; acts = refl; stays = refl })
 
-  gives_expected : (k : Operation) (a : V) (x : ℕ) → ComesOf (Some k) (gives_in a) → In o a x → Expected (Some k) (Ok (giving x))
+  gives_expected : (k : Operation) (a : V) (x : ℕ) → ComesOf k (gives_in a) → In o a x → Expected k (Ok (giving x))
   unfolding Expected LeadsIn AssignedIn changed
   gives_expected k a x comes member = inr (gives_in a, comes, record { gives = member; assigns = tt; tests = refl; leads = refl; kept = (tt, tt); memory = tt; needs = refl; goes = refl; acts = refl; stays = refl })
 
-  assigns_expected : (k : Operation) (v : ℕ) (a : V) (w x : ℕ) → ComesOf (Some k) (assigns_in v a) → w ≡ v → In o a x → IsVariable o claims d.entry.shape v → Expected (Some k) (Ok (assigning w x))
+  assigns_expected : (k : Operation) (v : ℕ) (a : V) (w x : ℕ) → ComesOf k (assigns_in v a) → w ≡ v → In o a x → IsVariable o claims d.entry.shape v → Expected k (Ok (assigning w x))
   unfolding Expected LeadsIn AssignedIn changed
   assigns_expected k v a w x comes same member exists = inr (assigns_in v a, comes, record { gives = tt; assigns = (same, member, exists); tests = refl; leads = refl; kept = (tt, tt); memory = tt; needs = refl; goes = refl; acts = refl; stays = refl })
 
-  asks_expected : (k : Operation) (c : Bool) (kept : Kept V) → ComesOf (Some k) (asks c kept) → Hold o lawful kept s.frame.locals → Expected (Some k) (Ok (testing c))
+  asks_expected : (k : Operation) (c : Bool) (kept : Kept V) → ComesOf k (asks c kept) → Hold o lawful kept s.frame.locals → Expected k (Ok (testing c))
   unfolding Expected LeadsIn AssignedIn changed
   asks_expected k c kept comes hold = inr (asks c kept, comes, record { gives = tt; assigns = tt; tests = refl; leads = refl; kept = hold; memory = tt; needs = refl; goes = refl; acts = refl; stays = refl })
 
-  printed_expected : (k : Operation) (r : Result (List ℕ) TextError) → IsOk r → ComesOf (Some k) goes_on → Expected (Some k) (printed r)
+  printed_expected : (k : Operation) (r : Result (List ℕ) TextError) → IsOk r → ComesOf k goes_on → Expected k (printed r)
   printed_expected k (Ok bytes) ok comes = goes_expected k bytes comes
   printed_expected k (Err e) ok comes = absurd cc
 
   prints : (at : ℕ) → HasFixedText m.story (frozen_in claims) at → IsOk (output_at s.memory at)
   prints at rule = text_printed o lawful claims m.story loaded supports s.memory d.memory at rule
 
-  shows_expected : (line : StatusLine) → ComesOf (Some ShowStatus) goes_on → Expected (Some ShowStatus) (Ok (showing line))
+  shows_expected : (line : StatusLine) → ComesOf ShowStatus goes_on → Expected ShowStatus (Ok (showing line))
   unfolding Expected LeadsIn AssignedIn changed
   shows_expected line comes = inr (goes_on, comes, record { gives = tt; assigns = tt; tests = refl; leads = refl; kept = (tt, tt); memory = tt; needs = refl; goes = refl; acts = refl; stays = refl })
 
@@ -320,20 +317,20 @@ module _ {V : Type 0} (o : SetOperations V) (lawful : AreSound o) (claims : Clai
       by_known None e h = absurd cc
       by_known (Some x) e h = (x, e, lawful.known (args 0) x (arg all.values 0) e (all.members 0))
 
-  jumps_expected : (x : ℕ) → o.known (args 0) ≡ Some x → arg all.values 0 ≡ x → Expected (Some Jump) (Ok (jumping (arg all.values 0)))
+  jumps_expected : (x : ℕ) → o.known (args 0) ≡ Some x → arg all.values 0 ≡ x → Expected Jump (Ok (jumping (arg all.values 0)))
   unfolding Expected LeadsIn AssignedIn outcome_of changed
   jumps_expected x known is = inr (jumps x, (true, rw known refl), record { gives = tt; assigns = tt; tests = refl; leads = rw is refl; kept = (tt, tt); memory = tt; needs = refl; goes = refl; acts = refl; stays = refl })
 
-  returns_expected : (k : Operation) (bytes : List ℕ) (a : V) (x : ℕ) → ComesOf (Some k) (returns_in a) → In o a x → Expected (Some k) (Ok (record (printing bytes) { moves = back x }))
+  returns_expected : (k : Operation) (bytes : List ℕ) (a : V) (x : ℕ) → ComesOf k (returns_in a) → In o a x → Expected k (Ok (record (printing bytes) { moves = back x }))
   unfolding Expected LeadsIn AssignedIn changed
   returns_expected k bytes a x comes member = inr (returns_in a, comes, record { gives = tt; assigns = tt; tests = refl; leads = member; kept = (tt, tt); memory = tt; needs = refl; goes = refl; acts = refl; stays = refl })
 
-  closes_expected : (r : Result (List ℕ) TextError) → IsOk r → ComesOf (Some PrintReturn) (returns_in (o.single 1)) → Expected (Some PrintReturn) (printed r >>= λ effect. Ok (closing effect))
+  closes_expected : (r : Result (List ℕ) TextError) → IsOk r → ComesOf PrintReturn (returns_in (o.single 1)) → Expected PrintReturn (printed r >>= λ effect. Ok (closing effect))
   closes_expected (Ok bytes) ok comes = returns_expected PrintReturn (bytes ++ 10 ∷ []) (o.single 1) 1 comes (lawful.single 1 (omega arith))
   closes_expected (Err e) ok comes = absurd cc
 
   -- whatever is called begins as is said
-  unfoldable pub CallsOf : Option Operation → Type 0
+  unfoldable pub CallsOf : Operation → Type 0
   CallsOf k = (w : Outcome V) → ComesOf k w → OnEdge o claims w i d.entry.shape (λ f. Enters o claims m.story given_args (leading o w i.branch))
 
   -- a routine that begins so can be called
@@ -346,7 +343,7 @@ module _ {V : Type 0} (o : SetOperations V) (lawful : AreSound o) (claims : Clai
   -- the edge on which a routine is called
   pub record Entry_edge : Type 0 where
     pub a : V
-    pub comes : ComesOf (Some Call) (enters_in a)
+    pub comes : ComesOf Call (enters_in a)
     pub member : In o a (arg all.values 0)
 
   pub entry_edge : (arg all.values 0 == 0) ≡ false → Entry_edge
@@ -355,17 +352,17 @@ module _ {V : Type 0} (o : SetOperations V) (lawful : AreSound o) (claims : Clai
       let n = edge_of (o.narrow Equal false (args 0) (o.single 0)) _ (lawful.narrow Equal false (args 0) (o.single 0) (arg all.values 0) 0 (all.members 0) (lawful.single 0 (omega arith)) e) in
       record { a = n.0.0; comes = (true, ap (λ (r : Option (V × V)). option_map (λ p. enters_in p.0) r) n.1); member = n.2.0 }
 
-  missed : (arg all.values 0 == 0) ≡ true → ComesOf (Some Call) (gives_in (o.single 0))
+  missed : (arg all.values 0 == 0) ≡ true → ComesOf Call (gives_in (o.single 0))
   unfolding outcome_of
   missed e =
       let n = edge_of (o.narrow Equal true (args 0) (o.single 0)) _ (lawful.narrow Equal true (args 0) (o.single 0) (arg all.values 0) 0 (all.members 0) (lawful.single 0 (omega arith)) e) in
       (false, ap (λ (r : Option (V × V)). option_map (λ p. gives_in (o.single 0)) r) n.1)
 
-  calls : CallsOf (Some Call) → Expected (Some Call) (call_of m.scope s.memory all.values)
+  calls : CallsOf Call → Expected Call (call_of m.scope s.memory all.values)
   unfolding Expected LeadsIn IsCall AssignedIn CallsOf changed
   calls rule = by_zero (arg all.values 0 == 0) refl
     where
-      by_zero : (b : Bool) → (arg all.values 0 == 0) ≡ b → Expected (Some Call) (if b then Ok (giving 0) else (if m.scope.routines (unpacked (arg all.values 0)) && has_head s.memory (unpacked (arg all.values 0)) then Ok (calling (called_at s.memory (unpacked (arg all.values 0)) (arguments all.values))) else fault UnlistedCall))
+      by_zero : (b : Bool) → (arg all.values 0 == 0) ≡ b → Expected Call (if b then Ok (giving 0) else (if m.scope.routines (unpacked (arg all.values 0)) && has_head s.memory (unpacked (arg all.values 0)) then Ok (calling (called_at s.memory (unpacked (arg all.values 0)) (arguments all.values))) else fault UnlistedCall))
       by_zero true e = gives_expected Call (o.single 0) 0 (missed e) (lawful.single 0 (omega arith))
       by_zero false e =
           let x = arg all.values 0 in
@@ -378,7 +375,7 @@ module _ {V : Type 0} (o : SetOperations V) (lawful : AreSound o) (claims : Clai
           rw (routine, head) (inr (enters_in on_edge.a, on_edge.comes, record { gives = tt; assigns = tt; tests = refl; leads = (x, on_edge.member, some, (arguments all.values, arguments_in o args (length operands) all.values all.count all.members, can.2)); kept = (tt, tt); memory = tt; needs = refl; goes = refl; acts = refl; stays = refl }))
 
   -- what a link leads to is an object, or none
-  follows_expected : (k : Operation) (c : Bool) (a : V) (x : ℕ) → ComesOf (Some k) (follows_in c a) → In o a x → not (x == 0) ≡ c → Expected (Some k) (Ok (following x))
+  follows_expected : (k : Operation) (c : Bool) (a : V) (x : ℕ) → ComesOf k (follows_in c a) → In o a x → not (x == 0) ≡ c → Expected k (Ok (following x))
   unfolding Expected LeadsIn AssignedIn changed
   follows_expected k c a x comes member is = inr (follows_in c a, comes, record { gives = member; assigns = tt; tests = ap (λ (b : Bool). Some b) is; leads = refl; kept = (tt, tt); memory = tt; needs = refl; goes = refl; acts = refl; stays = refl })
 
@@ -395,15 +392,15 @@ module _ {V : Type 0} (o : SetOperations V) (lawful : AreSound o) (claims : Clai
       by false e = let first = not_below_one x e in follows_expected (Follow link) true (o.between 1 m.story.objects) x (to_object link (not_none m.story.objects x first most)) (between_small o lawful 1 m.story.objects x first most (omega (arith, few))) (ap not e)
 
   -- what rewrites memory so that it stays as is said
-  rewrites : (k : Operation) (after : List ℕ) → ComesOf (Some k) goes_on → DescribedMemory o claims m.story after → Expected (Some k) (Ok (rewriting after))
+  rewrites : (k : Operation) (after : List ℕ) → ComesOf k goes_on → DescribedMemory o claims m.story after → Expected k (Ok (rewriting after))
   unfolding Expected LeadsIn AssignedIn changed
   rewrites k after comes is = inr (goes_on, comes, record { gives = tt; assigns = tt; memory = is; tests = refl; leads = refl; kept = (tt, tt); needs = refl; goes = refl; acts = refl; stays = refl })
 
-  rearranges : (k : Operation) (r : Result (List ℕ) ObjectError) → ComesOf (Some k) goes_on → IsOkAnd r (DescribedMemory o claims m.story) → Expected (Some k) (rearranging r)
+  rearranges : (k : Operation) (r : Result (List ℕ) ObjectError) → ComesOf k goes_on → IsOkAnd r (DescribedMemory o claims m.story) → Expected k (rearranging r)
   rearranges k (Ok after) comes is = rewrites k after comes is
   rearranges k (Err e) comes is = absurd is
 
-  marks : (k : Operation) (sets : Bool) → ComesOf (Some k) goes_on → (1 ≤ arg all.values 0) × (arg all.values 0 ≤ m.story.objects) → arg all.values 1 < 32 → Expected (Some k) (marking m.story sets all.values s.memory)
+  marks : (k : Operation) (sets : Bool) → ComesOf k goes_on → (1 ≤ arg all.values 0) × (arg all.values 0 ≤ m.story.objects) → arg all.values 1 < 32 → Expected k (marking m.story sets all.values s.memory)
   marks k sets comes object low =
       let known = object_known m.story.objects (arg all.values 0) object in let few = lt-ltb (arg all.values 1) 32 low in
       rw (known, few) (rewrites k _ comes (marked_described o claims m.story supports.tables supports.few s.memory d.memory d.is_state.objects d.is_state.tables sets (arg all.values 0) (arg all.values 1) object.0 object.1 low))
@@ -415,14 +412,14 @@ module _ {V : Type 0} (o : SetOperations V) (lawful : AreSound o) (claims : Clai
       subst (λ (r : Result ℕ ObjectError). Expected (Some (Property question)) (answering r)) (sym is)
       (gives_expected (Property question) _ x (true, refl) (answer_lies o lawful claims m.story loaded supports s.memory d.memory (arg all.values 0) object.0 object.1 d.is_state.bytes question (args 0) (args 1) (arg all.values 1) x (all.members 0) (all.members 1) is))
 
-  measures_expected : IsTrue (is_some (length_before m.story.memory (arg all.values 0))) → Expected (Some PropertyLength) (reading (length_before s.memory (arg all.values 0)))
+  measures_expected : IsTrue (is_some (length_before m.story.memory (arg all.values 0))) → Expected PropertyLength (reading (length_before s.memory (arg all.values 0)))
   unfolding outcome_of
   measures_expected readable =
       let n = length_there m.story s.memory d.memory.long (arg all.values 0) readable in
       let few : n.0 ≤ 8 = subst (λ (r : Option ℕ). IfSome r (λ n. n ≤ 8)) n.1 (length_small s.memory (arg all.values 0) d.is_state.bytes) in
-      subst (λ (r : Option ℕ). Expected (Some PropertyLength) (reading r)) (sym n.1) (gives_expected PropertyLength _ n.0 (true, refl) (between_small o lawful 0 8 n.0 (omega arith) few (omega arith)))
+      subst (λ (r : Option ℕ). Expected PropertyLength (reading r)) (sym n.1) (gives_expected PropertyLength _ n.0 (true, refl) (between_small o lawful 0 8 n.0 (omega arith) few (omega arith)))
 
-  fills_expected : (object : (1 ≤ arg all.values 0) × (arg all.values 0 ≤ m.story.objects)) → Filled o lawful claims m.story loaded supports s.memory d.memory (arg all.values 0) object.0 object.1 (arg all.values 1) (arg all.values 2) → AreUnfrozen o m.story (frozen_in claims) (args 0) (args 1) → Expected (Some SetProperty) (filling (with_property (arg all.values 0) (arg all.values 1) (arg all.values 2) s.memory) (is_data_writable m.story (property_of s.memory (arg all.values 0) (arg all.values 1))))
+  fills_expected : (object : (1 ≤ arg all.values 0) × (arg all.values 0 ≤ m.story.objects)) → Filled o lawful claims m.story loaded supports s.memory d.memory (arg all.values 0) object.0 object.1 (arg all.values 1) (arg all.values 2) → AreUnfrozen o m.story (frozen_in claims) (args 0) (args 1) → Expected SetProperty (filling (with_property (arg all.values 0) (arg all.values 1) (arg all.values 2) s.memory) (is_data_writable m.story (property_of s.memory (arg all.values 0) (arg all.values 1))))
   unfolding outcome_of
   fills_expected object f spared =
       let is = f.is in let writable = f.writable in
@@ -449,30 +446,30 @@ module _ {V : Type 0} (o : SetOperations V) (lawful : AreSound o) (claims : Clai
       let place = table_place m.story s.memory (with_element width p (arg all.values 2) s.memory) (bytes_of width p) writable differs ∙ d.is_state.tables in rw writable (rewrites (StoreArray width) _ (true, refl) (stored_described o claims m.story supports.tables supports.few s.memory d.memory d.is_state.objects d.is_state.tables (IsDataByte (bytes_of width p)) (data_open o lawful claims m.story s.memory d.memory width (args 0) (args 1) (arg all.values 0) (arg all.values 1) (all.members 0) (all.members 1) free) _ differs place))
 
   -- a number is drawn, or a word is needed
-  draws : (effect : Effect) → Draws o lawful (args 0) (arg all.values 0) (all.members 0) effect → Expected (Some Random) (Ok effect)
+  draws : (effect : Effect) → Draws o lawful (args 0) (arg all.values 0) (all.members 0) effect → Expected Random (Ok effect)
   unfolding Expected LeadsIn AssignedIn outcome_of changed
-  draws effect (number_drawn x mode uses is member) = subst (λ (e : Effect). Expected (Some Random) (Ok e)) (sym is) (inr (gives_in (drawn_set o (args 0)), (true, refl), record { gives = member; assigns = tt; tests = refl; leads = refl; kept = (tt, tt); memory = tt; needs = refl; goes = refl; acts = refl; stays = refl }))
-  draws effect (word_needed is) = subst (λ (e : Effect). Expected (Some Random) (Ok e)) (sym is) (inl (record { tests = refl; moves = refl; why = a_need needs.Random refl }))
+  draws effect (number_drawn x mode uses is member) = subst (λ (e : Effect). Expected Random (Ok e)) (sym is) (inr (gives_in (drawn_set o (args 0)), (true, refl), record { gives = member; assigns = tt; tests = refl; leads = refl; kept = (tt, tt); memory = tt; needs = refl; goes = refl; acts = refl; stays = refl }))
+  draws effect (word_needed is) = subst (λ (e : Effect). Expected Random (Ok e)) (sym is) (inl (record { tests = refl; moves = refl; why = a_need needs.Random refl }))
 
   -- a line is asked for, stored, or needed
-  hears : (shown : StatusLine) (text : IsTextBuffer m.story (frozen_in claims) (arg all.values 0)) (parse : IsParseBuffer m.story (frozen_in claims) (arg all.values 1)) (effect : Effect) → Hears m.story (arg all.values 0) (arg all.values 1) s.memory shown effect → Expected (Some ReadLine) (Ok effect)
+  hears : (shown : StatusLine) (text : IsTextBuffer m.story (frozen_in claims) (arg all.values 0)) (parse : IsParseBuffer m.story (frozen_in claims) (arg all.values 1)) (effect : Effect) → Hears m.story (arg all.values 0) (arg all.values 1) s.memory shown effect → Expected ReadLine (Ok effect)
   unfolding Expected LeadsIn AssignedIn outcome_of changed
   hears shown text parse effect (first_asked is) = inl (record { tests = ap (λ (e : Effect). e.tests) is; moves = ap (λ (e : Effect). e.moves) is; why = a_prompt shown is })
   hears shown text parse effect (line_stored line is) =
       let memory = line_described o lawful claims m.story loaded supports s.memory d.memory (arg all.values 0) (arg all.values 1) text parse line d.is_state.bytes d.is_state.objects d.is_state.tables in
-      subst (λ (e : Effect). Expected (Some ReadLine) (Ok e)) (sym is) (inr (goes_on, (true, refl), record { gives = tt; assigns = tt; tests = refl; leads = refl; kept = (tt, tt); memory = memory; needs = refl; goes = refl; acts = refl; stays = refl }))
+      subst (λ (e : Effect). Expected ReadLine (Ok e)) (sym is) (inr (goes_on, (true, refl), record { gives = tt; assigns = tt; tests = refl; leads = refl; kept = (tt, tt); memory = memory; needs = refl; goes = refl; acts = refl; stays = refl }))
   hears shown text parse effect (line_needed is) = inl (record { tests = ap (λ (e : Effect). e.tests) is; moves = ap (λ (e : Effect). e.moves) is; why = a_need needs.Line (ap (λ (e : Effect). e.needs) is) })
 
   -- an event that is used answers a branch, or is needed
-  answers_by : (k : Operation) (c : Bool) (need : Need) → ComesOf (Some k) (asks c untold) → Expected (Some k) (Ok (record (testing c) { uses = Some need }))
+  answers_by : (k : Operation) (c : Bool) (need : Need) → ComesOf k (asks c untold) → Expected k (Ok (record (testing c) { uses = Some need }))
   unfolding Expected LeadsIn AssignedIn changed
   answers_by k c need comes = inr (asks c untold, comes, record { gives = tt; assigns = tt; tests = refl; leads = refl; kept = (tt, tt); memory = tt; needs = refl; goes = refl; acts = refl; stays = refl })
 
-  waits_for : (k : Operation) (need : Need) → Expected (Some k) (Ok (record proceeds { needs = Some need }))
+  waits_for : (k : Operation) (need : Need) → Expected k (Ok (record proceeds { needs = Some need }))
   unfolding Expected
   waits_for k need = inl (record { tests = refl; moves = refl; why = a_need need refl })
 
-  saves_expected : (waiting : Option Event) → Expected (Some Save) (Ok (saving waiting))
+  saves_expected : (waiting : Option Event) → Expected Save (Ok (saving waiting))
   unfolding outcome_of
   saves_expected (Some (events.Saved kept)) = answers_by Save kept needs.Saved (kept, refl)
   saves_expected (Some (events.Line line)) = waits_for Save needs.Saved
@@ -481,7 +478,7 @@ module _ {V : Type 0} (o : SetOperations V) (lawful : AreSound o) (claims : Clai
   saves_expected None = waits_for Save needs.Saved
 
   -- that there is no save to go on from is the one edge of a restore
-  restores_expected : (waiting : Option Event) → Expected (Some Restore) (Ok (unrestored waiting))
+  restores_expected : (waiting : Option Event) → Expected Restore (Ok (unrestored waiting))
   unfolding outcome_of
   restores_expected (Some events.NotRestored) = answers_by Restore false needs.Restore (false, refl)
   restores_expected (Some (events.Line line)) = waits_for Restore needs.Restore
@@ -489,7 +486,7 @@ module _ {V : Type 0} (o : SetOperations V) (lawful : AreSound o) (claims : Clai
   restores_expected (Some (events.Saved kept)) = waits_for Restore needs.Restore
   restores_expected None = waits_for Restore needs.Restore
 
-  by_operation : (k : Operation) → Asked (demands_of o k args) → CallsOf (Some k) → Expected (Some k) (effect_of m k all.values t)
+  by_operation : (k : Operation) → Asked (demands_of o k args) → CallsOf k → Expected k (effect_of m k all.values t)
   unfolding Expected demands_of outcome_of effect_of
   by_operation (Unary op) rule begins = gives_expected (Unary op) _ _ (true, refl) (lawful.unary op _ _ (all.members 0))
   by_operation (Binary op) rule begins =
@@ -505,13 +502,13 @@ module _ {V : Type 0} (o : SetOperations V) (lawful : AreSound o) (claims : Clai
   by_operation PrintChar rule begins = goes_expected PrintChar _ (true, refl)
   by_operation PrintNumber rule begins = goes_expected PrintNumber _ (true, refl)
   by_operation Print rule begins =
-      let at : s.place +ℤ pos 1 ≡ pos (d.at + 1) = ap (λ (p : ℤ). p +ℤ pos 1) d.place in subst (λ (p : ℤ). Expected (Some Print) (print_at p s.memory)) (sym at) (printed_expected Print (output_at s.memory (d.at + 1)) (prints (d.at + 1) rule.text) (true, refl))
+      let at : s.place +ℤ pos 1 ≡ pos (d.at + 1) = ap (λ (p : ℤ). p +ℤ pos 1) d.place in subst (λ (p : ℤ). Expected Print (print_at p s.memory)) (sym at) (printed_expected Print (output_at s.memory (d.at + 1)) (prints (d.at + 1) rule.text) (true, refl))
   by_operation NewLine rule begins = goes_expected NewLine _ (true, refl)
   by_operation Nop rule begins = goes_expected Nop _ (true, refl)
   by_operation Quit rule begins = inl (record { tests = refl; moves = refl; why = a_quit refl refl })
   by_operation Return rule begins = returns_expected Return [] _ _ (true, refl) (all.members 0)
   by_operation PrintReturn rule begins =
-      let at : s.place +ℤ pos 1 ≡ pos (d.at + 1) = ap (λ (p : ℤ). p +ℤ pos 1) d.place in subst (λ (p : ℤ). Expected (Some PrintReturn) (print_at p s.memory >>= λ effect. Ok (closing effect))) (sym at) (closes_expected (output_at s.memory (d.at + 1)) (prints (d.at + 1) rule.text) (true, refl))
+      let at : s.place +ℤ pos 1 ≡ pos (d.at + 1) = ap (λ (p : ℤ). p +ℤ pos 1) d.place in subst (λ (p : ℤ). Expected PrintReturn (print_at p s.memory >>= λ effect. Ok (closing effect))) (sym at) (closes_expected (output_at s.memory (d.at + 1)) (prints (d.at + 1) rule.text) (true, refl))
   by_operation Call rule begins = calls begins
   by_operation Inside rule begins =
       let known = object_known m.story.objects (arg all.values 0) (rule.object.0 (arg all.values 0) (all.members 0)) in
@@ -562,19 +559,12 @@ module _ {V : Type 0} (o : SetOperations V) (lawful : AreSound o) (claims : Clai
   by_operation Restore rule begins = restores_expected t.waiting
   by_operation Restart rule begins = inl (record { tests = refl; moves = refl; why = a_restart refl })
 
-  by_played : (k : Option Operation) → IsTrue (is_some k) → Asked (demands_if o k args) → CallsOf k → Expected k (effect_if m k all.values t)
-  by_played None played rule begins = absurd cc
-  by_played (Some k) played rule begins = by_operation k rule begins
-
-  played : IsTrue (is_some (operation_of i.opcode))
-  played = played_operate i.opcode (found playable (drop d.at m.story.memory) i there.decodes).played
-
   pub begins_said : CallsOf (operation_of i.opcode)
   unfolding CallsOf
   begins_said = supports.each d.at d.entry d.listed rules.Called i there
 
-  pub expected : Expected (operation_of i.opcode) (effect_if m (operation_of i.opcode) all.values t)
-  expected = by_played (operation_of i.opcode) played asked begins_said
+  pub expected : Expected (operation_of i.opcode) (effect_of m (operation_of i.opcode) all.values t)
+  expected = by_operation (operation_of i.opcode) asked begins_said
 
   -- ---- the parts, done
 
@@ -707,7 +697,7 @@ module _ {V : Type 0} (o : SetOperations V) (lawful : AreSound o) (claims : Clai
   pub fetches : fetch m.scope s.place s.memory ≡ Ok i
   fetches = fetch_is m.scope s.place d.at s.memory i d.place (listed.places d.at d.entry d.listed) reads
 
-  pub steps : step m s ≡ (effect_if m (operation_of i.opcode) all.values t >>= made_by m s t i)
+  pub steps : step m s ≡ (effect_of m (operation_of i.opcode) all.values t >>= made_by m s t i)
   steps = step_is m s t i all.values fetches all.read
 
   -- where its judging finds no fault, what is left is a pause, or the step
@@ -722,7 +712,7 @@ module _ {V : Type 0} (o : SetOperations V) (lawful : AreSound o) (claims : Clai
   paused effect (Err halts.FrameLimit) fine made = tt
 
   -- an effect that nothing keeps from being done is what the step does
-  made_is : (effect : Effect) → effect_if m (operation_of i.opcode) all.values t ≡ Ok effect → admits (target i) effect (course effect i.branch) t ≡ Ok tt → pauses m.limit (target i) effect (course effect i.branch) t ≡ Ok tt → step m s ≡ Ok (done_at m s t i effect)
+  made_is : (effect : Effect) → effect_of m (operation_of i.opcode) all.values t ≡ Ok effect → admits (target i) effect (course effect i.branch) t ≡ Ok tt → pauses m.limit (target i) effect (course effect i.branch) t ≡ Ok tt → step m s ≡ Ok (done_at m s t i effect)
   made_is effect is admitted unpaused =
       steps ∙ ap (λ (r : Result Effect Halt). r >>= made_by m s t i) is ∙ settled effect admitted ∙ ap (λ (r : Result (Unit {0}) Halt). r >>= λ _. Ok (done_at m s t i effect)) unpaused
 
@@ -737,7 +727,7 @@ module _ {V : Type 0} (o : SetOperations V) (lawful : AreSound o) (claims : Clai
   still_described effect (a_prompt line is) ok = subst (λ (e : Effect). Described o claims m.limit m.story (came m.story i e t s)) (sym is) (prompted_described o claims m.story m.limit s d)
   still_described effect (a_restart is) ok = subst (λ (e : Effect). Described o claims m.limit m.story (came m.story i e t s)) (sym is) (restarted_described o claims m.story loaded supports m.limit t d.is_state.count)
 
-  finish : (r : Result Effect Halt) → effect_if m (operation_of i.opcode) all.values t ≡ r → Expected (operation_of i.opcode) r → IsSafe o claims m.limit m.story (r >>= made_by m s t i)
+  finish : (r : Result Effect Halt) → effect_of m (operation_of i.opcode) all.values t ≡ r → Expected (operation_of i.opcode) r → IsSafe o claims m.limit m.story (r >>= made_by m s t i)
   unfolding Expected
   finish (Ok effect) is (inl still) =
       subst (IsSafe o claims m.limit m.story) (sym (settled effect (still_admitted effect still)))
@@ -751,4 +741,4 @@ module _ {V : Type 0} (o : SetOperations V) (lawful : AreSound o) (claims : Clai
   finish (Err h) is expected = absurd expected
 
   pub safe_there : IsSafe o claims m.limit m.story (step m s)
-  safe_there = subst (λ (r : Result Done Halt). IsSafe o claims m.limit m.story r) (sym steps) (finish (effect_if m (operation_of i.opcode) all.values t) refl expected)
+  safe_there = subst (λ (r : Result Done Halt). IsSafe o claims m.limit m.story r) (sym steps) (finish (effect_of m (operation_of i.opcode) all.values t) refl expected)

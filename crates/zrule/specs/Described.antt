@@ -7,9 +7,11 @@ use Rattle.zstory.specs.LoadedStory.{LoadedStory}
 use Rattle.zdomain.specs.Domain.{SetOperations, In}
 use Rattle.zstate.specs.declared.halt.Halt.{Halt}
 use Rattle.zstate.specs.declared.halt.Halt.TheVariants as halts
-use Rattle.zstate.specs.State.{Frame, State, Scope, Setting, IsCount, IsState, opening, restarted, scope_all}
-use Rattle.zstate.specs.Saves.{restoring}
-use Rattle.zstate.specs.Step.{Done, step}
+use Rattle.zquetzal.specs.Grammar.{save_text}
+use Rattle.zquetzal.specs.Saved.{origin_of}
+use Rattle.zstate.specs.State.{Frame, State, Scope, Setting, IsCount, IsState, opening, restarted, scope_all, usual_limit}
+use Rattle.zstate.specs.Saves.{restoring, saved_of, saves}
+use Rattle.zstate.specs.Step.{Done, fetch, step}
 use Rattle.zstate.specs.Run.{Input, Given, Restored, run}
 use Rattle.zstate.specs.declared.halt.Stop.{Stop}
 use Rattle.zstate.specs.declared.halt.Stop.TheVariants as stops
@@ -71,6 +73,10 @@ module _ {V : Type 0} (o : SetOperations V) (claims : Claims V) where
   abbrev pub IsFineSave : Setting → List ℕ → Type 0
   IsFineSave m bytes = (s t : State) → IsState m.limit m.story s → restoring m bytes s ≡ Ok t → Described m.limit m.story t
 
+  -- bytes of a save from which play goes on in a state, and then in one that is described: what is accepted there (own)
+  abbrev pub IsAcceptedIn : Setting → List ℕ → State → Type 0
+  IsAcceptedIn m bytes s = (t : State) × (restoring m bytes s ≡ Ok t) × Described m.limit m.story t
+
   -- every event is fine
   abbrev pub IsFine : Setting → Input → Type 0
   IsFine m (Given e) = Unit {0}
@@ -117,3 +123,13 @@ module _ {V : Type 0} (o : SetOperations V) (claims : Claims V) where
   -- a story of which the claims hold never faults, where every place of it may be played, however many frames there may be
   abbrev pub NeverFaults : Type 0
   NeverFaults = (story : LoadedStory) (limit : ℕ) (inputs : List Input) (n : ℕ) → IsLoadedStory story → Supports o claims story → AreFine o claims (record { story = story; scope = scope_all story; limit = limit }) inputs → IsNoFault (run (record { story = story; scope = scope_all story; limit = limit }) inputs n (opening story)).stop
+
+  -- a save that is accepted in one state is fine, in any scope
+  abbrev pub AcceptedAreFine : Type 0
+  AcceptedAreFine = (m : Setting) (scope : Scope) (bytes : List ℕ) (s : State) → IsLoadedStory m.story → Supports o claims m.story → IsAcceptedIn o claims m bytes s → IsFineSave o claims (record m { scope = scope }) bytes
+
+  -- what is saved of a described state at a `save` is accepted in every state
+  abbrev pub SavedAreAccepted : Type 0
+  SavedAreAccepted =
+      (m : Setting) (s now : State) → IsLoadedStory m.story → Supports o claims m.story → m.limit ≤ usual_limit → Described o claims m.limit m.story s
+      → saves (fetch m.scope s.place s.memory) ≡ true → IsState m.limit m.story now → IsAcceptedIn o claims m (save_text (origin_of m.story) (saved_of m.story s)) now

@@ -1,7 +1,7 @@
 //! Why a story never faults of which the claims of a certificate hold.
 
 ghost use Rattle.zrule.specs.Claims.{Claims};
-ghost use Rattle.zrule.specs.Described.{NeverFaults, OpensDescribed, RestartsDescribed, RunsSafely, StepsSafely};
+ghost use Rattle.zrule.specs.Described.{AcceptedAreFine, NeverFaults, OpensDescribed, RestartsDescribed, RunsSafely, SavedAreAccepted, StepsSafely};
 
 use zdomain::Domain;
 
@@ -15,4 +15,11 @@ pub fn each_step_is_safe<V: Domain>()
     ensures step { (claims : Claims V) → StepsSafely V.operations claims }
     ensures runs { (claims : Claims V) → RunsSafely V.operations claims }
     ensures never_faults { (claims : Claims V) → NeverFaults V.operations claims }
+{}
+
+/// A save that is accepted in one state of a story leads to described states alone, wherever and in whatever scope it is handed in. What is saved of a
+/// described state is accepted in every state.
+pub fn saves_are_accepted<V: Domain>()
+    ensures fine { (claims : Claims V) → AcceptedAreFine V.operations claims }
+    ensures saved { (claims : Claims V) → SavedAreAccepted V.operations claims }
 {}

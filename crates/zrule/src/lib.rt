@@ -18,5 +18,5 @@ mod texts;
 
 pub use blocks::Blocks;
 pub use judging::{instruction_there, judge, rule_at};
-pub use laws::each_step_is_safe;
+pub use laws::{each_step_is_safe, saves_are_accepted};
 pub use rule::Rule;

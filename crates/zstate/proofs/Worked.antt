@@ -8,7 +8,7 @@ use Rattle.zstory.specs.LoadedStory.{LoadedStory}
 use Rattle.zstory.proofs.Computed.{bytes_tested}
 use Rattle.zcode.specs.declared.error.DecodeError.TheVariants.{Truncated}
 use Rattle.zcode.specs.declared.instr.Operand.TheVariants.{Constant, Variable}
-use Rattle.zcode.specs.declared.opcode.Opcode.TheVariants.{Print as APrint, NewLine, Nop, Quit as AQuit, Jz, IncChk, Pull}
+use Rattle.zcode.specs.declared.opcode.Opcode.TheVariants.{NewLine, Nop, Jz, IncChk, Pull}
 use Rattle.zcode.specs.declared.instr.Destination.TheVariants.{Relative}
 use Rattle.zcode.specs.declared.operation.Operation.TheVariants as operations
 use Rattle.zcode.specs.Operation.{operation_of, inputs}
@@ -17,8 +17,7 @@ use Rattle.zword.specs.declared.binary.BinaryOp.TheVariants as binary
 use Rattle.zword.specs.declared.question.Question.TheVariants as questions
 use Rattle.zword.specs.declared.count.CountOp.TheVariants as counts
 use Rattle.zcode.specs.Instruction.{Instruction}
-use Rattle.zcode.specs.Playable.{playable}
-use Rattle.zcode.specs.Reading.{instruction_by, head_at, short_head, played_opcode, checked_head, operands_at, store_if, branch_if, text_if}
+use Rattle.zcode.specs.Reading.{instruction_at, head_at, short_head, checked_head, operands_at, store_if, branch_if, text_if}
 use Rattle.ztext.specs.declared.error.TextError.TheVariants.{Outside, NestedAbbreviation}
 use Rattle.ztext.specs.Alphabets.{small_letters}
 use Rattle.ztext.specs.Output.{output_at, output_of_characters}
@@ -227,7 +226,7 @@ decodings = (refl, refl)
 
 -- the place is judged before its bytes
 fetches : (fetch (scope_all story) (negsuc 0) memory ≡ Err (halts.Fault UnlistedInstruction)) × (fetch (scope_all story) (pos 79) memory ≡ Err (halts.Fault UnlistedInstruction)) × (fetch (scope_all story) (pos 78) memory ≡ Err (halts.Fault IllegalOpcode)) × (fetch (scope_only (record { records = []; routines = [] })) (pos 78) memory ≡ Err (halts.Fault UnlistedInstruction))
-unfolding fetch instruction_by head_at short_head played_opcode story memory code
+unfolding fetch instruction_at head_at short_head story memory code
 fetches = (refl, refl, refl, refl)
 
 hello : List ℕ
@@ -457,34 +456,34 @@ packed : (chain_of second_head (first_head ∷ []) (6 ∷ 5 ∷ 0 ∷ 7 ∷ 9 �
 unfolding first_head second_head frames_of AreBelow
 packed = (refl, (omega arith, (omega arith, omega arith, tt)), (λ p. omega (arith, p.0)), λ p. omega (arith, p.1.0))
 
--- ---- steps, where these opcodes are played
+-- ---- steps
 
-planned : playable NewLine ≡ true → plan setting (at 70) ≡ Ok (plain 1, printing (10 ∷ []), at 70)
-unfolding plan fetch effect_of operation_of admits pauses in_turn instruction_by head_at short_head played_opcode checked_head operands_at store_if branch_if text_if setting plain at story memory code
-planned p = rw p refl
+planned : plan setting (at 70) ≡ Ok (plain 1, printing (10 ∷ []), at 70)
+unfolding plan fetch effect_of operation_of admits pauses in_turn instruction_at head_at short_head checked_head operands_at store_if branch_if text_if setting plain at story memory code
+planned = refl
 
 unplanned : (plan setting (at 79) ≡ Err (halts.Fault UnlistedInstruction)) × (plan setting (at 78) ≡ Err (halts.Fault IllegalOpcode))
-unfolding plan fetch instruction_by head_at short_head played_opcode setting at story memory code
+unfolding plan fetch instruction_at head_at short_head setting at story memory code
 unplanned = (refl, refl)
 
-new_line_step : playable NewLine ≡ true → step setting (at 70) ≡ Ok (record { state = at 71; items = Text 10 ∷ [] })
-unfolding step plan act changed fetch effect_of operation_of admits pauses in_turn instruction_by head_at short_head played_opcode checked_head operands_at store_if branch_if text_if setting at story memory code
-new_line_step p = rw p refl
+new_line_step : step setting (at 70) ≡ Ok (record { state = at 71; items = Text 10 ∷ [] })
+unfolding step plan act changed fetch effect_of operation_of admits pauses in_turn instruction_at head_at short_head checked_head operands_at store_if branch_if text_if setting at story memory code
+new_line_step = refl
 
-nop_step : playable Nop ≡ true → step setting (at 71) ≡ Ok (record { state = at 72; items = [] })
-unfolding step plan act changed fetch effect_of operation_of admits pauses in_turn instruction_by head_at short_head played_opcode checked_head operands_at store_if branch_if text_if setting at story memory code
-nop_step p = rw p refl
+nop_step : step setting (at 71) ≡ Ok (record { state = at 72; items = [] })
+unfolding step plan act changed fetch effect_of operation_of admits pauses in_turn instruction_at head_at short_head checked_head operands_at store_if branch_if text_if setting at story memory code
+nop_step = refl
 
-print_step : playable APrint ≡ true → step setting (at 72) ≡ Ok (record { state = at 77; items = map Text hello })
-unfolding step plan act changed fetch effect_of operation_of admits pauses in_turn instruction_by head_at short_head played_opcode checked_head operands_at store_if branch_if text_if output_at output_of_characters small_letters setting at story memory code hello
-print_step p = rw p refl
+print_step : step setting (at 72) ≡ Ok (record { state = at 77; items = map Text hello })
+unfolding step plan act changed fetch effect_of operation_of admits pauses in_turn instruction_at head_at short_head checked_head operands_at store_if branch_if text_if output_at output_of_characters small_letters setting at story memory code hello
+print_step = refl
 
-quit_step : playable AQuit ≡ true → step setting (at 77) ≡ Err halts.Quit
-unfolding step plan fetch effect_of operation_of admits pauses in_turn instruction_by head_at short_head played_opcode checked_head operands_at store_if branch_if text_if setting at story memory code
-quit_step p = rw p refl
+quit_step : step setting (at 77) ≡ Err halts.Quit
+unfolding step plan fetch effect_of operation_of admits pauses in_turn instruction_at head_at short_head checked_head operands_at store_if branch_if text_if setting at story memory code
+quit_step = refl
 
 no_step : (step setting (at 78) ≡ Err (halts.Fault IllegalOpcode)) × (step setting (at 79) ≡ Err (halts.Fault UnlistedInstruction))
-unfolding step plan fetch instruction_by head_at short_head played_opcode setting at story memory code
+unfolding step plan fetch instruction_at head_at short_head setting at story memory code
 no_step = (refl, refl)
 
 -- ---- runs
@@ -501,28 +500,21 @@ needed = (refl, refl, refl)
 
 -- nothing is awaited where an event waits, or where the step is none that waits
 awaits_nothing : (awaited setting (give (events.Random 1) (at 78)) ≡ None) × (awaited setting (at 78) ≡ None)
-unfolding step plan fetch instruction_by head_at short_head played_opcode setting at story memory code
+unfolding step plan fetch instruction_at head_at short_head setting at story memory code
 awaits_nothing = (refl, refl)
 
--- what is played here
-record Plays : Type 0 where
-  new_line : playable NewLine ≡ true
-  nop : playable Nop ≡ true
-  print : playable APrint ≡ true
-  quit : playable AQuit ≡ true
-
 -- the budget ends before a step that can be made; `quit` and a fault are seen there too
-runs : Plays → (run setting [] 0 (at 70) ≡ record { stop = stops.Paused pauses.Budget; state = at 70; items = [] })
+runs : (run setting [] 0 (at 70) ≡ record { stop = stops.Paused pauses.Budget; state = at 70; items = [] })
     × (run setting [] 2 (at 70) ≡ record { stop = stops.Paused pauses.Budget; state = at 72; items = Text 10 ∷ [] })
     × (run setting [] 3 (at 70) ≡ record { stop = stops.Paused pauses.Quit; state = at 77; items = Text 10 ∷ map Text hello })
     × (run setting [] 9 (at 70) ≡ record { stop = stops.Paused pauses.Quit; state = at 77; items = Text 10 ∷ map Text hello })
     × (run setting [] 0 (at 78) ≡ record { stop = stops.Fault IllegalOpcode (pos 78); state = at 78; items = [] })
 unfolding run until at hello
-runs p =
-    let a = new_line_step p.new_line in
-    let b = nop_step p.nop in
-    let c = print_step p.print in
-    let d = quit_step p.quit in
+runs =
+    let a = new_line_step in
+    let b = nop_step in
+    let c = print_step in
+    let d = quit_step in
     (rw a refl, rw (a, b, c) refl, rw (a, b, c, d) refl, rw (a, b, c, d) refl, rw no_step.0 refl)
 
 -- an event that nothing needs isn't used
@@ -530,12 +522,12 @@ event_unused : run setting (Given (events.Random 7) ∷ []) 5 (at 78) ≡ record
 unfolding run until at
 event_unused = rw no_step.0 refl
 
-goes : Plays → Goes setting 0 (at 70) (at 70) [] × Goes setting 2 (at 70) (at 72) (Text 10 ∷ [])
-goes p = ((refl, refl), (_, _, new_line_step p.new_line, (_, _, nop_step p.nop, (refl, refl), refl), refl))
+goes : Goes setting 0 (at 70) (at 70) [] × Goes setting 2 (at 70) (at 72) (Text 10 ∷ [])
+goes = ((refl, refl), (_, _, new_line_step, (_, _, nop_step, (refl, refl), refl), refl))
 
-stands : Plays → Stands setting (stops.Paused pauses.Budget) (at 70) × Stands setting (stops.Paused pauses.Quit) (at 77) × Stands setting (stops.Fault IllegalOpcode (pos 78)) (at 78)
+stands : Stands setting (stops.Paused pauses.Budget) (at 70) × Stands setting (stops.Paused pauses.Quit) (at 77) × Stands setting (stops.Fault IllegalOpcode (pos 78)) (at 78)
 unfolding at
-stands p = ((_, new_line_step p.new_line), (_, quit_step p.quit, refl), (_, no_step.0, refl))
+stands = ((_, new_line_step), (_, quit_step, refl), (_, no_step.0, refl))
 
 -- ---- what functions answer
 

@@ -1,11 +1,9 @@
 -- A whole run with a call, computed from its bytes.
-use Rattle.std.proofs.Common.{◌≡◌, ℕ, true, List, [], ◌∷◌, ◌++◌, replicate, Ok, Err, pos, refl}
+use Rattle.std.proofs.Common.{◌≡◌, ℕ, List, [], ◌∷◌, ◌++◌, replicate, Ok, Err, pos, refl}
 use Rattle.std.specs.Fmt.{digits}
 use Rattle.zstory.specs.LoadedStory.{LoadedStory}
-use Rattle.zcode.specs.declared.opcode.Opcode.TheVariants.{Call, Jz, PrintNum, Quit}
 use Rattle.zcode.specs.Operation.{operation_of}
-use Rattle.zcode.specs.Playable.{playable}
-use Rattle.zcode.specs.Reading.{instruction_by, head_at, short_head, variable_head, played_opcode, checked_head, operands_at, operand_at, store_if, branch_if, branch_at, text_if}
+use Rattle.zcode.specs.Reading.{instruction_at, head_at, short_head, variable_head, checked_head, operands_at, operand_at, store_if, branch_if, branch_at, text_if}
 use Rattle.zfault.specs.declared.pause.Pause.TheVariants as pauses
 use Rattle.zfault.specs.declared.item.Item.TheVariants.{Text}
 use Rattle.zstate.specs.declared.halt.Halt.TheVariants as halts
@@ -33,25 +31,24 @@ setting = record { story = story; scope = scope_all story; limit = usual_limit }
 inside : State
 inside = record (opening story) { frame = record { return_place = 75; result = 0; supplied = 0; locals = 0 ∷ []; stack = [] }; callers = first_frame ∷ []; place = pos 83 }
 
-called : playable Call ≡ true → step setting (opening story) ≡ Ok (record { state = inside; items = [] })
-unfolding step plan act changed fetch effect_of operation_of admits must_pause in_turn read_operand instruction_by head_at variable_head played_opcode checked_head operands_at operand_at store_if branch_if text_if words_from laid_over setting story memory code inside
-called p = rw p refl
+called : step setting (opening story) ≡ Ok (record { state = inside; items = [] })
+unfolding step plan act changed fetch effect_of operation_of admits must_pause in_turn read_operand instruction_at head_at variable_head checked_head operands_at operand_at store_if branch_if text_if words_from laid_over setting story memory code inside
+called = refl
 
-returned : playable Jz ≡ true → step setting inside ≡ Ok (record { state = at_place (pos 75) (with_stack (1 ∷ []) (opening story)); items = [] })
-unfolding step plan act changed fetch effect_of operation_of admits must_pause in_turn read_operand read_variable read_named instruction_by head_at short_head played_opcode checked_head operands_at operand_at store_if branch_if branch_at text_if put put_named setting story memory code inside
-returned p = rw p refl
+returned : step setting inside ≡ Ok (record { state = at_place (pos 75) (with_stack (1 ∷ []) (opening story)); items = [] })
+unfolding step plan act changed fetch effect_of operation_of admits must_pause in_turn read_operand read_variable read_named instruction_at head_at short_head checked_head operands_at operand_at store_if branch_if branch_at text_if put put_named setting story memory code inside
+returned = refl
 
-printed : playable PrintNum ≡ true → step setting (at_place (pos 75) (with_stack (1 ∷ []) (opening story))) ≡ Ok (record { state = at_place (pos 78) (opening story); items = Text 49 ∷ [] })
-unfolding digits step plan act changed fetch effect_of operation_of admits must_pause in_turn read_operand read_variable instruction_by head_at variable_head played_opcode checked_head operands_at operand_at store_if branch_if text_if setting story memory code
-printed p = rw p refl
+printed : step setting (at_place (pos 75) (with_stack (1 ∷ []) (opening story))) ≡ Ok (record { state = at_place (pos 78) (opening story); items = Text 49 ∷ [] })
+unfolding digits step plan act changed fetch effect_of operation_of admits must_pause in_turn read_operand read_variable instruction_at head_at variable_head checked_head operands_at operand_at store_if branch_if text_if setting story memory code
+printed = refl
 
-ends : playable Quit ≡ true → step setting (at_place (pos 78) (opening story)) ≡ Err halts.Quit
-unfolding step plan fetch effect_of operation_of admits must_pause in_turn instruction_by head_at short_head played_opcode checked_head operands_at store_if branch_if text_if setting story memory code
-ends p = rw p refl
+ends : step setting (at_place (pos 78) (opening story)) ≡ Err halts.Quit
+unfolding step plan fetch effect_of operation_of admits must_pause in_turn instruction_at head_at short_head checked_head operands_at store_if branch_if text_if setting story memory code
+ends = refl
 
 -- the call, the return and the number are three steps
-runs : playable Call ≡ true → playable Jz ≡ true → playable PrintNum ≡ true → playable Quit ≡ true
-    → (run setting [] 1 (opening story) ≡ record { stop = stops.Paused pauses.Budget; state = inside; items = [] })
+runs : (run setting [] 1 (opening story) ≡ record { stop = stops.Paused pauses.Budget; state = inside; items = [] })
     × (run setting [] 9 (opening story) ≡ record { stop = stops.Paused pauses.Quit; state = at_place (pos 78) (opening story); items = Text 49 ∷ [] })
 unfolding run until inside
-runs a b c d = (rw (called a, returned b) refl, rw (called a, returned b, printed c, ends d) refl)
+runs = (rw (called, returned) refl, rw (called, returned, printed, ends) refl)

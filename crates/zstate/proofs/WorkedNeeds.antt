@@ -1,10 +1,8 @@
 -- Random numbers and lines of the player, computed.
 use Rattle.std.proofs.Common.{◌≡◌, ℕ, true, false, Bool, List, [], ◌∷◌, ◌++◌, replicate, slice_set, Option, Some, None, Ok, Err, pos, negsuc, refl}
 use Rattle.zstory.specs.LoadedStory.{LoadedStory}
-use Rattle.zcode.specs.declared.opcode.Opcode.TheVariants.{Random as ARandom, Sread}
 use Rattle.zcode.specs.Operation.{operation_of}
-use Rattle.zcode.specs.Playable.{playable}
-use Rattle.zcode.specs.Reading.{instruction_by, head_at, variable_head, played_opcode, checked_head, operands_at, operand_at, store_if, branch_if, text_if}
+use Rattle.zcode.specs.Reading.{instruction_at, head_at, variable_head, checked_head, operands_at, operand_at, store_if, branch_if, text_if}
 use Rattle.zdict.specs.Lookup.{lookup}
 use Rattle.zline.specs.Storing.{with_blocks, with_line}
 use Rattle.zfault.specs.declared.event.Event.{Event}
@@ -83,24 +81,24 @@ line : Event
 line = events.Line (0x49 ∷ 0x2C ∷ 0x71 ∷ 0x21 ∷ 0x21 ∷ [])
 
 -- the prompt leaves the stack as it is; an event that waits is let alone
-prompts : playable Sread ≡ true → (step setting asks ≡ Ok (record { state = prompted; items = Status (record { name = []; first = pos 260; second = negsuc 1; time = false }) ∷ [] })) × (step setting (give (events.Random 7) asks) ≡ Ok (record { state = give (events.Random 7) prompted; items = Status (record { name = []; first = pos 260; second = negsuc 1; time = false }) ∷ [] }))
-unfolding step plan act changed fetch effect_of operation_of buffered are_writable admits must_pause in_turn read_operand read_variable instruction_by head_at variable_head played_opcode checked_head operands_at operand_at store_if branch_if text_if setting story fresh asking code asks prompted
-prompts p = rw p (refl, refl)
+prompts : (step setting asks ≡ Ok (record { state = prompted; items = Status (record { name = []; first = pos 260; second = negsuc 1; time = false }) ∷ [] })) × (step setting (give (events.Random 7) asks) ≡ Ok (record { state = give (events.Random 7) prompted; items = Status (record { name = []; first = pos 260; second = negsuc 1; time = false }) ∷ [] }))
+unfolding step plan act changed fetch effect_of operation_of buffered are_writable admits must_pause in_turn read_operand read_variable instruction_at head_at variable_head checked_head operands_at operand_at store_if branch_if text_if setting story fresh asking code asks prompted
+prompts = (refl, refl)
 
 -- then it waits for a line, and for nothing else
-waits : playable Sread ≡ true → (step setting prompted ≡ Err (halts.Need needs.Line)) × (step setting (give (events.Random 7) prompted) ≡ Err (halts.Need needs.Line)) × (awaited setting prompted ≡ Some needs.Line) × (awaited setting (give line prompted) ≡ None) × (awaited setting asks ≡ None)
-unfolding step plan act changed fetch effect_of operation_of buffered are_writable admits must_pause in_turn read_operand read_variable instruction_by head_at variable_head played_opcode checked_head operands_at operand_at store_if branch_if text_if setting story fresh asking code asks prompted line
-waits p = rw p (refl, refl, refl, refl, refl)
+waits : (step setting prompted ≡ Err (halts.Need needs.Line)) × (step setting (give (events.Random 7) prompted) ≡ Err (halts.Need needs.Line)) × (awaited setting prompted ≡ Some needs.Line) × (awaited setting (give line prompted) ≡ None) × (awaited setting asks ≡ None)
+unfolding step plan act changed fetch effect_of operation_of buffered are_writable admits must_pause in_turn read_operand read_variable instruction_at head_at variable_head checked_head operands_at operand_at store_if branch_if text_if setting story fresh asking code asks prompted line
+waits = (refl, refl, refl, refl, refl)
 
 -- three of its characters are stored, and one of three words; what the stack named is read then
-heard : playable Sread ≡ true → step setting (give line prompted) ≡ Ok (record { state = record (at_place (pos 90) (with_stack (8 ∷ []) (opening story))) { memory = asking (0x69 ∷ 0x2C ∷ 0x71 ∷ 0 ∷ []) (1 ∷ 0 ∷ 0 ∷ 1 ∷ 1 ∷ []) }; items = [] })
-unfolding step plan act changed fetch effect_of operation_of buffered are_writable with_line with_blocks lookup admits must_pause in_turn read_operand read_variable instruction_by head_at variable_head played_opcode checked_head operands_at operand_at store_if branch_if text_if setting story fresh asking code asks prompted line
-heard p = rw p refl
+heard : step setting (give line prompted) ≡ Ok (record { state = record (at_place (pos 90) (with_stack (8 ∷ []) (opening story))) { memory = asking (0x69 ∷ 0x2C ∷ 0x71 ∷ 0 ∷ []) (1 ∷ 0 ∷ 0 ∷ 1 ∷ 1 ∷ []) }; items = [] })
+unfolding step plan act changed fetch effect_of operation_of buffered are_writable with_line with_blocks lookup admits must_pause in_turn read_operand read_variable instruction_at head_at variable_head checked_head operands_at operand_at store_if branch_if text_if setting story fresh asking code asks prompted line
+heard = refl
 
 -- a word is used up by the step that draws with it, and the mark of a prompt stays
-draws : playable ARandom ≡ true → (step setting (at_place (pos 90) (opening story)) ≡ Err (halts.Need needs.Random)) × (step setting (give (events.Random 65535) (at_place (pos 90) prompted)) ≡ Ok (record { state = record (at_place (pos 94) (with_stack (4 ∷ 70 ∷ 8 ∷ []) prompted)) { waiting = None }; items = [] }))
-unfolding step plan act changed fetch effect_of operation_of admits must_pause in_turn read_operand instruction_by head_at variable_head played_opcode checked_head operands_at operand_at store_if branch_if text_if put setting story fresh asking code asks prompted
-draws p = rw p (refl, refl)
+draws : (step setting (at_place (pos 90) (opening story)) ≡ Err (halts.Need needs.Random)) × (step setting (give (events.Random 65535) (at_place (pos 90) prompted)) ≡ Ok (record { state = record (at_place (pos 94) (with_stack (4 ∷ 70 ∷ 8 ∷ []) prompted)) { waiting = None }; items = [] }))
+unfolding step plan act changed fetch effect_of operation_of admits must_pause in_turn read_operand instruction_at head_at variable_head checked_head operands_at operand_at store_if branch_if text_if put setting story fresh asking code asks prompted
+draws = (refl, refl)
 
 -- ---- what is asked of buffers: both lie in memory of 94 bytes, then their sizes, then all bytes that they take
 

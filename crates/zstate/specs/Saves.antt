@@ -45,8 +45,8 @@ taken_memory story saved = slice_set (slice_set (with_bytes 64 (drop 64 saved) s
 abbrev pub save_place : Saved → ℤ
 save_place saved = pos saved.place -ℤ pos 1
 
-abbrev pub is_save : Option Operation → Bool
-is_save (Some Save) = true
+abbrev pub is_save : Operation → Bool
+is_save Save = true
 is_save _ = false
 
 -- a `save` is what is fetched

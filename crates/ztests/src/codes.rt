@@ -1,13 +1,13 @@
 //! Worked examples of the grammar, and a message.
 
 ghost use Rattle.std.specs.Prelude.{◌≡◌, [], ◌∷◌, Err, Some, None, true, false, pos, negsuc};
-ghost use Rattle.zcode.specs.Reading.{instruction_by};
+ghost use Rattle.zcode.specs.Reading.{instruction_at};
 ghost use Rattle.zcode.specs.Spelling.{Spells};
 
 use std::test::Fail;
-use zcode::{DecodeError, Excluded, Opcode, Operand, Unsupported};
+use zcode::{DecodeError, Excluded, Opcode, Operand};
 
-/// The definition at instructions that are written out by hand, whether this build plays them or not.
+/// The definition at instructions that are written out by hand.
 fn instructions_are_spelled()
     ensures inc_chk { Spells (0x05 ∷ 0x02 ∷ 0x00 ∷ 0xD4 ∷ []) (record {
       opcode = Opcode.IncChk;
@@ -32,13 +32,13 @@ fn instructions_are_spelled()
     }) }
 {}
 
-/// The first fault, where every opcode is played.
+/// The first fault.
 fn the_first_fault_is_read()
-    ensures type_byte_missing { instruction_by (λ _. true) (0xE0 ∷ []) ≡ Err DecodeError.Truncated }
-    ensures no_operands { instruction_by (λ _. true) (0xE9 ∷ 0xFF ∷ []) ≡ Err DecodeError.Operands }
-    ensures operands_before_bytes { instruction_by (λ _. true) (0xE1 ∷ 0xFF ∷ []) ≡ Err DecodeError.Operands }
-    ensures bytes_missing { instruction_by (λ _. true) (0xE1 ∷ 0x57 ∷ []) ≡ Err DecodeError.Truncated }
-    ensures no_text { instruction_by (λ _. true) (0xB2 ∷ []) ≡ Err DecodeError.Text }
+    ensures type_byte_missing { instruction_at (0xE0 ∷ []) ≡ Err DecodeError.Truncated }
+    ensures no_operands { instruction_at (0xE9 ∷ 0xFF ∷ []) ≡ Err DecodeError.Operands }
+    ensures operands_before_bytes { instruction_at (0xE1 ∷ 0xFF ∷ []) ≡ Err DecodeError.Operands }
+    ensures bytes_missing { instruction_at (0xE1 ∷ 0x57 ∷ []) ≡ Err DecodeError.Truncated }
+    ensures no_text { instruction_at (0xB2 ∷ []) ≡ Err DecodeError.Text }
 {}
 
 #[test]
@@ -49,7 +49,7 @@ fn worked_examples_are_proved() {
 
 #[test]
 fn refusals_are_told(rt: HostRuntime) -> Result<(), Fail> {
-    let refused = DecodeError::NotInProfile(Unsupported::Excluded(Excluded::SetWindow));
+    let refused = DecodeError::NotInProfile(Excluded::SetWindow);
     let told = format!(in rt.alloc(); "{refused}")?;
     assert_eq!(rt; told.as_str(), "the opcode set_window is not played");
     Ok(())

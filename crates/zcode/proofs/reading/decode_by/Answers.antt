@@ -1,7 +1,7 @@
 use Rattle.std.proofs.Common.{◌≡◌, drop, ap, ◌∙◌}
 use Rattle.std.proofs.lemmas.List.{take_rest}
 use Rattle.zcode.specs.Reading.{instruction_at}
-use Rattle.zcode.proofs.ReadingLaws.{found_if, played_if, only_if, within_if, nothing_past}
+use Rattle.zcode.proofs.ReadingLaws.{found_if, only_if, within_if, nothing_past}
 use Rattle.zcode.proofs.reading.decode_by.Goals as goal
 
 pub returns-then-memory-at-clause-exact : goal.returns-then-memory-at-clause-exact
@@ -11,11 +11,6 @@ pub returns-clause-found : goal.returns-clause-found
 returns-clause-found c =
     let exact : c.instruction_at.result ≡ instruction_at (drop c.args.at c.args.ends.now) = c.instruction_at.ensures.reads ∙ ap instruction_at (take_rest c.memory-memory.result.now c.args.at ∙ ap (drop c.args.at) c.memory-memory.ensures) in
     found_if _ _ exact
-
-pub returns-clause-played : goal.returns-clause-played
-returns-clause-played c =
-    let exact : c.instruction_at.result ≡ instruction_at (drop c.args.at c.args.ends.now) = c.instruction_at.ensures.reads ∙ ap instruction_at (take_rest c.memory-memory.result.now c.args.at ∙ ap (drop c.args.at) c.memory-memory.ensures) in
-    played_if _ _ exact
 
 pub returns-clause-only : goal.returns-clause-only
 returns-clause-only c =

@@ -2,7 +2,8 @@ use Rattle.std.proofs.Common.{ℕ, ◌≡◌, ◌+◌, ◌*◌, refl, sym, subst
 use Rattle.zstory.specs.LoadedStory.{abbreviations}
 use Rattle.zjudge.specs.Memory.{AreKept}
 use Rattle.zjudge.specs.Parts.{IsLedTo}
-use Rattle.zjudge.proofs.Closed.{abbreviations_where, one_more_below}
+use Rattle.zplace.proofs.Each.{one_more_below}
+use Rattle.zjudge.proofs.Closed.{abbreviations_where}
 use Rattle.zjudge.proofs.kept.are_abbreviations_kept.Goals as goal
 
 pub returns-then-not-is_abbreviation_kept : goal.returns-then-not-is_abbreviation_kept

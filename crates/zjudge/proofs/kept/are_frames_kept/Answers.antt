@@ -1,7 +1,8 @@
 use Rattle.std.proofs.Common.{ℕ, ◌+◌, refl, sym, subst, arith}
 use Rattle.zplace.specs.Bytes.{IsTableFrame}
 use Rattle.zjudge.specs.Memory.{AreKept}
-use Rattle.zjudge.proofs.Closed.{frames_where, one_more}
+use Rattle.zplace.proofs.Each.{one_more}
+use Rattle.zjudge.proofs.Closed.{frames_where}
 use Rattle.zjudge.proofs.kept.are_frames_kept.Goals as goal
 use Rattle.zstory.specs.Objects.{property_table}
 

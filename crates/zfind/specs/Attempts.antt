@@ -1,0 +1,12 @@
+-- What comes of a walk (own).
+use Rattle.std.specs.Prelude.{⊤}
+use Rattle.zstory.specs.LoadedStory.{LoadedStory}
+use Rattle.zdomain.specs.Interval.{interval_operations}
+use Rattle.zcheck.specs.Passes.{Passes}
+use Rattle.zfind.specs.declared.finding.Attempt.{Attempt}
+use Rattle.zfind.specs.declared.finding.Attempt.TheVariants.{Passed, Failed}
+
+-- a certificate of it passes
+abbrev pub IsAttempt : LoadedStory → Attempt → Type 0
+IsAttempt story (Passed certificate) = Passes interval_operations story certificate
+IsAttempt story (Failed plan) = ⊤

@@ -1,0 +1,167 @@
+//! A certificate of what is known.
+
+ghost use Rattle.std.specs.Prelude.{◌≡◌, IfErr};
+ghost use Rattle.zfind.specs.declared.error.FindError.TheVariants.{OutOfMemory};
+
+use crate::code::Code;
+use crate::error::FindError;
+use crate::walk::Walk;
+use std::alloc::Global;
+use zcert::{CertBuilder, CertError, Certificate, Field, Spelled};
+use zlist::Record;
+
+/// The certificate that says what a walk found.
+pub(crate) fn certificate_of<V: Spelled>(
+    alloc: Global,
+    code: &Code<'_>,
+    walk: &mut Walk<'_, V>,
+) -> Result<Certificate<V>, FindError>
+    ensures { IfErr result (λ error. error ≡ OutOfMemory) }
+{
+    let mut builder = CertBuilder::new(alloc);
+    take_identity(&mut builder, code)?;
+    take_ranges(alloc, &mut builder, walk)?;
+    take_globals(&mut builder, walk)?;
+    let numbers = take_routines(alloc, &mut builder, code, walk)?;
+    take_instructions(&mut builder, code, walk, &numbers)?;
+    Ok(builder.finish()?)
+}
+
+/// The story that it speaks of.
+fn take_identity<V: Spelled>(
+    builder: &mut CertBuilder<V>,
+    code: &Code<'_>,
+) -> Result<(), CertError> {
+    let identity = code.story.identity();
+    builder.take(Field::Release(identity.release))?;
+    builder.take(Field::Serial(identity.serial))?;
+    builder.take(Field::Checksum(identity.checksum))?;
+    builder.take(Field::LoadedLength(identity.length))
+}
+
+/// The ranges of frozen bytes.
+fn take_ranges<V: Spelled>(
+    alloc: Global,
+    builder: &mut CertBuilder<V>,
+    walk: &mut Walk<'_, V>,
+) -> Result<(), CertError> {
+    let ranges = walk.bytes.ranges(alloc)?;
+    builder.take(Field::RangeCount(ranges.len().min(0xffff) as u16))?;
+    for range in &ranges {
+        builder.take(Field::RangeFirst(range.first))?;
+        builder.take(Field::RangeLast(range.last))?;
+    }
+    Ok(())
+}
+
+/// The values of the globals.
+fn take_globals<V: Spelled>(
+    builder: &mut CertBuilder<V>,
+    walk: &Walk<'_, V>,
+) -> Result<(), CertError> {
+    for set in walk.state.globals() {
+        builder.take(Field::Global(*set))?;
+    }
+    Ok(())
+}
+
+/// The routines that were entered. Answers the number of each among them.
+fn take_routines<V: Spelled>(
+    alloc: Global,
+    builder: &mut CertBuilder<V>,
+    code: &Code<'_>,
+    walk: &Walk<'_, V>,
+) -> Result<Vec<u16>, CertError> {
+    let numbers = entered_numbers(alloc, code, walk)?;
+    let last = numbers.as_slice().last().copied().unwrap_or(0);
+    builder.take(Field::RoutineCount(last))?;
+    for (below, address) in code.routines().iter().enumerate() {
+        let number = (below.min(0xfffe) + 1) as u16;
+        if walk.is_entered(number) {
+            take_routine(builder, code, walk, number, *address)?;
+        }
+    }
+    Ok(numbers)
+}
+
+/// How many routines were entered up to each, by their numbers in the listing.
+fn entered_numbers<V: Spelled>(
+    alloc: Global,
+    code: &Code<'_>,
+    walk: &Walk<'_, V>,
+) -> Result<Vec<u16>, CertError> {
+    let mut numbers = vec![in alloc; 0]?;
+    let mut count = 0u16;
+    for below in 0..code.routines().len().min(0xffff) {
+        if walk.is_entered(below as u16 + 1) {
+            count = count.saturating_add(1);
+        }
+        numbers.push(count)?;
+    }
+    Ok(numbers)
+}
+
+/// What is said of a routine. One that gives nothing is said to give 0.
+fn take_routine<V: Spelled>(
+    builder: &mut CertBuilder<V>,
+    code: &Code<'_>,
+    walk: &Walk<'_, V>,
+    number: u16,
+    address: u32,
+) -> Result<(), CertError> {
+    let result = match walk.state.result(number) {
+        Some(set) => set,
+        None => V::single(0),
+    };
+    builder.take(Field::RoutineAddress(address))?;
+    builder.take(Field::LocalCount(code.local_count(number)))?;
+    builder.take(Field::RoutineResult(result))
+}
+
+/// The instructions that were reached.
+fn take_instructions<V: Spelled>(
+    builder: &mut CertBuilder<V>,
+    code: &Code<'_>,
+    walk: &Walk<'_, V>,
+    numbers: &[u16],
+) -> Result<(), CertError> {
+    builder.take(Field::InstructionCount(reached_count(code, walk)))?;
+    for (index, record) in code.records().iter().enumerate() {
+        if walk.state.is_reached(index) {
+            take_instruction(builder, walk, index, record, numbers)?;
+        }
+    }
+    Ok(())
+}
+
+/// How many were reached.
+fn reached_count<V: Spelled>(code: &Code<'_>, walk: &Walk<'_, V>) -> u32 {
+    let mut count = 0u32;
+    for index in 0..code.records().len() {
+        if walk.state.is_reached(index) {
+            count = count.saturating_add(1);
+        }
+    }
+    count
+}
+
+/// What is said of an instruction.
+fn take_instruction<V: Spelled>(
+    builder: &mut CertBuilder<V>,
+    walk: &Walk<'_, V>,
+    index: usize,
+    record: &Record,
+    numbers: &[u16],
+) -> Result<(), CertError> {
+    let Some(frame) = walk.state.frame_at(index) else {
+        return Ok(());
+    };
+    let routine = numbers.get(usize::from(record.routine)).copied().unwrap_or(0);
+    builder.take(Field::InstructionAddress(record.address))?;
+    builder.take(Field::RoutineNumber(routine))?;
+    builder.take(Field::Height(frame.slots().len().min(64) as u8))?;
+    for set in frame.sets() {
+        builder.take(Field::Value(*set))?;
+    }
+    Ok(())
+}

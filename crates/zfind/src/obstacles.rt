@@ -1,0 +1,99 @@
+//! What stands in the way of every certificate.
+
+use crate::certificate::certificate_of;
+use crate::code::Code;
+use crate::error::{FindError, Obstacle};
+use crate::finding::tried;
+use crate::walk::Walk;
+use std::alloc::Global;
+use zcert::Certificate;
+use zdomain::Interval;
+use zlist::list_story;
+use zrule::{Rule, judge};
+use zruns::Tables;
+use zstory::Story;
+use ztext::TextEnds;
+
+/// How many instructions are visited at most to find what is broken in every certificate (own).
+const MOST_FAIR_VISITS: u32 = 60_000;
+
+/// What stands in the way of every certificate of a story, as far as that is found out (own): the first rule that is broken whatever a
+/// certificate says. `None` where none is found. The one error is want of memory.
+///
+/// That such a rule is broken in each certificate is tried, and not proved.
+pub fn broken_in_all(alloc: Global, story: &Story) -> Result<Option<Obstacle>, FindError> {
+    let listing = match list_story(alloc, story) {
+        Ok(listing) => listing,
+        Err(fault) => return obstacle_in(FindError::from(fault)),
+    };
+    let code = Code::new(alloc, story, &listing)?;
+    let mut walk = Walk::fair(alloc, &code)?;
+    let mut left = MOST_FAIR_VISITS;
+    let grown = walk.grow(alloc, &mut left);
+    let certificate = certificate_of(alloc, &code, &mut walk)?;
+    match grown {
+        Ok(()) => obstacle_for(story, certificate),
+        Err(FindError::RoundLimit) => Ok(certain_obstacle(&code, &walk, &certificate)),
+        Err(error) => Err(error),
+    }
+}
+
+/// What the checker says first of a certificate that says no more than any other.
+fn obstacle_for(story: &Story, certificate: Certificate) -> Result<Option<Obstacle>, FindError> {
+    match tried(story, certificate) {
+        Ok(_) => Ok(None),
+        Err(error) => obstacle_in(error),
+    }
+}
+
+/// What stands in the way.
+fn obstacle_in(error: FindError) -> Result<Option<Obstacle>, FindError> {
+    match error {
+        FindError::NotFound(obstacle) => Ok(Some(obstacle)),
+        _ => Err(error),
+    }
+}
+
+/// The first rule that is broken, where more is to be found, and is broken by what was found alone.
+fn certain_obstacle(
+    code: &Code<'_>,
+    walk: &Walk<'_, Interval>,
+    certificate: &Certificate,
+) -> Option<Obstacle> {
+    let tables = Tables::new(code.story, certificate.ranges());
+    let mut ends = TextEnds::new(code.story.memory());
+    for index in 0..certificate.instruction_count() {
+        let listed = certificate.instruction(index);
+        let judged = judge(
+            code.story,
+            &tables,
+            certificate,
+            &listed,
+            index + 1,
+            &mut ends,
+            None,
+        );
+        if let Err(rule) = judged && is_certain(rule, is_waiting(code, walk, listed.address)) {
+            return Some(Obstacle::Place(listed.address.cast_signed(), rule));
+        }
+    }
+    None
+}
+
+/// Whether the instruction at an address is to be visited.
+fn is_waiting(code: &Code<'_>, walk: &Walk<'_, Interval>, address: u32) -> bool {
+    match code.index_behind(address as usize, 0) {
+        Some(index) => walk.is_waiting(index),
+        None => true,
+    }
+}
+
+/// Whether a rule that is broken now stays broken when more is found. Where an instruction leads to and what it gives is said there only
+/// once it was visited, and what comes back only once a routine returned.
+fn is_certain(rule: Rule, is_waiting: bool) -> bool {
+    match rule {
+        Rule::Successor | Rule::Returned | Rule::Stored => false,
+        Rule::Called => !is_waiting,
+        _ => true,
+    }
+}

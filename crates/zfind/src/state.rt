@@ -1,0 +1,381 @@
+//! What is known of each place, global and routine.
+
+use crate::code::Code;
+use crate::frame::Frame;
+use crate::thresholds::Thresholds;
+use std::alloc::{AllocError, Global};
+use zdomain::Domain;
+
+/// How many globals there are, from variable 16 on (Z 6.2).
+const GLOBALS: usize = 240;
+
+/// How often what is no meeting of ways grows before it is widened, so that each walk ends.
+const MOST_GROWTHS: u16 = 200;
+
+/// What is known of a place: its sets begin at `start` of the list of all sets.
+#[derive(Clone, Copy)]
+struct Spot {
+    start: usize,
+    locals: u8,
+    height: u8,
+    is_reached: bool,
+    growths: Growths,
+}
+
+/// How often a thing has grown: all in all, and where it may be widened.
+#[derive(Clone, Copy)]
+struct Growths {
+    all: u16,
+    widening: u16,
+}
+
+/// Nothing has grown.
+const NO_GROWTHS: Growths = Growths {
+    all: 0,
+    widening: 0,
+};
+
+/// A set of a global or of a routine's result.
+#[derive(Clone, Copy)]
+struct Cell<V> {
+    set: Option<V>,
+    growths: Growths,
+}
+
+/// What is known: the sets of each place that was reached, of each global, and of what each routine gives.
+#[derive(Drop)]
+pub(crate) struct State<V> {
+    spots: Vec<Spot>,
+    sets: Vec<V>,
+    globals: Vec<V>,
+    global_growths: Vec<Growths>,
+    results: Vec<Cell<V>>,
+}
+
+/// How sets grow.
+#[derive(Drop)]
+pub(crate) struct Plan<V> {
+    pub(crate) thresholds: Thresholds,
+    /// What nothing has to be widened beyond.
+    pub(crate) caps: Option<State<V>>,
+    /// How often a thing grows before it is widened.
+    pub(crate) delay: u16,
+    /// Whether anything is widened.
+    pub(crate) widens: bool,
+    /// Whether nothing was widened too far by the walk before, so that one like it finds nothing else.
+    pub(crate) is_settled: bool,
+}
+
+impl Growths {
+    /// Once more.
+    fn after(self, may_widen: bool) -> Growths {
+        Growths {
+            all: self.all.saturating_add(1),
+            widening: self.widening.saturating_add(u16::from(may_widen)),
+        }
+    }
+
+    /// Whether a thing is widened that grows now.
+    fn are_enough<V>(self, may_widen: bool, plan: &Plan<V>) -> bool {
+        plan.widens && (may_widen && self.widening >= plan.delay || self.all >= MOST_GROWTHS)
+    }
+}
+
+impl<V: Domain> Plan<V> {
+    /// Sets are widened to these thresholds.
+    pub(crate) fn widening(thresholds: Thresholds) -> Plan<V> {
+        Plan {
+            thresholds,
+            caps: None,
+            delay: 0,
+            widens: true,
+            is_settled: false,
+        }
+    }
+
+    /// Nothing is widened.
+    pub(crate) fn joining(alloc: Global) -> Plan<V> {
+        Plan {
+            thresholds: Thresholds::none(alloc),
+            caps: None,
+            delay: 0,
+            widens: false,
+            is_settled: false,
+        }
+    }
+
+    /// A set with the words of another, widened or not.
+    fn grown(&self, before: V, more: V, widens: bool, cap: Option<V>) -> V {
+        let joined = before.join(more);
+        if !widens {
+            return joined;
+        }
+        let wide = self.thresholds.widened(before, joined);
+        match cap {
+            Some(cap) if joined.is_within(cap) => wide.meet(cap).unwrap_or(wide),
+            _ => wide,
+        }
+    }
+}
+
+impl<V: Domain> State<V> {
+    /// Nothing is reached, and each global has the value that is loaded.
+    pub(crate) fn new(alloc: Global, code: &Code<'_>) -> Result<State<V>, AllocError> {
+        let spot = Spot {
+            start: 0,
+            locals: 0,
+            height: 0,
+            is_reached: false,
+            growths: NO_GROWTHS,
+        };
+        let cell = Cell {
+            set: None,
+            growths: NO_GROWTHS,
+        };
+        Ok(State {
+            spots: vec![in alloc; spot; code.records().len()]?,
+            sets: Vec::new(alloc),
+            globals: loaded_globals(alloc, code)?,
+            global_growths: vec![in alloc; NO_GROWTHS; GLOBALS]?,
+            results: vec![in alloc; cell; code.routines().len()]?,
+        })
+    }
+
+    /// The sets of the globals.
+    pub(crate) fn globals(&self) -> &[V] {
+        &self.globals
+    }
+
+    /// What a routine gives, as far as is known, by its number.
+    pub(crate) fn result(&self, number: u16) -> Option<V> {
+        let index = usize::from(number).checked_sub(1)?;
+        self.results.get(index)?.set
+    }
+
+    /// Whether a place was reached.
+    pub(crate) fn is_reached(&self, index: usize) -> bool {
+        match self.spots.get(index) {
+            Some(spot) => spot.is_reached,
+            None => false,
+        }
+    }
+
+    /// The sets of a place that was reached.
+    pub(crate) fn frame_at(&self, index: usize) -> Option<Frame<V>> {
+        let spot = self.reached_spot(index)?;
+        Some(Frame::of(usize::from(spot.locals), self.sets_of(spot)))
+    }
+
+    /// A place, if it was reached.
+    fn reached_spot(&self, index: usize) -> Option<Spot> {
+        let spot = *self.spots.get(index)?;
+        spot.is_reached.then_some(spot)
+    }
+
+    /// The sets of a place.
+    fn sets_of(&self, spot: Spot) -> &[V] {
+        let count = usize::from(spot.locals) + usize::from(spot.height);
+        let end = spot.start.saturating_add(count);
+        self.sets.as_slice().get(spot.start..end).unwrap_or(&[])
+    }
+
+    /// A set of a place, by its index there.
+    fn set_at(&self, index: usize, offset: usize) -> Option<V> {
+        let spot = self.reached_spot(index)?;
+        self.sets_of(spot).get(offset).copied()
+    }
+
+    /// Says of a place what is known on a way to it too, and whether that was news. Nothing is said where the heights differ.
+    pub(crate) fn join_place(
+        &mut self,
+        plan: &Plan<V>,
+        index: usize,
+        frame: &Frame<V>,
+        may_widen: bool,
+    ) -> Result<bool, AllocError> {
+        let Some(spot) = self.reached_spot(index) else {
+            self.reach(index, frame)?;
+            return Ok(true);
+        };
+        if !has_shape(spot, frame) {
+            return Ok(false);
+        }
+        let widens = spot.growths.are_enough(may_widen, plan);
+        let mut is_new = false;
+        for (offset, more) in frame.sets().iter().enumerate() {
+            let cap = plan.cap_at(index, offset);
+            is_new |= self.raise(plan, spot.start.saturating_add(offset), *more, widens, cap);
+        }
+        if is_new {
+            self.count_growth(index, may_widen);
+        }
+        Ok(is_new)
+    }
+
+    /// Says of a place what is known on the first way to it.
+    fn reach(&mut self, index: usize, frame: &Frame<V>) -> Result<(), AllocError> {
+        let start = self.sets.len();
+        self.sets.extend_from_slice(frame.sets())?;
+        if let Some(spot) = self.spots.get_mut(index) {
+            *spot = Spot {
+                start,
+                locals: frame.locals().len().min(15) as u8,
+                height: frame.slots().len().min(64) as u8,
+                is_reached: true,
+                growths: NO_GROWTHS,
+            };
+        }
+        Ok(())
+    }
+
+    /// Counts that a place has grown.
+    fn count_growth(&mut self, index: usize, may_widen: bool) {
+        if let Some(spot) = self.spots.get_mut(index) {
+            spot.growths = spot.growths.after(may_widen);
+        }
+    }
+
+    /// Gives a set the words of another, and says whether any was new.
+    fn raise(&mut self, plan: &Plan<V>, at: usize, more: V, widens: bool, cap: Option<V>) -> bool {
+        let Some(set) = self.sets.get_mut(at) else {
+            return false;
+        };
+        if more.is_within(*set) {
+            return false;
+        }
+        *set = plan.grown(*set, more, widens, cap);
+        true
+    }
+
+    /// Gives a global, counted from variable 16, the words of a set, and says whether any was new.
+    pub(crate) fn join_global(&mut self, plan: &Plan<V>, global: usize, more: V) -> bool {
+        let cap = plan.global_cap(global);
+        let Some(set) = self.globals.get_mut(global) else {
+            return false;
+        };
+        let Some(growths) = self.global_growths.get_mut(global) else {
+            return false;
+        };
+        if more.is_within(*set) {
+            return false;
+        }
+        *set = plan.grown(*set, more, growths.are_enough(true, plan), cap);
+        *growths = growths.after(true);
+        true
+    }
+
+    /// Says that a routine, by its number, may give the words of a set too, and whether any was new.
+    pub(crate) fn join_result(
+        &mut self,
+        plan: &Plan<V>,
+        number: u16,
+        more: V,
+        may_widen: bool,
+    ) -> bool {
+        let cap = plan.result_cap(number);
+        let Some(index) = usize::from(number).checked_sub(1) else {
+            return false;
+        };
+        let Some(cell) = self.results.get_mut(index) else {
+            return false;
+        };
+        let Some(set) = cell.set else {
+            cell.set = Some(more);
+            return true;
+        };
+        if more.is_within(set) {
+            return false;
+        }
+        let widens = cell.growths.are_enough(may_widen, plan);
+        cell.set = Some(plan.grown(set, more, widens, cap));
+        cell.growths = cell.growths.after(may_widen);
+        true
+    }
+
+    /// Whether all that is known of each place here is known there too.
+    pub(crate) fn is_within(&self, other: &State<V>) -> bool {
+        are_within(&self.globals, &other.globals)
+            && self.has_results_within(other)
+            && self.has_places_within(other)
+    }
+
+    /// Whether what each routine gives is known there too.
+    fn has_results_within(&self, other: &State<V>) -> bool {
+        let mut both = self.results.iter().zip(other.results.iter());
+        both.all(|(inner, outer)| is_option_within(inner.set, outer.set))
+    }
+
+    /// Whether what is known of each place is known there too.
+    fn has_places_within(&self, other: &State<V>) -> bool {
+        for index in 0..self.spots.len() {
+            if !self.has_place_within(other, index) {
+                return false;
+            }
+        }
+        true
+    }
+
+    /// Whether what is known of a place is known there too.
+    fn has_place_within(&self, other: &State<V>, index: usize) -> bool {
+        match (self.reached_spot(index), other.reached_spot(index)) {
+            (None, _) => true,
+            (Some(inner), Some(outer)) => are_within(self.sets_of(inner), other.sets_of(outer)),
+            (Some(_), None) => false,
+        }
+    }
+}
+
+impl<V: Domain> Plan<V> {
+    /// What a set of a place isn't widened beyond.
+    fn cap_at(&self, index: usize, offset: usize) -> Option<V> {
+        match &self.caps {
+            Some(caps) => caps.set_at(index, offset),
+            None => None,
+        }
+    }
+
+    /// What a global isn't widened beyond.
+    fn global_cap(&self, global: usize) -> Option<V> {
+        match &self.caps {
+            Some(caps) => caps.globals.get(global).copied(),
+            None => None,
+        }
+    }
+
+    /// What a routine's result isn't widened beyond.
+    fn result_cap(&self, number: u16) -> Option<V> {
+        match &self.caps {
+            Some(caps) => caps.result(number),
+            None => None,
+        }
+    }
+}
+
+/// The globals as they are loaded.
+fn loaded_globals<V: Domain>(alloc: Global, code: &Code<'_>) -> Result<Vec<V>, AllocError> {
+    let mut globals = Vec::with_capacity(alloc, GLOBALS)?;
+    for global in 0..GLOBALS {
+        globals.push(V::single(code.loaded(global)))?;
+    }
+    Ok(globals)
+}
+
+/// Whether a frame has as many locals and slots as a place.
+fn has_shape<V: Domain>(spot: Spot, frame: &Frame<V>) -> bool {
+    frame.locals().len() == usize::from(spot.locals)
+        && frame.slots().len() == usize::from(spot.height)
+}
+
+/// Whether there are as many sets, and each is within its own.
+fn are_within<V: Domain>(inner: &[V], outer: &[V]) -> bool {
+    inner.len() == outer.len() && inner.iter().zip(outer.iter()).all(|(a, b)| a.is_within(*b))
+}
+
+/// Whether a set is within another, if it is there.
+fn is_option_within<V: Domain>(inner: Option<V>, outer: Option<V>) -> bool {
+    match (inner, outer) {
+        (None, _) => true,
+        (Some(inner), Some(outer)) => inner.is_within(outer),
+        (Some(_), None) => false,
+    }
+}

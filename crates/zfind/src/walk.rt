@@ -1,0 +1,445 @@
+//! The walk over a story's code, which finds what is known of each place.
+
+ghost use Rattle.std.specs.Prelude.{◌≤◌, IfErr};
+ghost use Rattle.zfind.specs.Finding.{IsStopped};
+
+use crate::bytes::{Bytes, Span};
+use crate::code::{Code, operation_of};
+use crate::effects::{Calls, Effect, Effects, MOST_CALLEES, Visit, next_callee};
+use crate::error::FindError;
+use crate::frame::Frame;
+use crate::groups::{Groups, index_in};
+use crate::openings::{open_written, reach_of};
+use crate::queue::Queue;
+use crate::state::{Plan, State};
+use crate::visits::count_visit;
+use std::alloc::{AllocError, Global};
+use zcode::{Operand, Operation};
+use zdomain::Domain;
+use zflow::{first_known, flow_of};
+use zlist::Record;
+use zruns::Tables;
+
+/// A walk: what is known so far, and which instructions are to be visited since that grew.
+#[derive(Drop)]
+pub(crate) struct Walk<'a, V> {
+    code: &'a Code<'a>,
+    pub(crate) plan: Plan<V>,
+    pub(crate) state: State<V>,
+    pub(crate) bytes: Bytes,
+    queue: Queue,
+    /// Where each instruction looked for values that bytes make known which stay as they are.
+    reaches: Vec<Option<Span>>,
+    /// Those that looked where bytes were opened since the tables were made.
+    outdated: Vec<usize>,
+    /// The rank of each routine, by its number: those that are found later are followed first.
+    ranks: Vec<u32>,
+    /// How many were found.
+    found: u32,
+    /// How often each instruction was visited, where those come first that were visited least.
+    visits: Option<Vec<u32>>,
+}
+
+impl<'a, V: Domain> Walk<'a, V> {
+    /// A walk that is at the first instruction.
+    pub(crate) fn new(
+        alloc: Global,
+        code: &'a Code<'a>,
+        plan: Plan<V>,
+    ) -> Result<Walk<'a, V>, AllocError> {
+        let count = code.records().len();
+        let mut walk = Walk {
+            code,
+            plan,
+            state: State::new(alloc, code)?,
+            bytes: Bytes::new(alloc, code.story)?,
+            queue: Queue::new(alloc, count)?,
+            reaches: vec![in alloc; None; count]?,
+            outdated: Vec::new(alloc),
+            ranks: vec![in alloc; 0; code.routines().len().saturating_add(1)]?,
+            found: 0,
+            visits: None,
+        };
+        if let Some(first) = code.first() {
+            walk.join(first, &Frame::empty(), false)?;
+        }
+        Ok(walk)
+    }
+
+    /// One that widens nothing, where those instructions come first that were visited least.
+    pub(crate) fn fair(
+        alloc: Global,
+        code: &'a Code<'a>,
+    ) -> Result<Walk<'a, V>, AllocError> {
+        let mut walk = Walk::new(alloc, code, Plan::joining(alloc))?;
+        walk.visits = Some(vec![in alloc; 0; code.records().len()]?);
+        Ok(walk)
+    }
+
+    /// What is known.
+    pub(crate) fn into_state(self) -> State<V> {
+        self.state
+    }
+
+    /// How sets grow, with the thresholds that were learned.
+    pub(crate) fn into_plan(self) -> Plan<V> {
+        self.plan
+    }
+
+    /// Walks until nothing more is found, with at most so many visits. What looks where bytes were opened is visited once more when
+    /// nothing else is left, so that tables are seldom made.
+    pub(crate) fn grow(&mut self, alloc: Global, left: &mut u32) -> Result<(), FindError>
+        ensures fewer { left.new ≤ left.old }
+        ensures stopped { IfErr result (IsStopped left.new) }
+    {
+        while let Some(index) = self.queue.next() {
+            count_visit(left)?;
+            self.queue.remove_next();
+            let ranges = self.bytes.ranges(alloc)?;
+            let tables = Tables::new(self.code.story, &ranges);
+            self.visit(&tables, index)?;
+            self.run(&tables, left)?;
+            self.wake_more()?;
+        }
+        Ok(())
+    }
+
+    /// Visits instructions until none is left.
+    fn run(&mut self, tables: &Tables<'_>, left: &mut u32) -> Result<(), FindError>
+        ensures fewer { left.new ≤ left.old }
+        ensures stopped { IfErr result (IsStopped left.new) }
+    {
+        while let Some(index) = self.queue.next() {
+            count_visit(left)?;
+            self.queue.remove_next();
+            self.visit(tables, index)?;
+        }
+        Ok(())
+    }
+
+    /// Has those visited that were put off: what looked where bytes were opened, and, where there is none, what waits for a routine that
+    /// never returns.
+    fn wake_more(&mut self) -> Result<(), AllocError> {
+        self.wake_outdated()?;
+        if self.queue.is_empty() {
+            self.end_routines()?;
+        }
+        Ok(())
+    }
+
+    /// Says of each routine that was entered and never returns that it gives 0, since a certificate says something of what it gives.
+    fn end_routines(&mut self) -> Result<(), AllocError> {
+        for below in 0..self.code.routines().len().min(0xffff) {
+            self.end_routine(below as u16 + 1)?;
+        }
+        Ok(())
+    }
+
+    /// Says so of a routine, by its number, if it was entered and never returns.
+    fn end_routine(&mut self, number: u16) -> Result<(), AllocError> {
+        if self.is_entered(number) && self.state.result(number).is_none() {
+            self.give_back(number, V::single(0))?;
+        }
+        Ok(())
+    }
+
+    /// Visits an instruction.
+    fn visit(&mut self, tables: &Tables<'_>, index: usize) -> Result<(), AllocError> {
+        let (Some(record), Some(frame)) = (self.code.records().get(index), self.state.frame_at(index)) else {
+            return Ok(());
+        };
+        let visit = Visit {
+            code: self.code,
+            state: &self.state,
+            record,
+            frame: &frame,
+        };
+        let flow = flow_of(
+            tables,
+            self.state.globals(),
+            frame.locals(),
+            frame.slots(),
+            &record.instruction,
+        );
+        let effects = visit.effects(&flow);
+        let learned = learned_at(visit);
+        self.note_visit(index, reach_of(self.code, &flow.demands))?;
+        open_written(self.code, &mut self.bytes, &flow.demands);
+        self.note_loaders()?;
+        self.learn(learned)?;
+        self.apply(index, record, &effects)
+    }
+
+    /// Notes where an instruction looked, and that it was visited once more.
+    fn note_visit(&mut self, index: usize, reach: Option<Span>) -> Result<(), AllocError> {
+        if let Some(noted) = self.reaches.get_mut(index) {
+            *noted = reach;
+        }
+        if self.bytes.is_stale(reach) {
+            self.outdated.push(index)?;
+        }
+        if let Some(visits) = &mut self.visits {
+            if let Some(count) = visits.get_mut(index) {
+                *count = count.saturating_add(1);
+            }
+        }
+        Ok(())
+    }
+
+    /// Notes the words that something was compared with.
+    fn learn(&mut self, learned: [Option<u16>; 2]) -> Result<(), AllocError> {
+        for word in learned {
+            if let Some(word) = word {
+                self.plan.thresholds.add_around(word)?;
+            }
+        }
+        Ok(())
+    }
+
+    /// Does what an instruction does.
+    pub(crate) fn apply(
+        &mut self,
+        index: usize,
+        record: &Record,
+        effects: &Effects<V>,
+    ) -> Result<(), AllocError> {
+        if let Some(effect) = &effects.held {
+            self.apply_effect(index, record, effect)?;
+        }
+        if let Some(effect) = &effects.failed {
+            self.apply_effect(index, record, effect)?;
+        }
+        Ok(())
+    }
+
+    /// Does what comes on an edge.
+    fn apply_effect(
+        &mut self,
+        index: usize,
+        record: &Record,
+        effect: &Effect<V>,
+    ) -> Result<(), AllocError> {
+        self.store(effect.assigned)?;
+        self.store(effect.given)?;
+        if let Some(set) = effect.returned {
+            self.give_back(record.routine, set)?;
+        }
+        if let Some(calls) = &effect.calls {
+            self.enter_each(calls)?;
+        }
+        match effect.to {
+            Some(to) => self.join(to, &effect.frame, to <= index),
+            None => Ok(()),
+        }
+    }
+
+    /// Gives a global what is stored to it.
+    fn store(&mut self, given: Option<(u8, V)>) -> Result<(), AllocError> {
+        let Some((variable, set)) = given else {
+            return Ok(());
+        };
+        let global = variable.saturating_sub(16);
+        if self.state.join_global(&self.plan, usize::from(global), set) {
+            self.wake_readers(u16::from(global))?;
+            self.wake_wanderers()?;
+        }
+        Ok(())
+    }
+
+    /// Gives the callers of a routine what it returns.
+    fn give_back(&mut self, routine: u16, set: V) -> Result<(), AllocError> {
+        let may_widen = self.code.is_recursive(routine);
+        if self.state.join_result(&self.plan, routine, set, may_widen) {
+            self.wake_callers(routine)?;
+            self.wake_wanderers()?;
+        }
+        Ok(())
+    }
+
+    /// Enters each routine that is called, up to the first that isn't listed.
+    fn enter_each(&mut self, calls: &Calls<V>) -> Result<(), AllocError> {
+        let mut callee = calls.callees.least_from(1);
+        for _ in 0..MOST_CALLEES {
+            let Some(packed) = callee else {
+                return Ok(());
+            };
+            let Some(number) = self.code.routine_of(packed) else {
+                return Ok(());
+            };
+            self.enter(number, calls)?;
+            callee = next_callee(calls.callees, packed);
+        }
+        Ok(())
+    }
+
+    /// Enters a routine.
+    fn enter(&mut self, number: u16, calls: &Calls<V>) -> Result<(), AllocError> {
+        let Some(entry) = self.code.entry_of(number) else {
+            return Ok(());
+        };
+        self.rank(number);
+        let mut frame = Frame::empty();
+        for index in 0..self.code.local_count(number) {
+            frame.push(match calls.arguments.get(usize::from(index)) {
+                Some(Some(set)) => *set,
+                _ => V::single(self.code.initial(number, index)),
+            });
+        }
+        frame.end_locals();
+        self.join(entry, &frame, self.code.is_recursive(number))
+    }
+
+    /// Gives a routine its rank, if it has none.
+    fn rank(&mut self, number: u16) {
+        if let Some(rank) = self.ranks.get_mut(usize::from(number)) {
+            if *rank == 0 {
+                self.found = self.found.saturating_add(1);
+                *rank = self.found;
+            }
+        }
+    }
+
+    /// Whether a routine was entered, by its number.
+    pub(crate) fn is_entered(&self, number: u16) -> bool {
+        self.ranks.get(usize::from(number)).copied().unwrap_or(0) > 0
+    }
+
+    /// Says what is known on a way to a place, which is visited where that is news.
+    fn join(&mut self, to: usize, frame: &Frame<V>, may_widen: bool) -> Result<(), AllocError> {
+        if self.state.join_place(&self.plan, to, frame, may_widen)? {
+            self.wake(to)?;
+        }
+        Ok(())
+    }
+
+    /// Whether an instruction is to be visited.
+    pub(crate) fn is_waiting(&self, index: usize) -> bool {
+        self.queue.has(index)
+    }
+
+    /// Has a place visited, if it was reached.
+    fn wake(&mut self, index: usize) -> Result<(), AllocError> {
+        if self.state.is_reached(index) {
+            self.queue.push(index, self.rank_of(index))?;
+        }
+        Ok(())
+    }
+
+    /// The rank of an instruction.
+    fn rank_of(&self, index: usize) -> u32 {
+        match &self.visits {
+            Some(visits) => u32::MAX - visits.get(index).copied().unwrap_or(0),
+            None => self.routine_rank(index),
+        }
+    }
+
+    /// That of its routine.
+    fn routine_rank(&self, index: usize) -> u32 {
+        match self.code.records().get(index) {
+            Some(record) => self.ranks.get(usize::from(record.routine)).copied().unwrap_or(0),
+            None => 0,
+        }
+    }
+
+    /// Has all visited that reads a global.
+    fn wake_readers(&mut self, global: u16) -> Result<(), AllocError> {
+        let code = self.code;
+        self.wake_group(code.readers(), global)
+    }
+
+    /// Has all visited that calls a routine.
+    fn wake_callers(&mut self, number: u16) -> Result<(), AllocError> {
+        let code = self.code;
+        self.wake_group(code.callers(), number)
+    }
+
+    /// Has all visited that depends on a thing of a number.
+    fn wake_group(&mut self, groups: &Groups, number: u16) -> Result<(), AllocError> {
+        for pair in groups.from(number) {
+            let Some(index) = index_in(*pair, number) else {
+                return Ok(());
+            };
+            self.wake(index)?;
+        }
+        Ok(())
+    }
+
+    /// Has all visited that names by a variable what it calls or reads.
+    fn wake_wanderers(&mut self) -> Result<(), AllocError> {
+        let code = self.code;
+        for index in code.wanderers() {
+            self.wake(*index as usize)?;
+        }
+        Ok(())
+    }
+
+    /// Notes what looked where bytes were opened now.
+    fn note_loaders(&mut self) -> Result<(), AllocError> {
+        let Some(fresh) = self.bytes.take_fresh() else {
+            return Ok(());
+        };
+        let code = self.code;
+        for index in code.loaders() {
+            if self.looked_at(*index as usize, fresh) {
+                self.outdated.push(*index as usize)?;
+            }
+        }
+        Ok(())
+    }
+
+    /// Has all visited that looked where bytes were opened since the tables were made.
+    fn wake_outdated(&mut self) -> Result<(), AllocError> {
+        for at in 0..self.outdated.len() {
+            let index = self.outdated.get(at).copied().unwrap_or(0);
+            self.wake(index)?;
+        }
+        self.outdated.clear();
+        Ok(())
+    }
+
+    /// Whether an instruction looked there.
+    fn looked_at(&self, index: usize, span: Span) -> bool {
+        match self.reaches.get(index) {
+            Some(Some(reach)) => reach.meets(span),
+            _ => false,
+        }
+    }
+}
+
+/// The words that an instruction compares with what else it compares, where they are known of variables.
+fn learned_at<V: Domain>(visit: Visit<'_, V>) -> [Option<u16>; 2] {
+    let instruction = &visit.record.instruction;
+    let inputs = instruction.inputs();
+    let [first, second, ..] = inputs.as_slice() else {
+        return [None, None];
+    };
+    match operation_of(instruction) {
+        Some(Operation::Compare(_)) => [
+            first_word(visit, *first),
+            second_word(visit, *second),
+        ],
+        Some(Operation::Count(_, Some(_))) => [None, second_word(visit, *second)],
+        _ => [None, None],
+    }
+}
+
+/// The word that a first operand has, if it is a variable of which one is known.
+fn first_word<V: Domain>(visit: Visit<'_, V>, operand: Operand) -> Option<u16> {
+    match operand {
+        Operand::Constant(_) => None,
+        Operand::Variable(_) => first_known(
+            visit.state.globals(),
+            visit.frame.locals(),
+            visit.frame.slots(),
+            &visit.record.instruction,
+        ),
+    }
+}
+
+/// The word that a second one has.
+fn second_word<V: Domain>(visit: Visit<'_, V>, operand: Operand) -> Option<u16> {
+    match operand {
+        Operand::Constant(_) => None,
+        Operand::Variable(_) => visit.argument(0)?.known(),
+    }
+}
