@@ -1,12 +1,12 @@
 -- What keeps a certificate from being found.
 use Rattle.std.proofs.Common.{◌≡◌, ◌≢◌, ◌⊎◌, inl, inr, ℕ, List, refl, sym, subst}
-use Rattle.std.specs.Prelude.{Option, Some, IfErr, IfOk, Result, Ok, Err}
+use Rattle.std.specs.Prelude.{Option, Some, IfErr, Result, Ok, Err}
 use Rattle.std.specs.Io.KnownBytes.{Appends}
 use Rattle.zfault.specs.Devices.{AppendsBeginning}
 use Rattle.zstory.specs.LoadedStory.{LoadedStory}
 use Rattle.zexplain.specs.Texts.{explanation_of}
 use Rattle.zperform.specs.Accepting.{HoldsStory, IsNoStory}
-use Rattle.zperform.specs.Finding.{ExplainComesTo, FindEnds, HasAlone, IsCertificateOf, IsFound, IsNotFound, IsUnfound, found_line}
+use Rattle.zperform.specs.Finding.{ExplainComesTo, FindEnds, HasAlone, IsFound, IsNotFound, IsUnfound, found_line}
 use Rattle.zperform.specs.declared.outcome.Failure.TheVariants.{File, Read, Write, Memory}
 use Rattle.zperform.specs.declared.outcome.Problem.{Problem}
 use Rattle.zperform.specs.declared.outcome.Problem.TheVariants.{Refused, Unreadable, BreaksStory, BreaksInstruction, Unlisted, Unfound, Failed}

@@ -1,5 +1,5 @@
 -- What comes of playing by a certificate.
-use Rattle.std.proofs.Common.{◌≡◌, ◌≢◌, ◌⊎◌, inl, inr, ◌∙◌, ℕ, List, [], refl, sym, ap, subst, true≢false}
+use Rattle.std.proofs.Common.{◌≡◌, ◌≢◌, ◌⊎◌, inl, inr, ◌∙◌, ℕ, List, refl, sym, ap, subst, true≢false}
 use Rattle.std.specs.Prelude.{ℤ, Option, Result, Ok, Err, IfOk, IsErr, IsErrAnd}
 use Rattle.std.specs.Io.KnownBytes.{Appends}
 use Rattle.zfault.specs.declared.fault.Fault.{Fault}
