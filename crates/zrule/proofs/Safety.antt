@@ -273,19 +273,19 @@ module _ {V : Type 0} (o : SetOperations V) (lawful : AreSound o) (claims : Clai
   unfolding Expected LeadsIn AssignedIn changed
   shows_expected line comes = inr (goes_on, comes, record { gives = tt; assigns = tt; tests = refl; leads = refl; kept = (tt, tt); memory = tt; needs = refl; goes = refl; acts = refl; stays = refl })
 
-  compared_two : (q : Question) (c : Bool) (p : V × V) → (length operands == 2) ≡ true → o.narrow q c (args 0) (args 1) ≡ Some p → ComesOf (Some (Compare q)) (asks c (both_kept operands p))
+  compared_two : (q : Question) (c : Bool) (p : V × V) → (length operands == 2) ≡ true → o.narrow q c (args 0) (args 1) ≡ Some p → ComesOf (Compare q) (asks c (both_kept operands p))
   unfolding outcome_of
   compared_two q c p two narrows = (c, rw (two, narrows) refl)
 
-  counted_asked : (op : CountOp) (q : Question) (c : Bool) (v : ℕ) (p : V × V) → small (o.known (args 0)) ≡ Some v → o.narrow q c (counted_set o claims.globals op v mid) (args 1) ≡ Some p → ComesOf (Some (Count op (Some q))) (counts_in v (counted_set o claims.globals op v mid) c (record untold { first = local_kept v p.0 }))
+  counted_asked : (op : CountOp) (q : Question) (c : Bool) (v : ℕ) (p : V × V) → small (o.known (args 0)) ≡ Some v → o.narrow q c (counted_set o claims.globals op v mid) (args 1) ≡ Some p → ComesOf (Count op (Some q)) (counts_in v (counted_set o claims.globals op v mid) c (record untold { first = local_kept v p.0 }))
   unfolding outcome_of
   counted_asked op q c v p known narrows = (c, rw (known, narrows) refl)
 
-  compares : (q : Question) → Expected (Some (Compare q)) (Ok (testing (asked_of q all.values)))
+  compares : (q : Question) → Expected (Compare q) (Ok (testing (asked_of q all.values)))
   unfolding outcome_of
   compares q = by_count (length operands == 2) refl
     where
-      by_count : (b : Bool) → (length operands == 2) ≡ b → Expected (Some (Compare q)) (Ok (testing (asked_of q all.values)))
+      by_count : (b : Bool) → (length operands == 2) ≡ b → Expected (Compare q) (Ok (testing (asked_of q all.values)))
       by_count false many = asks_expected (Compare q) (asked_of q all.values) untold (asked_of q all.values, rw many refl) (tt, tt)
       by_count true two =
           let c = asked_of q all.values in
@@ -296,7 +296,7 @@ module _ {V : Type 0} (o : SetOperations V) (lawful : AreSound o) (claims : Clai
   counted_in : (op : CountOp) (p : InPlace) → In o (counted_set o claims.globals op p.v mid) (counted op p.old)
   counted_in op p = lawful.binary (counts_by op) _ _ _ _ p.member (lawful.single 1 (omega arith))
 
-  counts : (op : CountOp) (question : Option Question) → (p : InPlace) → Expected (Some (Count op question)) (effect_of m (Count op question) all.values t)
+  counts : (op : CountOp) (question : Option Question) → (p : InPlace) → Expected (Count op question) (effect_of m (Count op question) all.values t)
   unfolding Expected LeadsIn AssignedIn effect_of outcome_of changed
   counts op None p =
       let r = p.reads in let known = p.variable in
@@ -379,15 +379,15 @@ module _ {V : Type 0} (o : SetOperations V) (lawful : AreSound o) (claims : Clai
   unfolding Expected LeadsIn AssignedIn changed
   follows_expected k c a x comes member is = inr (follows_in c a, comes, record { gives = member; assigns = tt; tests = ap (λ (b : Bool). Some b) is; leads = refl; kept = (tt, tt); memory = tt; needs = refl; goes = refl; acts = refl; stays = refl })
 
-  to_object : (link : Link) → (m.story.objects == 0) ≡ false → ComesOf (Some (Follow link)) (follows_in true (o.between 1 m.story.objects))
+  to_object : (link : Link) → (m.story.objects == 0) ≡ false → ComesOf (Follow link) (follows_in true (o.between 1 m.story.objects))
   unfolding outcome_of
   to_object link some = (true, rw some refl)
 
-  follows : (link : Link) (x : ℕ) → x ≤ m.story.objects → m.story.objects ≤ 255 → Expected (Some (Follow link)) (Ok (following x))
+  follows : (link : Link) (x : ℕ) → x ≤ m.story.objects → m.story.objects ≤ 255 → Expected (Follow link) (Ok (following x))
   unfolding outcome_of
   follows link x most few = by (x == 0) refl
     where
-      by : (b : Bool) → (x == 0) ≡ b → Expected (Some (Follow link)) (Ok (following x))
+      by : (b : Bool) → (x == 0) ≡ b → Expected (Follow link) (Ok (following x))
       by true e = let none = eqb-true x 0 e in follows_expected (Follow link) false (o.single 0) x (false, refl) (subst (In o (o.single 0)) (sym none) (lawful.single 0 (omega arith))) (ap not e)
       by false e = let first = not_below_one x e in follows_expected (Follow link) true (o.between 1 m.story.objects) x (to_object link (not_none m.story.objects x first most)) (between_small o lawful 1 m.story.objects x first most (omega (arith, few))) (ap not e)
 
@@ -406,10 +406,10 @@ module _ {V : Type 0} (o : SetOperations V) (lawful : AreSound o) (claims : Clai
       rw (known, few) (rewrites k _ comes (marked_described o claims m.story supports.tables supports.few s.memory d.memory d.is_state.objects d.is_state.tables sets (arg all.values 0) (arg all.values 1) object.0 object.1 low))
 
   -- an answer about a property lies in the set of the answers
-  answers_expected : (question : PropertyQuestion) (x : ℕ) → answer_of question s.memory (arg all.values 0) (arg all.values 1) ≡ Ok x → (1 ≤ arg all.values 0) × (arg all.values 0 ≤ m.story.objects) → Expected (Some (Property question)) (answering (answer_of question s.memory (arg all.values 0) (arg all.values 1)))
+  answers_expected : (question : PropertyQuestion) (x : ℕ) → answer_of question s.memory (arg all.values 0) (arg all.values 1) ≡ Ok x → (1 ≤ arg all.values 0) × (arg all.values 0 ≤ m.story.objects) → Expected (Property question) (answering (answer_of question s.memory (arg all.values 0) (arg all.values 1)))
   unfolding outcome_of
   answers_expected question x is object =
-      subst (λ (r : Result ℕ ObjectError). Expected (Some (Property question)) (answering r)) (sym is)
+      subst (λ (r : Result ℕ ObjectError). Expected (Property question) (answering r)) (sym is)
       (gives_expected (Property question) _ x (true, refl) (answer_lies o lawful claims m.story loaded supports s.memory d.memory (arg all.values 0) object.0 object.1 d.is_state.bytes question (args 0) (args 1) (arg all.values 1) x (all.members 0) (all.members 1) is))
 
   measures_expected : IsTrue (is_some (length_before m.story.memory (arg all.values 0))) → Expected PropertyLength (reading (length_before s.memory (arg all.values 0)))
@@ -430,14 +430,14 @@ module _ {V : Type 0} (o : SetOperations V) (lawful : AreSound o) (claims : Clai
       rw (is, writable) (rewrites SetProperty f.after (true, refl) (filled_described o claims m.story supports.tables supports.few s.memory d.memory d.is_state.objects d.is_state.tables supports.properties f.property f.there unfrozen f.after f.differs place))
 
   -- an element is read, or given a word
-  loads_expected : (width : Width) → AreReadable o m.story width (args 0) (args 1) → Expected (Some (LoadArray width)) (reading (element_at width s.memory (element_place width (arg all.values 0) (arg all.values 1))))
+  loads_expected : (width : Width) → AreReadable o m.story width (args 0) (args 1) → Expected (LoadArray width) (reading (element_at width s.memory (element_place width (arg all.values 0) (arg all.values 1))))
   unfolding outcome_of
   loads_expected width readable =
       let x = element_there o lawful claims m.story s.memory d.memory width (args 0) (args 1) (arg all.values 0) (arg all.values 1) (all.members 0) (all.members 1) readable in
-      subst (λ (r : Option ℕ). Expected (Some (LoadArray width)) (reading r)) (sym x.1)
+      subst (λ (r : Option ℕ). Expected (LoadArray width) (reading r)) (sym x.1)
       (gives_expected (LoadArray width) _ x.0 (true, refl) (element_lies o lawful claims m.story s.memory d.memory width (args 0) (args 1) (arg all.values 0) (arg all.values 1) (all.members 0) (all.members 1) d.is_state.bytes x.0 x.1))
 
-  stores_expected : (width : Width) → AreOpen o m.story (frozen_in claims) width (args 0) (args 1) → Expected (Some (StoreArray width)) (storing m.story width (element_place width (arg all.values 0) (arg all.values 1)) (arg all.values 2) s.memory)
+  stores_expected : (width : Width) → AreOpen o m.story (frozen_in claims) width (args 0) (args 1) → Expected (StoreArray width) (storing m.story width (element_place width (arg all.values 0) (arg all.values 1)) (arg all.values 2) s.memory)
   unfolding outcome_of
   stores_expected width free =
       let p = element_place width (arg all.values 0) (arg all.values 1) in
