@@ -16,12 +16,14 @@ STORIES = os.path.join(os.path.dirname(os.path.abspath(__file__)), "..", "author
 # each form, the rule that no certificate of the story before keeps, and what is typed
 FORMS = [
     ("buffers", "I14", b"look at it\n"),
+    ("read", "I14", b"look at it\n"),
     ("walk", "I5", b""),
     ("index", "I10", b""),
     ("divisor", "I8", b""),
     ("relation", "I9", b""),
     ("word", "I11", b"green\n"),
     ("property", "I5", b""),
+    ("count", "I7", b""),
     ("nothing", "I5", b""),
     ("list", "I7", b""),
     ("variable", "I15", b""),

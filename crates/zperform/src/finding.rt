@@ -74,12 +74,12 @@ fn unfound(alloc: Global, story: &Story, error: FindError) -> Problem
     requires { IsFailure story.now error }
     ensures { IsUnfound story.now result }
 {
-    if error == FindError::OutOfMemory {
-        return Problem::Failed(Failure::Memory);
-    }
-    match broken_in_all(alloc, story) {
-        Ok(broken) => Problem::Unfound(error, broken),
-        Err(_) => Problem::Failed(Failure::Memory),
+    match error {
+        FindError::OutOfMemory => Problem::Failed(Failure::Memory),
+        FindError::NotFound(_) | FindError::RoundLimit => match broken_in_all(alloc, story) {
+            Ok(broken) => Problem::Unfound(error, broken),
+            Err(_) => Problem::Failed(Failure::Memory),
+        },
     }
 }
 

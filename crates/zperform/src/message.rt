@@ -112,9 +112,13 @@ impl Message {
         ensures most { length self.new ≤ 28 }
     {
         self.push_code(b"refused: G", error.number());
-        if let FindError::NotFound(Obstacle::Place(place, _)) = error {
-            self.push(b" at ");
-            self.push_place(place);
+        match error {
+            FindError::NotFound(Obstacle::Place(place, _)) => {
+                self.push(b" at ");
+                self.push_place(place);
+            }
+            FindError::NotFound(Obstacle::Story(_)) => {}
+            FindError::RoundLimit | FindError::OutOfMemory => {}
         }
     }
 
