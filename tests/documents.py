@@ -89,6 +89,57 @@ def wrong_names():
                 yield f"{path} names {name}, which isn't there"
 
 
+def explained():
+    """The codes that zexplain explains, each with its text, in the order of the sources."""
+    for path in files(r"^crates/zexplain/src/\w+\.rt$"):
+        for code, text in re.findall(r'\(\s*"([A-Z]\d+)",\s*"((?:[^"\\]|\\.)*)",?\s*\)', text_of(path)):
+            yield code, text.replace('\\"', '"')
+
+
+def families(codes):
+    """The codes as `L1 to L12`, for each letter."""
+    numbers = {}
+    for code in codes:
+        numbers.setdefault(code[0], []).append(int(code[1:]))
+    for letter, its in numbers.items():
+        if sorted(its) == list(range(1, len(its) + 1)):
+            yield f"{letter}1 to {letter}{len(its)}"
+
+
+def wrong_codes():
+    """Each code that the documents name is explained, and each that is explained is in a document."""
+    texts = list(explained())
+    codes = {code for code, _ in texts}
+    if len(codes) != len(texts):
+        yield "zexplain: a code is explained twice"
+    for code, text in texts:
+        if not re.fullmatch(rf"{code}: [^\n]+\.\nRule: (?s:.+)\nDo: (?s:.+)\n", text):
+            yield f"zexplain: the text of {code} isn't its meaning, its rule and what can be done"
+    letters = "".join(sorted({code[0] for code in codes}))
+    named = {}
+    for path in [*files(r"^docs/\w+\.md$"), "README.md"]:
+        if path != "docs/HUNT.md":
+            for code in re.findall(rf"\b[{letters}][1-9]\d?\b", text_of(path)):
+                named.setdefault(code, path)
+    for code in sorted(codes ^ set(named)):
+        yield f"{named[code]} names {code}, which isn't explained" if code in named else f"{code} is explained, and in no document"
+    said = text_of("crates/zperform/src/message.rt")
+    for family in families(code for code, _ in texts):
+        if family not in said:
+            yield f"zperform: {family} aren't said where there is no such code"
+
+
+def wrong_authors():
+    """docs/AUTHORS.md names the stories of tests/authors, with the rules that tests/program/authors.py has."""
+    told = set(re.findall(r"(?m)^\| [^|]+ \| (\w+) \| (I\d+) \|$", text_of("docs/AUTHORS.md")))
+    tried = set(re.findall(r'(?m)^    \("(\w+)", "(I\d+)", b"', text_of("tests/program/authors.py")))
+    for name, rule in sorted(told ^ tried):
+        yield f"AUTHORS: {name} with {rule} is {'told and not tried' if (name, rule) in told else 'tried and not told'}"
+    stories = {re.sub(r"_(before|after)\.(inf|z3)$", "", os.path.basename(path)) for path in files(r"^tests/authors/")}
+    for name in sorted(stories ^ {name for name, _ in tried}):
+        yield f"AUTHORS: {name} is a story or a form, and not both"
+
+
 def wrong_shape():
     if len(text_of("README.md").split("\n")) > 250:
         yield "README.md has over 250 lines"
@@ -101,7 +152,7 @@ def wrong_shape():
 
 def main():
     passed = failed = 0
-    for check in (wrong_bugs, wrong_clauses, wrong_crates, wrong_names, wrong_shape):
+    for check in (wrong_bugs, wrong_clauses, wrong_crates, wrong_names, wrong_codes, wrong_authors, wrong_shape):
         found = list(check())
         for line in found:
             print(f"documents: {line}")

@@ -83,6 +83,17 @@ def see_saves(devices, count, words):
         count.is_answer(f"{' '.join(play)} with call {number} failing, {call}, calls {made[number - 1:]}", answer, wanted)
 
 
+def see_found(devices, count, story):
+    """Has each call fail of a search whose certificate is kept in a file."""
+    words, files = ["find", "story", "kept"], {"story": story}
+    ample, calls = devices.run(words, files, {})
+    count.is_answer(" ".join(words), ample, Answer(0, b"found\n", b""))
+    for number, call in enumerate(calls, 1):
+        answer, made = devices.run(words, files, {"FAIL": number, "ERROR": errno.EIO})
+        wanted = b"failed: write\n" if call[:2] == ("write", "1") else b"failed: file\n"
+        count.is_answer(f"{' '.join(words)} with call {number} failing, {call}, calls {made[number - 1:]}", answer, Answer(4, b"", wanted))
+
+
 def main():
     program = Program(sys.argv[1])
     count = Count("devices")
@@ -94,8 +105,9 @@ def main():
         for settings in ({}, {"SHORT": 1000}):
             for words in (["list", "story"], ["play", "story"], ["play", "story", "certificate"], ["check", "story", "certificate"], ["play", "absent"]):
                 see_each(devices, count, words, files, settings)
-            for words in (["--help"], ["--version"], ["play"], ["list"], ["check", "story", "story"]):
+            for words in (["--help"], ["--version"], ["play"], ["list"], ["explain", "I5"], ["explain", "I19"], ["check", "story", "story"]):
                 see_each(devices, count, words, files, settings)
+        see_found(devices, count, made)
         see_saves(devices, count, ["story"])
         see_saves(devices, count, ["story", "certificate"])
         # a byte a call: the text is whole, and each beginning of it is met

@@ -11,6 +11,7 @@ import sys
 
 from arrays import see_arrays
 from calls import see_calls
+from finding import see_finding
 from lines import see_lines
 from objects import see_objects
 from plays import see_plays
@@ -95,18 +96,29 @@ WORDS = [
     ("help, as a command", ["help"], done(help_text("zpc.txt"))),
     ("help of list", ["list", "--help"], done(help_text("list.txt"))),
     ("help of list, as a command", ["help", "list"], done(help_text("list.txt"))),
+    ("help of find", ["find", "--help"], done(help_text("find.txt"))),
+    ("help of find, as a command", ["help", "find"], done(help_text("find.txt"))),
     ("help of check", ["check", "--help"], done(help_text("check.txt"))),
     ("help of check, as a command", ["help", "check"], done(help_text("check.txt"))),
     ("help of play", ["play", "--help"], done(help_text("play.txt"))),
     ("help of play, as a command", ["help", "play"], done(help_text("play.txt"))),
+    ("help of explain", ["explain", "--help"], done(help_text("explain.txt"))),
+    ("help of explain, as a command", ["help", "explain"], done(help_text("explain.txt"))),
     ("version", ["--version"], done(b"zpc 0.1.0\n")),
     ("version, short", ["-V"], done(b"zpc 0.1.0\n")),
     ("no words", [], Answer(2, b"", help_text("no_words.txt"))),
     ("an unknown command", ["sing", "story"], Answer(2, b"", help_text("unknown_command.txt"))),
     ("no story", ["play"], Answer(2, b"", help_text("no_story.txt"))),
     ("no story to list", ["list"], Answer(2, b"", help_text("no_story_to_list.txt"))),
+    ("no certificate to find", ["find", "story"], Answer(2, b"", help_text("no_certificate.txt").replace(b"check", b"find"))),
+    ("no code", ["explain"], Answer(2, b"", help_text("no_code.txt"))),
+    ("a code that there isn't", ["explain", "I19"], Answer(2, b"", help_text("unknown_code.txt"))),
+    ("a code in small letters", ["explain", "i5"], Answer(2, b"", help_text("unknown_code.txt"))),
+    ("an empty code", ["explain", ""], Answer(2, b"", help_text("unknown_code.txt"))),
     ("no certificate", ["check", "story"], Answer(2, b"", help_text("no_certificate.txt"))),
     ("too many words to list", ["list", "a", "b"], Answer(2, b"", help_text("too_many_to_list.txt"))),
+    ("too many words to find", ["find", "a", "b", "c"], Answer(2, b"", help_text("too_many_to_check.txt").replace(b"check", b"find"))),
+    ("too many words to explain", ["explain", "a", "b"], Answer(2, b"", help_text("too_many_to_explain.txt"))),
     ("too many words to check", ["check", "a", "b", "c"], Answer(2, b"", help_text("too_many_to_check.txt"))),
     ("too many words to play", ["play", "a", "b", "c"], Answer(2, b"", help_text("too_many_to_play.txt"))),
     ("a budget that is no number", ["play", "--budget", "x", "story"], Answer(2, b"", help_text("no_number.txt"))),
@@ -119,6 +131,7 @@ WORDS = [
     ("a budget to list", ["list", "--budget", "3", "story"], Answer(2, b"", help_text("budget_to_list.txt"))),
     ("two flags", ["play", "--status", "story", "--status"], Answer(2, b"", help_text("two_flags.txt"))),
     ("a flag with a value", ["play", "--status=true", "story"], Answer(2, b"", help_text("flag_with_a_value.txt"))),
+    ("a budget to find", ["find", "--budget", "3", "story", "certificate"], Answer(2, b"", help_text("budget_to_check.txt").replace(b"check", b"find"))),
     ("a flag to check", ["check", "--status", "story", "certificate"], Answer(2, b"", help_text("status_to_check.txt"))),
     ("an unknown option", ["play", "--bugdet", "3", "story"], Answer(2, b"", help_text("unknown_option.txt"))),
     ("a word that isn't UTF-8", [b"a\xff"], Answer(2, b"", help_text("no_text.txt"))),
@@ -362,6 +375,7 @@ def main():
     see_arrays(program, count)
     see_texts(program, count)
     see_lines(program, count)
+    see_finding(program, count)
     see_streams(program, count)
     count.end()
 

@@ -83,6 +83,12 @@ refuse_each play absent.z3
 refuse_each list hello.z3
 refuse_each list absent.z3
 refuse_each list hello.cert
+refuse_each find hello.z3 "$work/found.cert"
+refuse_each find hello.cert "$work/found.cert"
+refuse_each find absent.z3 "$work/found.cert"
+refuse_each find "$work/story" "$work/found.cert"
+refuse_each explain I5
+refuse_each explain I19
 refuse_each check hello.z3 hello.cert
 refuse_each check hello.z3 hello.z3
 refuse_each check hello.z3 absent.cert

@@ -1,6 +1,6 @@
 -- Which subcommand clap enters where it makes matches.
 use Rattle.std.proofs.Common.{◌≡◌, ◌∙◌, ◌&&◌, ◌||◌, Bool, true, false, true≢false, not, refl, sym, ap, ap₂, subst, ℕ, ◌⊎◌, inl, inr, List, [], ◌∷◌, ◌++◌, Option, Some, None, if◌then◌else◌}
-use Rattle.std.specs.Prelude.{IsErr, IsErrAnd, IsSomeAnd, Result, Ok, Err, codes, fold, is_some, option_map, unwrap_or}
+use Rattle.std.specs.Prelude.{IsErr, IsErrAnd, IsSomeAnd, Result, Ok, Err, codes, fold, find, is_some, option_map, take, unwrap_or}
 use Rattle.std.specs.List.{list_any}
 use Rattle.std.specs.Str.{bytes_eq}
 use Rattle.clap.specs.Facts.{explicit_source}
@@ -17,7 +17,7 @@ use Rattle.clap.specs.Words.{HasMatchesOf, Row, app_of, is_simple, subcommand_na
 use Rattle.clap.specs.declared.builder.command.Command.{Command}
 use Rattle.clap.specs.declared.parser.matches.ArgMatches.{ArgMatches}
 use Rattle.zcommand.proofs.Matched.{name_first}
-use Rattle.zcommand.specs.CommandLine.{zpc_app}
+use Rattle.zcommand.specs.CommandLine.{IsCommand, zpc_app}
 
 -- where one of two lists of faults would come first, neither holds
 neither : (first second : Kinds) → or_else first second ≡ [] → (first ≡ []) × (second ≡ [])
@@ -117,15 +117,33 @@ module _ (s : Shape) (names : Names) (helps : s.disable_help_subcommand ≡ fals
           let same = stays rest (walked s.rules names w word) q.0 q.1 p e stopped in
           subst (λ (x : Text). bytes_eq x (codes "help") ≡ false) (sym same) (turn_named w word q going turn e)
 
--- a name is one of three
-abbrev pub IsOneOf : Text → Text → Text → Text → Type 0
-IsOneOf name first second third = (name ≡ first) ⊎ ((name ≡ second) ⊎ (name ≡ third))
+-- a name is that of one of these
+abbrev pub IsNameIn : Text → List Shape → Type 0
+IsNameIn name [] = ⊥
+IsNameIn name (s ∷ shapes) = (name ≡ s.name) ⊎ IsNameIn name shapes
 
--- of four subcommands, of which the last is `help`, one of the first three is entered
-one_entered : (a : App) (first second third last : Shape) → a.subs ≡ first ∷ second ∷ third ∷ last ∷ [] → last.name ≡ codes "help" → last.aliases ≡ []
-    → (p : Text × List Text) → bytes_eq p.0 (codes "help") ≡ false → (found : Text × List Row) → entered a (Some p) ≡ Some found → IsOneOf found.0 first.name second.name third.name
-one_entered a first second third last subs help alone p other found e =
-    go (answers_to p.0 (label_of first)) (answers_to p.0 (label_of second)) (answers_to p.0 (label_of third)) (answers_to p.0 (label_of last)) refl (rw subs at e)
+-- what is found among these and one more, if not that one, has the name of one of these
+found_among : (answers : Shape → Bool) (words : List Text) (others : List Shape) (last : Shape) → (answers last ≡ true → ⊥)
+    → (found : Text × List Row) → option_map (λ s. rows_at s words) (find answers (others ++ last ∷ [])) ≡ Some found → IsNameIn found.0 others
+found_among answers words [] last not_last found e = go (answers last) refl e
+  where
+    go : (b : Bool) → answers last ≡ b → option_map (λ s. rows_at s words) (if b then Some last else None) ≡ Some found → ⊥
+    go true is e = not_last is
+    go false is e = absurd cc
+found_among answers words (s ∷ others) last not_last found e = go (answers s) (found_among answers words others last not_last found) e
+  where
+    name_of : Option (Text × List Row) → Text
+    name_of o = unwrap_or (option_map (λ q. q.0) o) []
+
+    go : (b : Bool) → (option_map (λ s. rows_at s words) (find answers (others ++ last ∷ [])) ≡ Some found → IsNameIn found.0 others)
+        → option_map (λ s. rows_at s words) (if b then Some s else find answers (others ++ last ∷ [])) ≡ Some found → (found.0 ≡ s.name) ⊎ IsNameIn found.0 others
+    go true among e = inl (sym (ap name_of e))
+    go false among e = inr (among e)
+
+-- of subcommands, of which the last is `help`, one of the others is entered
+one_entered : (a : App) (others : List Shape) (last : Shape) → a.subs ≡ others ++ last ∷ [] → last.name ≡ codes "help" → last.aliases ≡ []
+    → (p : Text × List Text) → bytes_eq p.0 (codes "help") ≡ false → (found : Text × List Row) → entered a (Some p) ≡ Some found → IsNameIn found.0 others
+one_entered a others last subs help alone p other found e = found_among (λ s. answers_to p.0 (label_of s)) p.1 others last not_last found (rw subs at e)
   where
     contradicts : (b : Bool) → b || false ≡ true → bytes_eq (codes "help") p.0 ≡ b → ⊥
     contradicts false e is = cc
@@ -138,18 +156,6 @@ one_entered a first second third last subs help alone p other found e =
     not_last h =
         let is : bytes_eq (codes "help") p.0 || false ≡ true = subst (λ (x : Text × List Text). answers_to p.0 x ≡ true) (ap₂ (λ (n : Text) (xs : List Text). (n, xs)) help alone) h in
         contradicts (bytes_eq (codes "help") p.0) is refl
-
-    name_of : Option (Text × List Row) → Text
-    name_of o = unwrap_or (option_map (λ q. q.0) o) []
-
-    go : (b c d l : Bool) → answers_to p.0 (label_of last) ≡ l
-        → option_map (λ s. rows_at s p.1) (if b then Some first else (if c then Some second else (if d then Some third else (if l then Some last else None)))) ≡ Some found
-        → IsOneOf found.0 first.name second.name third.name
-    go true c d l is e = inl (sym (ap name_of e))
-    go false true d l is e = inr (inl (sym (ap name_of e)))
-    go false false true l is e = inr (inr (sym (ap name_of e)))
-    go false false false true is e = absurd (not_last is)
-    go false false false false is e = cc
 
 -- of five lists of faults in turn, the first and the last
 ends_of : (first second third fourth last : Kinds) → or_else first (or_else second (or_else third (or_else fourth last))) ≡ [] → (first ≡ []) × (last ≡ [])
@@ -169,27 +175,27 @@ required_there s rows false required none =
     go true wants_argument e = cc
     go false wants_argument e = cc
 
--- a subcommand of one of three names is entered
-abbrev pub EntersOne : Option (Text × List Row) → Text → Text → Text → Type 0
-EntersOne entered first second third = (found : Text × List Row) × (entered ≡ Some found) × IsOneOf found.0 first second third
+-- a subcommand with one of these names is entered
+abbrev pub EntersOne : Option (Text × List Row) → List Shape → Type 0
+EntersOne entered shapes = (found : Text × List Row) × (entered ≡ Some found) × IsNameIn found.0 shapes
 
--- where nothing fails, it is one of the first three of four subcommands, if the last is `help` and one has to be there
-module _ (a : App) (first second third last : Shape) (subs : a.subs ≡ first ∷ second ∷ third ∷ last ∷ []) (help : last.name ≡ codes "help") (alone : last.aliases ≡ [])
+-- where nothing fails, it is one of the subcommands before the last, if the last is `help` and one has to be there
+module _ (a : App) (others : List Shape) (last : Shape) (subs : a.subs ≡ others ++ last ∷ []) (help : last.name ≡ codes "help") (alone : last.aliases ≡ [])
     (helps : a.top.disable_help_subcommand ≡ false) (required : a.top.subcommand_required ≡ true) (words : List Text) where
   one_found : (stop : Option (Text × List Text)) → (walk a.top.rules (names_of a) nothing_held words).stopped ≡ stop → walk_fault a.top (names_of a) (walk_from nothing_held) words ≡ []
-      → is_some (entered a stop) ≡ true → EntersOne (entered a stop) first.name second.name third.name
+      → is_some (entered a stop) ≡ true → EntersOne (entered a stop) others
   one_found None at none there = cc
   one_found (Some p) at none there = go (entered a (Some p)) refl there
     where
       other : bytes_eq p.0 (codes "help") ≡ false
       other = walk_named a.top (names_of a) helps words (walk_from nothing_held) p refl none at
 
-      go : (o : Option (Text × List Row)) → entered a (Some p) ≡ o → is_some o ≡ true → EntersOne (entered a (Some p)) first.name second.name third.name
+      go : (o : Option (Text × List Row)) → entered a (Some p) ≡ o → is_some o ≡ true → EntersOne (entered a (Some p)) others
       go None e there = cc
-      go (Some found) e there = (found, e, one_entered a first second third last subs help alone p other found e)
+      go (Some found) e there = (found, e, one_entered a others last subs help alone p other found e)
 
-  one_of_four : built_fault a nothing_held words ≡ [] → EntersOne (entered a (walk a.top.rules (names_of a) nothing_held words).stopped) first.name second.name third.name
-  one_of_four none =
+  one_of_others : built_fault a nothing_held words ≡ [] → EntersOne (entered a (walk a.top.rules (names_of a) nothing_held words).stopped) others
+  one_of_others none =
       let end = walk a.top.rules (names_of a) nothing_held words in
       let there = is_some (entered a end.stopped) in
       let settled_rows = (settled a.top.rules end.held).rows in
@@ -198,35 +204,41 @@ module _ (a : App) (first second third last : Shape) (subs : a.subs ≡ first �
       (check_fault a.top (finished a.top.rules end.held) there) none in
       one_found end.stopped refl ends.0 (required_there a.top (finished a.top.rules end.held) there required ends.1)
 
--- where clap makes matches, they are those of `list`, of `check` or of `play`
-pub command_entered : (words : List Text) → fault_of zpc_app words ≡ [] → EntersOne (subcommand_of zpc_app words) (codes "list") (codes "check") (codes "play")
-command_entered words none = one_of_four (built zpc_app) _ _ _ _ refl refl refl refl refl words none
+-- the subcommands of the program before `help`, as they are built
+abbrev its_shapes : List Shape
+its_shapes = take 5 (built zpc_app).subs
+
+-- where clap makes matches, they are those of one of the commands
+command_entered : (words : List Text) → fault_of zpc_app words ≡ [] → EntersOne (subcommand_of zpc_app words) its_shapes
+command_entered words none = one_of_others (built zpc_app) its_shapes _ refl refl refl refl refl words none
+
+named_of : (name : Text) → IsNameIn name its_shapes → IsCommand name
+named_of name (inl e) = inl e
+named_of name (inr (inl e)) = inr (inl e)
+named_of name (inr (inr (inl e))) = inr (inr (inl e))
+named_of name (inr (inr (inr (inl e)))) = inr (inr (inr (inl e)))
+named_of name (inr (inr (inr (inr (inl e))))) = inr (inr (inr (inr e)))
+named_of name (inr (inr (inr (inr (inr none))))) = absurd none
 
 -- what the program's clap command answers
 module _ (program : Command) (m : ArgMatches) (words : List Text) (is : app_of program ≡ zpc_app) (free : is_simple_and_free (app_of program) ≡ true → fault_of (app_of program) words ≡ []) where
   pub no_fault : fault_of zpc_app words ≡ []
   no_fault = subst (λ (a : App). fault_of a words ≡ []) is (free (ap is_simple_and_free is))
 
+  rows_same : HasMatchesOf (app_of program) words m → subcommand_rows_of m ≡ subcommand_of zpc_app words
+  rows_same matches = (matches (ap is_simple is)).1 ∙ ap (λ (a : App). subcommand_of a words) is
+
   -- what holds of the matches that it makes holds of those of the definition
   pub command_read : (P : Text × List Row → Type 0) → HasMatchesOf (app_of program) words m → IsSomeAnd (subcommand_rows_of m) P → IsSomeAnd (subcommand_of zpc_app words) P
-  command_read P matches h =
-      let rows : (subcommand_rows_of m) ≡ subcommand_of zpc_app words = (matches (ap is_simple is)).1 ∙ ap (λ (a : App). subcommand_of a words) is in
-      subst (λ (o : Option (Text × List Row)). IsSomeAnd o P) rows h
+  command_read P matches h = subst (λ (o : Option (Text × List Row)). IsSomeAnd o P) (rows_same matches) h
 
-  pub command_named : HasMatchesOf (app_of program) words m → (subcommand_name_of m ≡ Some (codes "list")) ⊎ ((subcommand_name_of m ≡ Some (codes "check")) ⊎ (subcommand_name_of m ≡ Some (codes "play")))
+  pub command_named : HasMatchesOf (app_of program) words m → IsSomeAnd (subcommand_name_of m) IsCommand
   command_named matches = go (command_entered words no_fault)
     where
-      rows : (subcommand_rows_of m) ≡ subcommand_of zpc_app words
-      rows = (matches (ap is_simple is)).1 ∙ ap (λ (a : App). subcommand_of a words) is
-
-      named_so : (found : Text × List Row) → subcommand_of zpc_app words ≡ Some found → (name : Text) → found.0 ≡ name → subcommand_name_of m ≡ Some name
-      named_so found e name is = sym (name_first m) ∙ ap (option_map (λ (p : Text × List Row). p.0)) (rows ∙ e) ∙ ap (λ (n : Text). Some n) is
-
-      go : EntersOne (subcommand_of zpc_app words) (codes "list") (codes "check") (codes "play")
-          → (subcommand_name_of m ≡ Some (codes "list")) ⊎ ((subcommand_name_of m ≡ Some (codes "check")) ⊎ (subcommand_name_of m ≡ Some (codes "play")))
-      go (found, e, inl name) = inl (named_so found e _ name)
-      go (found, e, inr (inl name)) = inr (inl (named_so found e _ name))
-      go (found, e, inr (inr name)) = inr (inr (named_so found e _ name))
+      go : EntersOne (subcommand_of zpc_app words) its_shapes → IsSomeAnd (subcommand_name_of m) IsCommand
+      go (found, e, name) =
+          let named : Some found.0 ≡ subcommand_name_of m = sym (ap (option_map (λ (p : Text × List Row). p.0)) (rows_same matches ∙ e)) ∙ name_first m in
+          subst (λ (o : Option Text). IsSomeAnd o IsCommand) named (named_of found.0 name)
 
 -- and what it fails with has a kind that the definition names
 pub command_fails : {T : Type 0} (program : Command) (words : List Text) (error : Error) (r : Result T Error) → app_of program ≡ zpc_app → (is_simple_and_free (app_of program) ≡ true → HasKind (fault_of (app_of program) words) error)

@@ -13,11 +13,11 @@ use Rattle.std.specs.Str.{bytes_eq}
 use Rattle.std.specs.Str.Parse.{AllDigits, ParsesBool, ParsesUnsigned, digits_value, without_leading_plus}
 use Rattle.std.proofs.lemmas.Slice.Eq.{bytes_eq-Decides}
 use Rattle.clap.proofs.WalkLemmas.{both, first_value-rows, one_text-rows}
-use Rattle.clap.specs.Words.{ReadsOne, Row, Text, first_value, one_text, rows_of, subcommand_name_of, subcommand_rows_of}
+use Rattle.clap.specs.Words.{ReadsOne, Row, Text, first_of, first_value, one_text, rows_of, subcommand_name_of, subcommand_rows_of}
 use Rattle.clap.specs.declared.parser.matches.ArgMatches.{ArgMatches}
 use Rattle.clap.specs.declared.parser.matches.ArgMatches.TheViews.{out-ArgMatches, out-SubCommand}
 use Rattle.clap.specs.Simple.{subcommand_rows}
-use Rattle.zcommand.specs.CommandLine.{certificate_of, is_status_asked, number_in, number_of, save_of, story_of}
+use Rattle.zcommand.specs.CommandLine.{certificate_of, code_of, is_status_asked, number_in, number_of, save_of, story_of}
 
 digits_pass : (ds : List ℕ) → AllDigits 10 ds → list_all (λ d. nat_lt (digit_value d) 10) ds ≡ true
 digits_pass [] h = refl
@@ -51,13 +51,21 @@ no_number bits text e h = go (is_number bits (without_leading_plus text)) refl
         absurd (h ((ltb-true _ _ inner.0, digits_from (without_leading_plus text) inner.1), ltb-true _ _ outer.1))
 
 -- what the getter of texts gives, or else the empty text
-pub story_read : (found : Found) (o : Option (Bor Text)) (d r : Bor Text) → option_map (λ s. s.now) o ≡ first_value found (codes "STORY") → d.now ≡ [] → r ≡ unwrap_or o d → r.now ≡ story_of (rows_of found)
-story_read found o d r given empty is =
-    ap (λ (s : Bor Text). s.now) is ∙ default o d empty ∙ ap (λ (x : Option Text). unwrap_or x []) (given ∙ first_value-rows found (codes "STORY"))
+text_read : (name : Text) (found : Found) (o : Option (Bor Text)) (d r : Bor Text) → option_map (λ s. s.now) o ≡ first_value found name → d.now ≡ [] → r ≡ unwrap_or o d
+    → r.now ≡ unwrap_or (first_of name (rows_of found)) []
+text_read name found o d r given empty is =
+    ap (λ (s : Bor Text). s.now) is ∙ default o d empty ∙ ap (λ (x : Option Text). unwrap_or x []) (given ∙ first_value-rows found name)
   where
     default : (o : Option (Bor Text)) (d : Bor Text) → d.now ≡ [] → (unwrap_or o d).now ≡ unwrap_or (option_map (λ s. s.now) o) []
     default None d e = e
     default (Some s) d e = refl
+
+pub story_read : (found : Found) (o : Option (Bor Text)) (d r : Bor Text) → option_map (λ s. s.now) o ≡ first_value found (codes "STORY") → d.now ≡ [] → r ≡ unwrap_or o d → r.now ≡ story_of (rows_of found)
+story_read = text_read (codes "STORY")
+
+-- the same of a code
+pub code_read : (found : Found) (o : Option (Bor Text)) (d r : Bor Text) → option_map (λ s. s.now) o ≡ first_value found (codes "CODE") → d.now ≡ [] → r ≡ unwrap_or o d → r.now ≡ code_of (rows_of found)
+code_read = text_read (codes "CODE")
 
 -- what the getter of texts gives of a certificate, and else the empty text
 pub certificate_given : (found : Found) (o : Option (Bor Text)) → option_map (λ s. s.now) o ≡ first_value found (codes "CERT") → option_map (λ s. s.now) o ≡ certificate_of (rows_of found)
@@ -68,12 +76,7 @@ pub save_given : (found : Found) (o : Option (Bor Text)) → option_map (λ s. s
 save_given found o given = given ∙ first_value-rows found (codes "save")
 
 pub certificate_read : (found : Found) (o : Option (Bor Text)) (d r : Bor Text) → option_map (λ s. s.now) o ≡ first_value found (codes "CERT") → d.now ≡ [] → r ≡ unwrap_or o d → r.now ≡ unwrap_or (certificate_of (rows_of found)) []
-certificate_read found o d r given empty is =
-    ap (λ (s : Bor Text). s.now) is ∙ default o d empty ∙ ap (λ (x : Option Text). unwrap_or x []) (certificate_given found o given)
-  where
-    default : (o : Option (Bor Text)) (d : Bor Text) → d.now ≡ [] → (unwrap_or o d).now ≡ unwrap_or (option_map (λ s. s.now) o) []
-    default None d e = e
-    default (Some s) d e = refl
+certificate_read = text_read (codes "CERT")
 
 -- what the getter of numbers gives, or else 0
 pub number_given : {E : Type 0} (bits : ℕ) (name : Text) (G : List ℕ → Result ℕ E → Type 0) (found : Found) (o : Option ℕ) (r : ℕ)

@@ -1,6 +1,6 @@
 -- The command line: which words the program takes, in the terms of clap's definitions, and what the matches that clap
 -- makes of them ask for (own).
-use Rattle.std.specs.Prelude.{◌≡◌, ℕ, ◌^◌, ◌&&◌, Bool, true, false, List, [], ◌∷◌, Option, Some, option_map, length, codes, if◌then◌else◌, nat_lt, pos, unwrap_or}
+use Rattle.std.specs.Prelude.{◌≡◌, ◌⊎◌, ℕ, ◌^◌, ◌&&◌, Bool, true, false, List, [], ◌∷◌, Option, Some, option_map, length, codes, if◌then◌else◌, nat_lt, pos, unwrap_or}
 use Rattle.std.specs.List.{list_all}
 use Rattle.std.specs.Option.{option_map_or}
 use Rattle.std.specs.Char.{digit_value}
@@ -12,9 +12,13 @@ use Rattle.clap.specs.declared.builder.value_parser.ValueParser.TheVariants as p
 use Rattle.zcommand.specs.declared.words.Command.{Command}
 use Rattle.zcommand.specs.declared.words.Command.TheVariants as commands
 
+-- a word without a name before it, which has to be there or may be
+abbrev pub word_rule : Text → Bool → Rule
+word_rule name required = record (new_rule name) { required = required }
+
 -- `STORY`, which has to be there
 abbrev pub story_rule : Rule
-story_rule = record (new_rule (codes "STORY")) { required = true }
+story_rule = word_rule (codes "STORY") true
 
 -- `--seed N`, where N is a u64
 abbrev pub seed_rule : Rule
@@ -44,7 +48,11 @@ save_rule = record (new_rule (codes "save")) { long = Some (codes "save"); value
 
 -- `CERT`, which has to be there or may be
 abbrev pub certificate_rule : Bool → Rule
-certificate_rule required = record (new_rule (codes "CERT")) { required = required }
+certificate_rule required = word_rule (codes "CERT") required
+
+-- `CODE`, which has to be there
+abbrev pub code_rule : Rule
+code_rule = word_rule (codes "CODE") true
 
 -- a command on a story, and on a certificate, which has to be there or may be
 abbrev pub files_app : Text → Bool → App
@@ -54,6 +62,10 @@ files_app name required = with_rule (with_rule (new_app name) story_rule) (certi
 abbrev pub list_app : App
 list_app = with_rule (new_app (codes "list")) story_rule
 
+-- `find STORY CERT`
+abbrev pub find_app : App
+find_app = files_app (codes "find") true
+
 -- `check STORY CERT`
 abbrev pub check_app : App
 check_app = files_app (codes "check") true
@@ -62,14 +74,26 @@ check_app = files_app (codes "check") true
 abbrev pub play_app : App
 play_app = with_rule (with_rule (with_rule (with_rule (files_app (codes "play") false) seed_rule) budget_rule) status_rule) save_rule
 
+-- `explain CODE`
+abbrev pub explain_app : App
+explain_app = with_rule (new_app (codes "explain")) code_rule
+
 -- the program, before its commands: its words don't begin with its name, and one of them is a command
 abbrev pub bare_app : App
 bare_app =
     record (new_app (codes "zpc")) { top = record (new_app (codes "zpc")).top { no_binary_name = true; has_version = true; subcommand_required = true } }
 
+-- the program, with its commands on listings and certificates
+abbrev pub certifying_app : App
+certifying_app = with_subcommand (with_subcommand (with_subcommand bare_app list_app.top) find_app.top) check_app.top
+
 -- the program
 abbrev pub zpc_app : App
-zpc_app = with_subcommand (with_subcommand (with_subcommand bare_app list_app.top) check_app.top) play_app.top
+zpc_app = with_subcommand (with_subcommand certifying_app play_app.top) explain_app.top
+
+-- the name of one of its commands
+abbrev pub IsCommand : Text → Type 0
+IsCommand name = (name ≡ codes "list") ⊎ (name ≡ codes "find") ⊎ (name ≡ codes "check") ⊎ (name ≡ codes "play") ⊎ (name ≡ codes "explain")
 
 -- the number that a text says in decimal digits, with or without a plus before them, where it has at most so many bits; else 0
 abbrev pub number_in : ℕ → Text → ℕ
@@ -105,26 +129,37 @@ certificate_of rows = first_of (codes "CERT") rows
 abbrev pub save_of : List Row → Option Text
 save_of rows = first_of (codes "save") rows
 
+-- the code among the matches of `explain`; without one clap makes no matches
+abbrev pub code_of : List Row → Text
+code_of rows = unwrap_or (first_of (codes "CODE") rows) []
+
 -- what is asked for, by the names of files
 pub data Request : Type 0 where
   ListStory : (story : Text) → Request
+  Find : (story certificate : Text) → Request
   Check : (story certificate : Text) → Request
   Play : (story : Text) (certificate : Option Text) (seed budget : ℕ) (status : Bool) (save : Option Text) → Request
+  Explain : (code : Text) → Request
 
 -- the request is the one that clap's matches name, with the values among them
 abbrev pub Asks : Text × List Row → Request → Type 0
 Asks matches (ListStory story) = (matches.0 ≡ codes "list") × (story ≡ story_of matches.1)
+Asks matches (Find story certificate) =
+    (matches.0 ≡ codes "find") × (story ≡ story_of matches.1) × (certificate ≡ unwrap_or (certificate_of matches.1) [])
 Asks matches (Check story certificate) =
     (matches.0 ≡ codes "check") × (story ≡ story_of matches.1) × (certificate ≡ unwrap_or (certificate_of matches.1) [])
 Asks matches (Play story certificate seed budget status save) =
     (matches.0 ≡ codes "play") × (story ≡ story_of matches.1) × (certificate ≡ certificate_of matches.1) × (seed ≡ seed_of matches.1) × (budget ≡ budget_of matches.1)
     × (status ≡ is_status_asked matches.1) × (save ≡ save_of matches.1)
+Asks matches (Explain code) = (matches.0 ≡ codes "explain") × (code ≡ code_of matches.1)
 
 -- what a command asks for
 abbrev pub request_of : Command → Request
 request_of (commands.List story) = ListStory story.now
+request_of (commands.Find story certificate) = Find story.now certificate.now
 request_of (commands.Check story certificate) = Check story.now certificate.now
 request_of (commands.Play story certificate seed budget status save) = Play story.now (option_map (λ c. c.now) certificate) seed budget status (option_map (λ f. f.now) save)
+request_of (commands.Explain code) = Explain code.now
 
 -- the command is the one that clap's matches name
 abbrev pub IsReadFrom : Text × List Row → Command → Type 0

@@ -1,10 +1,10 @@
 //! The words after the program's name.
 
-ghost use Rattle.std.specs.Prelude.{◌≡◌, ◌⊎◌, IfOk, IsSomeAnd, Some, codes, false};
+ghost use Rattle.std.specs.Prelude.{◌≡◌, IfOk, IsSomeAnd, codes, false};
 ghost use Rattle.clap.specs.Walk.{texts};
 ghost use Rattle.clap.specs.Words.{FailsBy, app_of, fault_of, found_of, rows_of, rule_of, subcommand_name_of, subcommand_of, subcommand_rows_of};
 ghost use Rattle.clap.specs.declared.builder.command.Command.TheViews.{out-Command as fields_of};
-ghost use Rattle.zcommand.specs.CommandLine.{IsReadFrom, bare_app, budget_rule, certificate_rule, check_app, files_app, list_app, play_app, save_rule, seed_rule, status_rule, story_rule, zpc_app};
+ghost use Rattle.zcommand.specs.CommandLine.{IsCommand, IsReadFrom, bare_app, budget_rule, certificate_rule, certifying_app, check_app, code_rule, explain_app, files_app, find_app, list_app, play_app, save_rule, seed_rule, status_rule, story_rule, word_rule, zpc_app};
 
 use clap::{Arg, ArgAction, ArgMatches, Error, value_parser};
 use std::alloc::{AllocError, Global};
@@ -25,6 +25,13 @@ pub enum Command<'a> {
     List {
         /// The name of the story's file.
         story: &'a str,
+    },
+    /// Finds a certificate.
+    Find {
+        /// The name of the story's file.
+        story: &'a str,
+        /// The name of the file that the certificate is kept in.
+        certificate: &'a str,
     },
     /// Checks a certificate.
     Check {
@@ -48,6 +55,11 @@ pub enum Command<'a> {
         /// The name of the file that saves are kept in, if there is one.
         save: Option<&'a str>,
     },
+    /// Says what a code means.
+    Explain {
+        /// The code, which needn't be one.
+        code: &'a str,
+    },
 }
 
 /// Reads the words after the program's name.
@@ -61,17 +73,23 @@ pub fn read_words<'a>(alloc: Global, words: &'a [&'a str]) -> Result<Command<'a>
 
 /// The command that the matches name, with its values.
 fn command_of<'a>(matches: &ArgMatches<'a>) -> Command<'a>
-    requires { (subcommand_name_of matches.now ≡ Some (codes "list")) ⊎ ((subcommand_name_of matches.now ≡ Some (codes "check")) ⊎ (subcommand_name_of matches.now ≡ Some (codes "play"))) }
+    requires { IsSomeAnd (subcommand_name_of matches.now) IsCommand }
     ensures { IsSomeAnd (subcommand_rows_of matches.now) (λ matches. IsReadFrom matches result) }
 {
     if let Some(list) = matches.subcommand_matches("list") {
         return list_of(list);
     }
+    if let Some(find) = matches.subcommand_matches("find") {
+        return find_of(find);
+    }
     if let Some(check) = matches.subcommand_matches("check") {
         return check_of(check);
     }
-    match matches.subcommand_matches("play") {
-        Some(play) => play_of(play),
+    if let Some(play) = matches.subcommand_matches("play") {
+        return play_of(play);
+    }
+    match matches.subcommand_matches("explain") {
+        Some(explain) => explain_of(explain),
         None => unreachable!(),
     }
 }
@@ -82,6 +100,15 @@ fn list_of<'a>(matches: &ArgMatches<'a>) -> Command<'a>
 {
     let story = matches.get_str("STORY").unwrap_or("");
     Command::List { story }
+}
+
+/// `find`, with the values that are among its matches.
+fn find_of<'a>(matches: &ArgMatches<'a>) -> Command<'a>
+    ensures { IsReadFrom (codes "find", rows_of (found_of matches.now)) result }
+{
+    let story = matches.get_str("STORY").unwrap_or("");
+    let certificate = matches.get_str("CERT").unwrap_or("");
+    Command::Find { story, certificate }
 }
 
 /// `check`, with the values that are among its matches.
@@ -113,13 +140,30 @@ fn play_of<'a>(matches: &ArgMatches<'a>) -> Command<'a>
     }
 }
 
+/// `explain`, with the value that is among its matches.
+fn explain_of<'a>(matches: &ArgMatches<'a>) -> Command<'a>
+    ensures { IsReadFrom (codes "explain", rows_of (found_of matches.now)) result }
+{
+    let code = matches.get_str("CODE").unwrap_or("");
+    Command::Explain { code }
+}
+
 fn program<'a>(alloc: Global) -> Result<clap::Command<'a>, AllocError>
     ensures { IfOk result (λ program. app_of program ≡ zpc_app) }
 {
+    let program = certifying_program(alloc)?;
+    let program = program.subcommand(play(alloc)?)?;
+    program.subcommand(explain(alloc)?)
+}
+
+/// The program with its commands on listings and certificates.
+fn certifying_program<'a>(alloc: Global) -> Result<clap::Command<'a>, AllocError>
+    ensures app { IfOk result (λ program. app_of program ≡ certifying_app) }
+{
     let program = bare_program(alloc)?;
     let program = program.subcommand(list(alloc)?)?;
-    let program = program.subcommand(check(alloc)?)?;
-    program.subcommand(play(alloc)?)
+    let program = program.subcommand(find(alloc)?)?;
+    program.subcommand(check(alloc)?)
 }
 
 /// The program before its commands.
@@ -127,7 +171,7 @@ fn bare_program<'a>(alloc: Global) -> Result<clap::Command<'a>, AllocError>
     ensures app { IfOk result (λ program. app_of program ≡ bare_app) }
 {
     clap::Command::new(alloc, "zpc")
-        .about("Lists, checks and plays Z-machine version 3 stories")
+        .about("Lists, checks and plays Z-machine version 3 stories, and finds certificates")
         .version(VERSION)
         .no_binary_name(true)
         .subcommand_required(true)
@@ -140,6 +184,13 @@ fn list<'a>(alloc: Global) -> Result<clap::Command<'a>, AllocError>
 {
     let list = clap::Command::new(alloc, "list").about("Lists the instructions of a story");
     list.arg(story(alloc))
+}
+
+fn find<'a>(alloc: Global) -> Result<clap::Command<'a>, AllocError>
+    ensures app { IfOk result (λ find. app_of find ≡ find_app) }
+    ensures local { IfOk result (λ find. (fields_of find).has_globals ≡ false) }
+{
+    on_files(alloc, "find", "Finds a certificate of a story", true)
 }
 
 fn check<'a>(alloc: Global) -> Result<clap::Command<'a>, AllocError>
@@ -163,6 +214,14 @@ fn play<'a>(alloc: Global) -> Result<clap::Command<'a>, AllocError>
     play.arg(status(alloc))?.arg(save(alloc))
 }
 
+fn explain<'a>(alloc: Global) -> Result<clap::Command<'a>, AllocError>
+    ensures app { IfOk result (λ explain. app_of explain ≡ explain_app) }
+    ensures local { IfOk result (λ explain. (fields_of explain).has_globals ≡ false) }
+{
+    let explain = clap::Command::new(alloc, "explain").about("Says what a code means");
+    explain.arg(code(alloc))
+}
+
 /// A command on a story and a certificate, which has to be there or may be.
 fn on_files<'a>(
     alloc: Global,
@@ -177,22 +236,38 @@ fn on_files<'a>(
     command.arg(story(alloc))?.arg(certificate(alloc, required))
 }
 
+/// A word without a name before it, which has to be there or may be.
+fn word<'a>(alloc: Global, name: &'a str, help: &'a str, required: bool) -> Arg<'a>
+    ensures rule { rule_of result ≡ word_rule name.now required }
+    ensures local { result.global ≡ false }
+{
+    Arg::new(alloc, name).help(help).required(required)
+}
+
 fn story<'a>(alloc: Global) -> Arg<'a>
     ensures rule { rule_of result ≡ story_rule }
     ensures local { result.global ≡ false }
 {
-    Arg::new(alloc, "STORY")
-        .help("The story's file")
-        .required(true)
+    word(alloc, "STORY", "The story's file", true)
 }
 
 fn certificate<'a>(alloc: Global, required: bool) -> Arg<'a>
     ensures rule { rule_of result ≡ certificate_rule required }
     ensures local { result.global ≡ false }
 {
-    Arg::new(alloc, "CERT")
-        .help("The certificate's file")
-        .required(required)
+    word(alloc, "CERT", "The certificate's file", required)
+}
+
+fn code<'a>(alloc: Global) -> Arg<'a>
+    ensures rule { rule_of result ≡ code_rule }
+    ensures local { result.global ≡ false }
+{
+    word(
+        alloc,
+        "CODE",
+        "The code of a refusal, a fault or a failure, as I5 or F11",
+        true,
+    )
 }
 
 fn seed<'a>(alloc: Global) -> Arg<'a>

@@ -4,5 +4,6 @@ mod PlayLemmas
 mod PerformLemmas
 mod AcceptLemmas
 mod ListLemmas
+mod FindLemmas
 mod SessionLemmas
 mod Worked

@@ -6,7 +6,7 @@ use Rattle.zperform.specs.Accepting.{HoldsStory, IsNoStory}
 use Rattle.zperform.specs.Listing.{IsNoListing, IsUnlisted}
 use Rattle.zperform.specs.declared.outcome.Failure.TheVariants.{File, Read, Write, Memory}
 use Rattle.zperform.specs.declared.outcome.Problem.{Problem}
-use Rattle.zperform.specs.declared.outcome.Problem.TheVariants.{Refused, Unreadable, BreaksStory, BreaksInstruction, Unlisted, Failed}
+use Rattle.zperform.specs.declared.outcome.Problem.TheVariants.{Refused, Unreadable, BreaksStory, BreaksInstruction, Unlisted, Unfound, Failed}
 use Rattle.zperform.proofs.AcceptLemmas.{story_bytes}
 
 -- it holds no story
@@ -16,6 +16,7 @@ no_story_listed known (Unreadable error) h = absurd h
 no_story_listed known (BreaksStory rule) h = absurd h
 no_story_listed known (BreaksInstruction address rule) h = absurd h
 no_story_listed known (Unlisted error) h = absurd h
+no_story_listed known (Unfound error broken) h = absurd h
 no_story_listed known (Failed File) h = tt
 no_story_listed known (Failed Read) h = absurd h
 no_story_listed known (Failed Write) h = absurd h
@@ -29,6 +30,7 @@ module _ (known : Option (List ℕ)) (story : LoadedStory) (held : HoldsStory kn
   unlisted_is (BreaksStory rule) h = absurd h
   unlisted_is (BreaksInstruction address rule) h = absurd h
   unlisted_is (Unlisted error) h = (story, held, h)
+  unlisted_is (Unfound error broken) h = absurd h
   unlisted_is (Failed File) h = absurd h
   unlisted_is (Failed Read) h = absurd h
   unlisted_is (Failed Write) h = absurd h

@@ -1,5 +1,5 @@
 -- What a play of a loaded story comes to.
-use Rattle.std.proofs.Common.{◌≡◌, ◌≢◌, ◌⊎◌, inl, inr, ◌∙◌, ℕ, List, [], Option, Some, true≢false, Result, Ok, Err, IsErr, IsErrAnd, refl, sym, ap, subst, arith, take}
+use Rattle.std.proofs.Common.{◌≡◌, ◌≢◌, ◌⊎◌, inl, inr, ℕ, List, Option, Some, true≢false, Result, Ok, Err, IsErr, IsErrAnd, refl, sym, subst, arith, take}
 use Rattle.std.specs.Prelude.{⊤}
 use Rattle.zstory.specs.LoadedStory.{LoadedStory}
 use Rattle.zstory.specs.Refusal.{IsCause, IsLowest}
@@ -17,9 +17,9 @@ use Rattle.zplayer.specs.Outside.{Coming, words_from}
 use Rattle.zplayer.specs.World.{Kept, Store, World, world}
 use Rattle.zperform.specs.declared.outcome.Failure.TheVariants.{File, Read, Write, Memory}
 use Rattle.zperform.specs.declared.outcome.Problem.{Problem}
-use Rattle.zperform.specs.declared.outcome.Problem.TheVariants.{Refused, Unreadable, BreaksStory, BreaksInstruction, Unlisted, Failed}
+use Rattle.zperform.specs.declared.outcome.Problem.TheVariants.{Refused, Unreadable, BreaksStory, BreaksInstruction, Unlisted, Unfound, Failed}
 use Rattle.zperform.specs.declared.outcome.Outcome.{Outcome}
-use Rattle.zperform.specs.declared.outcome.Outcome.TheVariants.{Listed, Accepted, Played, Stopped}
+use Rattle.zperform.specs.declared.outcome.Outcome.TheVariants.{Listed, Found, Accepted, Explained, NoSuchCode, Played, Stopped}
 use Rattle.zperform.specs.Playing.{ComesTo, Holds, IsPlayed, IsRefused, IsUnloaded, Reads}
 use Rattle.zperform.specs.Report.{outcome_of, problem_of_load, problem_of_play}
 use Rattle.zperform.specs.Contents.{HasBytes}
@@ -48,11 +48,15 @@ module _ (known : Option (List ℕ)) (taken : List ℕ) (options : Options) (giv
   of_part (Played end) h = played_along (Ok end) h
   of_part (Stopped (Refused error)) (h, same) = (along (λ file. IsRefused file error) (λ file e p. refused_whole 131073 taken file (omega arith) e error p) h, same)
   of_part Listed h = h
+  of_part Found h = h
+  of_part Explained h = h
+  of_part NoSuchCode h = h
   of_part Accepted h = h
   of_part (Stopped (Unreadable error)) h = h
   of_part (Stopped (BreaksStory rule)) h = h
   of_part (Stopped (BreaksInstruction address rule)) h = h
   of_part (Stopped (Unlisted error)) h = h
+  of_part (Stopped (Unfound error broken)) h = h
   of_part (Stopped (Failed File)) h = h
   of_part (Stopped (Failed Read)) h = played_along (Err errors.Read) h
   of_part (Stopped (Failed Write)) h = played_along (Err errors.Write) h
@@ -86,6 +90,7 @@ unloaded_comes file options given before (Unreadable error) h = absurd h
 unloaded_comes file options given before (BreaksStory rule) h = absurd h
 unloaded_comes file options given before (BreaksInstruction address rule) h = absurd h
 unloaded_comes file options given before (Unlisted error) h = absurd h
+unloaded_comes file options given before (Unfound error broken) h = absurd h
 unloaded_comes file options given before (Failed File) h = absurd h
 unloaded_comes file options given before (Failed Read) h = absurd h
 unloaded_comes file options given before (Failed Write) h = absurd h
@@ -97,6 +102,7 @@ unloaded_blames file (Unreadable error) h = absurd h
 unloaded_blames file (BreaksStory rule) h = absurd h
 unloaded_blames file (BreaksInstruction address rule) h = absurd h
 unloaded_blames file (Unlisted error) h = absurd h
+unloaded_blames file (Unfound error broken) h = absurd h
 unloaded_blames file (Failed File) h = absurd h
 unloaded_blames file (Failed Read) h = absurd h
 unloaded_blames file (Failed Write) h = absurd h

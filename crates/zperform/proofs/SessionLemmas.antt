@@ -1,5 +1,5 @@
 -- What comes of playing by a certificate.
-use Rattle.std.proofs.Common.{◌≡◌, ◌≢◌, ◌⊎◌, inl, inr, ◌∙◌, ℕ, List, [], refl, sym, ap, subst, true≢false}
+use Rattle.std.proofs.Common.{◌≡◌, ◌≢◌, ◌⊎◌, inl, inr, ◌∙◌, ℕ, List, refl, sym, ap, subst, true≢false}
 use Rattle.std.specs.Prelude.{ℤ, Option, Result, Ok, Err, IfOk, IsErr, IsErrAnd}
 use Rattle.std.specs.Io.KnownBytes.{Appends}
 use Rattle.zfault.specs.declared.fault.Fault.{Fault}
@@ -20,7 +20,7 @@ use Rattle.zplayer.specs.World.{Store, World}
 use Rattle.zperform.specs.declared.outcome.Failure.{Failure}
 use Rattle.zperform.specs.declared.outcome.Failure.TheVariants.{File, Read, Write, Memory}
 use Rattle.zperform.specs.declared.outcome.Problem.{Problem}
-use Rattle.zperform.specs.declared.outcome.Problem.TheVariants.{Refused, Unreadable, BreaksStory, BreaksInstruction, Unlisted, Failed}
+use Rattle.zperform.specs.declared.outcome.Problem.TheVariants.{Refused, Unreadable, BreaksStory, BreaksInstruction, Unlisted, Unfound, Failed}
 use Rattle.zperform.specs.declared.outcome.Outcome.{Outcome}
 use Rattle.zperform.specs.declared.outcome.Outcome.TheVariants.{Accepted, Played, Stopped}
 use Rattle.zperform.specs.Accepting.{Accepts, CheckComesTo, IsAccepted, IsPlayedBy, IsUnaccepted, PlayComesTo, accepted_line}
@@ -76,6 +76,7 @@ module _ (story certificate : Option (List ℕ)) (before : Option (List ℕ)) wh
   unblamed (BreaksStory rule) h = (λ e. cc, λ e. cc)
   unblamed (BreaksInstruction address rule) h = (λ e. cc, λ e. cc)
   unblamed (Unlisted error) h = absurd h
+  unblamed (Unfound error broken) h = absurd h
   unblamed (Failed File) h = (λ e. cc, λ e. cc)
   unblamed (Failed Memory) h = (λ e. cc, λ e. cc)
   unblamed (Failed Read) h = absurd h
@@ -88,6 +89,7 @@ module _ (story certificate : Option (List ℕ)) (before : Option (List ℕ)) wh
   unchecked (BreaksStory rule) h = (h, refl)
   unchecked (BreaksInstruction address rule) h = (h, refl)
   unchecked (Unlisted error) h = absurd h
+  unchecked (Unfound error broken) h = absurd h
   unchecked (Failed File) h = (h, refl)
   unchecked (Failed Memory) h = (h, refl)
   unchecked (Failed Read) h = absurd h
@@ -101,6 +103,7 @@ module _ (story certificate : Option (List ℕ)) (options : Options) (given : Wo
   unaccepted (BreaksStory rule) h = (h, refl)
   unaccepted (BreaksInstruction address rule) h = (h, refl)
   unaccepted (Unlisted error) h = absurd h
+  unaccepted (Unfound error broken) h = absurd h
   unaccepted (Failed File) h = (h, refl)
   unaccepted (Failed Memory) h = inl (refl, h)
   unaccepted (Failed Read) h = absurd h

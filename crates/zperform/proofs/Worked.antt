@@ -19,20 +19,23 @@ use Rattle.zplayer.specs.declared.end.Options.{Options}
 use Rattle.zplayer.specs.declared.end.PlayError.TheVariants as errors
 use Rattle.zperform.specs.declared.outcome.Failure.{Failure}
 use Rattle.zperform.specs.declared.outcome.Failure.TheVariants.{File, Read, Write, Memory}
-use Rattle.zperform.specs.declared.outcome.Problem.TheVariants.{Refused, Unreadable, BreaksStory, BreaksInstruction, Unlisted, Failed}
-use Rattle.zperform.specs.declared.outcome.Outcome.TheVariants.{Listed, Accepted, Played, Stopped}
+use Rattle.zperform.specs.declared.outcome.Problem.TheVariants.{Refused, Unreadable, BreaksStory, BreaksInstruction, Unlisted, Unfound, Failed}
+use Rattle.zperform.specs.declared.outcome.Outcome.TheVariants.{Listed, Found, Accepted, Explained, NoSuchCode, Played, Stopped}
 use Rattle.std.specs.Prelude.{ℤ, negsuc, Option, None, Some}
 use Rattle.zcode.specs.declared.error.DecodeError.TheVariants.{NoSuchOpcode, Truncated}
 use Rattle.zcode.specs.declared.opcode.Opcode.{Opcode}
 use Rattle.zcode.specs.declared.opcode.Opcode.TheVariants as opcodes
+use Rattle.zfind.specs.declared.error.FindError.TheVariants.{NotFound, RoundLimit}
+use Rattle.zfind.specs.declared.error.Obstacle.TheVariants as obstacles
 use Rattle.zlist.specs.declared.list_error.ListError.TheVariants as listings
 use Rattle.zlist.specs.declared.record.Record.{Record}
 use Rattle.zperform.specs.Listing.{listing_text}
 use Rattle.zperform.specs.Contents.{GivesPart, IsBeginning}
 use Rattle.zperform.specs.Accepting.{CheckComesTo, PlayComesTo}
-use Rattle.zcommand.specs.CommandLine.{ListStory, Check, Play}
+use Rattle.zcommand.specs.CommandLine.{ListStory, Find, Check, Play, Explain}
 use Rattle.zplayer.specs.World.{World}
-use Rattle.zperform.specs.Performing.{Breaks, Seen, Says, Takes, is_quiet, is_request}
+use Rattle.zperform.specs.Performing.{Breaks, Seen, Says, Takes, is_quiet, is_request, written_by}
+use Rattle.zperform.specs.Finding.{HasAlone}
 use Rattle.zperform.specs.Playing.{ComesTo, Holds, IsRefused}
 use Rattle.zperform.specs.declared.accepting.TheConstants.{CERTIFICATE_LIMIT, STORY_LIMIT}
 use Rattle.zperform.specs.Report.{line_of, place_text, problem_of_checking, problem_of_listing, problem_of_load, problem_of_play, problem_of_reading, status_of, text_of}
@@ -41,9 +44,9 @@ use Rattle.zperform.specs.Report.{line_of, place_text, problem_of_checking, prob
 
 -- what was done
 done :
-    (text_of Listed ≡ []) × (text_of Accepted ≡ []) × (text_of (Played ends.Quit) ≡ []) × (text_of (Played ends.NoInput) ≡ codes "end: no input") × (text_of (Played ends.Budget) ≡ codes "end: budget")
+    (text_of Listed ≡ []) × (text_of Found ≡ []) × (text_of Accepted ≡ []) × (text_of Explained ≡ []) × (text_of (Played ends.Quit) ≡ []) × (text_of (Played ends.NoInput) ≡ codes "end: no input") × (text_of (Played ends.Budget) ≡ codes "end: budget")
     × (text_of (Played ends.FrameLimit) ≡ codes "end: frame limit")
-done = (refl, refl, refl, refl, refl, refl)
+done = (refl, refl, refl, refl, refl, refl, refl, refl)
 
 -- the story's fault, at each kind of place
 faulty :
@@ -80,6 +83,16 @@ unlisted :
 unfolding digits
 unlisted = (refl, refl, refl, refl)
 
+-- what kept a certificate from being found, where, and on a second line what is broken in every one, if that is known
+unfound :
+    (text_of (Stopped (Unfound (NotFound (obstacles.Place (pos 903) rules.Object)) (Some (obstacles.Place (pos 2969) rules.Object)))) ≡ codes "refused: G1 at 00387" ++ 10 ∷ codes "no certificate: I5 at 00b99")
+    × (text_of (Stopped (Unfound (NotFound (obstacles.Place (negsuc 9) rules.Decodes)) (Some (obstacles.Place (negsuc 9) rules.Decodes)))) ≡ codes "refused: G1 at -10" ++ 10 ∷ codes "no certificate: I1 at -10")
+    × (text_of (Stopped (Unfound (NotFound (obstacles.Story story_rules.Tables)) (Some (obstacles.Story story_rules.Tables)))) ≡ codes "refused: G1" ++ 10 ∷ codes "no certificate: S5")
+    × (text_of (Stopped (Unfound (NotFound (obstacles.Place (pos 804) rules.Successor)) None)) ≡ codes "refused: G1 at 00324" ++ 10 ∷ codes "not found")
+    × (text_of (Stopped (Unfound RoundLimit None)) ≡ codes "refused: G2" ++ 10 ∷ codes "not found")
+unfolding digits
+unfound = (refl, refl, refl, refl, refl)
+
 -- a line for each instruction, its routine in decimal
 listed_at : ℕ → ℕ → Opcode → Record
 listed_at address routine opcode = record { address = address; routine = routine; instruction = record { opcode = opcode; operands = []; store = None; branch = None; size = 1 } }
@@ -100,13 +113,14 @@ failed = (refl, refl, refl, refl)
 lines : (line_of [] ≡ []) × (line_of (codes "end: budget") ≡ codes "end: budget" ++ 10 ∷ []) × (line_of (text_of (Stopped (Failed Write))) ≡ codes "failed: write" ++ 10 ∷ [])
 lines = (refl, refl, refl)
 
-well : (status_of Listed ≡ 0) × (status_of Accepted ≡ 0) × (status_of (Played ends.Quit) ≡ 0) × (status_of (Played ends.NoInput) ≡ 0) × (status_of (Played ends.Budget) ≡ 0) × (status_of (Played ends.FrameLimit) ≡ 0)
-well = (refl, refl, refl, refl, refl, refl)
+well : (status_of Listed ≡ 0) × (status_of Found ≡ 0) × (status_of Explained ≡ 0) × (status_of NoSuchCode ≡ 2) × (status_of Accepted ≡ 0) × (status_of (Played ends.Quit) ≡ 0) × (status_of (Played ends.NoInput) ≡ 0) × (status_of (Played ends.Budget) ≡ 0) × (status_of (Played ends.FrameLimit) ≡ 0)
+well = (refl, refl, refl, refl, refl, refl, refl, refl, refl)
 
 refusals_are_1 :
     (status_of (Stopped (Refused loads.TooShort)) ≡ 1) × (status_of (Stopped (Unreadable readings.Truncated)) ≡ 1) × (status_of (Stopped (BreaksStory story_rules.Tables)) ≡ 1)
     × (status_of (Stopped (BreaksInstruction 804 rules.Successor)) ≡ 1) × (status_of (Stopped (Unlisted (listings.ComputedJump 804))) ≡ 1)
-refusals_are_1 = (refl, refl, refl, refl, refl)
+    × (status_of (Stopped (Unfound RoundLimit None)) ≡ 1)
+refusals_are_1 = (refl, refl, refl, refl, refl, refl)
 
 faults_are_3 : (fault : Fault) (place : ℤ) → status_of (Played (ends.Fault fault place)) ≡ 3
 faults_are_3 fault place = refl
@@ -215,5 +229,15 @@ never : (story certificate before now : Option (List ℕ)) (options : Options) (
 never story certificate before now options outside = (λ no. no, λ no. no, λ no. no, λ no. no.0)
 
 -- input is read for a play alone
-input_read : (is_quiet (ListStory (codes "hello.z3")) ≡ true) × (is_quiet (Check (codes "hello.z3") (codes "hello.cert")) ≡ true) × (is_quiet (Play (codes "hello.z3") None 1 100 false None) ≡ false)
-input_read = (refl, refl, refl)
+input_read : (is_quiet (ListStory (codes "hello.z3")) ≡ true) × (is_quiet (Find (codes "hello.z3") (codes "hello.cert")) ≡ true) × (is_quiet (Explain (codes "I5")) ≡ true) × (is_quiet (Check (codes "hello.z3") (codes "hello.cert")) ≡ true) × (is_quiet (Play (codes "hello.z3") None 1 100 false None) ≡ false)
+input_read = (refl, refl, refl, refl, refl)
+
+-- a file may be written for a certificate and for saves
+files_written :
+    (written_by (ListStory (codes "hello.z3")) ≡ None) × (written_by (Find (codes "hello.z3") (codes "hello.cert")) ≡ Some (codes "hello.cert")) × (written_by (Check (codes "hello.z3") (codes "hello.cert")) ≡ None)
+    × (written_by (Play (codes "hello.z3") None 1 100 false (Some (codes "a.qzl"))) ≡ Some (codes "a.qzl")) × (written_by (Explain (codes "I5")) ≡ None)
+files_written = (refl, refl, refl, refl, refl)
+
+-- a text that was found isn't kept by a file of other bytes
+kept_whole : HasAlone (1 ∷ 2 ∷ []) (Some (1 ∷ 2 ∷ [])) × (HasAlone (1 ∷ 2 ∷ []) (Some (1 ∷ [])) → ⊥)
+kept_whole = (refl, λ e. omega (arith, ap length e))

@@ -27,9 +27,9 @@ use Rattle.zcheck.specs.declared.refusal.Refusal.TheVariants.{Story, Instruction
 use Rattle.zperform.specs.Contents.{HasBytes}
 use Rattle.zperform.specs.declared.outcome.Failure.TheVariants.{File, Read, Write, Memory}
 use Rattle.zperform.specs.declared.outcome.Problem.{Problem}
-use Rattle.zperform.specs.declared.outcome.Problem.TheVariants.{Refused, Unreadable, BreaksStory, BreaksInstruction, Unlisted, Failed}
+use Rattle.zperform.specs.declared.outcome.Problem.TheVariants.{Refused, Unreadable, BreaksStory, BreaksInstruction, Unlisted, Unfound, Failed}
 use Rattle.zperform.specs.declared.outcome.Outcome.{Outcome}
-use Rattle.zperform.specs.declared.outcome.Outcome.TheVariants.{Listed, Accepted, Played, Stopped}
+use Rattle.zperform.specs.declared.outcome.Outcome.TheVariants.{Listed, Found, Accepted, Explained, NoSuchCode, Played, Stopped}
 use Rattle.zperform.specs.Playing.{Holds, IsRefused, Reads}
 
 -- the story that a file holds
@@ -85,6 +85,7 @@ IsUnaccepted story_known certificate_known (BreaksStory rule) = Breaks story_kno
 IsUnaccepted story_known certificate_known (BreaksInstruction address rule) =
     Breaks story_known certificate_known (λ story c. IsCause interval_operations story c (Instruction address rule))
 IsUnaccepted story_known certificate_known (Unlisted error) = ⊥
+IsUnaccepted story_known certificate_known (Unfound error broken) = ⊥
 IsUnaccepted story_known certificate_known (Failed File) = ⊤
 IsUnaccepted story_known certificate_known (Failed Memory) = HasBytes story_known
 IsUnaccepted story_known certificate_known (Failed Read) = ⊥
@@ -99,6 +100,9 @@ abbrev pub CheckComesTo : Option (List ℕ) → Option (List ℕ) → Option (Li
 CheckComesTo story_known certificate_known before now Accepted =
     ((a : Acceptance) × IsAccepted story_known certificate_known a) × Appends before now accepted_line
 CheckComesTo story_known certificate_known before now Listed = ⊥
+CheckComesTo story_known certificate_known before now Found = ⊥
+CheckComesTo story_known certificate_known before now Explained = ⊥
+CheckComesTo story_known certificate_known before now NoSuchCode = ⊥
 CheckComesTo story_known certificate_known before now (Played end) = ⊥
 CheckComesTo story_known certificate_known before now (Stopped (Failed Write)) =
     ((a : Acceptance) × IsAccepted story_known certificate_known a) × AppendsBeginning before now accepted_line
@@ -118,6 +122,9 @@ Accepts story_known certificate_known property = (a : Acceptance) × IsAccepted 
 -- What playing by a certificate comes to.
 abbrev pub PlayComesTo : Option (List ℕ) → Option (List ℕ) → Options → World → Option (List ℕ) → Option (List ℕ) → Outcome → Type 0
 PlayComesTo story_known certificate_known options given before now Listed = ⊥
+PlayComesTo story_known certificate_known options given before now Found = ⊥
+PlayComesTo story_known certificate_known options given before now Explained = ⊥
+PlayComesTo story_known certificate_known options given before now NoSuchCode = ⊥
 PlayComesTo story_known certificate_known options given before now Accepted = ⊥
 PlayComesTo story_known certificate_known options given before now (Played end) = Accepts story_known certificate_known (λ a. IsPlayedBy a options given before now (Ok end))
 PlayComesTo story_known certificate_known options given before now (Stopped (Failed Read)) = Accepts story_known certificate_known (λ a. IsPlayedBy a options given before now (Err errors.Read))

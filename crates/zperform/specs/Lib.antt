@@ -3,4 +3,5 @@ pub mod Report
 pub mod Playing
 pub mod Accepting
 pub mod Listing
+pub mod Finding
 pub mod Performing

@@ -6,11 +6,12 @@ use Rattle.clap.specs.Words.{Row, Text, subcommand_of}
 use Rattle.clap.specs.declared.error.kind.ErrorKind.{ErrorKind}
 use Rattle.clap.specs.declared.error.kind.ErrorKind.TheVariants.{DisplayHelp, DisplayVersion}
 use Rattle.zfault.specs.Devices.{AppendsBeginning, RisesByOne}
-use Rattle.zcommand.specs.CommandLine.{Asks, Request, ListStory, Check, Play, zpc_app}
+use Rattle.zcommand.specs.CommandLine.{Asks, Request, ListStory, Find, Check, Play, Explain, zpc_app}
 use Rattle.zplayer.specs.Outside.{words_of}
 use Rattle.zplayer.specs.World.{Store, World, world}
 use Rattle.zperform.specs.Playing.{ComesTo}
 use Rattle.zperform.specs.Accepting.{CheckComesTo, PlayComesTo}
+use Rattle.zperform.specs.Finding.{ExplainComesTo, FindComesTo}
 use Rattle.zperform.specs.Listing.{ListComesTo}
 use Rattle.zperform.specs.Report.{line_of, status_of, text_of}
 use Rattle.zperform.specs.declared.outcome.Failure.TheVariants.{File, Read, Write, Memory}
@@ -120,24 +121,31 @@ store_of (Some name) = record { kept = None; failures = 0 }
 abbrev pub given : Option (List ℕ) → ℕ → Store → World
 given input seed store = world input (Some (words_of seed)) store
 
--- what comes of a request, with the input, and with what the writer took before and has taken now
-abbrev pub Comes : Request → (List ℕ → Option (List ℕ)) → Option (List ℕ) → Option (List ℕ) → Option (List ℕ) → Outcome → Type 0
-Comes (ListStory story) known input before now outcome = ListComesTo (known story) before now outcome
-Comes (Check story certificate) known input before now outcome = CheckComesTo (known story) (known certificate) before now outcome
-Comes (Play story None seed budget status save) known input before now outcome =
-    ComesTo (known story) (record { budget = budget; status = status }) (given input seed (store_of save)) before now outcome
-Comes (Play story (Some certificate) seed budget status save) known input before now outcome =
-    PlayComesTo (known story) (known certificate) (record { budget = budget; status = status }) (given input seed (store_of save)) before now outcome
+-- what comes of a request, with the bytes of files before and now, with the input, and with what the writer took before and has taken now
+abbrev pub Comes : Request → (List ℕ → Option (List ℕ)) → (List ℕ → Option (List ℕ)) → Option (List ℕ) → Option (List ℕ) → Option (List ℕ) → Outcome → Type 0
+Comes (ListStory story) held holds input before now outcome = ListComesTo (held story) before now outcome
+Comes (Find story certificate) held holds input before now outcome = FindComesTo story certificate held holds before now outcome
+Comes (Check story certificate) held holds input before now outcome = CheckComesTo (held story) (held certificate) before now outcome
+Comes (Play story None seed budget status save) held holds input before now outcome =
+    ComesTo (held story) (record { budget = budget; status = status }) (given input seed (store_of save)) before now outcome
+Comes (Play story (Some certificate) seed budget status save) held holds input before now outcome =
+    PlayComesTo (held story) (held certificate) (record { budget = budget; status = status }) (given input seed (store_of save)) before now outcome
+Comes (Explain code) held holds input before now outcome = ExplainComesTo code before now outcome
 
 -- a request whose answer needs no input
 abbrev pub is_quiet : Request → Bool
 is_quiet (Play story certificate seed budget status save) = false
 is_quiet _ = true
 
--- the name of the file that a request may write
+-- the name of the file that saves are kept in, if a request has one
 abbrev pub save_in : Request → Option Text
 save_in (Play story certificate seed budget status save) = save
 save_in _ = None
+
+-- the name of the file that a request may write
+abbrev pub written_by : Request → Option Text
+written_by (Find story certificate) = Some certificate
+written_by request = save_in request
 
 -- A request, with the values among clap's matches: what it comes to is reported. The writer is blamed just where it failed, and
 -- so are the reader, which isn't asked but for a play, and the files, unless saves are kept in one: then they may fail, and the play goes
@@ -148,13 +156,13 @@ pub record Does (words : List Text) (status : ℕ) (old new : Devices) : Type 0 
   pub request : Request
   pub asks : Asks matches request
   pub outcome : Outcome
-  pub comes : Comes request old.files.known old.reader.remaining old.writer.contents new.writer.contents outcome
+  pub comes : Comes request old.files.known new.files.known old.reader.remaining old.writer.contents new.writer.contents outcome
   pub blamed : outcome ≡ Stopped (Failed Write) → RisesByOne old.writer.failures new.writer.failures
   pub quiet : outcome ≢ Stopped (Failed Write) → new.writer.failures ≡ old.writer.failures
   pub flushed : outcome ≢ Stopped (Failed Write) → IsFlushed (λ (writer : Seen). writer.waits) old.writer new.writer
   pub unread : outcome ≡ Stopped (Failed File) → RisesByOne old.files.failures new.files.failures
   pub unfailed : save_in request ≡ None → outcome ≢ Stopped (Failed File) → new.files.failures ≡ old.files.failures
-  pub kept : save_in request ≡ None → new.files.known ≡ old.files.known
+  pub kept : written_by request ≡ None → new.files.known ≡ old.files.known
   pub unheard : outcome ≡ Stopped (Failed Read) → RisesByOne old.reader.failures new.reader.failures
   pub heard : outcome ≢ Stopped (Failed Read) → new.reader.failures ≡ old.reader.failures
   pub unasked : is_quiet request ≡ true → new.reader ≡ old.reader

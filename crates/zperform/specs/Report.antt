@@ -1,5 +1,5 @@
 -- What the program says of what a command came to, and its exit status (own).
-use Rattle.std.specs.Prelude.{Result, Ok, Err, ℕ, ◌/◌, ◌%◌, ◌++◌, List, [], ◌∷◌, ℤ, pos, negsuc, codes, decimal, if◌then◌else◌, nat_lt, slice_index}
+use Rattle.std.specs.Prelude.{Result, Ok, Err, Option, None, Some, ℕ, ◌/◌, ◌%◌, ◌++◌, List, [], ◌∷◌, ℤ, pos, negsuc, codes, decimal, if◌then◌else◌, nat_lt, slice_index}
 use Rattle.std.specs.Fmt.{signed_decimal}
 use Rattle.zfault.specs.Fault.{number_of as fault_number}
 use Rattle.zstory.specs.Refusal.{number_of as refusal_number}
@@ -15,6 +15,11 @@ use Rattle.zcheck.specs.declared.refusal.Refusal.TheVariants as refusals
 use Rattle.zlist.specs.Listed.{number_of as list_number, place_of as list_place}
 use Rattle.zlist.specs.declared.list_error.ListError.{ListError}
 use Rattle.zlist.specs.declared.list_error.ListError.TheVariants.{OutOfMemory as NoMemoryToList}
+use Rattle.zfind.specs.Finding.{number_of as find_number}
+use Rattle.zfind.specs.declared.error.FindError.{FindError}
+use Rattle.zfind.specs.declared.error.FindError.TheVariants.{NotFound, RoundLimit, OutOfMemory as NoMemoryToFind}
+use Rattle.zfind.specs.declared.error.Obstacle.{Obstacle}
+use Rattle.zfind.specs.declared.error.Obstacle.TheVariants as obstacles
 use Rattle.zplayer.specs.declared.end.End.{End}
 use Rattle.zplayer.specs.declared.end.End.TheVariants as ends
 use Rattle.zplayer.specs.declared.end.PlayError.{PlayError}
@@ -22,9 +27,9 @@ use Rattle.zplayer.specs.declared.end.PlayError.TheVariants as errors
 use Rattle.zperform.specs.declared.outcome.Failure.{Failure}
 use Rattle.zperform.specs.declared.outcome.Failure.TheVariants.{File, Read, Write, Memory}
 use Rattle.zperform.specs.declared.outcome.Problem.{Problem}
-use Rattle.zperform.specs.declared.outcome.Problem.TheVariants.{Refused, Unreadable, BreaksStory, BreaksInstruction, Unlisted, Failed}
+use Rattle.zperform.specs.declared.outcome.Problem.TheVariants.{Refused, Unreadable, BreaksStory, BreaksInstruction, Unlisted, Unfound, Failed}
 use Rattle.zperform.specs.declared.outcome.Outcome.{Outcome}
-use Rattle.zperform.specs.declared.outcome.Outcome.TheVariants.{Listed, Accepted, Played, Stopped}
+use Rattle.zperform.specs.declared.outcome.Outcome.TheVariants.{Listed, Found, Accepted, Explained, NoSuchCode, Played, Stopped}
 
 -- a story that isn't loaded is refused, but for want of memory
 abbrev pub problem_of_load : LoadError → Problem
@@ -53,12 +58,15 @@ problem_of_play errors.Read = Failed Read
 problem_of_play errors.Write = Failed Write
 problem_of_play errors.OutOfMemory = Failed Memory
 
--- the exit status: 1 for a refusal, 3 for a fault, 4 for a failure, and else 0
+-- the exit status: 1 for a refusal, 2 for what is no code, 3 for a fault, 4 for a failure, and else 0
 abbrev pub status_of : Outcome → ℕ
 status_of (Played (ends.Fault fault place)) = 3
 status_of (Played end) = 0
 status_of Listed = 0
+status_of Found = 0
 status_of Accepted = 0
+status_of Explained = 0
+status_of NoSuchCode = 2
 status_of (Stopped (Failed failure)) = 4
 status_of (Stopped problem) = 1
 
@@ -88,15 +96,38 @@ end_text ends.Budget = codes "end: budget"
 end_text ends.FrameLimit = codes "end: frame limit"
 end_text (ends.Fault fault place) = codes "fault: F" ++ decimal (fault_number fault) ++ codes " at " ++ place_text place
 
+-- where a search stopped, if it was at a place
+abbrev pub stopped_text : FindError → List ℕ
+stopped_text (NotFound (obstacles.Place place rule)) = codes " at " ++ place_text place
+stopped_text (NotFound (obstacles.Story rule)) = []
+stopped_text RoundLimit = []
+stopped_text NoMemoryToFind = []
+
+-- what is broken in every certificate, if that is known
+abbrev pub broken_text : Option Obstacle → List ℕ
+broken_text None = codes "not found"
+broken_text (Some (obstacles.Story rule)) = codes "no certificate: S" ++ decimal (story_rule_number rule)
+broken_text (Some (obstacles.Place place rule)) = codes "no certificate: I" ++ decimal (rule_number rule) ++ codes " at " ++ place_text place
+
+-- what is said of a code that there isn't, as clap says it of words: three lines with empty ones between
+abbrev pub no_code : List ℕ
+no_code =
+    codes "error: there is no such code; there are L1 to L12, K1 to K8, S1 to S8, I1 to I18, U1 to U4, G1 to G3, F1 to F16, J1 to J5, E1 to E3, Q1 to Q11 and P1 to P3"
+    ++ 10 ∷ 10 ∷ codes "Usage: zpc explain <CODE>" ++ 10 ∷ 10 ∷ codes "For more information, try '--help'."
+
 abbrev pub text_of : Outcome → List ℕ
 text_of Listed = []
+text_of Found = []
 text_of Accepted = []
+text_of Explained = []
+text_of NoSuchCode = no_code
 text_of (Played end) = end_text end
 text_of (Stopped (Refused error)) = codes "refused: L" ++ decimal (refusal_number error)
 text_of (Stopped (Unreadable error)) = codes "refused: K" ++ decimal (reading_number error)
 text_of (Stopped (BreaksStory rule)) = codes "refused: S" ++ decimal (story_rule_number rule)
 text_of (Stopped (BreaksInstruction address rule)) = codes "refused: I" ++ decimal (rule_number rule) ++ codes " at " ++ place_text (pos address)
 text_of (Stopped (Unlisted error)) = codes "refused: U" ++ decimal (list_number error) ++ codes " at " ++ place_text (list_place error)
+text_of (Stopped (Unfound error broken)) = codes "refused: G" ++ decimal (find_number error) ++ stopped_text error ++ 10 ∷ broken_text broken
 text_of (Stopped (Failed failure)) = failure_text failure
 
 -- what comes of playing, or of what kept it from being done

@@ -4,6 +4,7 @@ ghost use Rattle.std.specs.Prelude.{◌≡◌, ◌≢◌, ◌<◌, ◌≤◌, �
 ghost use Rattle.zfault.specs.Devices.{RisesByOne};
 ghost use Rattle.zplayer.specs.Outside.{CountsRefusal};
 ghost use Rattle.zperform.specs.Contents.{CountsNone, HasBytes, IsBeginning, ReadsPart};
+ghost use Rattle.zperform.specs.Finding.{HasAlone};
 
 use crate::outcome::{Failure, Problem};
 use arrayvec::{ArrayString, ArrayVec};
@@ -37,6 +38,8 @@ pub trait Files {
 
     /// Makes a file that has these bytes alone. False where it failed, and only then the count of failures rises, by one.
     fn put(&mut self, name: &str, bytes: &[u8]) -> bool
+        ensures whole { result ≡ true → HasAlone bytes.now (known self.new name.now) }
+        ensures spared { (other : List ℕ) → other ≢ name.now → known self.new other ≡ known self.old other }
         ensures counts { CountsRefusal (failures self.old) (failures self.new) result };
 }
 

@@ -3,6 +3,7 @@
 
 mod accepting;
 mod files;
+mod finding;
 mod listing;
 mod message;
 mod outcome;

@@ -1,21 +1,31 @@
 //! The line that says what a command came to, made with no memory.
 
-ghost use Rattle.std.specs.Prelude.{◌≡◌, ◌<◌, ◌≤◌, ◌+◌, ◌++◌, [], ◌∷◌, length, decimal, pos};
+ghost use Rattle.std.specs.Prelude.{◌≡◌, ◌<◌, ◌≤◌, ◌+◌, ◌++◌, [], ◌∷◌, codes, length, decimal, pos};
+ghost use Rattle.zfind.specs.Finding.{number_of as find_number};
 ghost use Rattle.zlist.specs.Listed.{number_of, place_of};
-ghost use Rattle.zperform.specs.Report.{address_text, end_text, failure_text, hex_digit, line_of, place_text, text_of};
+ghost use Rattle.zperform.specs.Report.{address_text, broken_text, end_text, failure_text, hex_digit, line_of, place_text, stopped_text, text_of};
 
 use crate::outcome::{Failure, Outcome, Problem};
 use arrayvec::ArrayVec;
 use itoa::Buffer;
 use std::marker::Model;
 use zfault::Fault;
+use zfind::{FindError, Obstacle};
 use zlist::ListError;
 use zplayer::End;
 
-/// The most bytes that a line has room for.
-const ROOM: usize = 32;
+/// The most bytes that a text has room for.
+const ROOM: usize = 256;
 
-/// A short line of text.
+/// What is said of a code that there isn't.
+const NO_CODE: &[u8] =
+    b"error: there is no such code; there are L1 to L12, K1 to K8, S1 to S8, I1 to I18, U1 to U4, G1 to G3, F1 to F16, J1 to J5, E1 to E3, Q1 to Q11 and P1 to P3
+
+Usage: zpc explain <CODE>
+
+For more information, try '--help'.";
+
+/// A short text: a line, or a few.
 #[derive(Drop)]
 pub struct Message {
     bytes: ArrayVec<u8, ROOM>,
@@ -30,13 +40,14 @@ impl Model for Message {
 }
 
 impl Message {
-    /// The line of an outcome, with its end; empty where there is nothing to say.
+    /// The lines of an outcome, with their ends; empty where there is nothing to say.
     pub fn of(outcome: &Outcome) -> Message
         ensures { result ≡ line_of (text_of outcome.now) }
     {
         let mut message = Message::new();
         match outcome {
-            Outcome::Listed | Outcome::Accepted => {}
+            Outcome::Listed | Outcome::Found | Outcome::Accepted | Outcome::Explained => {}
+            Outcome::NoSuchCode => message.push(NO_CODE),
             Outcome::Played(end) => message.push_end(end),
             Outcome::Stopped(problem) => message.push_problem(problem),
         }
@@ -85,7 +96,50 @@ impl Message {
                 self.push(b" at ");
                 self.push_place_of(*error);
             }
+            Problem::Unfound(error, broken) => {
+                self.push_unfound(*error);
+                self.push(b"\n");
+                self.push_broken(*broken);
+            }
             Problem::Failed(failure) => self.push(failure_text(*failure)),
+        }
+    }
+
+    /// Where a search for a certificate stopped.
+    fn push_unfound(&mut self, error: FindError)
+        requires { self.old ≡ [] }
+        ensures text { self.new ≡ codes "refused: G" ++ decimal (find_number error) ++ stopped_text error }
+        ensures most { length self.new ≤ 28 }
+    {
+        self.push_code(b"refused: G", error.number());
+        match error {
+            FindError::NotFound(Obstacle::Place(place, _)) => {
+                self.push(b" at ");
+                self.push_place(place);
+            }
+            FindError::NotFound(Obstacle::Story(_)) => {}
+            FindError::RoundLimit | FindError::OutOfMemory => {}
+        }
+    }
+
+    /// What is broken in every certificate, if that is known.
+    fn push_broken(&mut self, broken: Option<Obstacle>)
+        requires { length self.old + 35 ≤ ROOM }
+        ensures text { self.new ≡ self.old ++ broken_text broken }
+        ensures most { length self.new ≤ length self.old + 35 }
+    {
+        match broken {
+            Some(Obstacle::Story(rule)) => {
+                self.push(b"no certificate: S");
+                self.push_number(rule.number());
+            }
+            Some(Obstacle::Place(place, rule)) => {
+                self.push(b"no certificate: I");
+                self.push_number(rule.number());
+                self.push(b" at ");
+                self.push_place(place);
+            }
+            None => self.push(b"not found"),
         }
     }
 

@@ -6,6 +6,7 @@ ghost use Rattle.zperform.specs.Report.{problem_of_checking, problem_of_listing,
 use std::alloc::AllocError;
 use zcert::CertError;
 use zcheck::{Refusal, StoryRule};
+use zfind::{FindError, Obstacle};
 use zlist::ListError;
 use zplayer::{End, PlayError};
 use zrule::Rule;
@@ -37,6 +38,8 @@ pub enum Problem {
     BreaksInstruction(u32, Rule),
     /// The story has no listing. Never for want of memory.
     Unlisted(ListError),
+    /// No certificate was found; and what is broken in every one, if that is known. Never for want of memory.
+    Unfound(FindError, Option<Obstacle>),
     /// Something failed that isn't the story's fault.
     Failed(Failure),
 }
@@ -46,8 +49,14 @@ pub enum Problem {
 pub enum Outcome {
     /// The story was listed.
     Listed,
+    /// A certificate was found, and is in its file.
+    Found,
     /// The certificate was accepted.
     Accepted,
+    /// The code was explained.
+    Explained,
+    /// There is no such code.
+    NoSuchCode,
     /// The story was played, and ended so.
     Played(End),
     /// The command wasn't done, or not to its end.
@@ -61,7 +70,12 @@ impl Outcome {
     {
         match self {
             Outcome::Played(End::Fault(_, _)) => 3,
-            Outcome::Listed | Outcome::Accepted | Outcome::Played(_) => 0,
+            Outcome::Listed
+            | Outcome::Found
+            | Outcome::Accepted
+            | Outcome::Explained
+            | Outcome::Played(_) => 0,
+            Outcome::NoSuchCode => 2,
             Outcome::Stopped(Problem::Failed(_)) => 4,
             Outcome::Stopped(_) => 1,
         }

@@ -8,13 +8,14 @@ ghost use Rattle.std.specs.Io.KnownBytes.{Appends};
 ghost use Rattle.zfault.specs.Devices.{AppendsBeginning, RisesByOne};
 ghost use Rattle.zperform.specs.Accepting.{CheckComesTo, IsAccepted, PlayComesTo, accepted_line};
 ghost use Rattle.zcommand.specs.CommandLine.{request_of, zpc_app};
-ghost use Rattle.zperform.specs.Performing.{Comes, Explains, IsFlushed, Performs, Says, Told, devices, given, held, is_quiet, save_in, seen, store_of, told, Held};
+ghost use Rattle.zperform.specs.Performing.{Comes, Explains, IsFlushed, Performs, Says, Told, devices, given, held, is_quiet, save_in, seen, store_of, told, written_by, Held};
 ghost use Rattle.zplayer.specs.World.{told as told_store};
 ghost use Rattle.zperform.specs.Playing.{ComesTo, Holds};
 ghost use Rattle.zperform.specs.Report.{failure_text, line_of, no_text, outcome_of, status_of, text_of};
 
 use crate::accepting::{STORY_LIMIT, accept, load};
 use crate::files::{Files, read_file};
+use crate::finding::{explain_code, find_file};
 use crate::listing::list_file;
 use crate::message::Message;
 use crate::outcome::{Failure, Outcome, Problem};
@@ -74,19 +75,22 @@ fn carry_out<F: Files, R: Source, W: Sink>(
     reader: &mut R,
     writer: &mut W,
 ) -> Outcome
-    ensures comes { Comes (request_of command.entry) (F.known files.old) (R.remaining reader.old) (W.contents writer.old) (W.contents writer.new) result }
+    ensures comes { Comes (request_of command.entry) (F.known files.old) (F.known files.new) (R.remaining reader.old) (W.contents writer.old) (W.contents writer.new) result }
     ensures blamed { result ≡ Outcome.Stopped (Problem.Failed Failure.Write) → RisesByOne (W.failures writer.old) (W.failures writer.new) }
     ensures quiet { result ≢ Outcome.Stopped (Problem.Failed Failure.Write) → W.failures writer.new ≡ W.failures writer.old }
     ensures flushed { result ≢ Outcome.Stopped (Problem.Failed Failure.Write) → IsFlushed W.waits writer.old writer.new }
     ensures unread { result ≡ Outcome.Stopped (Problem.Failed Failure.File) → RisesByOne (F.failures files.old) (F.failures files.new) }
     ensures unfailed { save_in (request_of command.entry) ≡ None → result ≢ Outcome.Stopped (Problem.Failed Failure.File) → F.failures files.new ≡ F.failures files.old }
-    ensures kept { save_in (request_of command.entry) ≡ None → F.known files.new ≡ F.known files.old }
+    ensures kept { written_by (request_of command.entry) ≡ None → F.known files.new ≡ F.known files.old }
     ensures unheard { result ≡ Outcome.Stopped (Problem.Failed Failure.Read) → RisesByOne (R.failures reader.old) (R.failures reader.new) }
     ensures heard { result ≢ Outcome.Stopped (Problem.Failed Failure.Read) → R.failures reader.new ≡ R.failures reader.old }
     ensures unasked { is_quiet (request_of command.entry) ≡ true → reader.new ≡ reader.old }
 {
     match command {
         Command::List { story } => list_file(alloc, story, files, writer),
+        Command::Find { story, certificate } => {
+            find_file(alloc, story, certificate, files, writer)
+        }
         Command::Check { story, certificate } => {
             check_files(alloc, story, certificate, files, writer)
         }
@@ -125,6 +129,7 @@ fn carry_out<F: Files, R: Source, W: Sink>(
             reader,
             writer,
         )),
+        Command::Explain { code } => explain_code(code, writer),
     }
 }
 

@@ -4,7 +4,6 @@ use Rattle.std.specs.Prelude.{Result, Ok, Err, IfErr, ⊤}
 use Rattle.std.specs.Result.{is_ok}
 use Rattle.zdomain.specs.Domain.{SetOperations}
 use Rattle.zquetzal.specs.declared.error.SaveError.{SaveError}
-use Rattle.zrule.specs.Described.{Described}
 use Rattle.zstate.specs.Saves.{restoring}
 use Rattle.zstate.specs.State.{State}
 use Rattle.zplay.specs.Session.{IsRefusedSave, PlayingOver, setting}

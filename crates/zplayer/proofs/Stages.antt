@@ -4,7 +4,7 @@ use Rattle.std.specs.Prelude.{Option, Some, None, Result, Ok, Err, length, map, 
 use Rattle.std.specs.Io.KnownBytes.{Appends, Keeps}
 use Rattle.std.proofs.KnownBytes.{Appends-kept, Appends-trans, Appends-nil, prepend_known-nil}
 use Rattle.std.proofs.lemmas.List.{append-nil}
-use Rattle.zfault.specs.Answers.{answers, pause_for}
+use Rattle.zfault.specs.Answers.{answers}
 use Rattle.zfault.specs.Devices.{AppendsBeginning}
 use Rattle.zfault.proofs.DeviceLemmas.{AppendsBeginning-after, AppendsBeginning-whole}
 use Rattle.zfault.specs.declared.event.Event.{Event}
@@ -25,7 +25,7 @@ use Rattle.zstate.specs.declared.halt.Stop.TheVariants as stops
 use Rattle.zstate.specs.State.{Frame, State, Setting, give}
 use Rattle.zstate.specs.Step.{Done, fetch, step}
 use Rattle.zstate.specs.Saves.{going_on, restoring, resumed, save_place, saves, taken_frame, with_frames}
-use Rattle.zstate.specs.Run.{Ending, Input, Given, Restored, after, awaited, ends, handed, is_answered, need_in, restored, run, Goes, Stands}
+use Rattle.zstate.specs.Run.{Ending, Input, Given, Restored, after, awaited, ends, handed, need_in, restored, run, Goes, Stands}
 use Rattle.zstate.proofs.Joins.{steps_join, inputs_join}
 use Rattle.zstate.proofs.Calls.{stands_still, goes_join}
 use Rattle.zscreen.specs.Rendering.{render}
@@ -35,7 +35,7 @@ use Rattle.zplayer.specs.declared.end.PlayError.{PlayError}
 use Rattle.zplayer.specs.declared.end.PlayError.TheVariants as errors
 use Rattle.zplayer.specs.Lines.{Ahead, unused}
 use Rattle.zplayer.specs.Outside.{Coming}
-use Rattle.zplayer.specs.World.{Answers, HasNone, Refuses, Store, TakesUp, World, world}
+use Rattle.zplayer.specs.World.{Answers, Refuses, Store, World, world}
 use Rattle.zplayer.specs.Playing.{Breaks, Finishes, Leads, Meets, Plays, PlaysInPart, Restores, Stage, Supplies, Walks, Writes, WritesInPart, end_of, stage}
 
 -- ---- what the world's answers are to a state that needs them

@@ -1,5 +1,5 @@
 -- Values of the definitions, computed.
-use Rattle.std.proofs.Common.{◌≡◌, ◌≢◌, inl, inr, ℕ, zero, suc, Bool, true, false, List, [], ◌∷◌, ◌++◌, replicate, Option, Some, None, Result, Ok, Err, refl, subst, arith}
+use Rattle.std.proofs.Common.{◌≡◌, ◌≢◌, inl, inr, ℕ, zero, suc, Bool, true, false, List, [], ◌∷◌, ◌++◌, replicate, Option, Some, None, Result, Err, refl, subst, arith}
 use Rattle.std.specs.Prelude.{pos, ⊤}
 use Rattle.std.specs.List.{All}
 use Rattle.std.proofs.lemmas.List.Elements.{All-cons, All-nil}
@@ -18,9 +18,9 @@ use Rattle.zplayer.specs.declared.end.PlayError.TheVariants as errors
 use Rattle.zplayer.specs.declared.lines.LineEnd.TheVariants.{Newline, Input}
 use Rattle.zplayer.specs.declared.lines.TheConstants.{KEPT, PIECE}
 use Rattle.zplayer.specs.declared.turns.TheConstants.{TURN}
-use Rattle.zplayer.specs.Lines.{IsEnded, IsLast, ReadsLine, Hears, line_of, unused, without_return}
+use Rattle.zplayer.specs.Lines.{ReadsLine, Hears, line_of, without_return}
 use Rattle.zplayer.specs.Outside.{Blames, Coming, CountsRefusal, words_of}
-use Rattle.zplayer.specs.Playing.{Leads, Meets, Plays, Stage, Writes, end_of, stage}
+use Rattle.zplayer.specs.Playing.{Meets, Writes, end_of, stage}
 use Rattle.zplayer.specs.World.{Answers, Draws, Gets, HasNone, Puts, Refuses, Resumes, Store, World, world}
 
 -- ---- how playing ends

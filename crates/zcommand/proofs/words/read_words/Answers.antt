@@ -1,4 +1,3 @@
-use Rattle.zcommand.specs.CommandLine.{IsReadFrom}
 use Rattle.zcommand.proofs.Entered.{no_fault, command_fails, command_named, command_read}
 use Rattle.zcommand.proofs.words.read_words.Goals as goal
 

@@ -1,7 +1,7 @@
-use Rattle.std.proofs.Common.{◌∙◌, refl, rules}
+use Rattle.std.proofs.Common.{refl, rules}
 use Rattle.zplayer.specs.Lines.{unused}
 use Rattle.zplayer.specs.World.{told, world}
-use Rattle.zplayer.proofs.Stages.{fewer_to_come, given_to_come, handed_on, starts, stood, supplied, supply_broke, turn_broke, turn_made}
+use Rattle.zplayer.proofs.Stages.{given_to_come, handed_on, starts, stood, supplied, supply_broke, turn_broke, turn_made}
 use Rattle.zplayer.proofs.player.play_turns.Goals as goal
 
 pub turns-init : goal.turns-init

@@ -1,5 +1,5 @@
 use Rattle.std.proofs.Common.{◌∙◌, ap, subst, rules, arith, List, ℕ}
-use Rattle.zplayer.specs.Lines.{line_of, unused}
+use Rattle.zplayer.specs.Lines.{line_of}
 use Rattle.zplayer.specs.declared.lines.LineEnd.TheVariants.{Input}
 use Rattle.zplayer.proofs.ReadLemmas.{SoFar, goes_on, ends, ends_too_late}
 use Rattle.zplayer.proofs.lines.Lines.next_line.Goals as goal

@@ -1,0 +1,2 @@
+mod Among
+mod Worked

@@ -1,0 +1,71 @@
+-- What finding a certificate of a story file comes to, and what explaining a code does (own).
+use Rattle.std.specs.Prelude.{◌≡◌, ◌≢◌, ⊤, ℕ, ◌++◌, List, [], ◌∷◌, Option, None, Some, IfSome, codes}
+use Rattle.std.specs.Io.KnownBytes.{Appends}
+use Rattle.zfault.specs.Devices.{AppendsBeginning}
+use Rattle.zstory.specs.LoadedStory.{LoadedStory}
+use Rattle.zdomain.specs.declared.interval.Interval.{Interval}
+use Rattle.zdomain.specs.Interval.{interval_operations}
+use Rattle.zcert.specs.Certificate.{Certificate}
+use Rattle.zcert.specs.Format.{interval_format}
+use Rattle.zcert.specs.Spelling.{spelling}
+use Rattle.zcheck.specs.Passes.{Passes}
+use Rattle.zfind.specs.Finding.{IsFailure}
+use Rattle.zfind.specs.declared.error.FindError.TheVariants.{OutOfMemory as NoMemoryToFind}
+use Rattle.zexplain.specs.Texts.{explanation_of}
+use Rattle.zperform.specs.Accepting.{HoldsStory, IsNoStory}
+use Rattle.zperform.specs.declared.outcome.Failure.TheVariants.{File, Write, Memory}
+use Rattle.zperform.specs.declared.outcome.Problem.{Problem}
+use Rattle.zperform.specs.declared.outcome.Problem.TheVariants.{Unfound, Failed}
+use Rattle.zperform.specs.declared.outcome.Outcome.{Outcome}
+use Rattle.zperform.specs.declared.outcome.Outcome.TheVariants.{Explained, Found, NoSuchCode, Stopped}
+
+-- the bytes spell a certificate that passes for a story
+pub record IsCertificateOf (story : LoadedStory) (bytes : List ℕ) : Type 0 where
+  pub certificate : Certificate Interval
+  pub passes : Passes interval_operations story certificate
+  pub spelled : bytes ≡ spelling interval_format certificate
+
+-- why none is found for a story, but for want of memory
+abbrev pub IsUnfound : LoadedStory → Problem → Type 0
+IsUnfound story (Unfound error broken) = IsFailure story error × (error ≢ NoMemoryToFind)
+IsUnfound story (Failed Memory) = ⊤
+IsUnfound story problem = ⊥
+
+-- the bytes spell a certificate of the story that a file holds
+abbrev pub IsFound : Option (List ℕ) → List ℕ → Type 0
+IsFound known bytes = (story : LoadedStory) × HoldsStory known story × IsCertificateOf story bytes
+
+-- why none is found for the story of a file: it holds no story, or one for which none is found
+abbrev pub IsNotFound : Option (List ℕ) → Problem → Type 0
+IsNotFound known (Unfound error broken) = (story : LoadedStory) × HoldsStory known story × IsUnfound story (Unfound error broken)
+IsNotFound known problem = IsNoStory known problem
+
+-- a file has these bytes alone, where its bytes are known
+abbrev pub HasAlone : List ℕ → Option (List ℕ) → Type 0
+HasAlone bytes known = IfSome known (λ file. file ≡ bytes)
+
+-- what `find` writes where it found one
+abbrev pub found_line : List ℕ
+found_line = codes "found" ++ 10 ∷ []
+
+-- What finding comes to, with the bytes of files before and now, and with what the writer took before and has taken now: a certificate
+-- that is found stands in its file before a word is said of it.
+abbrev pub FindEnds : List ℕ → List ℕ → (List ℕ → Option (List ℕ)) → (List ℕ → Option (List ℕ)) → Option (List ℕ) → Option (List ℕ) → Outcome → Type 0
+FindEnds story certificate held holds before now Found = (bytes : List ℕ) × IsFound (held story) bytes × HasAlone bytes (holds certificate) × Appends before now found_line
+FindEnds story certificate held holds before now (Stopped (Failed Write)) =
+    (bytes : List ℕ) × IsFound (held story) bytes × HasAlone bytes (holds certificate) × AppendsBeginning before now found_line
+FindEnds story certificate held holds before now (Stopped (Failed File)) = now ≡ before
+FindEnds story certificate held holds before now (Stopped problem) = IsNotFound (held story) problem × (holds ≡ held) × (now ≡ before)
+FindEnds story certificate held holds before now outcome = ⊥
+
+-- and no other file changes
+pub record FindComesTo (story certificate : List ℕ) (held holds : List ℕ → Option (List ℕ)) (before now : Option (List ℕ)) (outcome : Outcome) : Type 0 where
+  pub ends : FindEnds story certificate held holds before now outcome
+  pub spared : (name : List ℕ) → name ≢ certificate → holds name ≡ held name
+
+-- What explaining a code comes to, with what the writer took before and has taken now: its text is written, if it is one.
+abbrev pub ExplainComesTo : List ℕ → Option (List ℕ) → Option (List ℕ) → Outcome → Type 0
+ExplainComesTo code before now Explained = (text : List ℕ) × (explanation_of code ≡ Some text) × Appends before now text
+ExplainComesTo code before now (Stopped (Failed Write)) = (text : List ℕ) × (explanation_of code ≡ Some text) × AppendsBeginning before now text
+ExplainComesTo code before now NoSuchCode = (explanation_of code ≡ None) × (now ≡ before)
+ExplainComesTo code before now outcome = ⊥

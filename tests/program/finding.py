@@ -1,0 +1,104 @@
+"""Runs of `find` and `explain`: what is written, where, and what is said of stories that have no certificate."""
+import os
+import subprocess
+import tempfile
+
+from program import Answer
+from samples import HELLO, NEW_LINE, QUIT, changed, story, with_objects
+
+HERE = os.path.dirname(os.path.abspath(__file__))
+SAMPLE = story(HELLO + QUIT)
+
+# ---- stories that are found: name, story, what is played
+
+FOUND = [
+    ("a text", SAMPLE, b"hello"),
+    ("a new line", story(NEW_LINE + QUIT), b"\n"),
+    ("words and objects", with_objects(), b""),
+    # je 5 5 ?~(rtrue), which main code may not do, is never taken; print_num 7
+    ("a branch that isn't taken", story(b"\x01\x05\x05\x41" + QUIT), None),
+    # store local through a loop: globals count from 0 on: inc 16; jump back
+    ("a loop that never ends", story(b"\x95\x10" + b"\x8c\xff\xfd"), None),
+]
+
+# ---- stories for which there is none: name, story, the two lines
+
+NONE = [
+    ("a byte that is no opcode", story(b"\xbe"), ("G1 at 00324", "no certificate: I1 at 00324")),
+    ("a jump out of memory", story(b"\x8c\x7f\xff"), ("G1 at 08325", "no certificate: I1 at 08325")),
+    ("a jump below 0", story(b"\x8c\xf0\x00"), ("G1 at -3291", "no certificate: I1 at -3291")),
+    ("a jump by the stack", story(b"\xac\x00"), ("G1 at 00324", "no certificate: I4 at 00324")),
+    ("a pull of an empty stack", story(b"\xe9\x7f\x10" + QUIT), ("G1 at 00324", "no certificate: I2 at 00324")),
+    ("a return of the main code", story(b"\xb0"), ("G1 at 00324", "no certificate: I13 at 00324")),
+    ("the parent of object 0", story(b"\x93\x00\x10" + QUIT), ("G1 at 00324", "no certificate: I5 at 00324")),
+    # print_num of 1 divided by global 16, which is 0
+    ("a division by 0", story(b"\x57\x01\x10\x11" + QUIT), ("G1 at 00324", "no certificate: I8 at 00324")),
+]
+
+EXPLAINED = b"""I5: an operand that has to be an object may be none, most often 0.
+Rule: each value of such an operand is 1 to the count of the story's objects (Z 12.3, 15).
+Do: test the local that is then used: p = parent(o); if (p == 0) rfalse; o = p; and keep no 0 or -1 in a global that
+names an object.
+"""
+
+
+def see_explaining(program, count):
+    count.is_answer("a code", program.run(["explain", "I5"]), Answer(0, EXPLAINED, b""))
+    count.is_answer("a code of two digits", program.run(["explain", "F11"]).output[:42], b"F11: a store where nothing may be stored.\n")
+    for name, script in [("a full device", '"$1" explain I5 >/dev/full'), ("a closed output", '"$1" explain I5 >&-')]:
+        ran = subprocess.run(["bash", "-c", script, "run", program.path], stdin=subprocess.DEVNULL, capture_output=True, timeout=60)
+        count.is_answer(f"explain to {name}", Answer(ran.returncode, ran.stdout, ran.stderr), Answer(4, b"", b"failed: write\n"))
+
+
+def see_none(program, count):
+    for name, made, (first, second) in NONE:
+        answer, written = program.found(made)
+        count.is_answer(f"{name}, find", answer, Answer(1, b"", f"refused: {first}\n{second}\n".encode()))
+        count.see(written is None, f"{name}, find: a certificate was written")
+    for name, made, code in [("an empty story", b"", "L1"), ("another version", changed(SAMPLE, 0, 5), "L3"), ("words that fall", changed(with_objects(), 0x361, 0x47), "L10")]:
+        answer, written = program.found(made)
+        count.is_answer(f"{name}, find", answer, Answer(1, b"", f"refused: {code}\n".encode()))
+        count.see(written is None, f"{name}, find: a certificate was written")
+    count.is_answer("no story there to find for", program.run(["find", "absent", "certificate"]), Answer(4, b"", b"failed: file\n"))
+
+
+def see_found(program, count):
+    for name, made, shown in FOUND:
+        answer, written = program.found(made)
+        count.is_answer(f"{name}, find", answer, Answer(0, b"found\n", b""))
+        if written is None:
+            count.see(False, f"{name}, find: no certificate was written")
+            continue
+        files = {"story": made, "certificate": written}
+        count.is_answer(f"{name}, check of what was found", program.run(["check", "story", "certificate"], files), Answer(0, b"accepted\n", b""))
+        plain, listed = (program.run(["play", "--budget", "1000", *words], files) for words in (["story"], ["story", "certificate"]))
+        count.see(plain == listed and (shown is None or plain.output == shown), f"{name}: {plain}; by what was found: {listed}; wanted was {shown}")
+
+
+def see_files(program, count):
+    """Where the certificate is written: whole, before a word is said, and never in part over an old one."""
+    with tempfile.TemporaryDirectory(prefix="zpc-") as room:
+        with open(os.path.join(room, "story"), "wb") as file:
+            file.write(SAMPLE)
+        run = lambda script: subprocess.run(["bash", "-c", script, "run", program.path], cwd=room, stdin=subprocess.DEVNULL, capture_output=True, timeout=60)
+        for name, script, wanted in [
+            ("a certificate over a file", 'echo old > old; "$1" find story old && "$1" check story old', Answer(0, b"found\naccepted\n", b"")),
+            ("a certificate through a link", 'echo old > there; ln -s there link; "$1" find story link && "$1" check story there && test -L link', Answer(0, b"found\naccepted\n", b"")),
+            ("a certificate to a folder that isn't there", '"$1" find story absent/certificate', Answer(4, b"", b"failed: file\n")),
+            ("a certificate over a folder", 'mkdir folder; "$1" find story folder', Answer(4, b"", b"failed: file\n")),
+            ("a certificate to a full device", '"$1" find story /dev/full', Answer(4, b"", b"failed: file\n")),
+            ("found, to a full device", '"$1" find story first >/dev/full; "$1" check story first', Answer(0, b"accepted\n", b"failed: write\n")),
+            ("found, to a closed output", '"$1" find story second >&-; "$1" check story second', Answer(0, b"accepted\n", b"failed: write\n")),
+            ("no part left", 'ls *.part 2>/dev/null; true', Answer(0, b"", b"")),
+            ("a story from a pipe", '"$1" find <(cat story) third && "$1" check story third', Answer(0, b"found\naccepted\n", b"")),
+            ("none found, and an old one", 'printf "\\276" | cat > bad; echo old > kept; "$1" find bad kept; cat kept', Answer(0, b"old\n", b"refused: L1\n")),
+        ]:
+            ran = run(script)
+            count.is_answer(name, Answer(ran.returncode, ran.stdout, ran.stderr), wanted)
+
+
+def see_finding(program, count):
+    see_explaining(program, count)
+    see_none(program, count)
+    see_found(program, count)
+    see_files(program, count)
