@@ -23,7 +23,7 @@ FORMS = [
     ("relation", "I9", b""),
     ("word", "I11", b"green\n"),
     ("property", "I5", b""),
-    ("count", "I7", b""),
+    ("count", "I5", b""),
     ("nothing", "I5", b""),
     ("list", "I7", b""),
     ("variable", "I15", b""),

@@ -25,14 +25,14 @@ FOUND = [
 
 NONE = [
     ("a byte that is no opcode", story(b"\xbe"), ("G1 at 00324", "no certificate: I1 at 00324")),
-    ("a jump out of memory", story(b"\x8c\x7f\xff"), ("G1 at 08325", "no certificate: I1 at 08325")),
+    ("a jump out of memory", story(b"\x8c\x7f\xff"), ("G1 at 08324", "no certificate: I1 at 08324")),
     ("a jump below 0", story(b"\x8c\xf0\x00"), ("G1 at -3291", "no certificate: I1 at -3291")),
     ("a jump by the stack", story(b"\xac\x00"), ("G1 at 00324", "no certificate: I4 at 00324")),
     ("a pull of an empty stack", story(b"\xe9\x7f\x10" + QUIT), ("G1 at 00324", "no certificate: I2 at 00324")),
     ("a return of the main code", story(b"\xb0"), ("G1 at 00324", "no certificate: I13 at 00324")),
     ("the parent of object 0", story(b"\x93\x00\x10" + QUIT), ("G1 at 00324", "no certificate: I5 at 00324")),
     # print_num of 1 divided by global 16, which is 0
-    ("a division by 0", story(b"\x57\x01\x10\x11" + QUIT), ("G1 at 00324", "no certificate: I8 at 00324")),
+    ("a division by 0", story(b"\x37\x01\x10\x11" + QUIT), ("G1 at 00324", "no certificate: I8 at 00324")),
 ]
 
 EXPLAINED = b"""I5: an operand that has to be an object may be none, most often 0.

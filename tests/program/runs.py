@@ -12,6 +12,7 @@ import sys
 from arrays import see_arrays
 from calls import see_calls
 from finding import see_finding
+from game import see_game
 from lines import see_lines
 from objects import see_objects
 from plays import see_plays
@@ -376,6 +377,7 @@ def main():
     see_texts(program, count)
     see_lines(program, count)
     see_finding(program, count)
+    see_game(program, count)
     see_streams(program, count)
     count.end()
 
