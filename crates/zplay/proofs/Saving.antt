@@ -1,6 +1,6 @@
 -- What a session saves is accepted, and what it accepts is fine.
 use Rattle.std.proofs.Common.{◌≡◌, ◌↔◌, inl, inr, ◌⊎◌, List, ℕ, ◌≤◌, true, Result, Ok, Err, Some, refl, sym, ap, subst, ◌∙◌, arith}
-use Rattle.std.specs.Prelude.{IsOk}
+use Rattle.std.specs.Prelude.{IfErr, IsOk}
 use Rattle.zfault.specs.declared.pause.Need.TheVariants as needs
 use Rattle.zcode.specs.Operation.{operation_of}
 use Rattle.zquetzal.specs.declared.error.SaveError.{SaveError}
@@ -59,3 +59,8 @@ pub refused_apart : {V : Type 0} (o : SetOperations V) (p : PlayingOver V) (byte
 refused_apart o p bytes e (inl refused) (t, goes, d) = err_not_ok (restoring (setting p) bytes p.state) e t refused goes
 refused_apart o p bytes e (inr (not_described, u, goes_so, apart)) (t, goes, d) =
     apart (subst (Described o (claims o p.accepted) usual_limit p.accepted.story) (ok_once (restoring (setting p) bytes p.state) t u goes goes_so) d)
+
+-- so where a save is refused, it isn't accepted
+pub refused_exact : {V A : Type 0} (o : SetOperations V) (p : PlayingOver V) (bytes : List ℕ) (r : Result A SaveError) (e : SaveError) → r ≡ Err e → IfErr r (IsRefusedSave o p bytes) → IsOk r ↔ Accepts o p bytes
+refused_exact o p bytes (Ok x) e is refused = absurd cc
+refused_exact o p bytes (Err d) e is refused = (λ t. absurd cc, λ accepts. absurd (refused_apart o p bytes d refused accepts))

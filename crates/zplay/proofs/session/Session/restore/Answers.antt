@@ -1,4 +1,4 @@
-use Rattle.std.proofs.Common.{◌≡◌, ◌∙◌, List, Ok, Some, ap, map, subst, sym}
+use Rattle.std.proofs.Common.{◌≡◌, ◌∙◌, List, Ok, Some, refl, ap, map, subst, sym}
 use Rattle.std.proofs.lemmas.Result.{err_from_is_err_and}
 use Rattle.zquetzal.specs.Reading.{reading}
 use Rattle.zstate.specs.State.{State, usual_limit}
@@ -10,6 +10,7 @@ use Rattle.zplay.specs.Accepted.{claims}
 use Rattle.zplay.specs.Session.{IsInPlay, game_of, stands_in}
 use Rattle.zplay.proofs.Playing.{played_there}
 use Rattle.zplay.proofs.Resumed.{described_in, each_fixed, in_play_resumed, refused_by, restored_is, stands}
+use Rattle.zplay.proofs.Saving.{refused_exact}
 use Rattle.zplay.proofs.session.Session.restore.Goals as goal
 
 pub judge_save-requires-clause-fixed : goal.judge_save-requires-clause-fixed
@@ -58,3 +59,11 @@ returns-clause-ok g c =
       restored_is o a s c.in_ok-view.view c.args.save.now is (state_in (game_of o a) (position_of c.resume.new.self)) now j.0,
       subst (Described o (claims o a) usual_limit a.story) (sym now) j.1,
     )
+
+pub returns-in_err-judge_save-clause-exact : goal.returns-in_err-judge_save-clause-exact
+returns-in_err-judge_save-clause-exact g c =
+    let p = err_from_is_err_and c.from_residual-in_err-judge_save.result c.from_residual-in_err-judge_save.ensures.1 in
+    refused_exact g.V.Domain.operations c.args.self.now c.args.save.now c.from_residual-in_err-judge_save.result p.0 p.1 (returns-in_err-judge_save-clause-refused g c)
+
+pub returns-clause-exact : goal.returns-clause-exact
+returns-clause-exact g c = let ok = returns-clause-ok g c in (λ t. (_, ok.0, ok.1), λ accepts. refl)
