@@ -1,6 +1,6 @@
 //! Saves from which play goes on (Z 15 restore).
 
-ghost use Rattle.std.specs.Prelude.{◌≡◌, length, Ok, Some, IfErr, IfOk};
+ghost use Rattle.std.specs.Prelude.{◌≡◌, length, Ok, IfErr, IfOk};
 ghost use Rattle.zstory.specs.Bytes.{AreBytes};
 ghost use Rattle.zstory.specs.LoadedStory.{IsSound};
 ghost use Rattle.zstate.specs.Saves.{is_save, restoring, saves};

@@ -1,6 +1,6 @@
 //! Which bytes no play changes.
 
-ghost use Rattle.std.specs.Prelude.{◌≡◌, ◌<◌};
+ghost use Rattle.std.specs.Prelude.{◌≡◌, ◌<◌, ◌&&◌, not};
 ghost use Rattle.zruns.specs.Fixed.{AreClosed, AreFixed, is_fixed};
 
 use zcert::Range;
@@ -30,5 +30,12 @@ fn is_fixed(story: &Story, ranges: &[Range], closed: &[bool; PLACES], place: usi
     requires word { place < 65536 }
     ensures { result ≡ is_fixed (record { story = story.now; ranges = ranges.now }) place }
 {
-    closed[place] && !is_changing(story, place)
+    stays(closed[place], is_changing(story, place))
+}
+
+/// Whether a byte stays as it is, by whether it is closed and whether an instruction may change it without asking.
+fn stays(closed: bool, changing: bool) -> bool
+    ensures { result ≡ (closed && not changing) }
+{
+    closed && !changing
 }
