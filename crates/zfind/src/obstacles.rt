@@ -37,7 +37,7 @@ pub fn broken_in_all(alloc: Global, story: &Story) -> Result<Option<Obstacle>, F
     let certificate = certificate_of(alloc, &code, &mut walk)?;
     match grown {
         Ok(()) => obstacle_for(story, certificate),
-        Err(FindError::RoundLimit) => Ok(certain_obstacle(&code, &walk, &certificate)),
+        Err(FindError::RoundLimit) => Ok(certain_obstacle(story, &code, &walk, &certificate)),
         Err(error) => Err(error),
     }
 }
@@ -65,16 +65,17 @@ fn obstacle_in(error: FindError) -> Result<Option<Obstacle>, FindError>
 
 /// The first rule that is broken, where more is to be found, and is broken by what was found alone.
 fn certain_obstacle(
+    story: &Story,
     code: &Code<'_>,
     walk: &Walk<'_, Interval>,
     certificate: &Certificate,
 ) -> Option<Obstacle> {
-    let tables = Tables::new(code.story, certificate.ranges());
-    let mut ends = TextEnds::new(code.story.memory());
+    let tables = Tables::new(story, certificate.ranges());
+    let mut ends = TextEnds::new(story.memory());
     for index in 0..certificate.instruction_count() {
         let listed = certificate.instruction(index);
         let judged = judge(
-            code.story,
+            story,
             &tables,
             certificate,
             &listed,
