@@ -1,5 +1,5 @@
 -- What kept a certificate from being found, as what is told of it.
-use Rattle.std.proofs.Common.{◌≡◌, ℕ, inl, inr, refl, cc}
+use Rattle.std.proofs.Common.{◌≡◌, ℕ, inl, inr, refl}
 use Rattle.std.specs.Prelude.{◌≢◌}
 use Rattle.zstory.specs.LoadedStory.{LoadedStory}
 use Rattle.zlist.specs.declared.list_error.ListError.{ListError}

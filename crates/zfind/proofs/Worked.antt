@@ -1,5 +1,5 @@
 -- Values of the definitions, computed.
-use Rattle.std.proofs.Common.{◌≡◌, refl}
+use Rattle.std.proofs.Common.{◌≡◌, refl, pos, negsuc}
 use Rattle.zcode.specs.declared.error.DecodeError.TheVariants.{Truncated}
 use Rattle.zlist.specs.declared.list_error.ListError.TheVariants as faults
 use Rattle.zrule.specs.declared.rule.Rule.TheVariants.{Decodes, Object, Successor}

@@ -98,13 +98,18 @@ fn listed(alloc: Global, story: &Story, left: &mut u32) -> Result<Certificate, F
 {
     let listing = listing_of(alloc, story)?;
     let code = Code::new(alloc, story, &listing)?;
-    walked(alloc, &code, left)
+    walked(alloc, story, &code, left)
 }
 
 /// The certificate of one of several walks, of which each is kept from widening beyond what the one before left.
-fn walked(alloc: Global, code: &Code<'_>, left: &mut u32) -> Result<Certificate, FindError>
-    ensures passes { IfOk result (Passes interval_operations code.now.story.now) }
-    ensures failed { IfErr result (IsWalkFailure code.now.story.now left.new) }
+fn walked(
+    alloc: Global,
+    story: &Story,
+    code: &Code<'_>,
+    left: &mut u32,
+) -> Result<Certificate, FindError>
+    ensures passes { IfOk result (Passes interval_operations story.now) }
+    ensures failed { IfErr result (IsWalkFailure story.now left.new) }
     ensures fewer { left.new ≤ left.old }
 {
     let mut plan = Plan::widening(code.thresholds(alloc)?);
@@ -113,7 +118,7 @@ fn walked(alloc: Global, code: &Code<'_>, left: &mut u32) -> Result<Certificate,
             continue;
         }
         plan.delay = delay;
-        match make_attempt(alloc, code, plan, left)? {
+        match make_attempt(alloc, story, code, plan, left)? {
             Attempt::Passed(certificate) => return Ok(certificate),
             Attempt::Failed(next) => plan = next,
         }
@@ -122,24 +127,25 @@ fn walked(alloc: Global, code: &Code<'_>, left: &mut u32) -> Result<Certificate,
     let mut walk = Walk::new(alloc, code, plan)?;
     walk.grow(left)?;
     let certificate = certificate_of(alloc, code, &mut walk)?;
-    tried(code.story, certificate)
+    tried(story, certificate)
 }
 
 /// A walk, and whether its certificate passes.
 fn make_attempt(
     alloc: Global,
+    story: &Story,
     code: &Code<'_>,
     plan: Plan<Interval>,
     left: &mut u32,
 ) -> Result<Attempt, FindError>
-    ensures passes { IfOk result (IsAttempt code.now.story.now) }
+    ensures passes { IfOk result (IsAttempt story.now) }
     ensures fewer { left.new ≤ left.old }
     ensures stopped { IfErr result (IsStopped left.new) }
 {
     let mut walk = Walk::new(alloc, code, plan)?;
     walk.grow(left)?;
     let certificate = certificate_of(alloc, code, &mut walk)?;
-    if let Ok(certificate) = tried(code.story, certificate) {
+    if let Ok(certificate) = tried(story, certificate) {
         return Ok(Attempt::Passed(certificate));
     }
     let caps = settled(alloc, code, &mut walk, left)?;
