@@ -153,14 +153,23 @@ fn take_instruction<V: Spelled>(
     record: &Record,
     numbers: &[u16],
 ) -> Result<(), CertError> {
-    let Some(frame) = walk.state.frame_at(index) else {
+    let Some((locals, slots)) = walk.state.sets_at(index) else {
         return Ok(());
     };
-    let routine = numbers.get(usize::from(record.routine)).copied().unwrap_or(0);
+    let routine = numbers
+        .get(usize::from(record.routine))
+        .copied()
+        .unwrap_or(0);
     builder.take(Field::InstructionAddress(record.address))?;
     builder.take(Field::RoutineNumber(routine))?;
-    builder.take(Field::Height(frame.slots().len().min(64) as u8))?;
-    for set in frame.sets() {
+    builder.take(Field::Height(slots.len().min(64) as u8))?;
+    take_values(builder, locals)?;
+    take_values(builder, slots)
+}
+
+/// The values of locals or slots.
+fn take_values<V: Spelled>(builder: &mut CertBuilder<V>, sets: &[V]) -> Result<(), CertError> {
+    for set in sets {
         builder.take(Field::Value(*set))?;
     }
     Ok(())

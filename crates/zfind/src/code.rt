@@ -61,13 +61,10 @@ impl<'a> Code<'a> {
     /// Notes what an instruction depends on.
     fn note(&mut self, index: usize, instruction: &Instr) -> Result<(), AllocError> {
         self.note_reads(index, instruction)?;
-        match operation_of(instruction) {
-            Some(Operation::Count(..) | Operation::Load) => self.note_named(index, instruction),
-            Some(Operation::Call) => self.note_call(index, instruction),
-            Some(
-                Operation::LoadArray(_)
-                | Operation::Property(PropertyQuestion::Value),
-            ) => {
+        match instruction.opcode().operation() {
+            Operation::Count(..) | Operation::Load => self.note_named(index, instruction),
+            Operation::Call => self.note_call(index, instruction),
+            Operation::LoadArray(_) | Operation::Property(PropertyQuestion::Value) => {
                 self.loaders.push(short(index))?;
                 Ok(())
             }
@@ -167,7 +164,10 @@ impl<'a> Code<'a> {
 
     /// Whether a routine, by its number, may be entered once more before it returns.
     pub(crate) fn is_recursive(&self, number: u16) -> bool {
-        self.recursive.get(usize::from(number)).copied().unwrap_or(false)
+        self.recursive
+            .get(usize::from(number))
+            .copied()
+            .unwrap_or(false)
     }
 
     /// The number of the routine at a packed address.
@@ -222,22 +222,20 @@ impl<'a> Code<'a> {
 
     /// The value of a global as it is loaded, counted from variable 16.
     pub(crate) fn loaded(&self, global: usize) -> u16 {
-        let place = self.story.globals().saturating_add(global.saturating_mul(2));
+        let place = self
+            .story
+            .globals()
+            .saturating_add(global.saturating_mul(2));
         u16::from_be_bytes([self.byte_at(place), self.byte_at(place.saturating_add(1))])
     }
-}
-
-/// What an instruction does.
-pub(crate) fn operation_of(instruction: &Instr) -> Option<Operation> {
-    instruction.opcode().operation()
 }
 
 /// Adds the constants that an instruction computes with, which aren't distances, addresses of texts, or routines.
 fn add_constants(thresholds: &mut Thresholds, instruction: &Instr) -> Result<(), AllocError> {
     let operands = instruction.operands();
-    let skipped = match operation_of(instruction) {
-        Some(Operation::Jump | Operation::PrintAt(_)) => return Ok(()),
-        Some(Operation::Call) => 1,
+    let skipped = match instruction.opcode().operation() {
+        Operation::Jump | Operation::PrintAt(_) => return Ok(()),
+        Operation::Call => 1,
         _ => 0,
     };
     for operand in operands.as_slice().iter().skip(skipped) {

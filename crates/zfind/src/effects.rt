@@ -3,22 +3,24 @@
 use crate::code::Code;
 use crate::frame::{Frame, MOST_HEIGHT};
 use crate::state::State;
+use std::alloc::{AllocError, Global};
 use zdomain::Domain;
-use zflow::{Edge, Flow, Lead, argument_set};
+use zflow::{Edge, Flow, Lead, argument_set, flow_of};
 use zlist::Record;
+use zruns::Tables;
 
 /// How many routines an instruction may call that are followed: of more none has an interval of such words alone.
 pub(crate) const MOST_CALLEES: usize = 1024;
 
 /// What an instruction does, by its edges that can be taken.
-#[derive(Clone, Copy)]
+#[derive(Drop)]
 pub(crate) struct Effects<V> {
     pub(crate) held: Option<Effect<V>>,
     pub(crate) failed: Option<Effect<V>>,
 }
 
 /// What comes on an edge.
-#[derive(Clone, Copy)]
+#[derive(Drop)]
 pub(crate) struct Effect<V> {
     /// Where it leads in its routine, by the index of the instruction there, with what is known of the frame.
     pub(crate) to: Option<usize>,
@@ -32,92 +34,123 @@ pub(crate) struct Effect<V> {
     pub(crate) calls: Option<Calls<V>>,
 }
 
-/// A call of each routine at a packed address of a set.
+/// A call of each routine at a packed address of a set, with its arguments.
 #[derive(Clone, Copy)]
 pub(crate) struct Calls<V> {
     pub(crate) callees: V,
-    pub(crate) arguments: [Option<V>; 3],
+    first: Option<V>,
+    second: Option<V>,
+    third: Option<V>,
 }
 
-/// What is known where an instruction is visited.
+impl<V: Domain> Calls<V> {
+    /// An argument, by its index, if there is one.
+    pub(crate) fn argument(&self, index: u8) -> Option<V> {
+        match index {
+            0 => self.first,
+            1 => self.second,
+            2 => self.third,
+            _ => None,
+        }
+    }
+}
+
+/// An instruction, with what is known where it is visited.
 #[derive(Clone, Copy)]
 pub(crate) struct Visit<'a, V> {
+    pub(crate) alloc: Global,
     pub(crate) code: &'a Code<'a>,
     pub(crate) state: &'a State<V>,
     pub(crate) record: &'a Record,
-    pub(crate) frame: &'a Frame<V>,
+    pub(crate) locals: &'a [V],
+    pub(crate) slots: &'a [V],
 }
 
 impl<'a, V: Domain> Visit<'a, V> {
-    /// What the instruction does.
-    pub(crate) fn effects(self, flow: &Flow<'_, V>) -> Effects<V> {
-        Effects {
-            held: self.effect_of(flow.popped, &flow.held),
-            failed: self.effect_of(flow.popped, &flow.failed),
-        }
+    /// What may come of the instruction.
+    pub(crate) fn flow(self, tables: &Tables<'_>) -> Flow<'a, V> {
+        flow_of(
+            tables,
+            self.state.globals(),
+            self.locals,
+            self.slots,
+            &self.record.instruction,
+        )
     }
 
-    /// What comes on an edge, if there is one that can be taken, on which the stack isn't too high.
-    fn effect_of(self, popped: usize, edge: &Option<Edge<'_, V>>) -> Option<Effect<V>> {
+    /// What the instruction does.
+    pub(crate) fn effects(self, flow: &Flow<'_, V>) -> Result<Effects<V>, AllocError> {
+        let count = self.slots.len().saturating_sub(flow.popped);
+        let left = self.slots.get(..count).unwrap_or(&[]);
+        Ok(Effects {
+            held: self.effect_of(left, &flow.held)?,
+            failed: self.effect_of(left, &flow.failed)?,
+        })
+    }
+
+    /// What comes on an edge, if there is one that can be taken, on which the stack isn't too high. These slots aren't taken.
+    fn effect_of(
+        self,
+        left: &[V],
+        edge: &Option<Edge<'_, V>>,
+    ) -> Result<Option<Effect<V>>, AllocError> {
         let Some(edge) = edge else {
-            return None;
+            return Ok(None);
         };
         let target = self.record.instruction.target();
-        let frame = self.frame.behind(popped, &edge.outcome, target)?;
-        if frame.slots().len() > MOST_HEIGHT {
-            return None;
+        let Some(frame) = Frame::behind(self.alloc, self.locals, left, &edge.outcome, target)?
+        else {
+            return Ok(None);
+        };
+        if frame.height() > MOST_HEIGHT {
+            return Ok(None);
         }
-        let effect = Effect {
+        let mut effect = Effect {
             to: None,
             frame,
             given: global_given(target, edge.outcome.gives),
-            assigned: match edge.outcome.assigns {
-                Some((variable, set)) => global_given(variable, Some(set)),
-                None => None,
-            },
+            assigned: assigned_global(edge.outcome.assigns),
             returned: None,
             calls: None,
         };
-        Some(self.led(effect, edge.lead))
+        self.lead(&mut effect, edge.lead)?;
+        Ok(Some(effect))
     }
 
-    /// With where it leads.
-    fn led(self, effect: Effect<V>, lead: Lead<V>) -> Effect<V> {
+    /// Says where it leads.
+    fn lead(self, effect: &mut Effect<V>, lead: Lead<V>) -> Result<(), AllocError> {
         match lead {
-            Lead::Ahead(distance) => Effect {
-                to: self.code.index_behind(self.next(), distance),
-                ..effect
-            },
-            Lead::Returning(set) => Effect {
-                returned: Some(set),
-                ..effect
-            },
-            Lead::Entering(callees) => self.called(effect, callees),
+            Lead::Ahead(distance) => {
+                effect.to = self.code.index_behind(self.next(), distance);
+                Ok(())
+            }
+            Lead::Returning(set) => {
+                effect.returned = Some(set);
+                Ok(())
+            }
+            Lead::Entering(callees) => self.call(effect, callees),
         }
     }
 
-    /// With what is called, and what comes back as far as is known.
-    fn called(self, effect: Effect<V>, callees: V) -> Effect<V> {
-        let calls = Some(Calls {
+    /// Says what is called, and what comes back as far as is known.
+    fn call(self, effect: &mut Effect<V>, callees: V) -> Result<(), AllocError> {
+        effect.calls = Some(Calls {
             callees,
-            arguments: self.arguments(),
+            first: self.argument(0),
+            second: self.argument(1),
+            third: self.argument(2),
         });
         let target = self.record.instruction.target();
         let Some(result) = given_by(self.code, self.state, callees) else {
-            return Effect { calls, ..effect };
+            return Ok(());
         };
-        let mut frame = effect.frame;
-        if target == 0 && frame.slots().len() >= MOST_HEIGHT {
-            return Effect { calls, ..effect };
+        if target == 0 && effect.frame.height() >= MOST_HEIGHT {
+            return Ok(());
         }
-        frame.give(target, result);
-        Effect {
-            to: self.code.index_behind(self.next(), 0),
-            frame,
-            given: global_given(target, Some(result)),
-            calls,
-            ..effect
-        }
+        effect.frame.give(target, result)?;
+        effect.given = global_given(target, Some(result));
+        effect.to = self.code.index_behind(self.next(), 0);
+        Ok(())
     }
 
     /// The place behind the instruction.
@@ -125,20 +158,23 @@ impl<'a, V: Domain> Visit<'a, V> {
         (self.record.address as usize).saturating_add(self.record.instruction.length())
     }
 
-    /// The arguments of a call.
-    fn arguments(self) -> [Option<V>; 3] {
-        [self.argument(0), self.argument(1), self.argument(2)]
-    }
-
     /// An operand behind the first, by its place among those.
     pub(crate) fn argument(self, index: usize) -> Option<V> {
         argument_set(
             self.state.globals(),
-            self.frame.locals(),
-            self.frame.slots(),
+            self.locals,
+            self.slots,
             &self.record.instruction,
             index,
         )
+    }
+}
+
+/// What is stored in place, if that is to a global.
+fn assigned_global<V: Domain>(assigns: Option<(u8, V)>) -> Option<(u8, V)> {
+    match assigns {
+        Some((variable, set)) => global_given(variable, Some(set)),
+        None => None,
     }
 }
 

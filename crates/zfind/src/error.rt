@@ -62,7 +62,10 @@ impl From<ListError> for FindError {
 
     fn from(fault: ListError) -> FindError {
         match fault {
-            ListError::Decode(place, _) => FindError::NotFound(Obstacle::Place(place, Rule::Decodes)),
+            ListError::Decode(place, _) => FindError::NotFound(Obstacle::Place(
+                place,
+                Rule::Decodes,
+            )),
             ListError::TwoRoutines(address) | ListError::ComputedJump(address) => {
                 FindError::NotFound(Obstacle::Place(address.cast_signed(), Rule::Successor))
             }

@@ -2,10 +2,12 @@
 
 ghost use Rattle.std.specs.Prelude.{◌≡◌, ◌≤◌, IfErr, IfOk, Err};
 ghost use Rattle.zdomain.specs.Interval.{interval_operations};
+ghost use Rattle.zlist.specs.Listed.{Lists};
 ghost use Rattle.zcheck.specs.Passes.{Passes};
 ghost use Rattle.zfind.specs.Attempts.{IsAttempt};
 ghost use Rattle.zfind.specs.Finding.{IsFailure, IsStopped, IsTried, IsWalkFailure};
 ghost use Rattle.zfind.specs.declared.error.FindError.TheVariants.{NotFound, RoundLimit};
+ghost use Rattle.zfind.specs.declared.error.Obstacle.{Obstacle as AnObstacle};
 
 use crate::certificate::certificate_of;
 use crate::code::Code;
@@ -18,7 +20,7 @@ use std::alloc::Global;
 use zcert::Certificate;
 use zcheck::examine;
 use zdomain::Interval;
-use zlist::list_story;
+use zlist::{Listing, list_story};
 use zstory::Story;
 
 /// How often a thing grows before it is widened, walk by walk.
@@ -73,22 +75,41 @@ pub fn find_counted(alloc: Global, story: &Story) -> Found
     }
 }
 
+/// The listing of a story, or what is at fault with it.
+#[tactic(auto, using(crate::proofs::Failures::told, crate::proofs::Failures::not_limit))]
+pub(crate) fn listing_of(alloc: Global, story: &Story) -> Result<Listing, FindError>
+    ensures lists { IfOk result (Lists story.now) }
+    ensures failed { IfErr result (IsFailure story.now) }
+    ensures plain { result ≡ Err RoundLimit → ⊥ }
+{
+    match list_story(alloc, story) {
+        Ok(listing) => Ok(listing),
+        Err(fault) => Err(FindError::from(fault)),
+    }
+}
+
 /// A certificate of a story, if it has a listing. So many visits are left.
+#[tactic(auto, using(crate::proofs::Failures::of_walk, crate::proofs::Failures::limit_of_walk))]
 fn listed(alloc: Global, story: &Story, left: &mut u32) -> Result<Certificate, FindError>
     ensures passes { IfOk result (Passes interval_operations story.now) }
     ensures failed { IfErr result (IsFailure story.now) }
     ensures fewer { left.new ≤ left.old }
     ensures limit { result ≡ Err RoundLimit → left.new ≡ 0 }
 {
-    let listing = list_story(alloc, story)?;
+    let listing = listing_of(alloc, story)?;
     let code = Code::new(alloc, story, &listing)?;
-    walked(alloc, &code, left)
+    walked(alloc, story, &code, left)
 }
 
 /// The certificate of one of several walks, of which each is kept from widening beyond what the one before left.
-fn walked(alloc: Global, code: &Code<'_>, left: &mut u32) -> Result<Certificate, FindError>
-    ensures passes { IfOk result (Passes interval_operations code.now.story.now) }
-    ensures failed { IfErr result (IsWalkFailure code.now.story.now left.new) }
+fn walked(
+    alloc: Global,
+    story: &Story,
+    code: &Code<'_>,
+    left: &mut u32,
+) -> Result<Certificate, FindError>
+    ensures passes { IfOk result (Passes interval_operations story.now) }
+    ensures failed { IfErr result (IsWalkFailure story.now left.new) }
     ensures fewer { left.new ≤ left.old }
 {
     let mut plan = Plan::widening(code.thresholds(alloc)?);
@@ -97,33 +118,34 @@ fn walked(alloc: Global, code: &Code<'_>, left: &mut u32) -> Result<Certificate,
             continue;
         }
         plan.delay = delay;
-        match attempt(alloc, code, plan, left)? {
+        match make_attempt(alloc, story, code, plan, left)? {
             Attempt::Passed(certificate) => return Ok(certificate),
             Attempt::Failed(next) => plan = next,
         }
     }
     plan.delay = LAST_DELAY;
     let mut walk = Walk::new(alloc, code, plan)?;
-    walk.grow(alloc, left)?;
+    walk.grow(left)?;
     let certificate = certificate_of(alloc, code, &mut walk)?;
-    tried(code.story, certificate)
+    tried(story, certificate)
 }
 
 /// A walk, and whether its certificate passes.
-fn attempt(
+fn make_attempt(
     alloc: Global,
+    story: &Story,
     code: &Code<'_>,
     plan: Plan<Interval>,
     left: &mut u32,
 ) -> Result<Attempt, FindError>
-    ensures passes { IfOk result (IsAttempt code.now.story.now) }
+    ensures passes { IfOk result (IsAttempt story.now) }
     ensures fewer { left.new ≤ left.old }
     ensures stopped { IfErr result (IsStopped left.new) }
 {
     let mut walk = Walk::new(alloc, code, plan)?;
-    walk.grow(alloc, left)?;
+    walk.grow(left)?;
     let certificate = certificate_of(alloc, code, &mut walk)?;
-    if let Ok(certificate) = tried(code.story, certificate) {
+    if let Ok(certificate) = tried(story, certificate) {
         return Ok(Attempt::Passed(certificate));
     }
     let caps = settled(alloc, code, &mut walk, left)?;
@@ -137,7 +159,7 @@ fn attempt(
 /// A certificate, if it passes.
 pub(crate) fn tried(story: &Story, certificate: Certificate) -> Result<Certificate, FindError>
     ensures passes { IfOk result (Passes interval_operations story.now) }
-    ensures failed { IfErr result (λ error. (obstacle : Obstacle) × (error ≡ NotFound obstacle) × IsTried story.now obstacle) }
+    ensures failed { IfErr result (λ error. (obstacle : AnObstacle) × (error ≡ NotFound obstacle) × IsTried story.now obstacle) }
 {
     match examine(story, &certificate) {
         None => Ok(certificate),

@@ -19,7 +19,8 @@ impl Groups {
 
     /// One more, before they are sorted.
     pub(crate) fn add(&mut self, number: u16, index: usize) -> Result<(), AllocError> {
-        self.pairs.push(first_pair(number) | (index as u64 & 0xffff_ffff))?;
+        self.pairs
+            .push(first_pair(number) | (index as u64 & 0xffff_ffff))?;
         Ok(())
     }
 

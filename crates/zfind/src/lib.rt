@@ -12,6 +12,7 @@ mod error;
 mod finding;
 mod frame;
 mod groups;
+mod looking;
 mod obstacles;
 mod openings;
 mod queue;

@@ -1,14 +1,16 @@
 //! What stands in the way of every certificate.
 
+ghost use Rattle.std.specs.Prelude.{◌≡◌, IfErr};
+ghost use Rattle.zfind.specs.declared.error.FindError.TheVariants.{OutOfMemory, RoundLimit};
+
 use crate::certificate::certificate_of;
 use crate::code::Code;
 use crate::error::{FindError, Obstacle};
-use crate::finding::tried;
+use crate::finding::{listing_of, tried};
 use crate::walk::Walk;
 use std::alloc::Global;
 use zcert::Certificate;
 use zdomain::Interval;
-use zlist::list_story;
 use zrule::{Rule, judge};
 use zruns::Tables;
 use zstory::Story;
@@ -21,33 +23,40 @@ const MOST_FAIR_VISITS: u32 = 60_000;
 /// certificate says. `None` where none is found. The one error is want of memory.
 ///
 /// That such a rule is broken in each certificate is tried, and not proved.
-pub fn broken_in_all(alloc: Global, story: &Story) -> Result<Option<Obstacle>, FindError> {
-    let listing = match list_story(alloc, story) {
+pub fn broken_in_all(alloc: Global, story: &Story) -> Result<Option<Obstacle>, FindError>
+    ensures { IfErr result (λ error. error ≡ OutOfMemory) }
+{
+    let listing = match listing_of(alloc, story) {
         Ok(listing) => listing,
-        Err(fault) => return obstacle_in(FindError::from(fault)),
+        Err(error) => return obstacle_in(error),
     };
     let code = Code::new(alloc, story, &listing)?;
     let mut walk = Walk::fair(alloc, &code)?;
     let mut left = MOST_FAIR_VISITS;
-    let grown = walk.grow(alloc, &mut left);
+    let grown = walk.grow(&mut left);
     let certificate = certificate_of(alloc, &code, &mut walk)?;
     match grown {
         Ok(()) => obstacle_for(story, certificate),
-        Err(FindError::RoundLimit) => Ok(certain_obstacle(&code, &walk, &certificate)),
+        Err(FindError::RoundLimit) => Ok(certain_obstacle(story, &code, &walk, &certificate)),
         Err(error) => Err(error),
     }
 }
 
 /// What the checker says first of a certificate that says no more than any other.
-fn obstacle_for(story: &Story, certificate: Certificate) -> Result<Option<Obstacle>, FindError> {
+fn obstacle_for(story: &Story, certificate: Certificate) -> Result<Option<Obstacle>, FindError>
+    ensures { IfErr result (λ error. error ≡ OutOfMemory) }
+{
     match tried(story, certificate) {
         Ok(_) => Ok(None),
         Err(error) => obstacle_in(error),
     }
 }
 
-/// What stands in the way.
-fn obstacle_in(error: FindError) -> Result<Option<Obstacle>, FindError> {
+/// What stands in the way, where it isn't too many visits.
+fn obstacle_in(error: FindError) -> Result<Option<Obstacle>, FindError>
+    requires { error ≡ RoundLimit → ⊥ }
+    ensures { IfErr result (λ error. error ≡ OutOfMemory) }
+{
     match error {
         FindError::NotFound(obstacle) => Ok(Some(obstacle)),
         _ => Err(error),
@@ -56,16 +65,17 @@ fn obstacle_in(error: FindError) -> Result<Option<Obstacle>, FindError> {
 
 /// The first rule that is broken, where more is to be found, and is broken by what was found alone.
 fn certain_obstacle(
+    story: &Story,
     code: &Code<'_>,
     walk: &Walk<'_, Interval>,
     certificate: &Certificate,
 ) -> Option<Obstacle> {
-    let tables = Tables::new(code.story, certificate.ranges());
-    let mut ends = TextEnds::new(code.story.memory());
+    let tables = Tables::new(story, certificate.ranges());
+    let mut ends = TextEnds::new(story.memory());
     for index in 0..certificate.instruction_count() {
         let listed = certificate.instruction(index);
         let judged = judge(
-            code.story,
+            story,
             &tables,
             certificate,
             &listed,
@@ -73,7 +83,9 @@ fn certain_obstacle(
             &mut ends,
             None,
         );
-        if let Err(rule) = judged && is_certain(rule, is_waiting(code, walk, listed.address)) {
+        if let Err(rule) = judged
+            && is_certain(rule, is_waiting(code, walk, listed.address))
+        {
             return Some(Obstacle::Place(listed.address.cast_signed(), rule));
         }
     }

@@ -35,7 +35,11 @@ fn open_elements<V: Domain>(bytes: &mut Bytes, elements: Elements<V>) {
         Access::Reading => {}
         Access::Writing => {
             let run = Run::of(elements.width, elements.arrays, elements.indices);
-            open_places(bytes, usize::from(run.first), run_length(elements.width, run));
+            open_places(
+                bytes,
+                usize::from(run.first),
+                run_length(elements.width, run),
+            );
         }
     }
 }
@@ -114,7 +118,7 @@ pub(crate) fn reach_of<V: Domain>(code: &Code<'_>, demands: &Demands<V>) -> Opti
 fn elements_reach<V: Domain>(elements: Elements<V>) -> Option<Span> {
     let run = Run::of(elements.width, elements.arrays, elements.indices);
     let first = usize::from(run.first);
-    let last = first + run_length(elements.width, run);
+    let last = first.saturating_add(run_length(elements.width, run));
     match elements.access {
         Access::Writing => None,
         Access::Reading if last < PLACES => Some(Span { first, last }),

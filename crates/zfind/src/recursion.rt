@@ -1,55 +1,42 @@
 //! Which routines may be entered once more before they return.
 
+use crate::groups::{Groups, index_in};
 use std::alloc::{AllocError, Global};
 use zcode::{Operand, Operation};
 use zlist::{Listing, Record};
 
-/// How often calls that lead nowhere, or come from nowhere, are taken away at most.
-const ROUNDS: usize = 64;
-
-/// A call of a routine by another, by their numbers.
-#[derive(Clone, Copy)]
-struct Call {
-    from: u16,
-    to: u16,
+/// Calls of routines by others, by their numbers.
+#[derive(Drop)]
+struct Calls {
+    /// By the routine that is called, those that call it, once for each call.
+    callers: Groups,
+    /// How many calls each makes of routines that don't end.
+    counts: Vec<u32>,
 }
 
-/// Whether each routine, by its number, may be entered once more before it returns, as far as constants tell: those are kept that call
-/// one that is kept, and that one that is kept calls. Of a few that lie between such routines this is said too.
+/// Whether each routine, by its number, may be entered once more before it returns, as far as constants tell: where calls lead from it on
+/// without end, and come from without end. Of those that lie between two such routines this is said too.
 pub(crate) fn recursive_routines(
     alloc: Global,
     listing: &Listing,
 ) -> Result<Vec<bool>, AllocError> {
-    let calls = calls_of(alloc, listing)?;
     let count = listing.routines().len().saturating_add(1);
-    let mut kept = vec![in alloc; true; count]?;
-    for _ in 0..ROUNDS {
-        let left = still_kept(alloc, &calls, &kept)?;
-        if count_kept(&left) == count_kept(&kept) {
-            return Ok(left);
-        }
-        kept = left;
-    }
-    Ok(kept)
-}
-
-/// The calls by constants.
-fn calls_of(alloc: Global, listing: &Listing) -> Result<Vec<Call>, AllocError> {
-    let mut calls = Vec::new(alloc);
+    let mut onward = Calls::new(alloc, count)?;
+    let mut backward = Calls::new(alloc, count)?;
     for record in listing.records() {
         if let Some(to) = called_by(listing, record) {
-            calls.push(Call {
-                from: record.routine,
-                to,
-            })?;
+            onward.add(record.routine, to)?;
+            backward.add(to, record.routine)?;
         }
     }
-    Ok(calls)
+    let endless = onward.endless(alloc)?;
+    let from_endless = backward.endless(alloc)?;
+    both_marked(alloc, &endless, &from_endless)
 }
 
 /// The routine that an instruction calls by a constant.
 fn called_by(listing: &Listing, record: &Record) -> Option<u16> {
-    let Some(Operation::Call) = record.instruction.opcode().operation() else {
+    let Operation::Call = record.instruction.opcode().operation() else {
         return None;
     };
     match record.instruction.operands().as_slice().first() {
@@ -58,38 +45,81 @@ fn called_by(listing: &Listing, record: &Record) -> Option<u16> {
     }
 }
 
-/// Those that call one that is kept, and are called by one.
-fn still_kept(alloc: Global, calls: &[Call], kept: &[bool]) -> Result<Vec<bool>, AllocError> {
-    let mut calling = vec![in alloc; false; kept.len()]?;
-    let mut called = vec![in alloc; false; kept.len()]?;
-    for call in calls {
-        if is_marked(kept, call.from) && is_marked(kept, call.to) {
-            mark(&mut calling, call.from);
-            mark(&mut called, call.to);
+impl Calls {
+    /// None of so many routines.
+    fn new(alloc: Global, count: usize) -> Result<Calls, AllocError> {
+        Ok(Calls {
+            callers: Groups::new(alloc),
+            counts: vec![in alloc; 0; count]?,
+        })
+    }
+
+    /// One more.
+    fn add(&mut self, from: u16, to: u16) -> Result<(), AllocError> {
+        self.callers.add(to, usize::from(from))?;
+        if let Some(count) = self.counts.get_mut(usize::from(from)) {
+            *count = count.saturating_add(1);
         }
+        Ok(())
     }
-    keep_marked(&mut calling, &called);
-    Ok(calling)
-}
 
-/// Keeps the marks of those that are marked elsewhere too.
-fn keep_marked(marks: &mut [bool], others: &[bool]) {
-    for (mark, other) in marks.iter_mut().zip(others.iter()) {
-        *mark = *mark && *other;
+    /// Whether calls lead from each routine on without end.
+    fn endless(mut self, alloc: Global) -> Result<Vec<bool>, AllocError> {
+        self.callers.sort()?;
+        let mut ended = self.ended(alloc)?;
+        for _ in 0..self.counts.len() {
+            if let Some(number) = ended.pop() {
+                self.end(number, &mut ended)?;
+            }
+        }
+        let mut marks = Vec::new(alloc);
+        for count in &self.counts {
+            marks.push(*count > 0)?;
+        }
+        Ok(marks)
+    }
+
+    /// The routines that call none.
+    fn ended(&self, alloc: Global) -> Result<Vec<u16>, AllocError> {
+        let mut ended = Vec::new(alloc);
+        for (number, count) in self.counts.iter().enumerate() {
+            if *count == 0 {
+                ended.push(number.min(0xffff) as u16)?;
+            }
+        }
+        Ok(ended)
+    }
+
+    /// Takes the calls of a routine that ends off those of its callers, and adds each of these that ends thereby.
+    fn end(&mut self, number: u16, ended: &mut Vec<u16>) -> Result<(), AllocError> {
+        for pair in self.callers.from(number) {
+            let Some(caller) = index_in(*pair, number) else {
+                return Ok(());
+            };
+            if is_last_call(&mut self.counts, caller) {
+                ended.push(caller.min(0xffff) as u16)?;
+            }
+        }
+        Ok(())
     }
 }
 
-/// How many are kept.
-fn count_kept(kept: &[bool]) -> usize {
-    kept.iter().filter(|mark| **mark).count()
-}
-
-fn is_marked(marks: &[bool], number: u16) -> bool {
-    marks.get(usize::from(number)).copied().unwrap_or(false)
-}
-
-fn mark(marks: &mut [bool], number: u16) {
-    if let Some(mark) = marks.get_mut(usize::from(number)) {
-        *mark = true;
+/// Takes one off the calls of a routine, and says whether it was the last.
+fn is_last_call(counts: &mut Vec<u32>, caller: usize) -> bool {
+    match counts.get_mut(caller) {
+        Some(count) if *count > 0 => {
+            *count = count.saturating_sub(1);
+            *count == 0
+        }
+        _ => false,
     }
+}
+
+/// Which are marked in both.
+fn both_marked(alloc: Global, one: &[bool], other: &[bool]) -> Result<Vec<bool>, AllocError> {
+    let mut marks = Vec::new(alloc);
+    for (mark, also) in one.iter().zip(other.iter()) {
+        marks.push(*mark && *also)?;
+    }
+    Ok(marks)
 }

@@ -4,14 +4,13 @@ ghost use Rattle.std.specs.Prelude.{◌≤◌, IfErr};
 ghost use Rattle.zfind.specs.Finding.{IsStopped};
 
 use crate::code::Code;
-use crate::effects::Visit;
 use crate::error::FindError;
+use crate::looking::look;
 use crate::state::{Plan, State};
 use crate::visits::count_visit;
 use crate::walk::Walk;
 use std::alloc::{AllocError, Global};
 use zdomain::Domain;
-use zflow::flow_of;
 use zruns::Tables;
 
 /// What each place, global and routine is given by all that leads there, where this is known of each place. Where it is less than that,
@@ -32,34 +31,25 @@ pub(crate) fn settled<V: Domain>(
         if walk.state.is_reached(index) {
             count_visit(left)?;
         }
-        settle(code, &tables, &walk.state, &mut next, index)?;
+        settle(alloc, code, &tables, &walk.state, &mut next, index)?;
     }
     Ok(next.into_state())
 }
 
 /// Does what an instruction does by what is known, to what is found anew.
 fn settle<V: Domain>(
+    alloc: Global,
     code: &Code<'_>,
     tables: &Tables<'_>,
     state: &State<V>,
     next: &mut Walk<'_, V>,
     index: usize,
 ) -> Result<(), AllocError> {
-    let (Some(record), Some(frame)) = (code.records().get(index), state.frame_at(index)) else {
+    let Some(record) = code.records().get(index) else {
         return Ok(());
     };
-    let visit = Visit {
-        code,
-        state,
-        record,
-        frame: &frame,
-    };
-    let flow = flow_of(
-        tables,
-        state.globals(),
-        frame.locals(),
-        frame.slots(),
-        &record.instruction,
-    );
-    next.apply(index, record, &visit.effects(&flow))
+    match look(alloc, code, tables, state, record, index)? {
+        Some(seen) => next.apply(index, record, &seen.effects),
+        None => Ok(()),
+    }
 }

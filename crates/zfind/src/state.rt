@@ -160,10 +160,12 @@ impl<V: Domain> State<V> {
         }
     }
 
-    /// The sets of a place that was reached.
-    pub(crate) fn frame_at(&self, index: usize) -> Option<Frame<V>> {
+    /// The sets of the locals and those of the slots of a place that was reached.
+    pub(crate) fn sets_at(&self, index: usize) -> Option<(&[V], &[V])> {
         let spot = self.reached_spot(index)?;
-        Some(Frame::of(usize::from(spot.locals), self.sets_of(spot)))
+        let sets = self.sets_of(spot);
+        let locals = usize::from(spot.locals).min(sets.len());
+        Some(sets.split_at(locals))
     }
 
     /// A place, if it was reached.
@@ -219,8 +221,8 @@ impl<V: Domain> State<V> {
         if let Some(spot) = self.spots.get_mut(index) {
             *spot = Spot {
                 start,
-                locals: frame.locals().len().min(15) as u8,
-                height: frame.slots().len().min(64) as u8,
+                locals: frame.local_count().min(15) as u8,
+                height: frame.height().min(64) as u8,
                 is_reached: true,
                 growths: NO_GROWTHS,
             };
@@ -299,7 +301,7 @@ impl<V: Domain> State<V> {
             && self.has_places_within(other)
     }
 
-    /// Whether what each routine gives is known there too.
+    /// Whether what each routine gives is known there too. Of one that never returns something is said all the same.
     fn has_results_within(&self, other: &State<V>) -> bool {
         let mut both = self.results.iter().zip(other.results.iter());
         both.all(|(inner, outer)| is_option_within(inner.set, outer.set))
@@ -362,8 +364,7 @@ fn loaded_globals<V: Domain>(alloc: Global, code: &Code<'_>) -> Result<Vec<V>, A
 
 /// Whether a frame has as many locals and slots as a place.
 fn has_shape<V: Domain>(spot: Spot, frame: &Frame<V>) -> bool {
-    frame.locals().len() == usize::from(spot.locals)
-        && frame.slots().len() == usize::from(spot.height)
+    frame.local_count() == usize::from(spot.locals) && frame.height() == usize::from(spot.height)
 }
 
 /// Whether there are as many sets, and each is within its own.
@@ -371,11 +372,10 @@ fn are_within<V: Domain>(inner: &[V], outer: &[V]) -> bool {
     inner.len() == outer.len() && inner.iter().zip(outer.iter()).all(|(a, b)| a.is_within(*b))
 }
 
-/// Whether a set is within another, if it is there.
+/// Whether a set is within another, where there are both.
 fn is_option_within<V: Domain>(inner: Option<V>, outer: Option<V>) -> bool {
     match (inner, outer) {
-        (None, _) => true,
         (Some(inner), Some(outer)) => inner.is_within(outer),
-        (Some(_), None) => false,
+        _ => true,
     }
 }

@@ -1,7 +1,6 @@
 //! Where an end that grows stops first.
 
-use std::alloc::AllocError;
-use std::alloc::Global;
+use std::alloc::{AllocError, Global};
 use zdomain::Domain;
 use zstory::Story;
 

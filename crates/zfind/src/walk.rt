@@ -4,25 +4,25 @@ ghost use Rattle.std.specs.Prelude.{◌≤◌, IfErr};
 ghost use Rattle.zfind.specs.Finding.{IsStopped};
 
 use crate::bytes::{Bytes, Span};
-use crate::code::{Code, operation_of};
-use crate::effects::{Calls, Effect, Effects, MOST_CALLEES, Visit, next_callee};
+use crate::code::Code;
+use crate::effects::{Calls, Effect, Effects, MOST_CALLEES, next_callee};
 use crate::error::FindError;
 use crate::frame::Frame;
 use crate::groups::{Groups, index_in};
-use crate::openings::{open_written, reach_of};
+use crate::looking::look;
+use crate::openings::open_written;
 use crate::queue::Queue;
 use crate::state::{Plan, State};
 use crate::visits::count_visit;
 use std::alloc::{AllocError, Global};
-use zcode::{Operand, Operation};
 use zdomain::Domain;
-use zflow::{first_known, flow_of};
 use zlist::Record;
 use zruns::Tables;
 
 /// A walk: what is known so far, and which instructions are to be visited since that grew.
 #[derive(Drop)]
 pub(crate) struct Walk<'a, V> {
+    alloc: Global,
     code: &'a Code<'a>,
     pub(crate) plan: Plan<V>,
     pub(crate) state: State<V>,
@@ -30,8 +30,8 @@ pub(crate) struct Walk<'a, V> {
     queue: Queue,
     /// Where each instruction looked for values that bytes make known which stay as they are.
     reaches: Vec<Option<Span>>,
-    /// Those that looked where bytes were opened since the tables were made.
-    outdated: Vec<usize>,
+    /// Whether each looked where bytes were opened since the tables were made.
+    outdated: Vec<bool>,
     /// The rank of each routine, by its number: those that are found later are followed first.
     ranks: Vec<u32>,
     /// How many were found.
@@ -49,28 +49,26 @@ impl<'a, V: Domain> Walk<'a, V> {
     ) -> Result<Walk<'a, V>, AllocError> {
         let count = code.records().len();
         let mut walk = Walk {
+            alloc,
             code,
             plan,
             state: State::new(alloc, code)?,
             bytes: Bytes::new(alloc, code.story)?,
             queue: Queue::new(alloc, count)?,
             reaches: vec![in alloc; None; count]?,
-            outdated: Vec::new(alloc),
+            outdated: vec![in alloc; false; count]?,
             ranks: vec![in alloc; 0; code.routines().len().saturating_add(1)]?,
             found: 0,
             visits: None,
         };
         if let Some(first) = code.first() {
-            walk.join(first, &Frame::empty(), false)?;
+            walk.join(first, &Frame::empty(alloc), false)?;
         }
         Ok(walk)
     }
 
     /// One that widens nothing, where those instructions come first that were visited least.
-    pub(crate) fn fair(
-        alloc: Global,
-        code: &'a Code<'a>,
-    ) -> Result<Walk<'a, V>, AllocError> {
+    pub(crate) fn fair(alloc: Global, code: &'a Code<'a>) -> Result<Walk<'a, V>, AllocError> {
         let mut walk = Walk::new(alloc, code, Plan::joining(alloc))?;
         walk.visits = Some(vec![in alloc; 0; code.records().len()]?);
         Ok(walk)
@@ -88,14 +86,14 @@ impl<'a, V: Domain> Walk<'a, V> {
 
     /// Walks until nothing more is found, with at most so many visits. What looks where bytes were opened is visited once more when
     /// nothing else is left, so that tables are seldom made.
-    pub(crate) fn grow(&mut self, alloc: Global, left: &mut u32) -> Result<(), FindError>
+    pub(crate) fn grow(&mut self, left: &mut u32) -> Result<(), FindError>
         ensures fewer { left.new ≤ left.old }
         ensures stopped { IfErr result (IsStopped left.new) }
     {
         while let Some(index) = self.queue.next() {
             count_visit(left)?;
             self.queue.remove_next();
-            let ranges = self.bytes.ranges(alloc)?;
+            let ranges = self.bytes.ranges(self.alloc)?;
             let tables = Tables::new(self.code.story, &ranges);
             self.visit(&tables, index)?;
             self.run(&tables, left)?;
@@ -145,45 +143,33 @@ impl<'a, V: Domain> Walk<'a, V> {
 
     /// Visits an instruction.
     fn visit(&mut self, tables: &Tables<'_>, index: usize) -> Result<(), AllocError> {
-        let (Some(record), Some(frame)) = (self.code.records().get(index), self.state.frame_at(index)) else {
+        let code = self.code;
+        let Some(record) = code.records().get(index) else {
             return Ok(());
         };
-        let visit = Visit {
-            code: self.code,
-            state: &self.state,
-            record,
-            frame: &frame,
+        let Some(seen) = look(self.alloc, code, tables, &self.state, record, index)? else {
+            return Ok(());
         };
-        let flow = flow_of(
-            tables,
-            self.state.globals(),
-            frame.locals(),
-            frame.slots(),
-            &record.instruction,
-        );
-        let effects = visit.effects(&flow);
-        let learned = learned_at(visit);
-        self.note_visit(index, reach_of(self.code, &flow.demands))?;
-        open_written(self.code, &mut self.bytes, &flow.demands);
-        self.note_loaders()?;
-        self.learn(learned)?;
-        self.apply(index, record, &effects)
+        self.note_visit(index, seen.reach);
+        open_written(code, &mut self.bytes, &seen.demands);
+        self.note_loaders();
+        self.learn(seen.learned)?;
+        self.apply(index, record, &seen.effects)
     }
 
     /// Notes where an instruction looked, and that it was visited once more.
-    fn note_visit(&mut self, index: usize, reach: Option<Span>) -> Result<(), AllocError> {
+    fn note_visit(&mut self, index: usize, reach: Option<Span>) {
         if let Some(noted) = self.reaches.get_mut(index) {
             *noted = reach;
         }
         if self.bytes.is_stale(reach) {
-            self.outdated.push(index)?;
+            self.put_off(index);
         }
         if let Some(visits) = &mut self.visits {
             if let Some(count) = visits.get_mut(index) {
                 *count = count.saturating_add(1);
             }
         }
-        Ok(())
     }
 
     /// Notes the words that something was compared with.
@@ -278,12 +264,12 @@ impl<'a, V: Domain> Walk<'a, V> {
             return Ok(());
         };
         self.rank(number);
-        let mut frame = Frame::empty();
+        let mut frame = Frame::empty(self.alloc);
         for index in 0..self.code.local_count(number) {
-            frame.push(match calls.arguments.get(usize::from(index)) {
-                Some(Some(set)) => *set,
-                _ => V::single(self.code.initial(number, index)),
-            });
+            frame.push(match calls.argument(index) {
+                Some(set) => set,
+                None => V::single(self.code.initial(number, index)),
+            })?;
         }
         frame.end_locals();
         self.join(entry, &frame, self.code.is_recursive(number))
@@ -320,7 +306,8 @@ impl<'a, V: Domain> Walk<'a, V> {
     /// Has a place visited, if it was reached.
     fn wake(&mut self, index: usize) -> Result<(), AllocError> {
         if self.state.is_reached(index) {
-            self.queue.push(index, self.rank_of(index))?;
+            let rank = self.rank_of(index);
+            self.queue.push(index, rank)?;
         }
         Ok(())
     }
@@ -336,7 +323,11 @@ impl<'a, V: Domain> Walk<'a, V> {
     /// That of its routine.
     fn routine_rank(&self, index: usize) -> u32 {
         match self.code.records().get(index) {
-            Some(record) => self.ranks.get(usize::from(record.routine)).copied().unwrap_or(0),
+            Some(record) => self
+                .ranks
+                .get(usize::from(record.routine))
+                .copied()
+                .unwrap_or(0),
             None => 0,
         }
     }
@@ -373,28 +364,45 @@ impl<'a, V: Domain> Walk<'a, V> {
         Ok(())
     }
 
-    /// Notes what looked where bytes were opened now.
-    fn note_loaders(&mut self) -> Result<(), AllocError> {
+    /// Puts off what looked where bytes were opened now.
+    fn note_loaders(&mut self) {
         let Some(fresh) = self.bytes.take_fresh() else {
-            return Ok(());
+            return;
         };
         let code = self.code;
         for index in code.loaders() {
             if self.looked_at(*index as usize, fresh) {
-                self.outdated.push(*index as usize)?;
+                self.put_off(*index as usize);
+            }
+        }
+    }
+
+    /// Puts off an instruction until nothing else is left.
+    fn put_off(&mut self, index: usize) {
+        if let Some(mark) = self.outdated.get_mut(index) {
+            *mark = true;
+        }
+    }
+
+    /// Has all visited that looked where bytes were opened since the tables were made.
+    fn wake_outdated(&mut self) -> Result<(), AllocError> {
+        let code = self.code;
+        for index in code.loaders() {
+            if self.was_put_off(*index as usize) {
+                self.wake(*index as usize)?;
             }
         }
         Ok(())
     }
 
-    /// Has all visited that looked where bytes were opened since the tables were made.
-    fn wake_outdated(&mut self) -> Result<(), AllocError> {
-        for at in 0..self.outdated.len() {
-            let index = self.outdated.get(at).copied().unwrap_or(0);
-            self.wake(index)?;
-        }
-        self.outdated.clear();
-        Ok(())
+    /// Whether an instruction was put off; it no longer is.
+    fn was_put_off(&mut self, index: usize) -> bool {
+        let Some(mark) = self.outdated.get_mut(index) else {
+            return false;
+        };
+        let was = *mark;
+        *mark = false;
+        was
     }
 
     /// Whether an instruction looked there.
@@ -403,43 +411,5 @@ impl<'a, V: Domain> Walk<'a, V> {
             Some(Some(reach)) => reach.meets(span),
             _ => false,
         }
-    }
-}
-
-/// The words that an instruction compares with what else it compares, where they are known of variables.
-fn learned_at<V: Domain>(visit: Visit<'_, V>) -> [Option<u16>; 2] {
-    let instruction = &visit.record.instruction;
-    let inputs = instruction.inputs();
-    let [first, second, ..] = inputs.as_slice() else {
-        return [None, None];
-    };
-    match operation_of(instruction) {
-        Some(Operation::Compare(_)) => [
-            first_word(visit, *first),
-            second_word(visit, *second),
-        ],
-        Some(Operation::Count(_, Some(_))) => [None, second_word(visit, *second)],
-        _ => [None, None],
-    }
-}
-
-/// The word that a first operand has, if it is a variable of which one is known.
-fn first_word<V: Domain>(visit: Visit<'_, V>, operand: Operand) -> Option<u16> {
-    match operand {
-        Operand::Constant(_) => None,
-        Operand::Variable(_) => first_known(
-            visit.state.globals(),
-            visit.frame.locals(),
-            visit.frame.slots(),
-            &visit.record.instruction,
-        ),
-    }
-}
-
-/// The word that a second one has.
-fn second_word<V: Domain>(visit: Visit<'_, V>, operand: Operand) -> Option<u16> {
-    match operand {
-        Operand::Constant(_) => None,
-        Operand::Variable(_) => visit.argument(0)?.known(),
     }
 }

@@ -1,0 +1,88 @@
+//! What is seen of an instruction.
+
+use crate::bytes::Span;
+use crate::code::Code;
+use crate::effects::{Effects, Visit};
+use crate::openings::reach_of;
+use crate::state::State;
+use std::alloc::{AllocError, Global};
+use zcode::{Operand, Operation};
+use zdomain::Domain;
+use zflow::{Demands, first_known};
+use zlist::Record;
+use zruns::Tables;
+
+/// What is seen of an instruction.
+#[derive(Drop)]
+pub(crate) struct Seen<V> {
+    pub(crate) effects: Effects<V>,
+    /// Words that it compares with.
+    pub(crate) learned: [Option<u16>; 2],
+    /// Where it looks for values.
+    pub(crate) reach: Option<Span>,
+    pub(crate) demands: Demands<V>,
+}
+
+/// What is seen of an instruction of an index, where that was reached.
+pub(crate) fn look<V: Domain>(
+    alloc: Global,
+    code: &Code<'_>,
+    tables: &Tables<'_>,
+    state: &State<V>,
+    record: &Record,
+    index: usize,
+) -> Result<Option<Seen<V>>, AllocError> {
+    let Some((locals, slots)) = state.sets_at(index) else {
+        return Ok(None);
+    };
+    let visit = Visit {
+        alloc,
+        code,
+        state,
+        record,
+        locals,
+        slots,
+    };
+    let flow = visit.flow(tables);
+    Ok(Some(Seen {
+        effects: visit.effects(&flow)?,
+        learned: learned_at(visit),
+        reach: reach_of(code, &flow.demands),
+        demands: flow.demands,
+    }))
+}
+
+/// The words that an instruction compares with what else it compares, where they are known of variables.
+fn learned_at<V: Domain>(visit: Visit<'_, V>) -> [Option<u16>; 2] {
+    let instruction = &visit.record.instruction;
+    let inputs = instruction.inputs();
+    let [first, second, ..] = inputs.as_slice() else {
+        return [None, None];
+    };
+    match instruction.opcode().operation() {
+        Operation::Compare(_) => [first_word(visit, *first), second_word(visit, *second)],
+        Operation::Count(_, Some(_)) => [None, second_word(visit, *second)],
+        _ => [None, None],
+    }
+}
+
+/// The word that a first operand has, if it is a variable of which one is known.
+fn first_word<V: Domain>(visit: Visit<'_, V>, operand: Operand) -> Option<u16> {
+    match operand {
+        Operand::Constant(_) => None,
+        Operand::Variable(_) => first_known(
+            visit.state.globals(),
+            visit.locals,
+            visit.slots,
+            &visit.record.instruction,
+        ),
+    }
+}
+
+/// The word that a second one has.
+fn second_word<V: Domain>(visit: Visit<'_, V>, operand: Operand) -> Option<u16> {
+    match operand {
+        Operand::Constant(_) => None,
+        Operand::Variable(_) => visit.argument(0)?.known(),
+    }
+}
