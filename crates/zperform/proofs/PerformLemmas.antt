@@ -5,7 +5,7 @@ use Rattle.clap.specs.Words.{Row, Text, fault_of, subcommand_of}
 use Rattle.zfault.specs.Devices.{RisesByOne}
 use Rattle.zplayer.specs.declared.end.End.{End}
 use Rattle.zcommand.specs.CommandLine.{Asks, Request, zpc_app}
-use Rattle.zperform.specs.Performing.{Breaks, Comes, Devices, Explains, IsFlushed, Performs, Reports, Says, Seen, Takes, is_quiet, seen, told, save_in}
+use Rattle.zperform.specs.Performing.{Breaks, Comes, Devices, Explains, IsFlushed, Performs, Reports, Says, Seen, Takes, is_quiet, seen, told, save_in, written_by}
 use Rattle.zperform.specs.declared.outcome.Failure.TheVariants.{File, Read, Write}
 use Rattle.zperform.specs.Report.{outcome_of}
 use Rattle.zperform.specs.declared.outcome.Problem.{Problem}
@@ -46,8 +46,8 @@ module _ (words : List Text) (status : ℕ) (old new : Devices) (outcome : Outco
     (unheard : outcome ≡ Stopped (Failed Read) → RisesByOne old.reader.failures new.reader.failures)
     (heard : outcome ≢ Stopped (Failed Read) → new.reader.failures ≡ old.reader.failures)
     (reported : Reports outcome status old.errors new.errors) where
-  pub performs_request : (request : Request) → (save_in request ≡ None → outcome ≢ Stopped (Failed File) → new.files.failures ≡ old.files.failures) → (save_in request ≡ None → new.files.known ≡ old.files.known)
-      → (is_quiet request ≡ true → new.reader ≡ old.reader) → Comes request old.files.known old.reader.remaining old.writer.contents new.writer.contents outcome → IsSomeAnd (subcommand_of zpc_app words) (λ matches. Asks matches request)
+  pub performs_request : (request : Request) → (save_in request ≡ None → outcome ≢ Stopped (Failed File) → new.files.failures ≡ old.files.failures) → (written_by request ≡ None → new.files.known ≡ old.files.known)
+      → (is_quiet request ≡ true → new.reader ≡ old.reader) → Comes request old.files.known new.files.known old.reader.remaining old.writer.contents new.writer.contents outcome → IsSomeAnd (subcommand_of zpc_app words) (λ matches. Asks matches request)
       → Performs words status old new
   performs_request request unfailed kept unasked comes read = go (subcommand_of zpc_app words) refl read
     where
