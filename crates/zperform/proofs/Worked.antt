@@ -87,7 +87,7 @@ unlisted = (refl, refl, refl, refl)
 unfound :
     (text_of (Stopped (Unfound (NotFound (obstacles.Place (pos 903) rules.Object)) (Some (obstacles.Place (pos 2969) rules.Object)))) ≡ codes "refused: G1 at 00387" ++ 10 ∷ codes "no certificate: I5 at 00b99")
     × (text_of (Stopped (Unfound (NotFound (obstacles.Place (negsuc 9) rules.Decodes)) (Some (obstacles.Place (negsuc 9) rules.Decodes)))) ≡ codes "refused: G1 at -10" ++ 10 ∷ codes "no certificate: I1 at -10")
-    × (text_of (Stopped (Unfound (NotFound (obstacles.Story story_rules.Tables)) (Some (obstacles.Story story_rules.Tables)))) ≡ codes "refused: G1" ++ 10 ∷ codes "no certificate: S5")
+    × (text_of (Stopped (Unfound (NotFound (obstacles.Story story_rules.Tables)) (Some (obstacles.Story story_rules.Tables)))) ≡ codes "refused: G1" ++ 10 ∷ codes "no certificate: S8")
     × (text_of (Stopped (Unfound (NotFound (obstacles.Place (pos 804) rules.Successor)) None)) ≡ codes "refused: G1 at 00324" ++ 10 ∷ codes "not found")
     × (text_of (Stopped (Unfound RoundLimit None)) ≡ codes "refused: G2" ++ 10 ∷ codes "not found")
 unfolding digits
