@@ -19,6 +19,12 @@ use ztext::TextEnds;
 /// How many instructions are visited at most to find what is broken in every certificate (own).
 const MOST_FAIR_VISITS: u32 = 60_000;
 
+/// How often it is looked what is broken, where more is to be found: what is to be visited differs from one time to the next.
+const MOMENTS: usize = 8;
+
+/// How many are visited between two such times.
+const VISITS_BETWEEN: u32 = 7;
+
 /// What stands in the way of every certificate of a story, as far as that is found out (own): the first rule that is broken whatever a
 /// certificate says. `None` where none is found. The one error is want of memory.
 ///
@@ -33,13 +39,20 @@ pub fn broken_in_all(alloc: Global, story: &Story) -> Result<Option<Obstacle>, F
     let code = Code::new(alloc, story, &listing)?;
     let mut walk = Walk::fair(alloc, &code)?;
     let mut left = MOST_FAIR_VISITS;
-    let grown = walk.grow(&mut left);
-    let certificate = certificate_of(alloc, &code, &mut walk)?;
-    match grown {
-        Ok(()) => obstacle_for(story, certificate),
-        Err(FindError::RoundLimit) => Ok(certain_obstacle(story, &code, &walk, &certificate)),
-        Err(error) => Err(error),
+    for _ in 0..MOMENTS {
+        let grown = walk.grow(&mut left);
+        let certificate = certificate_of(alloc, &code, &mut walk)?;
+        match grown {
+            Ok(()) => return obstacle_for(story, certificate),
+            Err(FindError::RoundLimit) => {}
+            Err(error) => return Err(error),
+        }
+        if let Some(obstacle) = certain_obstacle(story, &code, &walk, &certificate) {
+            return Ok(Some(obstacle));
+        }
+        left = VISITS_BETWEEN;
     }
+    Ok(None)
 }
 
 /// What the checker says first of a certificate that says no more than any other.
