@@ -78,7 +78,7 @@ class Form:
     def run(self):
         before, after = self.before(), self.after()
         self.see(before == after, f"before: {before}; after: {after}")
-        self.see(all(it.status == 0 and it.output for it in after), f"after: {after}")
+        self.see(all(it.status == 0 for it in after) and any(it.output for it in after), f"after: {after}")
         return self.wrong
 
 
