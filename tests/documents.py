@@ -140,6 +140,22 @@ def wrong_authors():
         yield f"AUTHORS: {name} is a story or a form, and not both"
 
 
+def wrong_edits():
+    """Each text that a must-fail edit replaces stands once in its file, after those that it replaced before."""
+    for path in files(r"^crates/\w+/edits/\w+\.edit$"):
+        source = old = ""
+        for line in text_of(path).split("\n"):
+            key, _, text = line.partition(": ")
+            if key == "file":
+                source = text_of(os.path.join(path.split("/edits/")[0], text))
+            elif key == "old":
+                old = text
+                if source.count(old) != 1:
+                    yield f"{path}: its text is {source.count(old)} times in its file: {old}"
+            elif key == "new":
+                source = source.replace(old, text)
+
+
 def wrong_shape():
     if len(text_of("README.md").split("\n")) > 250:
         yield "README.md has over 250 lines"
@@ -152,7 +168,7 @@ def wrong_shape():
 
 def main():
     passed = failed = 0
-    for check in (wrong_bugs, wrong_clauses, wrong_crates, wrong_names, wrong_codes, wrong_authors, wrong_shape):
+    for check in (wrong_bugs, wrong_clauses, wrong_crates, wrong_names, wrong_codes, wrong_authors, wrong_edits, wrong_shape):
         found = list(check())
         for line in found:
             print(f"documents: {line}")
