@@ -61,7 +61,7 @@ Do: save again, with fewer routines waiting, if another program wrote it.
     (
         "Q9",
         "Q9: the save doesn't stand at a save.
-Rule: behind the saved place stands the branch of a save instruction (Q 5; own). The story is told that restoring failed.
+Rule: at the saved place stands the branch of a save instruction (Q 5; own). The story is told that restoring failed.
 Do: play the very story that the save was made in.
 ",
     ),
