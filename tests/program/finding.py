@@ -3,7 +3,7 @@ import os
 import subprocess
 import tempfile
 
-from program import Answer
+from program import Answer, side_by_side
 from samples import HELLO, NEW_LINE, QUIT, changed, story, with_objects
 
 HERE = os.path.dirname(os.path.abspath(__file__))
@@ -21,6 +21,43 @@ FOUND = [
     ("a loop that never ends", story(b"\x95\x10" + b"\x8c\xff\xfd"), None),
 ]
 
+# ---- stories that are found, whatever a number in them is, and what a play of 2,000 steps comes to
+
+# call 32e: its local at 331, here this number; print_num of what it gives; quit. jz local 1 ?(rtrue); rfalse
+CALLED = b"\xe0\x3f\x01\x97\x00\xe6\xbf\x00\xba\x00\x01\x00"
+
+
+def families():
+    for number in range(256):
+        before = NOP * number
+        yield f"{number} nops, and its number printed", story(before + b"\xe6\x7f" + bytes([number]) + QUIT), Answer(0, b"%d" % number, b"")
+        yield f"{number} nops, and a global that counts up for ever", story(before + b"\x95\x10\x8c\xff\xfd"), Answer(0, b"", b"end: budget\n")
+        called = story(CALLED + bytes([number]) + b"\xa0\x01\xc1\xb1")
+        yield f"a routine that tells whether {number} is 0", called, Answer(0, b"1" if number == 0 else b"0", b"")
+
+
+# ---- single stories: name, story, what is typed, what a play of 2,000 steps comes to
+
+# call 380 with no argument; quit; and at 380 a routine of one local: get_child 1 -> local 1
+WITH_CHILD = b"\xe0\x3f\x01\xc0\x00\xba" + bytes(10) + b"\x01\x00\x00\x92\x01\x01"
+SINGLE = [
+    ("a sum that is printed", story(b"\x0d\x10\x05\xe6\xbf\x10" + QUIT), b"", Answer(0, b"5", b"")),
+    ("an object moved into another", with_objects(b"\x0e\x01\x02" + QUIT), b"", Answer(0, b"", b"")),
+    # ?(rfalse where it is none); jz local 1 ?(rfalse); get_parent local 1 -> stack; rtrue
+    ("a child that is there, and its parent", with_objects(WITH_CHILD + b"\xc2\xa0\x01\xc0\xa3\x01\x00\xb0"), b"", Answer(0, b"", b"")),
+    # ?~(rfalse); print_obj local 1; rtrue
+    ("a child that is there, and its name", with_objects(WITH_CHILD + b"\x40\xaa\x01\xb0"), b"", Answer(0, b"b", b"")),
+    ("a store right below static memory", with_objects(b"\xe1\x17\x02\x98\x00\x07" + QUIT), b"", Answer(0, b"", b"")),
+    (
+        "routines that call themselves for ever",
+        story(HELLO + b"\xe0\x3f\x01\x98\x00\xba\0\0\xe0\x3f\x01\x98\x00\xb8"),
+        b"",
+        Answer(0, b"hello", b"end: frame limit\n"),
+    ),
+    ("a line that is read", with_objects(b"\xe4\x0f\x02\x80\x02\x90" + QUIT), b"look,at\n", Answer(0, b"", b"")),
+    ("a save, and a restore", story(b"\xb5\xc2\xb6\xc2" + QUIT), b"", Answer(0, b"", b"")),
+]
+
 # ---- stories for which there is none: name, story, the two lines
 
 NONE = [
@@ -31,6 +68,12 @@ NONE = [
     ("a pull of an empty stack", story(b"\xe9\x7f\x10" + QUIT), ("G1 at 00324", "no certificate: I2 at 00324")),
     ("a return of the main code", story(b"\xb0"), ("G1 at 00324", "no certificate: I13 at 00324")),
     ("the parent of object 0", story(b"\x93\x00\x10" + QUIT), ("G1 at 00324", "no certificate: I5 at 00324")),
+    # call 380; quit; there get_child 1 -> local 1 ?(rfalse where it is none); get_parent local 1 -> stack, which may be of object 0
+    (
+        "a parent of what may be none",
+        with_objects(WITH_CHILD + b"\xc2\xa3\x01\x00\xb0"),
+        ("G1 at 00387", "no certificate: I5 at 00387"),
+    ),
     # print_num of 1 divided by global 16, which is 0
     ("a division by 0", story(b"\x37\x01\x10\x11" + QUIT), ("G1 at 00324", "no certificate: I8 at 00324")),
 ]
@@ -75,6 +118,22 @@ def see_found(program, count):
         count.see(plain == listed and (shown is None or plain.output == shown), f"{name}: {plain}; by what was found: {listed}; wanted was {shown}")
 
 
+def see_families(program, count):
+    """Each is found, and what was found is played as the whole of its answer says, on both machines."""
+
+    def both(case):
+        _, made, typed, _ = case
+        answer, written = program.found(made)
+        if answer != Answer(0, b"found\n", b"") or written is None:
+            return answer, answer
+        files = {"story": made, "certificate": written}
+        return [program.run(["play", "--budget", "2000", *words], files, typed=typed) for words in (["story"], ["story", "certificate"])]
+
+    cases = [*((name, made, b"", wanted) for name, made, wanted in families()), *SINGLE]
+    for (name, _, _, wanted), (plain, listed) in zip(cases, side_by_side(both, cases)):
+        count.see(plain == wanted and listed == wanted, f"{name}: {plain}; by what was found: {listed}; wanted was {wanted}")
+
+
 def see_files(program, count):
     """Where the certificate is written: whole, before a word is said, and never in part over an old one."""
     with tempfile.TemporaryDirectory(prefix="zpc-") as room:
@@ -101,4 +160,5 @@ def see_finding(program, count):
     see_explaining(program, count)
     see_none(program, count)
     see_found(program, count)
+    see_families(program, count)
     see_files(program, count)

@@ -1,7 +1,7 @@
 -- What is read of an array is a word.
-use Rattle.std.proofs.Common.{ℕ, ◌+◌, ◌<◌, ◌≤◌, nat_le, Bool, true, false, if◌then◌else◌, List, Option, Some, None, arith}
+use Rattle.std.proofs.Common.{ℕ, ◌+◌, ◌<◌, nat_le, Bool, true, false, if◌then◌else◌, List, Some, None, arith}
 use Rattle.std.specs.Prelude.{IfSome}
-use Rattle.zstory.specs.Bytes.{AreBytes, byte_at, readable_end}
+use Rattle.zstory.specs.Bytes.{AreBytes, readable_end}
 use Rattle.zarray.specs.declared.width.Width.{Width}
 use Rattle.zarray.specs.declared.width.Width.TheVariants.{Byte, Word}
 use Rattle.zarray.specs.Arrays.{span, value_at, element_at}

@@ -10,7 +10,7 @@ use Rattle.zcert.specs.declared.error.CertError.TheVariants as errors
 use Rattle.zcert.specs.declared.parts.Range.{Range}
 use Rattle.zcert.specs.declared.parts.Routine.{Routine}
 use Rattle.zcert.specs.declared.limits.TheConstants.{MAGIC, GLOBALS, ADDRESS_LIMIT, MAX_LOCALS, MAX_INSTRUCTIONS, MAX_RANGES, MAX_ROUTINES, MAX_HEIGHT}
-use Rattle.zcert.specs.Numbers.{number, HasRoom}
+use Rattle.zcert.specs.Numbers.{number}
 use Rattle.zcert.specs.Numbers as numbers
 use Rattle.zcert.specs.Certificate.{Instruction, Certificate, locals_of}
 use Rattle.zcert.specs.Steps.{need, number_at, serial_at}

@@ -10,7 +10,6 @@ use Rattle.zcert.specs.declared.field.Field.TheVariants as fields
 use Rattle.zcert.specs.declared.field.Turn.{Turn}
 use Rattle.zcert.specs.declared.field.Turn.TheVariants as turns
 use Rattle.zcert.specs.declared.limits.TheConstants.{MAGIC}
-use Rattle.zcert.specs.Numbers.{Number}
 use Rattle.zcert.specs.Numbers as numbers
 use Rattle.zcert.specs.Steps.{◌>>=◌, need, number_at}
 use Rattle.zcert.specs.Format.{Format}

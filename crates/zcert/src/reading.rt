@@ -1,7 +1,7 @@
 //! Reading a certificate.
 
-ghost use Rattle.std.specs.Prelude.{◌≡◌, ◌<◌, List, length, IfOk, IfErr, Ok, Err};
-ghost use Rattle.zcert.specs.Numbers.{Version, LocalCount, Height, Release, Magic, End};
+ghost use Rattle.std.specs.Prelude.{◌≡◌, ◌<◌, length, IfOk, IfErr, Ok, Err};
+ghost use Rattle.zcert.specs.Numbers.{Version, LocalCount, Height, Release, Magic};
 ghost use Rattle.zcert.specs.Certificate.{Certificate as Content};
 ghost use Rattle.zcert.specs.Spelling.{spelling, HasSpelling};
 ghost use Rattle.zcert.specs.Reading.{heading_at, reading};

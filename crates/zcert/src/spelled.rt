@@ -1,6 +1,6 @@
 //! What a kind of sets has to offer, so that certificates can hold them.
 
-ghost use Rattle.std.specs.Prelude.{◌≡◌, ◌≤◌, ◌++◌, List, OnOk, length};
+ghost use Rattle.std.specs.Prelude.{◌≡◌, ◌≤◌, ◌++◌, OnOk, length};
 ghost use Rattle.zcert.specs.Format.{Format};
 ghost use Rattle.zcert.specs.FormatLaw.{IsFormat};
 ghost use Rattle.zcert.specs.View.{Gives};

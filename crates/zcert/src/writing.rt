@@ -1,7 +1,6 @@
 //! Writing a certificate.
 
-ghost use Rattle.std.specs.Prelude.{◌≡◌, ◌≤◌, ◌++◌, length, IfOk, OnOk, map};
-ghost use Rattle.std.specs.List.{flat_map};
+ghost use Rattle.std.specs.Prelude.{◌≡◌, ◌≤◌, ◌++◌, length, IfOk, OnOk};
 ghost use Rattle.zcert.specs.Numbers as numbers;
 ghost use Rattle.zcert.specs.Contents.{stored_instruction, LiesIn};
 ghost use Rattle.zcert.specs.View.{content_of};

@@ -1,10 +1,9 @@
 -- Laws of reading and spelling.
-use Rattle.std.proofs.Common.{◌≡◌, ℕ, ◌<◌, ◌≤◌, ◌+◌, ◌-◌, Bool, true, List, [], ◌++◌, length, get_or, Result, Ok, Err, refl, sym, ap, ◌∙◌, take, drop, arith, length-append, length-drop, ◌↔◌}
+use Rattle.std.proofs.Common.{◌≡◌, ℕ, ◌<◌, ◌≤◌, ◌+◌, ◌-◌, List, [], ◌++◌, length, get_or, Result, Ok, Err, refl, sym, ap, ◌∙◌, take, drop, arith, length-append, length-drop, ◌↔◌}
 use Rattle.std.proofs.lemmas.List.{take_at, ext_get_or, get_or-take, get_or-drop, take-append-drop, length-take, drop_all}
 use Rattle.std.specs.Prelude.{IfOk}
 use Rattle.zcode.specs.declared.error.DecodeError.{DecodeError}
 use Rattle.zcode.specs.declared.error.DecodeError.TheVariants.{Truncated}
-use Rattle.zcode.specs.declared.opcode.Opcode.{Opcode}
 use Rattle.zcode.specs.Instruction.{Instruction}
 use Rattle.zcode.specs.Spelling.{IsAtFront, Spells}
 use Rattle.zcode.specs.Reading.{Agree, head_at, instruction_at}

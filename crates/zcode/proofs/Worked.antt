@@ -1,7 +1,6 @@
 -- Values of the definitions, computed.
-use Rattle.std.proofs.Common.{◌≡◌, ℕ, ◌+◌, ◌<◌, zero, suc, Bool, true, false, [], ◌∷◌, length, Some, None, Ok, Err, pos, negsuc, refl, arith, lit<, lit≤}
+use Rattle.std.proofs.Common.{◌≡◌, ℕ, ◌+◌, ◌<◌, zero, suc, true, false, [], ◌∷◌, length, Some, None, Ok, Err, pos, negsuc, refl, arith, lit<, lit≤}
 use Rattle.zstory.specs.Bytes.{byte_at}
-use Rattle.zcode.specs.declared.opcode.Opcode.{Opcode}
 use Rattle.zcode.specs.declared.opcode.Opcode.TheVariants.{Restore, Restart, Je, IncChk, Dec, Or, Mul, Mod, Jz, GetChild, Jump, Not, Ret, Rtrue, Rfalse, RetPopped, Print, PrintRet, Quit, NewLine, Verify, Call, Storew, Sread, Random, Save, Load, Push, Pull, Pop}
 use Rattle.zcode.specs.declared.opcode.Excluded.TheVariants.{SplitWindow, SetWindow, OutputStream, SoundEffect}
 use Rattle.zcode.specs.declared.error.DecodeError.TheVariants.{Truncated, NoSuchOpcode, NotInProfile, Operands, Text}
@@ -19,7 +18,7 @@ use Rattle.zcode.specs.Instruction.{Instruction, IsWellFormed, destination}
 use Rattle.zcode.specs.Names.{name_of, excluded_name}
 use Rattle.zcode.specs.Opcodes.{missing, table, opcode_of, operand_bounds, TakesOperands, stores, branches, prints_text}
 use Rattle.zcode.specs.Places.{padded, typed, type_byte}
-use Rattle.zcode.specs.Spelling.{type_of, long_type, before_omitted, types_of, Long, ShortOne, VariableTwo, VariableMany, SpellsHead, SpellsOperand, SpellsOperands, SpellsBranch, SpellsBranchIf, SpellsTextIf, signed_14}
+use Rattle.zcode.specs.Spelling.{type_of, long_type, before_omitted, types_of, Long, ShortOne, VariableTwo, VariableMany, Spells, SpellsHead, SpellsOperand, SpellsOperands, SpellsBranch, SpellsBranchIf, SpellsTextIf, signed_14}
 use Rattle.zcode.specs.Reading.{Gives, first_byte, checked_head, long_head, short_head, variable_head, head_at, operand_at, operands_at, store_if, branch_at, branch_if, text_if, instruction_at, Agree}
 
 -- ---- opcodes
@@ -66,6 +65,12 @@ leads = (refl, refl, refl, refl, refl)
 inc_chk : Instruction
 inc_chk = record { opcode = IncChk; operands = Constant 2 ∷ Constant 0 ∷ []; store = None; branch = Some (record { sense = true; offset = pos 20 }); size = 4 }
 
+multiplication : Instruction
+multiplication = record { opcode = Mul; operands = Constant 1000 ∷ Variable 2 ∷ []; store = Some 0; branch = None; size = 6 }
+
+jump_to_itself : Instruction
+jump_to_itself = record { opcode = Jz; operands = Variable 1 ∷ []; store = None; branch = Some (record { sense = true; offset = negsuc 1 }); size = 4 }
+
 well_formed : IsWellFormed inc_chk
 unfolding inc_chk
 well_formed = record { operands = (lit≤ tt, lit≤ tt); store = refl; branch = refl; size = lit< tt }
@@ -104,6 +109,59 @@ spelled_branches = ((refl, refl), (refl, refl), (refl, refl), (λ s. absurd (let
 spelled_texts : SpellsTextIf true (0x35 ∷ 0x51 ∷ 0xC6 ∷ 0x85 ∷ []) × SpellsTextIf false [] × (SpellsTextIf true [] → ⊥) × (SpellsTextIf true (0x35 ∷ 0x51 ∷ []) → ⊥)
 spelled_texts = ((lit< tt, lit≤ tt), refl, (λ t. t), (λ t. omega (arith, t)))
 
+-- whole instructions: inc_chk 2 0 ?18 bytes on; mul 1000 local 2 -> stack; jz local 1 ?itself
+spelled : Spells (0x05 ∷ 0x02 ∷ 0x00 ∷ 0xD4 ∷ []) inc_chk × Spells (0xD6 ∷ 0x2F ∷ 0x03 ∷ 0xE8 ∷ 0x02 ∷ 0x00 ∷ []) multiplication × Spells (0xA0 ∷ 0x01 ∷ 0xBF ∷ 0xFE ∷ []) jump_to_itself
+unfolding inc_chk multiplication jump_to_itself
+spelled = (
+  record {
+    form = Long;
+    operand_types = types.Small ∷ types.Small ∷ [];
+    head = 0x05 ∷ [];
+    operands = 0x02 ∷ 0x00 ∷ [];
+    branch = 0xD4 ∷ [];
+    text = [];
+    whole = refl;
+    head_is = (lit< tt, refl, refl);
+    number_is = (lit≤ tt, lit≤ tt);
+    operands_are = (0x02 ∷ [], 0x00 ∷ [], _, _, refl, refl, (0x02, refl, refl), (0x00 ∷ [], [], _, _, refl, refl, (0x00, refl, refl), (refl, refl)));
+    store_is = refl;
+    branch_is = (refl, refl);
+    text_is = refl;
+    size_is = refl;
+  },
+  record {
+    form = VariableTwo;
+    operand_types = types.Large ∷ types.Variable ∷ [];
+    head = 0xD6 ∷ 0x2F ∷ [];
+    operands = 0x03 ∷ 0xE8 ∷ 0x02 ∷ [];
+    branch = [];
+    text = [];
+    whole = refl;
+    head_is = (lit≤ tt, lit< tt, refl, refl);
+    number_is = (lit≤ tt, lit≤ tt);
+    operands_are = (0x03 ∷ 0xE8 ∷ [], 0x02 ∷ [], _, _, refl, refl, (0x03, 0xE8, refl, refl), (0x02 ∷ [], [], _, _, refl, refl, (0x02, refl, refl), (refl, refl)));
+    store_is = refl;
+    branch_is = (refl, refl);
+    text_is = refl;
+    size_is = refl;
+  },
+  record {
+    form = ShortOne;
+    operand_types = types.Variable ∷ [];
+    head = 0xA0 ∷ [];
+    operands = 0x01 ∷ [];
+    branch = 0xBF ∷ 0xFE ∷ [];
+    text = [];
+    whole = refl;
+    head_is = (lit≤ tt, lit< tt, refl, types.Variable, refl, refl);
+    number_is = (lit≤ tt, lit≤ tt);
+    operands_are = (0x01 ∷ [], [], _, _, refl, refl, (0x01, refl, refl), (refl, refl));
+    store_is = refl;
+    branch_is = (refl, refl);
+    text_is = refl;
+    size_is = refl;
+  })
+
 -- ---- reading
 
 bytes_read : (first_byte [] ≡ Err Truncated) × (first_byte (1 ∷ 2 ∷ []) ≡ Ok (1, 2 ∷ [])) × Gives (λ (n : ℕ). n + 1) (Ok 1) (Ok 2) × (Gives (λ (n : ℕ). n + 1) (Ok 1) (Err Text) → ⊥)
@@ -130,6 +188,15 @@ rest_read = (refl, refl, refl, refl, refl, refl, refl)
 instructions_read : (instruction_at (0x05 ∷ 0x02 ∷ 0x00 ∷ 0xD4 ∷ 9 ∷ []) ≡ Ok inc_chk) × (instruction_at (0xE0 ∷ 0x3F ∷ 0x01 ∷ 0x97 ∷ 0x00 ∷ 9 ∷ []) ≡ Ok (record { opcode = Call; operands = Constant 407 ∷ []; store = Some 0; branch = None; size = 5 })) × (instruction_at (0xB2 ∷ 0x35 ∷ 0x51 ∷ 0xC6 ∷ 0x85 ∷ 9 ∷ []) ≡ Ok (record { opcode = Print; operands = []; store = None; branch = None; size = 5 })) × (instruction_at (0xB2 ∷ []) ≡ Err Text)
 unfolding instruction_at head_at long_head short_head variable_head checked_head operands_at operand_at store_if branch_if branch_at text_if inc_chk
 instructions_read = (refl, refl, refl, refl)
+
+more_read : (instruction_at (0xD6 ∷ 0x2F ∷ 0x03 ∷ 0xE8 ∷ 0x02 ∷ 0x00 ∷ []) ≡ Ok multiplication) × (instruction_at (0xA0 ∷ 0x01 ∷ 0xBF ∷ 0xFE ∷ []) ≡ Ok jump_to_itself)
+unfolding instruction_at head_at long_head short_head variable_head checked_head operands_at operand_at store_if branch_if branch_at text_if multiplication jump_to_itself
+more_read = (refl, refl)
+
+-- the first fault: a type byte is missing, an opcode can't have so many operands, whose bytes aren't read then; an operand is cut off
+faults_read : (instruction_at (0xE0 ∷ []) ≡ Err Truncated) × (instruction_at (0xE9 ∷ 0xFF ∷ []) ≡ Err Operands) × (instruction_at (0xE1 ∷ 0xFF ∷ []) ≡ Err Operands) × (instruction_at (0xE1 ∷ 0x57 ∷ []) ≡ Err Truncated)
+unfolding instruction_at head_at short_head variable_head checked_head operands_at operand_at store_if branch_if text_if
+faults_read = (refl, refl, refl, refl)
 
 -- memories that differ at 0 alone agree from 1 on
 agreeing : Agree (1 ∷ 7 ∷ 8 ∷ []) (2 ∷ 7 ∷ 8 ∷ []) 1 2 × (Agree (1 ∷ 7 ∷ []) (2 ∷ 7 ∷ []) 0 1 → ⊥) × (Agree (1 ∷ []) (1 ∷ 2 ∷ []) 0 1 → ⊥)

@@ -1,6 +1,6 @@
 //! What opcodes do, by families: the one table from which every layer takes what an opcode does.
 
-ghost use Rattle.std.specs.Prelude.{◌≡◌, ◌++◌, ◌≤◌, length, option_to_list};
+ghost use Rattle.std.specs.Prelude.{◌≡◌, ◌≤◌, length, option_to_list};
 ghost use Rattle.zcode.specs.Operation.{implied, inputs, operation_of, target};
 
 use crate::instr::{Instr, Operand};

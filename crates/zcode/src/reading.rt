@@ -1,8 +1,8 @@
 //! Reading an instruction, in one pass. Each function hands on the bytes after what it read.
 
-ghost use Rattle.std.specs.Prelude.{◌≡◌, ℕ, ◌/◌, ◌%◌, ◌<◌, ◌≤◌, ◌+◌, ◌-◌, ◌++◌, ◌↔◌, length, drop, take, IfOk, List, Ok};
+ghost use Rattle.std.specs.Prelude.{◌≡◌, ◌/◌, ◌%◌, ◌<◌, ◌≤◌, ◌+◌, ◌-◌, length, drop, IfOk, Ok};
 ghost use Rattle.zcode.specs.Instruction.{Instruction};
-ghost use Rattle.zcode.specs.Spelling.{Spells, IsAtFront, type_of, types_of};
+ghost use Rattle.zcode.specs.Spelling.{IsAtFront, type_of, types_of};
 ghost use Rattle.zcode.specs.Reading.{Gives, first_byte, long_head, short_head, variable_head, checked_head, head_at, operand_at, operands_at, store_if, branch_at, branch_if, text_if, instruction_at};
 
 use crate::error::DecodeError;

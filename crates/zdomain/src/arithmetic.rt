@@ -2,7 +2,7 @@
 //!
 //! Ends are computed in 32 bits. Where one isn't the number of a word, the results wrap, and they may be any word.
 
-ghost use Rattle.std.specs.Prelude.{◌≡◌, ◌*ℤ◌, int_div, pos};
+ghost use Rattle.std.specs.Prelude.{◌≡◌, ◌*ℤ◌, pos};
 ghost use Rattle.std.specs.Int.{int_min};
 ghost use Rattle.zdomain.specs.Interval.{fitting, around, at_ends, sums, differences, quotients, reach, remainders, are_single, conjunctions, disjunctions, unary};
 ghost use Rattle.zword.specs.declared.unary.UnaryOp.TheVariants.{Not};

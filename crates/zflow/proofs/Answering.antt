@@ -1,5 +1,5 @@
 -- What is known, part by part, is what the definitions say of an instruction.
-use Rattle.std.proofs.Common.{◌≡◌, ℕ, Bool, List, drop, Option, Some, None, refl, sym, subst}
+use Rattle.std.proofs.Common.{◌≡◌, ℕ, Bool, List, drop, Option, refl, sym, subst}
 use Rattle.std.specs.Prelude.{reverse, IfSome}
 use Rattle.zpairs.specs.Frozen.{FrozenStory}
 use Rattle.zcode.specs.declared.opcode.Opcode.{Opcode}

@@ -1,13 +1,13 @@
 //! The sets of a frame's locals, lent, with those that an instruction changes.
 
-ghost use Rattle.std.specs.Prelude.{◌≡◌, ◌↔◌, IsTrue, List, None, Some, drop, length, option_map, slice_get, slice_index_or};
+ghost use Rattle.std.specs.Prelude.{◌≡◌, ◌↔◌, IsTrue, List, None, Some, drop, option_map, slice_get, slice_index_or};
 ghost use Rattle.std.specs.List.{AllZip};
 ghost use Rattle.zdomain.specs.Domain.{Within};
-ghost use Rattle.zflow.specs.Transfer.{Shape, locals_with, narrowed, narrowed_by, with_assigned, with_result};
+ghost use Rattle.zflow.specs.Transfer.{locals_with, narrowed, narrowed_by, with_assigned, with_result};
 ghost use Rattle.zflow.specs.Kept.{shape_of};
 ghost use Rattle.zflow.specs.Lent.{locals_seen, put};
 
-use crate::parts::{Kept, Outcome};
+use crate::parts::Outcome;
 use zdomain::Domain;
 
 /// The sets of locals, with at most four in the place of those that are lent. Each is kept with the index of its local; of two for one

@@ -1,12 +1,10 @@
 -- Values of the definitions, computed.
-use Rattle.std.proofs.Common.{◌≡◌, ◌⊎◌, inl, inr, ℤ, pos, int_le, ℕ, ◌<◌, ◌≤◌, true, false, List, [], ◌∷◌, ◌++◌, replicate, Option, Some, None, Err, refl, sym, subst, arith, if◌then◌else◌, lit≤}
+use Rattle.std.proofs.Common.{◌≡◌, ◌⊎◌, inl, inr, ℤ, pos, int_le, ℕ, ◌<◌, ◌≤◌, true, List, [], ◌∷◌, ◌++◌, replicate, Option, Some, None, Err, refl, sym, subst, arith, if◌then◌else◌, lit≤}
 use Rattle.std.specs.Prelude.{◌==◌}
 use Rattle.std.proofs.lemmas.Option.{same_Some}
 use Rattle.std.proofs.lemmas.Int.{ints}
-use Rattle.zstory.specs.Bytes.{byte_at}
 use Rattle.zstory.specs.LoadedStory.{LoadedStory, globals, static_base}
 use Rattle.zobj.specs.declared.tree.Link.TheVariants.{Parent, Sibling, Child}
-use Rattle.zcert.specs.declared.parts.Range.{Range}
 use Rattle.zplace.specs.Bytes.{IsChanging}
 use Rattle.zdomain.specs.declared.interval.Interval.{Interval}
 use Rattle.zdomain.specs.Domain.{In}
@@ -16,7 +14,7 @@ use Rattle.zquetzal.specs.Saved.{Saved}
 use Rattle.zstate.specs.State.{Frame, State, Setting}
 use Rattle.zrule.specs.Claims.{Entry, Claims}
 use Rattle.zrule.specs.Described.{Fits, FitsWith}
-use Rattle.zjudge.specs.Frames.{AreDescribed, GoesOnAt, IsCalled, Waiting}
+use Rattle.zjudge.specs.Frames.{AreDescribed}
 use Rattle.zjudge.specs.Judging.{IsJudged}
 use Rattle.zjudge.specs.Memory.{HasLinks, IsKept}
 use Rattle.zjudge.specs.Parts.{IsLedTo, IsRangeKept}

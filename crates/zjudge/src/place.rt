@@ -1,9 +1,7 @@
 //! The place where play would go on.
 
-ghost use Rattle.std.specs.Prelude.{◌≡◌, ◌≤◌, ◌-ℤ◌, ℕ, drop, pos, true};
-ghost use Rattle.zstory.specs.LoadedStory.{static_base};
+ghost use Rattle.std.specs.Prelude.{◌≡◌, ◌≤◌, ◌-ℤ◌, drop, pos, true};
 ghost use Rattle.zcode.specs.Operation.{operation_of};
-ghost use Rattle.zlist.specs.Listing.{is_listed};
 ghost use Rattle.zstate.specs.State.{scope_only};
 ghost use Rattle.zstate.specs.Step.{decoded, fetch};
 ghost use Rattle.zstate.specs.Saves.{is_save, saves};

@@ -1,12 +1,12 @@
 //! Storing a line, and what is said of its words.
 
-ghost use Rattle.std.specs.Prelude.{◌≡◌, ◌+◌, ◌*◌, ◌≤◌, ◌<◌, length, take};
-ghost use Rattle.zdict.specs.Left.{span_of, tokens_left};
-ghost use Rattle.zdict.specs.Tokens.{separators, tokens};
-ghost use Rattle.zline.specs.Storing.{HasBuffers, block, stored_byte, stored_text, with_blocks, with_bytes, with_line, with_text, with_words, words_of};
+ghost use Rattle.std.specs.Prelude.{◌≡◌, ◌+◌, ◌*◌, ◌≤◌, ◌<◌, length};
+ghost use Rattle.zdict.specs.Left.{span_of};
+ghost use Rattle.zdict.specs.Tokens.{tokens};
+ghost use Rattle.zline.specs.Storing.{HasBuffers, block, stored_byte, stored_text, with_blocks, with_bytes, with_line, with_text, words_of};
 
 use arrayvec::ArrayVec;
-use zdict::{Token, Tokens, lookup, tokens};
+use zdict::{Token, lookup, tokens};
 use zstory::Story;
 use ztext::encode_word;
 

@@ -7,7 +7,6 @@ ghost use Rattle.zlist.specs.declared.list_error.ListError.{ListError as AListEr
 ghost use Rattle.zlist.specs.declared.list_error.ListError.TheVariants.{Decode, OutOfMemory};
 ghost use Rattle.std.specs.List.{Contains};
 ghost use Rattle.std.specs.List.Sorted.{IsStrictlyIncreasing};
-ghost use Rattle.zlist.specs.declared.owner.Owner.{Owner as AnOwner};
 ghost use Rattle.zlist.specs.Labels.{AreFound, AreListed, IsNumbered, IsWalked, number_in, place, slots};
 ghost use Rattle.zlist.specs.Listed.{Belongs, IsCalled, IsComputed, IsFault, IsFirstAt, IsHeadless, IsListed, IsLowestFault, IsShared, IsUnspelled, JumpsByVariable, Lists, spelled};
 

@@ -1,6 +1,6 @@
 //! Tables from an address to its number in a rising list, made once so that no look-up searches.
 
-ghost use Rattle.std.specs.Prelude.{◌≡◌, ◌<◌, ◌≤◌, All, IfOk, length};
+ghost use Rattle.std.specs.Prelude.{◌<◌, ◌≤◌, All, IfOk, length};
 ghost use Rattle.std.specs.List.Sorted.{IsStrictlyIncreasing};
 ghost use Rattle.zlist.specs.Listing.{addresses_of};
 ghost use Rattle.zlist.specs.Numbering.{IsNumbering};

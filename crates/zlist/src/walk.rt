@@ -1,11 +1,11 @@
 //! Whose code each place is: every instruction is followed from where code begins.
 
-ghost use Rattle.std.specs.Prelude.{◌≡◌, ◌<◌, ◌≤◌, ◌+ℤ◌, All, IfOk, IfSome, IfNone, [], ℕ, Ok, length, ◌≢◌, ◌≤ℤ◌, Some, None, IsTrue, pos};
+ghost use Rattle.std.specs.Prelude.{◌≡◌, ◌<◌, ◌≤◌, All, IfOk, IfSome, IfNone, [], ℕ, Ok, length, ◌≢◌, Some, None, IsTrue, pos};
 ghost use Rattle.zstory.specs.LoadedStory.{LoadedStory, first_instruction};
 ghost use Rattle.zcode.specs.Instruction.{Instruction};
 ghost use Rattle.zlist.specs.Labels.{Found, Grows, Has, HasSlot, IsEntered, IsFollowed, IsInside, IsSo, IsSound, IsWalked, is_called, label_at, place, slots, with_waiting};
 ghost use Rattle.zlist.specs.declared.owner.Label.TheVariants.{Nobody};
-ghost use Rattle.zlist.specs.Listed.{IsCalled, behind, spelled};
+ghost use Rattle.zlist.specs.Listed.{IsCalled, spelled};
 
 use crate::leading::{aside_place, begins, callee, next_place};
 use crate::owner::{Label, Owner};

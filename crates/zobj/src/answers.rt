@@ -1,9 +1,8 @@
 //! Questions about properties, and their answers.
 
-ghost use Rattle.std.specs.Prelude.{◌≡◌, ◌<◌, Ok, Err, Some, None, IfOk};
-ghost use Rattle.zobj.specs.Answers.{address_of, answer_of, if_there, is_property_number};
+ghost use Rattle.std.specs.Prelude.{◌≡◌, ◌<◌, Ok, Err, Some, None};
+ghost use Rattle.zobj.specs.Answers.{address_of, answer_of};
 ghost use Rattle.zobj.specs.Entries.{HasEntry, HasDefaults};
-ghost use Rattle.zobj.specs.Properties.{property_of};
 
 use crate::error::ObjectError;
 use crate::property::{Property, find_property, next_number};

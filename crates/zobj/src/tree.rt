@@ -1,6 +1,6 @@
 //! The tree of objects.
 
-ghost use Rattle.std.specs.Prelude.{◌≡◌, ◌≤◌, ◌<◌};
+ghost use Rattle.std.specs.Prelude.{◌≡◌, ◌<◌};
 ghost use Rattle.zobj.specs.Entries.{HasEntry};
 ghost use Rattle.zobj.specs.Tree.{linked, with_link, link_byte};
 

@@ -1,6 +1,6 @@
 //! Tables of what is known of objects, one by one and block by block.
 
-ghost use Rattle.std.specs.Prelude.{◌≡◌, ◌+◌, ◌*◌, ◌/◌, ◌%◌, ◌<◌, ◌≤◌, ℕ, length, slice_index_or};
+ghost use Rattle.std.specs.Prelude.{◌≡◌, ◌+◌, ◌*◌, ◌/◌, ◌%◌, ◌<◌, ℕ, slice_index_or};
 ghost use Rattle.zpairs.specs.Blocks.{AreCells, merged_in, object_cell};
 ghost use Rattle.zpairs.specs.Cells.{no_cell};
 ghost use Rattle.zpairs.specs.Rows.{IsObjectRow};

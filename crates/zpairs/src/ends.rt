@@ -1,7 +1,7 @@
 //! The ends of what an answer may be.
 
 ghost use Rattle.std.specs.Prelude.{◌≡◌};
-ghost use Rattle.zpairs.specs.Ends.{a_byte, any_word, exactly, joined, no_word, turned};
+ghost use Rattle.zpairs.specs.Ends.{exactly, joined, turned};
 
 /// The least and the greatest of some words, in the order of their signed readings. Each end is the place of a word in that order,
 /// so that both rise as numbers do.

@@ -5,7 +5,7 @@ ghost use Rattle.zdomain.specs.Domain.{In};
 ghost use Rattle.zpairs.specs.Cells.{absent_passes, cell_at, passes};
 ghost use Rattle.zpairs.specs.Ends.{no_word};
 ghost use Rattle.zpairs.specs.Frozen.{FrozenStory, frozen_by};
-ghost use Rattle.zpairs.specs.Pairs.{EachPair, all_ends, between_ends, is_asked, may_exceed, may_have, object_ends, pair_ends};
+ghost use Rattle.zpairs.specs.Pairs.{EachPair, all_ends, is_asked, may_exceed, may_have, object_ends, pair_ends};
 
 use crate::blocks::{BLOCK_CELLS, BLOCK_LENGTH, COLUMNS, OBJECT_CELLS, block_cells, object_cells};
 use crate::cell::{Cell, Test};

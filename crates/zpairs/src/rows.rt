@@ -1,8 +1,7 @@
 //! The properties of an object by their numbers.
 
-ghost use Rattle.std.specs.Prelude.{◌≡◌, ◌+◌, ◌/◌, ◌%◌, ◌<◌, ◌≤◌, ℕ, Some, None, IfSome, if◌then◌else◌, slice_index_or};
-ghost use Rattle.zstory.specs.Objects.{property_table};
-ghost use Rattle.zobj.specs.Properties.{is_property, list_place, property_there};
+ghost use Rattle.std.specs.Prelude.{◌≡◌, ◌+◌, ◌/◌, ◌%◌, ◌<◌, ℕ, Some, None, slice_index_or};
+ghost use Rattle.zobj.specs.Properties.{list_place};
 ghost use Rattle.zpairs.specs.Rows.{IsObjectRow, IsRow, first_of, if_number};
 
 use crate::blocks::COLUMNS;

@@ -1,7 +1,6 @@
 -- A session goes on from a save that was judged.
-use Rattle.std.proofs.Common.{◌≡◌, ◌⊎◌, inl, inr, ℕ, zero, suc, ◌+◌, ◌<◌, ◌≤◌, true, List, [], ◌∷◌, length, map, reverse, Option, Some, None, Result, Ok, Err, refl, sym, ap, subst, ◌∙◌, arith}
-use Rattle.std.specs.Prelude.{slice_get, nat_le}
-use Rattle.std.proofs.lemmas.Bool.Decides.{nat_tests}
+use Rattle.std.proofs.Common.{◌≡◌, inl, inr, ℕ, zero, suc, ◌<◌, ◌≤◌, true, List, [], ◌∷◌, length, map, reverse, Option, Some, None, Ok, Err, refl, sym, ap, subst, ◌∙◌, arith}
+use Rattle.std.specs.Prelude.{slice_get}
 use Rattle.std.proofs.lemmas.List.{length-map}
 use Rattle.zstory.specs.LoadedStory.{LoadedStory, static_base}
 use Rattle.zlist.specs.declared.record.Record.{Record}
@@ -16,7 +15,7 @@ use Rattle.zjudge.specs.Judging.{IsJudged, listed_setting}
 use Rattle.zcert.specs.Certificate.{Certificate}
 use Rattle.zrule.specs.Claims.{claims_of}
 use Rattle.zframe.specs.Frames.{Frame}
-use Rattle.zstate.specs.State.{Frame as StateFrame, IsState, Setting, State, usual_limit}
+use Rattle.zstate.specs.State.{Frame as StateFrame, IsState, State, usual_limit}
 use Rattle.zstate.specs.Saves.{StatesAreSaved, going_on, restoring, resumed, save_place, taken_frame, with_frames}
 use Rattle.zboard.specs.declared.board.Board.{Board}
 use Rattle.zboard.specs.declared.row.Row.{Row}

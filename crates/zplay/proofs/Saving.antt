@@ -1,8 +1,7 @@
 -- What a session saves is accepted, and what it accepts is fine.
-use Rattle.std.proofs.Common.{◌≡◌, ◌↔◌, inl, inr, ◌⊎◌, List, ℕ, ◌≤◌, true, Result, Ok, Err, Some, refl, sym, ap, subst, ◌∙◌, arith}
+use Rattle.std.proofs.Common.{◌≡◌, ◌↔◌, inl, inr, List, ℕ, true, Result, Ok, Err, Some, sym, ap, subst, ◌∙◌, arith}
 use Rattle.std.specs.Prelude.{IfErr, IsOk}
 use Rattle.zfault.specs.declared.pause.Need.TheVariants as needs
-use Rattle.zcode.specs.Operation.{operation_of}
 use Rattle.zquetzal.specs.declared.error.SaveError.{SaveError}
 use Rattle.zquetzal.specs.Grammar.{save_text}
 use Rattle.zquetzal.specs.Saved.{origin_of}

@@ -1,6 +1,6 @@
 //! One chunk of a save.
 
-ghost use Rattle.std.specs.Prelude.{◌≡◌, ◌<◌, ◌≤◌, length, IfOk};
+ghost use Rattle.std.specs.Prelude.{◌<◌, ◌≤◌, length, IfOk};
 ghost use Rattle.zquetzal.specs.Reading.{chunk_at, sized_chunk};
 ghost use Rattle.zquetzal.specs.View.{Gives, seen_chunk};
 

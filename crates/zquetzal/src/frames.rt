@@ -1,7 +1,7 @@
 //! The frames of a save, one by one.
 
-ghost use Rattle.std.specs.Prelude.{◌≡◌, ◌+◌, ◌-◌, length, Ok};
-ghost use Rattle.zquetzal.specs.Reading.{are_frames, frames_of, frames_within, is_first};
+ghost use Rattle.std.specs.Prelude.{◌≡◌, ◌+◌, ◌-◌, Ok};
+ghost use Rattle.zquetzal.specs.Reading.{are_frames, is_first};
 ghost use Rattle.zquetzal.specs.View.{Gives, count_within, count_of, frames_in, frames_left, seen_frame};
 
 use crate::error::SaveError;

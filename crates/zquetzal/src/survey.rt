@@ -1,7 +1,7 @@
 //! Going over the chunks of a save.
 
 ghost use Rattle.std.specs.Prelude.{◌≡◌, Ok, []};
-ghost use Rattle.zquetzal.specs.Reading.{chunks_of, chosen, found_in, found_then, is_absent, is_often, once};
+ghost use Rattle.zquetzal.specs.Reading.{chosen, found_in, found_then, is_absent, is_often, once};
 ghost use Rattle.zquetzal.specs.Grammar.{is_known};
 ghost use Rattle.zquetzal.specs.Survey.{survey_of, survey_at, noted, first_then, chosen_in};
 ghost use Rattle.zquetzal.specs.View.{Gives, seen_chunk, seen_found, seen_survey, seen_parts};

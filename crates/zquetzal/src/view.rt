@@ -1,6 +1,6 @@
 //! A save that was read.
 
-ghost use Rattle.std.specs.Prelude.{◌≡◌, ◌<◌, ◌≤◌, ◌^◌, length};
+ghost use Rattle.std.specs.Prelude.{◌≡◌, ◌<◌, ◌^◌, length};
 ghost use Rattle.zquetzal.specs.Saved.{AreFrames};
 ghost use Rattle.zquetzal.specs.View.{frames_in, frames_left};
 

@@ -1,5 +1,5 @@
 -- Saves are good everywhere: one from which play goes on in one described state, and what was saved of a described state.
-use Rattle.std.proofs.Common.{◌≡◌, ◌≢◌, ◌⊎◌, inl, inr, ℕ, zero, suc, ◌+◌, ◌*◌, ◌/◌, ◌%◌, ◌<◌, ◌≤◌, ◌==◌, Bool, true, false, List, [], ◌∷◌, length, map, slice_set, Result, Ok, Some, ℤ, refl, sym, ap, subst, ◌∙◌, arith}
+use Rattle.std.proofs.Common.{◌≡◌, inl, inr, ℕ, ◌+◌, ◌*◌, ◌/◌, ◌%◌, ◌<◌, ◌≤◌, ◌==◌, true, false, List, [], ◌∷◌, length, map, slice_set, Result, Ok, Some, ℤ, refl, sym, ap, subst, ◌∙◌, arith}
 use Rattle.std.specs.Prelude.{nat_le, reverse}
 use Rattle.std.proofs.lemmas.Bool.{cases_lt}
 use Rattle.std.proofs.lemmas.List.{get_or-set_same, length-map, length-reverse, length-set, set-set}
@@ -16,7 +16,6 @@ use Rattle.zquetzal.specs.Steps.{◌>>=◌}
 use Rattle.zquetzal.proofs.Steps.{bind_ok, need_ok, ok_is}
 use Rattle.zquetzal.proofs.Saves.{again, written}
 use Rattle.zdomain.specs.Domain.{SetOperations}
-use Rattle.zplace.specs.Bytes.{IsFlags}
 use Rattle.zstate.specs.State.{Frame, IsState, Scope, State, Setting, keeping_flags, usual_limit}
 use Rattle.zstate.specs.Saves.{IsOfStory, going_on, restoring, resumed, save_place, saved_of, saves, taken_frame, taken_memory, with_frames}
 use Rattle.zstate.specs.Step.{fetch}

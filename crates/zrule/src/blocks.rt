@@ -1,7 +1,7 @@
 //! Routines that begin at packed addresses side by side, of which rules are asked at once.
 
-ghost use Rattle.std.specs.Prelude.{◌≡◌, ◌↔◌, ◌*◌, ◌/◌, ◌≤◌, IfOk, IfSome, IsTrue, Some, length, slice_get};
-ghost use Rattle.zrule.specs.Blocks.{AreBlocks, EachBegins, EachGives, IsBlock, sets_of};
+ghost use Rattle.std.specs.Prelude.{◌≡◌, ◌*◌, ◌/◌, ◌≤◌, IfOk, IfSome, IsTrue, Some, length, slice_get};
+ghost use Rattle.zrule.specs.Blocks.{AreBlocks, EachBegins, EachGives, IsBlock};
 ghost use Rattle.zrule.specs.Claims.{claims_of};
 ghost use Rattle.zrule.specs.Rules.{result_at};
 ghost use Rattle.zstate.specs.Step.{unpacked};

@@ -1,16 +1,16 @@
 //! What rules ask of each routine that an instruction may call.
 
-ghost use Rattle.std.specs.Prelude.{◌≡◌, ◌↔◌, ◌*◌, ◌+◌, ◌≤◌, ℕ, IfNone, IfSome, IsTrue, MatchOption, Some, [], length, reverse, slice_get, suc};
+ghost use Rattle.std.specs.Prelude.{◌≡◌, ◌↔◌, ◌*◌, ◌+◌, ◌≤◌, ℕ, IfNone, IfSome, IsTrue, MatchOption, Some, [], reverse, slice_get, suc};
 ghost use Rattle.zstory.specs.Bytes.{byte_at, word_at};
 ghost use Rattle.zdomain.specs.Domain.{In, Within};
 ghost use Rattle.zcode.specs.Operation.{target};
-ghost use Rattle.zstate.specs.Step.{behind_head, unpacked, words_from};
-ghost use Rattle.zflow.specs.Transfer.{argument_sets, with_result};
+ghost use Rattle.zstate.specs.Step.{unpacked, words_from};
+ghost use Rattle.zflow.specs.Transfer.{argument_sets};
 ghost use Rattle.zcert.specs.Listed.{seen};
 ghost use Rattle.zrule.specs.Blocks.{AreBlocks, InBlock, IsBlock, sets_of};
 ghost use Rattle.zrule.specs.Claims.{Claims, claims_of, entry_of};
 ghost use Rattle.zrule.specs.Edges.{CalleeKeeps, IsNextAbove};
-ghost use Rattle.zrule.specs.Rules.{Begins, EachCallee, Leads, Starts, result_at};
+ghost use Rattle.zrule.specs.Rules.{Begins, EachCallee, Starts, result_at};
 
 use crate::arguments::{Arguments, arguments_of};
 use crate::blocks::Block;

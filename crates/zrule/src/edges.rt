@@ -1,6 +1,6 @@
 //! What rules ask of an edge of an instruction.
 
-ghost use Rattle.std.specs.Prelude.{◌≡◌, ◌↔◌, ◌+◌, ◌<◌, ◌≤◌, ℕ, IfSome, IsTrue, Some, length, option_map};
+ghost use Rattle.std.specs.Prelude.{◌≡◌, ◌↔◌, ◌+◌, ◌<◌, ◌≤◌, IfSome, IsTrue, Some, length, option_map};
 ghost use Rattle.zcode.specs.Operation.{target};
 ghost use Rattle.zflow.specs.declared.parts.Lead.TheVariants.{Ahead, Returning};
 ghost use Rattle.zflow.specs.Transfer.{Shape, argument_sets, with_result};

@@ -13,7 +13,7 @@ ghost use Rattle.zflow.specs.Transfer.{argument_sets};
 ghost use Rattle.zrule.specs.declared.rule.Rule.{Rule as ARule};
 ghost use Rattle.zrule.specs.declared.rule.Rule.TheVariants.{Successor};
 ghost use Rattle.zrule.specs.Blocks.{AreBlocks};
-ghost use Rattle.zrule.specs.Claims.{claims_of, entry_of, Entry, frozen_in, told_of};
+ghost use Rattle.zrule.specs.Claims.{claims_of, entry_of, Entry, told_of};
 ghost use Rattle.zobj.specs.Values.{length_before};
 ghost use Rattle.zpairs.specs.Frozen.{frozen_by};
 ghost use Rattle.zruns.specs.Texts.{HasFixedText};

@@ -24,7 +24,7 @@ pub(crate) struct Marked<'a> {
 }
 
 impl<'a> Marked<'a> {
-    ghost use Rattle.std.specs.Prelude.{◌≡◌, ◌<◌, ◌≤◌, not};
+    ghost use Rattle.std.specs.Prelude.{◌≡◌, ◌<◌, not};
     ghost use Rattle.zruns.specs.Fixed.{is_closed, is_fixed};
     ghost use Rattle.zruns.specs.Runs.{cell_at, each_byte};
 

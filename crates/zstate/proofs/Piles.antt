@@ -5,7 +5,6 @@ use Rattle.zfault.specs.declared.event.Event.TheVariants as events
 use Rattle.zstory.specs.LoadedStory.{LoadedStory}
 use Rattle.std.proofs.lemmas.List.{append-nil, map-append, reverse-append}
 use Rattle.zquetzal.specs.Saved.{AreFrames, Frame as SavedFrame, Saved}
-use Rattle.zquetzal.specs.Reading.{words_of}
 use Rattle.zstate.specs.declared.mode.RandomMode.{RandomMode}
 use Rattle.zstate.specs.State.{Frame, State, keeping_flags}
 use Rattle.zstate.specs.Packed.{Chain, above, chain_from, piled, with_top}

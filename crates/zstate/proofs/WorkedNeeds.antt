@@ -1,5 +1,5 @@
 -- Random numbers and lines of the player, computed.
-use Rattle.std.proofs.Common.{◌≡◌, ℕ, true, false, Bool, List, [], ◌∷◌, ◌++◌, replicate, slice_set, Option, Some, None, Ok, Err, pos, negsuc, refl}
+use Rattle.std.proofs.Common.{◌≡◌, ℕ, true, false, List, [], ◌∷◌, ◌++◌, replicate, slice_set, Option, Some, None, Ok, Err, pos, negsuc, refl}
 use Rattle.zstory.specs.LoadedStory.{LoadedStory}
 use Rattle.zcode.specs.Operation.{operation_of}
 use Rattle.zcode.specs.Reading.{instruction_at, head_at, variable_head, checked_head, operands_at, operand_at, store_if, branch_if, text_if}
@@ -14,7 +14,7 @@ use Rattle.zstate.specs.declared.halt.Halt.TheVariants as halts
 use Rattle.zstate.specs.declared.mode.RandomMode.{RandomMode}
 use Rattle.zstate.specs.declared.mode.RandomMode.TheVariants.{Words, Counting}
 use Rattle.zstate.specs.InTurn.{in_turn}
-use Rattle.zstate.specs.State.{State, Setting, usual_limit, scope_all, first_frame, opening, at_place, give, with_stack, put, read_operand, read_variable}
+use Rattle.zstate.specs.State.{State, Setting, usual_limit, scope_all, opening, at_place, give, with_stack, put, read_operand, read_variable}
 use Rattle.zstate.specs.Step.{fetch, effect_of, giving, random_of, buffered, are_writable, admits, pauses as must_pause, plan, changed, act, step}
 use Rattle.zstate.specs.Run.{awaited}
 

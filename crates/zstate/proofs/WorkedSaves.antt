@@ -1,5 +1,5 @@
 -- Saves, restores and restarts, computed.
-use Rattle.std.proofs.Common.{◌≡◌, ℕ, true, false, List, [], ◌∷◌, ◌++◌, replicate, take, Option, Some, None, Ok, Err, pos, refl}
+use Rattle.std.proofs.Common.{◌≡◌, ℕ, true, false, List, [], ◌∷◌, ◌++◌, replicate, take, Some, None, Ok, Err, pos, refl}
 use Rattle.zstory.specs.LoadedStory.{LoadedStory}
 use Rattle.zcode.specs.Operation.{operation_of}
 use Rattle.zcode.specs.Reading.{instruction_at, head_at, short_head, checked_head, operands_at, store_if, branch_if, branch_at, text_if}

@@ -1,5 +1,5 @@
 -- What is saved of a state, and how play goes on from a save (Z 15 save, restore; Q 3 to 6).
-use Rattle.std.specs.Prelude.{◌≡◌, ◌≢◌, ◌⊎◌, ℕ, ◌+◌, ◌<◌, ◌≤◌, ◌==◌, ◌+ℤ◌, ◌-ℤ◌, nat_le, Bool, true, false, if◌then◌else◌, List, [], ◌∷◌, ◌++◌, length, map, reverse, take, drop, slice_set, Option, Some, None, Result, Ok, Err, ℤ, pos}
+use Rattle.std.specs.Prelude.{◌≡◌, ◌≢◌, ◌⊎◌, ℕ, ◌+◌, ◌<◌, ◌≤◌, ◌+ℤ◌, ◌-ℤ◌, nat_le, Bool, true, false, List, [], ◌∷◌, length, map, reverse, take, drop, slice_set, Some, Result, Ok, Err, ℤ, pos}
 use Rattle.zstory.specs.Bytes.{AreBytes, byte_at}
 use Rattle.zstory.specs.LoadedStory.{IsSound, LoadedStory, static_base}
 use Rattle.zfault.specs.declared.event.Event.TheVariants as events

@@ -1,6 +1,6 @@
 //! From a file's bytes to those that are loaded.
 
-ghost use Rattle.std.specs.Prelude.{◌≡◌, ◌+◌, ◌%◌, ◌≤◌, length, drop, sum, OnOk, IfOk, IfErr};
+ghost use Rattle.std.specs.Prelude.{◌≡◌, ◌%◌, ◌≤◌, length, drop, sum, OnOk, IfOk, IfErr};
 ghost use Rattle.zstory.specs.Header.{version};
 ghost use Rattle.zstory.specs.Loading.{stated_part, with_flags_cleared};
 ghost use Rattle.zstory.specs.LoadedStory.{IsSound};

@@ -1,6 +1,6 @@
 //! How many objects a story has.
 
-ghost use Rattle.std.specs.Prelude.{◌≡◌, ◌+◌, ◌≤◌, length};
+ghost use Rattle.std.specs.Prelude.{◌+◌, ◌≤◌, length};
 ghost use Rattle.zstory.specs.Header.{static_base};
 ghost use Rattle.zstory.specs.Objects.{IsObjectCount};
 

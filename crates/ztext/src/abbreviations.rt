@@ -1,10 +1,9 @@
 //! The abbreviations of a memory.
 
-ghost use Rattle.std.specs.Prelude.{◌≡◌, ◌+◌, ◌*◌, ◌<◌, ◌≤◌, ◌↔◌, [], length, take, drop, IsSome, IfSome, IsTrue, option_map};
+ghost use Rattle.std.specs.Prelude.{◌≡◌, ◌+◌, ◌*◌, ◌<◌, ◌≤◌, ◌↔◌, length, take, drop, IsSome, IfSome, option_map};
 ghost use Rattle.std.specs.Option.{option_copied};
 ghost use Rattle.zstory.specs.Bytes.{word_at};
 ghost use Rattle.ztext.specs.Pieces.{pieces_of};
-ghost use Rattle.ztext.specs.Codes.{abbreviations_among};
 ghost use Rattle.ztext.specs.Abbreviations.{readable_word, abbreviation_at, IsPlainAbbreviation};
 ghost use Rattle.ztext.specs.Words.{characters_in};
 

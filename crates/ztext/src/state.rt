@@ -1,6 +1,6 @@
 //! What has begun of a text, kept as one number.
 
-ghost use Rattle.std.specs.Prelude.{◌≡◌, ◌<◌, IsSome, IfSome, Some, None, ℕ};
+ghost use Rattle.std.specs.Prelude.{◌≡◌, ◌<◌, Some, None};
 ghost use Rattle.ztext.specs.Begun.{IsBegun};
 ghost use Rattle.ztext.specs.States.{byte_at_once};
 

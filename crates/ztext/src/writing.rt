@@ -1,6 +1,6 @@
 //! Writing what Z-characters print.
 
-ghost use Rattle.std.specs.Prelude.{◌≡◌, ◌*◌, ◌/◌, ◌%◌, ◌<◌, ◌≤◌, ℕ, List, [], ◌∷◌, Some, Ok, IfSome, Result, option_map, vec_capacity};
+ghost use Rattle.std.specs.Prelude.{◌≡◌, ◌*◌, ◌/◌, ◌%◌, ◌<◌, ◌≤◌, ℕ, List, [], ◌∷◌, Some, Ok, IfSome, Result, vec_capacity};
 ghost use Rattle.std.specs.Option.{option_to_list};
 ghost use Rattle.ztext.specs.Words.{characters_in};
 ghost use Rattle.ztext.specs.Output.{output_of_code};

@@ -1,5 +1,4 @@
-use Rattle.std.proofs.Common.{◌≡◌, ◌∙◌, ◌-◌, ◌+◌, ap, arith, length, sym, take}
-use Rattle.std.proofs.Math.Seq.{take-length}
+use Rattle.std.proofs.Common.{◌≡◌, ◌-◌, ◌+◌, arith, length}
 use Rattle.zquetzal.specs.Reading.{words_of}
 use Rattle.zstate.proofs.Packing.{begin_is, begin_packed}
 use Rattle.zstate.proofs.frames.Frames.begin_saved.Goals as goal

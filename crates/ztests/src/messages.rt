@@ -1,10 +1,20 @@
-//! A message, names, and adapters over what fails.
+//! The messages of errors, of which no clause says anything.
 
-use std::io::{self, ErrorKind, Read, Write};
+use std::fmt::Display;
 use std::test::Fail;
 use zcert::CertError;
-use zfault::{Failed, Fault, FromRead, Name, Sink, Source, ToWrite};
+use zcode::{DecodeError, Excluded};
+use zfault::Fault;
 use zstory::LoadError;
+
+/// Whether each of these has the message that stands beside it.
+fn are_told<T: Display>(rt: &HostRuntime, told: &[(T, &str)]) -> Result<(), Fail> {
+    for (error, text) in told {
+        let message = format!(in rt.alloc(); "{}", error)?;
+        assert_eq!(rt; message.as_str(), *text);
+    }
+    Ok(())
+}
 
 #[test]
 fn faults_are_told(rt: HostRuntime) -> Result<(), Fail> {
@@ -38,11 +48,7 @@ fn faults_are_told(rt: HostRuntime) -> Result<(), Fail> {
         (Fault::ReturnFromMain, "a return from the main routine"),
         (Fault::BadVariable, "no variable has this number"),
     ];
-    for (fault, text) in told {
-        let message = format!(in rt.alloc(); "{}", fault)?;
-        assert_eq!(rt; message.as_str(), text);
-    }
-    Ok(())
+    are_told(&rt, &told)
 }
 
 #[test]
@@ -79,11 +85,7 @@ fn refused_files_are_told(rt: HostRuntime) -> Result<(), Fail> {
         ),
         (LoadError::OutOfMemory, "out of memory"),
     ];
-    for (error, text) in told {
-        let message = format!(in rt.alloc(); "{}", error)?;
-        assert_eq!(rt; message.as_str(), text);
-    }
-    Ok(())
+    are_told(&rt, &told)
 }
 
 #[test]
@@ -98,81 +100,26 @@ fn refused_certificates_are_told(rt: HostRuntime) -> Result<(), Fail> {
         (CertError::Limit, "a number is above its limit"),
         (CertError::OutOfMemory, "out of memory"),
     ];
-    for (error, text) in told {
-        let message = format!(in rt.alloc(); "{}", error)?;
-        assert_eq!(rt; message.as_str(), text);
-    }
-    Ok(())
+    are_told(&rt, &told)
 }
 
 #[test]
-fn names_are_kept_whole(rt: HostRuntime) -> Result<(), Fail> {
-    assert_eq!(rt; Name::new(rt.alloc()).as_slice(), b"".as_slice());
-    for text in [b"West of House".as_slice(), b"a name of 17 byte".as_slice()] {
-        let name = Name::from_slice(rt.alloc(), text)?;
-        assert_eq!(rt; name.as_slice(), text);
-    }
-    Ok(())
-}
-
-#[test]
-fn reads_to_the_end(rt: HostRuntime) {
-    let mut source = FromRead::new(b"hello".as_slice());
-    let mut buffer = [0; 3];
-    assert_eq!(rt; source.read(&mut buffer), Ok(3));
-    assert_eq!(rt; buffer.as_slice(), b"hel".as_slice());
-    assert_eq!(rt; source.read(&mut buffer), Ok(2));
-    assert_eq!(rt; &buffer[..2], b"lo".as_slice());
-    assert_eq!(rt; source.read(&mut buffer), Ok(0));
-    assert_eq!(rt; source.failures(), 0);
-}
-
-#[test]
-fn an_interrupted_call_fails(rt: HostRuntime) {
-    let mut source = FromRead::new(Interrupted { calls: 0 });
-    assert_eq!(rt; source.read(&mut [0; 3]), Err(Failed));
-    assert_eq!(rt; source.read(&mut [0; 3]), Ok(3));
-    assert_eq!(rt; source.failures(), 1);
-    let mut sink = ToWrite::new(Interrupted { calls: 0 });
-    assert_eq!(rt; sink.write(b"hello"), Err(Failed));
-    assert_eq!(rt; sink.write(b"hello"), Ok(5));
-    assert_eq!(rt; sink.failures(), 1);
-    let mut sink = ToWrite::new(Interrupted { calls: 0 });
-    assert_eq!(rt; sink.flush(), Err(Failed));
-    assert_eq!(rt; sink.flush(), Ok(()));
-    assert_eq!(rt; sink.failures(), 1);
-}
-
-/// A reader and writer of which the first call alone is interrupted, so that a call which is tried again shows.
-#[derive(Drop)]
-struct Interrupted {
-    calls: u32,
-}
-
-impl Interrupted {
-    fn call(&mut self) -> io::Result<()> {
-        self.calls = self.calls.saturating_add(1);
-        if self.calls == 1 {
-            return Err(ErrorKind::Interrupted.into());
-        }
-        Ok(())
-    }
-}
-
-impl Read for Interrupted {
-    fn read(&mut self, buffer: &mut [u8]) -> io::Result<usize> {
-        self.call()?;
-        Ok(buffer.len())
-    }
-}
-
-impl Write for Interrupted {
-    fn write(&mut self, piece: &[u8]) -> io::Result<usize> {
-        self.call()?;
-        Ok(piece.len())
-    }
-
-    fn flush(&mut self) -> io::Result<()> {
-        self.call()
-    }
+fn refused_opcodes_are_told(rt: HostRuntime) -> Result<(), Fail> {
+    let told = [
+        (
+            DecodeError::Truncated,
+            "the bytes end within the instruction",
+        ),
+        (DecodeError::NoSuchOpcode, "no opcode has this number"),
+        (
+            DecodeError::NotInProfile(Excluded::SetWindow),
+            "the opcode set_window is not played",
+        ),
+        (
+            DecodeError::Operands,
+            "the opcode does not take this number of operands",
+        ),
+        (DecodeError::Text, "the text has no end"),
+    ];
+    are_told(&rt, &told)
 }
