@@ -5,9 +5,9 @@
 
 PROGRAM is crates/zpc/out/zpc if not given. The first table has the host's instructions for each instruction of a story, by valgrind: on the
 session, on the fully checked machine, and on dfrotz where it is installed. Each story goes round a loop a few times and many times; of the
-difference that of an empty loop is taken off, so that reading, checking, starting and counting are none of it. The second has the lines of a
-player, the third whole calls, also by the clock (the least of five runs). Only the rows whose names begin with WORD are counted, where it is
-given.
+difference that of an empty loop is taken off, so that reading, checking, starting and counting are none of it. The second has stories that
+Inform compiled, the third the lines of a player, the fourth whole calls, also by the clock (the least of five runs). Only the rows whose
+names begin with WORD are counted, where it is given.
 """
 import argparse
 import functools
@@ -21,6 +21,7 @@ import time
 from concurrent.futures import ThreadPoolExecutor
 
 import arrays
+import compiled
 import hostile
 import lines
 import loop
@@ -95,8 +96,33 @@ def instructions(program, pool, word):
         print(row(name, [it / played for it in cost]), flush=True)
 
 
+def found(program, folder, story):
+    """The names of files of a folder that have a story, and what `find` makes for it, with the milliseconds that it took."""
+    names = written(folder, story, b"")
+    return names, clock([program, "find", *names])
+
+
+def rounds_of(program, name):
+    """What an instruction of a story that Inform compiled costs on each machine, and the milliseconds that `find` takes."""
+    counts, steps = [], []
+    for rounds in 1, 11:
+        with tempfile.TemporaryDirectory() as folder:
+            names, took = found(program, folder, compiled.made(name, rounds))
+            counts.append([host(words) for words in players(program, *names)])
+            steps.append(compiled.steps(program, names[0]))
+    return [(many - few) / (steps[1] - steps[0]) for few, many in zip(*counts)], took
+
+
+def stories(program, pool, word):
+    """The second table: what an instruction of a whole story costs."""
+    print(f"\n{'of a story':<18}{'session':>12}{'checked':>12}{'dfrotz':>12}{'find, ms':>12}", flush=True)
+    names = [name for name in compiled.NAMES if name.startswith(word)]
+    for name, (cost, took) in zip(names, pool.map(lambda name: rounds_of(program, name), names)):
+        print(row(name, cost) + f"{took:>12.1f}", flush=True)
+
+
 def reading(program, pool):
-    """The second table: what a line costs that is read and answered, and what its answer alone."""
+    """The third table: what a line costs that is read and answered, and what its answer alone."""
     print(f"\n{'of a line':<18}{'session':>12}{'checked':>12}{'dfrotz':>12}", flush=True)
     (_, both, _), (_, alone, _) = table(program, pool, {kind: functools.partial(lines.made, kind) for kind in ("read", "answer")})
     print(row("with answer", both))
@@ -131,7 +157,7 @@ def whole_calls(program, folder):
 
 
 def calls(program, word):
-    """The third table: whole calls."""
+    """The fourth table: whole calls."""
     print(f"\n{'of a whole call':<34}{'host':>14}{'ms':>9}")
     with tempfile.TemporaryDirectory() as folder:
         for name, many, few, count in whole_calls(program, folder):
@@ -151,6 +177,7 @@ def main():
         sys.exit(f"there is no program {words.program}: (cd crates/zpc && rt run) builds it")
     with ThreadPoolExecutor(words.jobs) as pool:
         instructions(words.program, pool, words.only)
+        stories(words.program, pool, words.only)
         if "line".startswith(words.only):
             reading(words.program, pool)
     calls(words.program, words.only)

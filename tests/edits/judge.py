@@ -594,6 +594,13 @@ def stale(crates):
             yield crate.name
 
 
+def print_times(crate):
+    """What the checks of a crate took, each with its dearest functions."""
+    for seconds, functions in (it[1:] for it in TOOK if it[0] == crate):
+        dearest = ", ".join(f"{path.partition('::')[2]} {length:.1f}" for length, path in functions[:12])
+        print(f"times: {crate}: a check of {len(functions)} functions took {seconds:.1f} s: {dearest}", flush=True)
+
+
 def main():
     words = argparse.ArgumentParser()
     words.add_argument("--jobs", type=int, default=os.cpu_count() or 1)
@@ -612,13 +619,13 @@ def main():
     crates.sort(key=counted, reverse=True)
     passed = failed = 0
     with concurrent.futures.ThreadPoolExecutor(given.jobs) as pool:
-        for crate, told in zip(crates, pool.map(lambda it: judge(it, given.folder, given.harmless), crates)):
-            for name, refused, text in told:
+        running = {pool.submit(judge, crate, given.folder, given.harmless): crate for crate in crates}
+        for done in concurrent.futures.as_completed(running):
+            for name, refused, text in done.result():
                 passed, failed = passed + refused, failed + (not refused)
-                print(f"edit {crate.name}/{name}: {text}"[:400], flush=True)
-    for name, seconds, functions in TOOK if given.times else []:
-        dearest = ", ".join(f"{path.partition('::')[2]} {length:.1f}" for length, path in functions[:12])
-        print(f"times: {name}: a check of {len(functions)} functions took {seconds:.1f} s: {dearest}")
+                print(f"edit {running[done].name}/{name}: {text}"[:400], flush=True)
+            if given.times:
+                print_times(running[done].name)
     print(f"edits: {passed} passed, {failed} failed")
     return 1 if failed else 0
 

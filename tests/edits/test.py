@@ -91,25 +91,6 @@ pub fn done(deed: Deed, n: u32) -> u32
     };
     first
 }
-
-/// A number less ten, or none.
-pub fn lowered(n: u32) -> u32
-    ensures { result ≤ n }
-{
-    match n {
-        0 => 0,
-        1 => 1,
-        2 => 1,
-        3 => 1,
-        4 => 1,
-        5 => 1,
-        6 => 1,
-        7 => 1,
-        8 | 9 => 1,
-        10 => 1,
-        _ => n - 10,
-    }
-}
 """
 
 ANSWERS = """use Rattle.std.proofs.Common.{arith}
@@ -124,8 +105,6 @@ EDITS = {
     "one_more_forgotten": (True, [("    n + 1", "    n")]),
     "first_for_second": (True, [("    successor(first)", "    first")]),
     "most_is_one_more": (True, [("u32 = 20", "u32 = 21")]),
-    # proved as before
-    "harmless_bound": (False, [("n < MOST", "n <= MOST")]),
     # proved as before, but beside the first one its callee isn't
     "harmless_caller": (False, [("    let first = successor(n);", "    let first = { successor(n) };")]),
     # proved as before, by a copy of the answer
@@ -139,7 +118,6 @@ EDITS = {
     # beside them, one of another arm's pattern
     "both_unbounded": (True, [("        Deed::Both(m) => small(m),", "        Deed::Both(many) => many,")]),
     "harmless_arm": (False, [("Deed::Halve => n / 2", "Deed::Halve => n")]),
-    "harmless_last_arm": (False, [("_ => n - 10", "_ => n - 11")]),
     # no longer there, there twice, and no text that can be read
     "stale": (False, [("n + 7", "n")]),
     "there_twice": (False, [("successor", "small")]),

@@ -125,7 +125,7 @@ spelled = (
     number_is = (lit≤ tt, lit≤ tt);
     operands_are = (0x02 ∷ [], 0x00 ∷ [], _, _, refl, refl, (0x02, refl, refl), (0x00 ∷ [], [], _, _, refl, refl, (0x00, refl, refl), (refl, refl)));
     store_is = refl;
-    branch_is = (refl, refl);
+    branch_is = (refl, (refl, refl));
     text_is = refl;
     size_is = refl;
   },
@@ -157,7 +157,7 @@ spelled = (
     number_is = (lit≤ tt, lit≤ tt);
     operands_are = (0x01 ∷ [], [], _, _, refl, refl, (0x01, refl, refl), (refl, refl));
     store_is = refl;
-    branch_is = (refl, refl);
+    branch_is = (refl, (refl, refl));
     text_is = refl;
     size_is = refl;
   })
