@@ -4,7 +4,7 @@ import subprocess
 import tempfile
 
 from program import Answer, side_by_side
-from samples import HELLO, NEW_LINE, QUIT, changed, story, with_objects
+from samples import HELLO, NEW_LINE, NOP, QUIT, changed, story, with_objects
 
 HERE = os.path.dirname(os.path.abspath(__file__))
 SAMPLE = story(HELLO + QUIT)
