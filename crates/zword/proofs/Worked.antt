@@ -7,7 +7,7 @@ use Rattle.zword.specs.declared.count.CountOp.TheVariants.{Up, Down}
 use Rattle.zword.specs.Binary.{apply, is_defined}
 use Rattle.zword.specs.Unary.{transform}
 use Rattle.zword.specs.Question.{holds}
-use Rattle.zword.specs.Count.{counted, counting, checking}
+use Rattle.zword.specs.Count.{counted, counting}
 use Rattle.zword.specs.declared.addressing.Addressing.TheVariants.{Byte as ByteAddress, Packed}
 use Rattle.zword.specs.Addressing.{place_of}
 
@@ -65,8 +65,8 @@ tests = (refl, refl, refl, refl, refl)
 counts : (counted Up 0xFFFF ≡ 0) × (counted Up 0x7FFF ≡ 0x8000) × (counted Down 0 ≡ 0xFFFF) × (counted Down 0x8000 ≡ 0x7FFF)
 counts = (refl, refl, refl, refl)
 
-checks : (checking Up ≡ Greater) × (checking Down ≡ Less) × (counting Up ≡ Add) × (counting Down ≡ Sub)
-checks = (refl, refl, refl, refl)
+counting_is : (counting Up ≡ Add) × (counting Down ≡ Sub)
+counting_is = (refl, refl)
 
 -- the byte at 0x1234; the packed address 0x1234 is the byte at 0x2468, and the last one that at 131,070 (Z 1.2)
 addresses : (place_of ByteAddress 0x1234 ≡ 0x1234) × (place_of Packed 0x1234 ≡ 0x2468) × (place_of Packed 0xFFFF ≡ 131070)

@@ -3,8 +3,6 @@ use Rattle.std.specs.Prelude.{ℕ}
 use Rattle.zword.specs.Binary.{apply}
 use Rattle.zword.specs.declared.binary.BinaryOp.{BinaryOp}
 use Rattle.zword.specs.declared.binary.BinaryOp.TheVariants.{Add, Sub}
-use Rattle.zword.specs.declared.question.Question.{Question}
-use Rattle.zword.specs.declared.question.Question.TheVariants.{Less, Greater}
 use Rattle.zword.specs.declared.count.CountOp.{CountOp}
 use Rattle.zword.specs.declared.count.CountOp.TheVariants.{Up, Down}
 
@@ -12,11 +10,6 @@ use Rattle.zword.specs.declared.count.CountOp.TheVariants.{Up, Down}
 abbrev pub counting : CountOp → BinaryOp
 counting Up = Add
 counting Down = Sub
-
--- what is asked of the new value by the instruction that counts and branches
-abbrev pub checking : CountOp → Question
-checking Up = Greater
-checking Down = Less
 
 -- the word one on, or one back
 abbrev pub counted : CountOp → ℕ → ℕ

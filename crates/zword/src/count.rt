@@ -1,10 +1,9 @@
 //! How a variable is counted.
 
 ghost use Rattle.std.specs.Prelude.{◌≡◌};
-ghost use Rattle.zword.specs.Count.{counted, counting, checking};
+ghost use Rattle.zword.specs.Count.{counted, counting};
 
 use crate::binary::BinaryOp;
-use crate::question::Question;
 
 /// A way of counting a variable (Z 15).
 #[derive(Clone, Copy, PartialEq, Eq)]
@@ -33,16 +32,6 @@ impl CountOp {
         match self {
             CountOp::Up => BinaryOp::Add,
             CountOp::Down => BinaryOp::Sub,
-        }
-    }
-
-    /// What is asked of the new value, against the second operand, by the instruction that counts and branches.
-    pub fn question(self) -> Question
-        ensures { result ≡ checking self }
-    {
-        match self {
-            CountOp::Up => Question::Greater,
-            CountOp::Down => Question::Less,
         }
     }
 }
