@@ -88,7 +88,7 @@ d = 0-->4; if (w > d && w < d + 900) print (address) w;
         "I12",
         "I12: a call may be of what is no routine, or hand over what the routine doesn't take.
 Rule: each value that is called is 0 or a listed routine, whose locals take the arguments (Z 6.4).
-Do: call routines by name, or from a table that is initialised and never stored to, with an index bounded by constants.
+Do: call routines by name, and choose among them by switch: between two routines of a table lie addresses of none.
 ",
     ),
     (
