@@ -250,7 +250,7 @@ def rename(path, old, new):
 # The crates whose edits mostly leave the prover searching, and whose functions mostly are proved with half the counts of its searches too. The
 # functions that are named aren't, so that their edits needn't be tried with half.
 HALVED = {
-    "zboard": ("running::play", "table::target_of"),
+    "zboard": ("Board::global", "running::play", "table::target_of"),
     "zcert": (),
     "zobj": (),
     "zplace": (),
