@@ -265,6 +265,7 @@ HALVED = {
         "families::count",
         "families::name",
         "families::number",
+        "lines::hearing_of",
         "objects::follow",
         "objects::following",
         "objects::inside",
