@@ -68,7 +68,7 @@ pub was_no_file : (r : Result End Problem) (error : PlayError) → IsErr r × Is
 was_no_file (Ok end) error (is, same) e = absurd cc
 was_no_file (Err q) error (is, same) e = no_file error (sym same ∙ (let file : q ≡ Failed File = cc in file))
 
-module _ (story certificate : Option (List ℕ)) (before : Option (List ℕ)) where
+module _ (story certificate : Option (List ℕ)) where
   -- neither the writer nor the reader is blamed for what isn't accepted
   pub unblamed : (problem : Problem) → IsUnaccepted story certificate problem → (problem ≢ Failed Write) × (problem ≢ Failed Read)
   unblamed (Refused error) h = (λ e. cc, λ e. cc)
@@ -81,19 +81,6 @@ module _ (story certificate : Option (List ℕ)) (before : Option (List ℕ)) wh
   unblamed (Failed Memory) h = (λ e. cc, λ e. cc)
   unblamed (Failed Read) h = absurd h
   unblamed (Failed Write) h = absurd h
-
-  -- nor does the certificate hold
-  pub unchecked : (problem : Problem) → IsUnaccepted story certificate problem → CheckComesTo story certificate before before (Stopped problem)
-  unchecked (Refused error) h = (h, refl)
-  unchecked (Unreadable error) h = (h, refl)
-  unchecked (BreaksStory rule) h = (h, refl)
-  unchecked (BreaksInstruction address rule) h = (h, refl)
-  unchecked (Unlisted error) h = absurd h
-  unchecked (Unfound error broken) h = absurd h
-  unchecked (Failed File) h = (h, refl)
-  unchecked (Failed Memory) h = (h, refl)
-  unchecked (Failed Read) h = absurd h
-  unchecked (Failed Write) h = absurd h
 
 module _ (story certificate : Option (List ℕ)) (options : Options) (given : World) (before : Option (List ℕ)) where
   -- nor is it played
@@ -132,20 +119,3 @@ module _ (story certificate : Option (List ℕ)) (options : Options) (given : Wo
     broken errors.Read comes = by (Err errors.Read) comes tt
     broken errors.Write comes = by (Err errors.Write) comes tt
     broken errors.OutOfMemory comes = inr (by (Err errors.OutOfMemory) comes tt)
-
--- what is said of a certificate that is accepted
-module _ (outcome : Outcome) (only : (outcome ≡ Accepted) ⊎ (outcome ≡ Stopped (Failed Write))) where
-  pub said : (story certificate before now : Option (List ℕ)) (a : Acceptance) → IsAccepted story certificate a → (outcome ≡ Accepted → Appends before now accepted_line)
-      → (outcome ≡ Stopped (Failed Write) → AppendsBeginning before now accepted_line) → CheckComesTo story certificate before now outcome
-  said story certificate before now a accepted written begun = go only
-    where
-      go : (outcome ≡ Accepted) ⊎ (outcome ≡ Stopped (Failed Write)) → CheckComesTo story certificate before now outcome
-      go (inl e) = subst (λ (o : Outcome). CheckComesTo story certificate before now o) (sym e) ((a, accepted), written e)
-      go (inr e) = subst (λ (o : Outcome). CheckComesTo story certificate before now o) (sym e) ((a, accepted), begun e)
-
-  pub said_reads : outcome ≢ Stopped (Failed File)
-  said_reads e = go only
-    where
-      go : (outcome ≡ Accepted) ⊎ (outcome ≡ Stopped (Failed Write)) → ⊥
-      go (inl is) = absurd cc
-      go (inr is) = absurd cc
