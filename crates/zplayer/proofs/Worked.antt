@@ -55,7 +55,7 @@ blamed = (((λ is. refl), (λ other. absurd (other tt))), ((λ is. absurd is), (
 seen_to :
     BlamesWriter (λ (n : ℕ). n) (λ n. false) 3 3 ⊥ ⊤ × (BlamesWriter (λ (n : ℕ). n) (λ n. true) 3 3 ⊥ ⊤ → ⊥) × (BlamesWriter (λ (n : ℕ). n) (λ n. false) 3 4 ⊥ ⊤ → ⊥)
     × (BlamesReader (λ (n : ℕ). Some (1 ∷ [])) (λ (n : ℕ). n) 3 3 (record { held = []; ended = true }) ⊥ → ⊥)
-seen_to = (record { blamed = blamed.1.0; flushed = λ seen. refl }, (λ w. absurd (true≢false (w.flushed tt))), (λ w. blamed.1.1.0 w.blamed), λ r. absurd (let e : 1 ∷ [] ≡ [] = r.ended refl in cc))
+seen_to = (record { blamed = blamed.1; flushed = λ seen. refl }, (λ w. absurd (true≢false (w.flushed tt))), (λ w. blamed.2 w.blamed), λ r. absurd (let e : 1 ∷ [] ≡ [] = r.ended refl in cc))
 
 -- ---- words
 
