@@ -52,15 +52,6 @@ writer_as_seen contents failures waits old new fails writer = record { blamed = 
     flushed (inl none) = inl none
     flushed (inr same) = inr (ap (seen contents failures waits) same)
 
--- a text is said, and none isn't
-pub says_some : (old new : Seen) (text : List ℕ) → 0 < length text → Takes old new text ⊎ Breaks old new text → Says old new text
-says_some old new [] some said = absurd (omega (arith, some))
-says_some old new (byte ∷ bytes) some said = said
-
-pub says_none : (old new : Seen) (text : List ℕ) → length text ≡ 0 → new ≡ old → Says old new text
-says_none old new [] none same = same
-says_none old new (byte ∷ bytes) none same = absurd (omega (arith, none))
-
 module _ (words : List Text) (status : ℕ) (old new : Devices) (outcome : Outcome)
     (writer : FlushesUnless (λ (s : Seen). s.failures) (λ (s : Seen). s.waits) old.writer new.writer (outcome ≡ Stopped (Failed Write)))
     (reader : Blames (outcome ≡ Stopped (Failed Read)) old.reader.failures new.reader.failures)

@@ -1,13 +1,12 @@
-use Rattle.std.proofs.Common.{◌≡◌, Err, Some, ap, inl, refl}
+use Rattle.std.proofs.Common.{Some, inl, refl}
 use Rattle.zplayer.specs.Outside.{words_from}
 use Rattle.zplayer.specs.World.{told, world}
 use Rattle.zperform.specs.declared.outcome.Outcome.TheVariants.{Played, Stopped}
 use Rattle.zperform.specs.Accepting.{PlayComesTo}
 use Rattle.zperform.proofs.PlayLemmas.{with_words}
-use Rattle.zplayer.specs.declared.end.PlayError.TheVariants as errors
 use Rattle.zperform.specs.Performing.{given}
 use Rattle.zperform.specs.Report.{problem_of_play}
-use Rattle.zperform.proofs.SessionLemmas.{as_read, as_write, broken, handed_on, played, unopened, was_no_file, was_read, was_write}
+use Rattle.zperform.proofs.SessionLemmas.{broken, handed_on, played, reader_handed_on, unopened, was_no_file, writer_handed_on}
 use Rattle.zperform.proofs.performing.play_accepted_keeping.Goals as goal
 
 pub returns-in_err-end-clause-comes : goal.returns-in_err-end-clause-comes
@@ -22,25 +21,13 @@ returns-in_err-end-clause-comes g c = λ story certificate accepted.
     (broken story certificate c.args.options (world input (Some (words_from c.new.result)) store) before c.args.accepted.now accepted _ c.in_ok-session.ensures now _ _ _ error c.in_err-end.ensures.comes))
 
 pub returns-in_err-end-clause-writer : goal.returns-in_err-end-clause-writer
-returns-in_err-end-clause-writer g c =
-    let error = c.in_err-end.field-0.0 in
-    let r = c.from_residual-in_err-end.result in
-    let said = c.from_residual-in_err-end.ensures in
-    let writes = c.in_err-end.ensures.writes in
-    record {
-      blamed = ((λ e. writes.blamed.0 (ap Err (was_write r error said e))), λ other. writes.blamed.1 (λ w. other (as_write r error said (let is : error ≡ errors.Write = cc in is))));
-      flushed = λ other. inl (writes.flushed (λ w. other (as_write r error said (let is : error ≡ errors.Write = cc in is))));
-    }
+returns-in_err-end-clause-writer g c = writer_handed_on c.in_err-end.field-0.0 c.from_residual-in_err-end.result c.from_residual-in_err-end.ensures _ _ _ _ c.in_err-end.ensures.writes
 
 pub returns-in_err-end-clause-no_file : goal.returns-in_err-end-clause-no_file
 returns-in_err-end-clause-no_file g c = was_no_file c.from_residual-in_err-end.result c.in_err-end.field-0.0 c.from_residual-in_err-end.ensures
 
 pub returns-in_err-end-clause-reader : goal.returns-in_err-end-clause-reader
-returns-in_err-end-clause-reader g c =
-    let error = c.in_err-end.field-0.0 in
-    let r = c.from_residual-in_err-end.result in
-    let said = c.from_residual-in_err-end.ensures in
-    ((λ e. c.in_err-end.ensures.reads.0 (ap Err (was_read r error said e))), λ other. c.in_err-end.ensures.reads.1 (λ w. other (as_read r error said (let is : error ≡ errors.Read = cc in is))))
+returns-in_err-end-clause-reader g c = reader_handed_on c.in_err-end.field-0.0 c.from_residual-in_err-end.result c.from_residual-in_err-end.ensures _ _ c.in_err-end.ensures.reads
 
 pub returns-in_err-session-clause-comes : goal.returns-in_err-session-clause-comes
 returns-in_err-session-clause-comes g c = λ story certificate accepted.
