@@ -26,11 +26,6 @@ use Rattle.zperform.specs.Playing.{Holds, IsRefused, IsUnloaded, Reads}
 use Rattle.zperform.specs.Accepting.{HoldsCertificate, HoldsStory, IsNoCertificate, IsNoStory, IsUnaccepted, IsUnreadable}
 use Rattle.zperform.proofs.StoryFiles.{holds_whole, reads, refused_whole}
 
--- of a file whose bytes are known
-pub where_known : (known : Option (List ℕ)) (P : List ℕ → Type 0) → ((bytes : List ℕ) → known ≡ Some bytes → P bytes) → IfSome known P
-where_known None P part = tt
-where_known (Some bytes) P part = part bytes refl
-
 -- a story that nothing speaks against has bytes
 pub sound_bytes : (file : List ℕ) → HasNone (IsCause file) → 0 < length file
 sound_bytes file none =

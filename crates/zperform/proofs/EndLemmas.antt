@@ -7,6 +7,7 @@ use Rattle.zfault.specs.Devices.{AppendsBeginning, CountsFailure, HandsOn, Rises
 use Rattle.zfault.proofs.DeviceLemmas.{AppendsBeginning-whole}
 use Rattle.zperform.specs.Accepting.{Stops}
 use Rattle.zperform.specs.Devices.{Ends, Seen, Writes}
+use Rattle.zperform.specs.Finding.{FindEnds, IsNotFound}
 use Rattle.zperform.specs.declared.outcome.Failure.TheVariants.{File, Read, Write, Memory}
 use Rattle.zperform.specs.declared.outcome.Problem.{Problem}
 use Rattle.zperform.specs.declared.outcome.Problem.TheVariants.{Refused, Unreadable, BreaksStory, BreaksInstruction, Unlisted, Unfound, Failed}
@@ -37,3 +38,7 @@ stops begun IsWhy before (Failed File) other why = (why, refl)
 stops begun IsWhy before (Failed Read) other why = (why, refl)
 stops begun IsWhy before (Failed Write) other why = absurd (other refl)
 stops begun IsWhy before (Failed Memory) other why = (why, refl)
+
+-- so does one for which no certificate is found, and no file changed
+pub not_found : (story certificate : List ℕ) (held holds : List ℕ → Option (List ℕ)) (before : Option (List ℕ)) (problem : Problem) → problem ≢ Failed Write → IsNotFound (held story) problem → holds ≡ held → FindEnds story certificate held holds before before (Stopped problem)
+not_found story certificate held holds before problem other why same = stops _ (λ (p : Problem). IsNotFound (held story) p × (p ≢ Failed File → holds ≡ held)) before problem other (why, λ reads. same)

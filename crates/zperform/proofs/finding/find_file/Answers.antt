@@ -1,22 +1,18 @@
 use Rattle.std.proofs.Common.{◌≡◌, ◌≢◌, ◌∙◌, inl, ap, refl, rules, subst, Err, ℕ, List}
 use Rattle.std.specs.Prelude.{Option}
-use Rattle.zperform.specs.Finding.{FindEnds, HasAlone, IsNotFound}
+use Rattle.zperform.specs.Finding.{FindEnds, HasAlone}
 use Rattle.zperform.specs.declared.outcome.Failure.TheVariants.{File, Write}
-use Rattle.zperform.specs.declared.outcome.Problem.{Problem}
 use Rattle.zperform.specs.declared.outcome.Problem.TheVariants.{Failed}
 use Rattle.zperform.specs.declared.outcome.Outcome.{Outcome}
 use Rattle.zperform.specs.declared.outcome.Outcome.TheVariants.{Stopped}
-use Rattle.zperform.proofs.EndLemmas.{ends_so, stops}
+use Rattle.zperform.proofs.EndLemmas.{ends_so, not_found}
 use Rattle.zperform.proofs.finding.find_file.Goals as goal
 
 pub returns-in-Err-clause-comes : goal.returns-in-Err-clause-comes
-returns-in-Err-clause-comes g c =
-    let held = g.F.Files.known c.args.files.now in
-    let kept = c.certificate_of.ensures.files.kept in
-    record {
-      ends = stops _ (λ (why : Problem). IsNotFound (held c.args.story.now) why × (why ≢ Failed File → g.F.Files.known c.certificate_of.new.files ≡ held)) _ c.in-Err.problem (λ (e : c.in-Err.problem ≡ Failed Write). c.in-Err.ensures.unwritten (ap Err e)) (c.in-Err.ensures.refused, λ other. kept);
-      spared = λ name other. ap (λ (known : List ℕ → Option (List ℕ)). known name) kept;
-    }
+returns-in-Err-clause-comes g c = record {
+  ends = not_found _ _ _ _ _ c.in-Err.problem (λ (e : c.in-Err.problem ≡ Failed Write). c.in-Err.ensures.unwritten (ap Err e)) c.in-Err.ensures.refused c.certificate_of.ensures.files.kept;
+  spared = λ name other. ap (λ (known : List ℕ → Option (List ℕ)). known name) c.certificate_of.ensures.files.kept;
+}
 
 pub returns-then-not-put-clause-comes : goal.returns-then-not-put-clause-comes
 returns-then-not-put-clause-comes g c = record {
