@@ -1,6 +1,6 @@
 -- What was read of files, as what is known of them.
 use Rattle.std.proofs.Common.{◌≡◌, ◌≢◌, ℕ, List, Option, Some, None, ◌+◌, ◌<◌, ◌∙◌, refl, sym, ap, subst, take, length, length-take, arith}
-use Rattle.std.specs.Prelude.{IfSome, IfOk, IfErr, IsErr, IsErrAnd, Result, Ok, Err}
+use Rattle.std.specs.Prelude.{IfOk, IfErr, IsErr, IsErrAnd, Result, Ok, Err}
 use Rattle.zstory.specs.LoadedStory.{LoadedStory}
 use Rattle.zperform.specs.declared.outcome.Failure.TheVariants.{File, Read, Write, Memory}
 use Rattle.zperform.specs.declared.outcome.Problem.{Problem}

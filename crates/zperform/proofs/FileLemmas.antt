@@ -1,9 +1,8 @@
 -- Reading a file in pieces.
-use Rattle.std.proofs.Common.{◌≡◌, ◌∙◌, ◌+◌, ◌<◌, ◌≤◌, ◌⊎◌, inl, inr, ℕ, List, ◌++◌, length, take, drop, sym, ap, ap₂, arith, length-append}
-use Rattle.std.specs.Prelude.{Option, Some, None}
-use Rattle.std.proofs.lemmas.List.{length-take-le, take_all}
+use Rattle.std.proofs.Common.{◌≡◌, ◌∙◌, ◌+◌, ◌≤◌, ℕ, List, ◌++◌, length, take, drop, sym, ap, ap₂, length-append}
+use Rattle.std.proofs.lemmas.List.{length-take-le}
 use Rattle.std.proofs.Math.Seq.{take-add}
-use Rattle.zperform.specs.Contents.{GivesPart, HasBytes, IsBeginning, ReadsPart}
+use Rattle.zperform.specs.Contents.{GivesPart, IsBeginning}
 
 -- a beginning, and the bytes that follow it
 pub beginning_more : (at count : ℕ) (part buffer whole file : List ℕ) → at ≡ length part → count ≤ length buffer → whole ≡ part ++ take count buffer → IsBeginning part file → GivesPart file at count buffer → IsBeginning whole file

@@ -1,11 +1,11 @@
 -- What the words come to.
-use Rattle.std.proofs.Common.{◌≡◌, ◌<◌, ◌⊎◌, inl, inr, ◌∙◌, ℕ, Bool, true, false, List, [], ◌∷◌, length, Option, Some, None, Result, Ok, Err, refl, sym, ap, subst, arith, IsErrOf, IsSomeAnd}
+use Rattle.std.proofs.Common.{◌≡◌, ◌⊎◌, inl, inr, ◌∙◌, ℕ, Bool, true, false, List, [], Option, Some, None, Result, Ok, Err, refl, sym, ap, subst, IsErrOf, IsSomeAnd}
 use Rattle.clap.specs.Kinds.{IsAmong}
 use Rattle.clap.specs.Words.{Row, Text, fault_of, subcommand_of}
 use Rattle.zplayer.specs.declared.end.End.{End}
 use Rattle.zplayer.specs.Outside.{Blames}
 use Rattle.zcommand.specs.CommandLine.{Asks, Request, zpc_app}
-use Rattle.zperform.specs.Devices.{Breaks, Devices, FlushesUnless, Held, Says, Seen, Takes, UsesUnless, seen, told}
+use Rattle.zperform.specs.Devices.{Devices, FlushesUnless, Held, Seen, UsesUnless, seen, told}
 use Rattle.zperform.specs.Performing.{Comes, Explains, Performs, Reports, is_quiet, save_in, written_by}
 use Rattle.zperform.specs.declared.outcome.Failure.TheVariants.{File, Read, Write}
 use Rattle.zperform.specs.Report.{outcome_of}

@@ -1,5 +1,5 @@
 -- What a play of a loaded story comes to.
-use Rattle.std.proofs.Common.{◌≡◌, ◌≢◌, ◌⊎◌, inl, inr, ℕ, List, Option, Some, true≢false, Result, Ok, Err, IsErr, IsErrAnd, refl, sym, subst, arith, take}
+use Rattle.std.proofs.Common.{◌≡◌, ◌⊎◌, inl, inr, ℕ, List, Option, Some, true≢false, Result, Ok, Err, IsErr, IsErrAnd, refl, sym, subst, arith, take}
 use Rattle.std.specs.Prelude.{⊤}
 use Rattle.zstory.specs.LoadedStory.{LoadedStory}
 use Rattle.zstory.specs.Refusal.{IsCause, IsLowest}

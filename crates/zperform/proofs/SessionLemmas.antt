@@ -1,9 +1,7 @@
 -- What comes of playing by a certificate.
-use Rattle.std.proofs.Common.{◌≡◌, ◌≢◌, ◌⊎◌, inl, inr, ◌∙◌, ℕ, List, refl, sym, ap, subst, true≢false}
+use Rattle.std.proofs.Common.{◌≡◌, ◌≢◌, inl, inr, ◌∙◌, ℕ, List, refl, sym, ap, subst, true≢false}
 use Rattle.std.specs.Prelude.{ℤ, Bool, Option, Result, Ok, Err, IfOk, IsErr, IsErrAnd, IsErrOf}
-use Rattle.std.specs.Io.KnownBytes.{Appends}
 use Rattle.zfault.specs.declared.fault.Fault.{Fault}
-use Rattle.zfault.specs.Devices.{AppendsBeginning}
 use Rattle.zstate.specs.State.{State, opening}
 use Rattle.zdomain.specs.Interval.{interval_operations}
 use Rattle.zcheck.specs.Acceptance.{Acceptance}
@@ -21,9 +19,8 @@ use Rattle.zperform.specs.declared.outcome.Failure.{Failure}
 use Rattle.zperform.specs.declared.outcome.Failure.TheVariants.{File, Read, Write, Memory}
 use Rattle.zperform.specs.declared.outcome.Problem.{Problem}
 use Rattle.zperform.specs.declared.outcome.Problem.TheVariants.{Refused, Unreadable, BreaksStory, BreaksInstruction, Unlisted, Unfound, Failed}
-use Rattle.zperform.specs.declared.outcome.Outcome.{Outcome}
-use Rattle.zperform.specs.declared.outcome.Outcome.TheVariants.{Accepted, Played, Stopped}
-use Rattle.zperform.specs.Accepting.{Accepts, CheckComesTo, IsAccepted, IsPlayedBy, IsUnaccepted, PlayComesTo, accepted_line}
+use Rattle.zperform.specs.declared.outcome.Outcome.TheVariants.{Played, Stopped}
+use Rattle.zperform.specs.Accepting.{Accepts, IsAccepted, IsPlayedBy, IsUnaccepted, PlayComesTo}
 use Rattle.zperform.specs.Report.{outcome_of, problem_of_play}
 use Rattle.zperform.specs.Contents.{HasBytes}
 use Rattle.zperform.specs.Devices.{FlushesUnless}

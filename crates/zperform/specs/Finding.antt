@@ -53,7 +53,7 @@ abbrev pub FindEnds : List ℕ → List ℕ → (List ℕ → Option (List ℕ))
 FindEnds story certificate held holds before now Found = (bytes : List ℕ) × IsFound (held story) bytes × HasAlone bytes (holds certificate) × Appends before now found_line
 FindEnds story certificate held holds before now (Stopped problem) =
     Stops ((bytes : List ℕ) × IsFound (held story) bytes × HasAlone bytes (holds certificate) × AppendsBeginning before now found_line)
-        (λ why. IsNotFound (held story) why × (why ≢ Failed File → holds ≡ held)) before now problem
+    (λ why. IsNotFound (held story) why × (why ≢ Failed File → holds ≡ held)) before now problem
 FindEnds story certificate held holds before now outcome = ⊥
 
 -- and no other file changes

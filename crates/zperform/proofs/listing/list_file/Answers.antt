@@ -1,4 +1,4 @@
-use Rattle.std.proofs.Common.{◌≡◌, ◌≢◌, ap, rules, sym, subst, Err, ℕ, List}
+use Rattle.std.proofs.Common.{◌≡◌, ◌≢◌, ap, rules, subst, Err, ℕ, List}
 use Rattle.zperform.specs.Listing.{HoldsListed, IsNoListing, ListComesTo}
 use Rattle.zperform.specs.declared.outcome.Failure.TheVariants.{File, Write}
 use Rattle.zperform.specs.declared.outcome.Problem.TheVariants.{Failed}
