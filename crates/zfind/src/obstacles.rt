@@ -12,7 +12,6 @@ use crate::finding::{listing_of, tried};
 use crate::walk::Walk;
 use std::alloc::Global;
 use zcert::Certificate;
-use zdomain::Interval;
 use zlist::Listing;
 use zrule::{Rule, judge};
 use zruns::Tables;
@@ -40,7 +39,7 @@ pub fn broken_in_all(alloc: Global, story: &Story) -> Result<Option<Obstacle>, F
 {
     match listing_of(alloc, story) {
         Ok(listing) => broken_in_listed(alloc, story, &listing),
-        Err(error) => obstacle_in(error),
+        Err(fault) => obstacle_in(fault),
     }
 }
 
@@ -101,7 +100,7 @@ fn obstacle_in(error: FindError) -> Result<Option<Obstacle>, FindError>
 fn certain_obstacle(
     story: &Story,
     code: &Code<'_>,
-    walk: &Walk<'_, Interval>,
+    walk: &Walk<'_>,
     certificate: &Certificate,
 ) -> Option<Obstacle>
     ensures { IfSome result (IsMet story.now) }
@@ -129,7 +128,7 @@ fn certain_obstacle(
 }
 
 /// Whether the instruction at an address is to be visited.
-fn is_waiting(code: &Code<'_>, walk: &Walk<'_, Interval>, address: u32) -> bool {
+fn is_waiting(code: &Code<'_>, walk: &Walk<'_>, address: u32) -> bool {
     match code.index_behind(address as usize, 0) {
         Some(index) => walk.is_waiting(index),
         None => true,
