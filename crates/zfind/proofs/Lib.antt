@@ -1,3 +1,3 @@
 mod Failures
-mod Obstacles
+mod Telling
 mod Worked

@@ -32,7 +32,7 @@ const VISITS_BETWEEN: u32 = 7;
 /// want of memory.
 ///
 /// That such a rule is broken in each certificate is tried, and not proved.
-#[tactic(auto, using(crate::proofs::Obstacles::told_at_fault, crate::proofs::Obstacles::told_where_listed))]
+#[tactic(auto, using(crate::proofs::Telling::told_at_fault, crate::proofs::Telling::told_where_listed))]
 pub fn broken_in_all(alloc: Global, story: &Story) -> Result<Option<Obstacle>, FindError>
     ensures told { IfOk result (IsTold story.now) }
     ensures memory { IfErr result (λ error. error ≡ OutOfMemory) }
@@ -72,7 +72,7 @@ fn broken_in_listed(
 }
 
 /// What the checker says first of a certificate that says no more than any other.
-#[tactic(auto, using(crate::proofs::Obstacles::met_where_tried))]
+#[tactic(auto, using(crate::proofs::Telling::met_where_tried))]
 fn obstacle_for(story: &Story, certificate: Certificate) -> Result<Option<Obstacle>, FindError>
     ensures told { IfOk result (λ obstacle. IfSome obstacle (IsMet story.now)) }
     ensures memory { IfErr result (λ error. error ≡ OutOfMemory) }
@@ -96,7 +96,7 @@ fn obstacle_in(error: FindError) -> Result<Option<Obstacle>, FindError>
 }
 
 /// The first rule that is broken, where more is to be found, and is broken by what was found alone.
-#[tactic(auto, using(crate::proofs::Obstacles::met_where_broken))]
+#[tactic(auto, using(crate::proofs::Telling::met_where_broken))]
 fn certain_obstacle(
     story: &Story,
     code: &Code<'_>,
