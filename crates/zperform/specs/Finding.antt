@@ -9,7 +9,7 @@ use Rattle.zcert.specs.Certificate.{Certificate}
 use Rattle.zcert.specs.Format.{interval_format}
 use Rattle.zcert.specs.Spelling.{spelling}
 use Rattle.zcheck.specs.Passes.{Passes}
-use Rattle.zfind.specs.Finding.{IsFailure}
+use Rattle.zfind.specs.Finding.{IsFailure, IsTold}
 use Rattle.zfind.specs.declared.error.FindError.TheVariants.{OutOfMemory as NoMemoryToFind}
 use Rattle.zexplain.specs.Texts.{explanation_of}
 use Rattle.zperform.specs.Accepting.{HoldsSuch, IsWhyNone, Stops}
@@ -25,9 +25,9 @@ pub record IsCertificateOf (story : LoadedStory) (bytes : List ℕ) : Type 0 whe
   pub passes : Passes interval_operations story certificate
   pub spelled : bytes ≡ spelling interval_format certificate
 
--- why none is found for a story, but for want of memory
+-- why none is found for a story, but for want of memory, and what is told to stand in the way of every one
 abbrev pub IsUnfound : LoadedStory → Problem → Type 0
-IsUnfound story (Unfound error broken) = IsFailure story error × (error ≢ NoMemoryToFind)
+IsUnfound story (Unfound error broken) = IsFailure story error × (error ≢ NoMemoryToFind) × IsTold story broken
 IsUnfound story (Failed Memory) = ⊤
 IsUnfound story problem = ⊥
 
