@@ -1,5 +1,5 @@
 -- What the finder answers (own).
-use Rattle.std.specs.Prelude.{◌≡◌, ◌⊎◌, ⊤, ℕ}
+use Rattle.std.specs.Prelude.{◌≡◌, ◌⊎◌, ⊤, ℕ, Option, Some, None}
 use Rattle.std.specs.Int.{w32, cast_signed}
 use Rattle.zstory.specs.LoadedStory.{LoadedStory}
 use Rattle.zlist.specs.declared.list_error.ListError.{ListError}
@@ -9,7 +9,10 @@ use Rattle.zlist.specs.Listed.{IsLowestFault, Lists}
 use Rattle.zdomain.specs.declared.interval.Interval.{Interval}
 use Rattle.zdomain.specs.Interval.{interval_operations}
 use Rattle.zcert.specs.Certificate.{Certificate}
-use Rattle.zrule.specs.declared.rule.Rule.TheVariants.{Decodes, Successor}
+use Rattle.zrule.specs.declared.rule.Rule.{Rule}
+use Rattle.zrule.specs.declared.rule.Rule.TheVariants.{Decodes, Successor, Returned, Stored}
+use Rattle.zrule.specs.Claims.{Entry, claims_of}
+use Rattle.zrule.specs.Rules.{IsLowestBroken}
 use Rattle.zcheck.specs.declared.refusal.Refusal.{Refusal}
 use Rattle.zcheck.specs.declared.refusal.Refusal.TheVariants as refusals
 use Rattle.zcheck.specs.Passes.{IsCause}
@@ -43,6 +46,13 @@ IsStopped left (NotFound _) = ⊥
 IsStopped left RoundLimit = left ≡ 0
 IsStopped left OutOfMemory = ⊤
 
+-- More that is found can't mend the rule: where an instruction leads, what it returns and what it stores is said only once that was found.
+abbrev pub IsLasting : Rule → Type 0
+IsLasting Successor = ⊥
+IsLasting Returned = ⊥
+IsLasting Stored = ⊥
+IsLasting rule = ⊤
+
 module _ (story : LoadedStory) where
   -- the story lists something at fault, which is this
   pub record IsFaulty (error : FindError) : Type 0 where
@@ -73,3 +83,28 @@ module _ (story : LoadedStory) where
   IsWalkFailure left (NotFound obstacle) = IsTried obstacle
   IsWalkFailure left RoundLimit = left ≡ 0
   IsWalkFailure left OutOfMemory = ⊤
+
+  -- A certificate was tried, and at a place that it lists this rule is broken, of those that are the one with the lowest number, and more
+  -- that is found can't mend it.
+  pub record IsBrokenAt (obstacle : Obstacle) : Type 0 where
+    pub certificate : Certificate Interval
+    pub place : ℕ
+    pub entry : Entry Interval
+    pub rule : Rule
+    pub listed : (claims_of interval_operations certificate).entry place ≡ Some entry
+    pub lowest : IsLowestBroken interval_operations (claims_of interval_operations certificate) story place entry rule
+    pub lasting : IsLasting rule
+    pub told : obstacle ≡ obstacles.Place (cast_signed w32 place) rule
+
+  -- a certificate was tried that this is wrong with
+  abbrev pub IsMet : Obstacle → Type 0
+  IsMet obstacle = IsTried obstacle ⊎ IsBrokenAt obstacle
+
+  -- What stands in the way of certificates: of a story that lists something at fault that alone, and else what one was tried with.
+  abbrev pub IsObstacleOf : Obstacle → Type 0
+  IsObstacleOf obstacle = IsFaulty (NotFound obstacle) ⊎ (IsListable × IsMet obstacle)
+
+  -- what is told to stand in the way; nothing only of a story that lists nothing at fault
+  abbrev pub IsTold : Option Obstacle → Type 0
+  IsTold (Some obstacle) = IsObstacleOf obstacle
+  IsTold None = IsListable

@@ -5,17 +5,19 @@ ghost use Rattle.zfind.specs.declared.error.FindError.TheVariants.{OutOfMemory};
 
 use crate::code::Code;
 use crate::error::FindError;
+use crate::set::Set;
 use crate::walk::Walk;
 use std::alloc::Global;
-use zcert::{CertBuilder, CertError, Certificate, Field, Spelled};
+use zcert::{CertBuilder, CertError, Certificate, Field};
+use zdomain::Domain;
 use zlist::Record;
 
 /// The certificate that says what a walk found.
-pub(crate) fn certificate_of<V: Spelled>(
+pub(crate) fn certificate_of(
     alloc: Global,
     code: &Code<'_>,
-    walk: &mut Walk<'_, V>,
-) -> Result<Certificate<V>, FindError>
+    walk: &mut Walk<'_>,
+) -> Result<Certificate<Set>, FindError>
     ensures { IfErr result (λ error. error ≡ OutOfMemory) }
 {
     let mut builder = CertBuilder::new(alloc);
@@ -28,10 +30,7 @@ pub(crate) fn certificate_of<V: Spelled>(
 }
 
 /// The story that it speaks of.
-fn take_identity<V: Spelled>(
-    builder: &mut CertBuilder<V>,
-    code: &Code<'_>,
-) -> Result<(), CertError> {
+fn take_identity(builder: &mut CertBuilder<Set>, code: &Code<'_>) -> Result<(), CertError> {
     let identity = code.story.identity();
     builder.take(Field::Release(identity.release))?;
     builder.take(Field::Serial(identity.serial))?;
@@ -40,10 +39,10 @@ fn take_identity<V: Spelled>(
 }
 
 /// The ranges of frozen bytes.
-fn take_ranges<V: Spelled>(
+fn take_ranges(
     alloc: Global,
-    builder: &mut CertBuilder<V>,
-    walk: &mut Walk<'_, V>,
+    builder: &mut CertBuilder<Set>,
+    walk: &mut Walk<'_>,
 ) -> Result<(), CertError> {
     let ranges = walk.bytes.ranges(alloc)?;
     builder.take(Field::RangeCount(ranges.len().min(0xffff) as u16))?;
@@ -55,10 +54,7 @@ fn take_ranges<V: Spelled>(
 }
 
 /// The values of the globals.
-fn take_globals<V: Spelled>(
-    builder: &mut CertBuilder<V>,
-    walk: &Walk<'_, V>,
-) -> Result<(), CertError> {
+fn take_globals(builder: &mut CertBuilder<Set>, walk: &Walk<'_>) -> Result<(), CertError> {
     for set in walk.state.globals() {
         builder.take(Field::Global(*set))?;
     }
@@ -66,11 +62,11 @@ fn take_globals<V: Spelled>(
 }
 
 /// The routines that were entered. Answers the number of each among them.
-fn take_routines<V: Spelled>(
+fn take_routines(
     alloc: Global,
-    builder: &mut CertBuilder<V>,
+    builder: &mut CertBuilder<Set>,
     code: &Code<'_>,
-    walk: &Walk<'_, V>,
+    walk: &Walk<'_>,
 ) -> Result<Vec<u16>, CertError> {
     let numbers = entered_numbers(alloc, code, walk)?;
     let last = numbers.as_slice().last().copied().unwrap_or(0);
@@ -85,11 +81,7 @@ fn take_routines<V: Spelled>(
 }
 
 /// How many routines were entered up to each, by their numbers in the listing.
-fn entered_numbers<V: Spelled>(
-    alloc: Global,
-    code: &Code<'_>,
-    walk: &Walk<'_, V>,
-) -> Result<Vec<u16>, CertError> {
+fn entered_numbers(alloc: Global, code: &Code<'_>, walk: &Walk<'_>) -> Result<Vec<u16>, CertError> {
     let mut numbers = vec![in alloc; 0]?;
     let mut count = 0u16;
     for below in 0..code.routines().len().min(0xffff) {
@@ -102,16 +94,16 @@ fn entered_numbers<V: Spelled>(
 }
 
 /// What is said of a routine. One that gives nothing is said to give 0.
-fn take_routine<V: Spelled>(
-    builder: &mut CertBuilder<V>,
+fn take_routine(
+    builder: &mut CertBuilder<Set>,
     code: &Code<'_>,
-    walk: &Walk<'_, V>,
+    walk: &Walk<'_>,
     number: u16,
     address: u32,
 ) -> Result<(), CertError> {
     let result = match walk.state.result(number) {
         Some(set) => set,
-        None => V::single(0),
+        None => Set::single(0),
     };
     builder.take(Field::RoutineAddress(address))?;
     builder.take(Field::LocalCount(code.local_count(number)))?;
@@ -119,10 +111,10 @@ fn take_routine<V: Spelled>(
 }
 
 /// The instructions that were reached.
-fn take_instructions<V: Spelled>(
-    builder: &mut CertBuilder<V>,
+fn take_instructions(
+    builder: &mut CertBuilder<Set>,
     code: &Code<'_>,
-    walk: &Walk<'_, V>,
+    walk: &Walk<'_>,
     numbers: &[u16],
 ) -> Result<(), CertError> {
     builder.take(Field::InstructionCount(reached_count(code, walk)))?;
@@ -135,7 +127,7 @@ fn take_instructions<V: Spelled>(
 }
 
 /// How many were reached.
-fn reached_count<V: Spelled>(code: &Code<'_>, walk: &Walk<'_, V>) -> u32 {
+fn reached_count(code: &Code<'_>, walk: &Walk<'_>) -> u32 {
     let mut count = 0u32;
     for index in 0..code.records().len() {
         if walk.state.is_reached(index) {
@@ -146,9 +138,9 @@ fn reached_count<V: Spelled>(code: &Code<'_>, walk: &Walk<'_, V>) -> u32 {
 }
 
 /// What is said of an instruction.
-fn take_instruction<V: Spelled>(
-    builder: &mut CertBuilder<V>,
-    walk: &Walk<'_, V>,
+fn take_instruction(
+    builder: &mut CertBuilder<Set>,
+    walk: &Walk<'_>,
     index: usize,
     record: &Record,
     numbers: &[u16],
@@ -168,7 +160,7 @@ fn take_instruction<V: Spelled>(
 }
 
 /// The values of locals or slots.
-fn take_values<V: Spelled>(builder: &mut CertBuilder<V>, sets: &[V]) -> Result<(), CertError> {
+fn take_values(builder: &mut CertBuilder<Set>, sets: &[Set]) -> Result<(), CertError> {
     for set in sets {
         builder.take(Field::Value(*set))?;
     }

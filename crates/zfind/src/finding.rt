@@ -19,7 +19,6 @@ use crate::walk::Walk;
 use std::alloc::Global;
 use zcert::Certificate;
 use zcheck::examine;
-use zdomain::Interval;
 use zlist::{Listing, list_story};
 use zstory::Story;
 
@@ -44,7 +43,7 @@ enum Attempt {
     /// Its certificate passes.
     Passed(Certificate),
     /// It doesn't, and this is how the next one goes.
-    Failed(Plan<Interval>),
+    Failed(Plan),
 }
 
 /// A certificate that passes for a story, if one is found (own).
@@ -135,7 +134,7 @@ fn make_attempt(
     alloc: Global,
     story: &Story,
     code: &Code<'_>,
-    plan: Plan<Interval>,
+    plan: Plan,
     left: &mut u32,
 ) -> Result<Attempt, FindError>
     ensures passes { IfOk result (IsAttempt story.now) }

@@ -1,5 +1,6 @@
 //! What is known of a frame.
 
+use crate::set::Set;
 use std::alloc::{AllocError, Global};
 use zdomain::Domain;
 use zflow::Outcome;
@@ -9,14 +10,14 @@ pub(crate) const MOST_HEIGHT: usize = 64;
 
 /// The sets of a frame's locals, and behind them of its slots, the top last.
 #[derive(Drop)]
-pub(crate) struct Frame<V> {
+pub(crate) struct Frame {
     locals: usize,
-    sets: Vec<V>,
+    sets: Vec<Set>,
 }
 
-impl<V: Domain> Frame<V> {
+impl Frame {
     /// One of no local and no slot.
-    pub(crate) fn empty(alloc: Global) -> Frame<V> {
+    pub(crate) fn empty(alloc: Global) -> Frame {
         Frame {
             locals: 0,
             sets: Vec::new(alloc),
@@ -27,11 +28,11 @@ impl<V: Domain> Frame<V> {
     /// a branch says leaves a local no value.
     pub(crate) fn behind(
         alloc: Global,
-        locals: &[V],
-        slots: &[V],
-        outcome: &Outcome<V>,
+        locals: &[Set],
+        slots: &[Set],
+        outcome: &Outcome<Set>,
         target: u8,
-    ) -> Result<Option<Frame<V>>, AllocError> {
+    ) -> Result<Option<Frame>, AllocError> {
         let mut frame = Frame {
             locals: locals.len(),
             sets: Vec::from_slice(alloc, locals)?,
@@ -51,7 +52,7 @@ impl<V: Domain> Frame<V> {
     }
 
     /// Gives a variable a value of a set in place, if that is the top slot or one of the locals.
-    fn replace(&mut self, variable: u8, set: V) {
+    fn replace(&mut self, variable: u8, set: Set) {
         if variable > 0 {
             self.give_local(variable, set);
             return;
@@ -63,7 +64,7 @@ impl<V: Domain> Frame<V> {
     }
 
     /// Leaves a local the values that a branch says that it has, if it says that of one. Whether there are any.
-    fn keeps(&mut self, kept: Option<(u8, V)>) -> bool {
+    fn keeps(&mut self, kept: Option<(u8, Set)>) -> bool {
         let Some((variable, set)) = kept else {
             return true;
         };
@@ -81,7 +82,7 @@ impl<V: Domain> Frame<V> {
     }
 
     /// Puts a set behind those that are there: of a local, as long as there is no slot, or of a new top slot.
-    pub(crate) fn push(&mut self, set: V) -> Result<(), AllocError> {
+    pub(crate) fn push(&mut self, set: Set) -> Result<(), AllocError> {
         self.sets.push(set)?;
         Ok(())
     }
@@ -92,7 +93,7 @@ impl<V: Domain> Frame<V> {
     }
 
     /// Gives a value of a set to a variable, if that is the stack or one of the locals.
-    pub(crate) fn give(&mut self, variable: u8, set: V) -> Result<(), AllocError> {
+    pub(crate) fn give(&mut self, variable: u8, set: Set) -> Result<(), AllocError> {
         if variable == 0 {
             self.push(set)?;
         } else {
@@ -102,7 +103,7 @@ impl<V: Domain> Frame<V> {
     }
 
     /// Gives a value of a set to a variable, if that is one of the locals.
-    fn give_local(&mut self, variable: u8, set: V) {
+    fn give_local(&mut self, variable: u8, set: Set) {
         let index = usize::from(variable.saturating_sub(1));
         if index < self.locals {
             self.put(index, set);
@@ -110,14 +111,14 @@ impl<V: Domain> Frame<V> {
     }
 
     /// Puts a set in the place of another.
-    fn put(&mut self, index: usize, set: V) {
+    fn put(&mut self, index: usize, set: Set) {
         if let Some(there) = self.sets.get_mut(index) {
             *there = set;
         }
     }
 
     /// The sets of the locals.
-    fn locals(&self) -> &[V] {
+    fn locals(&self) -> &[Set] {
         self.sets.as_slice().get(..self.locals).unwrap_or(&[])
     }
 
@@ -132,7 +133,7 @@ impl<V: Domain> Frame<V> {
     }
 
     /// The sets of the locals, and behind them those of the slots.
-    pub(crate) fn sets(&self) -> &[V] {
+    pub(crate) fn sets(&self) -> &[Set] {
         &self.sets
     }
 }

@@ -17,6 +17,7 @@ mod obstacles;
 mod openings;
 mod queue;
 mod recursion;
+mod set;
 mod settling;
 mod state;
 mod thresholds;

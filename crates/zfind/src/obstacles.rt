@@ -1,6 +1,8 @@
 //! What stands in the way of every certificate.
 
-ghost use Rattle.std.specs.Prelude.{◌≡◌, IfErr};
+ghost use Rattle.std.specs.Prelude.{◌≡◌, IfErr, IfOk, IfSome, IsTrue};
+ghost use Rattle.zfind.specs.Attempts.{IsNamed};
+ghost use Rattle.zfind.specs.Finding.{IsLasting, IsMet, IsTold};
 ghost use Rattle.zfind.specs.declared.error.FindError.TheVariants.{OutOfMemory, RoundLimit};
 
 use crate::certificate::certificate_of;
@@ -10,7 +12,7 @@ use crate::finding::{listing_of, tried};
 use crate::walk::Walk;
 use std::alloc::Global;
 use zcert::Certificate;
-use zdomain::Interval;
+use zlist::Listing;
 use zrule::{Rule, judge};
 use zruns::Tables;
 use zstory::Story;
@@ -25,18 +27,32 @@ const MOMENTS: usize = 8;
 /// How many are visited between two such times.
 const VISITS_BETWEEN: u32 = 7;
 
-/// What stands in the way of every certificate of a story, as far as that is found out (own): the first rule that is broken whatever a
-/// certificate says. `None` where none is found. The one error is want of memory.
+/// What stands in the way of certificates of a story, as far as that is found out (own). Of a story that lists something at fault it is that,
+/// and else the first rule that is broken by a certificate which says no more than any other. `None` where none is found. The one error is
+/// want of memory.
 ///
 /// That such a rule is broken in each certificate is tried, and not proved.
+#[tactic(auto, using(crate::proofs::Telling::told_at_fault, crate::proofs::Telling::told_where_listed))]
 pub fn broken_in_all(alloc: Global, story: &Story) -> Result<Option<Obstacle>, FindError>
-    ensures { IfErr result (λ error. error ≡ OutOfMemory) }
+    ensures told { IfOk result (IsTold story.now) }
+    ensures memory { IfErr result (λ error. error ≡ OutOfMemory) }
 {
-    let listing = match listing_of(alloc, story) {
-        Ok(listing) => listing,
-        Err(error) => return obstacle_in(error),
-    };
-    let code = Code::new(alloc, story, &listing)?;
+    match listing_of(alloc, story) {
+        Ok(listing) => broken_in_listed(alloc, story, &listing),
+        Err(fault) => obstacle_in(fault),
+    }
+}
+
+/// The same of a story that has a listing.
+fn broken_in_listed(
+    alloc: Global,
+    story: &Story,
+    listing: &Listing,
+) -> Result<Option<Obstacle>, FindError>
+    ensures told { IfOk result (λ obstacle. IfSome obstacle (IsMet story.now)) }
+    ensures memory { IfErr result (λ error. error ≡ OutOfMemory) }
+{
+    let code = Code::new(alloc, story, listing)?;
     let mut walk = Walk::fair(alloc, &code)?;
     let mut left = MOST_FAIR_VISITS;
     for _ in 0..MOMENTS {
@@ -56,8 +72,10 @@ pub fn broken_in_all(alloc: Global, story: &Story) -> Result<Option<Obstacle>, F
 }
 
 /// What the checker says first of a certificate that says no more than any other.
+#[tactic(auto, using(crate::proofs::Telling::met_where_tried))]
 fn obstacle_for(story: &Story, certificate: Certificate) -> Result<Option<Obstacle>, FindError>
-    ensures { IfErr result (λ error. error ≡ OutOfMemory) }
+    ensures told { IfOk result (λ obstacle. IfSome obstacle (IsMet story.now)) }
+    ensures memory { IfErr result (λ error. error ≡ OutOfMemory) }
 {
     match tried(story, certificate) {
         Ok(_) => Ok(None),
@@ -68,7 +86,8 @@ fn obstacle_for(story: &Story, certificate: Certificate) -> Result<Option<Obstac
 /// What stands in the way, where it isn't too many visits.
 fn obstacle_in(error: FindError) -> Result<Option<Obstacle>, FindError>
     requires { error ≡ RoundLimit → ⊥ }
-    ensures { IfErr result (λ error. error ≡ OutOfMemory) }
+    ensures told { IfOk result (IsNamed error) }
+    ensures memory { IfErr result (λ error. error ≡ OutOfMemory) }
 {
     match error {
         FindError::NotFound(obstacle) => Ok(Some(obstacle)),
@@ -77,12 +96,15 @@ fn obstacle_in(error: FindError) -> Result<Option<Obstacle>, FindError>
 }
 
 /// The first rule that is broken, where more is to be found, and is broken by what was found alone.
+#[tactic(auto, using(crate::proofs::Telling::met_where_broken))]
 fn certain_obstacle(
     story: &Story,
     code: &Code<'_>,
-    walk: &Walk<'_, Interval>,
+    walk: &Walk<'_>,
     certificate: &Certificate,
-) -> Option<Obstacle> {
+) -> Option<Obstacle>
+    ensures { IfSome result (IsMet story.now) }
+{
     let tables = Tables::new(story, certificate.ranges());
     let mut ends = TextEnds::new(story.memory());
     for index in 0..certificate.instruction_count() {
@@ -106,7 +128,7 @@ fn certain_obstacle(
 }
 
 /// Whether the instruction at an address is to be visited.
-fn is_waiting(code: &Code<'_>, walk: &Walk<'_, Interval>, address: u32) -> bool {
+fn is_waiting(code: &Code<'_>, walk: &Walk<'_>, address: u32) -> bool {
     match code.index_behind(address as usize, 0) {
         Some(index) => walk.is_waiting(index),
         None => true,
@@ -115,7 +137,9 @@ fn is_waiting(code: &Code<'_>, walk: &Walk<'_, Interval>, address: u32) -> bool 
 
 /// Whether a rule that is broken now stays broken when more is found. Where an instruction leads to and what it gives is said there only
 /// once it was visited, and what comes back only once a routine returned.
-fn is_certain(rule: Rule, is_waiting: bool) -> bool {
+fn is_certain(rule: Rule, is_waiting: bool) -> bool
+    ensures { IsTrue result → IsLasting rule }
+{
     match rule {
         Rule::Successor | Rule::Returned | Rule::Stored => false,
         Rule::Called => !is_waiting,

@@ -10,17 +10,16 @@ use crate::state::{Plan, State};
 use crate::visits::count_visit;
 use crate::walk::Walk;
 use std::alloc::{AllocError, Global};
-use zdomain::Domain;
 use zruns::Tables;
 
 /// What each place, global and routine is given by all that leads there, where this is known of each place. Where it is less than that,
 /// a set was widened too far.
-pub(crate) fn settled<V: Domain>(
+pub(crate) fn settled(
     alloc: Global,
     code: &Code<'_>,
-    walk: &mut Walk<'_, V>,
+    walk: &mut Walk<'_>,
     left: &mut u32,
-) -> Result<State<V>, FindError>
+) -> Result<State, FindError>
     ensures fewer { left.new ≤ left.old }
     ensures stopped { IfErr result (IsStopped left.new) }
 {
@@ -37,12 +36,12 @@ pub(crate) fn settled<V: Domain>(
 }
 
 /// Does what an instruction does by what is known, to what is found anew.
-fn settle<V: Domain>(
+fn settle(
     alloc: Global,
     code: &Code<'_>,
     tables: &Tables<'_>,
-    state: &State<V>,
-    next: &mut Walk<'_, V>,
+    state: &State,
+    next: &mut Walk<'_>,
     index: usize,
 ) -> Result<(), AllocError> {
     let Some(record) = code.records().get(index) else {

@@ -12,6 +12,7 @@ use crate::groups::{Groups, index_in};
 use crate::looking::look;
 use crate::openings::open_written;
 use crate::queue::Queue;
+use crate::set::Set;
 use crate::state::{Plan, State};
 use crate::visits::count_visit;
 use std::alloc::{AllocError, Global};
@@ -21,11 +22,11 @@ use zruns::Tables;
 
 /// A walk: what is known so far, and which instructions are to be visited since that grew.
 #[derive(Drop)]
-pub(crate) struct Walk<'a, V> {
+pub(crate) struct Walk<'a> {
     alloc: Global,
     code: &'a Code<'a>,
-    pub(crate) plan: Plan<V>,
-    pub(crate) state: State<V>,
+    pub(crate) plan: Plan,
+    pub(crate) state: State,
     pub(crate) bytes: Bytes,
     queue: Queue,
     /// Where each instruction looked for values that bytes make known which stay as they are.
@@ -40,13 +41,13 @@ pub(crate) struct Walk<'a, V> {
     visits: Option<Vec<u32>>,
 }
 
-impl<'a, V: Domain> Walk<'a, V> {
+impl<'a> Walk<'a> {
     /// A walk that is at the first instruction.
     pub(crate) fn new(
         alloc: Global,
         code: &'a Code<'a>,
-        plan: Plan<V>,
-    ) -> Result<Walk<'a, V>, AllocError> {
+        plan: Plan,
+    ) -> Result<Walk<'a>, AllocError> {
         let count = code.records().len();
         let mut walk = Walk {
             alloc,
@@ -68,19 +69,19 @@ impl<'a, V: Domain> Walk<'a, V> {
     }
 
     /// One that widens nothing, where those instructions come first that were visited least.
-    pub(crate) fn fair(alloc: Global, code: &'a Code<'a>) -> Result<Walk<'a, V>, AllocError> {
+    pub(crate) fn fair(alloc: Global, code: &'a Code<'a>) -> Result<Walk<'a>, AllocError> {
         let mut walk = Walk::new(alloc, code, Plan::joining(alloc))?;
         walk.visits = Some(vec![in alloc; 0; code.records().len()]?);
         Ok(walk)
     }
 
     /// What is known.
-    pub(crate) fn into_state(self) -> State<V> {
+    pub(crate) fn into_state(self) -> State {
         self.state
     }
 
     /// How sets grow, with the thresholds that were learned.
-    pub(crate) fn into_plan(self) -> Plan<V> {
+    pub(crate) fn into_plan(self) -> Plan {
         self.plan
     }
 
@@ -136,7 +137,7 @@ impl<'a, V: Domain> Walk<'a, V> {
     /// Says so of a routine, by its number, if it was entered and never returns.
     fn end_routine(&mut self, number: u16) -> Result<(), AllocError> {
         if self.is_entered(number) && self.state.result(number).is_none() {
-            self.give_back(number, V::single(0))?;
+            self.give_back(number, Set::single(0))?;
         }
         Ok(())
     }
@@ -187,7 +188,7 @@ impl<'a, V: Domain> Walk<'a, V> {
         &mut self,
         index: usize,
         record: &Record,
-        effects: &Effects<V>,
+        effects: &Effects,
     ) -> Result<(), AllocError> {
         if let Some(effect) = &effects.held {
             self.apply_effect(index, record, effect)?;
@@ -203,7 +204,7 @@ impl<'a, V: Domain> Walk<'a, V> {
         &mut self,
         index: usize,
         record: &Record,
-        effect: &Effect<V>,
+        effect: &Effect,
     ) -> Result<(), AllocError> {
         self.store(effect.assigned)?;
         self.store(effect.given)?;
@@ -220,7 +221,7 @@ impl<'a, V: Domain> Walk<'a, V> {
     }
 
     /// Gives a global what is stored to it.
-    fn store(&mut self, given: Option<(u8, V)>) -> Result<(), AllocError> {
+    fn store(&mut self, given: Option<(u8, Set)>) -> Result<(), AllocError> {
         let Some((variable, set)) = given else {
             return Ok(());
         };
@@ -233,7 +234,7 @@ impl<'a, V: Domain> Walk<'a, V> {
     }
 
     /// Gives the callers of a routine what it returns.
-    fn give_back(&mut self, routine: u16, set: V) -> Result<(), AllocError> {
+    fn give_back(&mut self, routine: u16, set: Set) -> Result<(), AllocError> {
         let may_widen = self.code.is_recursive(routine);
         if self.state.join_result(&self.plan, routine, set, may_widen) {
             self.wake_callers(routine)?;
@@ -243,7 +244,7 @@ impl<'a, V: Domain> Walk<'a, V> {
     }
 
     /// Enters each routine that is called, up to the first that isn't listed.
-    fn enter_each(&mut self, calls: &Calls<V>) -> Result<(), AllocError> {
+    fn enter_each(&mut self, calls: &Calls) -> Result<(), AllocError> {
         let mut callee = calls.callees.least_from(1);
         for _ in 0..MOST_CALLEES {
             let Some(packed) = callee else {
@@ -259,7 +260,7 @@ impl<'a, V: Domain> Walk<'a, V> {
     }
 
     /// Enters a routine.
-    fn enter(&mut self, number: u16, calls: &Calls<V>) -> Result<(), AllocError> {
+    fn enter(&mut self, number: u16, calls: &Calls) -> Result<(), AllocError> {
         let Some(entry) = self.code.entry_of(number) else {
             return Ok(());
         };
@@ -268,7 +269,7 @@ impl<'a, V: Domain> Walk<'a, V> {
         for index in 0..self.code.local_count(number) {
             frame.push(match calls.argument(index) {
                 Some(set) => set,
-                None => V::single(self.code.initial(number, index)),
+                None => Set::single(self.code.initial(number, index)),
             })?;
         }
         frame.end_locals();
@@ -291,7 +292,7 @@ impl<'a, V: Domain> Walk<'a, V> {
     }
 
     /// Says what is known on a way to a place, which is visited where that is news.
-    fn join(&mut self, to: usize, frame: &Frame<V>, may_widen: bool) -> Result<(), AllocError> {
+    fn join(&mut self, to: usize, frame: &Frame, may_widen: bool) -> Result<(), AllocError> {
         if self.state.join_place(&self.plan, to, frame, may_widen)? {
             self.wake(to)?;
         }

@@ -1,6 +1,6 @@
 -- What was read of files, as what is known of them.
 use Rattle.std.proofs.Common.{◌≡◌, ◌≢◌, ℕ, List, Option, Some, None, ◌+◌, ◌<◌, ◌∙◌, refl, sym, ap, subst, take, length, length-take, arith}
-use Rattle.std.specs.Prelude.{IfSome, IfOk, IfErr, IsErr, IsErrAnd, Result, Ok, Err}
+use Rattle.std.specs.Prelude.{IfOk, IfErr, IsErr, IsErrAnd, Result, Ok, Err}
 use Rattle.zstory.specs.LoadedStory.{LoadedStory}
 use Rattle.zperform.specs.declared.outcome.Failure.TheVariants.{File, Read, Write, Memory}
 use Rattle.zperform.specs.declared.outcome.Problem.{Problem}
@@ -21,14 +21,10 @@ use Rattle.zcheck.specs.declared.refusal.Refusal.{Refusal}
 use Rattle.zcheck.specs.declared.refusal.Refusal.TheVariants as refusals
 use Rattle.zperform.specs.Report.{problem_of_checking}
 use Rattle.zperform.specs.Contents.{HasBytes}
+use Rattle.zperform.specs.Devices.{ReadsUnless}
 use Rattle.zperform.specs.Playing.{Holds, IsRefused, IsUnloaded, Reads}
 use Rattle.zperform.specs.Accepting.{HoldsCertificate, HoldsStory, IsNoCertificate, IsNoStory, IsUnaccepted, IsUnreadable}
 use Rattle.zperform.proofs.StoryFiles.{holds_whole, reads, refused_whole}
-
--- of a file whose bytes are known
-pub where_known : (known : Option (List ℕ)) (P : List ℕ → Type 0) → ((bytes : List ℕ) → known ≡ Some bytes → P bytes) → IfSome known P
-where_known None P part = tt
-where_known (Some bytes) P part = part bytes refl
 
 -- a story that nothing speaks against has bytes
 pub sound_bytes : (file : List ℕ) → HasNone (IsCause file) → 0 < length file
@@ -94,6 +90,20 @@ pub handed_on : {T : Type 0} (P : Problem → Type 0) (r : Result T Problem) (pr
 handed_on P (Ok x) problem (is, same) h = tt
 handed_on P (Err q) problem (is, same) h = subst P (sym same) h
 
+-- another reason for an error
+pub for_reason : {T : Type 0} (P Q : Problem → Type 0) (r : Result T Problem) → ((problem : Problem) → P problem → Q problem) → IfErr r P → IfErr r Q
+for_reason P Q (Ok x) follows h = tt
+for_reason P Q (Err problem) follows h = follows problem h
+
+-- what there is no reason for isn't the error
+pub no_reason : {T : Type 0} (P : Problem → Type 0) (problem : Problem) (r : Result T Problem) → (P problem → ⊥) → IfErr r P → r ≢ Err problem
+no_reason P problem (Ok x) none h e = absurd cc
+no_reason P problem (Err other) none h e = none (subst P (let is : other ≡ problem = cc in is) h)
+
+-- files that were read, and then nothing more of them
+pub read_on : {F : Type 0} (known : F → List ℕ → Option (List ℕ)) (failures : F → ℕ) (old new : F) (failed fails : Type 0) → ReadsUnless known failures old new failed → ¬ failed → ¬ fails → ReadsUnless known failures old new fails
+read_on known failures old new failed fails files well still = record { blamed = ((λ is. absurd (still is)), λ other. files.blamed.1 well); kept = files.kept }
+
 -- bytes of which memory is wanted for a part are some
 part_has_bytes : (taken : List ℕ) → LeadsToPart interval_format taken → 0 < length taken
 part_has_bytes taken led = omega (arith, ap length led.spelled)
@@ -126,18 +136,6 @@ module _ (known : Option (List ℕ)) (taken : List ℕ) (part : (file : List ℕ
   pub certificate_refused : (r : Result (Certificate Interval) Problem) → IfErr r (IsUnreadable taken) → IfErr r (IsNoCertificate known)
   certificate_refused (Ok c) h = tt
   certificate_refused (Err problem) h = no_certificate problem h
-
--- bytes that aren't read as a certificate are no failure of a file
-pub unreadable_reads : (taken : List ℕ) (r : Result (Certificate Interval) Problem) → IfErr r (IsUnreadable taken) → r ≢ Err (Failed File)
-unreadable_reads taken (Ok c) h = λ e. cc
-unreadable_reads taken (Err (Failed File)) h = absurd h
-unreadable_reads taken (Err problem) h = λ e. cc
-
--- nor is a story that isn't loaded
-pub unloaded_reads : (taken : List ℕ) (r : Result LoadedStory Problem) → IfErr r (IsUnloaded taken) → r ≢ Err (Failed File)
-unloaded_reads taken (Ok c) h = λ e. cc
-unloaded_reads taken (Err (Failed File)) h = absurd h
-unloaded_reads taken (Err problem) h = λ e. cc
 
 module _ (known : Option (List ℕ)) (taken : List ℕ) (part : (file : List ℕ) → known ≡ Some file → taken ≡ take 131073 file) where
   -- the part that was read holds a story, and so does the file

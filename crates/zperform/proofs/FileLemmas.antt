@@ -1,9 +1,8 @@
 -- Reading a file in pieces.
-use Rattle.std.proofs.Common.{◌≡◌, ◌∙◌, ◌+◌, ◌<◌, ◌≤◌, ◌⊎◌, inl, inr, ℕ, List, ◌++◌, length, take, drop, sym, ap, ap₂, arith, length-append}
-use Rattle.std.specs.Prelude.{Option, Some, None}
-use Rattle.std.proofs.lemmas.List.{length-take-le, take_all}
+use Rattle.std.proofs.Common.{◌≡◌, ◌∙◌, ◌+◌, ◌≤◌, ℕ, List, ◌++◌, length, take, drop, sym, ap, ap₂, length-append}
+use Rattle.std.proofs.lemmas.List.{length-take-le}
 use Rattle.std.proofs.Math.Seq.{take-add}
-use Rattle.zperform.specs.Contents.{GivesPart, HasBytes, IsBeginning, ReadsPart}
+use Rattle.zperform.specs.Contents.{GivesPart, IsBeginning}
 
 -- a beginning, and the bytes that follow it
 pub beginning_more : (at count : ℕ) (part buffer whole file : List ℕ) → at ≡ length part → count ≤ length buffer → whole ≡ part ++ take count buffer → IsBeginning part file → GivesPart file at count buffer → IsBeginning whole file
@@ -11,17 +10,3 @@ beginning_more at count part buffer whole file place few is begun more =
     let long : length whole ≡ at + count = ap length is ∙ length-append part (take count buffer) ∙ ap₂ (λ (m n : ℕ). m + n) (sym place) (length-take-le count buffer few) in
     let split : take (at + count) file ≡ take at file ++ take count (drop at file) = take-add at count file in
     is ∙ ap₂ (λ (xs ys : List ℕ). xs ++ ys) (begun ∙ ap (λ (n : ℕ). take n file) (sym place)) more.read ∙ sym split ∙ ap (λ (n : ℕ). take n file) (sym long)
-
--- a beginning that is as long as was asked for, or is the whole file
-pub beginning_whole : (most : ℕ) (part file : List ℕ) → IsBeginning part file → length part ≤ most → (most ≤ length part) ⊎ (length file ≤ length part) → part ≡ take most file
-beginning_whole most part file begun few (inl full) =
-    let same : length part ≡ most = omega arith in
-    begun ∙ ap (λ (n : ℕ). take n file) same
-beginning_whole most part file begun few (inr end) =
-    let all : length file ≤ most = omega arith in
-    begun ∙ take_all (length part) file end ∙ sym (take_all most file all)
-
--- a file that gave a byte has one
-pub has_bytes : (known : Option (List ℕ)) (from count : ℕ) (buffer : List ℕ) → ReadsPart known from count buffer → 0 < count → HasBytes known
-has_bytes None from count buffer given some = tt
-has_bytes (Some file) from count buffer given some = omega (arith, given.within)

@@ -3,7 +3,6 @@ mod StoryFiles
 mod PlayLemmas
 mod PerformLemmas
 mod AcceptLemmas
-mod ListLemmas
-mod FindLemmas
+mod EndLemmas
 mod SessionLemmas
 mod Worked

@@ -1,11 +1,12 @@
 -- What the words come to.
-use Rattle.std.proofs.Common.{◌≡◌, ◌≢◌, ◌<◌, ◌⊎◌, inl, inr, ℕ, Bool, true, List, [], ◌∷◌, length, Option, Some, None, Result, Ok, Err, refl, ap, subst, arith, IsSomeAnd}
+use Rattle.std.proofs.Common.{◌≡◌, ◌⊎◌, inl, inr, ◌∙◌, ℕ, Bool, true, false, List, [], Option, Some, None, Result, Ok, Err, refl, sym, ap, subst, IsErrOf, IsSomeAnd}
 use Rattle.clap.specs.Kinds.{IsAmong}
 use Rattle.clap.specs.Words.{Row, Text, fault_of, subcommand_of}
-use Rattle.zfault.specs.Devices.{RisesByOne}
 use Rattle.zplayer.specs.declared.end.End.{End}
+use Rattle.zplayer.specs.Outside.{Blames}
 use Rattle.zcommand.specs.CommandLine.{Asks, Request, zpc_app}
-use Rattle.zperform.specs.Performing.{Breaks, Comes, Devices, Explains, IsFlushed, Performs, Reports, Says, Seen, Takes, is_quiet, seen, told, save_in, written_by}
+use Rattle.zperform.specs.Devices.{Devices, FlushesUnless, Held, Seen, UsesUnless, seen, told}
+use Rattle.zperform.specs.Performing.{Comes, Explains, Performs, Reports, is_quiet, save_in, written_by}
 use Rattle.zperform.specs.declared.outcome.Failure.TheVariants.{File, Read, Write}
 use Rattle.zperform.specs.Report.{outcome_of}
 use Rattle.zperform.specs.declared.outcome.Problem.{Problem}
@@ -23,38 +24,47 @@ pub performs_lacking : (words : List Text) (status : ℕ) (old new : Devices) �
 performs_lacking words status old new none (inl lacks) = inr lacks
 performs_lacking words status old new none (inr told) = absurd (subst (IsAmong told.0) none told.2)
 
--- what is seen of a sink that was flushed, or not called
-pub flushed_as_seen : {W : Type 0} (contents : W → Option (List ℕ)) (failures : W → ℕ) (waits : W → Bool) (old new : W) → IsFlushed waits old new
-    → IsFlushed (λ (writer : Seen). writer.waits) (seen contents failures waits old) (seen contents failures waits new)
-flushed_as_seen contents failures waits old new (inl none) = inl none
-flushed_as_seen contents failures waits old new (inr same) = inr (ap (seen contents failures waits) same)
+-- a play fails just where its outcome tells it
+pub as_outcome : (r : Result End Problem) (outcome : Outcome) (problem : Problem) (old new : ℕ) → outcome ≡ outcome_of r → Blames (IsErrOf r problem) old new → Blames (outcome ≡ Stopped problem) old new
+as_outcome r outcome problem old new is blames = ((λ e. blames.0 (stopped_is r problem (sym is ∙ e))), λ other. blames.1 (λ e. other (is ∙ ap outcome_of e)))
 
--- a text is said, and none isn't
-pub says_some : (old new : Seen) (text : List ℕ) → 0 < length text → Takes old new text ⊎ Breaks old new text → Says old new text
-says_some old new [] some said = absurd (omega (arith, some))
-says_some old new (byte ∷ bytes) some said = said
+pub writer_as_outcome : {W : Type 0} (failures : W → ℕ) (waits : W → Bool) (old new : W) (r : Result End Problem) (outcome : Outcome) (problem : Problem) → outcome ≡ outcome_of r → FlushesUnless failures waits old new (IsErrOf r problem)
+    → FlushesUnless failures waits old new (outcome ≡ Stopped problem)
+writer_as_outcome failures waits old new r outcome problem is writer = record {
+  blamed = as_outcome r outcome problem _ _ is writer.blamed;
+  flushed = λ other. writer.flushed (λ e. other (is ∙ ap outcome_of e));
+}
 
-pub says_none : (old new : Seen) (text : List ℕ) → length text ≡ 0 → new ≡ old → Says old new text
-says_none old new [] none same = same
-says_none old new (byte ∷ bytes) none same = absurd (omega (arith, none))
+pub files_as_outcome : {F : Type 0} (known : F → List ℕ → Option (List ℕ)) (failures : F → ℕ) (old new : F) (unsaved without unwritten : Type 0) (r : Result End Problem) (outcome : Outcome) (problem : Problem) → outcome ≡ outcome_of r → (without → unsaved) → (unwritten → unsaved)
+    → UsesUnless known failures old new unsaved unsaved (IsErrOf r problem) → UsesUnless known failures old new without unwritten (outcome ≡ Stopped problem)
+files_as_outcome known failures old new unsaved without unwritten r outcome problem is so alike files = record {
+  unread = λ e. files.unread (stopped_is r problem (sym is ∙ e));
+  unfailed = λ none other. files.unfailed (so none) (λ e. other (is ∙ ap outcome_of e));
+  kept = λ none. files.kept (alike none);
+}
+
+-- what is seen of a sink
+pub writer_as_seen : {W : Type 0} (contents : W → Option (List ℕ)) (failures : W → ℕ) (waits : W → Bool) (old new : W) (fails : Type 0) → FlushesUnless failures waits old new fails
+    → FlushesUnless (λ (s : Seen). s.failures) (λ (s : Seen). s.waits) (seen contents failures waits old) (seen contents failures waits new) fails
+writer_as_seen contents failures waits old new fails writer = record { blamed = writer.blamed; flushed = λ other. flushed (writer.flushed other) }
+  where
+    flushed : (waits new ≡ false) ⊎ (new ≡ old) → (waits new ≡ false) ⊎ (seen contents failures waits new ≡ seen contents failures waits old)
+    flushed (inl none) = inl none
+    flushed (inr same) = inr (ap (seen contents failures waits) same)
 
 module _ (words : List Text) (status : ℕ) (old new : Devices) (outcome : Outcome)
-    (blamed : outcome ≡ Stopped (Failed Write) → RisesByOne old.writer.failures new.writer.failures)
-    (quiet : outcome ≢ Stopped (Failed Write) → new.writer.failures ≡ old.writer.failures)
-    (flushed : outcome ≢ Stopped (Failed Write) → IsFlushed (λ (writer : Seen). writer.waits) old.writer new.writer)
-    (unread : outcome ≡ Stopped (Failed File) → RisesByOne old.files.failures new.files.failures)
-    (unheard : outcome ≡ Stopped (Failed Read) → RisesByOne old.reader.failures new.reader.failures)
-    (heard : outcome ≢ Stopped (Failed Read) → new.reader.failures ≡ old.reader.failures)
+    (writer : FlushesUnless (λ (s : Seen). s.failures) (λ (s : Seen). s.waits) old.writer new.writer (outcome ≡ Stopped (Failed Write)))
+    (reader : Blames (outcome ≡ Stopped (Failed Read)) old.reader.failures new.reader.failures)
     (reported : Reports outcome status old.errors new.errors) where
-  pub performs_request : (request : Request) → (save_in request ≡ None → outcome ≢ Stopped (Failed File) → new.files.failures ≡ old.files.failures) → (written_by request ≡ None → new.files.known ≡ old.files.known)
+  pub performs_request : (request : Request) → UsesUnless (λ (f : Held). f.known) (λ (f : Held). f.failures) old.files new.files (save_in request ≡ None) (written_by request ≡ None) (outcome ≡ Stopped (Failed File))
       → (is_quiet request ≡ true → new.reader ≡ old.reader) → Comes request old.files.known new.files.known old.reader.remaining old.writer.contents new.writer.contents outcome → IsSomeAnd (subcommand_of zpc_app words) (λ matches. Asks matches request)
       → Performs words status old new
-  performs_request request unfailed kept unasked comes read = go (subcommand_of zpc_app words) refl read
+  performs_request request files unasked comes read = go (subcommand_of zpc_app words) refl read
     where
       go : (o : Option (Text × List Row)) → subcommand_of zpc_app words ≡ o → IsSomeAnd o (λ matches. Asks matches request) → Performs words status old new
       go None e h = absurd h
       go (Some matches) e asks =
-          inl (record { matches = matches; named = e; request = request; asks = asks; outcome = outcome; comes = comes; blamed = blamed; quiet = quiet; flushed = flushed; unread = unread; unfailed = unfailed; kept = kept; unheard = unheard; heard = heard; unasked = unasked; reported = reported })
+          inl (record { matches = matches; named = e; request = request; asks = asks; outcome = outcome; comes = comes; writer = writer; files = files; reader = reader; unasked = unasked; reported = reported })
 
 -- what is told of a source that wasn't asked
 pub told_same : {R : Type 0} (remaining : R → Option (List ℕ)) (failures : R → ℕ) (old new : R) → new ≡ old → told remaining failures new ≡ told remaining failures old

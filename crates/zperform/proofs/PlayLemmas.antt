@@ -1,5 +1,5 @@
 -- What a play of a loaded story comes to.
-use Rattle.std.proofs.Common.{◌≡◌, ◌≢◌, ◌⊎◌, inl, inr, ℕ, List, Option, Some, true≢false, Result, Ok, Err, IsErr, IsErrAnd, refl, sym, subst, arith, take}
+use Rattle.std.proofs.Common.{◌≡◌, ◌⊎◌, inl, inr, ℕ, List, Option, Some, true≢false, Result, Ok, Err, IsErr, IsErrAnd, refl, sym, subst, arith, take}
 use Rattle.std.specs.Prelude.{⊤}
 use Rattle.zstory.specs.LoadedStory.{LoadedStory}
 use Rattle.zstory.specs.Refusal.{IsCause, IsLowest}
@@ -95,18 +95,6 @@ unloaded_comes file options given before (Failed File) h = absurd h
 unloaded_comes file options given before (Failed Read) h = absurd h
 unloaded_comes file options given before (Failed Write) h = absurd h
 unloaded_comes file options given before (Failed Memory) h = inl (refl, sound_bytes file h)
-
-pub unloaded_blames : (file : List ℕ) (problem : Problem) → IsUnloaded file problem → (problem ≢ Failed Write) × (problem ≢ Failed File) × (problem ≢ Failed Read)
-unloaded_blames file (Refused error) h = (λ e. cc, λ e. cc, λ e. cc)
-unloaded_blames file (Unreadable error) h = absurd h
-unloaded_blames file (BreaksStory rule) h = absurd h
-unloaded_blames file (BreaksInstruction address rule) h = absurd h
-unloaded_blames file (Unlisted error) h = absurd h
-unloaded_blames file (Unfound error broken) h = absurd h
-unloaded_blames file (Failed File) h = absurd h
-unloaded_blames file (Failed Read) h = absurd h
-unloaded_blames file (Failed Write) h = absurd h
-unloaded_blames file (Failed Memory) h = (λ e. cc, λ e. cc, λ e. cc)
 
 -- a problem that is handed on
 pub passed_on : (known : Option (List ℕ)) (options : Options) (given : World) (before now : Option (List ℕ)) (r : Result End Problem) (problem : Problem) → IsErr r × IsErrAnd r (λ q. q ≡ problem)

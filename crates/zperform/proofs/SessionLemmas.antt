@@ -1,9 +1,7 @@
 -- What comes of playing by a certificate.
-use Rattle.std.proofs.Common.{◌≡◌, ◌≢◌, ◌⊎◌, inl, inr, ◌∙◌, ℕ, List, refl, sym, ap, subst, true≢false}
-use Rattle.std.specs.Prelude.{ℤ, Option, Result, Ok, Err, IfOk, IsErr, IsErrAnd}
-use Rattle.std.specs.Io.KnownBytes.{Appends}
+use Rattle.std.proofs.Common.{◌≡◌, ◌≢◌, inl, inr, ◌∙◌, ℕ, List, refl, sym, ap, subst, true≢false}
+use Rattle.std.specs.Prelude.{ℤ, Bool, Option, Result, Ok, Err, IfOk, IsErr, IsErrAnd, IsErrOf}
 use Rattle.zfault.specs.declared.fault.Fault.{Fault}
-use Rattle.zfault.specs.Devices.{AppendsBeginning}
 use Rattle.zstate.specs.State.{State, opening}
 use Rattle.zdomain.specs.Interval.{interval_operations}
 use Rattle.zcheck.specs.Acceptance.{Acceptance}
@@ -13,7 +11,7 @@ use Rattle.zplayer.specs.declared.end.End.TheVariants as ends
 use Rattle.zplayer.specs.declared.end.Options.{Options}
 use Rattle.zplayer.specs.declared.end.PlayError.{PlayError}
 use Rattle.zplayer.specs.declared.end.PlayError.TheVariants as errors
-use Rattle.zplayer.specs.Outside.{Coming}
+use Rattle.zplayer.specs.Outside.{Blames, BlamesWriter, Coming}
 use Rattle.zplayer.specs.Playing.{GivesOrSaves, ComesTo as PlayComes}
 use Rattle.zplayer.specs.Stories.{Describes}
 use Rattle.zplayer.specs.World.{Store, World}
@@ -21,11 +19,11 @@ use Rattle.zperform.specs.declared.outcome.Failure.{Failure}
 use Rattle.zperform.specs.declared.outcome.Failure.TheVariants.{File, Read, Write, Memory}
 use Rattle.zperform.specs.declared.outcome.Problem.{Problem}
 use Rattle.zperform.specs.declared.outcome.Problem.TheVariants.{Refused, Unreadable, BreaksStory, BreaksInstruction, Unlisted, Unfound, Failed}
-use Rattle.zperform.specs.declared.outcome.Outcome.{Outcome}
-use Rattle.zperform.specs.declared.outcome.Outcome.TheVariants.{Accepted, Played, Stopped}
-use Rattle.zperform.specs.Accepting.{Accepts, CheckComesTo, IsAccepted, IsPlayedBy, IsUnaccepted, PlayComesTo, accepted_line}
+use Rattle.zperform.specs.declared.outcome.Outcome.TheVariants.{Played, Stopped}
+use Rattle.zperform.specs.Accepting.{Accepts, IsAccepted, IsPlayedBy, IsUnaccepted, PlayComesTo}
 use Rattle.zperform.specs.Report.{outcome_of, problem_of_play}
 use Rattle.zperform.specs.Contents.{HasBytes}
+use Rattle.zperform.specs.Devices.{FlushesUnless}
 use Rattle.zperform.proofs.AcceptLemmas.{story_bytes}
 
 -- a failed write is handed on as one, and a failed read too
@@ -58,6 +56,18 @@ pub was_read : (r : Result End Problem) (error : PlayError) → IsErr r × IsErr
 was_read (Ok end) error (is, same) e = absurd cc
 was_read (Err q) error (is, same) e = read_alone error (sym same ∙ (let read : q ≡ Failed Read = cc in read))
 
+-- so what is said of the writer and of the reader is handed on with it
+module _ (error : PlayError) (r : Result End Problem) (said : IsErr r × IsErrAnd r (λ q. q ≡ problem_of_play error)) where
+  pub writer_handed_on : {W : Type 0} (failures : W → ℕ) (waits : W → Bool) (old new : W) → BlamesWriter failures waits old new (IsErrOf {T = End} (Err error) errors.Write) (¬ IsErrOf {T = End} (Err error) errors.Write)
+      → FlushesUnless failures waits old new (IsErrOf r (Failed Write))
+  writer_handed_on failures waits old new writes = record {
+    blamed = ((λ e. writes.blamed.0 (ap Err (was_write r error said e))), λ other. writes.blamed.1 (λ w. other (as_write r error said (let is : error ≡ errors.Write = cc in is))));
+    flushed = λ other. inl (writes.flushed (λ w. other (as_write r error said (let is : error ≡ errors.Write = cc in is))));
+  }
+
+  pub reader_handed_on : (old new : ℕ) → Blames (IsErrOf {T = End} (Err error) errors.Read) old new → Blames (IsErrOf r (Failed Read)) old new
+  reader_handed_on old new reads = ((λ e. reads.0 (ap Err (was_read r error said e))), λ other. reads.1 (λ w. other (as_read r error said (let is : error ≡ errors.Read = cc in is))))
+
 -- what breaks playing off is no failure of a file
 no_file : (error : PlayError) → problem_of_play error ≢ Failed File
 no_file errors.Read e = absurd cc
@@ -68,7 +78,7 @@ pub was_no_file : (r : Result End Problem) (error : PlayError) → IsErr r × Is
 was_no_file (Ok end) error (is, same) e = absurd cc
 was_no_file (Err q) error (is, same) e = no_file error (sym same ∙ (let file : q ≡ Failed File = cc in file))
 
-module _ (story certificate : Option (List ℕ)) (before : Option (List ℕ)) where
+module _ (story certificate : Option (List ℕ)) where
   -- neither the writer nor the reader is blamed for what isn't accepted
   pub unblamed : (problem : Problem) → IsUnaccepted story certificate problem → (problem ≢ Failed Write) × (problem ≢ Failed Read)
   unblamed (Refused error) h = (λ e. cc, λ e. cc)
@@ -82,33 +92,7 @@ module _ (story certificate : Option (List ℕ)) (before : Option (List ℕ)) wh
   unblamed (Failed Read) h = absurd h
   unblamed (Failed Write) h = absurd h
 
-  -- nor does the certificate hold
-  pub unchecked : (problem : Problem) → IsUnaccepted story certificate problem → CheckComesTo story certificate before before (Stopped problem)
-  unchecked (Refused error) h = (h, refl)
-  unchecked (Unreadable error) h = (h, refl)
-  unchecked (BreaksStory rule) h = (h, refl)
-  unchecked (BreaksInstruction address rule) h = (h, refl)
-  unchecked (Unlisted error) h = absurd h
-  unchecked (Unfound error broken) h = absurd h
-  unchecked (Failed File) h = (h, refl)
-  unchecked (Failed Memory) h = (h, refl)
-  unchecked (Failed Read) h = absurd h
-  unchecked (Failed Write) h = absurd h
-
 module _ (story certificate : Option (List ℕ)) (options : Options) (given : World) (before : Option (List ℕ)) where
-  -- nor is it played
-  pub unaccepted : (problem : Problem) → IsUnaccepted story certificate problem → PlayComesTo story certificate options given before before (Stopped problem)
-  unaccepted (Refused error) h = (h, refl)
-  unaccepted (Unreadable error) h = (h, refl)
-  unaccepted (BreaksStory rule) h = (h, refl)
-  unaccepted (BreaksInstruction address rule) h = (h, refl)
-  unaccepted (Unlisted error) h = absurd h
-  unaccepted (Unfound error broken) h = absurd h
-  unaccepted (Failed File) h = (h, refl)
-  unaccepted (Failed Memory) h = inl (refl, h)
-  unaccepted (Failed Read) h = absurd h
-  unaccepted (Failed Write) h = absurd h
-
   pub handed_on : (now : Option (List ℕ)) (r : Result End Problem) (problem : Problem) → IsErr r × IsErrAnd r (λ q. q ≡ problem)
       → PlayComesTo story certificate options given before now (Stopped problem) → PlayComesTo story certificate options given before now (outcome_of r)
   handed_on now (Ok end) problem (is, same) h = absurd (true≢false (sym is))
@@ -132,20 +116,3 @@ module _ (story certificate : Option (List ℕ)) (options : Options) (given : Wo
     broken errors.Read comes = by (Err errors.Read) comes tt
     broken errors.Write comes = by (Err errors.Write) comes tt
     broken errors.OutOfMemory comes = inr (by (Err errors.OutOfMemory) comes tt)
-
--- what is said of a certificate that is accepted
-module _ (outcome : Outcome) (only : (outcome ≡ Accepted) ⊎ (outcome ≡ Stopped (Failed Write))) where
-  pub said : (story certificate before now : Option (List ℕ)) (a : Acceptance) → IsAccepted story certificate a → (outcome ≡ Accepted → Appends before now accepted_line)
-      → (outcome ≡ Stopped (Failed Write) → AppendsBeginning before now accepted_line) → CheckComesTo story certificate before now outcome
-  said story certificate before now a accepted written begun = go only
-    where
-      go : (outcome ≡ Accepted) ⊎ (outcome ≡ Stopped (Failed Write)) → CheckComesTo story certificate before now outcome
-      go (inl e) = subst (λ (o : Outcome). CheckComesTo story certificate before now o) (sym e) ((a, accepted), written e)
-      go (inr e) = subst (λ (o : Outcome). CheckComesTo story certificate before now o) (sym e) ((a, accepted), begun e)
-
-  pub said_reads : outcome ≢ Stopped (Failed File)
-  said_reads e = go only
-    where
-      go : (outcome ≡ Accepted) ⊎ (outcome ≡ Stopped (Failed Write)) → ⊥
-      go (inl is) = absurd cc
-      go (inr is) = absurd cc

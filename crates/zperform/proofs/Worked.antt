@@ -20,8 +20,9 @@ use Rattle.zplayer.specs.declared.end.PlayError.TheVariants as errors
 use Rattle.zperform.specs.declared.outcome.Failure.{Failure}
 use Rattle.zperform.specs.declared.outcome.Failure.TheVariants.{File, Read, Write, Memory}
 use Rattle.zperform.specs.declared.outcome.Problem.TheVariants.{Refused, Unreadable, BreaksStory, BreaksInstruction, Unlisted, Unfound, Failed}
+use Rattle.zperform.specs.declared.outcome.Outcome.{Outcome}
 use Rattle.zperform.specs.declared.outcome.Outcome.TheVariants.{Listed, Found, Accepted, Explained, NoSuchCode, Played, Stopped}
-use Rattle.std.specs.Prelude.{ℤ, negsuc, Option, None, Some}
+use Rattle.std.specs.Prelude.{◌≢◌, ◌⊎◌, ⊤, ℤ, negsuc, Option, None, Some}
 use Rattle.zcode.specs.declared.error.DecodeError.TheVariants.{NoSuchOpcode, Truncated}
 use Rattle.zcode.specs.declared.opcode.Opcode.{Opcode}
 use Rattle.zcode.specs.declared.opcode.Opcode.TheVariants as opcodes
@@ -29,15 +30,17 @@ use Rattle.zfind.specs.declared.error.FindError.TheVariants.{NotFound, RoundLimi
 use Rattle.zfind.specs.declared.error.Obstacle.TheVariants as obstacles
 use Rattle.zlist.specs.declared.list_error.ListError.TheVariants as listings
 use Rattle.zlist.specs.declared.record.Record.{Record}
-use Rattle.zperform.specs.Listing.{listing_text}
+use Rattle.zperform.specs.Listing.{IsNoListing, listing_text}
 use Rattle.zperform.specs.Contents.{GivesPart, IsBeginning}
-use Rattle.zperform.specs.Accepting.{CheckComesTo, PlayComesTo}
+use Rattle.zperform.specs.Accepting.{CheckComesTo, PlayComesTo, Stops}
 use Rattle.zcommand.specs.CommandLine.{ListStory, Find, Check, Play, Explain}
 use Rattle.zplayer.specs.World.{World}
-use Rattle.zperform.specs.Performing.{Breaks, Seen, Says, Takes, is_quiet, is_request, written_by}
+use Rattle.zperform.specs.Devices.{Breaks, Ends, FlushesUnless, Held, ReadsUnless, Says, Seen, Takes, UsesUnless}
+use Rattle.zperform.specs.Performing.{is_quiet, is_request, written_by}
 use Rattle.zperform.specs.Finding.{HasAlone}
 use Rattle.zperform.specs.Playing.{ComesTo, Holds, IsRefused}
 use Rattle.zperform.specs.declared.accepting.TheConstants.{CERTIFICATE_LIMIT, STORY_LIMIT}
+use Rattle.zperform.proofs.AcceptLemmas.{story_bytes}
 use Rattle.zperform.specs.Report.{line_of, place_text, problem_of_checking, problem_of_listing, problem_of_load, problem_of_play, problem_of_reading, status_of, text_of}
 
 -- ---- what is said, and the exit statuses
@@ -221,6 +224,54 @@ said = (
   λ broken. omega (arith, broken.blamed),
   λ same. omega (arith, ap (λ (s : Seen). s.failures) same),
 )
+
+-- the outcome of a text is the one that is given, or that writing failed
+ended : (old new : Seen) → (Ends old new [] Found Listed → ⊥) × (Ends old new [] Found (Stopped (Failed Read)) → ⊥) × (Breaks old new [] → Ends old new [] Found (Stopped (Failed Write)))
+ended old new = (other Listed (λ e. cc) (λ e. cc), other (Stopped (Failed Read)) (λ e. cc) (λ e. cc), λ broke. inr (refl, broke))
+  where
+    other : (outcome : Outcome) → outcome ≢ Found → outcome ≢ Stopped (Failed Write) → Ends old new [] Found outcome → ⊥
+    other outcome not_found not_failed (inl (is, taken)) = not_found is
+    other outcome not_found not_failed (inr (is, broke)) = not_failed is
+
+-- a failed write leaves a beginning, and any other problem nothing
+stopped : Stops ⊤ (λ why. ⊥) None None (Failed Write) × (Stops ⊤ (λ why. ⊥) None None (Failed Read) → ⊥) × (Stops ⊤ (λ why. ⊤) (Some []) (Some (1 ∷ [])) (Failed File) → ⊥)
+stopped = (tt, (λ no. no.0), λ no. absurd (let e : ◌≡◌ {A = Option (List ℕ)} (Some (1 ∷ [])) (Some []) = no.1 in cc))
+
+-- a writer that fails is blamed; else what was written is flushed
+through :
+    FlushesUnless (λ (s : Seen). s.failures) (λ (s : Seen). s.waits) (shelf [] 0 false) (shelf (2 ∷ []) 0 false) ⊥ × FlushesUnless (λ (s : Seen). s.failures) (λ (s : Seen). s.waits) (shelf [] 0 true) (shelf [] 0 true) ⊥
+    × (FlushesUnless (λ (s : Seen). s.failures) (λ (s : Seen). s.waits) (shelf [] 0 false) (shelf (2 ∷ []) 0 true) ⊥ → ⊥) × (FlushesUnless (λ (s : Seen). s.failures) (λ (s : Seen). s.waits) (shelf [] 0 false) (shelf [] 0 false) ⊤ → ⊥)
+unfolding shelf
+through = (
+  record { blamed = (λ fails. absurd fails, λ other. refl); flushed = λ other. inl refl },
+  record { blamed = (λ fails. absurd fails, λ other. refl); flushed = λ other. inr refl },
+  λ writer. waits (writer.flushed (λ fails. fails)),
+  λ writer. omega (arith, writer.blamed.0 tt),
+)
+  where
+    waits : (true ≡ false) ⊎ (◌≡◌ {A = Seen} (record { contents = Some (2 ∷ []); failures = 0; waits = true }) (record { contents = Some []; failures = 0; waits = false })) → ⊥
+    waits (inl e) = absurd cc
+    waits (inr e) = absurd (let f = ap (λ (s : Seen). s.waits) e in cc)
+
+drawer : ℕ → Held
+drawer failures = record { known = λ name. None; failures = failures }
+
+-- files fail in silence only where saves are kept in one
+used :
+    UsesUnless (λ (f : Held). f.known) (λ (f : Held). f.failures) (drawer 0) (drawer 3) ⊥ ⊤ ⊥ × (UsesUnless (λ (f : Held). f.known) (λ (f : Held). f.failures) (drawer 0) (drawer 1) ⊤ ⊤ ⊥ → ⊥)
+    × (ReadsUnless (λ (f : Held). f.known) (λ (f : Held). f.failures) (drawer 0) (drawer 0) ⊤ → ⊥) × (ReadsUnless (λ (f : Held). f.known) (λ (f : Held). f.failures) (drawer 0) (drawer 1) ⊥ → ⊥)
+unfolding drawer
+used = (
+  record { unread = λ fails. absurd fails; unfailed = λ none. absurd none; kept = λ none. refl },
+  λ files. omega (arith, files.unfailed tt (λ fails. fails)),
+  λ files. omega (arith, files.blamed.0 tt),
+  λ files. omega (arith, files.blamed.1 (λ fails. fails)),
+)
+
+-- for an empty story's file memory is never wanted, nor is it listed
+unlisted_empty : IsNoListing (Some []) (Failed Memory) → ⊥
+unlisted_empty (inl some) = omega (arith, some)
+unlisted_empty (inr (story, holds, why)) = omega (arith, story_bytes (Some []) story holds)
 
 -- playing never comes to an acceptance, nor checking to the end of a play or to a failed read
 never : (story certificate before now : Option (List ℕ)) (options : Options) (outside : World) →

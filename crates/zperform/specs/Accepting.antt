@@ -47,6 +47,10 @@ pub record IsAccepted (story_known certificate_known : Option (List ℕ)) (a : A
   pub passes : Passes interval_operations a.story a.certificate
   pub lists : IsListingOf a.story a.certificate a.listing
 
+-- the story that a file holds is such a one
+abbrev pub HoldsSuch : Option (List ℕ) → (LoadedStory → Type 0) → Type 0
+HoldsSuch known IsSuch = (story : LoadedStory) × HoldsStory known story × IsSuch story
+
 -- a certificate that is refused for a story
 pub record Breaks (story_known certificate_known : Option (List ℕ)) (IsWhy : LoadedStory → Certificate Interval → Type 0) : Type 0 where
   pub story : LoadedStory
@@ -61,6 +65,10 @@ IsNoStory known (Refused error) = Reads known (λ file. IsRefused file error)
 IsNoStory known (Failed File) = ⊤
 IsNoStory known (Failed Memory) = HasBytes known
 IsNoStory known problem = ⊥
+
+-- why nothing comes of a story's file: it holds no story, or one of which this is why
+abbrev pub IsWhyNone : (LoadedStory → Problem → Type 0) → Option (List ℕ) → Problem → Type 0
+IsWhyNone IsWhy known problem = IsNoStory known problem ⊎ HoldsSuch known (λ story. IsWhy story problem)
 
 -- why the bytes of a file aren't read as a certificate: memory is wanted only for a part that they have
 abbrev pub IsUnreadable : List ℕ → Problem → Type 0
@@ -91,6 +99,11 @@ IsUnaccepted story_known certificate_known (Failed Memory) = HasBytes story_know
 IsUnaccepted story_known certificate_known (Failed Read) = ⊥
 IsUnaccepted story_known certificate_known (Failed Write) = ⊥
 
+-- What a problem that stops a command says: where writing failed, this was begun; else why, and that nothing was written.
+abbrev pub Stops : Type 0 → (Problem → Type 0) → Option (List ℕ) → Option (List ℕ) → Problem → Type 0
+Stops begun IsWhy before now (Failed Write) = begun
+Stops begun IsWhy before now problem = IsWhy problem × (now ≡ before)
+
 -- what `check` writes where it accepts
 abbrev pub accepted_line : List ℕ
 accepted_line = codes "accepted" ++ 10 ∷ []
@@ -104,9 +117,8 @@ CheckComesTo story_known certificate_known before now Found = ⊥
 CheckComesTo story_known certificate_known before now Explained = ⊥
 CheckComesTo story_known certificate_known before now NoSuchCode = ⊥
 CheckComesTo story_known certificate_known before now (Played end) = ⊥
-CheckComesTo story_known certificate_known before now (Stopped (Failed Write)) =
-    ((a : Acceptance) × IsAccepted story_known certificate_known a) × AppendsBeginning before now accepted_line
-CheckComesTo story_known certificate_known before now (Stopped problem) = IsUnaccepted story_known certificate_known problem × (now ≡ before)
+CheckComesTo story_known certificate_known before now (Stopped problem) =
+    Stops (((a : Acceptance) × IsAccepted story_known certificate_known a) × AppendsBeginning before now accepted_line) (IsUnaccepted story_known certificate_known) before now problem
 
 -- what was accepted was played from its opening, of which the certificate's listing bounds the scope, and came to this, with no fault
 pub record IsPlayedBy (a : Acceptance) (options : Options) (given : World) (before now : Option (List ℕ)) (result : Result End PlayError) : Type 0 where

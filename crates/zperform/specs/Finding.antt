@@ -9,10 +9,10 @@ use Rattle.zcert.specs.Certificate.{Certificate}
 use Rattle.zcert.specs.Format.{interval_format}
 use Rattle.zcert.specs.Spelling.{spelling}
 use Rattle.zcheck.specs.Passes.{Passes}
-use Rattle.zfind.specs.Finding.{IsFailure}
+use Rattle.zfind.specs.Finding.{IsFailure, IsTold}
 use Rattle.zfind.specs.declared.error.FindError.TheVariants.{OutOfMemory as NoMemoryToFind}
 use Rattle.zexplain.specs.Texts.{explanation_of}
-use Rattle.zperform.specs.Accepting.{HoldsStory, IsNoStory}
+use Rattle.zperform.specs.Accepting.{HoldsSuch, IsWhyNone, Stops}
 use Rattle.zperform.specs.declared.outcome.Failure.TheVariants.{File, Write, Memory}
 use Rattle.zperform.specs.declared.outcome.Problem.{Problem}
 use Rattle.zperform.specs.declared.outcome.Problem.TheVariants.{Unfound, Failed}
@@ -25,20 +25,19 @@ pub record IsCertificateOf (story : LoadedStory) (bytes : List ℕ) : Type 0 whe
   pub passes : Passes interval_operations story certificate
   pub spelled : bytes ≡ spelling interval_format certificate
 
--- why none is found for a story, but for want of memory
+-- why none is found for a story, but for want of memory, and what is told to stand in the way of every one
 abbrev pub IsUnfound : LoadedStory → Problem → Type 0
-IsUnfound story (Unfound error broken) = IsFailure story error × (error ≢ NoMemoryToFind)
+IsUnfound story (Unfound error broken) = IsFailure story error × (error ≢ NoMemoryToFind) × IsTold story broken
 IsUnfound story (Failed Memory) = ⊤
 IsUnfound story problem = ⊥
 
 -- the bytes spell a certificate of the story that a file holds
 abbrev pub IsFound : Option (List ℕ) → List ℕ → Type 0
-IsFound known bytes = (story : LoadedStory) × HoldsStory known story × IsCertificateOf story bytes
+IsFound known bytes = HoldsSuch known (λ story. IsCertificateOf story bytes)
 
 -- why none is found for the story of a file: it holds no story, or one for which none is found
 abbrev pub IsNotFound : Option (List ℕ) → Problem → Type 0
-IsNotFound known (Unfound error broken) = (story : LoadedStory) × HoldsStory known story × IsUnfound story (Unfound error broken)
-IsNotFound known problem = IsNoStory known problem
+IsNotFound known problem = IsWhyNone IsUnfound known problem
 
 -- a file has these bytes alone, where its bytes are known
 abbrev pub HasAlone : List ℕ → Option (List ℕ) → Type 0
@@ -52,10 +51,9 @@ found_line = codes "found" ++ 10 ∷ []
 -- that is found stands in its file before a word is said of it.
 abbrev pub FindEnds : List ℕ → List ℕ → (List ℕ → Option (List ℕ)) → (List ℕ → Option (List ℕ)) → Option (List ℕ) → Option (List ℕ) → Outcome → Type 0
 FindEnds story certificate held holds before now Found = (bytes : List ℕ) × IsFound (held story) bytes × HasAlone bytes (holds certificate) × Appends before now found_line
-FindEnds story certificate held holds before now (Stopped (Failed Write)) =
-    (bytes : List ℕ) × IsFound (held story) bytes × HasAlone bytes (holds certificate) × AppendsBeginning before now found_line
-FindEnds story certificate held holds before now (Stopped (Failed File)) = now ≡ before
-FindEnds story certificate held holds before now (Stopped problem) = IsNotFound (held story) problem × (holds ≡ held) × (now ≡ before)
+FindEnds story certificate held holds before now (Stopped problem) =
+    Stops ((bytes : List ℕ) × IsFound (held story) bytes × HasAlone bytes (holds certificate) × AppendsBeginning before now found_line)
+    (λ why. IsNotFound (held story) why × (why ≢ Failed File → holds ≡ held)) before now problem
 FindEnds story certificate held holds before now outcome = ⊥
 
 -- and no other file changes

@@ -1,4 +1,5 @@
 pub mod Contents
+pub mod Devices
 pub mod Report
 pub mod Playing
 pub mod Accepting

@@ -7,9 +7,9 @@ use Rattle.zcode.specs.Names.{name_of}
 use Rattle.zlist.specs.declared.record.Record.{Record}
 use Rattle.zlist.specs.Listed.{IsLowestFault, Lists}
 use Rattle.zlist.specs.Listing.{IsInOrder, ListedCode}
-use Rattle.zperform.specs.Accepting.{HoldsStory, IsNoStory}
+use Rattle.zperform.specs.Accepting.{HoldsSuch, IsWhyNone, Stops}
 use Rattle.zperform.specs.Report.{place_text}
-use Rattle.zperform.specs.declared.outcome.Failure.TheVariants.{Write, Memory}
+use Rattle.zperform.specs.declared.outcome.Failure.TheVariants.{Memory}
 use Rattle.zperform.specs.declared.outcome.Problem.{Problem}
 use Rattle.zperform.specs.declared.outcome.Problem.TheVariants.{Unlisted, Failed}
 use Rattle.zperform.specs.declared.outcome.Outcome.{Outcome}
@@ -38,16 +38,14 @@ IsUnlisted story problem = ⊥
 
 -- a story that a file holds has this listing
 abbrev pub HoldsListed : Option (List ℕ) → List ℕ → Type 0
-HoldsListed known text = (story : LoadedStory) × HoldsStory known story × IsListedAs story text
+HoldsListed known text = HoldsSuch known (λ story. IsListedAs story text)
 
 -- why no listing is made of a file: it holds no story, or one that isn't listed
 abbrev pub IsNoListing : Option (List ℕ) → Problem → Type 0
-IsNoListing known (Unlisted error) = (story : LoadedStory) × HoldsStory known story × IsLowestFault story error
-IsNoListing known problem = IsNoStory known problem
+IsNoListing known problem = IsWhyNone IsUnlisted known problem
 
 -- What listing comes to, with what the writer took before and has taken now.
 abbrev pub ListComesTo : Option (List ℕ) → Option (List ℕ) → Option (List ℕ) → Outcome → Type 0
 ListComesTo known before now Listed = (text : List ℕ) × HoldsListed known text × Appends before now text
-ListComesTo known before now (Stopped (Failed Write)) = (text : List ℕ) × HoldsListed known text × AppendsBeginning before now text
-ListComesTo known before now (Stopped problem) = IsNoListing known problem × (now ≡ before)
+ListComesTo known before now (Stopped problem) = Stops ((text : List ℕ) × HoldsListed known text × AppendsBeginning before now text) (IsNoListing known) before now problem
 ListComesTo known before now outcome = ⊥

@@ -1,14 +1,13 @@
 -- What the words of a command line come to: what is done, what is said of it, and the exit status (own).
-use Rattle.std.specs.Prelude.{◌≡◌, ◌≢◌, ◌⊎◌, ℕ, Bool, true, false, List, [], ◌∷◌, Option, None, Some, MatchBool}
-use Rattle.std.specs.Io.KnownBytes.{Appends}
+use Rattle.std.specs.Prelude.{◌≡◌, ◌⊎◌, ℕ, Bool, true, false, List, Option, None, Some, MatchBool}
 use Rattle.clap.specs.Kinds.{IsAmong, Kinds}
 use Rattle.clap.specs.Words.{Row, Text, subcommand_of}
 use Rattle.clap.specs.declared.error.kind.ErrorKind.{ErrorKind}
 use Rattle.clap.specs.declared.error.kind.ErrorKind.TheVariants.{DisplayHelp, DisplayVersion}
-use Rattle.zfault.specs.Devices.{AppendsBeginning, RisesByOne}
 use Rattle.zcommand.specs.CommandLine.{Asks, Request, ListStory, Find, Check, Play, Explain, zpc_app}
-use Rattle.zplayer.specs.Outside.{words_of}
+use Rattle.zplayer.specs.Outside.{Blames, words_of}
 use Rattle.zplayer.specs.World.{Store, World, world}
+use Rattle.zperform.specs.Devices.{Breaks, Devices, FlushesUnless, Held, Says, Seen, Takes, UsesUnless}
 use Rattle.zperform.specs.Playing.{ComesTo}
 use Rattle.zperform.specs.Accepting.{CheckComesTo, PlayComesTo}
 use Rattle.zperform.specs.Finding.{ExplainComesTo, FindComesTo}
@@ -18,61 +17,6 @@ use Rattle.zperform.specs.declared.outcome.Failure.TheVariants.{File, Read, Writ
 use Rattle.zperform.specs.declared.outcome.Problem.TheVariants.{Failed}
 use Rattle.zperform.specs.declared.outcome.Outcome.{Outcome}
 use Rattle.zperform.specs.declared.outcome.Outcome.TheVariants.{Stopped}
-
--- what is seen of a sink: the bytes that it took, where they are known, its count of failures, and whether bytes wait for a flush
-pub record Seen : Type 0 where
-  pub contents : Option (List ℕ)
-  pub failures : ℕ
-  pub waits : Bool
-
-abbrev pub seen : {Sink : Type 0} → (Sink → Option (List ℕ)) → (Sink → ℕ) → (Sink → Bool) → Sink → Seen
-seen contents failures waits sink = record { contents = contents sink; failures = failures sink; waits = waits sink }
-
--- what is told of a source: the bytes that it has left, where they are known, and its count of failures
-pub record Told : Type 0 where
-  pub remaining : Option (List ℕ)
-  pub failures : ℕ
-
-abbrev pub told : {Source : Type 0} → (Source → Option (List ℕ)) → (Source → ℕ) → Source → Told
-told remaining failures source = record { remaining = remaining source; failures = failures source }
-
--- what is told of files: the bytes of each, by its name, where they are known, and their count of failures
-pub record Held : Type 0 where
-  pub known : List ℕ → Option (List ℕ)
-  pub failures : ℕ
-
-abbrev pub held : {Files : Type 0} → (Files → List ℕ → Option (List ℕ)) → (Files → ℕ) → Files → Held
-held known failures files = record { known = known files; failures = failures files }
-
--- the files, the reader, the writer, and the errors
-pub record Devices : Type 0 where
-  pub files : Held
-  pub reader : Told
-  pub writer : Seen
-  pub errors : Seen
-
-abbrev pub devices : Held → Told → Seen → Seen → Devices
-devices files reader writer errors = record { files = files; reader = reader; writer = writer; errors = errors }
-
--- a text was taken whole and flushed, with no failure
-pub record Takes (old new : Seen) (text : List ℕ) : Type 0 where
-  pub whole : Appends old.contents new.contents text
-  pub quiet : new.failures ≡ old.failures
-  pub flushed : new.waits ≡ false
-
--- a failure broke a text off, or its flush
-pub record Breaks (old new : Seen) (text : List ℕ) : Type 0 where
-  pub begun : AppendsBeginning old.contents new.contents text
-  pub blamed : RisesByOne old.failures new.failures
-
--- a text was said, as far as the sink took it; with nothing to say the sink isn't called
-abbrev pub Says : Seen → Seen → List ℕ → Type 0
-Says old new [] = new ≡ old
-Says old new (byte ∷ bytes) = Takes old new (byte ∷ bytes) ⊎ Breaks old new (byte ∷ bytes)
-
--- what was written is flushed, or the sink wasn't called
-abbrev pub IsFlushed : {Sink : Type 0} → (Sink → Bool) → Sink → Sink → Type 0
-IsFlushed waits old new = (waits new ≡ false) ⊎ (new ≡ old)
 
 -- an outcome's exit status, and its line
 pub record Reports (outcome : Outcome) (status : ℕ) (old new : Seen) : Type 0 where
@@ -157,14 +101,9 @@ pub record Does (words : List Text) (status : ℕ) (old new : Devices) : Type 0 
   pub asks : Asks matches request
   pub outcome : Outcome
   pub comes : Comes request old.files.known new.files.known old.reader.remaining old.writer.contents new.writer.contents outcome
-  pub blamed : outcome ≡ Stopped (Failed Write) → RisesByOne old.writer.failures new.writer.failures
-  pub quiet : outcome ≢ Stopped (Failed Write) → new.writer.failures ≡ old.writer.failures
-  pub flushed : outcome ≢ Stopped (Failed Write) → IsFlushed (λ (writer : Seen). writer.waits) old.writer new.writer
-  pub unread : outcome ≡ Stopped (Failed File) → RisesByOne old.files.failures new.files.failures
-  pub unfailed : save_in request ≡ None → outcome ≢ Stopped (Failed File) → new.files.failures ≡ old.files.failures
-  pub kept : written_by request ≡ None → new.files.known ≡ old.files.known
-  pub unheard : outcome ≡ Stopped (Failed Read) → RisesByOne old.reader.failures new.reader.failures
-  pub heard : outcome ≢ Stopped (Failed Read) → new.reader.failures ≡ old.reader.failures
+  pub writer : FlushesUnless (λ (s : Seen). s.failures) (λ (s : Seen). s.waits) old.writer new.writer (outcome ≡ Stopped (Failed Write))
+  pub files : UsesUnless (λ (f : Held). f.known) (λ (f : Held). f.failures) old.files new.files (save_in request ≡ None) (written_by request ≡ None) (outcome ≡ Stopped (Failed File))
+  pub reader : Blames (outcome ≡ Stopped (Failed Read)) old.reader.failures new.reader.failures
   pub unasked : is_quiet request ≡ true → new.reader ≡ old.reader
   pub reported : Reports outcome status old.errors new.errors
 

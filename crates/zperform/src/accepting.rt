@@ -1,7 +1,7 @@
 //! Stories and certificates from files.
 
-ghost use Rattle.std.specs.Prelude.{◌≡◌, ◌≢◌, Ok, Err, IfErr, IfOk};
-ghost use Rattle.zfault.specs.Devices.{RisesByOne};
+ghost use Rattle.std.specs.Prelude.{◌≡◌, Ok, IfErr, IfOk, IsErrOf};
+ghost use Rattle.zperform.specs.Devices.{ReadsUnless};
 ghost use Rattle.zperform.specs.Playing.{Holds, IsUnloaded};
 ghost use Rattle.zperform.specs.Accepting.{HoldsCertificate, HoldsStory, IsAccepted, IsNoCertificate, IsNoStory, IsUnaccepted, IsUnreadable};
 ghost use Rattle.zcert.specs.Format.{interval_format};
@@ -30,9 +30,7 @@ pub fn accept<F: Files>(
 ) -> Result<Accepted, Problem>
     ensures accepted { IfOk result (IsAccepted (F.known files.old story.now) (F.known files.old certificate.now)) }
     ensures refused { IfErr result (IsUnaccepted (F.known files.old story.now) (F.known files.old certificate.now)) }
-    ensures unread { result ≡ Err (Problem.Failed Failure.File) → RisesByOne (F.failures files.old) (F.failures files.new) }
-    ensures unfailed { result ≢ Err (Problem.Failed Failure.File) → F.failures files.new ≡ F.failures files.old }
-    ensures kept { F.known files.new ≡ F.known files.old }
+    ensures files { ReadsUnless F.known F.failures files.old files.new (IsErrOf result (Problem.Failed Failure.File)) }
 {
     let story = open_story(alloc, story, files)?;
     let certificate = open_certificate(alloc, certificate, files)?;
@@ -43,9 +41,7 @@ pub fn accept<F: Files>(
 pub fn open_story<F: Files>(alloc: Global, name: &str, files: &mut F) -> Result<Story, Problem>
     ensures held { IfOk result (HoldsStory (F.known files.old name.now)) }
     ensures refused { IfErr result (IsNoStory (F.known files.old name.now)) }
-    ensures unread { result ≡ Err (Problem.Failed Failure.File) → RisesByOne (F.failures files.old) (F.failures files.new) }
-    ensures unfailed { result ≢ Err (Problem.Failed Failure.File) → F.failures files.new ≡ F.failures files.old }
-    ensures kept { F.known files.new ≡ F.known files.old }
+    ensures files { ReadsUnless F.known F.failures files.old files.new (IsErrOf result (Problem.Failed Failure.File)) }
 {
     let file = read_file(alloc, files, name, STORY_LIMIT)?;
     load(alloc, file)
@@ -67,9 +63,7 @@ fn open_certificate<F: Files>(
 ) -> Result<Certificate, Problem>
     ensures held { IfOk result (HoldsCertificate (F.known files.old name.now)) }
     ensures refused { IfErr result (IsNoCertificate (F.known files.old name.now)) }
-    ensures unread { result ≡ Err (Problem.Failed Failure.File) → RisesByOne (F.failures files.old) (F.failures files.new) }
-    ensures unfailed { result ≢ Err (Problem.Failed Failure.File) → F.failures files.new ≡ F.failures files.old }
-    ensures kept { F.known files.new ≡ F.known files.old }
+    ensures files { ReadsUnless F.known F.failures files.old files.new (IsErrOf result (Problem.Failed Failure.File)) }
 {
     largest_decides();
     let file = read_file(alloc, files, name, CERTIFICATE_LIMIT)?;

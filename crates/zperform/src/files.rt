@@ -1,9 +1,10 @@
 //! The files that commands name.
 
-ghost use Rattle.std.specs.Prelude.{◌≡◌, ◌≢◌, ◌<◌, ◌≤◌, ◌+◌, ℕ, true, false, List, None, Option, ◌⊎◌, Ok, Err, IfErr, IfOk, IfSome, OnOk, Some, length, take, vec_len};
+ghost use Rattle.std.specs.Prelude.{◌≡◌, ◌≢◌, ◌<◌, ◌≤◌, ◌+◌, ℕ, true, false, List, None, Option, ◌⊎◌, Ok, Err, IfErr, IfOk, IfSome, IsErrOf, OnOk, Some, length, take, vec_len};
 ghost use Rattle.zfault.specs.Devices.{RisesByOne};
 ghost use Rattle.zplayer.specs.Outside.{CountsRefusal};
 ghost use Rattle.zperform.specs.Contents.{CountsNone, HasBytes, IsBeginning, ReadsPart};
+ghost use Rattle.zperform.specs.Devices.{ReadsUnless};
 ghost use Rattle.zperform.specs.Finding.{HasAlone};
 
 use crate::outcome::{Failure, Problem};
@@ -176,9 +177,7 @@ pub fn read_file<F: Files>(
     ensures read { (bytes : List ℕ) → F.known files.old name.now ≡ Some bytes → IfOk result (λ file. file.items ≡ take most bytes) }
     ensures failed { IfErr result (λ problem. (problem ≡ Problem.Failed Failure.File) ⊎ (problem ≡ Problem.Failed Failure.Memory)) }
     ensures wanted { result ≡ Err (Problem.Failed Failure.Memory) → HasBytes (F.known files.old name.now) }
-    ensures unread { result ≡ Err (Problem.Failed Failure.File) → RisesByOne (F.failures files.old) (F.failures files.new) }
-    ensures unfailed { result ≢ Err (Problem.Failed Failure.File) → F.failures files.new ≡ F.failures files.old }
-    ensures kept { F.known files.new ≡ F.known files.old }
+    ensures files { ReadsUnless F.known F.failures files.old files.new (IsErrOf result (Problem.Failed Failure.File)) }
 {
     let mut file = Vec::new(alloc);
     'pieces: while read_more(files, name, &mut file, most)? {}
@@ -200,9 +199,7 @@ fn read_more<F: Files>(
     ensures whole { (bytes : List ℕ) → F.known files.old name.now ≡ Some bytes → IsBeginning file.old.items bytes → result ≡ Ok false → file.new.items ≡ take most bytes }
     ensures failed { IfErr result (λ problem. (problem ≡ Problem.Failed Failure.File) ⊎ (problem ≡ Problem.Failed Failure.Memory)) }
     ensures wanted { result ≡ Err (Problem.Failed Failure.Memory) → HasBytes (F.known files.old name.now) }
-    ensures unread { result ≡ Err (Problem.Failed Failure.File) → RisesByOne (F.failures files.old) (F.failures files.new) }
-    ensures unfailed { result ≢ Err (Problem.Failed Failure.File) → F.failures files.new ≡ F.failures files.old }
-    ensures kept { F.known files.new ≡ F.known files.old }
+    ensures files { ReadsUnless F.known F.failures files.old files.new (IsErrOf result (Problem.Failed Failure.File)) }
 {
     let at = file.len();
     if at == most {

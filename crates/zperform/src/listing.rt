@@ -1,20 +1,18 @@
 //! The listing of a story's file, as lines.
 
-ghost use Rattle.std.specs.Prelude.{◌≡◌, ◌≢◌, ◌⊎◌, ◌++◌, Err, IfErr, IfOk, pos};
-ghost use Rattle.std.specs.Io.KnownBytes.{Appends};
-ghost use Rattle.zfault.specs.Devices.{AppendsBeginning, RisesByOne};
+ghost use Rattle.std.specs.Prelude.{◌≡◌, ◌++◌, IfErr, IfOk, IsErrOf, pos};
+ghost use Rattle.zperform.specs.Devices.{FlushesUnless, ReadsUnless};
 ghost use Rattle.zperform.specs.Listing.{HoldsListed, IsListedAs, IsNoListing, IsUnlisted, ListComesTo, listing_text, record_line};
-ghost use Rattle.zperform.specs.Performing.{IsFlushed};
 ghost use Rattle.zperform.specs.Report.{place_text};
 
 use crate::accepting::open_story;
 use crate::files::Files;
 use crate::message::address_text;
 use crate::outcome::{Failure, Outcome, Problem};
-use crate::performing::write_and_flush;
+use crate::performing::write_done;
 use itoa::Buffer;
 use std::alloc::{AllocError, Global};
-use zfault::{Failed, Sink};
+use zfault::Sink;
 use zlist::{Record, list_story};
 use zstory::Story;
 
@@ -26,31 +24,12 @@ pub fn list_file<F: Files, W: Sink>(
     writer: &mut W,
 ) -> Outcome
     ensures comes { ListComesTo (F.known files.old story.now) (W.contents writer.old) (W.contents writer.new) result }
-    ensures blamed { result ≡ Outcome.Stopped (Problem.Failed Failure.Write) → RisesByOne (W.failures writer.old) (W.failures writer.new) }
-    ensures quiet { result ≢ Outcome.Stopped (Problem.Failed Failure.Write) → W.failures writer.new ≡ W.failures writer.old }
-    ensures flushed { result ≢ Outcome.Stopped (Problem.Failed Failure.Write) → IsFlushed W.waits writer.old writer.new }
-    ensures unread { result ≡ Outcome.Stopped (Problem.Failed Failure.File) → RisesByOne (F.failures files.old) (F.failures files.new) }
-    ensures unfailed { result ≢ Outcome.Stopped (Problem.Failed Failure.File) → F.failures files.new ≡ F.failures files.old }
-    ensures kept { F.known files.new ≡ F.known files.old }
+    ensures writer { FlushesUnless W.failures W.waits writer.old writer.new (result ≡ Outcome.Stopped (Problem.Failed Failure.Write)) }
+    ensures files { ReadsUnless F.known F.failures files.old files.new (result ≡ Outcome.Stopped (Problem.Failed Failure.File)) }
 {
     match listing_of(alloc, story, files) {
-        Ok(text) => write_listing(&text, writer),
+        Ok(text) => write_done(&text, Outcome::Listed, writer),
         Err(problem) => Outcome::Stopped(problem),
-    }
-}
-
-/// Writes the lines of a listing.
-fn write_listing<W: Sink>(text: &[u8], writer: &mut W) -> Outcome
-    ensures written { result ≡ Outcome.Listed → Appends (W.contents writer.old) (W.contents writer.new) text.now }
-    ensures begun { result ≡ Outcome.Stopped (Problem.Failed Failure.Write) → AppendsBeginning (W.contents writer.old) (W.contents writer.new) text.now }
-    ensures only { (result ≡ Outcome.Listed) ⊎ (result ≡ Outcome.Stopped (Problem.Failed Failure.Write)) }
-    ensures blamed { result ≡ Outcome.Stopped (Problem.Failed Failure.Write) → RisesByOne (W.failures writer.old) (W.failures writer.new) }
-    ensures quiet { result ≢ Outcome.Stopped (Problem.Failed Failure.Write) → W.failures writer.new ≡ W.failures writer.old }
-    ensures flushed { result ≢ Outcome.Stopped (Problem.Failed Failure.Write) → IsFlushed W.waits writer.old writer.new }
-{
-    match write_and_flush(writer, text) {
-        Ok(()) => Outcome::Listed,
-        Err(Failed) => Outcome::Stopped(Problem::Failed(Failure::Write)),
     }
 }
 
@@ -58,10 +37,8 @@ fn write_listing<W: Sink>(text: &[u8], writer: &mut W) -> Outcome
 fn listing_of<F: Files>(alloc: Global, name: &str, files: &mut F) -> Result<Vec<u8>, Problem>
     ensures listed { IfOk result (λ text. HoldsListed (F.known files.old name.now) text.items) }
     ensures refused { IfErr result (IsNoListing (F.known files.old name.now)) }
-    ensures unread { result ≡ Err (Problem.Failed Failure.File) → RisesByOne (F.failures files.old) (F.failures files.new) }
-    ensures unfailed { result ≢ Err (Problem.Failed Failure.File) → F.failures files.new ≡ F.failures files.old }
-    ensures unwritten { result ≢ Err (Problem.Failed Failure.Write) }
-    ensures kept { F.known files.new ≡ F.known files.old }
+    ensures files { ReadsUnless F.known F.failures files.old files.new (IsErrOf result (Problem.Failed Failure.File)) }
+    ensures unwritten { ¬ IsErrOf result (Problem.Failed Failure.Write) }
 {
     let story = open_story(alloc, name, files)?;
     list_loaded(alloc, &story)

@@ -1,15 +1,15 @@
 //! Doing what the words ask for.
 
-ghost use Rattle.std.specs.Prelude.{◌≡◌, ◌≢◌, ◌⊎◌, [], ℕ, false, true, List, Err, None, OnErr, OnOk, Option, Some, option_map};
+ghost use Rattle.std.specs.Prelude.{◌≡◌, ◌≢◌, [], ℕ, true, IsErrOf, List, None, Option, Some, option_map};
 ghost use Rattle.clap.specs.Kinds.{HasKind, Kinds};
 ghost use Rattle.clap.specs.Walk.{texts};
 ghost use Rattle.clap.specs.Words.{fault_of};
-ghost use Rattle.std.specs.Io.KnownBytes.{Appends};
-ghost use Rattle.zfault.specs.Devices.{AppendsBeginning, RisesByOne};
-ghost use Rattle.zperform.specs.Accepting.{CheckComesTo, IsAccepted, PlayComesTo, accepted_line};
 ghost use Rattle.zcommand.specs.CommandLine.{request_of, zpc_app};
-ghost use Rattle.zperform.specs.Performing.{Comes, Explains, IsFlushed, Performs, Says, Told, devices, given, held, is_quiet, save_in, seen, store_of, told, written_by, Held};
+ghost use Rattle.zplayer.specs.Outside.{Blames};
 ghost use Rattle.zplayer.specs.World.{told as told_store};
+ghost use Rattle.zperform.specs.Accepting.{CheckComesTo, IsAccepted, PlayComesTo};
+ghost use Rattle.zperform.specs.Devices.{Ends, FlushesUnless, Held, ReadsUnless, Says, Told, UsesUnless, Writes, devices, held, seen, told};
+ghost use Rattle.zperform.specs.Performing.{Comes, Explains, Performs, given, is_quiet, save_in, store_of, written_by};
 ghost use Rattle.zperform.specs.Playing.{ComesTo, Holds};
 ghost use Rattle.zperform.specs.Report.{failure_text, line_of, no_text, outcome_of, status_of, text_of};
 
@@ -76,14 +76,9 @@ fn carry_out<F: Files, R: Source, W: Sink>(
     writer: &mut W,
 ) -> Outcome
     ensures comes { Comes (request_of command.entry) (F.known files.old) (F.known files.new) (R.remaining reader.old) (W.contents writer.old) (W.contents writer.new) result }
-    ensures blamed { result ≡ Outcome.Stopped (Problem.Failed Failure.Write) → RisesByOne (W.failures writer.old) (W.failures writer.new) }
-    ensures quiet { result ≢ Outcome.Stopped (Problem.Failed Failure.Write) → W.failures writer.new ≡ W.failures writer.old }
-    ensures flushed { result ≢ Outcome.Stopped (Problem.Failed Failure.Write) → IsFlushed W.waits writer.old writer.new }
-    ensures unread { result ≡ Outcome.Stopped (Problem.Failed Failure.File) → RisesByOne (F.failures files.old) (F.failures files.new) }
-    ensures unfailed { save_in (request_of command.entry) ≡ None → result ≢ Outcome.Stopped (Problem.Failed Failure.File) → F.failures files.new ≡ F.failures files.old }
-    ensures kept { written_by (request_of command.entry) ≡ None → F.known files.new ≡ F.known files.old }
-    ensures unheard { result ≡ Outcome.Stopped (Problem.Failed Failure.Read) → RisesByOne (R.failures reader.old) (R.failures reader.new) }
-    ensures heard { result ≢ Outcome.Stopped (Problem.Failed Failure.Read) → R.failures reader.new ≡ R.failures reader.old }
+    ensures writer { FlushesUnless W.failures W.waits writer.old writer.new (result ≡ Outcome.Stopped (Problem.Failed Failure.Write)) }
+    ensures files { UsesUnless F.known F.failures files.old files.new (save_in (request_of command.entry) ≡ None) (written_by (request_of command.entry) ≡ None) (result ≡ Outcome.Stopped (Problem.Failed Failure.File)) }
+    ensures reader { Blames (result ≡ Outcome.Stopped (Problem.Failed Failure.Read)) (R.failures reader.old) (R.failures reader.new) }
     ensures unasked { is_quiet (request_of command.entry) ≡ true → reader.new ≡ reader.old }
 {
     match command {
@@ -142,42 +137,31 @@ fn check_files<F: Files, W: Sink>(
     writer: &mut W,
 ) -> Outcome
     ensures comes { CheckComesTo (F.known files.old story.now) (F.known files.old certificate.now) (W.contents writer.old) (W.contents writer.new) result }
-    ensures blamed { result ≡ Outcome.Stopped (Problem.Failed Failure.Write) → RisesByOne (W.failures writer.old) (W.failures writer.new) }
-    ensures quiet { result ≢ Outcome.Stopped (Problem.Failed Failure.Write) → W.failures writer.new ≡ W.failures writer.old }
-    ensures flushed { result ≢ Outcome.Stopped (Problem.Failed Failure.Write) → IsFlushed W.waits writer.old writer.new }
-    ensures unread { result ≡ Outcome.Stopped (Problem.Failed Failure.File) → RisesByOne (F.failures files.old) (F.failures files.new) }
-    ensures unfailed { result ≢ Outcome.Stopped (Problem.Failed Failure.File) → F.failures files.new ≡ F.failures files.old }
-    ensures kept { F.known files.new ≡ F.known files.old }
+    ensures writer { FlushesUnless W.failures W.waits writer.old writer.new (result ≡ Outcome.Stopped (Problem.Failed Failure.Write)) }
+    ensures files { ReadsUnless F.known F.failures files.old files.new (result ≡ Outcome.Stopped (Problem.Failed Failure.File)) }
 {
     match accept(alloc, story, certificate, files) {
         Ok(_) => {}
         Err(problem) => return Outcome::Stopped(problem),
     }
-    say_accepted(writer)
+    write_done(ACCEPTED, Outcome::Accepted, writer)
 }
 
-/// Writes that a certificate is accepted.
-fn say_accepted<W: Sink>(writer: &mut W) -> Outcome
-    ensures written { result ≡ Outcome.Accepted → Appends (W.contents writer.old) (W.contents writer.new) accepted_line }
-    ensures begun { result ≡ Outcome.Stopped (Problem.Failed Failure.Write) → AppendsBeginning (W.contents writer.old) (W.contents writer.new) accepted_line }
-    ensures only { (result ≡ Outcome.Accepted) ⊎ (result ≡ Outcome.Stopped (Problem.Failed Failure.Write)) }
-    ensures blamed { result ≡ Outcome.Stopped (Problem.Failed Failure.Write) → RisesByOne (W.failures writer.old) (W.failures writer.new) }
-    ensures quiet { result ≢ Outcome.Stopped (Problem.Failed Failure.Write) → W.failures writer.new ≡ W.failures writer.old }
-    ensures flushed { result ≢ Outcome.Stopped (Problem.Failed Failure.Write) → IsFlushed W.waits writer.old writer.new }
+/// Writes a text, and answers this outcome of it, or that writing failed.
+pub fn write_done<W: Sink>(text: &[u8], done: Outcome, writer: &mut W) -> Outcome
+    requires { done ≢ Outcome.Stopped (Problem.Failed Failure.Write) }
+    ensures ends { Ends (seen W.contents W.failures W.waits writer.old) (seen W.contents W.failures W.waits writer.new) text.now done result }
+    ensures writer { FlushesUnless W.failures W.waits writer.old writer.new (result ≡ Outcome.Stopped (Problem.Failed Failure.Write)) }
 {
-    match write_and_flush(writer, ACCEPTED) {
-        Ok(()) => Outcome::Accepted,
+    match write_and_flush(writer, text) {
+        Ok(()) => done,
         Err(Failed) => Outcome::Stopped(Problem::Failed(Failure::Write)),
     }
 }
 
 /// Writes a text, and sees that it is through.
 pub fn write_and_flush<W: Sink>(writer: &mut W, text: &[u8]) -> Result<(), Failed>
-    ensures written { OnOk result (Appends (W.contents writer.old) (W.contents writer.new) text.now) }
-    ensures begun { OnErr result (AppendsBeginning (W.contents writer.old) (W.contents writer.new) text.now) }
-    ensures blamed { OnErr result (RisesByOne (W.failures writer.old) (W.failures writer.new)) }
-    ensures quiet { OnOk result (W.failures writer.new ≡ W.failures writer.old) }
-    ensures flushed { OnOk result (W.waits writer.new ≡ false) }
+    ensures { Writes (seen W.contents W.failures W.waits writer.old) (seen W.contents W.failures W.waits writer.new) text.now result }
 {
     write_whole(writer, text)?;
     writer.flush()
@@ -195,14 +179,9 @@ fn play<F: Files, R: Source, W: Sink>(
     writer: &mut W,
 ) -> Result<End, Problem>
     ensures comes { ComesTo (F.known files.old name.now) options (given (R.remaining reader.old) seed (store_of (option_map (λ n. n.now) save.entry))) (W.contents writer.old) (W.contents writer.new) (outcome_of result) }
-    ensures blamed { result ≡ Err (Problem.Failed Failure.Write) → RisesByOne (W.failures writer.old) (W.failures writer.new) }
-    ensures quiet { result ≢ Err (Problem.Failed Failure.Write) → W.failures writer.new ≡ W.failures writer.old }
-    ensures flushed { result ≢ Err (Problem.Failed Failure.Write) → IsFlushed W.waits writer.old writer.new }
-    ensures unread { result ≡ Err (Problem.Failed Failure.File) → RisesByOne (F.failures files.old) (F.failures files.new) }
-    ensures unfailed { option_map (λ n. n.now) save.entry ≡ None → result ≢ Err (Problem.Failed Failure.File) → F.failures files.new ≡ F.failures files.old }
-    ensures kept { option_map (λ n. n.now) save.entry ≡ None → F.known files.new ≡ F.known files.old }
-    ensures unheard { result ≡ Err (Problem.Failed Failure.Read) → RisesByOne (R.failures reader.old) (R.failures reader.new) }
-    ensures heard { result ≢ Err (Problem.Failed Failure.Read) → R.failures reader.new ≡ R.failures reader.old }
+    ensures writer { FlushesUnless W.failures W.waits writer.old writer.new (IsErrOf result (Problem.Failed Failure.Write)) }
+    ensures files { UsesUnless F.known F.failures files.old files.new (option_map (λ n. n.now) save.entry ≡ None) (option_map (λ n. n.now) save.entry ≡ None) (IsErrOf result (Problem.Failed Failure.File)) }
+    ensures reader { Blames (IsErrOf result (Problem.Failed Failure.Read)) (R.failures reader.old) (R.failures reader.new) }
 {
     let file = read_file(alloc, files, name, STORY_LIMIT)?;
     let story = load(alloc, file)?;
@@ -221,12 +200,9 @@ fn play_story<F: Files, R: Source, W: Sink>(
     writer: &mut W,
 ) -> Result<End, Problem>
     ensures comes { (file : List ℕ) → Holds file story.now → ComesTo (Some file) options (given (R.remaining reader.old) seed (store_of (option_map (λ n. n.now) save.entry))) (W.contents writer.old) (W.contents writer.new) (outcome_of result) }
-    ensures blamed { result ≡ Err (Problem.Failed Failure.Write) → RisesByOne (W.failures writer.old) (W.failures writer.new) }
-    ensures quiet { result ≢ Err (Problem.Failed Failure.Write) → W.failures writer.new ≡ W.failures writer.old }
-    ensures flushed { result ≢ Err (Problem.Failed Failure.Write) → IsFlushed W.waits writer.old writer.new }
-    ensures no_file { result ≢ Err (Problem.Failed Failure.File) }
-    ensures unheard { result ≡ Err (Problem.Failed Failure.Read) → RisesByOne (R.failures reader.old) (R.failures reader.new) }
-    ensures heard { result ≢ Err (Problem.Failed Failure.Read) → R.failures reader.new ≡ R.failures reader.old }
+    ensures writer { FlushesUnless W.failures W.waits writer.old writer.new (IsErrOf result (Problem.Failed Failure.Write)) }
+    ensures no_file { ¬ IsErrOf result (Problem.Failed Failure.File) }
+    ensures reader { Blames (IsErrOf result (Problem.Failed Failure.Read)) (R.failures reader.old) (R.failures reader.new) }
     ensures unsaved { option_map (λ n. n.now) save.entry ≡ None → files.new ≡ files.old }
 {
     match save {
@@ -257,12 +233,9 @@ fn play_keeping<S: SaveStore, R: Source, W: Sink>(
     writer: &mut W,
 ) -> Result<End, Problem>
     ensures comes { (file : List ℕ) → Holds file story.now → ComesTo (Some file) options (given (R.remaining reader.old) seed (told_store S.kept S.failures store.old)) (W.contents writer.old) (W.contents writer.new) (outcome_of result) }
-    ensures blamed { result ≡ Err (Problem.Failed Failure.Write) → RisesByOne (W.failures writer.old) (W.failures writer.new) }
-    ensures quiet { result ≢ Err (Problem.Failed Failure.Write) → W.failures writer.new ≡ W.failures writer.old }
-    ensures flushed { result ≢ Err (Problem.Failed Failure.Write) → IsFlushed W.waits writer.old writer.new }
-    ensures no_file { result ≢ Err (Problem.Failed Failure.File) }
-    ensures unheard { result ≡ Err (Problem.Failed Failure.Read) → RisesByOne (R.failures reader.old) (R.failures reader.new) }
-    ensures heard { result ≢ Err (Problem.Failed Failure.Read) → R.failures reader.new ≡ R.failures reader.old }
+    ensures writer { FlushesUnless W.failures W.waits writer.old writer.new (IsErrOf result (Problem.Failed Failure.Write)) }
+    ensures no_file { ¬ IsErrOf result (Problem.Failed Failure.File) }
+    ensures reader { Blames (IsErrOf result (Problem.Failed Failure.Read)) (R.failures reader.old) (R.failures reader.new) }
 {
     let mut machine = CheckedMachine::new(alloc, story, Scope::All)?;
     Ok(play_checked(
@@ -289,14 +262,9 @@ fn play_by_certificate<F: Files, R: Source, W: Sink>(
     writer: &mut W,
 ) -> Result<End, Problem>
     ensures comes { PlayComesTo (F.known files.old story.now) (F.known files.old certificate.now) options (given (R.remaining reader.old) seed (store_of (option_map (λ n. n.now) save.entry))) (W.contents writer.old) (W.contents writer.new) (outcome_of result) }
-    ensures blamed { result ≡ Err (Problem.Failed Failure.Write) → RisesByOne (W.failures writer.old) (W.failures writer.new) }
-    ensures quiet { result ≢ Err (Problem.Failed Failure.Write) → W.failures writer.new ≡ W.failures writer.old }
-    ensures flushed { result ≢ Err (Problem.Failed Failure.Write) → IsFlushed W.waits writer.old writer.new }
-    ensures unread { result ≡ Err (Problem.Failed Failure.File) → RisesByOne (F.failures files.old) (F.failures files.new) }
-    ensures unfailed { option_map (λ n. n.now) save.entry ≡ None → result ≢ Err (Problem.Failed Failure.File) → F.failures files.new ≡ F.failures files.old }
-    ensures kept { option_map (λ n. n.now) save.entry ≡ None → F.known files.new ≡ F.known files.old }
-    ensures unheard { result ≡ Err (Problem.Failed Failure.Read) → RisesByOne (R.failures reader.old) (R.failures reader.new) }
-    ensures heard { result ≢ Err (Problem.Failed Failure.Read) → R.failures reader.new ≡ R.failures reader.old }
+    ensures writer { FlushesUnless W.failures W.waits writer.old writer.new (IsErrOf result (Problem.Failed Failure.Write)) }
+    ensures files { UsesUnless F.known F.failures files.old files.new (option_map (λ n. n.now) save.entry ≡ None) (option_map (λ n. n.now) save.entry ≡ None) (IsErrOf result (Problem.Failed Failure.File)) }
+    ensures reader { Blames (IsErrOf result (Problem.Failed Failure.Read)) (R.failures reader.old) (R.failures reader.new) }
 {
     let accepted = accept(alloc, story, certificate, files)?;
     play_accepted(alloc, &accepted, seed, options, save, files, reader, writer)
@@ -314,12 +282,9 @@ fn play_accepted<F: Files, R: Source, W: Sink>(
     writer: &mut W,
 ) -> Result<End, Problem>
     ensures comes { (story certificate : Option (List ℕ)) → IsAccepted story certificate accepted.now → PlayComesTo story certificate options (given (R.remaining reader.old) seed (store_of (option_map (λ n. n.now) save.entry))) (W.contents writer.old) (W.contents writer.new) (outcome_of result) }
-    ensures blamed { result ≡ Err (Problem.Failed Failure.Write) → RisesByOne (W.failures writer.old) (W.failures writer.new) }
-    ensures quiet { result ≢ Err (Problem.Failed Failure.Write) → W.failures writer.new ≡ W.failures writer.old }
-    ensures flushed { result ≢ Err (Problem.Failed Failure.Write) → IsFlushed W.waits writer.old writer.new }
-    ensures no_file { result ≢ Err (Problem.Failed Failure.File) }
-    ensures unheard { result ≡ Err (Problem.Failed Failure.Read) → RisesByOne (R.failures reader.old) (R.failures reader.new) }
-    ensures heard { result ≢ Err (Problem.Failed Failure.Read) → R.failures reader.new ≡ R.failures reader.old }
+    ensures writer { FlushesUnless W.failures W.waits writer.old writer.new (IsErrOf result (Problem.Failed Failure.Write)) }
+    ensures no_file { ¬ IsErrOf result (Problem.Failed Failure.File) }
+    ensures reader { Blames (IsErrOf result (Problem.Failed Failure.Read)) (R.failures reader.old) (R.failures reader.new) }
     ensures unsaved { option_map (λ n. n.now) save.entry ≡ None → files.new ≡ files.old }
 {
     match save {
@@ -350,12 +315,9 @@ fn play_accepted_keeping<S: SaveStore, R: Source, W: Sink>(
     writer: &mut W,
 ) -> Result<End, Problem>
     ensures comes { (story certificate : Option (List ℕ)) → IsAccepted story certificate accepted.now → PlayComesTo story certificate options (given (R.remaining reader.old) seed (told_store S.kept S.failures store.old)) (W.contents writer.old) (W.contents writer.new) (outcome_of result) }
-    ensures blamed { result ≡ Err (Problem.Failed Failure.Write) → RisesByOne (W.failures writer.old) (W.failures writer.new) }
-    ensures quiet { result ≢ Err (Problem.Failed Failure.Write) → W.failures writer.new ≡ W.failures writer.old }
-    ensures flushed { result ≢ Err (Problem.Failed Failure.Write) → IsFlushed W.waits writer.old writer.new }
-    ensures no_file { result ≢ Err (Problem.Failed Failure.File) }
-    ensures unheard { result ≡ Err (Problem.Failed Failure.Read) → RisesByOne (R.failures reader.old) (R.failures reader.new) }
-    ensures heard { result ≢ Err (Problem.Failed Failure.Read) → R.failures reader.new ≡ R.failures reader.old }
+    ensures writer { FlushesUnless W.failures W.waits writer.old writer.new (IsErrOf result (Problem.Failed Failure.Write)) }
+    ensures no_file { ¬ IsErrOf result (Problem.Failed Failure.File) }
+    ensures reader { Blames (IsErrOf result (Problem.Failed Failure.Read)) (R.failures reader.old) (R.failures reader.new) }
 {
     let mut session = Session::start(alloc, accepted)?;
     let end = zplayer::play_story(

@@ -1,5 +1,5 @@
 -- Values of the definitions, computed.
-use Rattle.std.proofs.Common.{◌≡◌, ◌≢◌, inl, inr, ℕ, zero, suc, Bool, true, false, List, [], ◌∷◌, ◌++◌, replicate, Option, Some, None, Result, Err, refl, subst, arith}
+use Rattle.std.proofs.Common.{◌≡◌, ◌≢◌, inl, inr, ℕ, zero, suc, Bool, true, false, List, [], ◌∷◌, ◌++◌, replicate, Option, Some, None, refl, subst, true≢false, arith}
 use Rattle.std.specs.Prelude.{pos, ⊤}
 use Rattle.std.specs.List.{All}
 use Rattle.std.proofs.lemmas.List.Elements.{All-cons, All-nil}
@@ -13,15 +13,13 @@ use Rattle.zstate.specs.declared.halt.Stop.TheVariants as stops
 use Rattle.zstate.specs.State.{State, Setting}
 use Rattle.zstate.specs.Run.{Given, Restored}
 use Rattle.zplayer.specs.declared.end.End.TheVariants as ends
-use Rattle.zplayer.specs.declared.end.PlayError.{PlayError}
-use Rattle.zplayer.specs.declared.end.PlayError.TheVariants as errors
 use Rattle.zplayer.specs.declared.lines.LineEnd.TheVariants.{Newline, Input}
 use Rattle.zplayer.specs.declared.lines.TheConstants.{KEPT, PIECE}
 use Rattle.zplayer.specs.declared.turns.TheConstants.{TURN}
-use Rattle.zplayer.specs.Lines.{ReadsLine, Hears, line_of, without_return}
-use Rattle.zplayer.specs.Outside.{Blames, Coming, CountsRefusal, words_of}
+use Rattle.zplayer.specs.Lines.{BlamesReader, ReadsLine, Hears, line_of, without_return}
+use Rattle.zplayer.specs.Outside.{Blames, BlamesWriter, Coming, CountsRefusal, words_of}
 use Rattle.zplayer.specs.Playing.{Meets, Writes, end_of, stage}
-use Rattle.zplayer.specs.World.{Answers, Draws, Gets, HasNone, Puts, Refuses, Resumes, Store, World, world}
+use Rattle.zplayer.specs.World.{Answers, Draws, Gets, HasNone, Puts, Refuses, Resumes, Store, Stores, World, world}
 
 -- ---- how playing ends
 
@@ -49,13 +47,15 @@ not_done same = omega (arith, same)
 refused : CountsRefusal 3 4 false × (CountsRefusal 3 5 false → ⊥)
 refused = (refl, λ rises. omega (arith, rises))
 
-failing : PlayError → Result ℕ PlayError
-failing error = Err error
+-- a device is blamed where it fails, and nowhere else
+blamed : Blames ⊤ 3 4 × Blames ⊥ 3 3 × (Blames ⊥ 3 4 → ⊥) × (Blames ⊤ 3 3 → ⊥)
+blamed = (((λ is. refl), (λ other. absurd (other tt))), ((λ is. absurd is), (λ other. refl)), (λ b. omega (arith, b.1 (λ is. is))), (λ b. omega (arith, b.0 tt)))
 
--- a device is blamed for its own error, and for no other
-blamed : Blames errors.Read (failing errors.Read) 3 4 × Blames errors.Read (failing errors.Write) 3 3 × (Blames errors.Read (failing errors.Write) 3 4 → ⊥) × (Blames errors.Read (failing errors.Read) 3 3 → ⊥)
-unfolding failing
-blamed = (((λ is. refl), (λ other. absurd (other refl))), ((λ is. cc), (λ other. refl)), (λ b. omega (arith, b.1 (λ e. cc))), (λ b. omega (arith, b.0 refl)))
+-- of a writer that sees to it nothing waits, and a reader that gave its last has no byte left
+seen_to :
+    BlamesWriter (λ (n : ℕ). n) (λ n. false) 3 3 ⊥ ⊤ × (BlamesWriter (λ (n : ℕ). n) (λ n. true) 3 3 ⊥ ⊤ → ⊥) × (BlamesWriter (λ (n : ℕ). n) (λ n. false) 3 4 ⊥ ⊤ → ⊥)
+    × (BlamesReader (λ (n : ℕ). Some (1 ∷ [])) (λ (n : ℕ). n) 3 3 (record { held = []; ended = true }) ⊥ → ⊥)
+seen_to = (record { blamed = blamed.1; flushed = λ seen. refl }, (λ w. absurd (true≢false (w.flushed tt))), (λ w. blamed.2 w.blamed), λ r. absurd (let e : 1 ∷ [] ≡ [] = r.ended refl in cc))
 
 -- ---- words
 
@@ -110,6 +110,10 @@ none_left = (refl, λ e. cc, tt)
 -- a store keeps what it was given, and where it fails what it kept; one that keeps nothing gives nothing
 kept : Puts (Some None) (1 ∷ []) true (Some (Some (1 ∷ []))) × Puts (Some (Some (2 ∷ []))) (1 ∷ []) false (Some (Some (2 ∷ []))) × (Puts (Some None) (1 ∷ []) true (Some (Some (2 ∷ []))) → ⊥) × (Puts (Some (Some (2 ∷ []))) (1 ∷ []) true None → ⊥)
 kept = (refl, refl, (λ e. cc), λ e. cc)
+
+-- and it fails just where it doesn't keep it
+stored : Stores (record { kept = None; failures = 3 }) [] false (record { kept = None; failures = 4 }) × (Stores (record { kept = None; failures = 3 }) [] true (record { kept = None; failures = 4 }) → ⊥)
+stored = ((tt, refl), λ s. omega (arith, s.1))
 
 gets : Gets (Some (Some (1 ∷ []))) (1 ∷ []) × (Gets (Some (Some (1 ∷ []))) (2 ∷ []) → ⊥) × (Gets (Some None) (1 ∷ []) → ⊥)
 gets = (refl, (λ e. cc), λ e. cc)

@@ -1,10 +1,11 @@
 -- Lines of the player (own).
-use Rattle.std.specs.Prelude.{◌≡◌, ◌≢◌, ◌⊎◌, ◌<◌, ◌+◌, ◌-◌, ◌^◌, ◌==◌, ℕ, Bool, List, [], ◌∷◌, ◌++◌, length, take, slice_index, Option, Some, None, ⊤, if◌then◌else◌}
+use Rattle.std.specs.Prelude.{◌≡◌, ◌≢◌, ◌⊎◌, ◌<◌, ◌+◌, ◌-◌, ◌^◌, ◌==◌, ℕ, Bool, true, List, [], ◌∷◌, ◌++◌, length, take, slice_index, Option, Some, None, ⊤, if◌then◌else◌}
 use Rattle.std.specs.List.{All}
 use Rattle.std.specs.Io.KnownBytes.{Consumes, IsAtEnd, prepend_known}
 use Rattle.zfault.specs.declared.line.TheConstants.{LINE_LIMIT}
 use Rattle.zplayer.specs.declared.lines.LineEnd.{LineEnd}
 use Rattle.zplayer.specs.declared.lines.LineEnd.TheVariants.{Newline, Input}
+use Rattle.zplayer.specs.Outside.{Blames}
 
 -- no byte of a text ends a line
 abbrev pub IsUnbroken : List ℕ → Type 0
@@ -49,6 +50,15 @@ pub record Ahead : Type 0 where
 -- what is still to be used: the bytes that are kept, and those that the reader has left
 abbrev pub unused : Ahead → Option (List ℕ) → Option (List ℕ)
 unused ahead remaining = prepend_known ahead.held remaining
+
+-- a reader that gave its last has no byte left
+abbrev pub KnowsEnd : Ahead → Option (List ℕ) → Type 0
+KnowsEnd ahead remaining = ahead.ended ≡ true → IsAtEnd remaining
+
+-- what a call that reads ahead says of its reader: it is blamed just where it fails, and is at its end where that was found
+pub record BlamesReader {R : Type 0} (remaining : R → Option (List ℕ)) (failures : R → ℕ) (old new : R) (ahead : Ahead) (fails : Type 0) : Type 0 where
+  pub blamed : Blames fails (failures old) (failures new)
+  pub ended : KnowsEnd ahead (remaining new)
 
 -- a byte of a line was taken, or its end was found; of the line so much is kept that its front can be told
 abbrev pub Takes : Option (List ℕ) → Option (List ℕ) → List ℕ → List ℕ → Option LineEnd → Type 0

@@ -1,17 +1,21 @@
--- What calls of devices do to their counts of failures, and the words of a generator (own).
-use Rattle.std.specs.Prelude.{◌≡◌, ℕ, zero, suc, ◌%◌, Bool, List, MatchBool, Result, IsErrOf}
+-- What calls say of the devices that they use, and the words of a generator (own).
+use Rattle.std.specs.Prelude.{◌≡◌, ℕ, zero, suc, ◌%◌, Bool, false, List, MatchBool}
 use Rattle.rand_xoshiro.specs.SplitMix64.{splitmix_seed}
 use Rattle.rand_xoshiro.specs.Xoshiro128.{of_seed, plus_plus}
 use Rattle.zfault.specs.Devices.{RisesByOne}
-use Rattle.zplayer.specs.declared.end.PlayError.{PlayError}
 
 -- the count rises just where the answer is false
 abbrev pub CountsRefusal : ℕ → ℕ → Bool → Type 0
 CountsRefusal old new done = MatchBool done (new ≡ old) (RisesByOne old new)
 
--- a device is blamed for this error, and only there its count rises
-abbrev pub Blames : {T : Type 0} → PlayError → Result T PlayError → ℕ → ℕ → Type 0
-Blames error result old new = (IsErrOf result error → RisesByOne old new) × (¬ IsErrOf result error → new ≡ old)
+-- a device is blamed just where it fails: there its count of failures rises, by one, and else it stays
+abbrev pub Blames : Type 0 → ℕ → ℕ → Type 0
+Blames fails old new = (fails → RisesByOne old new) × (¬ fails → new ≡ old)
+
+-- what a call says of its writer: it is blamed just where it fails, and where the call sees to that, nothing waits to be handed on
+pub record BlamesWriter {W : Type 0} (failures : W → ℕ) (waits : W → Bool) (old new : W) (fails sees : Type 0) : Type 0 where
+  pub blamed : Blames fails (failures old) (failures new)
+  pub flushed : sees → waits new ≡ false
 
 -- words that come, by their number from 0 on
 abbrev pub Coming : Type 0

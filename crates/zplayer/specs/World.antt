@@ -46,6 +46,10 @@ pub record Store : Type 0 where
 abbrev pub told : {S : Type 0} → (S → Option Kept) → (S → ℕ) → S → Store
 told kept failures store = record { kept = kept store; failures = failures store }
 
+-- a store was given a save, and fails just where it doesn't keep it
+abbrev pub Stores : Store → List ℕ → Bool → Store → Type 0
+Stores old save done new = Puts old.kept save done new.kept × CountsRefusal old.failures new.failures done
+
 -- play goes on from these bytes of a save, in a state that the machine takes
 abbrev pub Resumes : Setting → (State → Type 0) → List ℕ → State → State → Type 0
 Resumes m Takes bytes old new = (restoring m bytes old ≡ Ok new) × Takes new
@@ -79,8 +83,7 @@ abbrev pub Answers : Setting → (State → Type 0) → State → Need → World
 Answers m Takes s needs.Line old (Given (events.Line line)) new = ReadsLine old.input line new.input × (new.words ≡ old.words) × (new.store ≡ old.store)
 Answers m Takes s needs.Random old (Given (events.Random word)) new = Draws old.words word new.words × (new.input ≡ old.input) × (new.store ≡ old.store)
 Answers m Takes s needs.Saved old (Given (events.Saved done)) new =
-    Puts old.store.kept (save_text (origin_of m.story) (saved_of m.story s)) done new.store.kept × CountsRefusal old.store.failures new.store.failures done
-    × (new.input ≡ old.input) × (new.words ≡ old.words)
+    Stores old.store (save_text (origin_of m.story) (saved_of m.story s)) done new.store × (new.input ≡ old.input) × (new.words ≡ old.words)
 Answers m Takes s needs.Restore old (Restored bytes) new = Gets old.store.kept bytes × ((t : State) × Resumes m Takes bytes s t) × (new ≡ old)
 Answers m Takes s needs.Restore old (Given events.NotRestored) new = HasNone m Takes s old.store new.store × (new.input ≡ old.input) × (new.words ≡ old.words)
 Answers m Takes s need old input new = ⊥

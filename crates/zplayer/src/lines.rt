@@ -1,9 +1,8 @@
 //! Lines of the player, from a source that may give more than a line at once.
 
-ghost use Rattle.std.specs.Prelude.{◌≡◌, ◌<◌, ◌++◌, ◌∷◌, [], true, false, Ok, None, IfOk, IsErrOf, MatchBool, length, option_to_list, take};
+ghost use Rattle.std.specs.Prelude.{◌≡◌, ◌<◌, ◌++◌, ◌∷◌, [], true, false, Ok, None, IfErr, IfOk, IsErrOf, MatchBool, length, option_to_list, take};
 ghost use Rattle.std.specs.Io.KnownBytes.{Consumes, IsAtEnd, Keeps};
-ghost use Rattle.zplayer.specs.Lines.{Hears, Takes, line_of, unused, without_return};
-ghost use Rattle.zplayer.specs.Outside.{Blames};
+ghost use Rattle.zplayer.specs.Lines.{BlamesReader, Hears, KnowsEnd, Takes, line_of, unused, without_return};
 
 use crate::end::PlayError;
 use arrayvec::ArrayVec;
@@ -63,12 +62,10 @@ impl Lines {
     /// The next line, if there is one: it goes up to a byte 10, or to the end of the input. What a line has beyond
     /// [`LINE_LIMIT`] bytes is dropped, and so is a byte 13 just before the 10.
     pub(crate) fn next_line<R: Source>(&mut self, reader: &mut R) -> Result<Option<Line>, PlayError>
-        requires ended { self.old.ended ≡ true → IsAtEnd (R.remaining reader.old) }
-        ensures ended { self.new.ended ≡ true → IsAtEnd (R.remaining reader.new) }
+        requires ended { KnowsEnd self.old (R.remaining reader.old) }
         ensures heard { IfOk result (λ line. Hears (unused self.old (R.remaining reader.old)) line (unused self.new (R.remaining reader.new))) }
-        ensures blamed { Blames PlayError.Read result (R.failures reader.old) (R.failures reader.new) }
-        ensures no_write { ¬ IsErrOf result PlayError.Write }
-        ensures no_memory { ¬ IsErrOf result PlayError.OutOfMemory }
+        ensures reads { BlamesReader R.remaining R.failures reader.old reader.new self.new (IsErrOf result PlayError.Read) }
+        ensures only { IfErr result (λ error. error ≡ PlayError.Read) }
     {
         let mut kept = ArrayVec::<u8, KEPT>::new();
         let mut turns = u64::MAX;
@@ -88,12 +85,10 @@ impl Lines {
         reader: &mut R,
         kept: &mut ArrayVec<u8, KEPT>,
     ) -> Result<Option<LineEnd>, PlayError>
-        requires ended { self.old.ended ≡ true → IsAtEnd (R.remaining reader.old) }
-        ensures ended { self.new.ended ≡ true → IsAtEnd (R.remaining reader.new) }
+        requires ended { KnowsEnd self.old (R.remaining reader.old) }
         ensures taken { IfOk result (Takes (unused self.old (R.remaining reader.old)) (unused self.new (R.remaining reader.new)) kept.old.items kept.new.items) }
-        ensures blamed { Blames PlayError.Read result (R.failures reader.old) (R.failures reader.new) }
-        ensures no_write { ¬ IsErrOf result PlayError.Write }
-        ensures no_memory { ¬ IsErrOf result PlayError.OutOfMemory }
+        ensures reads { BlamesReader R.remaining R.failures reader.old reader.new self.new (IsErrOf result PlayError.Read) }
+        ensures only { IfErr result (λ error. error ≡ PlayError.Read) }
     {
         match self.next_byte(reader)? {
             Some(b'\n') => Ok(Some(LineEnd::Newline)),
@@ -108,13 +103,11 @@ impl Lines {
     /// The next byte, if there is one.
     #[tactic(auto, using(crate::proofs::ReadLemmas::one_taken, crate::proofs::ReadLemmas::none_left))]
     fn next_byte<R: Source>(&mut self, reader: &mut R) -> Result<Option<u8>, PlayError>
-        requires ended { self.old.ended ≡ true → IsAtEnd (R.remaining reader.old) }
-        ensures ended { self.new.ended ≡ true → IsAtEnd (R.remaining reader.new) }
+        requires ended { KnowsEnd self.old (R.remaining reader.old) }
         ensures bytes { IfOk result (λ byte. Consumes (unused self.old (R.remaining reader.old)) (unused self.new (R.remaining reader.new)) (option_to_list byte)) }
         ensures end { result ≡ Ok None → IsAtEnd (unused self.new (R.remaining reader.new)) }
-        ensures blamed { Blames PlayError.Read result (R.failures reader.old) (R.failures reader.new) }
-        ensures no_write { ¬ IsErrOf result PlayError.Write }
-        ensures no_memory { ¬ IsErrOf result PlayError.OutOfMemory }
+        ensures reads { BlamesReader R.remaining R.failures reader.old reader.new self.new (IsErrOf result PlayError.Read) }
+        ensures only { IfErr result (λ error. error ≡ PlayError.Read) }
     {
         if !self.has_byte(reader)? {
             return Ok(None);
@@ -136,12 +129,10 @@ impl Lines {
     /// Sees that there is a byte, if any is left.
     #[tactic(auto, using(crate::proofs::ReadLemmas::all_kept, crate::proofs::ReadLemmas::none_held))]
     fn has_byte<R: Source>(&mut self, reader: &mut R) -> Result<bool, PlayError>
-        requires ended { self.old.ended ≡ true → IsAtEnd (R.remaining reader.old) }
-        ensures ended { self.new.ended ≡ true → IsAtEnd (R.remaining reader.new) }
+        requires ended { KnowsEnd self.old (R.remaining reader.old) }
         ensures more { IfOk result (λ some. Keeps (unused self.old (R.remaining reader.old)) (unused self.new (R.remaining reader.new)) × MatchBool some (0 < length self.new.held) ((self.new.held ≡ []) × (self.new.ended ≡ true))) }
-        ensures blamed { Blames PlayError.Read result (R.failures reader.old) (R.failures reader.new) }
-        ensures no_write { ¬ IsErrOf result PlayError.Write }
-        ensures no_memory { ¬ IsErrOf result PlayError.OutOfMemory }
+        ensures reads { BlamesReader R.remaining R.failures reader.old reader.new self.new (IsErrOf result PlayError.Read) }
+        ensures only { IfErr result (λ error. error ≡ PlayError.Read) }
     {
         if self.from < self.to {
             return Ok(true);
@@ -152,13 +143,11 @@ impl Lines {
     /// Reads more, and answers whether there is any. At the end of the input the reader isn't asked again.
     fn fill<R: Source>(&mut self, reader: &mut R) -> Result<bool, PlayError>
         requires empty { self.old.held ≡ [] }
-        requires ended { self.old.ended ≡ true → IsAtEnd (R.remaining reader.old) }
-        ensures ended { self.new.ended ≡ true → IsAtEnd (R.remaining reader.new) }
+        requires ended { KnowsEnd self.old (R.remaining reader.old) }
         ensures more { IfOk result (λ some. Keeps (R.remaining reader.old) (unused self.new (R.remaining reader.new)) × MatchBool some (0 < length self.new.held) ((self.new.held ≡ []) × (self.new.ended ≡ true))) }
         ensures asked_once { self.old.ended ≡ true → (result ≡ Ok false) × (reader.new ≡ reader.old) }
-        ensures blamed { Blames PlayError.Read result (R.failures reader.old) (R.failures reader.new) }
-        ensures no_write { ¬ IsErrOf result PlayError.Write }
-        ensures no_memory { ¬ IsErrOf result PlayError.OutOfMemory }
+        ensures reads { BlamesReader R.remaining R.failures reader.old reader.new self.new (IsErrOf result PlayError.Read) }
+        ensures only { IfErr result (λ error. error ≡ PlayError.Read) }
     {
         if self.ended {
             return Ok(false);

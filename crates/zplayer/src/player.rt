@@ -1,13 +1,13 @@
 //! The player of a machine.
 
-ghost use Rattle.std.specs.Prelude.{◌≡◌, ◌≢◌, ℤ, false, true, [], Some, IsErrOf, IfOk, MatchBool, MatchResult, OnErr, ⊤};
-ghost use Rattle.std.specs.Io.KnownBytes.{IsAtEnd, Keeps};
+ghost use Rattle.std.specs.Prelude.{◌≡◌, ◌≢◌, ℤ, false, Some, IsErrOf, IfErr, IfOk, OnErr, ⊤};
+ghost use Rattle.std.specs.Io.KnownBytes.{Keeps};
 ghost use Rattle.zfault.specs.declared.fault.Fault.{Fault as AFault};
 ghost use Rattle.zstate.specs.Run.{awaited};
 ghost use Rattle.zref.specs.Machine.{setting, SamePlay};
 ghost use Rattle.zplay.specs.Session.{setting_of};
-ghost use Rattle.zplayer.specs.Lines.{Hears, unused};
-ghost use Rattle.zplayer.specs.Outside.{Blames};
+ghost use Rattle.zplayer.specs.Lines.{BlamesReader, Hears, KnowsEnd, unused};
+ghost use Rattle.zplayer.specs.Outside.{Blames, BlamesWriter};
 ghost use Rattle.zplayer.specs.Playing.{ComesTo, GivesOrSaves, Supplies, WantsOrSaves};
 ghost use Rattle.zplayer.specs.Stories.{Describes};
 ghost use Rattle.zplayer.specs.World.{Asks, told, world};
@@ -43,9 +43,8 @@ pub fn play_checked<R: Source, W: Sink, S: SaveStore, G: Words>(
 ) -> Result<End, PlayError>
     ensures play { SamePlay machine.old machine.new }
     ensures comes { ComesTo (setting machine.old) (λ _. ⊤) (WantsOrSaves (setting machine.old)) options (world (R.remaining reader.old) (G.coming words.old) (told S.kept S.failures store.old)) machine.old.state machine.new.state (G.coming words.new) (told S.kept S.failures store.new) (W.contents writer.old) (W.contents writer.new) result }
-    ensures reads { Blames PlayError.Read result (R.failures reader.old) (R.failures reader.new) }
-    ensures writes { Blames PlayError.Write result (W.failures writer.old) (W.failures writer.new) }
-    ensures flushed { ¬ IsErrOf result PlayError.Write → W.waits writer.new ≡ false }
+    ensures reads { Blames (IsErrOf result PlayError.Read) (R.failures reader.old) (R.failures reader.new) }
+    ensures writes { BlamesWriter W.failures W.waits writer.old writer.new (IsErrOf result PlayError.Write) (¬ IsErrOf result PlayError.Write) }
 {
     play_machine(alloc, machine, reader, writer, store, words, options)
 }
@@ -64,9 +63,8 @@ pub fn play_story<V: Spelled, R: Source, W: Sink, S: SaveStore, G: Words>(
     ensures play { session.new.accepted ≡ session.old.accepted }
     ensures comes { ComesTo (setting_of session.old.accepted) (Describes V.operations session.old.accepted) (GivesOrSaves (setting_of session.old.accepted)) options (world (R.remaining reader.old) (G.coming words.old) (told S.kept S.failures store.old)) session.old.state session.new.state (G.coming words.new) (told S.kept S.failures store.new) (W.contents writer.old) (W.contents writer.new) result }
     ensures no_fault { IfOk result (λ end. (fault : AFault) (place : ℤ) → end ≢ End.Fault fault place) }
-    ensures reads { Blames PlayError.Read result (R.failures reader.old) (R.failures reader.new) }
-    ensures writes { Blames PlayError.Write result (W.failures writer.old) (W.failures writer.new) }
-    ensures flushed { ¬ IsErrOf result PlayError.Write → W.waits writer.new ≡ false }
+    ensures reads { Blames (IsErrOf result PlayError.Read) (R.failures reader.old) (R.failures reader.new) }
+    ensures writes { BlamesWriter W.failures W.waits writer.old writer.new (IsErrOf result PlayError.Write) (¬ IsErrOf result PlayError.Write) }
 {
     let played = play_machine(alloc, session, reader, writer, store, words, options);
     session.never_faults();
@@ -85,9 +83,8 @@ fn play_machine<M: Machine, R: Source, W: Sink, S: SaveStore, G: Words>(
 ) -> Result<End, PlayError>
     ensures play { M.IsSamePlay machine.old machine.new }
     ensures comes { ComesTo (M.setting machine.old) (M.Takes machine.old) (M.Wants (M.setting machine.old)) options (world (R.remaining reader.old) (G.coming words.old) (told S.kept S.failures store.old)) (M.state machine.old) (M.state machine.new) (G.coming words.new) (told S.kept S.failures store.new) (W.contents writer.old) (W.contents writer.new) result }
-    ensures reads { Blames PlayError.Read result (R.failures reader.old) (R.failures reader.new) }
-    ensures writes { Blames PlayError.Write result (W.failures writer.old) (W.failures writer.new) }
-    ensures flushed { ¬ IsErrOf result PlayError.Write → W.waits writer.new ≡ false }
+    ensures reads { Blames (IsErrOf result PlayError.Read) (R.failures reader.old) (R.failures reader.new) }
+    ensures writes { BlamesWriter W.failures W.waits writer.old writer.new (IsErrOf result PlayError.Write) (¬ IsErrOf result PlayError.Write) }
 {
     match play_turns(alloc, machine, reader, writer, store, words, options) {
         // At a failed read all was flushed before it.
@@ -111,9 +108,8 @@ fn play_turns<M: Machine, R: Source, W: Sink, S: SaveStore, G: Words>(
 ) -> Result<End, PlayError>
     ensures play { M.IsSamePlay machine.old machine.new }
     ensures comes { ComesTo (M.setting machine.old) (M.Takes machine.old) (M.Wants (M.setting machine.old)) options (world (R.remaining reader.old) (G.coming words.old) (told S.kept S.failures store.old)) (M.state machine.old) (M.state machine.new) (G.coming words.new) (told S.kept S.failures store.new) (W.contents writer.old) (W.contents writer.new) result }
-    ensures reads { Blames PlayError.Read result (R.failures reader.old) (R.failures reader.new) }
-    ensures writes { Blames PlayError.Write result (W.failures writer.old) (W.failures writer.new) }
-    ensures flushed { IsErrOf result PlayError.Read → W.waits writer.new ≡ false }
+    ensures reads { Blames (IsErrOf result PlayError.Read) (R.failures reader.old) (R.failures reader.new) }
+    ensures writes { BlamesWriter W.failures W.waits writer.old writer.new (IsErrOf result PlayError.Write) (IsErrOf result PlayError.Read) }
 {
     let mut items = Items::new(alloc);
     let mut lines = Lines::new();
@@ -137,17 +133,15 @@ fn supply<M: Machine, R: Source, W: Sink, S: SaveStore, G: Words>(
     store: &mut S,
     words: &mut G,
 ) -> Result<bool, PlayError>
-    requires ended { lines.old.ended ≡ true → IsAtEnd (R.remaining reader.old) }
-    ensures ended { lines.new.ended ≡ true → IsAtEnd (R.remaining reader.new) }
+    requires ended { KnowsEnd lines.old (R.remaining reader.old) }
     ensures play { M.IsSamePlay machine.old machine.new }
     ensures supplied { IfOk result (λ some. Supplies (M.setting machine.old) (M.Takes machine.old) (M.state machine.old) (world (unused lines.old (R.remaining reader.old)) (G.coming words.old) (told S.kept S.failures store.old)) some (M.state machine.new) (world (unused lines.new (R.remaining reader.new)) (G.coming words.new) (told S.kept S.failures store.new))) }
     ensures same { OnErr result ((M.state machine.new ≡ M.state machine.old) × (G.coming words.new ≡ G.coming words.old) × (told S.kept S.failures store.new ≡ told S.kept S.failures store.old)) }
     ensures kept { Keeps (W.contents writer.old) (W.contents writer.new) }
     ensures at_line { IsErrOf result PlayError.Read → awaited (M.setting machine.old) (M.state machine.old) ≡ Some Need.Line }
     ensures wanted { IsErrOf result PlayError.OutOfMemory → M.Wants (M.setting machine.old) (M.state machine.old) }
-    ensures reads { Blames PlayError.Read result (R.failures reader.old) (R.failures reader.new) }
-    ensures writes { Blames PlayError.Write result (W.failures writer.old) (W.failures writer.new) }
-    ensures flushed { IsErrOf result PlayError.Read → W.waits writer.new ≡ false }
+    ensures reads { BlamesReader R.remaining R.failures reader.old reader.new lines.new (IsErrOf result PlayError.Read) }
+    ensures writes { BlamesWriter W.failures W.waits writer.old writer.new (IsErrOf result PlayError.Write) (IsErrOf result PlayError.Read) }
 {
     let Some(need) = machine.awaits() else {
         return Ok(false);
@@ -178,16 +172,14 @@ fn ask<M: Machine, R: Source, W: Sink, S: SaveStore, G: Words>(
 ) -> Result<Option<Event>, PlayError>
     requires awaits { awaited (M.setting machine.now) (M.state machine.now) ≡ Some need }
     requires event { need ≢ Need.Restore }
-    requires ended { lines.old.ended ≡ true → IsAtEnd (R.remaining reader.old) }
-    ensures ended { lines.new.ended ≡ true → IsAtEnd (R.remaining reader.new) }
+    requires ended { KnowsEnd lines.old (R.remaining reader.old) }
     ensures asked { IfOk result (λ event. Asks (M.setting machine.now) (M.Takes machine.now) (M.state machine.now) need (world (unused lines.old (R.remaining reader.old)) (G.coming words.old) (told S.kept S.failures store.old)) event (world (unused lines.new (R.remaining reader.new)) (G.coming words.new) (told S.kept S.failures store.new))) }
     ensures same { OnErr result ((G.coming words.new ≡ G.coming words.old) × (store.new ≡ store.old)) }
     ensures kept { Keeps (W.contents writer.old) (W.contents writer.new) }
     ensures at_line { IsErrOf result PlayError.Read → need ≡ Need.Line }
     ensures wanted { IsErrOf result PlayError.OutOfMemory → M.Wants (M.setting machine.now) (M.state machine.now) }
-    ensures reads { Blames PlayError.Read result (R.failures reader.old) (R.failures reader.new) }
-    ensures writes { Blames PlayError.Write result (W.failures writer.old) (W.failures writer.new) }
-    ensures flushed { IsErrOf result PlayError.Read → W.waits writer.new ≡ false }
+    ensures reads { BlamesReader R.remaining R.failures reader.old reader.new lines.new (IsErrOf result PlayError.Read) }
+    ensures writes { BlamesWriter W.failures W.waits writer.old writer.new (IsErrOf result PlayError.Write) (IsErrOf result PlayError.Read) }
 {
     match need {
         Need::Line => {
@@ -208,12 +200,10 @@ fn hear<R: Source, W: Sink>(
     _writer: &W,
 ) -> Result<Option<Line>, PlayError>
     requires flushed { W.waits _writer.now ≡ false }
-    requires ended { lines.old.ended ≡ true → IsAtEnd (R.remaining reader.old) }
-    ensures ended { lines.new.ended ≡ true → IsAtEnd (R.remaining reader.new) }
+    requires ended { KnowsEnd lines.old (R.remaining reader.old) }
     ensures heard { IfOk result (λ line. Hears (unused lines.old (R.remaining reader.old)) line (unused lines.new (R.remaining reader.new))) }
-    ensures reads { Blames PlayError.Read result (R.failures reader.old) (R.failures reader.new) }
-    ensures no_write { ¬ IsErrOf result PlayError.Write }
-    ensures no_memory { ¬ IsErrOf result PlayError.OutOfMemory }
+    ensures reads { BlamesReader R.remaining R.failures reader.old reader.new lines.new (IsErrOf result PlayError.Read) }
+    ensures only { IfErr result (λ error. error ≡ PlayError.Read) }
 {
     lines.next_line(reader)
 }

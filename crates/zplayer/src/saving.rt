@@ -5,9 +5,8 @@ ghost use Rattle.zquetzal.specs.Grammar.{save_text};
 ghost use Rattle.zquetzal.specs.Saved.{origin_of};
 ghost use Rattle.zstate.specs.Run.{awaited};
 ghost use Rattle.zstate.specs.Saves.{saved_of};
-ghost use Rattle.zplayer.specs.Outside.{CountsRefusal};
 ghost use Rattle.zplayer.specs.Playing.{Restores};
-ghost use Rattle.zplayer.specs.World.{HasNone, Puts, TakesUp, told};
+ghost use Rattle.zplayer.specs.World.{HasNone, Stores, TakesUp, told};
 
 use crate::end::PlayError;
 use crate::machine::Machine;
@@ -22,7 +21,7 @@ pub(crate) fn save<M: Machine, S: SaveStore>(
     store: &mut S,
 ) -> Result<bool, PlayError>
     requires { awaited (M.setting machine.now) (M.state machine.now) ≡ Some Need.Saved }
-    ensures put { IfOk result (λ done. Puts (S.kept store.old) (save_text (origin_of (M.setting machine.now).story) (saved_of (M.setting machine.now).story (M.state machine.now))) done (S.kept store.new) × CountsRefusal (S.failures store.old) (S.failures store.new) done) }
+    ensures put { IfOk result (λ done. Stores (told S.kept S.failures store.old) (save_text (origin_of (M.setting machine.now).story) (saved_of (M.setting machine.now).story (M.state machine.now))) done (told S.kept S.failures store.new)) }
     ensures same { OnErr result (store.new ≡ store.old) }
     ensures wanted { IfErr result (λ error. (error ≡ PlayError.OutOfMemory) × M.Wants (M.setting machine.now) (M.state machine.now)) }
 {

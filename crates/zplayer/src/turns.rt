@@ -29,7 +29,7 @@ pub(crate) fn turn<M: Machine, W: Sink>(
     ensures stands { IfOk result (λ still. IfSome still (λ stop. Stands (M.setting machine.old) stop (M.state machine.new) × (stop ≡ Stop.Paused Pause.Budget → left.new ≡ 0))) }
     ensures fewer { result ≡ Ok None → left.new < left.old }
     ensures ok { OnOk result (Writes (M.setting machine.old) status left.old left.new (M.state machine.old) (M.state machine.new) (W.contents writer.old) (W.contents writer.new)) }
-    ensures blamed { Blames PlayError.Write result (W.failures writer.old) (W.failures writer.new) }
+    ensures blamed { Blames (IsErrOf result PlayError.Write) (W.failures writer.old) (W.failures writer.new) }
     ensures no_read { ¬ IsErrOf result PlayError.Read }
     ensures finished { IsErrOf result PlayError.OutOfMemory → Writes (M.setting machine.old) status left.old left.new (M.state machine.old) (M.state machine.new) (W.contents writer.old) (W.contents writer.new) }
     ensures wanted { IsErrOf result PlayError.OutOfMemory → M.Wants (M.setting machine.old) (M.state machine.new) }

@@ -1,14 +1,20 @@
-use Rattle.std.proofs.Common.{rules}
-use Rattle.zperform.proofs.FindLemmas.{explained, explained_alone}
+use Rattle.std.proofs.Common.{◌≡◌, ◌≢◌, Some, rules}
+use Rattle.zexplain.specs.Texts.{explanation_of}
+use Rattle.zperform.specs.Finding.{ExplainComesTo}
+use Rattle.zperform.specs.declared.outcome.Failure.TheVariants.{File, Read}
+use Rattle.zperform.specs.declared.outcome.Problem.TheVariants.{Failed}
+use Rattle.zperform.specs.declared.outcome.Outcome.{Outcome}
+use Rattle.zperform.specs.declared.outcome.Outcome.TheVariants.{Stopped}
+use Rattle.zperform.proofs.EndLemmas.{ends_so}
 use Rattle.zperform.proofs.finding.explain_code.Goals as goal
 
 pub returns-in-Some-clause-comes : goal.returns-in-Some-clause-comes
 returns-in-Some-clause-comes g c =
-    let said = c.say_text.ensures in
-    explained c.say_text.result said.only c.args.code.now c.in-Some.text.now (g.W.Sink.contents c.args.writer.now) (g.W.Sink.contents c.say_text.new.writer) (search rules) said.written said.begun
+    let is : explanation_of c.args.code.now ≡ Some c.as_bytes.result.now = search rules in
+    ends_so _ _ _ _ _ (λ (o : Outcome). ExplainComesTo c.args.code.now (g.W.Sink.contents c.args.writer.now) (g.W.Sink.contents c.write_done.new.writer) o) c.write_done.ensures.ends (λ written. (_, is, written)) (λ begun. (_, is, begun))
 
 pub returns-in-Some-clause-no_file : goal.returns-in-Some-clause-no_file
-returns-in-Some-clause-no_file g c = (explained_alone c.say_text.result c.say_text.ensures.only).0
+returns-in-Some-clause-no_file g c = ends_so _ _ _ _ _ (λ (o : Outcome). o ≢ Stopped (Failed File)) c.write_done.ensures.ends (λ _ e. cc) (λ _ e. cc)
 
 pub returns-in-Some-clause-no_input : goal.returns-in-Some-clause-no_input
-returns-in-Some-clause-no_input g c = (explained_alone c.say_text.result c.say_text.ensures.only).1
+returns-in-Some-clause-no_input g c = ends_so _ _ _ _ _ (λ (o : Outcome). o ≢ Stopped (Failed Read)) c.write_done.ensures.ends (λ _ e. cc) (λ _ e. cc)

@@ -1,18 +1,19 @@
-use Rattle.zperform.specs.Listing.{IsNoListing}
-use Rattle.zperform.proofs.AcceptLemmas.{handed_on}
-use Rattle.zperform.proofs.ListLemmas.{no_story_listed, unlisted_reads, unlisted_story, unlisted_writes}
+use Rattle.std.proofs.Common.{inl, inr}
+use Rattle.zperform.specs.Listing.{IsNoListing, IsUnlisted}
+use Rattle.zperform.specs.declared.outcome.Failure.TheVariants.{File, Write}
+use Rattle.zperform.specs.declared.outcome.Problem.TheVariants.{Failed}
+use Rattle.zperform.proofs.AcceptLemmas.{for_reason, handed_on, no_reason, read_on}
 use Rattle.zperform.proofs.listing.listing_of.Goals as goal
 
 pub returns-in_err-story-clause-refused : goal.returns-in_err-story-clause-refused
-returns-in_err-story-clause-refused g c =
-    let known = g.F.Files.known c.args.files.now c.args.name.now in
-    handed_on (IsNoListing known) c.from_residual.result _ c.from_residual.ensures (no_story_listed known c.in_err-story.field-0.0 c.in_err-story.ensures.refused)
+returns-in_err-story-clause-refused g c = handed_on (IsNoListing (g.F.Files.known c.args.files.now c.args.name.now)) c.from_residual.result _ c.from_residual.ensures (inl c.in_err-story.ensures.refused)
 
 pub returns-clause-refused : goal.returns-clause-refused
-returns-clause-refused g c = unlisted_story _ c.in_ok-story.story c.in_ok-story.ensures.held c.list_loaded.result c.list_loaded.ensures.refused
+returns-clause-refused g c =
+    for_reason (IsUnlisted c.in_ok-story.story) (IsNoListing (g.F.Files.known c.args.files.now c.args.name.now)) c.list_loaded.result (λ problem why. inr (c.in_ok-story.story, c.in_ok-story.ensures.held, why)) c.list_loaded.ensures.refused
 
-pub returns-clause-unread : goal.returns-clause-unread
-returns-clause-unread g c = λ e. absurd (unlisted_reads c.in_ok-story.story c.list_loaded.result c.list_loaded.ensures.refused e)
+pub returns-clause-files : goal.returns-clause-files
+returns-clause-files g c = read_on _ _ _ _ _ _ c.in_ok-story.ensures.files (λ e. cc) (no_reason (IsUnlisted c.in_ok-story.story) (Failed File) c.list_loaded.result (λ none. none) c.list_loaded.ensures.refused)
 
 pub returns-clause-unwritten : goal.returns-clause-unwritten
-returns-clause-unwritten g c = unlisted_writes c.in_ok-story.story c.list_loaded.result c.list_loaded.ensures.refused
+returns-clause-unwritten g c = no_reason (IsUnlisted c.in_ok-story.story) (Failed Write) c.list_loaded.result (λ none. none) c.list_loaded.ensures.refused

@@ -1,20 +1,28 @@
-use Rattle.std.proofs.Common.{◌≡◌}
-use Rattle.zperform.specs.declared.outcome.Failure.TheVariants.{Write}
+use Rattle.std.proofs.Common.{◌≡◌, ◌≢◌, inr, refl}
+use Rattle.zperform.specs.Accepting.{CheckComesTo, IsUnaccepted}
+use Rattle.zperform.specs.declared.outcome.Failure.TheVariants.{File, Write}
 use Rattle.zperform.specs.declared.outcome.Problem.TheVariants.{Failed}
-use Rattle.zperform.proofs.SessionLemmas.{said, said_reads, unblamed, unchecked}
+use Rattle.zperform.specs.declared.outcome.Outcome.{Outcome}
+use Rattle.zperform.specs.declared.outcome.Outcome.TheVariants.{Stopped}
+use Rattle.zperform.proofs.AcceptLemmas.{read_on}
+use Rattle.zperform.proofs.EndLemmas.{ends_so, stops}
+use Rattle.zperform.proofs.SessionLemmas.{unblamed}
 use Rattle.zperform.proofs.performing.check_files.Goals as goal
 
 pub returns-in-Err-clause-comes : goal.returns-in-Err-clause-comes
-returns-in-Err-clause-comes g c = unchecked _ _ _ c.in-Err.problem c.in-Err.ensures.refused
+returns-in-Err-clause-comes g c = stops _ (IsUnaccepted _ _) _ c.in-Err.problem (unblamed _ _ c.in-Err.problem c.in-Err.ensures.refused).0 c.in-Err.ensures.refused
 
-pub returns-in-Err-clause-blamed : goal.returns-in-Err-clause-blamed
-returns-in-Err-clause-blamed g c = λ e.
-    absurd ((unblamed _ _ (g.W.Sink.contents c.args.writer.now) c.in-Err.problem c.in-Err.ensures.refused).0 (let is : c.in-Err.problem ≡ Failed Write = cc in is))
+pub returns-in-Err-clause-writer : goal.returns-in-Err-clause-writer
+returns-in-Err-clause-writer g c = record {
+  blamed = ((λ e. absurd ((unblamed _ _ c.in-Err.problem c.in-Err.ensures.refused).0 (let is : c.in-Err.problem ≡ Failed Write = cc in is))), λ other. refl);
+  flushed = λ other. inr refl;
+}
 
 pub returns-clause-comes : goal.returns-clause-comes
 returns-clause-comes g c =
-    let known = c.say_accepted.ensures in
-    said c.say_accepted.result known.only _ _ _ _ _ c.in-Ok.ensures.accepted known.written known.begun
+    let known = g.F.Files.known c.args.files.now in
+    ends_so _ _ _ _ _ (λ (o : Outcome). CheckComesTo (known c.args.story.now) (known c.args.certificate.now) (g.W.Sink.contents c.args.writer.now) (g.W.Sink.contents c.write_done.new.writer) o) c.write_done.ensures.ends
+    (λ written. ((_, c.in-Ok.ensures.accepted), written)) (λ begun. ((_, c.in-Ok.ensures.accepted), begun))
 
-pub returns-clause-unread : goal.returns-clause-unread
-returns-clause-unread g c = λ e. absurd (said_reads c.say_accepted.result c.say_accepted.ensures.only e)
+pub returns-clause-files : goal.returns-clause-files
+returns-clause-files g c = read_on _ _ _ _ _ _ c.in-Ok.ensures.files (λ e. cc) (ends_so _ _ _ _ _ (λ (o : Outcome). o ≢ Stopped (Failed File)) c.write_done.ensures.ends (λ _ e. cc) (λ _ e. cc))

@@ -1,13 +1,12 @@
-use Rattle.std.proofs.Common.{◌≡◌, Err, Some, ap, inl, refl}
+use Rattle.std.proofs.Common.{Some, inl, refl}
 use Rattle.zplayer.specs.Outside.{words_from}
 use Rattle.zplayer.specs.World.{told, world}
 use Rattle.zperform.specs.declared.outcome.Outcome.TheVariants.{Played, Stopped}
 use Rattle.zperform.specs.Accepting.{PlayComesTo}
 use Rattle.zperform.proofs.PlayLemmas.{with_words}
-use Rattle.zplayer.specs.declared.end.PlayError.TheVariants as errors
 use Rattle.zperform.specs.Performing.{given}
 use Rattle.zperform.specs.Report.{problem_of_play}
-use Rattle.zperform.proofs.SessionLemmas.{as_read, as_write, broken, handed_on, played, unopened, was_no_file, was_read, was_write}
+use Rattle.zperform.proofs.SessionLemmas.{broken, handed_on, played, reader_handed_on, unopened, was_no_file, writer_handed_on}
 use Rattle.zperform.proofs.performing.play_accepted_keeping.Goals as goal
 
 pub returns-in_err-end-clause-comes : goal.returns-in_err-end-clause-comes
@@ -21,29 +20,14 @@ returns-in_err-end-clause-comes g c = λ story certificate accepted.
     (with_words (λ w. PlayComesTo story certificate c.args.options w before now (Stopped (problem_of_play error))) input store c.new.result _ c.new.ensures
     (broken story certificate c.args.options (world input (Some (words_from c.new.result)) store) before c.args.accepted.now accepted _ c.in_ok-session.ensures now _ _ _ error c.in_err-end.ensures.comes))
 
-pub returns-in_err-end-clause-quiet : goal.returns-in_err-end-clause-quiet
-returns-in_err-end-clause-quiet g c = λ other.
-    let error = c.in_err-end.field-0.0 in
-    c.in_err-end.ensures.writes.1 (λ w. other (as_write c.from_residual-in_err-end.result error c.from_residual-in_err-end.ensures (let is : error ≡ errors.Write = cc in is)))
-
-pub returns-in_err-end-clause-blamed : goal.returns-in_err-end-clause-blamed
-returns-in_err-end-clause-blamed g c = λ e. c.in_err-end.ensures.writes.0 (ap Err (was_write c.from_residual-in_err-end.result c.in_err-end.field-0.0 c.from_residual-in_err-end.ensures e))
-
-pub returns-in_err-end-clause-flushed : goal.returns-in_err-end-clause-flushed
-returns-in_err-end-clause-flushed g c = λ other.
-    let error = c.in_err-end.field-0.0 in
-    inl (c.in_err-end.ensures.flushed (λ w. other (as_write c.from_residual-in_err-end.result error c.from_residual-in_err-end.ensures (let is : error ≡ errors.Write = cc in is))))
+pub returns-in_err-end-clause-writer : goal.returns-in_err-end-clause-writer
+returns-in_err-end-clause-writer g c = writer_handed_on c.in_err-end.field-0.0 c.from_residual-in_err-end.result c.from_residual-in_err-end.ensures _ _ _ _ c.in_err-end.ensures.writes
 
 pub returns-in_err-end-clause-no_file : goal.returns-in_err-end-clause-no_file
 returns-in_err-end-clause-no_file g c = was_no_file c.from_residual-in_err-end.result c.in_err-end.field-0.0 c.from_residual-in_err-end.ensures
 
-pub returns-in_err-end-clause-unheard : goal.returns-in_err-end-clause-unheard
-returns-in_err-end-clause-unheard g c = λ e. c.in_err-end.ensures.reads.0 (ap Err (was_read c.from_residual-in_err-end.result c.in_err-end.field-0.0 c.from_residual-in_err-end.ensures e))
-
-pub returns-in_err-end-clause-heard : goal.returns-in_err-end-clause-heard
-returns-in_err-end-clause-heard g c = λ other.
-    let error = c.in_err-end.field-0.0 in
-    c.in_err-end.ensures.reads.1 (λ w. other (as_read c.from_residual-in_err-end.result error c.from_residual-in_err-end.ensures (let is : error ≡ errors.Read = cc in is)))
+pub returns-in_err-end-clause-reader : goal.returns-in_err-end-clause-reader
+returns-in_err-end-clause-reader g c = reader_handed_on c.in_err-end.field-0.0 c.from_residual-in_err-end.result c.from_residual-in_err-end.ensures _ _ c.in_err-end.ensures.reads
 
 pub returns-in_err-session-clause-comes : goal.returns-in_err-session-clause-comes
 returns-in_err-session-clause-comes g c = λ story certificate accepted.

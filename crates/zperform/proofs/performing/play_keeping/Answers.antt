@@ -6,6 +6,7 @@ use Rattle.zperform.specs.Playing.{ComesTo}
 use Rattle.zperform.specs.Performing.{given}
 use Rattle.zperform.specs.Report.{problem_of_play}
 use Rattle.zperform.proofs.PlayLemmas.{broken, ended, passed_on, with_words}
+use Rattle.zperform.proofs.SessionLemmas.{writer_handed_on}
 use Rattle.zperform.proofs.performing.play_keeping.Goals as goal
 
 pub returns-in_err-play_checked-clause-comes : goal.returns-in_err-play_checked-clause-comes
@@ -18,6 +19,9 @@ returns-in_err-play_checked-clause-comes g c = λ file holds.
     passed_on (Some file) c.args.options (given input c.args.seed store) before now c.from_residual-in_err-play_checked.result (problem_of_play error) c.from_residual-in_err-play_checked.ensures
     (with_words (λ w. ComesTo (Some file) c.args.options w before now (Stopped (problem_of_play error))) input store c.new-2.result _ c.new-2.ensures
     (broken file c.args.story.now holds c.args.options _ c.in_ok-machine.ensures (world input (Some (words_from c.new-2.result)) store) _ _ _ _ _ error c.in_err-play_checked.ensures.comes))
+
+pub returns-in_err-play_checked-clause-writer : goal.returns-in_err-play_checked-clause-writer
+returns-in_err-play_checked-clause-writer g c = writer_handed_on c.in_err-play_checked.field-0.0 c.from_residual-in_err-play_checked.result c.from_residual-in_err-play_checked.ensures _ _ _ _ c.in_err-play_checked.ensures.writes
 
 pub returns-clause-comes : goal.returns-clause-comes
 returns-clause-comes g c = λ file holds.

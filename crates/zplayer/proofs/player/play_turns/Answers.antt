@@ -36,7 +36,7 @@ turns-preserved-else-not-branch g c =
     record {
       play = g.met.M.Machine.through _ _ _ turned c.in_ok-supply.ensures.play;
       so_far = supplied _ _ g.M.Machine.Wants _ _ _ _ _ _ _ _ _ made _ now _ takes _ _ c.in_ok-supply.ensures.kept _ (rw c.if-not-branch.false at c.in_ok-supply.ensures.supplied);
-      ended = c.in_ok-supply.ensures.ended;
+      ended = c.in_ok-supply.ensures.reads.ended;
       unread = search rules;
       quiet = search rules;
     }

@@ -1,6 +1,5 @@
-use Rattle.std.proofs.Common.{◌≡◌, true}
-use Rattle.std.specs.Io.KnownBytes.{IsAtEnd}
-use Rattle.zplayer.specs.Lines.{unused}
+use Rattle.std.proofs.Common.{◌≡◌}
+use Rattle.zplayer.specs.Lines.{KnowsEnd, unused}
 use Rattle.zplayer.proofs.ReadLemmas.{SoFar}
 use Rattle.zplayer.proofs.lines.Lines.next_line.Given as goal
 
@@ -8,7 +7,7 @@ use Rattle.zplayer.proofs.lines.Lines.next_line.Given as goal
 abbrev pub invariant-bytes : goal.invariant-bytes
 invariant-bytes g l = record {
   so_far : SoFar (unused l.fn.self (g.R.Source.remaining l.fn.reader)) (unused l.self (g.R.Source.remaining l.reader)) l.kept.items l.turns;
-  ended : l.self.ended ≡ true → IsAtEnd (g.R.Source.remaining l.reader);
+  ended : KnowsEnd l.self (g.R.Source.remaining l.reader);
   quiet : g.R.Source.failures l.reader ≡ g.R.Source.failures l.fn.reader;
 }
 

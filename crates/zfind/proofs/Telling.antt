@@ -1,0 +1,59 @@
+-- What stands in the way of certificates, as it is told.
+use Rattle.std.proofs.Common.{◌≡◌, ap, inl, inr, refl, subst, sym, ◌∙◌}
+use Rattle.std.specs.Prelude.{Option, Some, None, Result, Ok, Err, IfOk, IfSome, option_map}
+use Rattle.std.specs.Int.{w32, cast_signed}
+use Rattle.zstory.specs.LoadedStory.{LoadedStory}
+use Rattle.zlist.specs.Listing.{ListedCode}
+use Rattle.zlist.specs.Listed.{Lists}
+use Rattle.zdomain.specs.declared.interval.Interval.{Interval}
+use Rattle.zdomain.specs.Interval.{interval_operations}
+use Rattle.zcert.specs.Certificate.{Certificate, Instruction}
+use Rattle.zcert.specs.Listed.{listed_at}
+use Rattle.zrule.specs.declared.rule.Rule.{Rule}
+use Rattle.zrule.specs.Claims.{claims_of, entry_of}
+use Rattle.zrule.specs.Rules.{IsLowestBroken}
+use Rattle.zfind.specs.declared.error.FindError.{FindError}
+use Rattle.zfind.specs.declared.error.FindError.TheVariants.{NotFound}
+use Rattle.zfind.specs.declared.error.Obstacle.{Obstacle}
+use Rattle.zfind.specs.declared.error.Obstacle.TheVariants as obstacles
+use Rattle.zfind.specs.Attempts.{IsNamed}
+use Rattle.zfind.specs.Finding.{IsFailure, IsLasting, IsMet, IsObstacleOf, IsTold, IsTried}
+
+module _ (story : LoadedStory) where
+  of_failure : (obstacle : Obstacle) → IsFailure story (NotFound obstacle) → IsObstacleOf story obstacle
+  of_failure obstacle (inl fault) = inl fault
+  of_failure obstacle (inr there) = inr (there.0, inl there.1)
+
+  -- what a lister finds at fault is told
+  pub told_at_fault : (error : FindError) → IsFailure story error → (told : Result (Option Obstacle) FindError) → IfOk told (IsNamed error) → IfOk told (IsTold story)
+  told_at_fault error failure (Err other) named = tt
+  told_at_fault error failure (Ok None) named = absurd named
+  told_at_fault error failure (Ok (Some obstacle)) named = of_failure obstacle (subst (IsFailure story) named failure)
+
+  -- and else what a certificate is tried with
+  pub told_where_listed : (listing : ListedCode) → Lists story listing → (told : Result (Option Obstacle) FindError) → IfOk told (λ obstacle. IfSome obstacle (IsMet story)) → IfOk told (IsTold story)
+  told_where_listed listing lists (Err other) met = tt
+  told_where_listed listing lists (Ok None) met = record { listing = listing; lists = lists }
+  told_where_listed listing lists (Ok (Some obstacle)) met = inr (record { listing = listing; lists = lists }, met)
+
+  same_obstacle : (one other : Obstacle) → NotFound one ≡ NotFound other → one ≡ other
+  same_obstacle one other e = cc
+
+  -- what the checker says first of one that was tried
+  pub met_where_tried : (error : FindError) (obstacle : Obstacle) → error ≡ NotFound obstacle → IsTried story obstacle → (told : Result (Option Obstacle) FindError) → IfOk told (IsNamed error) → IfOk told (λ other. IfSome other (IsMet story))
+  met_where_tried error obstacle is tried (Err other) named = tt
+  met_where_tried error obstacle is tried (Ok None) named = tt
+  met_where_tried error obstacle is tried (Ok (Some other)) named = inl (subst (IsTried story) (same_obstacle obstacle other (sym is ∙ named)) tried)
+
+  -- or a rule that is broken where it lists an instruction
+  pub met_where_broken : (c : Certificate Interval) (i : Instruction Interval) (rule : Rule) → listed_at c.instructions i.address ≡ Some i → IsLowestBroken interval_operations (claims_of interval_operations c) story i.address (entry_of i) rule → IsLasting rule → IsMet story (obstacles.Place (cast_signed w32 i.address) rule)
+  met_where_broken c i rule listed lowest lasting = inr (record {
+    certificate = c;
+    place = i.address;
+    entry = entry_of i;
+    rule = rule;
+    listed = ap (option_map entry_of) listed;
+    lowest = lowest;
+    lasting = lasting;
+    told = refl;
+  })
