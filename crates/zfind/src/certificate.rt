@@ -5,19 +5,17 @@ ghost use Rattle.zfind.specs.declared.error.FindError.TheVariants.{OutOfMemory};
 
 use crate::code::Code;
 use crate::error::FindError;
-use crate::set::Set;
 use crate::walk::Walk;
 use std::alloc::Global;
-use zcert::{CertBuilder, CertError, Certificate, Field};
-use zdomain::Domain;
+use zcert::{CertBuilder, CertError, Certificate, Field, Spelled};
 use zlist::Record;
 
 /// The certificate that says what a walk found.
-pub(crate) fn certificate_of(
+pub(crate) fn certificate_of<V: Spelled>(
     alloc: Global,
     code: &Code<'_>,
-    walk: &mut Walk<'_>,
-) -> Result<Certificate<Set>, FindError>
+    walk: &mut Walk<'_, V>,
+) -> Result<Certificate<V>, FindError>
     ensures { IfErr result (λ error. error ≡ OutOfMemory) }
 {
     let mut builder = CertBuilder::new(alloc);
@@ -30,7 +28,10 @@ pub(crate) fn certificate_of(
 }
 
 /// The story that it speaks of.
-fn take_identity(builder: &mut CertBuilder<Set>, code: &Code<'_>) -> Result<(), CertError> {
+fn take_identity<V: Spelled>(
+    builder: &mut CertBuilder<V>,
+    code: &Code<'_>,
+) -> Result<(), CertError> {
     let identity = code.story.identity();
     builder.take(Field::Release(identity.release))?;
     builder.take(Field::Serial(identity.serial))?;
@@ -39,10 +40,10 @@ fn take_identity(builder: &mut CertBuilder<Set>, code: &Code<'_>) -> Result<(), 
 }
 
 /// The ranges of frozen bytes.
-fn take_ranges(
+fn take_ranges<V: Spelled>(
     alloc: Global,
-    builder: &mut CertBuilder<Set>,
-    walk: &mut Walk<'_>,
+    builder: &mut CertBuilder<V>,
+    walk: &mut Walk<'_, V>,
 ) -> Result<(), CertError> {
     let ranges = walk.bytes.ranges(alloc)?;
     builder.take(Field::RangeCount(ranges.len().min(0xffff) as u16))?;
@@ -54,7 +55,10 @@ fn take_ranges(
 }
 
 /// The values of the globals.
-fn take_globals(builder: &mut CertBuilder<Set>, walk: &Walk<'_>) -> Result<(), CertError> {
+fn take_globals<V: Spelled>(
+    builder: &mut CertBuilder<V>,
+    walk: &Walk<'_, V>,
+) -> Result<(), CertError> {
     for set in walk.state.globals() {
         builder.take(Field::Global(*set))?;
     }
@@ -62,11 +66,11 @@ fn take_globals(builder: &mut CertBuilder<Set>, walk: &Walk<'_>) -> Result<(), C
 }
 
 /// The routines that were entered. Answers the number of each among them.
-fn take_routines(
+fn take_routines<V: Spelled>(
     alloc: Global,
-    builder: &mut CertBuilder<Set>,
+    builder: &mut CertBuilder<V>,
     code: &Code<'_>,
-    walk: &Walk<'_>,
+    walk: &Walk<'_, V>,
 ) -> Result<Vec<u16>, CertError> {
     let numbers = entered_numbers(alloc, code, walk)?;
     let last = numbers.as_slice().last().copied().unwrap_or(0);
@@ -81,7 +85,11 @@ fn take_routines(
 }
 
 /// How many routines were entered up to each, by their numbers in the listing.
-fn entered_numbers(alloc: Global, code: &Code<'_>, walk: &Walk<'_>) -> Result<Vec<u16>, CertError> {
+fn entered_numbers<V: Spelled>(
+    alloc: Global,
+    code: &Code<'_>,
+    walk: &Walk<'_, V>,
+) -> Result<Vec<u16>, CertError> {
     let mut numbers = vec![in alloc; 0]?;
     let mut count = 0u16;
     for below in 0..code.routines().len().min(0xffff) {
@@ -94,16 +102,16 @@ fn entered_numbers(alloc: Global, code: &Code<'_>, walk: &Walk<'_>) -> Result<Ve
 }
 
 /// What is said of a routine. One that gives nothing is said to give 0.
-fn take_routine(
-    builder: &mut CertBuilder<Set>,
+fn take_routine<V: Spelled>(
+    builder: &mut CertBuilder<V>,
     code: &Code<'_>,
-    walk: &Walk<'_>,
+    walk: &Walk<'_, V>,
     number: u16,
     address: u32,
 ) -> Result<(), CertError> {
     let result = match walk.state.result(number) {
         Some(set) => set,
-        None => Set::single(0),
+        None => V::single(0),
     };
     builder.take(Field::RoutineAddress(address))?;
     builder.take(Field::LocalCount(code.local_count(number)))?;
@@ -111,10 +119,10 @@ fn take_routine(
 }
 
 /// The instructions that were reached.
-fn take_instructions(
-    builder: &mut CertBuilder<Set>,
+fn take_instructions<V: Spelled>(
+    builder: &mut CertBuilder<V>,
     code: &Code<'_>,
-    walk: &Walk<'_>,
+    walk: &Walk<'_, V>,
     numbers: &[u16],
 ) -> Result<(), CertError> {
     builder.take(Field::InstructionCount(reached_count(code, walk)))?;
@@ -127,7 +135,7 @@ fn take_instructions(
 }
 
 /// How many were reached.
-fn reached_count(code: &Code<'_>, walk: &Walk<'_>) -> u32 {
+fn reached_count<V: Spelled>(code: &Code<'_>, walk: &Walk<'_, V>) -> u32 {
     let mut count = 0u32;
     for index in 0..code.records().len() {
         if walk.state.is_reached(index) {
@@ -138,9 +146,9 @@ fn reached_count(code: &Code<'_>, walk: &Walk<'_>) -> u32 {
 }
 
 /// What is said of an instruction.
-fn take_instruction(
-    builder: &mut CertBuilder<Set>,
-    walk: &Walk<'_>,
+fn take_instruction<V: Spelled>(
+    builder: &mut CertBuilder<V>,
+    walk: &Walk<'_, V>,
     index: usize,
     record: &Record,
     numbers: &[u16],
@@ -160,7 +168,7 @@ fn take_instruction(
 }
 
 /// The values of locals or slots.
-fn take_values(builder: &mut CertBuilder<Set>, sets: &[Set]) -> Result<(), CertError> {
+fn take_values<V: Spelled>(builder: &mut CertBuilder<V>, sets: &[V]) -> Result<(), CertError> {
     for set in sets {
         builder.take(Field::Value(*set))?;
     }

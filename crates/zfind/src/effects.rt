@@ -2,7 +2,6 @@
 
 use crate::code::Code;
 use crate::frame::{Frame, MOST_HEIGHT};
-use crate::set::Set;
 use crate::state::State;
 use std::alloc::{AllocError, Global};
 use zdomain::Domain;
@@ -15,38 +14,38 @@ pub(crate) const MOST_CALLEES: usize = 1024;
 
 /// What an instruction does, by its edges that can be taken.
 #[derive(Drop)]
-pub(crate) struct Effects {
-    pub(crate) held: Option<Effect>,
-    pub(crate) failed: Option<Effect>,
+pub(crate) struct Effects<V> {
+    pub(crate) held: Option<Effect<V>>,
+    pub(crate) failed: Option<Effect<V>>,
 }
 
 /// What comes on an edge.
 #[derive(Drop)]
-pub(crate) struct Effect {
+pub(crate) struct Effect<V> {
     /// Where it leads in its routine, by the index of the instruction there, with what is known of the frame.
     pub(crate) to: Option<usize>,
-    pub(crate) frame: Frame,
+    pub(crate) frame: Frame<V>,
     /// What goes to globals, by their variables: the result, and what is stored in place.
-    pub(crate) given: Option<(u8, Set)>,
-    pub(crate) assigned: Option<(u8, Set)>,
+    pub(crate) given: Option<(u8, V)>,
+    pub(crate) assigned: Option<(u8, V)>,
     /// What is returned.
-    pub(crate) returned: Option<Set>,
+    pub(crate) returned: Option<V>,
     /// The routines that are called, with their arguments.
-    pub(crate) calls: Option<Calls>,
+    pub(crate) calls: Option<Calls<V>>,
 }
 
 /// A call of each routine at a packed address of a set, with its arguments.
 #[derive(Clone, Copy)]
-pub(crate) struct Calls {
-    pub(crate) callees: Set,
-    first: Option<Set>,
-    second: Option<Set>,
-    third: Option<Set>,
+pub(crate) struct Calls<V> {
+    pub(crate) callees: V,
+    first: Option<V>,
+    second: Option<V>,
+    third: Option<V>,
 }
 
-impl Calls {
+impl<V: Domain> Calls<V> {
     /// An argument, by its index, if there is one.
-    pub(crate) fn argument(&self, index: u8) -> Option<Set> {
+    pub(crate) fn argument(&self, index: u8) -> Option<V> {
         match index {
             0 => self.first,
             1 => self.second,
@@ -58,18 +57,18 @@ impl Calls {
 
 /// An instruction, with what is known where it is visited.
 #[derive(Clone, Copy)]
-pub(crate) struct Visit<'a> {
+pub(crate) struct Visit<'a, V> {
     pub(crate) alloc: Global,
     pub(crate) code: &'a Code<'a>,
-    pub(crate) state: &'a State,
+    pub(crate) state: &'a State<V>,
     pub(crate) record: &'a Record,
-    pub(crate) locals: &'a [Set],
-    pub(crate) slots: &'a [Set],
+    pub(crate) locals: &'a [V],
+    pub(crate) slots: &'a [V],
 }
 
-impl<'a> Visit<'a> {
+impl<'a, V: Domain> Visit<'a, V> {
     /// What may come of the instruction.
-    pub(crate) fn flow(self, tables: &Tables<'_>) -> Flow<'a, Set> {
+    pub(crate) fn flow(self, tables: &Tables<'_>) -> Flow<'a, V> {
         flow_of(
             tables,
             self.state.globals(),
@@ -80,7 +79,7 @@ impl<'a> Visit<'a> {
     }
 
     /// What the instruction does.
-    pub(crate) fn effects(self, flow: &Flow<'_, Set>) -> Result<Effects, AllocError> {
+    pub(crate) fn effects(self, flow: &Flow<'_, V>) -> Result<Effects<V>, AllocError> {
         let count = self.slots.len().saturating_sub(flow.popped);
         let left = self.slots.get(..count).unwrap_or(&[]);
         Ok(Effects {
@@ -92,9 +91,9 @@ impl<'a> Visit<'a> {
     /// What comes on an edge, if there is one that can be taken, on which the stack isn't too high. These slots aren't taken.
     fn effect_of(
         self,
-        left: &[Set],
-        edge: &Option<Edge<'_, Set>>,
-    ) -> Result<Option<Effect>, AllocError> {
+        left: &[V],
+        edge: &Option<Edge<'_, V>>,
+    ) -> Result<Option<Effect<V>>, AllocError> {
         let Some(edge) = edge else {
             return Ok(None);
         };
@@ -119,7 +118,7 @@ impl<'a> Visit<'a> {
     }
 
     /// Says where it leads.
-    fn lead(self, effect: &mut Effect, lead: Lead<Set>) -> Result<(), AllocError> {
+    fn lead(self, effect: &mut Effect<V>, lead: Lead<V>) -> Result<(), AllocError> {
         match lead {
             Lead::Ahead(distance) => {
                 effect.to = self.code.index_behind(self.next(), distance);
@@ -134,7 +133,7 @@ impl<'a> Visit<'a> {
     }
 
     /// Says what is called, and what comes back as far as is known.
-    fn call(self, effect: &mut Effect, callees: Set) -> Result<(), AllocError> {
+    fn call(self, effect: &mut Effect<V>, callees: V) -> Result<(), AllocError> {
         effect.calls = Some(Calls {
             callees,
             first: self.argument(0),
@@ -160,7 +159,7 @@ impl<'a> Visit<'a> {
     }
 
     /// An operand behind the first, by its place among those.
-    pub(crate) fn argument(self, index: usize) -> Option<Set> {
+    pub(crate) fn argument(self, index: usize) -> Option<V> {
         argument_set(
             self.state.globals(),
             self.locals,
@@ -172,7 +171,7 @@ impl<'a> Visit<'a> {
 }
 
 /// What is stored in place, if that is to a global.
-fn assigned_global(assigns: Option<(u8, Set)>) -> Option<(u8, Set)> {
+fn assigned_global<V: Domain>(assigns: Option<(u8, V)>) -> Option<(u8, V)> {
     match assigns {
         Some((variable, set)) => global_given(variable, Some(set)),
         None => None,
@@ -180,7 +179,7 @@ fn assigned_global(assigns: Option<(u8, Set)>) -> Option<(u8, Set)> {
 }
 
 /// What goes to a variable, if that is a global.
-fn global_given(variable: u8, set: Option<Set>) -> Option<(u8, Set)> {
+fn global_given<V: Domain>(variable: u8, set: Option<V>) -> Option<(u8, V)> {
     match set {
         Some(set) if variable >= 16 => Some((variable, set)),
         _ => None,
@@ -188,7 +187,7 @@ fn global_given(variable: u8, set: Option<Set>) -> Option<(u8, Set)> {
 }
 
 /// What the routines at the packed addresses of a set give, as far as is known: anything, where one of them isn't listed.
-fn given_by(code: &Code<'_>, state: &State, callees: Set) -> Option<Set> {
+fn given_by<V: Domain>(code: &Code<'_>, state: &State<V>, callees: V) -> Option<V> {
     let mut given = None;
     let mut callee = callees.least_from(1);
     for _ in 0..MOST_CALLEES {
@@ -196,21 +195,21 @@ fn given_by(code: &Code<'_>, state: &State, callees: Set) -> Option<Set> {
             return given;
         };
         let Some(number) = code.routine_of(packed) else {
-            return Some(Set::any());
+            return Some(V::any());
         };
         given = joined(given, state.result(number));
         callee = next_callee(callees, packed);
     }
-    Some(Set::any())
+    Some(V::any())
 }
 
 /// The next word of a set behind one.
-pub(crate) fn next_callee(callees: Set, packed: u16) -> Option<u16> {
+pub(crate) fn next_callee<V: Domain>(callees: V, packed: u16) -> Option<u16> {
     callees.least_from(packed.checked_add(1)?)
 }
 
 /// The words of either, where there are some.
-fn joined(one: Option<Set>, other: Option<Set>) -> Option<Set> {
+fn joined<V: Domain>(one: Option<V>, other: Option<V>) -> Option<V> {
     match (one, other) {
         (Some(one), Some(other)) => Some(one.join(other)),
         (Some(set), None) | (None, Some(set)) => Some(set),

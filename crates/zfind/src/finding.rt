@@ -19,6 +19,7 @@ use crate::walk::Walk;
 use std::alloc::Global;
 use zcert::Certificate;
 use zcheck::examine;
+use zdomain::Interval;
 use zlist::{Listing, list_story};
 use zstory::Story;
 
@@ -43,7 +44,7 @@ enum Attempt {
     /// Its certificate passes.
     Passed(Certificate),
     /// It doesn't, and this is how the next one goes.
-    Failed(Plan),
+    Failed(Plan<Interval>),
 }
 
 /// A certificate that passes for a story, if one is found (own).
@@ -134,7 +135,7 @@ fn make_attempt(
     alloc: Global,
     story: &Story,
     code: &Code<'_>,
-    plan: Plan,
+    plan: Plan<Interval>,
     left: &mut u32,
 ) -> Result<Attempt, FindError>
     ensures passes { IfOk result (IsAttempt story.now) }

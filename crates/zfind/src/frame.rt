@@ -1,6 +1,5 @@
 //! What is known of a frame.
 
-use crate::set::Set;
 use std::alloc::{AllocError, Global};
 use zdomain::Domain;
 use zflow::Outcome;
@@ -10,14 +9,14 @@ pub(crate) const MOST_HEIGHT: usize = 64;
 
 /// The sets of a frame's locals, and behind them of its slots, the top last.
 #[derive(Drop)]
-pub(crate) struct Frame {
+pub(crate) struct Frame<V> {
     locals: usize,
-    sets: Vec<Set>,
+    sets: Vec<V>,
 }
 
-impl Frame {
+impl<V: Domain> Frame<V> {
     /// One of no local and no slot.
-    pub(crate) fn empty(alloc: Global) -> Frame {
+    pub(crate) fn empty(alloc: Global) -> Frame<V> {
         Frame {
             locals: 0,
             sets: Vec::new(alloc),
@@ -28,11 +27,11 @@ impl Frame {
     /// a branch says leaves a local no value.
     pub(crate) fn behind(
         alloc: Global,
-        locals: &[Set],
-        slots: &[Set],
-        outcome: &Outcome<Set>,
+        locals: &[V],
+        slots: &[V],
+        outcome: &Outcome<V>,
         target: u8,
-    ) -> Result<Option<Frame>, AllocError> {
+    ) -> Result<Option<Frame<V>>, AllocError> {
         let mut frame = Frame {
             locals: locals.len(),
             sets: Vec::from_slice(alloc, locals)?,
@@ -52,7 +51,7 @@ impl Frame {
     }
 
     /// Gives a variable a value of a set in place, if that is the top slot or one of the locals.
-    fn replace(&mut self, variable: u8, set: Set) {
+    fn replace(&mut self, variable: u8, set: V) {
         if variable > 0 {
             self.give_local(variable, set);
             return;
@@ -64,7 +63,7 @@ impl Frame {
     }
 
     /// Leaves a local the values that a branch says that it has, if it says that of one. Whether there are any.
-    fn keeps(&mut self, kept: Option<(u8, Set)>) -> bool {
+    fn keeps(&mut self, kept: Option<(u8, V)>) -> bool {
         let Some((variable, set)) = kept else {
             return true;
         };
@@ -82,7 +81,7 @@ impl Frame {
     }
 
     /// Puts a set behind those that are there: of a local, as long as there is no slot, or of a new top slot.
-    pub(crate) fn push(&mut self, set: Set) -> Result<(), AllocError> {
+    pub(crate) fn push(&mut self, set: V) -> Result<(), AllocError> {
         self.sets.push(set)?;
         Ok(())
     }
@@ -93,7 +92,7 @@ impl Frame {
     }
 
     /// Gives a value of a set to a variable, if that is the stack or one of the locals.
-    pub(crate) fn give(&mut self, variable: u8, set: Set) -> Result<(), AllocError> {
+    pub(crate) fn give(&mut self, variable: u8, set: V) -> Result<(), AllocError> {
         if variable == 0 {
             self.push(set)?;
         } else {
@@ -103,7 +102,7 @@ impl Frame {
     }
 
     /// Gives a value of a set to a variable, if that is one of the locals.
-    fn give_local(&mut self, variable: u8, set: Set) {
+    fn give_local(&mut self, variable: u8, set: V) {
         let index = usize::from(variable.saturating_sub(1));
         if index < self.locals {
             self.put(index, set);
@@ -111,14 +110,14 @@ impl Frame {
     }
 
     /// Puts a set in the place of another.
-    fn put(&mut self, index: usize, set: Set) {
+    fn put(&mut self, index: usize, set: V) {
         if let Some(there) = self.sets.get_mut(index) {
             *there = set;
         }
     }
 
     /// The sets of the locals.
-    fn locals(&self) -> &[Set] {
+    fn locals(&self) -> &[V] {
         self.sets.as_slice().get(..self.locals).unwrap_or(&[])
     }
 
@@ -133,7 +132,7 @@ impl Frame {
     }
 
     /// The sets of the locals, and behind them those of the slots.
-    pub(crate) fn sets(&self) -> &[Set] {
+    pub(crate) fn sets(&self) -> &[V] {
         &self.sets
     }
 }

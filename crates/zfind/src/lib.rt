@@ -17,7 +17,6 @@ mod obstacles;
 mod openings;
 mod queue;
 mod recursion;
-mod set;
 mod settling;
 mod state;
 mod thresholds;

@@ -4,7 +4,6 @@ use crate::bytes::Span;
 use crate::code::Code;
 use crate::effects::{Effects, Visit};
 use crate::openings::reach_of;
-use crate::set::Set;
 use crate::state::State;
 use std::alloc::{AllocError, Global};
 use zcode::{Operand, Operation};
@@ -15,24 +14,24 @@ use zruns::Tables;
 
 /// What is seen of an instruction.
 #[derive(Drop)]
-pub(crate) struct Seen {
-    pub(crate) effects: Effects,
+pub(crate) struct Seen<V> {
+    pub(crate) effects: Effects<V>,
     /// Words that it compares with.
     pub(crate) learned: [Option<u16>; 2],
     /// Where it looks for values.
     pub(crate) reach: Option<Span>,
-    pub(crate) demands: Demands<Set>,
+    pub(crate) demands: Demands<V>,
 }
 
 /// What is seen of an instruction of an index, where that was reached.
-pub(crate) fn look(
+pub(crate) fn look<V: Domain>(
     alloc: Global,
     code: &Code<'_>,
     tables: &Tables<'_>,
-    state: &State,
+    state: &State<V>,
     record: &Record,
     index: usize,
-) -> Result<Option<Seen>, AllocError> {
+) -> Result<Option<Seen<V>>, AllocError> {
     let Some((locals, slots)) = state.sets_at(index) else {
         return Ok(None);
     };
@@ -54,7 +53,7 @@ pub(crate) fn look(
 }
 
 /// The words that an instruction compares with what else it compares, where they are known of variables.
-fn learned_at(visit: Visit<'_>) -> [Option<u16>; 2] {
+fn learned_at<V: Domain>(visit: Visit<'_, V>) -> [Option<u16>; 2] {
     let instruction = &visit.record.instruction;
     let inputs = instruction.inputs();
     let [first, second, ..] = inputs.as_slice() else {
@@ -68,7 +67,7 @@ fn learned_at(visit: Visit<'_>) -> [Option<u16>; 2] {
 }
 
 /// The word that a first operand has, if it is a variable of which one is known.
-fn first_word(visit: Visit<'_>, operand: Operand) -> Option<u16> {
+fn first_word<V: Domain>(visit: Visit<'_, V>, operand: Operand) -> Option<u16> {
     match operand {
         Operand::Constant(_) => None,
         Operand::Variable(_) => first_known(
@@ -81,7 +80,7 @@ fn first_word(visit: Visit<'_>, operand: Operand) -> Option<u16> {
 }
 
 /// The word that a second one has.
-fn second_word(visit: Visit<'_>, operand: Operand) -> Option<u16> {
+fn second_word<V: Domain>(visit: Visit<'_, V>, operand: Operand) -> Option<u16> {
     match operand {
         Operand::Constant(_) => None,
         Operand::Variable(_) => visit.argument(0)?.known(),

@@ -12,6 +12,7 @@ use crate::finding::{listing_of, tried};
 use crate::walk::Walk;
 use std::alloc::Global;
 use zcert::Certificate;
+use zdomain::Interval;
 use zlist::Listing;
 use zrule::{Rule, judge};
 use zruns::Tables;
@@ -100,7 +101,7 @@ fn obstacle_in(error: FindError) -> Result<Option<Obstacle>, FindError>
 fn certain_obstacle(
     story: &Story,
     code: &Code<'_>,
-    walk: &Walk<'_>,
+    walk: &Walk<'_, Interval>,
     certificate: &Certificate,
 ) -> Option<Obstacle>
     ensures { IfSome result (IsMet story.now) }
@@ -128,7 +129,7 @@ fn certain_obstacle(
 }
 
 /// Whether the instruction at an address is to be visited.
-fn is_waiting(code: &Code<'_>, walk: &Walk<'_>, address: u32) -> bool {
+fn is_waiting(code: &Code<'_>, walk: &Walk<'_, Interval>, address: u32) -> bool {
     match code.index_behind(address as usize, 0) {
         Some(index) => walk.is_waiting(index),
         None => true,

@@ -2,7 +2,6 @@
 
 use crate::bytes::{Bytes, Span};
 use crate::code::Code;
-use crate::set::Set;
 use zarray::Width;
 use zdomain::Domain;
 use zflow::{Access, Asked, Buffers, Demands, Elements, Pairs};
@@ -18,7 +17,7 @@ const WORD_LENGTH: usize = 4;
 const NUMBERS: usize = 32;
 
 /// Opens the bytes that an instruction may write.
-pub(crate) fn open_written(code: &Code<'_>, bytes: &mut Bytes, demands: &Demands<Set>) {
+pub(crate) fn open_written<V: Domain>(code: &Code<'_>, bytes: &mut Bytes, demands: &Demands<V>) {
     if let Some(elements) = demands.elements {
         open_elements(bytes, elements);
     }
@@ -31,7 +30,7 @@ pub(crate) fn open_written(code: &Code<'_>, bytes: &mut Bytes, demands: &Demands
 }
 
 /// Opens elements that are written.
-fn open_elements(bytes: &mut Bytes, elements: Elements<Set>) {
+fn open_elements<V: Domain>(bytes: &mut Bytes, elements: Elements<V>) {
     match elements.access {
         Access::Reading => {}
         Access::Writing => {
@@ -58,7 +57,7 @@ fn open_places(bytes: &mut Bytes, first: usize, count: usize) {
 }
 
 /// Opens buffers that are known.
-fn open_buffers(code: &Code<'_>, bytes: &mut Bytes, buffers: Buffers<Set>) {
+fn open_buffers<V: Domain>(code: &Code<'_>, bytes: &mut Bytes, buffers: Buffers<V>) {
     if let Some(text) = buffers.texts.known() {
         let text = usize::from(text);
         open_places(bytes, text + 1, usize::from(code.byte_at(text)));
@@ -71,7 +70,7 @@ fn open_buffers(code: &Code<'_>, bytes: &mut Bytes, buffers: Buffers<Set>) {
 }
 
 /// Opens the data of properties that are given a word.
-fn open_properties(code: &Code<'_>, bytes: &mut Bytes, pairs: Pairs<Set>) {
+fn open_properties<V: Domain>(code: &Code<'_>, bytes: &mut Bytes, pairs: Pairs<V>) {
     match pairs.asked {
         Asked::Answered(_) => {}
         Asked::Filled => open_filled(code, bytes, pairs.objects, pairs.numbers),
@@ -79,7 +78,7 @@ fn open_properties(code: &Code<'_>, bytes: &mut Bytes, pairs: Pairs<Set>) {
 }
 
 /// Opens the data of each property that an object and a number of two sets make.
-fn open_filled(code: &Code<'_>, bytes: &mut Bytes, objects: Set, numbers: Set) {
+fn open_filled<V: Domain>(code: &Code<'_>, bytes: &mut Bytes, objects: V, numbers: V) {
     for below in 0..code.story.objects() {
         if objects.contains(u16::from(below) + 1) {
             open_list(code, bytes, table_of(code.story, below + 1), numbers);
@@ -88,7 +87,7 @@ fn open_filled(code: &Code<'_>, bytes: &mut Bytes, objects: Set, numbers: Set) {
 }
 
 /// Opens the data of those properties in a table that have a number of a set.
-fn open_list(code: &Code<'_>, bytes: &mut Bytes, table: usize, numbers: Set) {
+fn open_list<V: Domain>(code: &Code<'_>, bytes: &mut Bytes, table: usize, numbers: V) {
     let memory = code.story.memory();
     let mut at = list_place(memory, table.min(0xffff));
     for _ in 0..NUMBERS {
@@ -105,7 +104,7 @@ fn open_list(code: &Code<'_>, bytes: &mut Bytes, table: usize, numbers: Set) {
 }
 
 /// Where an instruction may look for values that are known only where bytes stay as they are.
-pub(crate) fn reach_of(code: &Code<'_>, demands: &Demands<Set>) -> Option<Span> {
+pub(crate) fn reach_of<V: Domain>(code: &Code<'_>, demands: &Demands<V>) -> Option<Span> {
     if let Some(elements) = demands.elements {
         return elements_reach(elements);
     }
@@ -116,7 +115,7 @@ pub(crate) fn reach_of(code: &Code<'_>, demands: &Demands<Set>) -> Option<Span> 
 }
 
 /// Where elements are read.
-fn elements_reach(elements: Elements<Set>) -> Option<Span> {
+fn elements_reach<V: Domain>(elements: Elements<V>) -> Option<Span> {
     let run = Run::of(elements.width, elements.arrays, elements.indices);
     let first = usize::from(run.first);
     let last = first.saturating_add(run_length(elements.width, run));

@@ -10,16 +10,17 @@ use crate::state::{Plan, State};
 use crate::visits::count_visit;
 use crate::walk::Walk;
 use std::alloc::{AllocError, Global};
+use zdomain::Domain;
 use zruns::Tables;
 
 /// What each place, global and routine is given by all that leads there, where this is known of each place. Where it is less than that,
 /// a set was widened too far.
-pub(crate) fn settled(
+pub(crate) fn settled<V: Domain>(
     alloc: Global,
     code: &Code<'_>,
-    walk: &mut Walk<'_>,
+    walk: &mut Walk<'_, V>,
     left: &mut u32,
-) -> Result<State, FindError>
+) -> Result<State<V>, FindError>
     ensures fewer { left.new ≤ left.old }
     ensures stopped { IfErr result (IsStopped left.new) }
 {
@@ -36,12 +37,12 @@ pub(crate) fn settled(
 }
 
 /// Does what an instruction does by what is known, to what is found anew.
-fn settle(
+fn settle<V: Domain>(
     alloc: Global,
     code: &Code<'_>,
     tables: &Tables<'_>,
-    state: &State,
-    next: &mut Walk<'_>,
+    state: &State<V>,
+    next: &mut Walk<'_, V>,
     index: usize,
 ) -> Result<(), AllocError> {
     let Some(record) = code.records().get(index) else {

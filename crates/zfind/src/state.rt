@@ -2,7 +2,6 @@
 
 use crate::code::Code;
 use crate::frame::Frame;
-use crate::set::Set;
 use crate::thresholds::Thresholds;
 use std::alloc::{AllocError, Global};
 use zdomain::Domain;
@@ -38,27 +37,27 @@ const NO_GROWTHS: Growths = Growths {
 
 /// A set of a global or of a routine's result.
 #[derive(Clone, Copy)]
-struct Cell {
-    set: Option<Set>,
+struct Cell<V> {
+    set: Option<V>,
     growths: Growths,
 }
 
 /// What is known: the sets of each place that was reached, of each global, and of what each routine gives.
 #[derive(Drop)]
-pub(crate) struct State {
+pub(crate) struct State<V> {
     spots: Vec<Spot>,
-    sets: Vec<Set>,
-    globals: Vec<Set>,
+    sets: Vec<V>,
+    globals: Vec<V>,
     global_growths: Vec<Growths>,
-    results: Vec<Cell>,
+    results: Vec<Cell<V>>,
 }
 
 /// How sets grow.
 #[derive(Drop)]
-pub(crate) struct Plan {
+pub(crate) struct Plan<V> {
     pub(crate) thresholds: Thresholds,
     /// What nothing has to be widened beyond.
-    pub(crate) caps: Option<State>,
+    pub(crate) caps: Option<State<V>>,
     /// How often a thing grows before it is widened.
     pub(crate) delay: u16,
     /// Whether anything is widened.
@@ -77,14 +76,14 @@ impl Growths {
     }
 
     /// Whether a thing is widened that grows now.
-    fn are_enough(self, may_widen: bool, plan: &Plan) -> bool {
+    fn are_enough<V>(self, may_widen: bool, plan: &Plan<V>) -> bool {
         plan.widens && (may_widen && self.widening >= plan.delay || self.all >= MOST_GROWTHS)
     }
 }
 
-impl Plan {
+impl<V: Domain> Plan<V> {
     /// Sets are widened to these thresholds.
-    pub(crate) fn widening(thresholds: Thresholds) -> Plan {
+    pub(crate) fn widening(thresholds: Thresholds) -> Plan<V> {
         Plan {
             thresholds,
             caps: None,
@@ -95,7 +94,7 @@ impl Plan {
     }
 
     /// Nothing is widened.
-    pub(crate) fn joining(alloc: Global) -> Plan {
+    pub(crate) fn joining(alloc: Global) -> Plan<V> {
         Plan {
             thresholds: Thresholds::none(alloc),
             caps: None,
@@ -106,7 +105,7 @@ impl Plan {
     }
 
     /// A set with the words of another, widened or not.
-    fn grown(&self, before: Set, more: Set, widens: bool, cap: Option<Set>) -> Set {
+    fn grown(&self, before: V, more: V, widens: bool, cap: Option<V>) -> V {
         let joined = before.join(more);
         if !widens {
             return joined;
@@ -119,9 +118,9 @@ impl Plan {
     }
 }
 
-impl State {
+impl<V: Domain> State<V> {
     /// Nothing is reached, and each global has the value that is loaded.
-    pub(crate) fn new(alloc: Global, code: &Code<'_>) -> Result<State, AllocError> {
+    pub(crate) fn new(alloc: Global, code: &Code<'_>) -> Result<State<V>, AllocError> {
         let spot = Spot {
             start: 0,
             locals: 0,
@@ -143,12 +142,12 @@ impl State {
     }
 
     /// The sets of the globals.
-    pub(crate) fn globals(&self) -> &[Set] {
+    pub(crate) fn globals(&self) -> &[V] {
         &self.globals
     }
 
     /// What a routine gives, as far as is known, by its number.
-    pub(crate) fn result(&self, number: u16) -> Option<Set> {
+    pub(crate) fn result(&self, number: u16) -> Option<V> {
         let index = usize::from(number).checked_sub(1)?;
         self.results.get(index)?.set
     }
@@ -162,7 +161,7 @@ impl State {
     }
 
     /// The sets of the locals and those of the slots of a place that was reached.
-    pub(crate) fn sets_at(&self, index: usize) -> Option<(&[Set], &[Set])> {
+    pub(crate) fn sets_at(&self, index: usize) -> Option<(&[V], &[V])> {
         let spot = self.reached_spot(index)?;
         let sets = self.sets_of(spot);
         let locals = usize::from(spot.locals).min(sets.len());
@@ -176,14 +175,14 @@ impl State {
     }
 
     /// The sets of a place.
-    fn sets_of(&self, spot: Spot) -> &[Set] {
+    fn sets_of(&self, spot: Spot) -> &[V] {
         let count = usize::from(spot.locals) + usize::from(spot.height);
         let end = spot.start.saturating_add(count);
         self.sets.as_slice().get(spot.start..end).unwrap_or(&[])
     }
 
     /// A set of a place, by its index there.
-    fn set_at(&self, index: usize, offset: usize) -> Option<Set> {
+    fn set_at(&self, index: usize, offset: usize) -> Option<V> {
         let spot = self.reached_spot(index)?;
         self.sets_of(spot).get(offset).copied()
     }
@@ -191,9 +190,9 @@ impl State {
     /// Says of a place what is known on a way to it too, and whether that was news. Nothing is said where the heights differ.
     pub(crate) fn join_place(
         &mut self,
-        plan: &Plan,
+        plan: &Plan<V>,
         index: usize,
-        frame: &Frame,
+        frame: &Frame<V>,
         may_widen: bool,
     ) -> Result<bool, AllocError> {
         let Some(spot) = self.reached_spot(index) else {
@@ -216,7 +215,7 @@ impl State {
     }
 
     /// Says of a place what is known on the first way to it.
-    fn reach(&mut self, index: usize, frame: &Frame) -> Result<(), AllocError> {
+    fn reach(&mut self, index: usize, frame: &Frame<V>) -> Result<(), AllocError> {
         let start = self.sets.len();
         self.sets.extend_from_slice(frame.sets())?;
         if let Some(spot) = self.spots.get_mut(index) {
@@ -239,7 +238,7 @@ impl State {
     }
 
     /// Gives a set the words of another, and says whether any was new.
-    fn raise(&mut self, plan: &Plan, at: usize, more: Set, widens: bool, cap: Option<Set>) -> bool {
+    fn raise(&mut self, plan: &Plan<V>, at: usize, more: V, widens: bool, cap: Option<V>) -> bool {
         let Some(set) = self.sets.get_mut(at) else {
             return false;
         };
@@ -251,7 +250,7 @@ impl State {
     }
 
     /// Gives a global, counted from variable 16, the words of a set, and says whether any was new.
-    pub(crate) fn join_global(&mut self, plan: &Plan, global: usize, more: Set) -> bool {
+    pub(crate) fn join_global(&mut self, plan: &Plan<V>, global: usize, more: V) -> bool {
         let cap = plan.global_cap(global);
         let Some(set) = self.globals.get_mut(global) else {
             return false;
@@ -270,9 +269,9 @@ impl State {
     /// Says that a routine, by its number, may give the words of a set too, and whether any was new.
     pub(crate) fn join_result(
         &mut self,
-        plan: &Plan,
+        plan: &Plan<V>,
         number: u16,
-        more: Set,
+        more: V,
         may_widen: bool,
     ) -> bool {
         let cap = plan.result_cap(number);
@@ -296,20 +295,20 @@ impl State {
     }
 
     /// Whether all that is known of each place here is known there too.
-    pub(crate) fn is_within(&self, other: &State) -> bool {
+    pub(crate) fn is_within(&self, other: &State<V>) -> bool {
         are_within(&self.globals, &other.globals)
             && self.has_results_within(other)
             && self.has_places_within(other)
     }
 
     /// Whether what each routine gives is known there too. Of one that never returns something is said all the same.
-    fn has_results_within(&self, other: &State) -> bool {
+    fn has_results_within(&self, other: &State<V>) -> bool {
         let mut both = self.results.iter().zip(other.results.iter());
         both.all(|(inner, outer)| is_option_within(inner.set, outer.set))
     }
 
     /// Whether what is known of each place is known there too.
-    fn has_places_within(&self, other: &State) -> bool {
+    fn has_places_within(&self, other: &State<V>) -> bool {
         for index in 0..self.spots.len() {
             if !self.has_place_within(other, index) {
                 return false;
@@ -319,7 +318,7 @@ impl State {
     }
 
     /// Whether what is known of a place is known there too.
-    fn has_place_within(&self, other: &State, index: usize) -> bool {
+    fn has_place_within(&self, other: &State<V>, index: usize) -> bool {
         match (self.reached_spot(index), other.reached_spot(index)) {
             (None, _) => true,
             (Some(inner), Some(outer)) => are_within(self.sets_of(inner), other.sets_of(outer)),
@@ -328,9 +327,9 @@ impl State {
     }
 }
 
-impl Plan {
+impl<V: Domain> Plan<V> {
     /// What a set of a place isn't widened beyond.
-    fn cap_at(&self, index: usize, offset: usize) -> Option<Set> {
+    fn cap_at(&self, index: usize, offset: usize) -> Option<V> {
         match &self.caps {
             Some(caps) => caps.set_at(index, offset),
             None => None,
@@ -338,7 +337,7 @@ impl Plan {
     }
 
     /// What a global isn't widened beyond.
-    fn global_cap(&self, global: usize) -> Option<Set> {
+    fn global_cap(&self, global: usize) -> Option<V> {
         match &self.caps {
             Some(caps) => caps.globals.get(global).copied(),
             None => None,
@@ -346,7 +345,7 @@ impl Plan {
     }
 
     /// What a routine's result isn't widened beyond.
-    fn result_cap(&self, number: u16) -> Option<Set> {
+    fn result_cap(&self, number: u16) -> Option<V> {
         match &self.caps {
             Some(caps) => caps.result(number),
             None => None,
@@ -355,26 +354,26 @@ impl Plan {
 }
 
 /// The globals as they are loaded.
-fn loaded_globals(alloc: Global, code: &Code<'_>) -> Result<Vec<Set>, AllocError> {
+fn loaded_globals<V: Domain>(alloc: Global, code: &Code<'_>) -> Result<Vec<V>, AllocError> {
     let mut globals = Vec::with_capacity(alloc, GLOBALS)?;
     for global in 0..GLOBALS {
-        globals.push(Set::single(code.loaded(global)))?;
+        globals.push(V::single(code.loaded(global)))?;
     }
     Ok(globals)
 }
 
 /// Whether a frame has as many locals and slots as a place.
-fn has_shape(spot: Spot, frame: &Frame) -> bool {
+fn has_shape<V: Domain>(spot: Spot, frame: &Frame<V>) -> bool {
     frame.local_count() == usize::from(spot.locals) && frame.height() == usize::from(spot.height)
 }
 
 /// Whether there are as many sets, and each is within its own.
-fn are_within(inner: &[Set], outer: &[Set]) -> bool {
+fn are_within<V: Domain>(inner: &[V], outer: &[V]) -> bool {
     inner.len() == outer.len() && inner.iter().zip(outer.iter()).all(|(a, b)| a.is_within(*b))
 }
 
 /// Whether a set is within another, where there are both.
-fn is_option_within(inner: Option<Set>, outer: Option<Set>) -> bool {
+fn is_option_within<V: Domain>(inner: Option<V>, outer: Option<V>) -> bool {
     match (inner, outer) {
         (Some(inner), Some(outer)) => inner.is_within(outer),
         _ => true,

@@ -1,6 +1,5 @@
 //! Where an end that grows stops first.
 
-use crate::set::Set;
 use std::alloc::{AllocError, Global};
 use zdomain::Domain;
 use zstory::Story;
@@ -74,7 +73,7 @@ impl Thresholds {
     }
 
     /// A set that has all words of a grown one, of which each end that isn't that of the set before goes to the next threshold.
-    pub(crate) fn widened(&self, before: Set, grown: Set) -> Set {
+    pub(crate) fn widened<V: Domain>(&self, before: V, grown: V) -> V {
         let low = grown.lowest().cast_signed();
         let high = grown.highest().cast_signed();
         let least = if low < before.lowest().cast_signed() {
@@ -87,6 +86,6 @@ impl Thresholds {
         } else {
             high
         };
-        Set::between(least.cast_unsigned(), greatest.cast_unsigned())
+        V::between(least.cast_unsigned(), greatest.cast_unsigned())
     }
 }

@@ -12,7 +12,6 @@ use crate::groups::{Groups, index_in};
 use crate::looking::look;
 use crate::openings::open_written;
 use crate::queue::Queue;
-use crate::set::Set;
 use crate::state::{Plan, State};
 use crate::visits::count_visit;
 use std::alloc::{AllocError, Global};
@@ -22,11 +21,11 @@ use zruns::Tables;
 
 /// A walk: what is known so far, and which instructions are to be visited since that grew.
 #[derive(Drop)]
-pub(crate) struct Walk<'a> {
+pub(crate) struct Walk<'a, V> {
     alloc: Global,
     code: &'a Code<'a>,
-    pub(crate) plan: Plan,
-    pub(crate) state: State,
+    pub(crate) plan: Plan<V>,
+    pub(crate) state: State<V>,
     pub(crate) bytes: Bytes,
     queue: Queue,
     /// Where each instruction looked for values that bytes make known which stay as they are.
@@ -41,13 +40,13 @@ pub(crate) struct Walk<'a> {
     visits: Option<Vec<u32>>,
 }
 
-impl<'a> Walk<'a> {
+impl<'a, V: Domain> Walk<'a, V> {
     /// A walk that is at the first instruction.
     pub(crate) fn new(
         alloc: Global,
         code: &'a Code<'a>,
-        plan: Plan,
-    ) -> Result<Walk<'a>, AllocError> {
+        plan: Plan<V>,
+    ) -> Result<Walk<'a, V>, AllocError> {
         let count = code.records().len();
         let mut walk = Walk {
             alloc,
@@ -69,19 +68,19 @@ impl<'a> Walk<'a> {
     }
 
     /// One that widens nothing, where those instructions come first that were visited least.
-    pub(crate) fn fair(alloc: Global, code: &'a Code<'a>) -> Result<Walk<'a>, AllocError> {
+    pub(crate) fn fair(alloc: Global, code: &'a Code<'a>) -> Result<Walk<'a, V>, AllocError> {
         let mut walk = Walk::new(alloc, code, Plan::joining(alloc))?;
         walk.visits = Some(vec![in alloc; 0; code.records().len()]?);
         Ok(walk)
     }
 
     /// What is known.
-    pub(crate) fn into_state(self) -> State {
+    pub(crate) fn into_state(self) -> State<V> {
         self.state
     }
 
     /// How sets grow, with the thresholds that were learned.
-    pub(crate) fn into_plan(self) -> Plan {
+    pub(crate) fn into_plan(self) -> Plan<V> {
         self.plan
     }
 
@@ -137,7 +136,7 @@ impl<'a> Walk<'a> {
     /// Says so of a routine, by its number, if it was entered and never returns.
     fn end_routine(&mut self, number: u16) -> Result<(), AllocError> {
         if self.is_entered(number) && self.state.result(number).is_none() {
-            self.give_back(number, Set::single(0))?;
+            self.give_back(number, V::single(0))?;
         }
         Ok(())
     }
@@ -188,7 +187,7 @@ impl<'a> Walk<'a> {
         &mut self,
         index: usize,
         record: &Record,
-        effects: &Effects,
+        effects: &Effects<V>,
     ) -> Result<(), AllocError> {
         if let Some(effect) = &effects.held {
             self.apply_effect(index, record, effect)?;
@@ -204,7 +203,7 @@ impl<'a> Walk<'a> {
         &mut self,
         index: usize,
         record: &Record,
-        effect: &Effect,
+        effect: &Effect<V>,
     ) -> Result<(), AllocError> {
         self.store(effect.assigned)?;
         self.store(effect.given)?;
@@ -221,7 +220,7 @@ impl<'a> Walk<'a> {
     }
 
     /// Gives a global what is stored to it.
-    fn store(&mut self, given: Option<(u8, Set)>) -> Result<(), AllocError> {
+    fn store(&mut self, given: Option<(u8, V)>) -> Result<(), AllocError> {
         let Some((variable, set)) = given else {
             return Ok(());
         };
@@ -234,7 +233,7 @@ impl<'a> Walk<'a> {
     }
 
     /// Gives the callers of a routine what it returns.
-    fn give_back(&mut self, routine: u16, set: Set) -> Result<(), AllocError> {
+    fn give_back(&mut self, routine: u16, set: V) -> Result<(), AllocError> {
         let may_widen = self.code.is_recursive(routine);
         if self.state.join_result(&self.plan, routine, set, may_widen) {
             self.wake_callers(routine)?;
@@ -244,7 +243,7 @@ impl<'a> Walk<'a> {
     }
 
     /// Enters each routine that is called, up to the first that isn't listed.
-    fn enter_each(&mut self, calls: &Calls) -> Result<(), AllocError> {
+    fn enter_each(&mut self, calls: &Calls<V>) -> Result<(), AllocError> {
         let mut callee = calls.callees.least_from(1);
         for _ in 0..MOST_CALLEES {
             let Some(packed) = callee else {
@@ -260,7 +259,7 @@ impl<'a> Walk<'a> {
     }
 
     /// Enters a routine.
-    fn enter(&mut self, number: u16, calls: &Calls) -> Result<(), AllocError> {
+    fn enter(&mut self, number: u16, calls: &Calls<V>) -> Result<(), AllocError> {
         let Some(entry) = self.code.entry_of(number) else {
             return Ok(());
         };
@@ -269,7 +268,7 @@ impl<'a> Walk<'a> {
         for index in 0..self.code.local_count(number) {
             frame.push(match calls.argument(index) {
                 Some(set) => set,
-                None => Set::single(self.code.initial(number, index)),
+                None => V::single(self.code.initial(number, index)),
             })?;
         }
         frame.end_locals();
@@ -292,7 +291,7 @@ impl<'a> Walk<'a> {
     }
 
     /// Says what is known on a way to a place, which is visited where that is news.
-    fn join(&mut self, to: usize, frame: &Frame, may_widen: bool) -> Result<(), AllocError> {
+    fn join(&mut self, to: usize, frame: &Frame<V>, may_widen: bool) -> Result<(), AllocError> {
         if self.state.join_place(&self.plan, to, frame, may_widen)? {
             self.wake(to)?;
         }

@@ -2,7 +2,7 @@ use Rattle.std.proofs.Common.{◌≤◌}
 use Rattle.zfind.proofs.walk.Walk.grow.Given as goal
 
 abbrev pub invariant-loop-index : goal.invariant-loop-index
-invariant-loop-index l = l.left ≤ l.fn.left
+invariant-loop-index g l = l.left ≤ l.fn.left
 
 abbrev pub decreases-loop-index : goal.decreases-loop-index
-decreases-loop-index l = l.left
+decreases-loop-index g l = l.left
