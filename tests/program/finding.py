@@ -4,7 +4,7 @@ import subprocess
 import tempfile
 
 from program import Answer, side_by_side
-from samples import HELLO, NEW_LINE, NOP, QUIT, changed, story, with_objects
+from samples import HELLO, NEW_LINE, NOP, QUIT, certificate, changed, story, with_objects
 
 HERE = os.path.dirname(os.path.abspath(__file__))
 SAMPLE = story(HELLO + QUIT)
@@ -58,13 +58,17 @@ SINGLE = [
     ("a save, and a restore", story(b"\xb5\xc2\xb6\xc2" + QUIT), b"", Answer(0, b"", b"")),
 ]
 
-# ---- stories for which there is none: name, story, the two lines
+# ---- stories for which none is found: name, story, the two lines
+
+NEVER_THERE = story(b"\x01\x01\x02\xc3" + QUIT + b"\xbe")
 
 NONE = [
     ("a byte that is no opcode", story(b"\xbe"), ("G1 at 00324", "no certificate: I1 at 00324")),
-    ("a jump out of memory", story(b"\x8c\x7f\xff"), ("G1 at 08324", "no certificate: I1 at 08324")),
-    ("a jump below 0", story(b"\x8c\xf0\x00"), ("G1 at -3291", "no certificate: I1 at -3291")),
-    ("a jump by the stack", story(b"\xac\x00"), ("G1 at 00324", "no certificate: I4 at 00324")),
+    ("a jump out of memory", story(b"\x8c\x7f\xff"), ("G1 at 08324", "not found")),
+    ("a jump below 0", story(b"\x8c\xf0\x00"), ("G1 at -3291", "not found")),
+    ("a jump by the stack", story(b"\xac\x00"), ("G1 at 00324", "not found")),
+    # je 1 2 ?329, where no instruction stands; quit. It has a certificate, by hand
+    ("no instruction where play never comes", NEVER_THERE, ("G1 at 00329", "not found")),
     ("a pull of an empty stack", story(b"\xe9\x7f\x10" + QUIT), ("G1 at 00324", "no certificate: I2 at 00324")),
     ("a return of the main code", story(b"\xb0"), ("G1 at 00324", "no certificate: I13 at 00324")),
     ("the parent of object 0", story(b"\x93\x00\x10" + QUIT), ("G1 at 00324", "no certificate: I5 at 00324")),
@@ -102,6 +106,8 @@ def see_none(program, count):
         answer, written = program.found(made)
         count.is_answer(f"{name}, find", answer, Answer(1, b"", f"refused: {code}\n".encode()))
         count.see(written is None, f"{name}, find: a certificate was written")
+    by_hand = {"story": NEVER_THERE, "certificate": certificate(NEVER_THERE, [0x324, 0x328])}
+    count.is_answer("a listing that leaves out where play never comes", program.run(["check", "story", "certificate"], by_hand), Answer(0, b"accepted\n", b""))
     count.is_answer("no story there to find for", program.run(["find", "absent", "certificate"]), Answer(4, b"", b"failed: file\n"))
 
 

@@ -17,23 +17,23 @@ use Rattle.zfind.specs.declared.error.FindError.TheVariants.{NotFound}
 use Rattle.zfind.specs.declared.error.Obstacle.{Obstacle}
 use Rattle.zfind.specs.declared.error.Obstacle.TheVariants as obstacles
 use Rattle.zfind.specs.Attempts.{IsNamed}
-use Rattle.zfind.specs.Finding.{IsFailure, IsLasting, IsMet, IsObstacleOf, IsTold, IsTried}
+use Rattle.zfind.specs.Finding.{IsAtStart, IsFailure, IsLasting, IsMet, IsTold, IsTried}
 
 module _ (story : LoadedStory) where
-  of_failure : (obstacle : Obstacle) → IsFailure story (NotFound obstacle) → IsObstacleOf story obstacle
-  of_failure obstacle (inl fault) = inl fault
-  of_failure obstacle (inr there) = inr (there.0, inl there.1)
+  -- a fault where play begins is told
+  pub told_at_start : (obstacle : Obstacle) → IsFailure story (NotFound obstacle) → IsAtStart story obstacle → IsTold story (Some obstacle)
+  told_at_start obstacle (inl fault) start = inl (fault, start)
+  told_at_start obstacle (inr there) start = inr (there.0, inl there.1)
 
-  -- what a lister finds at fault is told
-  pub told_at_fault : (error : FindError) → IsFailure story error → (told : Result (Option Obstacle) FindError) → IfOk told (IsNamed error) → IfOk told (IsTold story)
-  told_at_fault error failure (Err other) named = tt
-  told_at_fault error failure (Ok None) named = absurd named
-  told_at_fault error failure (Ok (Some obstacle)) named = of_failure obstacle (subst (IsFailure story) named failure)
+  -- and none elsewhere
+  pub untold_elsewhere : (obstacle : Obstacle) → IsFailure story (NotFound obstacle) → (IsAtStart story obstacle → ⊥) → IsTold story None
+  untold_elsewhere obstacle (inl fault) elsewhere = inr (obstacle, fault, elsewhere)
+  untold_elsewhere obstacle (inr there) elsewhere = inl there.0
 
   -- and else what a certificate is tried with
   pub told_where_listed : (listing : ListedCode) → Lists story listing → (told : Result (Option Obstacle) FindError) → IfOk told (λ obstacle. IfSome obstacle (IsMet story)) → IfOk told (IsTold story)
   told_where_listed listing lists (Err other) met = tt
-  told_where_listed listing lists (Ok None) met = record { listing = listing; lists = lists }
+  told_where_listed listing lists (Ok None) met = inl (record { listing = listing; lists = lists })
   told_where_listed listing lists (Ok (Some obstacle)) met = inr (record { listing = listing; lists = lists }, met)
 
   same_obstacle : (one other : Obstacle) → NotFound one ≡ NotFound other → one ≡ other

@@ -1,7 +1,7 @@
 -- What the finder answers (own).
-use Rattle.std.specs.Prelude.{◌≡◌, ◌⊎◌, ⊤, ℕ, Option, Some, None}
+use Rattle.std.specs.Prelude.{◌≡◌, ◌⊎◌, ⊤, pos, ℕ, Option, Some, None}
 use Rattle.std.specs.Int.{w32, cast_signed}
-use Rattle.zstory.specs.LoadedStory.{LoadedStory}
+use Rattle.zstory.specs.LoadedStory.{LoadedStory, first_instruction}
 use Rattle.zlist.specs.declared.list_error.ListError.{ListError}
 use Rattle.zlist.specs.declared.list_error.ListError.TheVariants as faults
 use Rattle.zlist.specs.Listing.{ListedCode}
@@ -100,11 +100,19 @@ module _ (story : LoadedStory) where
   abbrev pub IsMet : Obstacle → Type 0
   IsMet obstacle = IsTried obstacle ⊎ IsBrokenAt obstacle
 
-  -- What stands in the way of certificates: of a story that lists something at fault that alone, and else what one was tried with.
-  abbrev pub IsObstacleOf : Obstacle → Type 0
-  IsObstacleOf obstacle = IsFaulty (NotFound obstacle) ⊎ (IsListable × IsMet obstacle)
+  -- no instruction stands where play begins, which each certificate lists
+  abbrev pub IsAtStart : Obstacle → Type 0
+  IsAtStart obstacle = obstacle ≡ obstacles.Place (pos (first_instruction story)) Decodes
 
-  -- what is told to stand in the way; nothing only of a story that lists nothing at fault
+  -- What stands in the way of certificates: that none can list where play begins, and else what one was tried with.
+  abbrev pub IsObstacleOf : Obstacle → Type 0
+  IsObstacleOf obstacle = (IsFaulty (NotFound obstacle) × IsAtStart obstacle) ⊎ (IsListable × IsMet obstacle)
+
+  -- the story lists something at fault that a certificate may leave out, since its sets may say that play never comes there
+  abbrev pub IsFaultyElsewhere : Type 0
+  IsFaultyElsewhere = (fault : Obstacle) × IsFaulty (NotFound fault) × (IsAtStart fault → ⊥)
+
+  -- what is told to stand in the way; nothing only where nothing was found, or where that is listed at fault elsewhere
   abbrev pub IsTold : Option Obstacle → Type 0
   IsTold (Some obstacle) = IsObstacleOf obstacle
-  IsTold None = IsListable
+  IsTold None = IsListable ⊎ IsFaultyElsewhere

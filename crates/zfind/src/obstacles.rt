@@ -2,7 +2,7 @@
 
 ghost use Rattle.std.specs.Prelude.{◌≡◌, IfErr, IfOk, IfSome, IsTrue};
 ghost use Rattle.zfind.specs.Attempts.{IsNamed};
-ghost use Rattle.zfind.specs.Finding.{IsLasting, IsMet, IsTold};
+ghost use Rattle.zfind.specs.Finding.{IsAtStart, IsFailure, IsLasting, IsMet, IsTold};
 ghost use Rattle.zfind.specs.declared.error.FindError.TheVariants.{OutOfMemory, RoundLimit};
 
 use crate::certificate::certificate_of;
@@ -28,19 +28,50 @@ const MOMENTS: usize = 8;
 /// How many are visited between two such times.
 const VISITS_BETWEEN: u32 = 7;
 
-/// What stands in the way of certificates of a story, as far as that is found out (own). Of a story that lists something at fault it is that,
-/// and else the first rule that is broken by a certificate which says no more than any other. `None` where none is found. The one error is
-/// want of memory.
+/// What stands in the way of every certificate of a story, as far as that is found out (own): that no instruction stands where play begins,
+/// and else the first rule that is broken by a certificate which says no more than any other. `None` where none is found, and where
+/// what the story lists is at fault elsewhere, since a certificate may leave that out. The one error is want of memory.
 ///
 /// That such a rule is broken in each certificate is tried, and not proved.
-#[tactic(auto, using(crate::proofs::Telling::told_at_fault, crate::proofs::Telling::told_where_listed))]
+#[tactic(auto, using(crate::proofs::Telling::told_where_listed))]
 pub fn broken_in_all(alloc: Global, story: &Story) -> Result<Option<Obstacle>, FindError>
     ensures told { IfOk result (IsTold story.now) }
     ensures memory { IfErr result (λ error. error ≡ OutOfMemory) }
 {
     match listing_of(alloc, story) {
         Ok(listing) => broken_in_listed(alloc, story, &listing),
-        Err(fault) => obstacle_in(fault),
+        Err(fault) => certain_fault(story, fault),
+    }
+}
+
+/// What a lister finds at fault, where no certificate can leave it out.
+#[tactic(auto, using(crate::proofs::Telling::told_at_start, crate::proofs::Telling::untold_elsewhere))]
+fn certain_fault(story: &Story, error: FindError) -> Result<Option<Obstacle>, FindError>
+    requires failure { IsFailure story.now error }
+    requires plain { error ≡ RoundLimit → ⊥ }
+    ensures told { IfOk result (IsTold story.now) }
+    ensures memory { IfErr result (λ error. error ≡ OutOfMemory) }
+{
+    match error {
+        FindError::NotFound(obstacle) => {
+            if is_at_start(story, obstacle) {
+                Ok(Some(obstacle))
+            } else {
+                Ok(None)
+            }
+        }
+        _ => Err(error),
+    }
+}
+
+/// Whether it is that no instruction stands where play begins.
+fn is_at_start(story: &Story, obstacle: Obstacle) -> bool
+    ensures yes { IsTrue result → IsAtStart story.now obstacle }
+    ensures no { IsAtStart story.now obstacle → IsTrue result }
+{
+    match obstacle {
+        Obstacle::Place(place, Rule::Decodes) => place == story.first_instruction() as i32,
+        _ => false,
     }
 }
 
