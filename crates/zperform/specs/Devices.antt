@@ -57,8 +57,8 @@ pub record ReadsUnless {F : Type 0} (known : F → List ℕ → Option (List ℕ
   pub blamed : Blames fails (failures old) (failures new)
   pub kept : known new ≡ known old
 
--- Files are blamed where this fails, and nowhere else while none is for saves: with one, they may fail and a play goes on. Each has the bytes
--- that it had while none is written.
+-- Files are blamed where this fails, and nowhere else while none is for saves: with one, they may fail and a play goes on. Each has the
+-- bytes that it had while none is written.
 pub record UsesUnless {F : Type 0} (known : F → List ℕ → Option (List ℕ)) (failures : F → ℕ) (old new : F) (unsaved unwritten fails : Type 0) : Type 0 where
   pub unread : fails → RisesByOne (failures old) (failures new)
   pub unfailed : unsaved → ¬ fails → failures new ≡ failures old
