@@ -70,7 +70,9 @@ fn is_at_start(story: &Story, obstacle: Obstacle) -> bool
     ensures no { IsAtStart story.now obstacle → IsTrue result }
 {
     match obstacle {
-        Obstacle::Place(place, Rule::Decodes) => place == story.first_instruction() as i32,
+        Obstacle::Place(place, Rule::Decodes) => {
+            place >= 0 && place as usize == story.first_instruction()
+        }
         _ => false,
     }
 }
