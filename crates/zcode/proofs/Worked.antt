@@ -160,7 +160,8 @@ spelled = (
     branch_is = (refl, (refl, refl));
     text_is = refl;
     size_is = refl;
-  })
+  },
+)
 
 -- ---- reading
 

@@ -1,6 +1,6 @@
 -- Values of the definitions, computed.
 use Rattle.std.proofs.Common.{◌≡◌, List, [], ◌∷◌, Bool, true, false, codes, refl}
-use Rattle.std.specs.Prelude.{IsSomeAnd, None}
+use Rattle.std.specs.Prelude.{IsSomeAnd, None, Some}
 use Rattle.clap.specs.Kinds.{Kinds}
 use Rattle.clap.specs.Words.{Text, subcommand_of, fault_of}
 use Rattle.clap.specs.Walk.{walked}
