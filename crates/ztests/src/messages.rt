@@ -1,5 +1,6 @@
 //! The messages of errors, of which no clause says anything.
 
+use std::alloc::Global;
 use std::fmt::Display;
 use std::test::Fail;
 use zcert::CertError;
@@ -8,12 +9,14 @@ use zfault::Fault;
 use zstory::LoadError;
 
 /// Whether each of these has the message that stands beside it.
-fn are_told<T: Display>(rt: &HostRuntime, told: &[(T, &str)]) -> Result<(), Fail> {
+fn are_told<T: Display>(alloc: Global, told: &[(T, &str)]) -> Result<bool, Fail> {
     for (error, text) in told {
-        let message = format!(in rt.alloc(); "{}", error)?;
-        assert_eq!(rt; message.as_str(), *text);
+        let message = format!(in alloc; "{}", error)?;
+        if message.as_str() != *text {
+            return Ok(false);
+        }
     }
-    Ok(())
+    Ok(true)
 }
 
 #[test]
@@ -48,7 +51,8 @@ fn faults_are_told(rt: HostRuntime) -> Result<(), Fail> {
         (Fault::ReturnFromMain, "a return from the main routine"),
         (Fault::BadVariable, "no variable has this number"),
     ];
-    are_told(&rt, &told)
+    assert!(rt; are_told(rt.alloc(), &told)?);
+    Ok(())
 }
 
 #[test]
@@ -85,7 +89,8 @@ fn refused_files_are_told(rt: HostRuntime) -> Result<(), Fail> {
         ),
         (LoadError::OutOfMemory, "out of memory"),
     ];
-    are_told(&rt, &told)
+    assert!(rt; are_told(rt.alloc(), &told)?);
+    Ok(())
 }
 
 #[test]
@@ -100,7 +105,8 @@ fn refused_certificates_are_told(rt: HostRuntime) -> Result<(), Fail> {
         (CertError::Limit, "a number is above its limit"),
         (CertError::OutOfMemory, "out of memory"),
     ];
-    are_told(&rt, &told)
+    assert!(rt; are_told(rt.alloc(), &told)?);
+    Ok(())
 }
 
 #[test]
@@ -121,5 +127,6 @@ fn refused_opcodes_are_told(rt: HostRuntime) -> Result<(), Fail> {
         ),
         (DecodeError::Text, "the text has no end"),
     ];
-    are_told(&rt, &told)
+    assert!(rt; are_told(rt.alloc(), &told)?);
+    Ok(())
 }
