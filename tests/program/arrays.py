@@ -61,7 +61,10 @@ def only(number):
 # 279: 01 9C A5, 00                      the name b, the end
 # 27D: 00 00 00 0A ..                    free up to the end of dynamic memory, 02 at 290, else 00
 # 29A: 01 AD, 96 times                   abbreviations
-# 35A: 94 A5, 01 2C 07 00 02, 1B 25 94 A5 00 00 00, 46 94 C0 A5 00 00 00, 00
+# 35A: 94 A5                              the empty text, to which each abbreviation leads
+# 35C: 01 2C 07 00 02                    the dictionary: a comma separates, and there are two entries of seven bytes
+# 361: 1B 25 94 A5 00 00 00              the word at
+# 368: 46 94 C0 A5 00 00 00, 00          the word look
 
 FREE = (0x27D, 0x299)
 UP_TO_TWO, UP_TO_NINE = first(0, 0, 2), first(0, 0, 9)

@@ -30,7 +30,10 @@ def letters(string):
 # 279: 01 9C A5, 00                      the name b, the end
 # 27D: 00 00 00 0A ..                    free up to the end of dynamic memory, 02 at 290, else 00
 # 29A: 01 AD, 96 times                   abbreviations, each of which prints nothing
-# 35A: 94 A5, 01 2C 07 00 02, 1B 25 94 A5 00 00 00, 46 94 C0 A5 00 00 00, 00
+# 35A: 94 A5                              the empty text, to which each abbreviation leads
+# 35C: 01 2C 07 00 02                    the dictionary: a comma separates, and there are two entries of seven bytes
+# 361: 1B 25 94 A5 00 00 00              the word at
+# 368: 46 94 C0 A5 00 00 00, 00          the word look
 
 A_TEXT = {0x280: 0x98, 0x281: 0xA5}  # a
 TWO_WORDS = bytes_at(0x280, b"\x18\xc6\x98\xa5")  # aaaa
