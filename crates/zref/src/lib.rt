@@ -21,6 +21,7 @@ mod scope;
 mod settling;
 mod status;
 mod step;
+mod way;
 mod ways;
 mod writing;
 
