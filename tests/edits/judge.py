@@ -228,6 +228,38 @@ def leave_open(crate, room, path):
         file.write(HOLE.format(module=f"{crate.name}.proofs.{path.replace('/', '.')}", name=path.rpartition("/")[2]))
 
 
+def read(path):
+    with open(path, encoding="utf-8") as file:
+        return file.read()
+
+
+MODULE = re.compile(r"(?:pub )?mod (\w+)\n?$")
+
+
+def drop_unread(crate, room):
+    """Drops the modules of a copy's proofs that nothing reads of what is left. No edit is refused by them, and computed values alone may take
+    as long as many edits."""
+    top = f"{room}/proofs"
+    texts = {name[: -len(".antt")]: read(f"{top}/{name}") for name in os.listdir(top) if name.endswith(".antt")}
+    listed = texts.pop("Lib", "")
+    named = re.compile(rf"\b(?:crate::proofs::|Rattle\.{crate.name}\.proofs\.)(\w+)")
+    reached, found = set(), set()
+    for folder in (at for part in RT.rtlib.PARTS for at, _, _ in os.walk(f"{room}/{part}") if at != top):
+        for name in os.listdir(folder):
+            if name.endswith((".rt", ".antt")):
+                found.update(named.findall(read(f"{folder}/{name}")))
+    while found:
+        reached |= found
+        found = {name for it in found & texts.keys() for name in named.findall(texts[it])} - reached
+    unread = texts.keys() - reached
+    for name in unread:
+        os.remove(f"{top}/{name}.antt")
+    if listed:
+        lines = [it for it in listed.splitlines(keepends=True) if not (MODULE.match(it) and MODULE.match(it)[1] in unread)]
+        with open(f"{top}/Lib.antt", "w", encoding="utf-8") as file:
+            file.writelines(lines)
+
+
 def prove_twins(room):
     """Copies the proof files of each function that has twins in a copy of a crate."""
     texts, homes = sources_of(room)
@@ -300,6 +332,7 @@ def check(crate, texts, only, kept, is_halved=False):
                 file.write(text)
         prove_twins(room)
         emptied(crate, room, only)
+        drop_unread(crate, room)
         spans = spans_of(room, only)
         flags = ["--jobs", "1", *(["--margin"] if is_halved else []), "--allow-holes", "--progress"]
         flags += (word for path in sorted(only) for word in ("--only", path))
