@@ -228,36 +228,30 @@ def leave_open(crate, room, path):
         file.write(HOLE.format(module=f"{crate.name}.proofs.{path.replace('/', '.')}", name=path.rpartition("/")[2]))
 
 
-def read(path):
-    with open(path, encoding="utf-8") as file:
-        return file.read()
+MODULE = re.compile(r"(?:pub )?mod (\w+)$")
 
 
-MODULE = re.compile(r"(?:pub )?mod (\w+)\n?$")
-
-
-def drop_unread(crate, room):
-    """Drops the modules of a copy's proofs that nothing reads of what is left. No edit is refused by them, and computed values alone may take
-    as long as many edits."""
+def drop_unread(name, room):
+    """Drops the modules of a copy's proofs that nothing reads of what is left. An edit counts by a line on its own function, so none is refused
+    by them, and computed values alone may take as long as many edits."""
     top = f"{room}/proofs"
-    texts = {name[: -len(".antt")]: read(f"{top}/{name}") for name in os.listdir(top) if name.endswith(".antt")}
-    listed = texts.pop("Lib", "")
-    named = re.compile(rf"\b(?:crate::proofs::|Rattle\.{crate.name}\.proofs\.)(\w+)")
-    reached, found = set(), set()
-    for folder in (at for part in RT.rtlib.PARTS for at, _, _ in os.walk(f"{room}/{part}") if at != top):
-        for name in os.listdir(folder):
-            if name.endswith((".rt", ".antt")):
-                found.update(named.findall(read(f"{folder}/{name}")))
+    if not os.path.isdir(top):
+        return
+    texts = {it[: -len(".antt")]: RT.rtlib.text_of(f"{top}/{it}") for it in os.listdir(top) if it.endswith(".antt")}
+    listed = texts.pop("Lib", "").splitlines()
+    modules = re.compile(rf"\b(?:crate::proofs::|Rattle\.{name}\.proofs\.)(\w+)")
+    folders = [at for part in RT.rtlib.PARTS for at, _, _ in os.walk(f"{room}/{part}") if at != top]
+    files = [f"{at}/{it}" for at in folders for it in os.listdir(at) if it.endswith((".rt", ".antt"))]
+    reached, found = set(), {module for it in files for module in modules.findall(RT.rtlib.text_of(it))}
     while found:
         reached |= found
-        found = {name for it in found & texts.keys() for name in named.findall(texts[it])} - reached
+        found = {module for it in found & texts.keys() for module in modules.findall(texts[it])} - reached
     unread = texts.keys() - reached
-    for name in unread:
-        os.remove(f"{top}/{name}.antt")
+    for module in unread:
+        os.remove(f"{top}/{module}.antt")
     if listed:
-        lines = [it for it in listed.splitlines(keepends=True) if not (MODULE.match(it) and MODULE.match(it)[1] in unread)]
         with open(f"{top}/Lib.antt", "w", encoding="utf-8") as file:
-            file.writelines(lines)
+            file.writelines(f"{it}\n" for it in listed if not (MODULE.match(it) and MODULE.match(it)[1] in unread))
 
 
 def prove_twins(room):
@@ -332,7 +326,7 @@ def check(crate, texts, only, kept, is_halved=False):
                 file.write(text)
         prove_twins(room)
         emptied(crate, room, only)
-        drop_unread(crate, room)
+        drop_unread(crate.name, room)
         spans = spans_of(room, only)
         flags = ["--jobs", "1", *(["--margin"] if is_halved else []), "--allow-holes", "--progress"]
         flags += (word for path in sorted(only) for word in ("--only", path))

@@ -199,6 +199,30 @@ def rests_on_the_unedited():
     return answers == [{"some"}, {"some"}, {"some"}, set(), set(), set()]
 
 
+def unread_are_dropped():
+    """Whether modules of proofs go that nothing reads of a copy, and what is read by a function, or behind that, stays."""
+    files = {
+        "src/lib.rt": "#[tactic(auto, using(crate::proofs::Named::is_so))]\nfn f() {}\n",
+        "specs/Lib.antt": "",
+        "proofs/Lib.antt": "pub mod Named\nmod Behind\nmod Asked\nmod Worked\n",
+        "proofs/Named.antt": "use Rattle.low.proofs.Behind.{so}\n",
+        "proofs/Behind.antt": "",
+        "proofs/Asked.antt": "",
+        "proofs/Worked.antt": "use Rattle.low.proofs.Named.{is_so}\nuse Rattle.low.proofs.Worked.{itself}\n",
+        "proofs/f/Answers.antt": "use Rattle.low.proofs.Asked.{it}\n",
+    }
+    with tempfile.TemporaryDirectory(prefix="dropped-") as room:
+        for path, text in files.items():
+            os.makedirs(os.path.dirname(f"{room}/{path}"), exist_ok=True)
+            with open(f"{room}/{path}", "w", encoding="utf-8") as file:
+                file.write(text)
+        judge.drop_unread("low", room)
+        left = sorted(os.listdir(f"{room}/proofs"))
+        with open(f"{room}/proofs/Lib.antt", encoding="utf-8") as file:
+            listed = file.read()
+    return (left, listed) == (["Asked.antt", "Behind.antt", "Lib.antt", "Named.antt", "f"], "pub mod Named\nmod Behind\nmod Asked\n")
+
+
 def counts_are_told():
     """Whether a function has half the counts only in a crate that has been tried with them, and not where it needs all, in a twin as well."""
     crate = lambda name: type("Crate", (), {"name": name})
@@ -249,6 +273,7 @@ def main():
             (calls_are_told(), "a call is told wrongly"),
             (arms_are_told(), "an arm is told wrongly"),
             (counts_are_told(), "the counts of a search are told wrongly"),
+            (unread_are_dropped(), "a module that is read is dropped, or one that isn't stays"),
             (rests_on_the_unedited(), "an edit counts though what is left isn't proved without it"),
         ]:
             passed, failed = passed + well, failed + (not well)
