@@ -55,3 +55,16 @@ found = refl
 none : with_line story 0 5 [] (3 ∷ 9 ∷ 9 ∷ 9 ∷ 9 ∷ 1 ∷ 9 ∷ 9 ∷ []) ≡ 3 ∷ 0 ∷ 9 ∷ 9 ∷ 9 ∷ 1 ∷ 0 ∷ 9 ∷ []
 unfolding with_line with_blocks story
 none = refl
+
+-- "a b": what is said of the second word stands behind what is said of the first
+two : with_line story 0 6 (0x61 ∷ 0x20 ∷ 0x62 ∷ []) (5 ∷ 9 ∷ 9 ∷ 9 ∷ 9 ∷ 9 ∷ 2 ∷ 9 ∷ 9 ∷ 9 ∷ 9 ∷ 9 ∷ 9 ∷ 9 ∷ 9 ∷ 9 ∷ 9 ∷ []) ≡ 5 ∷ 0x61 ∷ 0x20 ∷ 0x62 ∷ 0 ∷ 9 ∷ 2 ∷ 2 ∷ 0 ∷ 0 ∷ 1 ∷ 1 ∷ 0 ∷ 0 ∷ 1 ∷ 3 ∷ 9 ∷ []
+unfolding with_line with_blocks story lookup
+two = refl
+
+-- a dictionary at 300, with the word "go" in the entry at 305
+far : List ℕ
+far = replicate 8 0 ++ 1 ∷ 44 ∷ (replicate 290 0 ++ 1 ∷ 0x2E ∷ 4 ∷ 0 ∷ 1 ∷ 0x32 ∷ 0x85 ∷ 0x94 ∷ 0xA5 ∷ [])
+
+far_found : block far (word 0 (0x67 ∷ 0x6F ∷ [])) ≡ 1 ∷ 49 ∷ 2 ∷ 1 ∷ []
+unfolding far word lookup word_code word_characters small_letters
+far_found = refl

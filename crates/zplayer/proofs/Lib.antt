@@ -2,5 +2,6 @@ mod ReadLemmas
 mod Stages
 mod Writes
 mod Ends
+mod Needs
 mod Sessions
 mod Worked

@@ -3,7 +3,7 @@
 ghost use Rattle.std.specs.Prelude.{◌≡◌, ◌≢◌, ℤ, false, Some, IsErrOf, IfErr, IfOk, OnErr, ⊤};
 ghost use Rattle.std.specs.Io.KnownBytes.{Keeps};
 ghost use Rattle.zfault.specs.declared.fault.Fault.{Fault as AFault};
-ghost use Rattle.zstate.specs.Run.{awaited};
+ghost use Rattle.zstate.specs.Run.{Stands, awaited};
 ghost use Rattle.zref.specs.Machine.{setting, SamePlay};
 ghost use Rattle.zplay.specs.Session.{setting_of};
 ghost use Rattle.zplayer.specs.Lines.{BlamesReader, Hears, KnowsEnd, unused};
@@ -23,6 +23,7 @@ use zcert::Spelled;
 use zfault::{Event, Items, Line, Need, Sink, Source};
 use zplay::Session;
 use zref::CheckedMachine;
+use zstate::Stop;
 
 /// Plays the machine from the state that it is in: makes at most the budget's steps, writes what they give out, with status
 /// lines where the options ask for them, and hands in what they need. A line comes from the reader, of which more may be read
@@ -116,16 +117,19 @@ fn play_turns<M: Machine, R: Source, W: Sink, S: SaveStore, G: Words>(
     let mut left = options.budget;
     'turns: loop {
         if let Some(stop) = turn(machine, writer, options.status, &mut left, &mut items)? {
-            if !supply(alloc, machine, &mut lines, reader, writer, store, words)? {
+            if !supply(
+                alloc, stop, machine, &mut lines, reader, writer, store, words,
+            )? {
                 return Ok(End::from(stop));
             }
         }
     }
 }
 
-/// Hands in what the machine awaits. Answers whether the world had it.
+/// Hands in what the machine awaits, which stands still so. Answers whether the world had it.
 fn supply<M: Machine, R: Source, W: Sink, S: SaveStore, G: Words>(
     alloc: Global,
+    stop: Stop,
     machine: &mut M,
     lines: &mut Lines,
     reader: &mut R,
@@ -133,6 +137,7 @@ fn supply<M: Machine, R: Source, W: Sink, S: SaveStore, G: Words>(
     store: &mut S,
     words: &mut G,
 ) -> Result<bool, PlayError>
+    requires stands { Stands (M.setting machine.old) stop (M.state machine.old) }
     requires ended { KnowsEnd lines.old (R.remaining reader.old) }
     ensures play { M.IsSamePlay machine.old machine.new }
     ensures supplied { IfOk result (λ some. Supplies (M.setting machine.old) (M.Takes machine.old) (M.state machine.old) (world (unused lines.old (R.remaining reader.old)) (G.coming words.old) (told S.kept S.failures store.old)) some (M.state machine.new) (world (unused lines.new (R.remaining reader.new)) (G.coming words.new) (told S.kept S.failures store.new))) }
@@ -143,7 +148,7 @@ fn supply<M: Machine, R: Source, W: Sink, S: SaveStore, G: Words>(
     ensures reads { BlamesReader R.remaining R.failures reader.old reader.new lines.new (IsErrOf result PlayError.Read) }
     ensures writes { BlamesWriter W.failures W.waits writer.old writer.new (IsErrOf result PlayError.Write) (IsErrOf result PlayError.Read) }
 {
-    let Some(need) = machine.awaits() else {
+    let Some(need) = machine.awaits(stop) else {
         return Ok(false);
     };
     if let Need::Restore = need {
