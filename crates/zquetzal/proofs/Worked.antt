@@ -108,6 +108,11 @@ others : (reads (head_of 2 12 ∷ memory ∷ stacks ∷ []) ≡ Err errors.Other
 unfolding reads story first called chunk head_of memory stacks reading body_of sized_chunk chunk_at chunks_within chosen
 others = (refl, refl, refl, refl)
 
+-- Q6: another serial number
+unlike : reads (chunk IFHD (header_bytes (record { release = 1; serial = 0x32 ∷ 0x36 ∷ 0x30 ∷ 0x31 ∷ 0x30 ∷ 0x32 ∷ []; checksum = 12 }) 0x10203) ∷ memory ∷ stacks ∷ []) ≡ Err errors.OtherStory
+unfolding reads story first called chunk memory stacks reading body_of sized_chunk chunk_at chunks_within chosen
+unlike = refl
+
 -- Q8: no frames, a first frame with a result variable, a local, an argument or a return place, bytes over or cut off, flags above 15
 frames_refused : (stacked [] ≡ Err errors.Frames) × (stacked (0 ∷ 0 ∷ 0 ∷ 0 ∷ 1 ∷ 0 ∷ 0 ∷ 0 ∷ []) ≡ Err errors.Frames) × (stacked (0 ∷ 0 ∷ 0 ∷ 1 ∷ 0 ∷ 0 ∷ 0 ∷ 0 ∷ 0 ∷ 0 ∷ []) ≡ Err errors.Frames) × (stacked (0 ∷ 0 ∷ 0 ∷ 0 ∷ 0 ∷ 1 ∷ 0 ∷ 0 ∷ []) ≡ Err errors.Frames) × (stacked (0 ∷ 0 ∷ 1 ∷ 0 ∷ 0 ∷ 0 ∷ 0 ∷ 0 ∷ []) ≡ Err errors.Frames) × (stacked (replicate 9 0) ≡ Err errors.Frames) × (stacked (0 ∷ 0 ∷ 0 ∷ 0 ∷ 0 ∷ 0 ∷ 0 ∷ 1 ∷ 0 ∷ []) ≡ Err errors.Frames) × (frame_at (0 ∷ 0 ∷ 0 ∷ 16 ∷ 0 ∷ 0 ∷ 0 ∷ 0 ∷ replicate 40 0) ≡ Err errors.Frames)
 unfolding stacked reads story chunk head_of memory reading body_of sized_chunk chunk_at chunks_within chosen framed frame_at frames_within frames_of

@@ -10,10 +10,12 @@ use Rattle.zcode.specs.declared.instr.Operand.{Operand}
 use Rattle.zcode.specs.declared.instr.Operand.TheVariants.{Constant, Variable}
 use Rattle.zcode.specs.Instruction.{Instruction}
 use Rattle.zcode.specs.Operation.{operation_of}
+use Rattle.zobj.specs.declared.answers.PropertyQuestion.TheVariants.{Value, Address, Next}
 use Rattle.zdomain.specs.declared.interval.Interval.{Interval}
 use Rattle.zdomain.specs.Domain.{In, Within}
 use Rattle.zdomain.specs.Interval.{point, all_words, in_order, interval_operations}
 use Rattle.zdomain.specs.IntervalLaw.{interval_sound}
+use Rattle.zflow.specs.declared.parts.Asked.TheVariants.{Answered, Filled}
 use Rattle.zflow.specs.declared.parts.Lead.TheVariants.{Ahead, Returning, Entering}
 use Rattle.zflow.specs.Transfer.{Shape, demands_of, outcome_of}
 use Rattle.zstate.specs.State.{Frame}
@@ -26,7 +28,7 @@ use Rattle.zrule.specs.Numbers.{number_of}
 use Rattle.zpairs.specs.Frozen.{is_inside}
 use Rattle.zrule.specs.Claims.{Entry, Claims, claims_of, frozen_in}
 use Rattle.zrule.specs.Described.{Fits, FitsWith}
-use Rattle.zrule.specs.Rules.{global_in, IsNamed, Covers, Leads, GoesOn, Asks, Begins, Starts, TakesBack, comes_back, result_at}
+use Rattle.zrule.specs.Rules.{gives_by_property, global_in, IsNamed, Covers, Leads, GoesOn, Asks, Begins, Starts, TakesBack, comes_back, result_at}
 use Rattle.zstate.specs.Step.{words_from}
 use Rattle.zrule.proofs.Instances.{by_answers}
 
@@ -34,6 +36,10 @@ use Rattle.zrule.proofs.Instances.{by_answers}
 
 numbers : (number_of Decodes ≡ 1) × (number_of Height ≡ 2) × (number_of Local ≡ 3) × (number_of Successor ≡ 4) × (number_of Property ≡ 7) × (number_of Divisor ≡ 8) × (number_of Write ≡ 9) × (number_of Read ≡ 10) × (number_of Text ≡ 11) × (number_of Called ≡ 12) × (number_of Returned ≡ 13) × (number_of Buffers ≡ 14) × (number_of Known ≡ 15) × (number_of Stored ≡ 16) × (number_of High ≡ 17) × (number_of Status ≡ 18)
 numbers = (refl, refl, refl, refl, refl, refl, refl, refl, refl, refl, refl, refl, refl, refl, refl, refl)
+
+-- of what is asked of a property, get_prop and get_prop_addr give what is found
+found_given : (gives_by_property (Answered Value) ≡ true) × (gives_by_property (Answered Address) ≡ true) × (gives_by_property (Answered Next) ≡ false) × (gives_by_property Filled ≡ false)
+found_given = (refl, refl, refl, refl)
 
 -- ---- claims
 

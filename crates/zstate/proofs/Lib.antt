@@ -17,3 +17,4 @@ mod Worked
 mod WorkedCall
 mod WorkedNeeds
 mod WorkedSaves
+mod WorkedTables

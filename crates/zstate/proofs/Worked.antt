@@ -82,8 +82,8 @@ unfolding story memory code
 opens = refl
 
 -- at most 15 locals, and their words within memory
-heads : (has_head (1 ∷ 0 ∷ 0 ∷ []) 0 ≡ true) × (has_head (2 ∷ 0 ∷ 0 ∷ []) 0 ≡ false) × (has_head (0 ∷ []) 0 ≡ true) × (has_head (0 ∷ []) 1 ≡ false) × (has_head (15 ∷ replicate 30 0) 0 ≡ true) × (has_head (16 ∷ replicate 40 0) 0 ≡ false)
-heads = (refl, refl, refl, refl, refl, refl)
+heads : (has_head (1 ∷ 0 ∷ 0 ∷ []) 0 ≡ true) × (has_head (2 ∷ 0 ∷ 0 ∷ []) 0 ≡ false) × (has_head (0 ∷ []) 0 ≡ true) × (has_head (0 ∷ []) 1 ≡ false) × (has_head (15 ∷ replicate 30 0) 0 ≡ true) × (has_head (16 ∷ replicate 40 0) 0 ≡ false) × (has_head (1 ∷ 0 ∷ []) 0 ≡ false)
+heads = (refl, refl, refl, refl, refl, refl, refl)
 
 -- routines stand at even places
 all : ((scope_all story).instructions 78 ≡ true) × ((scope_all story).instructions 79 ≡ false) × ((scope_all story).routines 64 ≡ true) × ((scope_all story).routines 65 ≡ false) × ((scope_all story).routines 68 ≡ false)

@@ -111,6 +111,6 @@ unfolding buffered are_writable story fresh asking code
 large = (refl, refl, refl)
 
 -- the buffers end below the static base, and none begins in the header
-free : (buffered story 70 75 (slice_set fresh 70 10) ≡ Ok tt) × (buffered story 70 75 (slice_set fresh 70 11) ≡ Err (halts.Fault WriteOutside)) × (buffered story 70 75 (slice_set fresh 75 2) ≡ Err (halts.Fault WriteOutside)) × (buffered story 62 75 (slice_set fresh 62 2) ≡ Err (halts.Fault WriteOutside)) × (buffered story 63 75 (slice_set fresh 63 2) ≡ Ok tt)
+free : (buffered story 70 75 (slice_set fresh 70 10) ≡ Ok tt) × (buffered story 70 75 (slice_set fresh 70 11) ≡ Err (halts.Fault WriteOutside)) × (buffered story 70 75 (slice_set fresh 75 2) ≡ Err (halts.Fault WriteOutside)) × (buffered story 62 75 (slice_set fresh 62 2) ≡ Err (halts.Fault WriteOutside)) × (buffered story 63 75 (slice_set fresh 63 2) ≡ Ok tt) × (buffered story 70 63 (slice_set fresh 63 1) ≡ Ok tt) × (buffered story 70 76 (slice_set fresh 76 1) ≡ Err (halts.Fault WriteOutside))
 unfolding buffered are_writable story fresh asking code
-free = (refl, refl, refl, refl, refl)
+free = (refl, refl, refl, refl, refl, refl, refl)

@@ -1,4 +1,4 @@
-use Rattle.std.proofs.Common.{◌≡◌, ◌-◌, ◌+◌, arith, length}
+use Rattle.std.proofs.Common.{◌≡◌, ◌+◌, arith, length}
 use Rattle.zquetzal.specs.Reading.{words_of}
 use Rattle.zstate.proofs.Packing.{begin_is, begin_packed}
 use Rattle.zstate.proofs.frames.Frames.begin_saved.Goals as goal
