@@ -1,4 +1,5 @@
 mod Worked
+mod WorkedPlaces
 mod Reachable
 pub mod Rising
 pub mod Tables
