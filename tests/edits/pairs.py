@@ -136,7 +136,9 @@ def main():
     words.add_argument("--seed", type=int, default=1)
     words.add_argument("crate")
     given = words.parse_args()
-    crate = next(it for it in RT.rtlib.crates_below(os.getcwd()) if it.name == given.crate)
+    crate = next((it for it in RT.rtlib.crates_below(os.getcwd()) if it.name == given.crate), None)
+    if not crate or not os.path.isdir(f"{crate.folder}/proofs"):
+        words.error(f"{given.crate} is no crate with computed values")
     RT.rtlib.guarded()
     with tempfile.TemporaryDirectory(prefix="pairs-") as base, concurrent.futures.ThreadPoolExecutor(given.jobs) as pool:
         prepare(crate, base)
