@@ -1,19 +1,14 @@
 -- Values of the definitions, computed.
 use Rattle.std.proofs.Common.{◌≡◌, ℕ, ◌+◌, ◌<◌, zero, suc, true, false, [], ◌∷◌, length, Some, None, Ok, Err, pos, negsuc, refl, arith, lit<, lit≤}
 use Rattle.zstory.specs.Bytes.{byte_at}
-use Rattle.zcode.specs.declared.opcode.Opcode.TheVariants.{Restore, Restart, Je, IncChk, Dec, Or, Mul, Mod, Jz, GetChild, Jump, Not, Ret, Rtrue, Rfalse, RetPopped, Print, PrintRet, Quit, NewLine, Verify, Call, Storew, Sread, Random, Save, Load, Push, Pull, Pop}
+use Rattle.zcode.specs.declared.opcode.Opcode.TheVariants.{Je, IncChk, Or, Mul, Mod, Jz, GetChild, Jump, Not, Rtrue, Rfalse, RetPopped, Print, PrintRet, Quit, NewLine, Verify, Call, Storew, Sread, Load, Push, Pull}
 use Rattle.zcode.specs.declared.opcode.Excluded.TheVariants.{SplitWindow, SetWindow, OutputStream, SoundEffect}
 use Rattle.zcode.specs.declared.error.DecodeError.TheVariants.{Truncated, NoSuchOpcode, NotInProfile, Operands, Text}
 use Rattle.zcode.specs.declared.table.OperandCount.TheVariants.{Two, One, Zero, Many}
 use Rattle.zcode.specs.declared.types.OperandType.TheVariants as types
 use Rattle.zcode.specs.declared.instr.Operand.TheVariants.{Constant, Variable}
 use Rattle.zcode.specs.declared.instr.Destination.TheVariants.{ReturnFalse, ReturnTrue, Relative}
-use Rattle.zword.specs.declared.unary.UnaryOp.TheVariants as unary
-use Rattle.zword.specs.declared.binary.BinaryOp.TheVariants as binary
-use Rattle.zword.specs.declared.question.Question.TheVariants as questions
-use Rattle.zword.specs.declared.count.CountOp.TheVariants as counts
-use Rattle.zcode.specs.declared.operation.Operation.TheVariants as operations
-use Rattle.zcode.specs.Operation.{operation_of, inputs, target}
+use Rattle.zcode.specs.Operation.{inputs, target}
 use Rattle.zcode.specs.Instruction.{Instruction, IsWellFormed, destination}
 use Rattle.zcode.specs.Names.{name_of, excluded_name}
 use Rattle.zcode.specs.Opcodes.{missing, table, opcode_of, operand_bounds, TakesOperands, stores, branches, prints_text}
@@ -181,9 +176,9 @@ operands_read : (operand_at types.Large (0x03 ∷ 0xE8 ∷ 9 ∷ []) ≡ Ok (Con
 unfolding operand_at operands_at
 operands_read = (refl, refl, refl, refl)
 
-rest_read : (store_if true (4 ∷ 9 ∷ []) ≡ Ok (Some 4, 9 ∷ [])) × (store_if false (4 ∷ 9 ∷ []) ≡ Ok (None, 4 ∷ 9 ∷ [])) × (branch_at (0xBF ∷ 0xFE ∷ 9 ∷ []) ≡ Ok (record { sense = true; offset = negsuc 1 }, 9 ∷ [])) × (branch_if true (0x41 ∷ 9 ∷ []) ≡ Ok (Some (record { sense = false; offset = pos 1 }), 9 ∷ [])) × (branch_at (0x80 ∷ []) ≡ Err Truncated) × (text_if true (0x94 ∷ 0xA5 ∷ 9 ∷ []) ≡ Ok (9 ∷ [])) × (text_if true (0x14 ∷ 0xA5 ∷ []) ≡ Err Text)
+rest_read : (store_if true (4 ∷ 9 ∷ []) ≡ Ok (Some 4, 9 ∷ [])) × (store_if false (4 ∷ 9 ∷ []) ≡ Ok (None, 4 ∷ 9 ∷ [])) × (branch_at (0xBF ∷ 0xFE ∷ 9 ∷ []) ≡ Ok (record { sense = true; offset = negsuc 1 }, 9 ∷ [])) × (branch_if true (0x41 ∷ 9 ∷ []) ≡ Ok (Some (record { sense = false; offset = pos 1 }), 9 ∷ [])) × (branch_at (0x80 ∷ 0x14 ∷ 9 ∷ []) ≡ Ok (record { sense = true; offset = pos 20 }, 9 ∷ [])) × (branch_at (0x3F ∷ 0xFF ∷ []) ≡ Ok (record { sense = false; offset = negsuc 0 }, [])) × (branch_at (0x80 ∷ []) ≡ Err Truncated) × (text_if true (0x94 ∷ 0xA5 ∷ 9 ∷ []) ≡ Ok (9 ∷ [])) × (text_if true (0x14 ∷ 0xA5 ∷ []) ≡ Err Text)
 unfolding store_if branch_at branch_if text_if
-rest_read = (refl, refl, refl, refl, refl, refl, refl)
+rest_read = (refl, refl, refl, refl, refl, refl, refl, refl, refl)
 
 -- the whole, with a byte that follows
 instructions_read : (instruction_at (0x05 ∷ 0x02 ∷ 0x00 ∷ 0xD4 ∷ 9 ∷ []) ≡ Ok inc_chk) × (instruction_at (0xE0 ∷ 0x3F ∷ 0x01 ∷ 0x97 ∷ 0x00 ∷ 9 ∷ []) ≡ Ok (record { opcode = Call; operands = Constant 407 ∷ []; store = Some 0; branch = None; size = 5 })) × (instruction_at (0xB2 ∷ 0x35 ∷ 0x51 ∷ 0xC6 ∷ 0x85 ∷ 9 ∷ []) ≡ Ok (record { opcode = Print; operands = []; store = None; branch = None; size = 5 })) × (instruction_at (0xB2 ∷ []) ≡ Err Text)
@@ -209,10 +204,6 @@ agreeing = (record { size_is = refl; bytes = same }, λ a. absurd (let e = a.byt
     same (suc (suc k)) below = absurd (omega (arith, below))
 
 -- ---- what opcodes do
-
-done_for : (operation_of Je ≡ operations.Compare questions.Equal) × (operation_of IncChk ≡ operations.Count counts.Up (Some questions.Greater)) × (operation_of Dec ≡ operations.Count counts.Down None) × (operation_of Mod ≡ operations.Binary binary.Mod) × (operation_of Push ≡ operations.Unary unary.Keep) × (operation_of Pull ≡ operations.Store) × (operation_of Pop ≡ operations.Nop) × (operation_of Ret ≡ operations.Return) × (operation_of RetPopped ≡ operations.Return) × (operation_of PrintRet ≡ operations.PrintReturn) × (operation_of Call ≡ operations.Call) × (operation_of Sread ≡ operations.ReadLine) × (operation_of Random ≡ operations.Random) × (operation_of Save ≡ operations.Save) × (operation_of Restore ≡ operations.Restore) × (operation_of Restart ≡ operations.Restart)
-unfolding operation_of
-done_for = (refl, refl, refl, refl, refl, refl, refl, refl, refl, refl, refl, refl, refl, refl, refl, refl)
 
 -- what a return without an operand gives
 returned : (inputs (record { opcode = Rtrue; operands = []; store = None; branch = None; size = 1 }) ≡ Constant 1 ∷ []) × (inputs (record { opcode = Rfalse; operands = []; store = None; branch = None; size = 1 }) ≡ Constant 0 ∷ []) × (inputs (record { opcode = RetPopped; operands = []; store = None; branch = None; size = 1 }) ≡ Variable 0 ∷ [])

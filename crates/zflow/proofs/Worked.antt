@@ -375,6 +375,11 @@ saves : (tested (of_saves operations.Save true) ≡ Some (Some true)) × (tested
 unfolding outcome_of globals shape
 saves = (refl, refl, refl, refl, refl, refl)
 
+-- 1 is returned behind a text, and what is read, one of two values too
+returns_known : (returned_on (plain opcodes.PrintRet []) true ≡ Some (only 1)) × (returned_on (plain opcodes.PrintRet []) false ≡ None) × (returned_on (plain opcodes.Rfalse []) true ≡ Some (only 0)) × (returned_on (plain opcodes.Ret (Variable 3 ∷ [])) true ≡ Some (span 0 1))
+unfolding operation_of outcome_of shape globals
+returns_known = (refl, refl, refl, refl)
+
 -- nothing comes of quit
 ends_there : (outcome_on (plain opcodes.Quit []) true ≡ nothing) × (outcome_on (plain opcodes.Quit []) false ≡ nothing) × (outcome_on (plain opcodes.Restart []) true ≡ nothing)
 unfolding operation_of outcome_of shape globals

@@ -103,9 +103,9 @@ unfolding story story_with state front tables
 names = (refl, refl, refl)
 
 -- a word in two bytes, its low byte in one, and no property 9
-put_words : (with_property 1 3 0xABCD story ≡ Ok (take 0x276 story ++ 0xAB ∷ 0xCD ∷ drop 0x278 story)) × (with_property 1 5 0xABCD story ≡ Ok (take 0x274 story ++ 0xCD ∷ drop 0x275 story)) × (with_property 1 9 0xABCD story ≡ Err AbsentProperty)
+put_words : (with_property 1 3 0xFF12 story ≡ Ok (take 0x276 story ++ 0xFF ∷ 0x12 ∷ drop 0x278 story)) × (with_property 1 3 0xABCD story ≡ Ok (take 0x276 story ++ 0xAB ∷ 0xCD ∷ drop 0x278 story)) × (with_property 1 5 0xABCD story ≡ Ok (take 0x274 story ++ 0xCD ∷ drop 0x275 story)) × (with_property 1 9 0xABCD story ≡ Err AbsentProperty)
 unfolding story story_with state front tables first_properties
-put_words = (refl, refl, refl)
+put_words = (refl, refl, refl, refl)
 
 -- ---- trees
 
@@ -194,13 +194,13 @@ bits : (has_attribute (flagged (0x80 ∷ 0x00 ∷ 0x00 ∷ 0x00 ∷ [])) 2 0 ≡
 unfolding flagged grove node
 bits = (refl, refl, refl, refl, refl, refl)
 
-set_bits : (with_attribute true 2 0 (flagged (0x00 ∷ 0x00 ∷ 0x00 ∷ 0x00 ∷ [])) ≡ flagged (0x80 ∷ 0x00 ∷ 0x00 ∷ 0x00 ∷ [])) × (with_attribute true 2 31 (flagged (0x80 ∷ 0x00 ∷ 0x00 ∷ 0x80 ∷ [])) ≡ flagged (0x80 ∷ 0x00 ∷ 0x00 ∷ 0x81 ∷ [])) × (with_attribute true 2 12 (flagged (0x00 ∷ 0x08 ∷ 0x00 ∷ 0x00 ∷ [])) ≡ flagged (0x00 ∷ 0x08 ∷ 0x00 ∷ 0x00 ∷ []))
+set_bits : (with_attribute true 2 16 (flagged (0x01 ∷ 0x02 ∷ 0x04 ∷ 0x08 ∷ [])) ≡ flagged (0x01 ∷ 0x02 ∷ 0x84 ∷ 0x08 ∷ [])) × (with_attribute true 2 0 (flagged (0x00 ∷ 0x00 ∷ 0x00 ∷ 0x00 ∷ [])) ≡ flagged (0x80 ∷ 0x00 ∷ 0x00 ∷ 0x00 ∷ [])) × (with_attribute true 2 31 (flagged (0x80 ∷ 0x00 ∷ 0x00 ∷ 0x80 ∷ [])) ≡ flagged (0x80 ∷ 0x00 ∷ 0x00 ∷ 0x81 ∷ [])) × (with_attribute true 2 12 (flagged (0x00 ∷ 0x08 ∷ 0x00 ∷ 0x00 ∷ [])) ≡ flagged (0x00 ∷ 0x08 ∷ 0x00 ∷ 0x00 ∷ []))
 unfolding flagged grove node
-set_bits = (refl, refl, refl)
+set_bits = (refl, refl, refl, refl)
 
-cleared_bits : (with_attribute false 2 12 (flagged (0xFF ∷ 0xFF ∷ 0xFF ∷ 0xFF ∷ [])) ≡ flagged (0xFF ∷ 0xF7 ∷ 0xFF ∷ 0xFF ∷ [])) × (with_attribute false 2 31 (flagged (0x00 ∷ 0x00 ∷ 0x00 ∷ 0x01 ∷ [])) ≡ flagged (0x00 ∷ 0x00 ∷ 0x00 ∷ 0x00 ∷ [])) × (with_attribute false 2 16 (flagged (0xFF ∷ 0xFF ∷ 0x7F ∷ 0xFF ∷ [])) ≡ flagged (0xFF ∷ 0xFF ∷ 0x7F ∷ 0xFF ∷ []))
+cleared_bits : (with_attribute false 2 21 (flagged (0x01 ∷ 0x02 ∷ 0x84 ∷ 0x08 ∷ [])) ≡ flagged (0x01 ∷ 0x02 ∷ 0x80 ∷ 0x08 ∷ [])) × (with_attribute false 2 12 (flagged (0xFF ∷ 0xFF ∷ 0xFF ∷ 0xFF ∷ [])) ≡ flagged (0xFF ∷ 0xF7 ∷ 0xFF ∷ 0xFF ∷ [])) × (with_attribute false 2 31 (flagged (0x00 ∷ 0x00 ∷ 0x00 ∷ 0x01 ∷ [])) ≡ flagged (0x00 ∷ 0x00 ∷ 0x00 ∷ 0x00 ∷ [])) × (with_attribute false 2 16 (flagged (0xFF ∷ 0xFF ∷ 0x7F ∷ 0xFF ∷ [])) ≡ flagged (0xFF ∷ 0xFF ∷ 0x7F ∷ 0xFF ∷ []))
 unfolding flagged grove node
-cleared_bits = (refl, refl, refl)
+cleared_bits = (refl, refl, refl, refl)
 
 -- the last object there can be
 hundreds : List ℕ

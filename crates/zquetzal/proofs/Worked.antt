@@ -118,6 +118,11 @@ frames_refused : (stacked [] ≡ Err errors.Frames) × (stacked (0 ∷ 0 ∷ 0 �
 unfolding stacked reads story chunk head_of memory reading body_of sized_chunk chunk_at chunks_within chosen framed frame_at frames_within frames_of
 frames_refused = (refl, refl, refl, refl, refl, refl, refl, refl)
 
+-- a frame with locals and a stack, and what is behind it
+front_read : frame_at (frame_bytes called ++ 5 ∷ 6 ∷ 7 ∷ []) ≡ Ok (called, 5 ∷ 6 ∷ 7 ∷ [])
+unfolding called framed frame_at
+front_read = refl
+
 -- as many frames as there may be, and one more
 counted : (frames_within 2 (replicate 16 0) ≡ Ok (first ∷ first ∷ [])) × (frames_within 2 (replicate 24 0) ≡ Err errors.Frames)
 unfolding first framed frame_at frames_within

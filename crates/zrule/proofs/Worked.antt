@@ -28,7 +28,7 @@ use Rattle.zrule.specs.Numbers.{number_of}
 use Rattle.zpairs.specs.Frozen.{is_inside}
 use Rattle.zrule.specs.Claims.{Entry, Claims, claims_of, frozen_in}
 use Rattle.zrule.specs.Described.{Fits, FitsWith}
-use Rattle.zrule.specs.Rules.{gives_by_property, global_in, IsNamed, Covers, Leads, GoesOn, Asks, Begins, Starts, TakesBack, comes_back, result_at}
+use Rattle.zrule.specs.Rules.{AreObjects, gives_by_property, global_in, IsNamed, Covers, Leads, GoesOn, Asks, Begins, Starts, TakesBack, comes_back, result_at}
 use Rattle.zstate.specs.Step.{words_from}
 use Rattle.zrule.proofs.Instances.{by_answers}
 
@@ -40,6 +40,21 @@ numbers = (refl, refl, refl, refl, refl, refl, refl, refl, refl, refl, refl, ref
 -- of what is asked of a property, get_prop and get_prop_addr give what is found
 found_given : (gives_by_property (Answered Value) ≡ true) × (gives_by_property (Answered Address) ≡ true) × (gives_by_property (Answered Next) ≡ false) × (gives_by_property Filled ≡ false)
 found_given = (refl, refl, refl, refl)
+
+-- ---- objects
+
+two_objects : LoadedStory
+two_objects = record { memory = []; objects = 2 }
+
+-- each from the first to the last is one, and no other number
+are_objects : AreObjects interval_operations two_objects (point 1) × AreObjects interval_operations two_objects (point 2) × (AreObjects interval_operations two_objects (point 0) → ⊥) × (AreObjects interval_operations two_objects (point 3) → ⊥)
+unfolding two_objects
+are_objects = (
+  λ x inside. omega (arith, interval_sound.known (point 1) 1 x refl inside),
+  λ x inside. omega (arith, interval_sound.known (point 2) 2 x refl inside),
+  λ are. omega (arith, (are 0 (interval_sound.single 0 (omega arith))).0),
+  λ are. omega (arith, (are 3 (interval_sound.single 3 (omega arith))).1),
+)
 
 -- ---- claims
 

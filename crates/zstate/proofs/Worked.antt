@@ -351,6 +351,10 @@ written : (put story 0 9 state ≡ with_stack (9 ∷ 5 ∷ 6 ∷ []) state) × (
 unfolding put put_in_place put_named read_named story memory code state frame
 written = (refl, refl, refl, refl, refl)
 
+-- the high byte first
+written_words : (write_word (1 ∷ 2 ∷ 3 ∷ 4 ∷ []) 1 0xFF00 ≡ 1 ∷ 0xFF ∷ 0x00 ∷ 4 ∷ []) × (write_word (1 ∷ 2 ∷ 3 ∷ []) 0 0x0100 ≡ 1 ∷ 0 ∷ 3 ∷ []) × (write_word (1 ∷ 2 ∷ []) 0 0xFFFF ≡ 0xFF ∷ 0xFF ∷ [])
+written_words = (refl, refl, refl)
+
 there : (exists 0 frame ≡ true) × (exists 2 frame ≡ true) × (exists 3 frame ≡ false) × (exists 15 frame ≡ false) × (exists 16 frame ≡ true)
 unfolding frame
 there = (refl, refl, refl, refl, refl)

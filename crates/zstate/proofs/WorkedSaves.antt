@@ -1,18 +1,20 @@
 -- Saves, restores and restarts, computed.
 use Rattle.std.proofs.Common.{◌≡◌, ℕ, true, false, List, [], ◌∷◌, ◌++◌, replicate, take, Some, None, Ok, Err, pos, refl}
+use Rattle.std.specs.Prelude.{codes}
 use Rattle.zstory.specs.LoadedStory.{LoadedStory}
 use Rattle.zcode.specs.Operation.{operation_of}
 use Rattle.zcode.specs.Reading.{instruction_at, head_at, short_head, checked_head, operands_at, store_if, branch_if, branch_at, text_if}
 use Rattle.zfault.specs.declared.event.Event.TheVariants as events
 use Rattle.zfault.specs.declared.pause.Need.TheVariants as needs
 use Rattle.zquetzal.specs.declared.error.SaveError.TheVariants as errors
+use Rattle.zquetzal.specs.Reading.{body_of, sized_chunk, chunk_at, chunks_within, chosen, framed, frame_at, frames_within, frames_of, reading}
 use Rattle.zquetzal.specs.Saved.{Saved}
 use Rattle.zstate.specs.declared.halt.Halt.TheVariants as halts
 use Rattle.zstate.specs.declared.mode.RandomMode.TheVariants.{Counting}
 use Rattle.zstate.specs.InTurn.{in_turn}
 use Rattle.zstate.specs.State.{Frame, State, Setting, usual_limit, scope_all, first_frame, opening, at_place, give}
 use Rattle.zstate.specs.Step.{fetch, effect_of, admits, pauses as must_pause, plan, changed, act, step}
-use Rattle.zstate.specs.Run.{awaited}
+use Rattle.zstate.specs.Run.{Given, Restored, awaited, handed}
 use Rattle.zstate.specs.Saves.{saved_of, taken_memory, resumed, going_on}
 
 -- ---- a story of 80 bytes that opens at 72; its static base is 70
@@ -82,6 +84,20 @@ goes_on = (refl, refl, refl)
 elsewhere : (going_on setting (record kept { place = 76 }) asking ≡ Err errors.Place) × (going_on setting (record kept { place = 75 }) asking ≡ Err errors.Place) × (going_on setting (record kept { place = 0 }) asking ≡ Err errors.Place)
 unfolding going_on fetch in_turn operation_of instruction_at head_at short_head checked_head operands_at store_if branch_if branch_at text_if story bytes code setting called main kept asking
 elsewhere = (refl, refl, refl)
+
+-- its bytes: the header of a save, memory, and the two frames
+file : List ℕ
+file =
+    codes "FORM" ++ (0 ∷ 0 ∷ 0 ∷ 140 ∷ []) ++ codes "IFZS"
+    ++ codes "IFhd" ++ (0 ∷ 0 ∷ 0 ∷ 13 ∷ 0 ∷ 1 ∷ 0 ∷ 0 ∷ 0 ∷ 0 ∷ 0 ∷ 0 ∷ 0x05 ∷ 0x7C ∷ 0 ∷ 0 ∷ 73 ∷ 0 ∷ [])
+    ++ codes "UMem" ++ (0 ∷ 0 ∷ 0 ∷ 70 ∷ []) ++ take 70 (bytes 0x20 0xA0 0x4E (11 ∷ 12 ∷ 13 ∷ 14 ∷ 15 ∷ 16 ∷ []))
+    ++ codes "Stks" ++ (0 ∷ 0 ∷ 0 ∷ 28 ∷ 0 ∷ 0 ∷ 0 ∷ 0 ∷ 0 ∷ 0 ∷ 0 ∷ 2 ∷ 0 ∷ 10 ∷ 0 ∷ 9 ∷ [])
+    ++ 0 ∷ 0x01 ∷ 0x50 ∷ 2 ∷ 16 ∷ 3 ∷ 0 ∷ 2 ∷ 0 ∷ 1 ∷ 0 ∷ 2 ∷ 0 ∷ 8 ∷ 0 ∷ 7 ∷ []
+
+-- a save is handed in where one is asked for, if it is one, and any event where its kind is
+hands_in : (handed setting (halts.Need needs.Restore) (Restored file) asking ≡ Some restored) × (handed setting (halts.Need needs.Saved) (Restored file) asking ≡ None) × (handed setting (halts.Need needs.Restore) (Restored []) asking ≡ None) × (handed setting (halts.Need needs.Restore) (Given events.NotRestored) asking ≡ Some (give events.NotRestored asking)) × (handed setting (halts.Need needs.Restore) (Given (events.Saved true)) asking ≡ None)
+unfolding reading body_of sized_chunk chunk_at chunks_within chosen framed frame_at frames_within frames_of going_on fetch in_turn operation_of instruction_at head_at short_head checked_head operands_at store_if branch_if branch_at text_if story bytes code setting called main file asking restored
+hands_in = (refl, refl, refl, refl, refl)
 
 -- ---- the steps
 

@@ -82,9 +82,9 @@ abbrev with_flags : ℕ → List ℕ
 with_flags flags = slice_set plain 0x01 flags
 
 -- bit 1 alone decides
-time_games : (header.is_time_game plain ≡ false) × (header.is_time_game (with_flags 0x02) ≡ true) × (header.is_time_game (with_flags 0xFD) ≡ false) × (header.flags (with_flags 0xFD) ≡ 0xFD)
+time_games : (header.is_time_game plain ≡ false) × (header.is_time_game (with_flags 0x02) ≡ true) × (header.is_time_game (with_flags 0x06) ≡ true) × (header.is_time_game (with_flags 0xFD) ≡ false) × (header.flags (with_flags 0xFD) ≡ 0xFD)
 unfolding plain
-time_games = (refl, refl, refl, refl)
+time_games = (refl, refl, refl, refl, refl)
 
 -- ---- the dictionary
 
@@ -313,6 +313,11 @@ right_lengths : (HasWrongLength plain → ⊥) × (HasWrongLength (stating 32) �
 unfolding plain
 right_lengths = (λ wrong. neither (λ low. omega (arith, low)) (λ high. omega (arith, high)) wrong.1, λ wrong. neither (λ low. omega (arith, low)) (λ high. omega (arith, high)) wrong.1)
 
+-- a length of 0 is left open; the least one that is stated is 2
+open_length : (HasWrongLength (stating 0) → ⊥) × HasWrongLength (stating 1)
+unfolding plain
+open_length = (λ wrong. wrong.0 refl, (λ e. omega (arith, e), inl (lit< tt)))
+
 -- each place at its bounds, and one beyond: where static memory begins
 bases : (HasWrongBase (slice_set (slice_set plain 0x0E 0) 0x0F 64) → ⊥) × HasWrongBase (slice_set (slice_set plain 0x0E 0) 0x0F 63) × (HasWrongBase (slice_set (slice_set plain 0x0E 0x03) 0x0F 0x2A) → ⊥) × HasWrongBase (slice_set (slice_set plain 0x0E 0x03) 0x0F 0x2B)
 unfolding plain
@@ -344,6 +349,10 @@ equals = (refl, refl)
 equal_entries : HasFallingEntries equal_texts → ⊥
 equal_entries (zero, some, less) = omega (arith, less, equals.0)
 equal_entries (suc k, some, less) = omega (arith, some, equals.1)
+
+equal_ordered : IsOrdered equal_texts
+equal_ordered zero some = omega (arith, equals.0)
+equal_ordered (suc k) some = absurd (omega (arith, some, equals.1))
 
 first_places : HasWrongStart (slice_set (slice_set plain 0x06 0) 0x07 63) × (HasWrongStart (slice_set (slice_set plain 0x06 0) 0x07 64) → ⊥)
 unfolding plain

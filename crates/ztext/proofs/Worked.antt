@@ -31,16 +31,20 @@ unfolding hello
 whole = ((lit< tt, lit≤ tt), lit≤ tt, (lit< tt, lit≤ tt))
 
 -- no end word, half a word, and a word behind the last
-no_text : (IsText (0x35 ∷ 0x51 ∷ []) → ⊥) × (IsText (0x94 ∷ []) → ⊥) × (IsText (0x94 ∷ 0xA5 ∷ 0x94 ∷ 0xA5 ∷ []) → ⊥)
-no_text = (λ text. omega (arith, text), λ text. text, λ text. omega (arith, text.0))
+no_text : (IsText (0x35 ∷ 0x51 ∷ []) → ⊥) × (IsText (0x94 ∷ []) → ⊥) × (IsText (0x94 ∷ 0xA5 ∷ 0x94 ∷ 0xA5 ∷ []) → ⊥) × (IsText (0x80 ∷ 0x00 ∷ 0x94 ∷ 0xA5 ∷ []) → ⊥)
+no_text = (λ text. omega (arith, text), λ text. text, λ text. omega (arith, text.0), λ text. omega (arith, text.0))
 
-followers : (after_text (hello ++ 7 ∷ []) ≡ Some (7 ∷ [])) × (after_text hello ≡ Some []) × (after_text (0x35 ∷ 0x51 ∷ 0xC6 ∷ []) ≡ None)
-unfolding hello
-followers = (refl, refl, refl)
+-- the greatest word that isn't the last, and the least that is
+at_bounds : List ℕ
+at_bounds = 0x7F ∷ 0xFF ∷ 0x80 ∷ 0x00 ∷ []
 
-fronts : (front_text (hello ++ 7 ∷ []) ≡ Some hello) × (front_text (0x94 ∷ 0xA5 ∷ hello) ≡ Some (0x94 ∷ 0xA5 ∷ [])) × (front_text (0x35 ∷ 0x51 ∷ []) ≡ None) × (front_text (0x94 ∷ []) ≡ None)
-unfolding hello
-fronts = (refl, refl, refl, refl)
+followers : (after_text (hello ++ 7 ∷ []) ≡ Some (7 ∷ [])) × (after_text (at_bounds ++ 7 ∷ []) ≡ Some (7 ∷ [])) × (after_text hello ≡ Some []) × (after_text (0x35 ∷ 0x51 ∷ 0xC6 ∷ []) ≡ None)
+unfolding hello at_bounds
+followers = (refl, refl, refl, refl)
+
+fronts : (front_text (hello ++ 7 ∷ []) ≡ Some hello) × (front_text (at_bounds ++ 7 ∷ []) ≡ Some at_bounds) × (front_text (0x94 ∷ 0xA5 ∷ hello) ≡ Some (0x94 ∷ 0xA5 ∷ [])) × (front_text (0x35 ∷ 0x51 ∷ []) ≡ None) × (front_text (0x94 ∷ []) ≡ None)
+unfolding hello at_bounds
+fronts = (refl, refl, refl, refl, refl)
 
 places : (text_at (hello ++ 0x94 ∷ 0xA5 ∷ []) 0 ≡ Some hello) × (text_at (hello ++ 0x94 ∷ 0xA5 ∷ []) 4 ≡ Some (0x94 ∷ 0xA5 ∷ [])) × (text_at hello 3 ≡ None) × (text_at hello 9 ≡ None)
 unfolding hello
