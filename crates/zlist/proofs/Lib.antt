@@ -1,4 +1,5 @@
 mod Worked
+mod WorkedFaults
 mod WorkedPlaces
 mod Reachable
 pub mod Rising

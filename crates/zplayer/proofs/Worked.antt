@@ -16,10 +16,10 @@ use Rattle.zplayer.specs.declared.end.End.TheVariants as ends
 use Rattle.zplayer.specs.declared.lines.LineEnd.TheVariants.{Newline, Input}
 use Rattle.zplayer.specs.declared.lines.TheConstants.{KEPT, PIECE}
 use Rattle.zplayer.specs.declared.turns.TheConstants.{TURN}
-use Rattle.zplayer.specs.Lines.{BlamesReader, ReadsLine, Hears, line_of, without_return}
+use Rattle.zplayer.specs.Lines.{BlamesReader, ReadsLine, Hears, Takes, line_of, without_return}
 use Rattle.zplayer.specs.Outside.{Blames, BlamesWriter, Coming, CountsRefusal, words_of}
 use Rattle.zplayer.specs.Playing.{Meets, Writes, end_of, stage}
-use Rattle.zplayer.specs.World.{Answers, Draws, Gets, HasNone, Puts, Refuses, Resumes, Store, Stores, World, world}
+use Rattle.zplayer.specs.World.{Answers, Asks, Draws, Gets, HasNone, Puts, Refuses, Resumes, Store, Stores, World, world}
 
 -- ---- how playing ends
 
@@ -90,6 +90,10 @@ ended = (refl, refl, refl, refl)
 long : (line_of (replicate 255 120) Newline ≡ Some (replicate 254 120)) × (line_of (replicate 255 120) Input ≡ Some (replicate 254 120)) × (line_of (replicate 254 120 ++ 13 ∷ []) Newline ≡ Some (replicate 254 120)) × (line_of (replicate 253 120 ++ 13 ∷ []) Newline ≡ Some (replicate 253 120))
 long = (refl, refl, refl, refl)
 
+-- byte by byte, of which as many are kept as tell that a line is too long; its end is a newline, or that of the input
+taken : Takes (Some (103 ∷ 10 ∷ [])) (Some (10 ∷ [])) (7 ∷ []) (7 ∷ 103 ∷ []) None × Takes (Some (120 ∷ [])) (Some []) (replicate 255 120) (replicate 255 120) None × Takes (Some (10 ∷ 7 ∷ [])) (Some (7 ∷ [])) (103 ∷ []) (103 ∷ []) (Some Newline) × Takes (Some []) (Some []) (103 ∷ []) (103 ∷ []) (Some Input) × (Takes (Some (10 ∷ [])) (Some []) [] [] (Some Input) → ⊥)
+taken = ((103, refl, (λ e. omega (arith, e)), refl), (120, refl, (λ e. omega (arith, e)), refl), (refl, refl), (refl, refl, refl), λ t. let e = t.0 in cc)
+
 -- a line is taken from the front, and what is behind its end is left
 first : ReadsLine (Some (110 ∷ 111 ∷ 13 ∷ 10 ∷ 101 ∷ [])) (110 ∷ 111 ∷ []) (Some (101 ∷ []))
 first = λ few. inl (record { text = 110 ∷ 111 ∷ 13 ∷ []; whole = refl; unbroken = All-cons (λ byte. byte ≢ 10) 110 (111 ∷ 13 ∷ []) (λ e. omega (arith, e)) (unbroken 111 13 (λ e. omega (arith, e)) (λ e. omega (arith, e))); line_is = refl })
@@ -134,6 +138,14 @@ module _ (m : Setting) (s : State) (store : Store) where
   -- only where no byte is left there is no line, and there is always a word, and an answer to a save
   unanswered : Refuses needs.Line (world (Some []) None store) × (Refuses needs.Line (world (Some (10 ∷ [])) None store) → ⊥) × (Refuses needs.Random silent → ⊥) × (Refuses needs.Saved silent → ⊥) × (Refuses needs.Restore silent → ⊥)
   unanswered = (refl, (λ e. cc), (λ h. h), (λ h. h), λ h. h)
+
+  -- a store that keeps nothing fails, and then there is no save
+  empty : Answers m any s needs.Restore (world None None (record { kept = Some None; failures = 3 })) (Given events.NotRestored) (world None None (record { kept = Some None; failures = 4 }))
+  empty = ((refl, inl refl), refl, refl)
+
+  -- a player asks for an answer, or has none at the end of the input
+  asked : Asks m any s needs.Line (world (Some []) None store) None (world (Some []) None store) × Asks m any s needs.Line silent (Some (events.Line (110 ∷ []))) silent × (Asks m any s needs.Line (world (Some (10 ∷ [])) None store) None silent → ⊥) × (Asks m any s needs.Random silent (Some (events.Line [])) silent → ⊥)
+  asked = ((refl, refl, refl), (tt, refl, refl), (λ a. let e = a.0 in cc), λ a. a)
 
 -- of a store that keeps a save and doesn't fail, the machine is told that there is none only where it doesn't go on from it
 not_told : (m : Setting) (Takes : State → Type 0) (s t : State) (save : List ℕ) → Resumes m Takes save s t → HasNone m Takes s (record { kept = Some (Some save); failures = 3 }) (record { kept = Some (Some save); failures = 3 }) → ⊥

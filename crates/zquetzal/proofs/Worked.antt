@@ -99,9 +99,9 @@ unfolding reads story first called chunk head_of memory stacks reading body_of s
 missing = (refl, refl, refl, refl)
 
 -- Q4: one is there twice, also where memory is compressed. Q5: it is
-twice : (reads (head_of 1 12 ∷ memory ∷ head_of 1 12 ∷ stacks ∷ []) ≡ Err errors.ChunkTwice) × (reads (head_of 1 12 ∷ memory ∷ memory ∷ stacks ∷ []) ≡ Err errors.ChunkTwice) × (reads (head_of 1 12 ∷ stacks ∷ chunk CMEM [] ∷ stacks ∷ []) ≡ Err errors.ChunkTwice) × (reads (head_of 1 12 ∷ chunk CMEM [] ∷ stacks ∷ []) ≡ Err errors.Compressed) × (reads (head_of 1 12 ∷ memory ∷ chunk CMEM [] ∷ stacks ∷ []) ≡ Err errors.Compressed)
+twice : (reads (head_of 1 12 ∷ memory ∷ memory ∷ chunk CMEM [] ∷ stacks ∷ []) ≡ Err errors.ChunkTwice) × (reads (head_of 1 12 ∷ memory ∷ head_of 1 12 ∷ stacks ∷ []) ≡ Err errors.ChunkTwice) × (reads (head_of 1 12 ∷ memory ∷ memory ∷ stacks ∷ []) ≡ Err errors.ChunkTwice) × (reads (head_of 1 12 ∷ stacks ∷ chunk CMEM [] ∷ stacks ∷ []) ≡ Err errors.ChunkTwice) × (reads (head_of 1 12 ∷ chunk CMEM [] ∷ stacks ∷ []) ≡ Err errors.Compressed) × (reads (head_of 1 12 ∷ memory ∷ chunk CMEM [] ∷ stacks ∷ []) ≡ Err errors.Compressed)
 unfolding reads story first called chunk head_of memory stacks reading body_of sized_chunk chunk_at chunks_within chosen
-twice = (refl, refl, refl, refl, refl)
+twice = (refl, refl, refl, refl, refl, refl)
 
 -- Q6: another release or checksum. Q7: a byte of memory less or more
 others : (reads (head_of 2 12 ∷ memory ∷ stacks ∷ []) ≡ Err errors.OtherStory) × (reads (head_of 1 1 ∷ memory ∷ stacks ∷ []) ≡ Err errors.OtherStory) × (reads (head_of 1 12 ∷ chunk UMEM (9 ∷ 8 ∷ []) ∷ stacks ∷ []) ≡ Err errors.MemoryLength) × (reads (head_of 1 12 ∷ chunk UMEM (9 ∷ 8 ∷ 7 ∷ 6 ∷ []) ∷ stacks ∷ []) ≡ Err errors.MemoryLength)
@@ -118,9 +118,12 @@ frames_refused : (stacked [] ≡ Err errors.Frames) × (stacked (0 ∷ 0 ∷ 0 �
 unfolding stacked reads story chunk head_of memory reading body_of sized_chunk chunk_at chunks_within chosen framed frame_at frames_within frames_of
 frames_refused = (refl, refl, refl, refl, refl, refl, refl, refl)
 
--- a frame with locals and a stack, and what is behind it
-front_read : frame_at (frame_bytes called ++ 5 ∷ 6 ∷ 7 ∷ []) ≡ Ok (called, 5 ∷ 6 ∷ 7 ∷ [])
-unfolding called framed frame_at
+-- a frame with three locals and two words on its stack, and what is behind it
+full : Frame
+full = record { return_place = 0x12345; result = 16; supplied = 3; locals = 1 ∷ 0x0203 ∷ 4 ∷ []; stack = 0xFFFF ∷ 5 ∷ [] }
+
+front_read : frame_at (frame_bytes full ++ 6 ∷ 7 ∷ 8 ∷ []) ≡ Ok (full, 6 ∷ 7 ∷ 8 ∷ [])
+unfolding full framed frame_at
 front_read = refl
 
 -- as many frames as there may be, and one more
