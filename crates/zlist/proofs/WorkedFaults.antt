@@ -1,5 +1,6 @@
 -- What a lister finds at fault, in four stories of a few instructions, computed.
 use Rattle.std.proofs.Common.{◌≡◌, inl, inr, ℕ, pos, List, [], ◌∷◌, ◌++◌, replicate, Some, None, Result, Ok, Err, refl, sym, ap, ◌∙◌, arith}
+use Rattle.std.proofs.lemmas.Int.{ints}
 use Rattle.zstory.specs.LoadedStory.{LoadedStory}
 use Rattle.zcode.specs.declared.error.DecodeError.{DecodeError}
 use Rattle.zcode.specs.declared.error.DecodeError.TheVariants.{NoSuchOpcode, Operands}
@@ -78,12 +79,12 @@ in_order : ComesFirst (ComputedJump 64) (TwoRoutines 65) × ComesFirst (Decode (
 in_order = (inl tt, inr (refl, omega arith), inr (refl, omega arith), inr (refl, omega arith), late, lower)
   where
     late : ComesFirst (ComputedJump 64) (TwoRoutines 64) → ⊥
-    late (inl less) = less
+    late (inl less) = omega (arith, ints, less)
     late (inr same) = omega (arith, same.1)
 
     lower : ComesFirst (TwoRoutines 65) (ComputedJump 64) → ⊥
-    lower (inl less) = less
-    lower (inr same) = let e = same.0 in cc
+    lower (inl less) = omega (arith, ints, less)
+    lower (inr same) = omega (arith, ints, same.0)
 
 no_memory : IsFault many_locals OutOfMemory → ⊥
 no_memory fault = fault
