@@ -1,5 +1,5 @@
 -- Values of the definitions, computed.
-use Rattle.std.proofs.Common.{◌≡◌, ◌⊎◌, inl, inr, ℤ, pos, int_le, ℕ, ◌<◌, ◌≤◌, true, List, [], ◌∷◌, ◌++◌, replicate, Option, Some, None, Err, refl, sym, subst, arith, if◌then◌else◌, lit≤}
+use Rattle.std.proofs.Common.{◌≡◌, ◌⊎◌, inl, inr, ℤ, pos, int_le, ℕ, ◌<◌, ◌≤◌, true, List, [], ◌∷◌, ◌++◌, replicate, Option, Some, None, Result, Ok, Err, refl, sym, subst, arith, if◌then◌else◌, lit≤}
 use Rattle.std.specs.Prelude.{◌==◌}
 use Rattle.std.proofs.lemmas.Option.{same_Some}
 use Rattle.std.proofs.lemmas.Int.{ints}
@@ -9,11 +9,13 @@ use Rattle.zplace.specs.Bytes.{IsChanging}
 use Rattle.zdomain.specs.declared.interval.Interval.{Interval}
 use Rattle.zdomain.specs.Domain.{In}
 use Rattle.zdomain.specs.Interval.{in_order, interval_operations}
+use Rattle.zquetzal.specs.declared.error.SaveError.{SaveError}
 use Rattle.zquetzal.specs.declared.error.SaveError.TheVariants as errors
 use Rattle.zquetzal.specs.Saved.{Saved}
 use Rattle.zstate.specs.State.{Frame, State, Setting}
+use Rattle.zstate.specs.Saves.{going_on, resumed}
 use Rattle.zrule.specs.Claims.{Entry, Claims}
-use Rattle.zrule.specs.Described.{Fits, FitsWith}
+use Rattle.zrule.specs.Described.{Described, Fits, FitsWith}
 use Rattle.zjudge.specs.Frames.{AreDescribed}
 use Rattle.zjudge.specs.Judging.{IsJudged}
 use Rattle.zjudge.specs.Memory.{HasLinks, IsKept}
@@ -151,16 +153,31 @@ links = (all, λ h. too_high (h Parent), λ h. too_high (h Sibling), λ h. too_h
     too_high : 2 ≤ 1 → ⊥
     too_high h = omega (arith, h)
 
--- the word at 0 leads to the text of two bytes at 4
-led : IsLedTo (0 ∷ 2 ∷ 0 ∷ 0 ∷ 0x94 ∷ 0xA5 ∷ 0 ∷ []) 0 1 × IsLedTo (0 ∷ 2 ∷ 0 ∷ 0 ∷ 0x94 ∷ 0xA5 ∷ 0 ∷ []) 0 5 × (IsLedTo (0 ∷ 2 ∷ 0 ∷ 0 ∷ 0x94 ∷ 0xA5 ∷ 0 ∷ []) 0 2 → ⊥) × (IsLedTo (0 ∷ 2 ∷ 0 ∷ 0 ∷ 0x94 ∷ 0xA5 ∷ 0 ∷ []) 0 6 → ⊥)
-led = (inl (omega arith, omega arith), inr (omega arith, omega arith), apart 2 (omega arith) (inl (omega arith)), apart 6 (omega arith) (inr (omega arith)))
+-- the word at 0 leads to the text of two bytes at 6
+leading : List ℕ
+leading = 0 ∷ 3 ∷ 0 ∷ 0 ∷ 0 ∷ 0 ∷ 0x94 ∷ 0xA5 ∷ 0 ∷ []
+
+led : IsLedTo leading 0 1 × IsLedTo leading 0 6 × IsLedTo leading 0 7 × (IsLedTo leading 0 2 → ⊥) × (IsLedTo leading 0 5 → ⊥) × (IsLedTo leading 0 8 → ⊥)
+unfolding leading
+led = (inl (omega arith, omega arith), inr (omega arith, omega arith), inr (omega arith, omega arith), apart 2 (omega arith) (inl (omega arith)), apart 5 (omega arith) (inl (omega arith)), apart 8 (omega arith) (inr (omega arith)))
   where
-    apart : (p : ℕ) → 2 ≤ p → (p < 4) ⊎ (6 ≤ p) → IsLedTo (0 ∷ 2 ∷ 0 ∷ 0 ∷ 0x94 ∷ 0xA5 ∷ 0 ∷ []) 0 p → ⊥
+    apart : (p : ℕ) → 2 ≤ p → (p < 6) ⊎ (8 ≤ p) → IsLedTo leading 0 p → ⊥
     apart p above where_is (inl word) = omega (arith, above, word.1)
     apart p above (inl low) (inr text) = omega (arith, low, text.0)
     apart p above (inr high) (inr text) = omega (arith, high, text.1)
 
 -- ---- answers
+
+-- a save is taken only where play goes on from it in a described state, and refused for its state only where that isn't described
+module _ (m : Setting) (saved : Saved) (s : State) where
+  abbrev JudgedAs : Result ℕ SaveError → Type 0
+  JudgedAs answer = IsJudged interval_operations five m saved s answer
+
+  abbrev DescribedThen : Type 0
+  DescribedThen = Described interval_operations five m.limit m.story (resumed m.story saved s)
+
+  judged : (going_on m saved s ≡ Err errors.Place → JudgedAs (Err errors.Place)) × (JudgedAs (Ok 0) → DescribedThen × (going_on m saved s ≡ Ok (resumed m.story saved s))) × (JudgedAs (Err errors.NotDescribed) → (going_on m saved s ≡ Ok (resumed m.story saved s)) × (DescribedThen → ⊥))
+  judged = (λ e. e, λ j. (j.1, j.0), λ j. j)
 
 -- of no other refusal anything is said
 other_refusals : (m : Setting) (saved : Saved) (s : State) → (IsJudged interval_operations five {X = ℕ} m saved s (Err errors.Frames) → ⊥) × (IsJudged interval_operations five {X = ℕ} m saved s (Err errors.OutOfMemory) → ⊥)

@@ -76,7 +76,7 @@ headless = inr (70, refl, ((pos 64, calling 35, (λ set closed callees first. fi
 
 -- the lower place comes first, and of one place what isn't there, before what is shared and what jumps anywhere
 in_order : ComesFirst (ComputedJump 64) (TwoRoutines 65) × ComesFirst (Decode (pos 64) Operands) (TwoRoutines 64) × ComesFirst (TwoRoutines 64) (ComputedJump 64) × ComesFirst (TwoRoutines 64) (TwoRoutines 64) × (ComesFirst (ComputedJump 64) (TwoRoutines 64) → ⊥) × (ComesFirst (TwoRoutines 65) (ComputedJump 64) → ⊥)
-in_order = (inl tt, inr (refl, omega arith), inr (refl, omega arith), inr (refl, omega arith), late, lower)
+in_order = (inl (omega (arith, ints)), inr (refl, omega arith), inr (refl, omega arith), inr (refl, omega arith), late, lower)
   where
     late : ComesFirst (ComputedJump 64) (TwoRoutines 64) → ⊥
     late (inl less) = omega (arith, ints, less)

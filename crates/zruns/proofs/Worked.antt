@@ -3,6 +3,7 @@ use Rattle.std.proofs.Common.{◌≡◌, ◌⊎◌, inl, inr, ℕ, zero, suc, �
 use Rattle.zdomain.specs.Interval.{interval_operations}
 use Rattle.zdomain.specs.IntervalLaw.{interval_sound}
 use Rattle.zdomain.specs.declared.interval.Interval.{Interval}
+use Rattle.zstory.specs.Bytes.{readable_end}
 use Rattle.zstory.specs.LoadedStory.{LoadedStory}
 use Rattle.zarray.specs.declared.width.Width.TheVariants.{Byte, Word}
 use Rattle.zword.specs.declared.addressing.Addressing.TheVariants as addressings
@@ -10,10 +11,10 @@ use Rattle.zword.specs.Addressing.{place_of}
 use Rattle.zpairs.specs.Frozen.{FrozenStory, frozen_by}
 use Rattle.zpairs.specs.Ends.{exactly}
 use Rattle.zplace.specs.Bytes.{IsFixed}
-use Rattle.zruns.specs.Fixed.{any_below, is_size_place, is_in_text, is_closed, is_changing, is_fixed}
-use Rattle.zruns.specs.Runs.{run_of, address, cell_at, no_cell, merged, merged_below, any_element, elements}
+use Rattle.zruns.specs.Fixed.{any_below, is_in_abbreviation, is_size_place, is_in_text, is_closed, is_changing, is_fixed}
+use Rattle.zruns.specs.Runs.{AreReadable, run_of, address, cell_at, no_cell, merged, merged_below, any_element, elements}
 use Rattle.zruns.specs.Blocks.{step_length}
-use Rattle.zruns.specs.Texts.{HasFixedText, AreFixedTexts, run_length}
+use Rattle.zruns.specs.Texts.{HasFixedText, AreFixedTexts, begins_text, run_length}
 use Rattle.zruns.specs.Buffers.{IsTextBuffer, IsParseBuffer, AreBuffers}
 use Rattle.zruns.proofs.Telling.{fixed_is}
 use Rattle.zruns.proofs.Beginnings.{begins, none_is_some}
@@ -83,6 +84,14 @@ closed_rest = (refl, refl, refl, refl, refl, refl, refl, refl, refl, refl)
 texts : (is_in_text (0x00 ∷ 0x00 ∷ 0x01 ∷ 0x02 ∷ 0x03 ∷ []) (Some 1) 1 ≡ false) × (is_in_text (0x00 ∷ 0x00 ∷ 0x01 ∷ 0x02 ∷ 0x03 ∷ []) (Some 1) 4 ≡ true) × (is_in_text (0x00 ∷ 0x00 ∷ 0x01 ∷ 0x02 ∷ 0x03 ∷ []) (Some 1) 5 ≡ false) × (is_in_text (0x00 ∷ 0x00 ∷ []) None 0 ≡ false)
 texts = (refl, refl, refl, refl)
 
+-- of a table at 4, the word of the fourth abbreviation at 10, and its text at 16
+led_to : List ℕ
+led_to = replicate 10 0 ++ 0 ∷ 8 ∷ replicate 4 0 ++ 0x94 ∷ 0xA5 ∷ 0 ∷ []
+
+abbreviated : (is_in_abbreviation led_to 4 3 9 ≡ false) × (is_in_abbreviation led_to 4 3 10 ≡ true) × (is_in_abbreviation led_to 4 3 11 ≡ true) × (is_in_abbreviation led_to 4 3 12 ≡ false) × (is_in_abbreviation led_to 4 3 15 ≡ false) × (is_in_abbreviation led_to 4 3 16 ≡ true) × (is_in_abbreviation led_to 4 3 17 ≡ true) × (is_in_abbreviation led_to 4 3 18 ≡ false)
+unfolding led_to
+abbreviated = (refl, refl, refl, refl, refl, refl, refl, refl)
+
 -- of an entry, the first seven bytes
 changing : (is_changing story 0x10 ≡ true) × (is_changing story 0x12 ≡ false) × (is_changing story 0x40 ≡ true) × (is_changing story 0x21F ≡ true) × (is_changing story 0x25D ≡ false) × (is_changing story 0x25E ≡ true) × (is_changing story 0x264 ≡ true) × (is_changing story 0x265 ≡ false) × (is_changing story 0x267 ≡ false)
 unfolding story front tables any_below
@@ -105,6 +114,14 @@ unfolding told story front tables any_below is_size_place
 both_cells = (refl, refl)
 
 -- ---- what is read
+
+-- up to the last byte of memory
+at_end : AreReadable interval_operations story Word (between 0x282 0x282) (between 0 0) × AreReadable interval_operations story Byte (between 0x283 0x283) (between 0 0) × (AreReadable interval_operations story Word (between 0x283 0x283) (between 0 0) → ⊥) × (AreReadable interval_operations story Byte (between 0x284 0x284) (between 0 0) → ⊥)
+unfolding between story front tables
+at_end = (λ k few. omega (arith, few, end), λ k few. omega (arith, few, end), λ are. omega (arith, are 0 (omega arith), end), λ are. omega (arith, are 0 (omega arith), end))
+  where
+    end : readable_end story.memory ≡ 0x284
+    end = refl
 
 any_elements : (any_element interval_operations Byte ≡ between 0 255) × (any_element interval_operations Word ≡ interval_operations.any)
 unfolding between
@@ -163,6 +180,11 @@ other_texts = (
     by_rest : (128 ≤ 0) ⊎ Fixed 0x26F → ⊥
     by_rest (inl last) = omega (arith, last)
     by_rest (inr has) = open_word (begins story (frozen_by told.ranges) 0x26F has).low
+
+-- an end word is fixed where both of its bytes are, and is in memory: the last one begins at 0x282
+words_begin : (begins_text told 0x26E false ≡ true) × (begins_text told 0x26C false ≡ false) × (begins_text told 0x26C true ≡ true) × (begins_text told 0x271 true ≡ false) × (begins_text told 0x273 true ≡ false) × (begins_text told 0x282 true ≡ true) × (begins_text told 0x283 true ≡ false)
+unfolding told story front tables any_below is_size_place
+words_begin = (refl, refl, refl, refl, refl, refl, refl)
 
 -- a packed address names twice its place; each word of a set is asked
 sets_of_texts : AreFixedTexts interval_operations story (frozen_by told.ranges) addressings.Packed (interval_operations.single 0x136) × AreFixedTexts interval_operations story (frozen_by told.ranges) addressings.Byte (interval_operations.single 0x26E) × (AreFixedTexts interval_operations story (frozen_by told.ranges) addressings.Packed (between 0x137 0x138) → ⊥) × (AreFixedTexts interval_operations story (frozen_by told.ranges) addressings.Byte (between 0x26C 0x26E) → ⊥)

@@ -33,7 +33,7 @@ use Rattle.zstate.specs.declared.halt.Stop.TheVariants as stops
 use Rattle.zstate.specs.declared.mode.RandomMode.TheVariants.{Words, Counting}
 use Rattle.zstate.specs.InTurn.{in_turn}
 use Rattle.zstate.specs.State.{AreWords, Frame, State, Setting, has_head, usual_limit, scope_all, scope_only, first_frame, opening, IsFrame, IsFirst, AreFrames, IsCount, IsState, with_stack, with_locals, write_word, exists, has_room, put, put_named, put_in_place, read_in_place, popped, at_place, give, global, pop, found, read_named, read_variable, read_operand, read_operands}
-use Rattle.zstate.specs.Step.{Called, on, back, words_from, laid_over, calling, returning, proceeds, giving, rewriting, changed, assigning, testing, printing, quitting, showing, following, decoded, fetch, printed, print_at, effect_of, way, course, admits, pauses, settle, plan, advance, act, items_of, step}
+use Rattle.zstate.specs.Step.{Called, on, back, arguments, tells_time, words_from, laid_over, calling, returning, proceeds, giving, rewriting, changed, assigning, testing, printing, quitting, showing, following, decoded, fetch, printed, print_at, effect_of, way, course, admits, pauses, settle, plan, advance, act, items_of, step}
 use Rattle.zstate.specs.Run.{stop_of, until, is_answered, need_in, awaited, Given, run, Goes, Stands, IsLonger, IsDeeper}
 use Rattle.zstate.proofs.Words.{no_words, words_pushed}
 use Rattle.zstate.specs.Gives.{Gives, IsNear}
@@ -300,6 +300,19 @@ two = record { place = 73; locals = 7 ∷ 0xFEBB ∷ 0xB4B2 ∷ []; supplied = 1
 calls : (effect_of setting operations.Call (33 ∷ 7 ∷ []) state ≡ Ok (calling two)) × (effect_of setting operations.Call (32 ∷ 7 ∷ 8 ∷ 9 ∷ []) state ≡ Ok (calling (record { place = 67; locals = 7 ∷ []; supplied = 3 }))) × (effect_of setting operations.Call (32 ∷ []) state ≡ Ok (calling (record { place = 67; locals = 0x203 ∷ []; supplied = 0 })))
 unfolding effect_of words_from laid_over setting two story memory code state frame
 calls = (refl, refl, refl)
+
+-- of all routines this one alone may be called
+abbrev calling_one : Setting
+calling_one = record setting { scope = scope_only (record { records = []; routines = 64 ∷ [] }) }
+
+-- by the first value alone, and with three arguments at most
+called_alone : (effect_of calling_one operations.Call (32 ∷ 7 ∷ []) state ≡ Ok (calling (record { place = 67; locals = 7 ∷ []; supplied = 1 }))) × (effect_of calling_one operations.Call (33 ∷ 32 ∷ []) state ≡ Err (halts.Fault UnlistedCall)) × (arguments {A = ℕ} (32 ∷ 7 ∷ 8 ∷ 9 ∷ 10 ∷ []) ≡ 7 ∷ 8 ∷ 9 ∷ []) × (arguments {A = ℕ} (32 ∷ []) ≡ [])
+unfolding effect_of words_from laid_over setting story memory code state frame
+called_alone = (refl, refl, refl, refl)
+
+-- bit 1 of Flags 1, whatever the others are
+timed : (tells_time (3 ∷ 0x06 ∷ []) ≡ true) × (tells_time (3 ∷ 0x02 ∷ []) ≡ true) × (tells_time (3 ∷ 0xFD ∷ []) ≡ false)
+timed = (refl, refl, refl)
 
 -- an object is in its parent, one that is in none in 0; 0 is no object, nor is 3
 objects : (effect_of in_tabled operations.Inside (2 ∷ 1 ∷ []) (opening tabled) ≡ Ok (testing true)) × (effect_of in_tabled operations.Inside (1 ∷ 2 ∷ []) (opening tabled) ≡ Ok (testing false)) × (effect_of in_tabled operations.Inside (1 ∷ 0 ∷ []) (opening tabled) ≡ Ok (testing true)) × (effect_of in_tabled operations.Inside (0 ∷ 0 ∷ []) (opening tabled) ≡ Err (halts.Fault AbsentObject)) × (effect_of in_tabled operations.Inside (3 ∷ 0 ∷ []) (opening tabled) ≡ Err (halts.Fault AbsentObject))
