@@ -10,7 +10,8 @@ use Rattle.zobj.specs.Properties.{first_properties, property_of}
 use Rattle.zpairs.specs.declared.cell.Test.TheVariants.{Answered, Put, Unfrozen}
 use Rattle.zpairs.specs.Frozen.{FrozenStory, frozen_by}
 use Rattle.zpairs.specs.Ends.{turned, exactly, a_byte, any_word, no_word, joined, value_ends, address_ends}
-use Rattle.zpairs.specs.Cells.{is_unfrozen, cell_of, cell_at, no_cell, merged, passes}
+use Rattle.zpairs.specs.Blocks.{object_cell, object_in, place_cell}
+use Rattle.zpairs.specs.Cells.{absent_passes, is_unfrozen, cell_of, cell_at, no_cell, merged, passes}
 use Rattle.zpairs.specs.Pairs.{may_exceed, is_asked, ends_below, answers}
 
 -- ---- the order of signed readings
@@ -72,6 +73,11 @@ story = record { memory = front ++ replicate 7 0 ++ 0x02 ∷ 0x70 ∷ replicate 
 told : FrozenStory
 told = record { story = story; ranges = record { first = 0x276; last = 0x277 } ∷ record { first = 0x281; last = 0x281 } ∷ [] }
 
+-- objects are numbered from 1, and a block has 16 of them
+numbered : (object_in 0 0 ≡ 1) × (object_in 2 3 ≡ 36) × (place_cell told 2 5 3 ≡ object_cell told 35 5) × (object_cell told 35 5 ≡ no_cell) × (object_cell told 0 5 ≡ cell_at told 1 5)
+unfolding told story
+numbered = (refl, refl, refl, refl, refl)
+
 found : (property_of story.memory 1 5 ≡ Some (record { number = 5; place = 0x274; length = 1 })) × (property_of story.memory 1 3 ≡ Some (record { number = 3; place = 0x276; length = 2 })) × (property_of story.memory 1 2 ≡ Some (record { number = 2; place = 0x279; length = 3 })) × (property_of story.memory 2 5 ≡ Some (record { number = 5; place = 0x281; length = 1 })) × (property_of story.memory 2 3 ≡ None)
 unfolding story front tables first_properties
 found = (refl, refl, refl, refl, refl)
@@ -84,6 +90,10 @@ cells = (refl, refl, refl, refl, refl)
 both_cells : merged (cell_at told 1 3) (cell_at told 2 3) ≡ record { has = false; short = true; unfrozen = false; values = record { least = 0x7FFE; greatest = 0x9234 }; addresses = record { least = 0x8000; greatest = 0x8276 } }
 unfolding told story front tables first_properties is_unfrozen
 both_cells = refl
+
+-- of what no object has, an address is told, and nothing of it is frozen
+absent : (absent_passes (Answered Value) ≡ false) × (absent_passes (Answered Address) ≡ true) × (absent_passes (Answered Next) ≡ false) × (absent_passes Put ≡ false) × (absent_passes Unfrozen ≡ true)
+absent = (refl, refl, refl, refl, refl)
 
 tests : (passes (Answered Value) 1 no_cell ≡ true) × (passes (Answered Value) 31 no_cell ≡ true) × (passes (Answered Value) 0 no_cell ≡ false) × (passes (Answered Value) 32 no_cell ≡ false) × (passes (Answered Next) 0 (cell_of (frozen_by ranges) ten 0 None) ≡ true) × (passes (Answered Next) 1 (cell_of (frozen_by ranges) ten 1 None) ≡ false) × (passes Put 1 (cell_of (frozen_by ranges) ten 1 None) ≡ false) × (passes Unfrozen 1 (cell_of (frozen_by ranges) ten 1 None) ≡ true) × (passes (Answered Address) 40 (cell_of (frozen_by ranges) ten 40 None) ≡ true)
 tests = (refl, refl, refl, refl, refl, refl, refl, refl, refl)

@@ -8,11 +8,18 @@ use Rattle.zstory.specs.Header as headers
 use Rattle.zstory.specs.LoadedStory.{LoadedStory, abbreviations}
 use Rattle.ztext.specs.Abbreviations.{readable_word}
 use Rattle.zobj.specs.Properties.{data_end, data_length}
-use Rattle.zplace.specs.Bytes.{IsWithin, IsChanging, IsSizePlace, here, behind, IsTableFrame, read_length, IsOpen, IsClosed, header, a_global, a_default, an_entry, a_property, an_abbreviation, frozen, static}
-use Rattle.zplace.specs.Tables.{IsList, ended, longer, IsDataPlace, in_data, in_rest, HasName}
+use Rattle.zplace.specs.Bytes.{IsHeader, IsWithin, IsChanging, IsSizePlace, here, behind, IsTableFrame, read_length, IsOpen, IsClosed, header, a_global, a_default, an_entry, a_property, an_abbreviation, frozen, static}
+use Rattle.zplace.specs.Tables.{none_frozen, IsList, ended, longer, IsDataPlace, in_data, in_rest, HasName}
 use Rattle.zplace.proofs.Lists.{size_split, one_size_at_end, size_from, size_inside, data_split, no_data_at_end, list_split}
 
 -- ---- bytes
+
+-- the header ends before 64, and both bytes of Flags 2 are none of it
+headers_end : IsHeader 15 × IsHeader 18 × IsHeader 63 × (IsHeader 64 → ⊥) × (IsHeader 16 → ⊥) × (IsHeader 17 → ⊥)
+headers_end = ((omega arith, λ flags. omega (arith, flags.0)), (omega arith, λ flags. omega (arith, flags.1)), (omega arith, λ flags. omega (arith, flags.1)), (λ inside. omega (arith, inside.0)), (λ inside. inside.1 (omega arith, omega arith)), λ inside. inside.1 (omega arith, omega arith))
+
+none_is_frozen : (none_frozen 0 ≡ false) × (none_frozen 64 ≡ false)
+none_is_frozen = (refl, refl)
 
 -- a name of one word, a property of one byte, a property of two, and the end
 table : List ℕ
