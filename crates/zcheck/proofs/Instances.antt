@@ -135,6 +135,9 @@ first_broken : IsFirstBroken interval_operations story (certificate_at (798 ∷ 
 unfolding claims_at certificate_at at_bare bare_entry bare
 first_broken = record { story_rules = keeps_alone; entry = bare_entry; listed = refl; lowest = alone; before = none_below }
 
+told : IsCause interval_operations story (certificate_at (798 ∷ [])) (refusals.Instruction 798 instruction_rules.Successor) × IsRefused interval_operations story (certificate_at (798 ∷ [])) (refusals.Instruction 798 instruction_rules.Successor)
+told = (first_broken, first_broken)
+
 -- memory is wanted only for a certificate that passes, and never by what only looks at it
 memory_wanted : (IsCause interval_operations story (certificate_at all_listed) refusals.OutOfMemory → ⊥) × IsRefused interval_operations story (certificate_at all_listed) refusals.OutOfMemory
 memory_wanted = (λ never. never, passes)

@@ -32,11 +32,11 @@ use Rattle.zlist.specs.declared.list_error.ListError.TheVariants as listings
 use Rattle.zlist.specs.declared.record.Record.{Record}
 use Rattle.zperform.specs.Listing.{IsNoListing, listing_text}
 use Rattle.zperform.specs.Contents.{GivesPart, IsBeginning}
-use Rattle.zperform.specs.Accepting.{CheckComesTo, PlayComesTo, Stops}
+use Rattle.zperform.specs.Accepting.{CheckComesTo, IsNoCertificate, PlayComesTo, Stops}
 use Rattle.zcommand.specs.CommandLine.{ListStory, Find, Check, Play, Explain}
 use Rattle.zplayer.specs.World.{World}
 use Rattle.zperform.specs.Devices.{Breaks, Ends, FlushesUnless, Held, ReadsUnless, Says, Seen, Takes, UsesUnless}
-use Rattle.zperform.specs.Performing.{is_quiet, is_request, written_by}
+use Rattle.zperform.specs.Performing.{is_quiet, is_request, store_of, written_by}
 use Rattle.zperform.specs.Finding.{HasAlone}
 use Rattle.zperform.specs.Playing.{ComesTo, Holds, IsRefused}
 use Rattle.zperform.specs.declared.accepting.TheConstants.{CERTIFICATE_LIMIT, STORY_LIMIT}
@@ -195,6 +195,14 @@ problems :
 problems = (refl, refl, refl, refl, refl, refl, refl, refl, refl)
 
 -- of a file of three bytes a buffer with room for three gets the last two from place 1 on, and none from its end on
+-- nothing is kept at first where saves go nowhere, nothing is known of a file, and no call failed
+stores : (store_of None ≡ record { kept = Some None; failures = 0 }) × (store_of (Some (codes "a.qzl")) ≡ record { kept = None; failures = 0 })
+stores = (refl, refl)
+
+-- a certificate's file may fail, is cut off where it is empty, and wants memory only where it has bytes
+unread : IsNoCertificate (Some []) (Failed File) × IsNoCertificate (Some []) (Unreadable readings.Truncated) × (IsNoCertificate (Some []) (Failed Memory) → ⊥) × IsNoCertificate (Some (90 ∷ [])) (Failed Memory) × (IsNoCertificate None (Failed Read) → ⊥)
+unread = (tt, ([], refl, empty_certificate), (λ bytes. omega (arith, bytes)), omega arith, λ never. never)
+
 given : GivesPart (10 ∷ 20 ∷ 30 ∷ []) 1 2 (20 ∷ 30 ∷ 99 ∷ []) × GivesPart (10 ∷ 20 ∷ 30 ∷ []) 3 0 (99 ∷ [])
 given = (record { within = omega arith; read = refl; ends = λ none _. omega (arith, none) }, record { within = omega arith; read = refl; ends = λ _ _. omega arith })
 
