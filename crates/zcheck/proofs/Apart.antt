@@ -8,9 +8,10 @@ use Rattle.std.proofs.lemmas.Option.{same_Some}
 use Rattle.zstory.specs.Bytes.{word_at}
 use Rattle.zstory.specs.LoadedStory.{LoadedStory, static_base, abbreviations}
 use Rattle.ztext.specs.Abbreviations.{readable_word, abbreviation_at, IsPlainAbbreviation}
+use Rattle.ztext.specs.Local.{read_length}
 use Rattle.zcert.specs.declared.parts.Range.{Range}
 use Rattle.zcert.specs.Spelling.{IsRange}
-use Rattle.zplace.specs.Bytes.{IsWithin, IsChanging, IsUnchanging, read_length}
+use Rattle.zplace.specs.Bytes.{IsWithin, IsChanging, IsUnchanging}
 use Rattle.zpairs.specs.Frozen.{is_inside}
 use Rattle.zrule.proofs.Unchanged.{IsRead, read_where}
 use Rattle.zrule.specs.Rules.{HasAbbreviations, HasDisjointTables}

@@ -8,4 +8,5 @@ mod Heads
 mod Trees
 pub mod Headline
 mod Worked
+mod WorkedHeadline
 pub mod Instances

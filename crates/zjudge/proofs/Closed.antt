@@ -8,9 +8,10 @@ use Rattle.zstory.specs.Bytes.{byte_at}
 use Rattle.zstory.specs.LoadedStory.{LoadedStory, object_table, static_base, abbreviations}
 use Rattle.zstory.specs.Objects.{object_place, property_table}
 use Rattle.ztext.specs.Abbreviations.{readable_word}
+use Rattle.ztext.specs.Local.{read_length}
 use Rattle.zobj.specs.Properties.{list_place, data_end}
 use Rattle.zcert.specs.declared.parts.Range.{Range}
-use Rattle.zplace.specs.Bytes.{IsWithin, IsChanging, IsSizePlace, here, behind, IsTableFrame, IsPropertyFrame, IsAbbreviation, IsClosed, header, a_global, a_default, an_entry, a_property, an_abbreviation, frozen, static, read_length}
+use Rattle.zplace.specs.Bytes.{IsWithin, IsChanging, IsSizePlace, here, behind, IsTableFrame, IsPropertyFrame, IsAbbreviation, IsClosed, header, a_global, a_default, an_entry, a_property, an_abbreviation, frozen, static}
 use Rattle.zplace.proofs.Each.{one_more_below}
 use Rattle.zpairs.specs.Frozen.{is_inside, frozen_by}
 use Rattle.zobj.specs.declared.tree.Link.TheVariants.{Parent, Sibling, Child}

@@ -2,9 +2,10 @@
 use Rattle.std.specs.Prelude.{◌≡◌, ◌⊎◌, ℕ, ◌*◌, List, Option, Some, None, true}
 use Rattle.zstory.specs.LoadedStory.{LoadedStory}
 use Rattle.ztext.specs.Abbreviations.{readable_word}
+use Rattle.ztext.specs.Local.{read_length}
 use Rattle.zcert.specs.declared.parts.Range.{Range}
 use Rattle.zpairs.specs.Frozen.{is_inside}
-use Rattle.zplace.specs.Bytes.{IsWithin, read_length}
+use Rattle.zplace.specs.Bytes.{IsWithin}
 use Rattle.zjudge.specs.Memory.{AreKept}
 
 -- what a reading goes over of the text that a word leads to

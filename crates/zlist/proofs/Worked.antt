@@ -5,6 +5,8 @@ use Rattle.std.specs.List.Sorted.{IsStrictlyIncreasing}
 use Rattle.zcode.specs.declared.opcode.Opcode.TheVariants.{NewLine}
 use Rattle.zcode.specs.Instruction.{Instruction}
 use Rattle.zlist.specs.declared.record.Record.{Record}
+use Rattle.zlist.specs.declared.owner.Owner.TheVariants.{Main, Routine}
+use Rattle.zlist.specs.Listed.{owner_of}
 use Rattle.zlist.specs.Listing.{ListedCode, IsInOrder, addresses_of, is_listed, record_at, index_of, is_routine, routine_at}
 use Rattle.zlist.specs.Numbering.{IsNumbering, Tells, IsKept}
 
@@ -178,3 +180,7 @@ kept = record {
   records = none_numbered;
   routines = numbering;
 }
+
+-- number 0 is the main code, and the others are the routines in their order
+owners : (owner_of (904 ∷ 1000 ∷ []) 0 ≡ Main) × (owner_of (904 ∷ 1000 ∷ []) 1 ≡ Routine 904) × (owner_of (904 ∷ 1000 ∷ []) 2 ≡ Routine 1000)
+owners = (refl, refl, refl)

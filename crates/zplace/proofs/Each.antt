@@ -7,8 +7,9 @@ use Rattle.zstory.specs.Bytes.{byte_at, word_at}
 use Rattle.zstory.specs.LoadedStory.{LoadedStory, object_table, static_base, abbreviations}
 use Rattle.zstory.specs.Objects.{property_table}
 use Rattle.ztext.specs.Abbreviations.{readable_word}
+use Rattle.ztext.specs.Local.{read_length}
 use Rattle.zobj.specs.Properties.{list_place}
-use Rattle.zplace.specs.Bytes.{IsWithin, IsChanging, IsSizePlace, IsTableFrame, IsPropertyFrame, IsAbbreviation, IsClosed, header, a_global, a_default, an_entry, a_property, an_abbreviation, frozen, static, read_length}
+use Rattle.zplace.specs.Bytes.{IsWithin, IsChanging, IsSizePlace, IsTableFrame, IsPropertyFrame, IsAbbreviation, IsClosed, header, a_global, a_default, an_entry, a_property, an_abbreviation, frozen, static}
 use Rattle.zplace.specs.Tables.{IsPropertyTable, IsPropertyData, HasPropertyTables, none_frozen}
 use Rattle.zplace.specs.declared.places.Places.{Places}
 use Rattle.zplace.specs.declared.places.Places.TheVariants.{Run}

@@ -7,8 +7,9 @@ use Rattle.zstory.specs.Objects.{object_place, property_table}
 use Rattle.zstory.specs.Header as headers
 use Rattle.zstory.specs.LoadedStory.{LoadedStory, abbreviations}
 use Rattle.ztext.specs.Abbreviations.{readable_word}
+use Rattle.ztext.specs.Local.{read_length}
 use Rattle.zobj.specs.Properties.{data_end, data_length}
-use Rattle.zplace.specs.Bytes.{IsHeader, IsWithin, IsChanging, IsSizePlace, here, behind, IsTableFrame, read_length, IsOpen, IsClosed, header, a_global, a_default, an_entry, a_property, an_abbreviation, frozen, static}
+use Rattle.zplace.specs.Bytes.{IsHeader, IsWithin, IsChanging, IsSizePlace, here, behind, IsTableFrame, IsOpen, IsClosed, header, a_global, a_default, an_entry, a_property, an_abbreviation, frozen, static}
 use Rattle.zplace.specs.Tables.{none_frozen, IsList, ended, longer, IsDataPlace, in_data, in_rest, HasName}
 use Rattle.zplace.proofs.Lists.{size_split, one_size_at_end, size_from, size_inside, data_split, no_data_at_end, list_split}
 

@@ -1,11 +1,11 @@
 -- Which bytes of a story a play may change, and which stay as they were loaded (own). Each is a set of places.
-use Rattle.std.specs.Prelude.{◌≡◌, ◌≢◌, ℕ, ◌+◌, ◌-◌, ◌*◌, ◌<◌, ◌≤◌, ◌⊎◌, Bool, true, List, length, Some, unwrap_or}
+use Rattle.std.specs.Prelude.{◌≡◌, ◌≢◌, ℕ, ◌+◌, ◌*◌, ◌<◌, ◌≤◌, ◌⊎◌, Bool, true, List, length, Some}
 use Rattle.zstory.specs.Bytes.{byte_at}
 use Rattle.zstory.specs.LoadedStory.{LoadedStory, globals, object_table, static_base, abbreviations}
 use Rattle.zstory.specs.Objects.{object_place, property_table}
 use Rattle.zobj.specs.Properties.{list_place, data_end}
-use Rattle.ztext.specs.Words.{length_at}
 use Rattle.ztext.specs.Abbreviations.{readable_word}
+use Rattle.ztext.specs.Local.{read_length}
 
 -- a place from one on, so many bytes
 abbrev pub IsWithin : ℕ → ℕ → ℕ → Type 0
@@ -55,10 +55,6 @@ pub record IsPropertyFrame (story : LoadedStory) (p : ℕ) : Type 0 where
   pub first : 1 ≤ object
   pub last : object ≤ story.objects
   pub inside : IsTableFrame story.memory (property_table story.memory object) p
-
--- how many bytes a reading of the text at a place goes over: all that is left of memory, where the text has no end
-abbrev pub read_length : List ℕ → ℕ → ℕ
-read_length memory at = unwrap_or (length_at memory at) (length memory - at)
 
 -- the word of the table that leads to an abbreviation, or what a reading of the text there goes over
 pub record IsAbbreviation (story : LoadedStory) (p : ℕ) : Type 0 where

@@ -2,9 +2,10 @@
 use Rattle.std.specs.Prelude.{◌≡◌, ℕ, ◌+◌, ◌*◌, List, Some}
 use Rattle.zstory.specs.LoadedStory.{LoadedStory, globals, object_table, abbreviations}
 use Rattle.ztext.specs.Abbreviations.{readable_word}
+use Rattle.ztext.specs.Local.{read_length}
 use Rattle.zplace.specs.declared.places.Places.{Places}
 use Rattle.zplace.specs.declared.places.Places.TheVariants.{Run, Sizes}
-use Rattle.zplace.specs.Bytes.{IsWithin, IsSizePlace, IsAbbreviation, IsPropertyFrame, read_length}
+use Rattle.zplace.specs.Bytes.{IsWithin, IsSizePlace, IsAbbreviation, IsPropertyFrame}
 use Rattle.zplace.specs.Tables.{IsDataPlace, IsPropertyData}
 
 abbrev pub IsAmong : List ℕ → Places → ℕ → Type 0

@@ -4,7 +4,8 @@ ghost use Rattle.std.specs.Prelude.{◌≡◌, ◌↔◌, ◌+◌, ◌*◌, ◌�
 ghost use Rattle.zstory.specs.LoadedStory.{globals, object_table};
 ghost use Rattle.zstory.specs.Objects.{property_table};
 ghost use Rattle.zobj.specs.Properties.{list_place};
-ghost use Rattle.zplace.specs.Bytes.{IsAbbreviation, IsChanging, IsPropertyFrame, IsSizePlace, IsTableFrame, read_length};
+ghost use Rattle.ztext.specs.Local.{read_length};
+ghost use Rattle.zplace.specs.Bytes.{IsAbbreviation, IsChanging, IsPropertyFrame, IsSizePlace, IsTableFrame};
 ghost use Rattle.zplace.specs.Places.{AbbreviationLeavesData, AreDataApart, LeavesData, TextLeavesData};
 ghost use Rattle.zplace.specs.declared.places.Places.TheVariants.{Run};
 ghost use Rattle.zplace.specs.Tables.{HasName, HasPropertyTables, IsList, IsPropertyData, IsPropertyTable};

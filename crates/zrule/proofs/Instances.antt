@@ -12,6 +12,7 @@ use Rattle.zstory.specs.Objects.{HasEntries}
 use Rattle.ztext.specs.Words.{text_at, characters_in}
 use Rattle.ztext.specs.Codes.{abbreviations_used}
 use Rattle.ztext.specs.Abbreviations.{readable_word, abbreviation_at, IsPlainAbbreviation}
+use Rattle.ztext.specs.Local.{read_length}
 use Rattle.zcode.specs.declared.opcode.Opcode.TheVariants.{Print, NewLine, Quit}
 use Rattle.zcode.specs.Instruction.{Instruction}
 use Rattle.zcode.specs.Operation.{operation_of}
@@ -30,7 +31,7 @@ use Rattle.zflow.specs.declared.parts.Lead.TheVariants.{Ahead}
 use Rattle.zflow.specs.declared.parts.Outcome.{Outcome}
 use Rattle.zflow.specs.Transfer.{Shape, below, demands_of, outcome_of, outcome_at, goes_on}
 use Rattle.zrule.specs.Claims.{Entry, Claims, claims_of, entry_of, frozen_in, told_of}
-use Rattle.zplace.specs.Bytes.{IsWithin, IsChanging, IsAbbreviation, IsFixed, static, read_length}
+use Rattle.zplace.specs.Bytes.{IsWithin, IsChanging, IsAbbreviation, IsFixed, static}
 use Rattle.zruns.specs.Texts.{HasFixedText}
 use Rattle.zrule.specs.Rules.{Covers, HasFirstPlace, HasGlobals, HasDisjointTables, IsThere, Whatever, Leads, GoesOn, Asks, Keeps, IsLowestBroken, Supports}
 use Rattle.zrule.specs.Described.{Callers, Described, IsLoadedStory}

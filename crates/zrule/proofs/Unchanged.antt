@@ -12,7 +12,8 @@ use Rattle.ztext.specs.Words.{text_at, length_at, characters_in}
 use Rattle.ztext.specs.Codes.{abbreviations_used}
 use Rattle.ztext.specs.Abbreviations.{readable_word, abbreviation_at, IsPlainAbbreviation}
 use Rattle.ztext.proofs.Sameness.{text_at-same, abbreviation_at-same}
-use Rattle.zplace.specs.Bytes.{IsFlags, IsChanging, IsAbbreviation, read_length, header, an_abbreviation, static, IsFixed}
+use Rattle.ztext.specs.Local.{read_length}
+use Rattle.zplace.specs.Bytes.{IsFlags, IsChanging, IsAbbreviation, header, an_abbreviation, static, IsFixed}
 use Rattle.zcode.specs.Instruction.{Instruction}
 use Rattle.zcode.specs.Opcodes.{prints_text}
 use Rattle.zcode.specs.Reading.{instruction_at}

@@ -8,9 +8,10 @@ use Rattle.zstory.specs.Bytes.{byte_at}
 use Rattle.zstory.specs.LoadedStory.{LoadedStory, IsSound, globals, object_table, static_base, abbreviations}
 use Rattle.zstory.specs.Objects.{IsObjectCount, object_place, property_table}
 use Rattle.ztext.specs.Abbreviations.{readable_word}
+use Rattle.ztext.specs.Local.{read_length}
 use Rattle.zobj.specs.Properties.{list_place, data_end}
 use Rattle.zpairs.specs.Frozen.{FrozenStory, frozen_by}
-use Rattle.zplace.specs.Bytes.{IsWithin, IsFlags, IsChanging, IsObjectState, IsObjectEntry, IsSizePlace, here, behind, IsTableFrame, IsPropertyFrame, IsAbbreviation, IsHeader, IsClosed, header, a_global, a_default, an_entry, a_property, an_abbreviation, frozen, static, IsFixed, read_length}
+use Rattle.zplace.specs.Bytes.{IsWithin, IsFlags, IsChanging, IsObjectState, IsObjectEntry, IsSizePlace, here, behind, IsTableFrame, IsPropertyFrame, IsAbbreviation, IsHeader, IsClosed, header, a_global, a_default, an_entry, a_property, an_abbreviation, frozen, static, IsFixed}
 use Rattle.zruns.specs.Fixed.{is_within, any_below, is_size_place, is_in_frame, is_in_text, is_in_abbreviation, is_flags, is_closed, is_changing, is_fixed}
 
 -- a question, and what it means

@@ -4,9 +4,9 @@ use Rattle.zstory.specs.Bytes.{byte_at}
 use Rattle.zstory.specs.LoadedStory.{LoadedStory, globals, object_table, static_base, abbreviations}
 use Rattle.zstory.specs.Objects.{object_place, property_table}
 use Rattle.ztext.specs.Abbreviations.{readable_word}
+use Rattle.ztext.specs.Local.{read_length}
 use Rattle.zobj.specs.Properties.{list_place, data_end}
 use Rattle.zpairs.specs.Frozen.{FrozenStory, frozen_by}
-use Rattle.zplace.specs.Bytes.{read_length}
 
 -- a place is one of so many from another on
 abbrev pub is_within : ℕ → ℕ → ℕ → Bool

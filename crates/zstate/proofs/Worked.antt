@@ -33,7 +33,7 @@ use Rattle.zstate.specs.declared.halt.Stop.TheVariants as stops
 use Rattle.zstate.specs.declared.mode.RandomMode.TheVariants.{Words, Counting}
 use Rattle.zstate.specs.InTurn.{in_turn}
 use Rattle.zstate.specs.State.{AreWords, Frame, State, Setting, has_head, usual_limit, scope_all, scope_only, first_frame, opening, IsFrame, IsFirst, AreFrames, IsCount, IsState, with_stack, with_locals, write_word, exists, has_room, put, put_named, put_in_place, read_in_place, popped, at_place, give, global, pop, found, read_named, read_variable, read_operand, read_operands}
-use Rattle.zstate.specs.Step.{Called, on, back, arguments, tells_time, words_from, laid_over, calling, returning, proceeds, giving, rewriting, changed, assigning, testing, printing, quitting, showing, following, decoded, fetch, printed, print_at, effect_of, way, course, admits, pauses, settle, plan, advance, act, items_of, step}
+use Rattle.zstate.specs.Step.{Called, Move, on, back, into, has_caller, is_taken, is_roomy, arguments, tells_time, words_from, laid_over, calling, returning, proceeds, giving, rewriting, changed, assigning, testing, printing, quitting, showing, following, decoded, fetch, printed, print_at, effect_of, way, course, admits, pauses, settle, plan, advance, act, items_of, step}
 use Rattle.zstate.specs.Run.{stop_of, until, is_answered, need_in, awaited, Given, run, Goes, Stands, IsLonger, IsDeeper}
 use Rattle.zstate.proofs.Words.{no_words, words_pushed}
 use Rattle.zstate.specs.Gives.{Gives, IsNear}
@@ -388,6 +388,32 @@ ways = (refl, refl, refl, refl, refl)
 -- a frame that returns to 75, in a caller's variable 2
 called : State
 called = record (at 72) { frame = record frame { return_place = 75; result = 2 }; callers = frame ∷ first_frame ∷ [] }
+
+-- a routine that is entered
+entered : Move
+entered = into (record { place = 80; locals = []; supplied = 0 })
+
+-- of the callers: a return needs one, and that it has the variable; a step that neither returns nor calls asks nothing of them
+callers : (has_caller (back 9) [] ≡ false) × (has_caller (back 9) (frame ∷ []) ≡ true) × (has_caller (on (pos 2)) [] ≡ true) × (has_caller entered [] ≡ true)
+unfolding entered frame
+callers = (refl, refl, refl, refl)
+
+takers :
+    (is_taken (back 9) 2 (frame ∷ []) ≡ true) × (is_taken (back 9) 3 (frame ∷ []) ≡ false) × (is_taken (back 9) 0 (first_frame ∷ []) ≡ true) × (is_taken (back 9) 3 [] ≡ true)
+    × (is_taken (on (pos 2)) 3 (frame ∷ []) ≡ true) × (is_taken entered 3 (frame ∷ []) ≡ true)
+unfolding entered frame
+takers = (refl, refl, refl, refl, refl, refl)
+
+-- there may be two frames above the first: with one there is room for another, and with two there is none, which a call alone asks for
+roomy :
+    (is_roomy 2 entered 0 (first_frame ∷ []) ≡ true) × (is_roomy 2 entered 0 (frame ∷ first_frame ∷ []) ≡ false) × (is_roomy 2 (on (pos 2)) 0 (frame ∷ first_frame ∷ []) ≡ true)
+    × (is_roomy 0 (back 9) 2 (frame ∷ []) ≡ true) × (is_roomy 0 (back 9) 0 [] ≡ true)
+unfolding entered frame
+roomy = (refl, refl, refl, refl, refl)
+
+-- and a return asks for a word's room on its caller's stack, where that takes it
+returned_roomy : (stack : List ℕ) → length stack ≡ 65535 → (is_roomy 9 (back 9) 0 (record frame { stack = stack } ∷ []) ≡ false) × (is_roomy 9 (back 9) 2 (record frame { stack = stack } ∷ []) ≡ true)
+returned_roomy stack deep = full stack deep
 
 -- nothing returns from the first frame; a caller has to have the variable; then `quit` and a full stack are seen
 settled : (settle 1024 (branching (pos 0)) (testing true) (at 72) ≡ Err (halts.Fault ReturnFromMain)) × (settle 1024 (branching (pos 0)) (testing true) called ≡ Ok tt) × (settle 1024 (branching (pos 1)) (testing true) (record called { callers = first_frame ∷ [] }) ≡ Err (halts.Fault AbsentLocal)) × (settle 1024 (plain 1) quitting (at 72) ≡ Err halts.Quit) × (settle 1024 (record (plain 1) { store = Some 3 }) (giving 4) state ≡ Err (halts.Fault AbsentLocal)) × (settle 1024 (record (plain 1) { store = Some 2 }) (giving 4) state ≡ Ok tt)

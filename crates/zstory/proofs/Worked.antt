@@ -8,7 +8,7 @@ use Rattle.zstory.specs.Bytes.{byte_at, word_at, readable_end}
 use Rattle.zstory.specs.Header as header
 use Rattle.zstory.specs.Objects.{object_place, object_end, property_table, HasEntries, IsEntry, IsObjectCount}
 use Rattle.zstory.specs.Dictionary.{separator_count, entry_length, entry_count, entry_place, dictionary_end, encoded_text, IsOrdered, HasFallingEntries}
-use Rattle.zstory.specs.LoadedStory.{LoadedStory, IsSound, identity_of, file_sum, save_checksum}
+use Rattle.zstory.specs.LoadedStory.{LoadedStory, IsSound, identity_of, file_sum, save_checksum, is_time_game}
 use Rattle.zstory.specs.Loading.{stated_length, stated_part, with_flags_cleared, loaded_memory, IsLoaded}
 use Rattle.zstory.proofs.Computed.{bytes_tested}
 use Rattle.zstory.specs.Refusal.{number_of, IsTooShort, IsTooLong, HasOtherVersion, HasWrongLength, HasWrongBase, HasWrongGlobals, HasWrongDefaults, HasWrongDictionary, HasShortEntries, HasWrongStart, IsCause, IsLowest, HasNone}
@@ -282,6 +282,11 @@ identities = (refl, refl, refl)
 sums : (file_sum (story plain) ≡ 14970) × (file_sum (story peopled) ≡ 19218) × (save_checksum (story plain) ≡ 14970) × (save_checksum (story without_checksum) ≡ 14970) × (save_checksum (story (slice_set plain 0x1D 0)) ≡ 0x3A00)
 unfolding plain peopled without_checksum
 sums = (refl, refl, refl, refl, refl)
+
+-- what the status line shows is told by bit 1 of Flags 1, and by no other
+timed : (is_time_game (story (slice_set plain 1 0x02)) ≡ true) × (is_time_game (story (slice_set plain 1 0x06)) ≡ true) × (is_time_game (story plain) ≡ false) × (is_time_game (story (slice_set plain 1 0xFD)) ≡ false)
+unfolding plain
+timed = (refl, refl, refl, refl)
 
 -- a sum of 65,790 is 254
 wrapped : file_sum (story (replicate 64 1 ++ replicate 258 255)) ≡ 254
