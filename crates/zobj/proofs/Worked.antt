@@ -307,8 +307,8 @@ size_bytes = (refl, refl, refl)
 
 -- ---- names
 
-no_names : (name_in (0x00 ∷ 0x05 ∷ []) 0 ≡ Empty) × (name_in (0x01 ∷ 0x94 ∷ 0xA5 ∷ []) 0 ≡ At 1) × (name_in (0x00 ∷ 0x01 ∷ []) 1 ≡ Outside) × (name_in (0x00 ∷ 0x00 ∷ []) 1 ≡ Empty) × (name_in (0x00 ∷ 0x00 ∷ []) 2 ≡ Outside)
-no_names = (refl, refl, refl, refl, refl)
+no_names : (name_in (0x00 ∷ 0x05 ∷ []) 0 ≡ Empty) × (name_in (0x01 ∷ 0x94 ∷ 0xA5 ∷ []) 0 ≡ At 1) × (name_in (0x01 ∷ 0x94 ∷ []) 0 ≡ At 1) × (name_in (0x00 ∷ 0x01 ∷ []) 1 ≡ Outside) × (name_in (0x00 ∷ 0x00 ∷ []) 1 ≡ Empty) × (name_in (0x00 ∷ 0x00 ∷ []) 2 ≡ Outside)
+no_names = (refl, refl, refl, refl, refl, refl)
 
 -- ---- what is left as it is
 
