@@ -11,14 +11,15 @@ use Rattle.zfault.specs.declared.pause.Need.TheVariants as needs
 use Rattle.zfault.specs.declared.pause.Pause.TheVariants as pauses
 use Rattle.zstate.specs.declared.halt.Stop.TheVariants as stops
 use Rattle.zstate.specs.State.{State, Setting}
-use Rattle.zstate.specs.Run.{Given, Restored}
+use Rattle.zstate.specs.Run.{Given, Restored, awaited}
 use Rattle.zplayer.specs.declared.end.End.TheVariants as ends
+use Rattle.zplayer.specs.declared.end.PlayError.TheVariants as errors
 use Rattle.zplayer.specs.declared.lines.LineEnd.TheVariants.{Newline, Input}
 use Rattle.zplayer.specs.declared.lines.TheConstants.{KEPT, PIECE}
 use Rattle.zplayer.specs.declared.turns.TheConstants.{TURN}
 use Rattle.zplayer.specs.Lines.{BlamesReader, ReadsLine, Hears, Takes, line_of, without_return}
 use Rattle.zplayer.specs.Outside.{Blames, BlamesWriter, Coming, CountsRefusal, words_of}
-use Rattle.zplayer.specs.Playing.{Meets, Writes, end_of, stage}
+use Rattle.zplayer.specs.Playing.{Breaks, Meets, Plays, PlaysInPart, Stage, Writes, end_of, stage}
 use Rattle.zplayer.specs.World.{Answers, Asks, Draws, Gets, HasNone, Puts, Refuses, Resumes, Store, Stores, World, world}
 
 -- ---- how playing ends
@@ -105,6 +106,10 @@ last = λ few. inr (record { some = λ e. cc; unbroken = unbroken 101 13 (λ e. 
 known : (ReadsLine (Some (101 ∷ [])) (101 ∷ []) None → ⊥) × ReadsLine None (101 ∷ []) (Some [])
 known = (λ h. h, tt)
 
+-- a line that is heard is the next one, and what is left of known bytes stays known
+heard : Hears (Some (110 ∷ 111 ∷ 13 ∷ 10 ∷ 101 ∷ [])) (Some (110 ∷ 111 ∷ [])) (Some (101 ∷ [])) × ((line : List ℕ) → Hears (Some (101 ∷ [])) (Some line) None → ⊥)
+heard = (first, λ line h. h)
+
 -- there is no line where no byte is left, and none is told where that isn't known
 none_left : Hears (Some []) None (Some []) × (Hears (Some (10 ∷ [])) None (Some []) → ⊥) × Hears None None None
 none_left = (refl, λ e. cc, tt)
@@ -151,6 +156,24 @@ module _ (m : Setting) (s : State) (store : Store) where
 not_told : (m : Setting) (Takes : State → Type 0) (s t : State) (save : List ℕ) → Resumes m Takes save s t → HasNone m Takes s (record { kept = Some (Some save); failures = 3 }) (record { kept = Some (Some save); failures = 3 }) → ⊥
 not_told m Takes s t save goes_on (same, inl risen) = omega (arith, risen)
 not_told m Takes s t save goes_on (same, inr (quiet, bytes, given, refused)) = let is : save ≡ bytes = cc in refused t (subst (λ (b : List ℕ). Resumes m Takes b s t) is goes_on)
+
+-- the save that is handed in at a restore is the one that the store keeps, and the world stays as it is
+kept_alone :
+    (m : Setting) (Takes : State → Type 0) (s : State) (save bytes : List ℕ) (new : World)
+    → Answers m Takes s needs.Restore (world None None (record { kept = Some (Some save); failures = 3 })) (Restored bytes) new
+    → (Some save ≡ Some bytes) × (new ≡ world None None (record { kept = Some (Some save); failures = 3 }))
+kept_alone m Takes s save bytes new (kept, resumes, same) = (kept, same)
+
+-- a play that breaks off has written all that it gave out, but where a write failed
+module _ (m : Setting) (Takes wants : State → Type 0) (asked : Bool) (old new : Stage) (before now : Option (List ℕ)) where
+  read_whole : Breaks m Takes wants asked old new before now errors.Read → Plays m Takes asked old new before now × (awaited m new.state ≡ Some needs.Line)
+  read_whole breaks = breaks
+
+  wanted_whole : Breaks m Takes wants asked old new before now errors.OutOfMemory → Plays m Takes asked old new before now × wants new.state
+  wanted_whole breaks = breaks
+
+  written_in_part : PlaysInPart m Takes asked old new before now → Breaks m Takes wants asked old new before now errors.Write
+  written_in_part plays = plays
 
 -- ---- stages
 
