@@ -95,6 +95,10 @@ long = (refl, refl, refl, refl)
 taken : Takes (Some (103 ∷ 10 ∷ [])) (Some (10 ∷ [])) (7 ∷ []) (7 ∷ 103 ∷ []) None × Takes (Some (120 ∷ [])) (Some []) (replicate 255 120) (replicate 255 120) None × Takes (Some (10 ∷ 7 ∷ [])) (Some (7 ∷ [])) (103 ∷ []) (103 ∷ []) (Some Newline) × Takes (Some []) (Some []) (103 ∷ []) (103 ∷ []) (Some Input) × (Takes (Some (10 ∷ [])) (Some []) [] [] (Some Input) → ⊥)
 taken = ((103, refl, (λ e. omega (arith, e)), refl), (120, refl, (λ e. omega (arith, e)), refl), (refl, refl), (refl, refl, refl), λ t. let e = t.0 in cc)
 
+-- of all bytes only 10 is none of a line
+not_taken : (Takes (Some (10 ∷ [])) (Some []) (7 ∷ []) (7 ∷ 10 ∷ []) None → ⊥) × Takes (Some (11 ∷ [])) (Some []) (7 ∷ []) (7 ∷ 11 ∷ []) None
+not_taken = ((λ t. t.2 (let e = t.1 in cc)), (11, refl, (λ e. omega (arith, e)), refl))
+
 -- a line is taken from the front, and what is behind its end is left
 first : ReadsLine (Some (110 ∷ 111 ∷ 13 ∷ 10 ∷ 101 ∷ [])) (110 ∷ 111 ∷ []) (Some (101 ∷ []))
 first = λ few. inl (record { text = 110 ∷ 111 ∷ 13 ∷ []; whole = refl; unbroken = All-cons (λ byte. byte ≢ 10) 110 (111 ∷ 13 ∷ []) (λ e. omega (arith, e)) (unbroken 111 13 (λ e. omega (arith, e)) (λ e. omega (arith, e))); line_is = refl })
@@ -181,6 +185,10 @@ module _ (m : Setting) (Takes wants : State → Type 0) (asked : Bool) (old new 
 module _ (m : Setting) (Takes : State → Type 0) (asked : Bool) (s t : State) (w : World) (a b : Option (List ℕ)) where
   not_more : Writes m asked 5 6 s t a b → ⊥
   not_more writes = omega (arith, writes.all)
+
+  -- and where none is left over, none was made
+  none_at_a_need : (meets : Meets m Takes (Given (events.Random 7)) (stage 5 s w) (stage 5 t w) []) → meets.steps ≡ 0
+  none_at_a_need meets = omega (arith, meets.all)
 
   not_more_at_a_need : Meets m Takes (Given (events.Random 7)) (stage 5 s w) (stage 6 t w) [] → ⊥
   not_more_at_a_need meets = omega (arith, meets.all)

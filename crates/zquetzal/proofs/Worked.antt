@@ -1,17 +1,21 @@
 -- Values of the definitions, computed.
-use Rattle.std.proofs.Common.{◌≡◌, ℕ, List, [], ◌∷◌, ◌++◌, length, replicate, take, Result, Ok, Err, refl}
+use Rattle.std.proofs.Common.{◌≡◌, ℕ, List, [], ◌∷◌, ◌++◌, length, replicate, take, Result, Ok, Err, refl, true, false}
 use Rattle.zstory.specs.LoadedStory.{LoadedStory}
 use Rattle.zquetzal.specs.declared.error.SaveError.{SaveError}
 use Rattle.zquetzal.specs.declared.error.SaveError.TheVariants as errors
 use Rattle.zquetzal.specs.declared.limits.TheConstants.{FORM, IFZS, IFHD, UMEM, CMEM, STKS, HEADER_LENGTH, MOST_FRAMES}
 use Rattle.zquetzal.specs.Saved.{Frame, Saved, origin_of}
-use Rattle.zquetzal.specs.Grammar.{Chunk, form_bytes, header_bytes, frame_bytes, save_text}
+use Rattle.zquetzal.specs.Grammar.{Chunk, is_known, form_bytes, header_bytes, frame_bytes, save_text}
 use Rattle.zquetzal.specs.Reading.{body_of, sized_chunk, chunk_at, chunks_within, chosen, supplied_by, words_of, framed, frame_at, frames_within, frames_of, reading}
 use Rattle.zquetzal.specs.Refusal.{number_of}
 
 -- `FORM`, `IFZS`, `IFhd`, `UMem`, `CMem`, `Stks`, letter by letter
 letters : (FORM ≡ 0x464F524D) × (IFZS ≡ 0x49465A53) × (IFHD ≡ 0x49466864) × (UMEM ≡ 0x554D656D) × (CMEM ≡ 0x434D656D) × (STKS ≡ 0x53746B73)
 letters = (refl, refl, refl, refl, refl, refl)
+
+-- four kinds of chunks are known, and no other one: `AUTH`, say
+known_kinds : (is_known IFHD ≡ true) × (is_known UMEM ≡ true) × (is_known CMEM ≡ true) × (is_known STKS ≡ true) × (is_known 0x41555448 ≡ false)
+known_kinds = (refl, refl, refl, refl, refl)
 
 limits : (HEADER_LENGTH ≡ 13) × (MOST_FRAMES ≡ 1025)
 limits = (refl, refl)

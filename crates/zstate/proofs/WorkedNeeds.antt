@@ -9,14 +9,16 @@ use Rattle.zfault.specs.declared.event.Event.{Event}
 use Rattle.zfault.specs.declared.event.Event.TheVariants as events
 use Rattle.zfault.specs.declared.fault.Fault.TheVariants.{ReadOutside, SmallBuffer, WriteOutside}
 use Rattle.zfault.specs.declared.pause.Need.TheVariants as needs
+use Rattle.zfault.specs.declared.pause.Pause.TheVariants as pauses
 use Rattle.zfault.specs.declared.item.Item.TheVariants.{Status}
 use Rattle.zstate.specs.declared.halt.Halt.TheVariants as halts
+use Rattle.zstate.specs.declared.halt.Stop.TheVariants as stops
 use Rattle.zstate.specs.declared.mode.RandomMode.{RandomMode}
 use Rattle.zstate.specs.declared.mode.RandomMode.TheVariants.{Words, Counting}
 use Rattle.zstate.specs.InTurn.{in_turn}
 use Rattle.zstate.specs.State.{State, Setting, usual_limit, scope_all, opening, at_place, give, with_stack, put, read_operand, read_variable}
 use Rattle.zstate.specs.Step.{fetch, effect_of, giving, random_of, buffered, are_writable, admits, pauses as must_pause, plan, changed, act, step}
-use Rattle.zstate.specs.Run.{awaited}
+use Rattle.zstate.specs.Run.{Given, awaited, run, until}
 
 -- ---- random numbers
 
@@ -94,6 +96,13 @@ waits = (refl, refl, refl, refl, refl)
 heard : step setting (give line prompted) ≡ Ok (record { state = record (at_place (pos 90) (with_stack (8 ∷ []) (opening story))) { memory = asking (0x69 ∷ 0x2C ∷ 0x71 ∷ 0 ∷ []) (1 ∷ 0 ∷ 0 ∷ 1 ∷ 1 ∷ []) }; items = [] })
 unfolding step plan act changed fetch effect_of operation_of buffered are_writable with_line with_blocks lookup admits must_pause in_turn read_operand read_variable instruction_at head_at variable_head checked_head operands_at operand_at store_if branch_if text_if setting story fresh asking code asks prompted line
 heard = refl
+
+-- a run that stands at a line goes on with a line that is handed in, and with nothing else
+handed_in :
+    (run setting (Given line ∷ []) 0 prompted ≡ record { stop = stops.Paused pauses.Budget; state = give line prompted; items = [] })
+    × (run setting (Given (events.Random 7) ∷ []) 0 prompted ≡ record { stop = stops.Paused pauses.NeedLine; state = prompted; items = [] })
+unfolding run until line
+handed_in = (rw (waits.0, heard) refl, rw (waits.0) refl)
 
 -- a word is used up by the step that draws with it, and the mark of a prompt stays
 draws : (step setting (at_place (pos 90) (opening story)) ≡ Err (halts.Need needs.Random)) × (step setting (give (events.Random 65535) (at_place (pos 90) prompted)) ≡ Ok (record { state = record (at_place (pos 94) (with_stack (4 ∷ 70 ∷ 8 ∷ []) prompted)) { waiting = None }; items = [] }))
