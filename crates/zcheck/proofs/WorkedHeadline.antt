@@ -1,52 +1,62 @@
 -- What is known of every run of an accepted story, said once more in other words, and with the limit of its frames in digits.
-use Rattle.std.proofs.Common.{◌≡◌, inl, inr, ℕ, true, List, [], ◌∷◌, Ok, map, subst}
+use Rattle.std.proofs.Common.{◌≡◌, ◌⊎◌, ℕ, true, List, [], ◌∷◌, Ok, subst}
 use Rattle.std.specs.Prelude.{ℤ}
 use Rattle.std.specs.List.{AllByRecursion}
 use Rattle.zstory.specs.Bytes.{byte_at}
-use Rattle.zfault.specs.declared.event.Event.{Event}
 use Rattle.zfault.specs.declared.fault.Fault.{Fault}
 use Rattle.zdomain.specs.Domain.{SetOperations}
 use Rattle.zplace.specs.Bytes.{IsFixed}
 use Rattle.zstate.specs.declared.halt.Stop.TheVariants as stops
 use Rattle.zstate.specs.State.{Scope, Setting, State, IsState, opening, scope_all, scope_only}
-use Rattle.zstate.specs.Run.{Given, Restored, run}
+use Rattle.zstate.specs.Run.{Ending, Input, Given, Restored, run}
 use Rattle.zstate.specs.Saves.{restoring}
-use Rattle.zrule.specs.Claims.{claims_of, frozen_in}
-use Rattle.zrule.specs.Described.{Described, IsFine, IsNoFault}
+use Rattle.zrule.specs.Claims.{Claims, claims_of, frozen_in}
+use Rattle.zrule.specs.Described.{AreFine, Described, IsNoFault}
 use Rattle.zcheck.specs.Acceptance.{AcceptanceOver, NeverFaults, NeverChanges}
 
 module _ {V : Type 0} (o : SetOperations V) (a : AcceptanceOver V) where
+  abbrev claims : Claims V
+  claims = claims_of o a.certificate
+
+  -- where only what the certificate lists may be played, and where every place may
+  abbrev listed : Scope
+  listed = scope_only a.listing
+
+  abbrev everywhere : Scope
+  everywhere = scope_all a.story
+
   abbrev played_in : Scope → Setting
   played_in scope = record { story = a.story; scope = scope; limit = 1024 }
 
-  -- events are fine, whatever they are
-  events_fine : (scope : Scope) (events : List Event) → AllByRecursion (IsFine o (claims_of o a.certificate) (played_in scope)) (map Given events)
-  events_fine scope [] = tt
-  events_fine scope (event ∷ events) = (tt, events_fine scope events)
+  abbrev ending : Scope → List Input → ℕ → Ending
+  ending scope inputs n = run (played_in scope) inputs n (opening a.story)
 
-  -- no run stops at a fault, whatever happens and however many its steps: neither of what is listed, nor where every place may be played
+  -- each event may be handed in, and a save from which play goes on in described states alone
+  abbrev May : Scope → Input → Type 0
+  May scope (Given event) = Unit {0}
+  May scope (Restored bytes) = (s t : State) → IsState 1024 a.story s → restoring (played_in scope) bytes s ≡ Ok t → Described o claims 1024 a.story t
+
+  fine : (scope : Scope) (inputs : List Input) → AllByRecursion (May scope) inputs → AreFine o claims (played_in scope) inputs
+  fine scope [] may = tt
+  fine scope (Given event ∷ inputs) may = (tt, fine scope inputs may.1)
+  fine scope (Restored bytes ∷ inputs) may = (may.0, fine scope inputs may.1)
+
+  -- no run stops at a fault, whatever is handed in and however many its steps
   none_faults :
-      NeverFaults o a → (events : List Event) (n : ℕ) (fault : Fault) (place : ℤ)
-      → ((run (played_in (scope_only a.listing)) (map Given events) n (opening a.story)).stop ≡ stops.Fault fault place → ⊥)
-      × ((run (played_in (scope_all a.story)) (map Given events) n (opening a.story)).stop ≡ stops.Fault fault place → ⊥)
-  none_faults never events n fault place = (
-    λ e. subst IsNoFault e (never.listed (map Given events) n (events_fine (scope_only a.listing) events)),
-    λ e. subst IsNoFault e (never.everywhere (map Given events) n (events_fine (scope_all a.story) events)),
+      NeverFaults o a → (inputs : List Input) (n : ℕ) (fault : Fault) (place : ℤ)
+      → (AllByRecursion (May listed) inputs → (ending listed inputs n).stop ≡ stops.Fault fault place → ⊥)
+      × (AllByRecursion (May everywhere) inputs → (ending everywhere inputs n).stop ≡ stops.Fault fault place → ⊥)
+  none_faults never inputs n fault place = (
+    λ may e. subst IsNoFault e (never.listed inputs n (fine listed inputs may)),
+    λ may e. subst IsNoFault e (never.everywhere inputs n (fine everywhere inputs may)),
   )
 
-  -- nor does one that goes on from a save, after something happened, if play goes on from that in described states alone
-  none_faults_restored :
-      NeverFaults o a → (event : Event) (bytes : List ℕ) (n : ℕ) (fault : Fault) (place : ℤ)
-      → ((s t : State) → IsState 1024 a.story s → restoring (played_in (scope_only a.listing)) bytes s ≡ Ok t → Described o (claims_of o a.certificate) 1024 a.story t)
-      → (run (played_in (scope_only a.listing)) (Given event ∷ Restored bytes ∷ []) n (opening a.story)).stop ≡ stops.Fault fault place → ⊥
-  none_faults_restored never event bytes n fault place fine e = subst IsNoFault e (never.listed (Given event ∷ Restored bytes ∷ []) n (tt, (fine, tt)))
-
-  -- and no run changes a byte that is fixed, or that the certificate says is frozen
+  -- and none changes a byte that is fixed, or that the certificate says is frozen
   none_changes :
-      NeverChanges o a → (events : List Event) (n p : ℕ)
-      → (IsFixed a.story (frozen_in (claims_of o a.certificate)) p → byte_at (run (played_in (scope_only a.listing)) (map Given events) n (opening a.story)).state.memory p ≡ byte_at a.story.memory p)
-      × (frozen_in (claims_of o a.certificate) p ≡ true → byte_at (run (played_in (scope_all a.story)) (map Given events) n (opening a.story)).state.memory p ≡ byte_at a.story.memory p)
-  none_changes never events n p = (
-    λ fixed. never.listed (map Given events) n p (events_fine (scope_only a.listing) events) (inl fixed),
-    λ frozen. never.everywhere (map Given events) n p (events_fine (scope_all a.story) events) (inr frozen),
+      NeverChanges o a → (inputs : List Input) (n p : ℕ) → IsFixed a.story (frozen_in claims) p ⊎ (frozen_in claims p ≡ true)
+      → (AllByRecursion (May listed) inputs → byte_at (ending listed inputs n).state.memory p ≡ byte_at a.story.memory p)
+      × (AllByRecursion (May everywhere) inputs → byte_at (ending everywhere inputs n).state.memory p ≡ byte_at a.story.memory p)
+  none_changes never inputs n p stays = (
+    λ may. never.listed inputs n p (fine listed inputs may) stays,
+    λ may. never.everywhere inputs n p (fine everywhere inputs may) stays,
   )
