@@ -1,7 +1,7 @@
 #!/usr/bin/env python3
 """Alters the definitions of a crate, one place at a time, and says which of its computed values refuse each.
 
-    pairs.py [--jobs N] [--most N] [--seed N] [--quick] CRATE [FILE..]
+    pairs.py [--jobs N] [--most N] [--seed N] [--at-once N] [--quick] CRATE [FILE..]
 
 A definition that is changed together with its code goes through every proof: only a value that is computed from it can refuse that. So a
 number, a sum, a comparison, a truth value or a condition of specs/ is altered, or an equation answers as the one beside it, with no code
@@ -9,10 +9,10 @@ beside it, in a copy whose functions are emptied and have a hole for a proof. Ea
 definitions of a law; or it is `ill`, as no definition any more; or it passes. What passes has to be read: a definition that only stands
 between others is held to them by proofs.
 
-The values alone come first, by a function that does nothing and whose proof reads them; what they let pass is checked as a whole, but
-under --quick.
+The values alone come first, by a function that does nothing and whose proof reads them, and several places in one check: each in a copy
+of its file, and of the files that stand on it, under names of their own. What they let pass is checked as a whole, but under --quick.
 
-It runs at the top of a repository whose libraries are built, and takes 10 to 60 seconds a place. No gate runs it.
+It runs at the top of a repository whose libraries are built. No gate runs it.
 """
 import argparse
 import concurrent.futures
@@ -34,20 +34,29 @@ RT = judge.RT
 # The modules of a crate's proofs that compute values.
 VALUES = re.compile(r"(?:Worked|Standard|Instances|Sample)\w*")
 
-# What stands in the place of what, beside each number, for which the next one does.
+# What stands in the place of what, beside each number, for which the numbers beside it do.
 WORDS = {
     " + ": " * ",
     " * ": " + ",
+    " - ": " + ",
     " ≤ ": " < ",
     " < ": " ≤ ",
     " == ": " == 1 + ",
     " && ": " || ",
     " || ": " && ",
+    " ⊎ ": " × ",
     " true": " false",
     " false": " true",
+    "nat_lt ": "nat_le ",
+    "nat_le ": "nat_lt ",
+    "int_lt ": "int_le ",
+    "int_le ": "int_lt ",
+    "int_min ": "int_max ",
+    "int_max ": "int_min ",
 }
-# The names that they need an import of.
-IMPORTS = {" == 1 + ": "◌+◌", " false": "false", " true": "true"} | {f" {it} ": f"◌{it}◌" for it in ("*", "+", "<", "≤", "||", "&&")}
+# The names that they need an import of: of a word its own, of a sign that with its places.
+IMPORTS = {new: new.strip() for new in WORDS.values() if new.strip().isidentifier()}
+IMPORTS |= {f" {it} ": f"◌{it}◌" for it in ("*", "+", "<", "≤", "||", "&&")} | {" == 1 + ": "◌+◌"}
 NUMBER = re.compile(r"(?<![\w.'≡])(?:0x[0-9A-Fa-f]+|\d+)(?![\w.'])")
 CONDITION = re.compile(r"\bif (.+?) then\b")
 # A definition's name in front of an equation's patterns, and what it answers.
@@ -58,7 +67,7 @@ READER = "reads_values"
 
 
 class Place(NamedTuple):
-    """A place of a file of definitions, and what stands there instead."""
+    """A place of a file of definitions, and what stands there instead. What stands there already alters nothing."""
 
     path: str
     line: int
@@ -87,7 +96,8 @@ def places_of(path, text):
         _, equals, _ = code.partition(" = ")
         start = code.find(" = ") + len(" =") if equals else 0 if code.startswith("    ") else len(code)
         for found in NUMBER.finditer(code, start):
-            yield Place(path, number, found.start(), found.end(), str(int(found[0], 0) + 1))
+            value = int(found[0], 0)
+            yield from (Place(path, number, found.start(), found.end(), str(it)) for it in (value + 1, value - 1) if it >= 0)
         for old, new in WORDS.items():
             for found in re.finditer(re.escape(old), code[start:]):
                 yield Place(path, number, start + found.start(), start + found.end(), new)
@@ -127,13 +137,49 @@ def add_reader(crate, room):
     """Adds the function by which the values alone are checked."""
     with open(f"{room}/src/lib.rt", "a", encoding="utf-8") as file:
         file.write(f"\npub fn {READER}() {{}}\n")
-    values = sorted(it for it in os.listdir(f"{room}/proofs") if it.endswith(".antt") and VALUES.fullmatch(it[: -len(".antt")]))
+    read_by_reader(crate, room, (it for it in modules_of(room) if it.startswith("proofs/")))
+
+
+def read_by_reader(crate, room, paths):
+    """Has the function's proof read the modules of values among these."""
     judge.leave_open(crate, room, READER)
     path = f"{room}/proofs/{READER}/Proof.antt"
     hole = RT.rtlib.text_of(path)
+    values = sorted(it for it in map(name_of, paths) if VALUES.fullmatch(it))
     with open(path, "w", encoding="utf-8") as file:
-        file.writelines(f"use Rattle.{crate.name}.proofs.{it[: -len('.antt')]}\n" for it in values)
+        file.writelines(f"use Rattle.{crate.name}.proofs.{it}\n" for it in values)
         file.write(hole)
+
+
+def name_of(path):
+    """The module of a file."""
+    return os.path.basename(path)[: -len(".antt")]
+
+
+def modules_of(room):
+    """The texts of a copy's definitions and of its proofs that aren't a function's."""
+    paths = [f"{part}/{it}" for part in ("specs", "proofs") for it in sorted(os.listdir(f"{room}/{part}")) if it.endswith(".antt")]
+    return {it: RT.rtlib.text_of(f"{room}/{it}") for it in paths if name_of(it) != "Lib"}
+
+
+def standing_on(crate, texts, path):
+    """A file of these, and all of them that read it, or one that does."""
+    reached, found = set(), {path}
+    while found:
+        reached |= found
+        words = {f"Rattle.{crate.name}.{it[: -len('.antt')].replace('/', '.')}" for it in found}
+        reads = re.compile(rf"\b(?:{'|'.join(map(re.escape, words))})(?![\w])")
+        found = {it for it, text in texts.items() if it not in reached and reads.search(text)}
+    return reached
+
+
+def copies_of(crate, texts, place, number):
+    """A file with a place altered, none for no place, and what stands on the file, under names with a number."""
+    paths = standing_on(crate, texts, place.path)
+    names = {it: f"{it[: -len('.antt')]}At{number}.antt" for it in paths}
+    named = re.compile(rf"\bRattle\.{crate.name}\.(?:{'|'.join(re.escape(it[: -len('.antt')].replace('/', '.')) for it in paths)})(?![\w])")
+    altered = texts | {place.path: place.altered(texts[place.path])[0]}
+    return {names[it]: named.sub(rf"\g<0>At{number}", altered[it]) for it in paths}
 
 
 def prepare(crate, room):
@@ -163,17 +209,56 @@ def verdict_of(place, wrong, is_over):
     return f"refused by {', '.join(values or laws)}" if values or laws else "passes"
 
 
+def judged_at_once(crate, base, places):
+    """What the values say of places, each in copies of modules; none of any where the prover comes to no end."""
+    texts = modules_of(base)
+    with tempfile.TemporaryDirectory(prefix="pairs-") as room:
+        shutil.copytree(base, room, dirs_exist_ok=True)
+        copies = {}
+        for number, place in enumerate(places):
+            copies |= copies_of(crate, texts, place, number)
+        for path, text in copies.items():
+            with open(f"{room}/{path}", "w", encoding="utf-8") as file:
+                file.write(text)
+        for part, word in (("specs", "pub mod"), ("proofs", "mod")):
+            with open(f"{room}/{part}/Lib.antt", "a", encoding="utf-8") as file:
+                file.writelines(f"{word} {name_of(it)}\n" for it in sorted(copies) if it.startswith(f"{part}/"))
+        read_by_reader(crate, room, copies)
+        wrong, is_over = wrong_files(crate, room, ["--only", READER])
+    if not is_over:
+        return [None] * len(places)
+    named = [{it.replace(f"At{number}.antt", ".antt") for it in wrong if it.endswith(f"At{number}.antt")} for number in range(len(places))]
+    return [verdict_of(place, found, True) for place, found in zip(places, named)]
+
+
 def judged(crate, base, place, is_quick):
     """What is said of a place, altered in a copy of its own."""
     with tempfile.TemporaryDirectory(prefix="pair-") as room:
         shutil.copytree(base, room, dirs_exist_ok=True)
-        text, line = place.altered(RT.rtlib.text_of(f"{base}/{place.path}"))
         with open(f"{room}/{place.path}", "w", encoding="utf-8") as file:
-            file.write(text)
+            file.write(place.altered(RT.rtlib.text_of(f"{base}/{place.path}"))[0])
         verdict = verdict_of(place, *wrong_files(crate, room, ["--only", READER]))
         if verdict == "passes" and not is_quick:
             verdict = verdict_of(place, *wrong_files(crate, room, []))
-    return verdict, line
+    return verdict
+
+
+def judged_in_turn(crate, base, places, is_quick):
+    """What is said of places, at once where that can be, and else one by one."""
+    verdicts = judged_at_once(crate, base, places) if len(places) > 1 else [None]
+    for place, verdict in zip(places, verdicts):
+        by_itself = verdict is None or (verdict == "passes" and not is_quick)
+        yield place, judged(crate, base, place, is_quick) if by_itself else verdict
+
+
+def in_groups(crate, base, places, most):
+    """Places that go into one check: none beside others of a file whose values are other ones in a copy that alters nothing."""
+    paths = sorted({it.path for it in places})
+    plain = judged_at_once(crate, base, [Place(it, 0, 0, 0, "") for it in paths])
+    movable = {path for path, verdict in zip(paths, plain) if verdict == "passes"}
+    together = [it for it in places if it.path in movable]
+    yield from (together[at : at + most] for at in range(0, len(together), most))
+    yield from ([it] for it in places if it.path not in movable)
 
 
 def main():
@@ -181,6 +266,7 @@ def main():
     words.add_argument("--jobs", type=int, default=os.cpu_count() or 1)
     words.add_argument("--most", type=int, default=sys.maxsize)
     words.add_argument("--seed", type=int, default=1)
+    words.add_argument("--at-once", type=int, default=8, help="places in one check")
     words.add_argument("--quick", action="store_true", help="asks the values alone")
     words.add_argument("crate")
     words.add_argument("files", nargs="*", help="of specs/, as Spelling; none: all")
@@ -191,15 +277,16 @@ def main():
     RT.rtlib.guarded()
     with tempfile.TemporaryDirectory(prefix="pairs-") as base, concurrent.futures.ThreadPoolExecutor(given.jobs) as pool:
         prepare(crate, base)
-        paths = [os.path.relpath(f"{at}/{name}", base) for at, _, names in os.walk(f"{base}/specs") for name in names if name != "Lib.antt"]
-        texts = {it: RT.rtlib.text_of(f"{base}/{it}") for it in sorted(paths) if not given.files or os.path.basename(it)[: -len(".antt")] in given.files}
+        texts = {it: text for it, text in modules_of(base).items() if it.startswith("specs/") and (not given.files or name_of(it) in given.files)}
         places = [place for path, text in texts.items() for place in (*places_of(path, text), *neighbours_of(path, text))]
         random.Random(given.seed).shuffle(places)
         chosen = places[: given.most]
         passed = 0
-        for place, (verdict, line) in zip(chosen, pool.map(lambda place: judged(crate, base, place, given.quick), chosen)):
-            passed += verdict == "passes"
-            print(f"{place.path}:{place.line + 1}: {verdict}: {line}", flush=True)
+        groups = in_groups(crate, base, chosen, given.at_once)
+        for found in pool.map(lambda group: list(judged_in_turn(crate, base, group, given.quick)), groups):
+            for place, verdict in found:
+                passed += verdict == "passes"
+                print(f"{place.path}:{place.line + 1}: {verdict}: {place.altered(texts[place.path])[1]}", flush=True)
         print(f"pairs: {len(chosen)} of {len(places)} places, {passed} pass")
 
 

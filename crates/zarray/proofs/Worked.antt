@@ -37,9 +37,9 @@ word_cut = refl
 byte_outside : element_at Byte memory 3 ≡ None
 byte_outside = refl
 
-word_put : with_element Word 1 513 memory ≡ 1 ∷ 2 ∷ 1 ∷ []
+word_put : with_element Word 1 0xF1F0 memory ≡ 1 ∷ 0xF1 ∷ 0xF0 ∷ []
 word_put = refl
 
 -- of a word, the low byte is put
-byte_put : with_element Byte 0 65533 memory ≡ 253 ∷ 2 ∷ 255 ∷ []
+byte_put : with_element Byte 0 0x12FF memory ≡ 255 ∷ 2 ∷ 255 ∷ []
 byte_put = refl

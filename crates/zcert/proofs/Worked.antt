@@ -26,7 +26,7 @@ use Rattle.zcert.specs.Contents.{values_of, stored_instruction, LiesIn}
 use Rattle.zcert.specs.Listed.{listed_at, Finds}
 use Rattle.zcert.specs.Listed as listing
 use Rattle.zcert.specs.Refusal.{number_of}
-use Rattle.zcert.specs.View.{Refuses, RefusesField}
+use Rattle.zcert.specs.View.{Refuses, RefusesField, Takes}
 
 -- ---- limits
 
@@ -247,13 +247,14 @@ routines_read : (routine_at interval_format 0 (0 ∷ 0 ∷ 3 ∷ 0x2E ∷ 1 ∷ 
 unfolding routine_at routine
 routines_read = (refl, refl, refl, refl)
 
-two_routines : (routines_at interval_format 2 0 (0 ∷ 0 ∷ 3 ∷ 0x2E ∷ 1 ∷ 0 ∷ 1 ∷ 0 ∷ 1 ∷ 0 ∷ 0 ∷ 3 ∷ 0x40 ∷ 15 ∷ 0 ∷ 2 ∷ 0 ∷ 2 ∷ []) ≡ Ok (routines, [])) × (routines_at interval_format 2 0 (0 ∷ 0 ∷ 3 ∷ 0x2E ∷ 1 ∷ 0 ∷ 1 ∷ 0 ∷ 1 ∷ 0 ∷ 0 ∷ 3 ∷ 0x2E ∷ []) ≡ Err errors.Order)
+two_routines : (routines_at interval_format 2 0 (0 ∷ 0 ∷ 3 ∷ 0x2E ∷ 1 ∷ 0 ∷ 1 ∷ 0 ∷ 1 ∷ 0 ∷ 0 ∷ 3 ∷ 0x40 ∷ 15 ∷ 0 ∷ 2 ∷ 0 ∷ 2 ∷ []) ≡ Ok (routines, [])) × (routines_at interval_format 2 0 (0 ∷ 0 ∷ 3 ∷ 0x2E ∷ 1 ∷ 0 ∷ 1 ∷ 0 ∷ 1 ∷ 0 ∷ 0 ∷ 3 ∷ 0x2F ∷ 1 ∷ 0 ∷ 1 ∷ 0 ∷ 1 ∷ []) ≡ Ok (routine ∷ record routine { address = 0x32F } ∷ [], [])) × (routines_at interval_format 2 0 (0 ∷ 0 ∷ 3 ∷ 0x2E ∷ 1 ∷ 0 ∷ 1 ∷ 0 ∷ 1 ∷ 0 ∷ 0 ∷ 3 ∷ 0x2E ∷ []) ≡ Err errors.Order)
 unfolding routines_at routine_at routines routine
-two_routines = (refl, refl)
+two_routines = (refl, refl, refl)
 
-counted_routines : (all_routines_at interval_format (0 ∷ 0 ∷ 4 ∷ []) ≡ Ok ([], 4 ∷ [])) × (all_routines_at interval_format (0 ∷ 1 ∷ 0 ∷ 0 ∷ 3 ∷ 0x2E ∷ 1 ∷ 0 ∷ 1 ∷ 0 ∷ 1 ∷ 9 ∷ []) ≡ Ok (routine ∷ [], 9 ∷ [])) × (all_routines_at interval_format (0 ∷ []) ≡ Err errors.Truncated)
+-- the lowest address is 0
+counted_routines : (all_routines_at interval_format (0 ∷ 0 ∷ 4 ∷ []) ≡ Ok ([], 4 ∷ [])) × (all_routines_at interval_format (0 ∷ 1 ∷ 0 ∷ 0 ∷ 3 ∷ 0x2E ∷ 1 ∷ 0 ∷ 1 ∷ 0 ∷ 1 ∷ 9 ∷ []) ≡ Ok (routine ∷ [], 9 ∷ [])) × (all_routines_at interval_format (0 ∷ []) ≡ Err errors.Truncated) × (all_routines_at interval_format (0 ∷ 1 ∷ 0 ∷ 0 ∷ 0 ∷ 0 ∷ 1 ∷ 0 ∷ 1 ∷ 0 ∷ 1 ∷ []) ≡ Ok (record routine { address = 0 } ∷ [], []))
 unfolding all_routines_at routines_at routine_at routine
-counted_routines = (refl, refl, refl)
+counted_routines = (refl, refl, refl, refl)
 
 -- a set for each local of its routine; a routine that isn't there is refused before the height is read
 instructions_read : (instruction_at interval_format [] 0 (0 ∷ 0 ∷ 3 ∷ 0x24 ∷ 0 ∷ 0 ∷ 0 ∷ 2 ∷ []) ≡ Ok (main_instruction, 2 ∷ [])) × (instruction_at interval_format routines 0 (0 ∷ 0 ∷ 3 ∷ 0x31 ∷ 0 ∷ 1 ∷ 0 ∷ 0 ∷ 0 ∷ 0 ∷ 0 ∷ []) ≡ Ok (record instruction { slots = [] }, [])) × (instruction_at interval_format routines 0 (0 ∷ 0 ∷ 3 ∷ 0x31 ∷ 0 ∷ 3 ∷ []) ≡ Err errors.Limit)
@@ -264,10 +265,10 @@ two_instructions : (instructions_at interval_format [] 2 0 (0 ∷ 0 ∷ 3 ∷ 0x
 unfolding instructions_at instruction_at values_at main_instruction
 two_instructions = (refl, refl)
 
--- 131,072 are let pass, and then the first is missing; one more isn't
-counted_instructions : (all_instructions_at interval_format [] (0 ∷ 0 ∷ 0 ∷ 0 ∷ 3 ∷ []) ≡ Ok ([], 3 ∷ [])) × (all_instructions_at interval_format [] (0 ∷ 2 ∷ 0 ∷ 0 ∷ []) ≡ Err errors.Truncated) × (all_instructions_at interval_format [] (0 ∷ 2 ∷ 0 ∷ 1 ∷ []) ≡ Err errors.Limit)
-unfolding all_instructions_at instructions_at instruction_at
-counted_instructions = (refl, refl, refl)
+-- 131,072 are let pass, and then the first is missing; one more isn't; the lowest address is 0
+counted_instructions : (all_instructions_at interval_format [] (0 ∷ 0 ∷ 0 ∷ 0 ∷ 3 ∷ []) ≡ Ok ([], 3 ∷ [])) × (all_instructions_at interval_format [] (0 ∷ 2 ∷ 0 ∷ 0 ∷ []) ≡ Err errors.Truncated) × (all_instructions_at interval_format [] (0 ∷ 2 ∷ 0 ∷ 1 ∷ []) ≡ Err errors.Limit) × (all_instructions_at interval_format [] (0 ∷ 0 ∷ 0 ∷ 1 ∷ 0 ∷ 0 ∷ 0 ∷ 0 ∷ 0 ∷ 0 ∷ 0 ∷ []) ≡ Ok (record main_instruction { address = 0 } ∷ [], []))
+unfolding all_instructions_at instructions_at instruction_at values_at main_instruction
+counted_instructions = (refl, refl, refl, refl)
 
 -- any count of two bytes is let pass, and then the first is missing
 most_counted : (all_ranges_at (255 ∷ 255 ∷ []) ≡ Err errors.Truncated) × (all_routines_at interval_format (255 ∷ 255 ∷ []) ≡ Err errors.Truncated)
@@ -333,21 +334,25 @@ unfolding at_turn
 addresses_taken = (refl, refl, refl, refl)
 
 -- a field is in turn by its kind alone; sets come in three places
-in_turns : InTurn {V = Interval} turns.Checksum (fields.Checksum 7) × (InTurn {V = Interval} turns.Checksum (fields.Release 7) → ⊥) × InTurn (turns.Global 3) (fields.Global (point 1)) × (InTurn (turns.Global 3) (fields.Value (point 1)) → ⊥) × (InTurn (turns.Value 3 header 1) (fields.RoutineResult (point 1)) → ⊥) × (InTurn {V = Interval} turns.Complete (fields.Release 7) → ⊥)
-in_turns = (tt, λ t. t, tt, λ t. t, λ t. t, λ t. t)
+in_turns : InTurn {V = Interval} turns.Checksum (fields.Checksum 7) × (InTurn {V = Interval} turns.Checksum (fields.Release 7) → ⊥) × InTurn (turns.Global 3) (fields.Global (point 1)) × (InTurn (turns.Global 3) (fields.Value (point 1)) → ⊥) × (InTurn (turns.Value 3 header 1) (fields.RoutineResult (point 1)) → ⊥) × (InTurn {V = Interval} turns.Complete (fields.Release 7) → ⊥) × InTurn (turns.Value 3 header 1) (fields.Value (point 1))
+in_turns = (tt, λ t. t, tt, λ t. t, λ t. t, λ t. t, tt)
 
 -- which fields add a part, and what is due in an unfinished one
-parts_added : Adds {V = Interval} (fields.Height 0) × Adds {V = Interval} (fields.RangeLast 1) × (Adds {V = Interval} (fields.RangeFirst 1) → ⊥) × (Adds {V = Interval} (fields.InstructionAddress 1) → ⊥)
-parts_added = (tt, tt, λ a. a, λ a. a)
+parts_added : Adds {V = Interval} (fields.Height 0) × Adds {V = Interval} (fields.RangeLast 1) × (Adds {V = Interval} (fields.RangeFirst 1) → ⊥) × (Adds {V = Interval} (fields.InstructionAddress 1) → ⊥) × Adds (fields.Value (point 1))
+parts_added = (tt, tt, λ a. a, λ a. a, tt)
 
 due : IsDue {V = Interval} (turns.LocalCount 0 131071) [] × (IsDue {V = Interval} (turns.RoutineResult 0 131072 1) [] → ⊥) × (IsDue {V = Interval} (turns.Height 0 131072 0) [] → ⊥) × (IsDue (turns.RoutineNumber 0 1) (point 1 ∷ []) → ⊥) × IsDue (turns.Value 0 header 0) (point 1 ∷ []) × (IsDue (turns.Value 0 header 1) (point 1 ∷ []) → ⊥)
 unfolding header
 due = (omega arith, λ d. omega (arith, d), λ d. omega (arith, d.0), λ d. omega (arith, d.1), (omega arith, refl), λ d. omega (arith, d.1))
 
 -- an error that is due, and want of memory, which a refused field never gives
-refused : Refuses errors.Order (taken start (fields.Checksum 1)) × (Refuses errors.Limit (taken start (fields.Checksum 1)) → ⊥) × Refuses errors.OutOfMemory (taken start (fields.Checksum 1)) × RefusesField errors.OutOfMemory (taken start (fields.Release 1)) × (RefusesField errors.OutOfMemory (taken start (fields.Checksum 1)) → ⊥)
+refused : Refuses errors.Order (taken start (fields.Checksum 1)) × (Refuses errors.Limit (taken start (fields.Checksum 1)) → ⊥) × Refuses errors.OutOfMemory (taken start (fields.Checksum 1)) × RefusesField errors.OutOfMemory (taken start (fields.Release 1)) × (RefusesField errors.OutOfMemory (taken start (fields.Checksum 1)) → ⊥) × (RefusesField {Y = ℕ} errors.Order (Ok 1) → ⊥)
 unfolding start
-refused = (refl, λ e. absurd cc, tt, refl, λ e. absurd cc)
+refused = (refl, λ e. absurd cc, tt, refl, λ e. absurd cc, λ e. absurd cc)
+
+-- what is refused with what is due leaves the old one
+left : Takes {P = ℕ} {U = ℕ} 1 1 (Err errors.Order) (Err errors.Order) × (Takes {P = ℕ} {U = ℕ} 1 2 (Err errors.Order) (Err errors.Order) → ⊥) × Takes {P = ℕ} {U = ℕ} 1 2 (Ok 0) (Ok 2)
+left = ((refl, refl), (λ t. omega (arith, t.0)), refl)
 
 -- the next address is to be above this one
 routine_fields : (taken (at_turn (turns.RoutineAddress 1) 0) (fields.RoutineAddress 0x32E) ≡ Ok (at_turn (turns.LocalCount 1 0x32E) 0)) × (taken (at_turn (turns.LocalCount 1 0x32E) 0) (fields.LocalCount 16) ≡ Err errors.Limit) × (taken (at_turn (turns.RoutineResult 1 0x32E 1) 0) (fields.RoutineResult (point 1)) ≡ Ok (record { content = record start.content { routines = routine ∷ [] }; values = []; floor = 0x32F; turn = turns.RoutineAddress 0 }))

@@ -9,7 +9,7 @@ use Rattle.zcommand.specs.CommandLine.{Asks, Request, ListStory, Find, Check, Pl
 
 -- a number is below 2 to the 32nd, or to the 64th, and has digits alone behind one plus
 numbers :
-    (number_in 32 (codes "0") ≡ 0) × (number_in 32 (codes "+17") ≡ 17) × (number_in 32 (codes "4294967295") ≡ 4294967295) × (number_in 32 (codes "4294967296") ≡ 0) × (number_in 32 (codes "1:") ≡ 0) × (number_in 32 (codes "1/") ≡ 0) × (number_in 32 (codes "1x") ≡ 0) × (number_in 32 (codes "+") ≡ 0)
+    (number_in 32 (codes "0") ≡ 0) × (number_in 32 (codes "+17") ≡ 17) × (number_in 32 (codes "4294967295") ≡ 4294967295) × (number_in 32 (codes "4294967296") ≡ 0) × (number_in 32 (codes "1:") ≡ 0) × (number_in 32 (codes "1/") ≡ 0) × (number_in 32 (codes "1a") ≡ 0) × (number_in 32 (codes "+") ≡ 0)
     × (number_in 64 (codes "4294967296") ≡ 4294967296) × (number_in 64 (codes "18446744073709551615") ≡ 18446744073709551615) × (number_in 64 (codes "18446744073709551616") ≡ 0)
 numbers = (refl, refl, refl, refl, refl, refl, refl, refl, refl, refl, refl)
 
@@ -21,7 +21,7 @@ asked :
     Ask (codes "list" ∷ codes "hello.z3" ∷ []) (ListStory (codes "hello.z3"))
     × Ask (codes "play" ∷ codes "hello.z3" ∷ []) (Play (codes "hello.z3") None 1 1000000000 false None)
     × Ask (codes "play" ∷ codes "--budget" ∷ codes "12" ∷ codes "hello.z3" ∷ codes "hello.cert" ∷ codes "--status" ∷ codes "--seed" ∷ codes "18446744073709551615" ∷ []) (Play (codes "hello.z3") (Some (codes "hello.cert")) 18446744073709551615 12 true None)
-    × Ask (codes "play" ∷ codes "--save" ∷ codes "a.qzl" ∷ codes "hello.z3" ∷ []) (Play (codes "hello.z3") None 1 1000000000 false (Some (codes "a.qzl")))
+    × Ask (codes "play" ∷ codes "--save" ∷ codes "a.qzl" ∷ codes "--seed" ∷ codes "0" ∷ codes "--budget" ∷ codes "0" ∷ codes "hello.z3" ∷ []) (Play (codes "hello.z3") None 0 0 false (Some (codes "a.qzl")))
     × Ask (codes "check" ∷ codes "hello.z3" ∷ codes "hello.cert" ∷ []) (Check (codes "hello.z3") (codes "hello.cert"))
     × Ask (codes "find" ∷ codes "hello.z3" ∷ codes "hello.cert" ∷ []) (Find (codes "hello.z3") (codes "hello.cert"))
     × Ask (codes "explain" ∷ codes "I5" ∷ []) (Explain (codes "I5"))

@@ -150,6 +150,11 @@ common = ((refl, refl), (refl, refl), refl)
 only : (interval_operations.known (word (pos 5)) ≡ Some 5) × (interval_operations.known (word (minus 2)) ≡ Some 0xFFFE) × (interval_operations.known (from (pos 0) (pos 1) refl) ≡ None)
 only = (refl, refl, refl)
 
+-- the words at the ends, and of an end that is no word the nearest
+nearest : (interval_operations.lowest small ≡ 0xFFFF) × (interval_operations.highest small ≡ 1) × (interval_operations.lowest (from (negsuc 40000) (pos 0) refl) ≡ 0x8000) × (interval_operations.highest (from (pos 0) (pos 40000) refl) ≡ 0x7FFF)
+unfolding small
+nearest = (refl, refl, refl, refl)
+
 -- ---- what an answer leaves
 
 abbrev AreFrom : Option (Interval × Interval) → ℤ → ℤ → ℤ → ℤ → Type 0

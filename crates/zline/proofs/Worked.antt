@@ -1,5 +1,5 @@
 -- Values of the definitions, computed.
-use Rattle.std.proofs.Common.{◌≡◌, ℕ, List, [], ◌∷◌, ◌++◌, replicate, refl}
+use Rattle.std.proofs.Common.{◌≡◌, ℕ, ◌-◌, List, [], ◌∷◌, ◌++◌, replicate, refl}
 use Rattle.ztext.specs.Alphabets.{small_letters}
 use Rattle.ztext.specs.Typed.{word_characters, word_code}
 use Rattle.zdict.specs.Lookup.{lookup}
@@ -7,8 +7,8 @@ use Rattle.zdict.specs.Tokens.{Span}
 use Rattle.zline.specs.Storing.{block, stored_byte, stored_text, with_blocks, with_bytes, with_line, with_text, words_of}
 
 -- A, Z, a, z, what stands beside them, a space, a tilde, a tab, and what is no ASCII
-bytes : (stored_byte 0x41 ≡ 0x61) × (stored_byte 0x5A ≡ 0x7A) × (stored_byte 0x61 ≡ 0x61) × (stored_byte 0x7A ≡ 0x7A) × (stored_byte 0x40 ≡ 0x40) × (stored_byte 0x5B ≡ 0x5B) × (stored_byte 0x20 ≡ 0x20) × (stored_byte 0x7E ≡ 0x7E) × (stored_byte 0x09 ≡ 0x3F) × (stored_byte 0x7F ≡ 0x3F) × (stored_byte 0xE9 ≡ 0x3F)
-bytes = (refl, refl, refl, refl, refl, refl, refl, refl, refl, refl, refl)
+bytes : (stored_byte 0x41 ≡ 0x61) × (stored_byte 0x5A ≡ 0x7A) × (stored_byte 0x61 ≡ 0x61) × (stored_byte 0x7A ≡ 0x7A) × (stored_byte 0x40 ≡ 0x40) × (stored_byte 0x5B ≡ 0x5B) × (stored_byte 0x20 ≡ 0x20) × (stored_byte 0x7E ≡ 0x7E) × (stored_byte 0x09 ≡ 0x3F) × (stored_byte 0x7F ≡ 0x3F) × (stored_byte 0xE9 ≡ 0x3F) × (stored_byte 0x1F ≡ 0x3F)
+bytes = (refl, refl, refl, refl, refl, refl, refl, refl, refl, refl, refl, refl)
 
 -- a size of 4 takes three characters, one of 1 none
 texts : (stored_text 4 (0x4C ∷ 0x6F ∷ 0x6F ∷ 0x6B ∷ []) ≡ 0x6C ∷ 0x6F ∷ 0x6F ∷ []) × (stored_text 9 (0x4C ∷ []) ≡ 0x6C ∷ []) × (stored_text 1 (0x4C ∷ []) ≡ []) × (stored_text 0 (0x4C ∷ []) ≡ [])
@@ -61,10 +61,10 @@ two : with_line story 0 6 (0x61 ∷ 0x20 ∷ 0x62 ∷ []) (5 ∷ 9 ∷ 9 ∷ 9 �
 unfolding with_line with_blocks story lookup
 two = refl
 
--- a dictionary at 300, with the word "go" in the entry at 305
-far : List ℕ
-far = replicate 8 0 ++ 1 ∷ 44 ∷ (replicate 290 0 ++ 1 ∷ 0x2E ∷ 4 ∷ 0 ∷ 1 ∷ 0x32 ∷ 0x85 ∷ 0x94 ∷ 0xA5 ∷ [])
+-- a dictionary at a place from 256 on, with the word "go" in the entry five bytes behind that
+far : ℕ → List ℕ
+far place = replicate 8 0 ++ 1 ∷ (place - 256) ∷ (replicate (place - 10) 0 ++ 1 ∷ 0x2E ∷ 4 ∷ 0 ∷ 1 ∷ 0x32 ∷ 0x85 ∷ 0x94 ∷ 0xA5 ∷ [])
 
-far_found : block far (word 0 (0x67 ∷ 0x6F ∷ [])) ≡ 1 ∷ 49 ∷ 2 ∷ 1 ∷ []
+far_found : (block (far 506) (word 0 (0x67 ∷ 0x6F ∷ [])) ≡ 1 ∷ 255 ∷ 2 ∷ 1 ∷ []) × (block (far 507) (word 0 (0x67 ∷ 0x6F ∷ [])) ≡ 2 ∷ 0 ∷ 2 ∷ 1 ∷ [])
 unfolding far word lookup word_code word_characters small_letters
-far_found = refl
+far_found = (refl, refl)

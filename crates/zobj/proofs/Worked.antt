@@ -128,9 +128,9 @@ rows : (row 4 family 1 ≡ 1 ∷ 4 ∷ 2 ∷ []) × (row 2 family 1 ≡ 1 ∷ 4 
 unfolding family four grove node row
 rows = (refl, refl, refl, refl)
 
-leads : (lead_of 4 family 4 ≡ Ok (Some (record { link = Sibling; object = 1 }))) × (lead_of 4 family 1 ≡ Ok (Some (record { link = Child; object = 3 }))) × (lead_of 4 family 2 ≡ Ok (Some (record { link = Sibling; object = 4 }))) × (lead_of 4 family 3 ≡ Ok None)
+leads : (lead_of 4 family 4 ≡ Ok (Some (record { link = Sibling; object = 1 }))) × (lead_of 4 family 1 ≡ Ok (Some (record { link = Child; object = 3 }))) × (lead_of 4 family 2 ≡ Ok (Some (record { link = Sibling; object = 4 }))) × (lead_of 4 family 3 ≡ Ok None) × (lead_of 4 (four (node 3 2 0) (node 3 0 0) (node 0 0 4) (node 3 1 0)) 2 ≡ Ok (Some (record { link = Sibling; object = 1 })))
 unfolding family four grove node row
-leads = (refl, refl, refl, refl)
+leads = (refl, refl, refl, refl, refl)
 
 -- the one in the middle, the first, and the parent, whose children stay
 taken : (unlinked 4 4 family ≡ Ok (four (node 3 2 0) (node 3 0 0) (node 0 0 1) (node 0 0 0))) × (unlinked 4 1 family ≡ Ok (four (node 0 0 0) (node 3 0 0) (node 0 0 4) (node 3 2 0))) × (unlinked 4 3 family ≡ Ok family)
@@ -274,9 +274,9 @@ first_of_equals = (refl, refl, refl, refl, refl)
 -- ---- answers
 
 -- object 1 has the properties 5, of one byte, and 3, of two
-asked_values : (answer_of Value story 1 5 ≡ Ok 7) × (answer_of Value story 1 3 ≡ Ok 4660) × (answer_of Value story 1 9 ≡ Ok 0) × (answer_of Value story 1 0 ≡ Err AbsentProperty) × (answer_of Value story 1 32 ≡ Err AbsentProperty) × (answer_of Value family 1 31 ≡ Ok 8167)
+asked_values : (answer_of Value story 1 5 ≡ Ok 7) × (answer_of Value story 1 3 ≡ Ok 4660) × (answer_of Value story 1 9 ≡ Ok 0) × (answer_of Value story 1 1 ≡ Ok 0) × (answer_of Value story 1 0 ≡ Err AbsentProperty) × (answer_of Value story 1 32 ≡ Err AbsentProperty) × (answer_of Value family 1 31 ≡ Ok 8167)
 unfolding story story_with state front tables family four grove node first_properties
-asked_values = (refl, refl, refl, refl, refl, refl)
+asked_values = (refl, refl, refl, refl, refl, refl, refl)
 
 asked_addresses : (answer_of Address story 1 3 ≡ Ok 630) × (answer_of Address story 1 5 ≡ Ok 628) × (answer_of Address story 1 4 ≡ Ok 0) × (answer_of Address story 1 259 ≡ Ok 0)
 unfolding story story_with state front tables first_properties

@@ -21,8 +21,8 @@ order : (turned 0x8000 ≡ 0) × (turned 0xFFFF ≡ 0x7FFF) × (turned 0 ≡ 0x8
 order = (refl, refl, refl, refl, refl, refl)
 
 -- the words below 256, and -1 with 1: the least by sign is no unsigned least
-bytes : (exactly 0 ≡ record { least = 0x8000; greatest = 0x8000 }) × (joined (exactly 0) (exactly 255) ≡ a_byte) × (joined (exactly 1) (exactly 0xFFFF) ≡ record { least = 0x7FFF; greatest = 0x8001 }) × (joined (exactly 0x8000) (exactly 0x7FFF) ≡ any_word) × (joined no_word (exactly 7) ≡ exactly 7)
-bytes = (refl, refl, refl, refl, refl)
+bytes : (exactly 0 ≡ record { least = 0x8000; greatest = 0x8000 }) × (joined (exactly 0) (exactly 255) ≡ a_byte) × (joined (exactly 1) (exactly 0xFFFF) ≡ record { least = 0x7FFF; greatest = 0x8001 }) × (joined (exactly 0x8000) (exactly 0x7FFF) ≡ any_word) × (joined no_word (exactly 7) ≡ exactly 7) × (joined no_word (exactly 0x7FFF) ≡ exactly 0x7FFF) × (joined no_word (exactly 0x8000) ≡ exactly 0x8000)
+bytes = (refl, refl, refl, refl, refl, refl, refl)
 
 -- ---- ranges, both ends included
 
@@ -87,9 +87,16 @@ cells : (cell_at told 1 3 ≡ record { has = true; short = true; unfrozen = fals
 unfolding told story front tables first_properties is_unfrozen
 cells = (refl, refl, refl, refl, refl)
 
-both_cells : merged (cell_at told 1 3) (cell_at told 2 3) ≡ record { has = false; short = true; unfrozen = false; values = record { least = 0x7FFE; greatest = 0x9234 }; addresses = record { least = 0x8000; greatest = 0x8276 } }
+both_cells :
+    (merged (cell_at told 1 3) (cell_at told 2 3) ≡ record { has = false; short = true; unfrozen = false; values = record { least = 0x7FFE; greatest = 0x9234 }; addresses = record { least = 0x8000; greatest = 0x8276 } })
+    × ((merged (cell_at told 1 2) (cell_at told 1 3)).short ≡ false)
 unfolding told story front tables first_properties is_unfrozen
-both_cells = refl
+both_cells = (refl, refl)
+
+-- what is known of none says nothing of others
+none_beside : (merged no_cell (cell_at told 1 3) ≡ cell_at told 1 3) × (merged no_cell (cell_at told 1 2) ≡ cell_at told 1 2)
+unfolding told story front tables first_properties is_unfrozen
+none_beside = (refl, refl)
 
 -- of what no object has, an address is told, and nothing of it is frozen
 absent : (absent_passes (Answered Value) ≡ false) × (absent_passes (Answered Address) ≡ true) × (absent_passes (Answered Next) ≡ false) × (absent_passes Put ≡ false) × (absent_passes Unfrozen ≡ true)
@@ -103,9 +110,11 @@ tests = (refl, refl, refl, refl, refl, refl, refl, refl, refl)
 between : ℕ → ℕ → Interval
 between = interval_operations.between
 
-asked_numbers : (is_asked interval_operations (between 3 5) 2 ≡ false) × (is_asked interval_operations (between 3 5) 3 ≡ true) × (is_asked interval_operations (between 3 5) 5 ≡ true) × (is_asked interval_operations (between 3 31) 32 ≡ false) × (is_asked interval_operations (between 3 32) 32 ≡ true) × (may_exceed interval_operations (between 0xFFFF 0) ≡ true) × (may_exceed interval_operations (between 33 33) ≡ true)
+asked_numbers :
+    (is_asked interval_operations (between 3 5) 2 ≡ false) × (is_asked interval_operations (between 3 5) 3 ≡ true) × (is_asked interval_operations (between 3 5) 5 ≡ true) × (is_asked interval_operations (between 3 31) 32 ≡ false) × (is_asked interval_operations (between 3 32) 32 ≡ true) × (may_exceed interval_operations (between 0xFFFF 0) ≡ true) × (may_exceed interval_operations (between 33 33) ≡ true)
+    × (may_exceed interval_operations (between 0 31) ≡ false) × (may_exceed interval_operations (between 0x8000 0x8000) ≡ true) × (may_exceed interval_operations (between 0x7FFF 0x7FFF) ≡ true) × (is_asked interval_operations (between 31 31) 31 ≡ true) × (is_asked interval_operations (between 40 40) 32 ≡ true)
 unfolding between
-asked_numbers = (refl, refl, refl, refl, refl, refl, refl)
+asked_numbers = (refl, refl, refl, refl, refl, refl, refl, refl, refl, refl, refl, refl)
 
 -- both objects with property 3: from the default, -2, to the frozen value; object 2 alone; property 5, of a byte that isn't frozen
 -- and of one that is; all numbers

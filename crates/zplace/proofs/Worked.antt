@@ -117,6 +117,22 @@ framed p = (there, back)
     back (inr (inl e)) = inr (subst (λ (k : ℕ). IsSizePlace memory k 147) (sym e) size_places.1)
     back (inr (inr e)) = inr (subst (λ (k : ℕ). IsSizePlace memory k 147) (sym e) size_places.2)
 
+-- a name of three words, behind which the list ends at once; and of none, where memory does
+long_name : List ℕ
+long_name = 3 ∷ replicate 7 0 ++ 9 ∷ []
+
+names_framed : IsTableFrame long_name 0 6 × (IsTableFrame long_name 0 8 → ⊥) × (IsTableFrame (0 ∷ []) 0 1 → ⊥)
+unfolding long_name
+names_framed = (inl (omega arith, omega arith), behind_list, behind_memory)
+  where
+    behind_list : IsTableFrame long_name 0 8 → ⊥
+    behind_list (inl name) = omega (arith, name.1)
+    behind_list (inr size) = omega (arith, one_size_at_end long_name 8 7 refl size)
+
+    behind_memory : IsTableFrame (0 ∷ []) 0 1 → ⊥
+    behind_memory (inl name) = omega (arith, name.1)
+    behind_memory (inr size) = omega (arith, size_inside (0 ∷ []) 1 1 size)
+
 -- nothing is behind a property that memory cuts off
 cut : List ℕ
 cut = 0x00 ∷ 0x45 ∷ 0x07 ∷ []

@@ -1,6 +1,7 @@
 -- Values of the definitions, computed.
-use Rattle.std.proofs.Common.{◌≡◌, ℤ, pos, negsuc, int_le, Option, ℕ, ◌∙◌, true, false, List, [], ◌∷◌, ◌++◌, replicate, Some, None, refl, sym, ap, subst, arith, if◌then◌else◌}
-use Rattle.std.specs.Prelude.{◌==◌, ◌||◌, ◌+ℤ◌}
+use Rattle.std.proofs.Common.{◌≡◌, ℤ, pos, negsuc, int_le, Option, ℕ, ◌∙◌, Bool, true, false, List, [], ◌∷◌, ◌++◌, replicate, Some, None, refl, sym, ap, subst, arith, if◌then◌else◌}
+use Rattle.std.specs.Prelude.{◌==◌, ◌||◌, ◌+ℤ◌, ◌%◌, ◌≤◌}
+use Rattle.std.proofs.lemmas.Bool.{eqb-true}
 use Rattle.std.proofs.lemmas.Option.{same_Some}
 use Rattle.std.proofs.lemmas.Int.{ints}
 use Rattle.zstory.specs.LoadedStory.{LoadedStory}
@@ -18,24 +19,24 @@ use Rattle.zdomain.specs.IntervalLaw.{interval_sound}
 use Rattle.zflow.specs.declared.parts.Asked.TheVariants.{Answered, Filled}
 use Rattle.zflow.specs.declared.parts.Lead.TheVariants.{Ahead, Returning, Entering}
 use Rattle.zflow.specs.Transfer.{Shape, demands_of, outcome_of}
-use Rattle.zstate.specs.State.{Frame}
+use Rattle.zstate.specs.State.{Frame, has_head}
 use Rattle.zruns.specs.Buffers.{IsParseBuffer, IsTextBuffer}
 use Rattle.zcert.specs.declared.parts.Range.{Range}
 use Rattle.zcert.specs.Certificate.{Certificate}
 use Rattle.zrule.specs.declared.rule.Rule.{Rule}
-use Rattle.zrule.specs.declared.rule.Rule.TheVariants.{Decodes, Height, Local, Successor, Property, Divisor, Write, Read, Text, Called, Returned, Buffers, Known, Stored, High, Status}
+use Rattle.zrule.specs.declared.rule.Rule.TheVariants.{Decodes, Height, Local, Successor, Object, Attribute, Property, Divisor, Write, Read, Text, Called, Returned, Buffers, Known, Stored, High, Status}
 use Rattle.zrule.specs.Numbers.{number_of}
 use Rattle.zpairs.specs.Frozen.{is_inside}
 use Rattle.zrule.specs.Claims.{Entry, Claims, claims_of, frozen_in}
 use Rattle.zrule.specs.Described.{Fits, FitsWith}
-use Rattle.zrule.specs.Rules.{AreObjects, gives_by_property, global_in, IsNamed, Covers, Leads, GoesOn, Asks, Begins, Starts, TakesBack, comes_back, result_at}
+use Rattle.zrule.specs.Rules.{AreObjects, HasHeads, HasLineObject, gives_by_property, global_in, IsNamed, Covers, Leads, GoesOn, Asks, Begins, Starts, TakesBack, comes_back, result_at}
 use Rattle.zstate.specs.Step.{words_from}
 use Rattle.zrule.proofs.Instances.{by_answers}
 
 -- ---- numbers of rules
 
-numbers : (number_of Decodes ≡ 1) × (number_of Height ≡ 2) × (number_of Local ≡ 3) × (number_of Successor ≡ 4) × (number_of Property ≡ 7) × (number_of Divisor ≡ 8) × (number_of Write ≡ 9) × (number_of Read ≡ 10) × (number_of Text ≡ 11) × (number_of Called ≡ 12) × (number_of Returned ≡ 13) × (number_of Buffers ≡ 14) × (number_of Known ≡ 15) × (number_of Stored ≡ 16) × (number_of High ≡ 17) × (number_of Status ≡ 18)
-numbers = (refl, refl, refl, refl, refl, refl, refl, refl, refl, refl, refl, refl, refl, refl, refl, refl)
+numbers : (number_of Decodes ≡ 1) × (number_of Height ≡ 2) × (number_of Local ≡ 3) × (number_of Successor ≡ 4) × (number_of Object ≡ 5) × (number_of Attribute ≡ 6) × (number_of Property ≡ 7) × (number_of Divisor ≡ 8) × (number_of Write ≡ 9) × (number_of Read ≡ 10) × (number_of Text ≡ 11) × (number_of Called ≡ 12) × (number_of Returned ≡ 13) × (number_of Buffers ≡ 14) × (number_of Known ≡ 15) × (number_of Stored ≡ 16) × (number_of High ≡ 17) × (number_of Status ≡ 18)
+numbers = (refl, refl, refl, refl, refl, refl, refl, refl, refl, refl, refl, refl, refl, refl, refl, refl, refl, refl)
 
 -- of what is asked of a property, get_prop and get_prop_addr give what is found
 found_given : (gives_by_property (Answered Value) ≡ true) × (gives_by_property (Answered Address) ≡ true) × (gives_by_property (Answered Next) ≡ false) × (gives_by_property Filled ≡ false)
@@ -92,6 +93,46 @@ stays = (refl, refl, refl)
 results : ((claims_of interval_operations certificate).result 0 ≡ all_words) × ((claims_of interval_operations certificate).result 1 ≡ point 5) × ((claims_of interval_operations certificate).result 2 ≡ all_words)
 unfolding certificate
 results = (refl, refl, refl)
+
+-- the first global is no object, or one of them up to the last
+saying : ℕ → Claims Interval
+saying word = record (claims_of interval_operations certificate) { globals = point word ∷ [] }
+
+line_objects : HasLineObject interval_operations (saying 0) two_objects × HasLineObject interval_operations (saying 2) two_objects × (HasLineObject interval_operations (saying 3) two_objects → ⊥)
+unfolding saying two_objects
+line_objects = (
+  λ x inside. omega (arith, interval_sound.known (point 0) 0 x refl inside),
+  λ x inside. omega (arith, interval_sound.known (point 2) 2 x refl inside),
+  λ are. omega (arith, are 3 (interval_sound.single 3 (omega arith))),
+)
+
+-- a routine begins at one place of a story of 18 bytes, which is static from 16 on
+headed : ℕ → Claims Interval
+headed place = record (claims_of interval_operations certificate) { routine_at = λ p. if p == place then Some 0 else None }
+
+short_story : LoadedStory
+short_story = record { memory = replicate 15 0 ++ 16 ∷ 0 ∷ 0 ∷ []; objects = 0 }
+
+-- the first static place has a head, and no odd one, nor one that is dynamic
+heads : HasHeads interval_operations (headed 16) short_story × (HasHeads interval_operations (headed 17) short_story → ⊥) × (HasHeads interval_operations (headed 14) short_story → ⊥)
+unfolding headed short_story
+heads = (record { even = even; static = static; there = there }, (λ h. let odd = h.even 17 0 refl in absurd cc), λ h. omega (arith, h.static 14 0 refl))
+  where
+    here : (p k : ℕ) → (if p == 16 then Some 0 else None) ≡ Some k → p ≡ 16
+    here p k found = by_test (p == 16) refl found
+      where
+        by_test : (t : Bool) → (p == 16) ≡ t → (if t then Some 0 else None) ≡ Some k → p ≡ 16
+        by_test true is e = eqb-true p 16 is
+        by_test false is e = absurd cc
+
+    even : (p k : ℕ) → (if p == 16 then Some 0 else None) ≡ Some k → (p % 2 == 0) ≡ true
+    even p k found = rw (here p k found) refl
+
+    static : (p k : ℕ) → (if p == 16 then Some 0 else None) ≡ Some k → 16 ≤ p
+    static p k found = omega (arith, here p k found)
+
+    there : (p k : ℕ) → (if p == 16 then Some 0 else None) ≡ Some k → has_head short_story.memory p ≡ true
+    there p k found = rw (here p k found) refl
 
 -- ---- what the rules ask
 

@@ -267,6 +267,11 @@ printed_and_moved : (effect_of setting operations.PrintChar (65 ∷ []) state �
 unfolding digits effect_of setting story memory code
 printed_and_moved = (refl, refl, refl, refl, refl, refl)
 
+-- where the header says that sum, 1,905, it is right
+verified : effect_of (record setting { story = record story { memory = slice_set (slice_set memory 0x1C 0x07) 0x1D 0x71 } }) operations.Verify [] state ≡ Ok (testing true)
+unfolding effect_of setting story memory code
+verified = refl
+
 -- the text at the byte 73, and at the byte 72, whose first word is its last; neither at 78 nor at 131,070 there is one
 addressed : (effect_of setting (operations.PrintAt addressings.Byte) (73 ∷ []) state ≡ Ok (printing hello)) × (effect_of setting (operations.PrintAt addressings.Packed) (36 ∷ []) state ≡ Ok (printing (0x67 ∷ 0x6C ∷ 0x70 ∷ []))) × (effect_of setting (operations.PrintAt addressings.Byte) (78 ∷ []) state ≡ Err (halts.Fault TextOutside)) × (effect_of setting (operations.PrintAt addressings.Packed) (65535 ∷ []) state ≡ Err (halts.Fault TextOutside))
 unfolding effect_of output_at output_of_characters small_letters setting story memory code state frame hello

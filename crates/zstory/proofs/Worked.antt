@@ -11,7 +11,7 @@ use Rattle.zstory.specs.Dictionary.{separator_count, entry_length, entry_count, 
 use Rattle.zstory.specs.LoadedStory.{LoadedStory, IsSound, identity_of, file_sum, save_checksum, is_time_game}
 use Rattle.zstory.specs.Loading.{stated_length, stated_part, with_flags_cleared, loaded_memory, IsLoaded}
 use Rattle.zstory.proofs.Computed.{bytes_tested}
-use Rattle.zstory.specs.Refusal.{number_of, IsTooShort, IsTooLong, HasOtherVersion, HasWrongLength, HasWrongBase, HasWrongGlobals, HasWrongDefaults, HasWrongDictionary, HasShortEntries, HasWrongStart, IsCause, IsLowest, HasNone}
+use Rattle.zstory.specs.Refusal.{number_of, IsTooShort, IsTooLong, HasOtherVersion, HasWrongLength, HasWrongBase, HasWrongGlobals, HasWrongDefaults, HasWrongDictionary, HasShortEntries, HasWrongStart, IsFlaw, IsCause, IsLowest, HasNone}
 
 neither : {A B : Type 0} → (A → ⊥) → (B → ⊥) → A ⊎ B → ⊥
 neither no_a no_b (inl a) = no_a a
@@ -379,6 +379,12 @@ short_entries = (lit< tt, λ short. omega (arith, short))
 wrong_start : HasWrongStart (slice_set plain 0x07 0x2A) × (HasWrongStart (slice_set plain 0x07 0x29) → ⊥)
 unfolding plain
 wrong_start = (inr (lit≤ tt), λ wrong. elim wrong [ inl low ↦ omega (arith, low) | inr high ↦ omega (arith, high) ])
+
+-- each is a cause of its own refusal; want of memory is none of a story, and a version none of a stated part
+told :
+    IsCause (take 63 plain) TooShort × ((file : List ℕ) → length file ≡ 131073 → IsCause file TooLong) × IsFlaw (slice_set (slice_set plain 0x0E 0) 0x0F 63) StaticBase × IsFlaw (slice_set plain 0x0D 127) Globals
+    × IsFlaw (slice_set plain 0x0B 0x21) Objects × IsFlaw (slice_set plain 0x08 0x02) Dictionary × IsFlaw (slice_set plain 0x321 3) EntryLength × IsFlaw plain OutOfMemory × (IsFlaw plain NotVersion3 → ⊥)
+told = (too_short.0, too_long.0, bases.1, globals_placed.2, defaults_placed.3, misplaced.4, short_entries.0, tt, λ is. is)
 
 -- nothing speaks against the story
 none : HasNone (IsCause plain)

@@ -201,8 +201,8 @@ steps = (refl, refl, refl, refl)
 
 -- ---- progress
 
-first_errors : (first_error NestedAbbreviation Outside ≡ Outside) × (first_error Outside NestedAbbreviation ≡ Outside) × (first_error OutOfMemory NestedAbbreviation ≡ NestedAbbreviation) × (first_error NestedAbbreviation OutOfMemory ≡ NestedAbbreviation)
-first_errors = (refl, refl, refl, refl)
+first_errors : (first_error NestedAbbreviation Outside ≡ Outside) × (first_error Outside NestedAbbreviation ≡ Outside) × (first_error OutOfMemory NestedAbbreviation ≡ NestedAbbreviation) × (first_error NestedAbbreviation OutOfMemory ≡ NestedAbbreviation) × (first_error NestedAbbreviation NestedAbbreviation ≡ NestedAbbreviation)
+first_errors = (refl, refl, refl, refl, refl)
 
 joins : (joined (Ok (1 ∷ [])) (Ok (2 ∷ [])) ≡ Ok (1 ∷ 2 ∷ [])) × (joined (Ok (1 ∷ [])) (Err Outside) ≡ Err Outside) × (joined (Err NestedAbbreviation) (Ok []) ≡ Err NestedAbbreviation) × (joined (Err NestedAbbreviation) (Err Outside) ≡ Err Outside)
 joins = (refl, refl, refl, refl)
@@ -236,7 +236,7 @@ unfolding IsWritten IsStopped
 written = ((7 ∷ [], refl, refl), ((7 ∷ [], refl), λ out e. (let same : 7 ∷ 8 ∷ [] ≡ out = cc in rw (← same) (lit< tt))), ((7 ∷ [], refl), λ out e. absurd cc))
 
 -- Nothing stops where there is room and a value, nothing is lost that stood there, and nothing is written that isn't printed.
-not_written : (IsWritten 2 [] [] None (Ok (7 ∷ [])) → ⊥) × (IsStopped 2 (1 ∷ []) (2 ∷ []) (Err Outside) → ⊥) × (IsWritten 2 [] (8 ∷ []) (Some tt) (Ok (7 ∷ [])) → ⊥) × (HasFront (1 ∷ []) (2 ∷ []) → ⊥)
+not_written : (IsWritten 1 [] [] None (Ok (7 ∷ [])) → ⊥) × (IsStopped 2 (1 ∷ []) (2 ∷ []) (Err Outside) → ⊥) × (IsWritten 2 [] (8 ∷ []) (Some tt) (Ok (7 ∷ [])) → ⊥) × (HasFront (1 ∷ []) (2 ∷ []) → ⊥)
 unfolding IsWritten IsStopped
 not_written = (λ stop. omega (arith, stop.1 (7 ∷ []) refl), λ stop. absurd (let e = stop.0.1 in cc), λ done. absurd (let e = done.1 in let f = done.2 in cc), λ front. absurd (let e = front.1 in cc))
 
