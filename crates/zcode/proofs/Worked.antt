@@ -176,9 +176,9 @@ operands_read : (operand_at types.Large (0x03 ∷ 0xE8 ∷ 9 ∷ []) ≡ Ok (Con
 unfolding operand_at operands_at
 operands_read = (refl, refl, refl, refl)
 
-rest_read : (store_if true (4 ∷ 9 ∷ []) ≡ Ok (Some 4, 9 ∷ [])) × (store_if false (4 ∷ 9 ∷ []) ≡ Ok (None, 4 ∷ 9 ∷ [])) × (branch_at (0xBF ∷ 0xFE ∷ 9 ∷ []) ≡ Ok (record { sense = true; offset = negsuc 1 }, 9 ∷ [])) × (branch_if true (0x41 ∷ 9 ∷ []) ≡ Ok (Some (record { sense = false; offset = pos 1 }), 9 ∷ [])) × (branch_at (0x80 ∷ 0x14 ∷ 9 ∷ []) ≡ Ok (record { sense = true; offset = pos 20 }, 9 ∷ [])) × (branch_at (0x3F ∷ 0xFF ∷ []) ≡ Ok (record { sense = false; offset = negsuc 0 }, [])) × (branch_at (0x80 ∷ []) ≡ Err Truncated) × (text_if true (0x94 ∷ 0xA5 ∷ 9 ∷ []) ≡ Ok (9 ∷ [])) × (text_if true (0x14 ∷ 0xA5 ∷ []) ≡ Err Text)
+rest_read : (store_if true (4 ∷ 9 ∷ []) ≡ Ok (Some 4, 9 ∷ [])) × (store_if false (4 ∷ 9 ∷ []) ≡ Ok (None, 4 ∷ 9 ∷ [])) × (branch_at (0xBF ∷ 0xFE ∷ 9 ∷ []) ≡ Ok (record { sense = true; offset = negsuc 1 }, 9 ∷ [])) × (branch_if true (0x41 ∷ 9 ∷ []) ≡ Ok (Some (record { sense = false; offset = pos 1 }), 9 ∷ [])) × (branch_at (0x80 ∷ 0x14 ∷ 9 ∷ []) ≡ Ok (record { sense = true; offset = pos 20 }, 9 ∷ [])) × (branch_at (0x3F ∷ 0xFF ∷ []) ≡ Ok (record { sense = false; offset = negsuc 0 }, [])) × (branch_at (0x7F ∷ 9 ∷ []) ≡ Ok (record { sense = false; offset = pos 63 }, 9 ∷ [])) × (branch_at (0xFF ∷ 9 ∷ []) ≡ Ok (record { sense = true; offset = pos 63 }, 9 ∷ [])) × (branch_at (0x80 ∷ []) ≡ Err Truncated) × (text_if true (0x94 ∷ 0xA5 ∷ 9 ∷ []) ≡ Ok (9 ∷ [])) × (text_if true (0x14 ∷ 0xA5 ∷ []) ≡ Err Text)
 unfolding store_if branch_at branch_if text_if
-rest_read = (refl, refl, refl, refl, refl, refl, refl, refl, refl)
+rest_read = (refl, refl, refl, refl, refl, refl, refl, refl, refl, refl, refl)
 
 -- the whole, with a byte that follows
 instructions_read : (instruction_at (0x05 ∷ 0x02 ∷ 0x00 ∷ 0xD4 ∷ 9 ∷ []) ≡ Ok inc_chk) × (instruction_at (0xE0 ∷ 0x3F ∷ 0x01 ∷ 0x97 ∷ 0x00 ∷ 9 ∷ []) ≡ Ok (record { opcode = Call; operands = Constant 407 ∷ []; store = Some 0; branch = None; size = 5 })) × (instruction_at (0xB2 ∷ 0x35 ∷ 0x51 ∷ 0xC6 ∷ 0x85 ∷ 9 ∷ []) ≡ Ok (record { opcode = Print; operands = []; store = None; branch = None; size = 5 })) × (instruction_at (0xB2 ∷ []) ≡ Err Text)

@@ -20,7 +20,7 @@ Ask words request = (fault_of zpc_app words ≡ []) × IsSomeAnd (subcommand_of 
 asked :
     Ask (codes "list" ∷ codes "hello.z3" ∷ []) (ListStory (codes "hello.z3"))
     × Ask (codes "play" ∷ codes "hello.z3" ∷ []) (Play (codes "hello.z3") None 1 1000000000 false None)
-    × Ask (codes "play" ∷ codes "--budget" ∷ codes "12" ∷ codes "hello.z3" ∷ codes "hello.cert" ∷ codes "--status" ∷ codes "--seed" ∷ codes "18446744073709551615" ∷ []) (Play (codes "hello.z3") (Some (codes "hello.cert")) 18446744073709551615 12 true None)
+    × Ask (codes "play" ∷ codes "--budget" ∷ codes "4294967295" ∷ codes "hello.z3" ∷ codes "hello.cert" ∷ codes "--status" ∷ codes "--seed" ∷ codes "18446744073709551615" ∷ []) (Play (codes "hello.z3") (Some (codes "hello.cert")) 18446744073709551615 4294967295 true None)
     × Ask (codes "play" ∷ codes "--save" ∷ codes "a.qzl" ∷ codes "--seed" ∷ codes "0" ∷ codes "--budget" ∷ codes "0" ∷ codes "hello.z3" ∷ []) (Play (codes "hello.z3") None 0 0 false (Some (codes "a.qzl")))
     × Ask (codes "check" ∷ codes "hello.z3" ∷ codes "hello.cert" ∷ []) (Check (codes "hello.z3") (codes "hello.cert"))
     × Ask (codes "find" ∷ codes "hello.z3" ∷ codes "hello.cert" ∷ []) (Find (codes "hello.z3") (codes "hello.cert"))

@@ -16,6 +16,8 @@ use Rattle.zdomain.specs.declared.interval.Interval.{Interval}
 use Rattle.zdomain.specs.Domain.{In, Within}
 use Rattle.zdomain.specs.Interval.{point, all_words, in_order, interval_operations}
 use Rattle.zdomain.specs.IntervalLaw.{interval_sound}
+use Rattle.zarray.specs.declared.width.Width.TheVariants.{Byte}
+use Rattle.zflow.specs.declared.parts.Access.TheVariants.{Reading, Writing}
 use Rattle.zflow.specs.declared.parts.Asked.TheVariants.{Answered, Filled}
 use Rattle.zflow.specs.declared.parts.Lead.TheVariants.{Ahead, Returning, Entering}
 use Rattle.zflow.specs.Transfer.{Shape, demands_of, outcome_of}
@@ -26,10 +28,11 @@ use Rattle.zcert.specs.Certificate.{Certificate}
 use Rattle.zrule.specs.declared.rule.Rule.{Rule}
 use Rattle.zrule.specs.declared.rule.Rule.TheVariants.{Decodes, Height, Local, Successor, Object, Attribute, Property, Divisor, Write, Read, Text, Called, Returned, Buffers, Known, Stored, High, Status}
 use Rattle.zrule.specs.Numbers.{number_of}
+use Rattle.zrule.specs.Edges.{StaysLow}
 use Rattle.zpairs.specs.Frozen.{is_inside}
 use Rattle.zrule.specs.Claims.{Entry, Claims, claims_of, frozen_in}
 use Rattle.zrule.specs.Described.{Fits, FitsWith}
-use Rattle.zrule.specs.Rules.{AreObjects, HasHeads, HasLineObject, gives_by_property, global_in, IsNamed, Covers, Leads, GoesOn, Asks, Begins, Starts, TakesBack, comes_back, result_at}
+use Rattle.zrule.specs.Rules.{AreObjects, Finds, Spares, AreWritten, AreRead, HasHeads, HasLineObject, gives_by_property, global_in, IsNamed, Covers, Leads, Enters, GoesOn, Asks, Begins, Starts, TakesBack, comes_back, result_at}
 use Rattle.zstate.specs.Step.{words_from}
 use Rattle.zrule.proofs.Instances.{by_answers}
 
@@ -490,6 +493,18 @@ gives_back = (refl, refl)
 untaken : TakesBack interval_operations routines 16 (Entering (point 2)) → ⊥
 unfolding routines
 untaken takes = (takes 2 (interval_sound.single 2 (omega arith)) (λ e. omega (arith, e)) 5 (interval_sound.single 5 (omega arith))).member.1.le
+
+-- an address is asked of any number, an answer leaves what is frozen, what is read needn't be open nor what is written read, and a
+-- return leads to no place
+nothing_asked :
+    Finds interval_operations two_objects (Answered Address) (point 1) (point 9) × Spares interval_operations two_objects (λ p. true) (Answered Value) (point 1) (point 1)
+    × AreWritten interval_operations two_objects (λ p. true) Reading Byte (point 0) (point 0) × AreRead interval_operations two_objects Writing Byte (point 0) (point 0)
+    × Enters interval_operations routines two_objects [] (Returning (point 2)) × GoesOn interval_operations routines 0 16 shape 0 (Returning (point 2)) × TakesBack interval_operations routines 16 (Returning (point 2))
+nothing_asked = ((λ x n least most object number. refl), tt, tt, tt, tt, tt, tt)
+
+-- a stack of 64 slots is low, and one of 65 isn't
+low : StaysLow interval_operations routines 16 (Returning (point 2)) (record { locals = []; slots = replicate 64 (point 0) }) × (StaysLow interval_operations routines 16 (Returning (point 2)) (record { locals = []; slots = replicate 65 (point 0) }) → ⊥)
+low = (omega arith, λ stays. omega (arith, stays))
 
 -- the result of a call lies on the stack behind it, and that of a return doesn't
 comes : (comes_back interval_operations routines (Entering (point 2)) ≡ Some all_words) × (comes_back interval_operations routines (Returning (point 2)) ≡ None)
