@@ -1,5 +1,5 @@
 -- Values of the definitions, computed over intervals.
-use Rattle.std.proofs.Common.{◌≡◌, ℕ, ℤ, pos, negsuc, int_le, Bool, true, false, List, [], ◌∷◌, map, Option, Some, None, option_map, refl}
+use Rattle.std.proofs.Common.{◌≡◌, ℕ, ℤ, pos, negsuc, int_le, Bool, true, false, List, [], ◌∷◌, ◌++◌, replicate, drop, map, Option, Some, None, option_map, refl}
 use Rattle.std.specs.Option.{option_and_then}
 use Rattle.zpairs.specs.Frozen.{FrozenStory}
 use Rattle.zcode.specs.declared.opcode.Opcode.{Opcode}
@@ -17,6 +17,9 @@ use Rattle.zflow.specs.declared.parts.Asked.{Asked}
 use Rattle.zflow.specs.declared.parts.Asked.TheVariants.{Answered, Filled}
 use Rattle.zflow.specs.declared.parts.Pairs.{Pairs}
 use Rattle.zflow.specs.declared.parts.Texts.{Texts}
+use Rattle.zflow.specs.declared.parts.Access.{Access}
+use Rattle.zflow.specs.declared.parts.Access.TheVariants.{Reading, Writing}
+use Rattle.zflow.specs.declared.parts.Elements.{Elements}
 use Rattle.zflow.specs.declared.parts.Buffers.{Buffers}
 use Rattle.zword.specs.declared.addressing.Addressing.{Addressing}
 use Rattle.zword.specs.declared.addressing.Addressing.TheVariants.{Byte, Packed}
@@ -24,7 +27,7 @@ use Rattle.zflow.specs.declared.parts.Demands.{Demands}
 use Rattle.zflow.specs.declared.parts.Lead.{Lead}
 use Rattle.zflow.specs.declared.parts.Lead.TheVariants.{Ahead, Returning, Entering}
 use Rattle.zflow.specs.declared.parts.Outcome.{Outcome}
-use Rattle.zflow.specs.Transfer.{Shape, drawn_set, sets, argument_sets, pops, below, operand_set, demands_of, demands_at, outcome_of, outcome_at, after, leading}
+use Rattle.zflow.specs.Transfer.{Shape, variable_set, local_kept, locals_with, named_with, drawn_set, sets, argument_sets, pops, below, operand_set, demands_of, demands_at, outcome_of, outcome_at, after, leading}
 use Rattle.zflow.specs.Kept.{both, shape_of}
 
 -- ---- what is known, and what is looked at
@@ -124,6 +127,18 @@ reads = (refl, refl, refl, refl, refl, refl)
 absent : (operands_of (Variable 4 ∷ []) 0 ≡ any) × (operands_of (Variable 18 ∷ []) 0 ≡ any) × (operands_of (Variable 0 ∷ Variable 0 ∷ Variable 0 ∷ []) 2 ≡ any)
 unfolding shape globals
 absent = (refl, refl, refl)
+
+-- fifteen locals, of which the last is 9, and the two variables beside it
+fifteen : Shape Interval
+fifteen = record { locals = replicate 14 (from (pos 0) (pos 0) refl) ++ from (pos 9) (pos 9) refl ∷ []; slots = [] }
+
+last_local :
+    (ends (variable_set interval_operations globals 15 fifteen) ≡ only 9) × (ends (variable_set interval_operations globals 16 fifteen) ≡ span 100 110)
+    × (local_kept {V = ℕ} 1 5 ≡ Some (1, 5)) × (local_kept {V = ℕ} 15 5 ≡ Some (15, 5)) × (local_kept {V = ℕ} 0 5 ≡ None) × (local_kept {V = ℕ} 16 5 ≡ None)
+    × (drop 14 (locals_with {V = ℕ} (Some 5) 15 (replicate 15 0)) ≡ 5 ∷ []) × (locals_with {V = ℕ} (Some 5) 16 (replicate 16 0) ≡ replicate 16 0)
+    × (drop 14 (named_with {V = ℕ} 15 5 (replicate 15 0)) ≡ 5 ∷ []) × (named_with {V = ℕ} 16 5 (replicate 16 0) ≡ replicate 16 0)
+unfolding fifteen globals
+last_local = (refl, refl, refl, refl, refl, refl, refl, refl, refl, refl)
 
 taken : (pops (Variable 0 ∷ Constant 0 ∷ Variable 1 ∷ Variable 0 ∷ []) ≡ 2) × (pops (inputs (plain opcodes.Pull (Constant 1 ∷ []))) ≡ 1) × (map ends (below 1 shape).slots ≡ span 20 30 ∷ []) × ((below 3 shape).slots ≡ [])
 unfolding shape
@@ -233,9 +248,9 @@ stores : (locals_on (plain opcodes.Pull (Constant 1 ∷ [])) true ≡ Some (only
 unfolding operation_of outcome_of shape globals
 stores = (refl, refl, refl, refl, refl)
 
-named : ((demands_on (plain opcodes.Store (Constant 16 ∷ Constant 4 ∷ []))).variable ≡ Some 16) × ((demands_on (plain opcodes.Store (Constant 16 ∷ Constant 4 ∷ []))).indirect ≡ true) × ((demands_on (plain opcodes.Inc (Variable 1 ∷ []))).variable ≡ None) × ((demands_on (storing opcodes.Load (Constant 256 ∷ []) 1)).variable ≡ None) × ((demands_on (storing opcodes.Load (Constant 255 ∷ []) 1)).variable ≡ Some 255) × ((demands_on jl).indirect ≡ false)
+named : ((demands_on (plain opcodes.Store (Constant 16 ∷ Constant 4 ∷ []))).variable ≡ Some 16) × ((demands_on (plain opcodes.Store (Constant 16 ∷ Constant 4 ∷ []))).indirect ≡ true) × ((demands_on (plain opcodes.Inc (Variable 1 ∷ []))).variable ≡ None) × ((demands_on (storing opcodes.Load (Constant 256 ∷ []) 1)).variable ≡ None) × ((demands_on (storing opcodes.Load (Constant 255 ∷ []) 1)).variable ≡ Some 255) × ((demands_on jl).indirect ≡ false) × ((demands_on (plain opcodes.Dec (Constant 16 ∷ []))).variable ≡ Some 16)
 unfolding operation_of demands_of shape globals jl
-named = (refl, refl, refl, refl, refl, refl)
+named = (refl, refl, refl, refl, refl, refl, refl)
 
 -- ---- values
 
@@ -279,13 +294,14 @@ no_objects = (refl, refl, refl)
 
 -- what is asked of an object says nothing of its number
 asks_objects : (locals_on (branching opcodes.Jin (Variable 1 ∷ Constant 3 ∷ []) (pos 8)) true ≡ Some (span 0 9 ∷ only 1 ∷ span 0 1 ∷ [])) × (locals_on (branching opcodes.TestAttr (Variable 1 ∷ Constant 3 ∷ []) (pos 8)) false ≡ Some (span 0 9 ∷ only 1 ∷ span 0 1 ∷ []))
+    × (distance_on (branching opcodes.Jin (Variable 1 ∷ Constant 3 ∷ []) (pos 8)) true ≡ Some (pos 6))
 unfolding operation_of outcome_of shape globals
-asks_objects = (refl, refl)
+asks_objects = (refl, refl, refl)
 
 -- objects and attributes are asked for by these operands
-asked : (option_map ends (demands_on (branching opcodes.Jin (Variable 1 ∷ Variable 2 ∷ []) (pos 8))).object ≡ Some (span 0 9)) × (option_map ends (demands_on (branching opcodes.Jin (Variable 1 ∷ Variable 2 ∷ []) (pos 8))).attribute ≡ None) × (option_map ends (demands_on (branching opcodes.TestAttr (Variable 1 ∷ Variable 2 ∷ []) (pos 8))).object ≡ Some (span 0 9)) × (option_map ends (demands_on (branching opcodes.TestAttr (Variable 1 ∷ Variable 2 ∷ []) (pos 8))).attribute ≡ Some (only 1)) × (option_map ends (demands_on child).object ≡ Some (span 0 9)) × (option_map ends (demands_on (jump (Variable 2))).object ≡ None)
+asked : (option_map ends (demands_on (branching opcodes.Jin (Variable 1 ∷ Variable 2 ∷ []) (pos 8))).object ≡ Some (span 0 9)) × (option_map ends (demands_on (branching opcodes.Jin (Variable 1 ∷ Variable 2 ∷ []) (pos 8))).attribute ≡ None) × (option_map ends (demands_on (branching opcodes.TestAttr (Variable 1 ∷ Variable 2 ∷ []) (pos 8))).object ≡ Some (span 0 9)) × (option_map ends (demands_on (branching opcodes.TestAttr (Variable 1 ∷ Variable 2 ∷ []) (pos 8))).attribute ≡ Some (only 1)) × (option_map ends (demands_on child).object ≡ Some (span 0 9)) × (option_map ends (demands_on (jump (Variable 2))).object ≡ None) × (option_map ends (demands_on (plain opcodes.SetAttr (Variable 1 ∷ Variable 2 ∷ []))).attribute ≡ Some (only 1))
 unfolding operation_of demands_of shape globals child jump
-asked = (refl, refl, refl, refl, refl, refl)
+asked = (refl, refl, refl, refl, refl, refl, refl)
 
 -- of the two of a move the one that is moved comes first
 moved_objects : (option_map ends (demands_on (plain opcodes.InsertObj (Variable 1 ∷ Variable 2 ∷ []))).object ≡ Some (span 0 9)) × (option_map ends (demands_on (plain opcodes.InsertObj (Variable 1 ∷ Variable 2 ∷ []))).under ≡ Some (only 1)) × (option_map ends (demands_on (plain opcodes.RemoveObj (Variable 2 ∷ []))).object ≡ Some (only 1)) × (option_map ends (demands_on (plain opcodes.RemoveObj (Variable 2 ∷ []))).under ≡ None) × (option_map ends (demands_on (plain opcodes.SetAttr (Variable 1 ∷ Variable 2 ∷ []))).object ≡ Some (span 0 9)) × (option_map ends (demands_on (plain opcodes.ClearAttr (Variable 1 ∷ Variable 2 ∷ []))).attribute ≡ Some (only 1))
@@ -314,9 +330,9 @@ lengths = (refl, refl, refl, refl)
 
 -- ---- what prints or does nothing
 
-texts : ((demands_on (plain opcodes.Print [])).has_text ≡ true) × ((demands_on (plain opcodes.NewLine [])).has_text ≡ false)
+texts : ((demands_on (plain opcodes.Print [])).has_text ≡ true) × ((demands_on (plain opcodes.NewLine [])).has_text ≡ false) × ((demands_on (plain opcodes.PrintRet [])).has_text ≡ true)
 unfolding operation_of demands_of shape globals
-texts = (refl, refl)
+texts = (refl, refl, refl)
 
 abbrev text_seen : Texts Interval → Addressing × Ends
 text_seen x = (x.addressing, ends x.places)
@@ -335,6 +351,16 @@ stays = Some (only 7 ∷ span 20 30 ∷ [])
 proceeds : (slots_on (plain opcodes.Print []) true ≡ stays) × (slots_on (plain opcodes.NewLine []) true ≡ stays) × (slots_on (plain opcodes.PrintChar (Constant 65 ∷ [])) true ≡ stays) × (slots_on (plain opcodes.PrintNum (Variable 0 ∷ [])) true ≡ Some (span 20 30 ∷ [])) × (slots_on (plain opcodes.Nop []) true ≡ stays) × (slots_on (plain opcodes.PrintAddr (Variable 0 ∷ [])) true ≡ Some (span 20 30 ∷ [])) × (outcome_on (plain opcodes.PrintPaddr (Constant 1 ∷ [])) false ≡ nothing) × (slots_on (plain opcodes.ShowStatus []) true ≡ stays) × (outcome_on (plain opcodes.ShowStatus []) false ≡ nothing) × (slots_on (plain opcodes.InsertObj (Variable 0 ∷ Constant 2 ∷ [])) true ≡ Some (span 20 30 ∷ [])) × (slots_on (plain opcodes.SetAttr (Constant 1 ∷ Constant 2 ∷ [])) true ≡ stays) × (outcome_on (plain opcodes.RemoveObj (Constant 1 ∷ [])) false ≡ nothing) × (slots_on (plain opcodes.Pop []) true ≡ Some (span 20 30 ∷ [])) × (outcome_on (plain opcodes.Nop []) false ≡ nothing)
 unfolding operation_of outcome_of shape globals
 proceeds = (refl, refl, refl, refl, refl, refl, refl, refl, refl, refl, refl, refl, refl, refl)
+
+-- ---- arrays
+
+-- the array and the index, of what is read and what is written
+abbrev elements_seen : Elements Interval → Access × Ends × Ends
+elements_seen x = (x.access, ends x.arrays, ends x.indices)
+
+arrays : (option_map elements_seen (demands_on (storing opcodes.Loadb (Variable 1 ∷ Variable 2 ∷ []) 0)).elements ≡ Some (Reading, span 0 9, only 1)) × (option_map elements_seen (demands_on (plain opcodes.Storew (Variable 1 ∷ Variable 2 ∷ Constant 5 ∷ []))).elements ≡ Some (Writing, span 0 9, only 1))
+unfolding operation_of demands_of shape globals
+arrays = (refl, refl)
 
 -- ---- random numbers
 

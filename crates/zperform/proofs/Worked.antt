@@ -66,9 +66,9 @@ unfolding digits
 places = (refl, refl, refl, refl, refl, refl)
 
 -- each digit that isn't among those
-digits_are : (place_text (pos 0x12345) ≡ codes "12345") × (place_text (pos 0x6789E) ≡ codes "6789e")
+digits_are : (place_text (pos 0xFFFF) ≡ codes "0ffff") × (place_text (pos 0x10000) ≡ codes "10000") × (place_text (pos 0x12345) ≡ codes "12345") × (place_text (pos 0x6789E) ≡ codes "6789e")
 unfolding digits
-digits_are = (refl, refl)
+digits_are = (refl, refl, refl, refl)
 
 -- what is wrong with a story, with a certificate, and with both
 refused :
@@ -191,10 +191,10 @@ problems :
     × (problem_of_reading readings.OutOfMemory ≡ Failed Memory) × (problem_of_reading readings.Magic ≡ Unreadable readings.Magic)
     × (problem_of_listing listings.OutOfMemory ≡ Failed Memory) × (problem_of_listing (listings.TwoRoutines 804) ≡ Unlisted (listings.TwoRoutines 804))
     × (problem_of_checking refusals.OutOfMemory ≡ Failed Memory) × (problem_of_checking (refusals.Story story_rules.Tables) ≡ BreaksStory story_rules.Tables)
-    × (problem_of_play errors.Read ≡ Failed Read)
-problems = (refl, refl, refl, refl, refl, refl, refl, refl, refl)
+    × (problem_of_checking (refusals.Instruction 804 rules.Write) ≡ BreaksInstruction 804 rules.Write)
+    × (problem_of_play errors.Read ≡ Failed Read) × (problem_of_play errors.Write ≡ Failed Write) × (problem_of_play errors.OutOfMemory ≡ Failed Memory)
+problems = (refl, refl, refl, refl, refl, refl, refl, refl, refl, refl, refl, refl)
 
--- of a file of three bytes a buffer with room for three gets the last two from place 1 on, and none from its end on
 -- nothing is kept at first where saves go nowhere, nothing is known of a file, and no call failed
 stores : (store_of None ≡ record { kept = Some None; failures = 0 }) × (store_of (Some (codes "a.qzl")) ≡ record { kept = None; failures = 0 })
 stores = (refl, refl)
@@ -203,6 +203,7 @@ stores = (refl, refl)
 unread : IsNoCertificate (Some []) (Failed File) × IsNoCertificate (Some []) (Unreadable readings.Truncated) × (IsNoCertificate (Some []) (Failed Memory) → ⊥) × IsNoCertificate (Some (90 ∷ [])) (Failed Memory) × (IsNoCertificate None (Failed Read) → ⊥)
 unread = (tt, ([], refl, empty_certificate), (λ bytes. omega (arith, bytes)), omega arith, λ never. never)
 
+-- of a file of three bytes a buffer with room for three gets the last two from place 1 on, and none from its end on
 given : GivesPart (10 ∷ 20 ∷ 30 ∷ []) 1 2 (20 ∷ 30 ∷ 99 ∷ []) × GivesPart (10 ∷ 20 ∷ 30 ∷ []) 3 0 (99 ∷ [])
 given = (record { within = omega arith; read = refl; ends = λ none _. omega (arith, none) }, record { within = omega arith; read = refl; ends = λ _ _. omega arith })
 

@@ -31,7 +31,7 @@ unfolding hello
 whole = ((lit< tt, lit≤ tt), lit≤ tt, (lit< tt, lit≤ tt))
 
 -- no end word, half a word, and a word behind the last
-no_text : (IsText (0x35 ∷ 0x51 ∷ []) → ⊥) × (IsText (0x94 ∷ []) → ⊥) × (IsText (0x94 ∷ 0xA5 ∷ 0x94 ∷ 0xA5 ∷ []) → ⊥) × (IsText (0x80 ∷ 0x00 ∷ 0x94 ∷ 0xA5 ∷ []) → ⊥)
+no_text : (IsText (0x7F ∷ 0xFF ∷ []) → ⊥) × (IsText (0x94 ∷ []) → ⊥) × (IsText (0x94 ∷ 0xA5 ∷ 0x94 ∷ 0xA5 ∷ []) → ⊥) × (IsText (0x80 ∷ 0x00 ∷ 0x94 ∷ 0xA5 ∷ []) → ⊥)
 no_text = (λ text. omega (arith, text), λ text. text, λ text. omega (arith, text.0), λ text. omega (arith, text.0))
 
 -- the greatest word that isn't the last, and the least that is
