@@ -369,6 +369,14 @@ written : (put story 0 9 state ≡ with_stack (9 ∷ 5 ∷ 6 ∷ []) state) × (
 unfolding put put_in_place put_named read_named story memory code state frame
 written = (refl, refl, refl, refl, refl)
 
+-- fifteen locals, of which the last is 9; the next variable is a global
+fifteen : State
+fifteen = with_locals (replicate 14 0 ++ 9 ∷ []) state
+
+last_local : (read_named story 15 fifteen ≡ Ok 9) × (read_named story 16 fifteen ≡ Ok 0x0102) × ((put story 15 5 fifteen).frame.locals ≡ replicate 14 0 ++ 5 ∷ []) × ((put story 16 5 fifteen).memory ≡ write_word memory 64 5) × ((put story 16 5 fifteen).frame.locals ≡ fifteen.frame.locals)
+unfolding put put_named read_named fifteen story memory code state frame
+last_local = (refl, refl, refl, refl, refl)
+
 -- the high byte first
 written_words : (write_word (1 ∷ 2 ∷ 3 ∷ 4 ∷ []) 1 0xFF00 ≡ 1 ∷ 0xFF ∷ 0x00 ∷ 4 ∷ []) × (write_word (1 ∷ 2 ∷ 3 ∷ []) 0 0x0100 ≡ 1 ∷ 0 ∷ 3 ∷ []) × (write_word (1 ∷ 2 ∷ []) 0 0xFFFF ≡ 0xFF ∷ 0xFF ∷ [])
 written_words = (refl, refl, refl)
