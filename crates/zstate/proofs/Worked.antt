@@ -258,9 +258,9 @@ counted_variables : (effect_of setting (operations.Count counts.Up (Some questio
 unfolding effect_of read_in_place read_named state frame
 counted_variables = (refl, refl, refl, refl)
 
-named_variables : (effect_of setting operations.Store (18 ∷ 4 ∷ []) state ≡ Ok (assigning 18 4)) × (effect_of setting operations.Load (0 ∷ []) state ≡ Ok (giving 5)) × (effect_of setting operations.Load (18 ∷ []) state ≡ Ok (giving 0xFFFE)) × (effect_of setting operations.Load (256 ∷ []) state ≡ Err (halts.Fault BadVariable)) × (effect_of setting operations.Store (0 ∷ 4 ∷ []) (popped 2 state) ≡ Err (halts.Fault StackUnderflow))
+named_variables : (effect_of setting operations.Store (18 ∷ 4 ∷ []) state ≡ Ok (assigning 18 4)) × (effect_of setting operations.Load (0 ∷ []) state ≡ Ok (giving 5)) × (effect_of setting operations.Load (18 ∷ []) state ≡ Ok (giving 0xFFFE)) × (effect_of setting operations.Load (255 ∷ []) state ≡ Ok (giving 0)) × (effect_of setting operations.Load (256 ∷ []) state ≡ Err (halts.Fault BadVariable)) × (effect_of setting operations.Store (0 ∷ 4 ∷ []) (popped 2 state) ≡ Err (halts.Fault StackUnderflow))
 unfolding effect_of read_in_place read_named setting story memory code state frame
-named_variables = (refl, refl, refl, refl, refl)
+named_variables = (refl, refl, refl, refl, refl, refl)
 
 -- the story has no checksum in its header, and its bytes behind the header sum up to more
 printed_and_moved : (effect_of setting operations.PrintChar (65 ∷ []) state ≡ Ok (printing (65 ∷ []))) × (effect_of setting operations.PrintChar (13 ∷ []) state ≡ Ok (printing (10 ∷ []))) × (effect_of setting operations.PrintChar (0 ∷ []) state ≡ Ok (printing [])) × (effect_of setting operations.PrintNumber (65535 ∷ []) state ≡ Ok (printing (45 ∷ 49 ∷ []))) × (effect_of setting operations.Jump (65535 ∷ []) state ≡ Ok (record proceeds { moves = on (negsuc 2) })) × (effect_of setting operations.Verify [] state ≡ Ok (testing false))
@@ -387,6 +387,9 @@ there = (refl, refl, refl, refl, refl)
 
 full : (stack : List ℕ) → length stack ≡ 65535 → (has_room 0 (record frame { stack = stack }) ≡ false) × (has_room 1 (record frame { stack = stack }) ≡ true)
 full stack deep = (rw deep refl, refl)
+
+nearly_full : (stack : List ℕ) → length stack ≡ 65534 → has_room 0 (record frame { stack = stack }) ≡ true
+nearly_full stack deep = rw deep refl
 
 -- ---- where a step leads
 
