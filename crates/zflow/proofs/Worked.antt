@@ -156,9 +156,9 @@ abbrev given_by : Interval → Option Ends
 given_by a = option_and_then (λ w. option_map ends w.gives) (of_call a false)
 
 -- a routine where the address isn't 0, which is cut off at an end; and 0 where it is
-calls : (entered_by (from (pos 0) (pos 9) refl) ≡ Some (span 1 9)) × (given_by (from (pos 0) (pos 9) refl) ≡ Some (only 0)) × (entered_by (from (pos 7) (pos 7) refl) ≡ Some (only 7)) × (given_by (from (pos 7) (pos 7) refl) ≡ None) × (entered_by (from (pos 0) (pos 0) refl) ≡ None) × (entered_by (from (negsuc 0) (pos 3) refl) ≡ Some (negsuc 0, pos 3))
+calls : (entered_by (from (pos 0) (pos 9) refl) ≡ Some (span 1 9)) × (given_by (from (pos 0) (pos 9) refl) ≡ Some (only 0)) × (entered_by (from (pos 7) (pos 7) refl) ≡ Some (only 7)) × (given_by (from (pos 1) (pos 9) refl) ≡ None) × (given_by (from (pos 0) (pos 0) refl) ≡ Some (only 0)) × (entered_by (from (pos 0) (pos 0) refl) ≡ None) × (entered_by (from (negsuc 0) (pos 3) refl) ≡ Some (negsuc 0, pos 3))
 unfolding outcome_of globals shape
-calls = (refl, refl, refl, refl, refl, refl)
+calls = (refl, refl, refl, refl, refl, refl, refl)
 
 -- what is read behind the address, at most three
 abbrev supplied : List Operand → List Ends
@@ -194,9 +194,9 @@ je : List Operand → Instruction
 je operands = branching opcodes.Je operands (pos 10)
 
 -- of two an equal is known, of three nothing
-equal : (locals_on (je (Variable 1 ∷ Constant 5 ∷ [])) true ≡ Some (only 5 ∷ only 1 ∷ span 0 1 ∷ [])) × (locals_on (je (Variable 1 ∷ Constant 9 ∷ [])) false ≡ Some (span 0 8 ∷ only 1 ∷ span 0 1 ∷ [])) × (locals_on (je (Variable 1 ∷ Constant 5 ∷ Constant 6 ∷ [])) true ≡ Some (span 0 9 ∷ only 1 ∷ span 0 1 ∷ [])) × (locals_on (je (Variable 1 ∷ Constant 9 ∷ Constant 9 ∷ [])) false ≡ Some (span 0 9 ∷ only 1 ∷ span 0 1 ∷ [])) × (locals_on (je (Variable 1 ∷ [])) true ≡ Some (span 0 9 ∷ only 1 ∷ span 0 1 ∷ []))
+equal : (locals_on (je (Variable 1 ∷ Constant 5 ∷ [])) true ≡ Some (only 5 ∷ only 1 ∷ span 0 1 ∷ [])) × (locals_on (je (Variable 1 ∷ Constant 9 ∷ [])) false ≡ Some (span 0 8 ∷ only 1 ∷ span 0 1 ∷ [])) × (locals_on (je (Variable 1 ∷ Constant 5 ∷ Constant 6 ∷ [])) true ≡ Some (span 0 9 ∷ only 1 ∷ span 0 1 ∷ [])) × (locals_on (je (Variable 1 ∷ Constant 9 ∷ Constant 9 ∷ [])) false ≡ Some (span 0 9 ∷ only 1 ∷ span 0 1 ∷ [])) × (locals_on (je (Variable 1 ∷ [])) true ≡ Some (span 0 9 ∷ only 1 ∷ span 0 1 ∷ [])) × (locals_on (je (Variable 3 ∷ Constant 1 ∷ [])) false ≡ Some (span 0 9 ∷ only 1 ∷ only 0 ∷ []))
 unfolding operation_of outcome_of shape globals je
-equal = (refl, refl, refl, refl, refl)
+equal = (refl, refl, refl, refl, refl, refl)
 
 -- a branch with the offset 1 returns 1, where it is taken
 returns : (returned_on (branching opcodes.Jl (Variable 1 ∷ Constant 5 ∷ []) (pos 1)) true ≡ Some (only 1)) × (distance_on (branching opcodes.Jl (Variable 1 ∷ Constant 5 ∷ []) (pos 1)) false ≡ Some (pos 0)) × (returned_on (branching opcodes.Jl (Variable 1 ∷ Constant 5 ∷ []) (pos 0)) true ≡ Some (only 0))
