@@ -1,5 +1,6 @@
 -- Values of the definitions, computed.
-use Rattle.std.proofs.Common.{◌≡◌, refl, pos, negsuc}
+use Rattle.std.proofs.Common.{◌≡◌, ◌⊎◌, inl, inr, Some, None, arith, refl, pos, negsuc}
+use Rattle.zstory.specs.LoadedStory.{LoadedStory}
 use Rattle.zcode.specs.declared.error.DecodeError.TheVariants.{Truncated}
 use Rattle.zlist.specs.declared.list_error.ListError.TheVariants as faults
 use Rattle.zrule.specs.declared.rule.Rule.TheVariants.{Decodes, Height, Local, Successor, Object, Attribute, Property, Divisor, Write, Read, Text, Called, Returned, Buffers, Known, Stored, High, Status}
@@ -7,7 +8,8 @@ use Rattle.zcheck.specs.declared.refusal.Refusal.TheVariants as refusals
 use Rattle.zcheck.specs.declared.refusal.StoryRule.TheVariants.{Tree}
 use Rattle.zfind.specs.declared.error.FindError.TheVariants.{NotFound, RoundLimit, OutOfMemory}
 use Rattle.zfind.specs.declared.error.Obstacle.TheVariants.{Place, Story}
-use Rattle.zfind.specs.Finding.{IsLasting, number_of, refused_for, told_of}
+use Rattle.zfind.specs.declared.error.Obstacle.{Obstacle}
+use Rattle.zfind.specs.Finding.{IsAtStart, IsBrokenAt, IsFailure, IsFaulty, IsFaultyElsewhere, IsLasting, IsListable, IsMet, IsStopped, IsTold, IsTried, IsWalkFailure, number_of, refused_for, told_of}
 
 numbers : (number_of (NotFound (Story Tree)) ≡ 1) × (number_of RoundLimit ≡ 2) × (number_of OutOfMemory ≡ 3)
 numbers = (refl, refl, refl)
@@ -27,3 +29,34 @@ lasts = (tt, tt, tt, tt, tt, tt, tt, tt, tt, tt, tt, tt, tt, tt, tt)
 
 mended : (IsLasting Successor → ⊥) × (IsLasting Returned → ⊥) × (IsLasting Stored → ⊥)
 mended = (λ x. x, λ x. x, λ x. x)
+
+-- ---- what is told, said once more
+
+-- what is wrong with a story, or with a certificate of one that is listed; the limit is of such a story, and memory may always be refused
+failures :
+    (story : LoadedStory) (o : Obstacle)
+    → (IsFaulty story (NotFound o) → IsFailure story (NotFound o)) × (IsListable story → IsTried story o → IsFailure story (NotFound o)) × (IsFailure story (NotFound o) → IsFaulty story (NotFound o) ⊎ IsListable story)
+    × (IsFailure story RoundLimit → IsListable story) × IsFailure story OutOfMemory
+failures story o = (inl, (λ listable tried. inr (listable, tried)), by_case, (λ failure. failure), tt)
+  where
+    by_case : IsFaulty story (NotFound o) ⊎ (IsListable story × IsTried story o) → IsFaulty story (NotFound o) ⊎ IsListable story
+    by_case (inl faulty) = inl faulty
+    by_case (inr tried) = inr tried.0
+
+-- a walk has a limit where no visit is left, and what it doesn't find was tried
+walks : (story : LoadedStory) (o : Obstacle) → IsWalkFailure story 0 RoundLimit × (IsWalkFailure story 1 RoundLimit → ⊥) × (IsWalkFailure story 0 (NotFound o) → IsTried story o) × IsWalkFailure story 1 OutOfMemory
+walks story o = (refl, (λ left. omega (arith, left)), (λ failure. failure), tt)
+
+stopped : (o : Obstacle) → IsStopped 0 RoundLimit × (IsStopped 1 RoundLimit → ⊥) × (IsStopped 0 (NotFound o) → ⊥) × IsStopped 1 OutOfMemory
+stopped o = (refl, (λ left. omega (arith, left)), (λ never. never), tt)
+
+-- what stands where play begins, or what a certificate was tried with; nothing, where nothing was found or what is at fault is elsewhere
+tells :
+    (story : LoadedStory) (o : Obstacle)
+    → (IsFaulty story (NotFound o) → IsAtStart story o → IsTold story (Some o)) × (IsListable story → IsTried story o → IsTold story (Some o)) × (IsListable story → IsBrokenAt story o → IsTold story (Some o))
+    × (IsTold story (Some o) → IsAtStart story o ⊎ IsMet story o) × (IsListable story → IsTold story None) × (IsFaultyElsewhere story → IsTold story None)
+tells story o = ((λ faulty start. inl (faulty, start)), (λ listable tried. inr (listable, inl tried)), (λ listable broken. inr (listable, inr broken)), by_case, inl, inr)
+  where
+    by_case : (IsFaulty story (NotFound o) × IsAtStart story o) ⊎ (IsListable story × IsMet story o) → IsAtStart story o ⊎ IsMet story o
+    by_case (inl at_start) = inl at_start.1
+    by_case (inr met) = inr met.1
