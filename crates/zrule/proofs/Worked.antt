@@ -32,7 +32,7 @@ use Rattle.zrule.specs.Edges.{StaysLow}
 use Rattle.zpairs.specs.Frozen.{is_inside}
 use Rattle.zrule.specs.Claims.{Entry, Claims, claims_of, frozen_in}
 use Rattle.zrule.specs.Described.{Fits, FitsWith}
-use Rattle.zrule.specs.Rules.{AreObjects, Finds, Spares, AreWritten, AreRead, HasHeads, HasLineObject, gives_by_property, global_in, IsNamed, Covers, Leads, Enters, GoesOn, Asks, Begins, Starts, TakesBack, comes_back, result_at}
+use Rattle.zrule.specs.Rules.{AreObjects, Finds, Spares, AreWritten, AreRead, HasHeads, HasLineObject, gives_by_property, global_in, IsNamed, Covers, Leads, Enters, GoesOn, Asks, Begins, Starts, Takes, TakesBack, comes_back, result_at}
 use Rattle.zstate.specs.Step.{words_from}
 use Rattle.zrule.proofs.Instances.{by_answers}
 
@@ -242,6 +242,19 @@ many = record small { globals = replicate 241 (point 0) }
 numbered : IsNamed interval_operations many (before [] []) (Constant 65535) × (IsNamed interval_operations many (before [] []) (Constant 65536) → ⊥) × IsNamed interval_operations many (before [] []) (Variable 255) × (IsNamed interval_operations many (before [] []) (Variable 256) → ⊥)
 unfolding many
 numbered = (omega arith, λ n. omega (arith, n), (omega arith, omega arith), λ n. omega (arith, n.0))
+
+-- local 15 is there where there are so many, takes any value, and is no global
+last_local : IsNamed interval_operations many (before (replicate 15 (point 0)) []) (Variable 15) × (IsNamed interval_operations many (before [] []) (Variable 15) → ⊥) × Takes interval_operations many (Some (point 5)) 15
+unfolding many
+last_local = (omega arith, (λ n. omega (arith, n)), tt)
+
+-- the last attribute, and no further one
+attribute : ℕ → Instruction
+attribute number = branching opcodes.TestAttr (Constant 1 ∷ Constant number ∷ []) (pos 8)
+
+attributes : asks Attribute [] [] (attribute 31) × (asks Attribute [] [] (attribute 32) → ⊥)
+unfolding attribute operation_of demands_of small
+attributes = (λ x inside. omega (arith, interval_sound.known (point 31) 31 x refl inside), λ asked. omega (arith, asked 32 (interval_sound.single 32 (omega arith))))
 
 -- a divisor may be anything but 0
 divide : Instruction
