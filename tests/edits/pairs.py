@@ -4,8 +4,8 @@
     pairs.py [--jobs N] [--most N] [--seed N] [--at-once N] [--quick] CRATE [FILE..]
 
 A definition that is changed together with its code goes through every proof: only a value that is computed from it can refuse that. So a
-number, a sum, a comparison, a truth value or a condition of specs/ is altered, or an equation answers as the one beside it, with no code
-beside it, in a copy whose functions are emptied and have a hole for a proof. Each place is `refused` by modules of values, or else by
+number, a sum, a comparison, a truth value or a condition of specs/ is altered, an equation answers as the one beside it, or a parameter stands
+where another one does, with no code beside it, in a copy whose functions are emptied and have a hole for a proof. Each place is `refused` by modules of values, or else by
 definitions of a law; or it is `ill`, as no definition any more; or it passes. What passes has to be read: a definition that only stands
 between others is held to them by proofs.
 
@@ -60,7 +60,8 @@ IMPORTS |= {f" {it} ": f"◌{it}◌" for it in ("*", "+", "<", "≤", "||", "&&"
 NUMBER = re.compile(r"(?<![\w.'≡])(?:0x[0-9A-Fa-f]+|\d+)(?![\w.'])")
 CONDITION = re.compile(r"\bif (.+?) then\b")
 # A definition's name in front of an equation's patterns, and what it answers.
-EQUATION = re.compile(r"(\s*(?:\w+|◌\S+) ).* = (.+)")
+EQUATION = re.compile(r"(\s*(?:\w+|◌\S+) )(.*) = (.+)")
+PARAMETER = re.compile(r"(?<![\w.'◌])[a-z][a-z_]*(?![\w'◌])")
 ERROR = re.compile(r"(?m)^\./(\S+?):\d+:\d+: error: ")
 # A function that does nothing, whose proof reads the modules of values.
 READER = "reads_values"
@@ -110,9 +111,21 @@ def neighbours_of(path, text):
     found = [EQUATION.fullmatch(it) for it in text.split("\n")]
     for number, it in enumerate(found):
         beside = (*found[number + 1 : number + 2], *found[max(number - 1, 0) : number])
-        others = [other[2] for other in beside if it and other and other[1] == it[1] and other[2] != it[2]]
+        others = [other[3] for other in beside if it and other and other[1] == it[1] and other[3] != it[3]]
         if others:
-            yield Place(path, number, it.start(2), it.end(2), others[0])
+            yield Place(path, number, it.start(3), it.end(3), others[0])
+
+
+def parameters_of(path, text):
+    """The places of a file where an equation names a parameter, with the one behind it in its patterns; behind the last is the first."""
+    for number, line in enumerate(text.split("\n")):
+        equation = EQUATION.fullmatch(line.partition("--")[0])
+        if not equation or equation[1].strip() in ("abbrev", "unfoldable", "pub"):
+            continue
+        names = list(dict.fromkeys(PARAMETER.findall(equation[2])))
+        for found in PARAMETER.finditer(line, equation.start(3), equation.end(3)):
+            if found[0] in names and len(names) > 1:
+                yield Place(path, number, found.start(), found.end(), names[(names.index(found[0]) + 1) % len(names)])
 
 
 def keep_values(crate, room):
@@ -278,7 +291,8 @@ def main():
     with tempfile.TemporaryDirectory(prefix="pairs-") as base, concurrent.futures.ThreadPoolExecutor(given.jobs) as pool:
         prepare(crate, base)
         texts = {it: text for it, text in modules_of(base).items() if it.startswith("specs/") and (not given.files or name_of(it) in given.files)}
-        places = [place for path, text in texts.items() for place in (*places_of(path, text), *neighbours_of(path, text))]
+        kinds = places_of, neighbours_of, parameters_of
+        places = [place for path, text in texts.items() for kind in kinds for place in kind(path, text)]
         random.Random(given.seed).shuffle(places)
         chosen = places[: given.most]
         passed = 0
