@@ -268,6 +268,8 @@ def in_groups(crate, base, places, most):
     """Places that go into one check: none beside others of a file whose values are other ones in a copy that alters nothing."""
     paths = sorted({it.path for it in places})
     plain = judged_at_once(crate, base, [Place(it, 0, 0, 0, "") for it in paths])
+    if None in plain:
+        sys.exit(f"{crate.name} isn't checked as it stands: are its libraries built?")
     movable = {path for path, verdict in zip(paths, plain) if verdict == "passes"}
     together = [it for it in places if it.path in movable]
     yield from (together[at : at + most] for at in range(0, len(together), most))
