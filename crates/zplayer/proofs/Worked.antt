@@ -1,5 +1,5 @@
 -- Values of the definitions, computed.
-use Rattle.std.proofs.Common.{◌≡◌, ◌≢◌, inl, inr, ℕ, zero, suc, Bool, true, false, List, [], ◌∷◌, ◌++◌, replicate, Option, Some, None, refl, subst, true≢false, arith}
+use Rattle.std.proofs.Common.{◌≡◌, ◌≢◌, inl, inr, ℕ, zero, suc, Bool, true, false, List, [], ◌∷◌, ◌++◌, replicate, Option, Some, None, refl, ap, subst, true≢false, arith}
 use Rattle.std.specs.Prelude.{pos, ⊤}
 use Rattle.std.specs.List.{All}
 use Rattle.std.proofs.lemmas.List.Elements.{All-cons, All-nil}
@@ -125,8 +125,8 @@ kept : Puts (Some None) (1 ∷ []) true (Some (Some (1 ∷ []))) × Puts (Some (
 kept = (refl, refl, (λ e. cc), λ e. cc)
 
 -- and it fails just where it doesn't keep it
-stored : Stores (record { kept = None; failures = 3 }) [] false (record { kept = None; failures = 4 }) × (Stores (record { kept = None; failures = 3 }) [] true (record { kept = None; failures = 4 }) → ⊥)
-stored = ((tt, refl), λ s. omega (arith, s.1))
+stored : Stores (record { kept = None; failures = 3 }) [] false (record { kept = None; failures = 4 }) × (Stores (record { kept = None; failures = 3 }) [] true (record { kept = None; failures = 4 }) → ⊥) × Stores (record { kept = Some None; failures = 3 }) (1 ∷ []) true (record { kept = Some (Some (1 ∷ [])); failures = 3 })
+stored = ((tt, refl), (λ s. omega (arith, s.1)), (refl, refl))
 
 gets : Gets (Some (Some (1 ∷ []))) (1 ∷ []) × (Gets (Some (Some (1 ∷ []))) (2 ∷ []) → ⊥) × (Gets (Some None) (1 ∷ []) → ⊥)
 gets = (refl, (λ e. cc), λ e. cc)
@@ -155,6 +155,12 @@ module _ (m : Setting) (s : State) (store : Store) where
   -- a player asks for an answer, or has none at the end of the input
   asked : Asks m any s needs.Line (world (Some []) None store) None (world (Some []) None store) × Asks m any s needs.Line silent (Some (events.Line (110 ∷ []))) silent × (Asks m any s needs.Line (world (Some (10 ∷ [])) None store) None silent → ⊥) × (Asks m any s needs.Random silent (Some (events.Line [])) silent → ⊥)
   asked = ((refl, refl, refl), (tt, refl, refl), (λ a. let e = a.0 in cc), λ a. a)
+
+  -- and then no word is drawn and no save is put away
+  untouched :
+      (Asks m any s needs.Line (world (Some []) None store) None (world (Some []) (Some (λ k. 7)) store) → ⊥)
+      × (Asks m any s needs.Line (world (Some []) None (record { kept = None; failures = 3 })) None (world (Some []) None (record { kept = None; failures = 4 })) → ⊥)
+  untouched = ((λ a. let e = a.1 in cc), λ a. let e = ap (λ (x : Store). x.failures) a.2 in omega (arith, e))
 
 -- of a store that keeps a save and doesn't fail, the machine is told that there is none only where it doesn't go on from it
 not_told : (m : Setting) (Takes : State → Type 0) (s t : State) (save : List ℕ) → Resumes m Takes save s t → HasNone m Takes s (record { kept = Some (Some save); failures = 3 }) (record { kept = Some (Some save); failures = 3 }) → ⊥
