@@ -581,6 +581,10 @@ event_unused : run setting (Given (events.Random 7) ∷ []) 5 (at 78) ≡ record
 unfolding run until at
 event_unused = rw no_step.0 refl
 
+-- no step leads nowhere else
+stays_there : (t : State) → Goes setting 0 state t [] → t ≡ state
+stays_there t goes = goes.0
+
 goes : Goes setting 0 (at 70) (at 70) [] × Goes setting 2 (at 70) (at 72) (Text 10 ∷ [])
 goes = ((refl, refl), (_, _, new_line_step, (_, _, nop_step, (refl, refl), refl), refl))
 
