@@ -7,7 +7,7 @@ A definition that is changed together with its code goes through every proof: on
 number, a sum, a comparison, a truth value or a condition of specs/ is altered, an equation answers as the one beside it, or a parameter stands
 where another one does, with no code beside it, in a copy whose functions are emptied and have a hole for a proof. Each place is `refused` by modules of values, or else by
 definitions of a law; or it is `ill`, as no definition any more; or it passes. What passes has to be read: a definition that only stands
-between others is held to them by proofs.
+between others is held to them by proofs. Folders of specs/ hold proofs of laws, and are left as they are.
 
 The values alone come first, by a function that does nothing and whose proof reads them, and several places in one check: each in a copy
 of its file, and of the files that stand on it, under names of their own. What they let pass is checked as a whole, but under --quick.
@@ -175,13 +175,18 @@ def modules_of(room):
     return {it: RT.rtlib.text_of(f"{room}/{it}") for it in paths if name_of(it) != "Lib"}
 
 
+def uses_of(crate, paths):
+    """What finds in a text where it names the modules of these files."""
+    modules = (re.escape(it[: -len(".antt")].replace("/", ".")) for it in paths)
+    return re.compile(rf"\bRattle\.{crate.name}\.(?:{'|'.join(modules)})(?!\w)")
+
+
 def standing_on(crate, texts, path):
     """A file of these, and all of them that read it, or one that does."""
     reached, found = set(), {path}
     while found:
         reached |= found
-        words = {f"Rattle.{crate.name}.{it[: -len('.antt')].replace('/', '.')}" for it in found}
-        reads = re.compile(rf"\b(?:{'|'.join(map(re.escape, words))})(?![\w])")
+        reads = uses_of(crate, found)
         found = {it for it, text in texts.items() if it not in reached and reads.search(text)}
     return reached
 
@@ -189,10 +194,9 @@ def standing_on(crate, texts, path):
 def copies_of(crate, texts, place, number):
     """A file with a place altered, none for no place, and what stands on the file, under names with a number."""
     paths = standing_on(crate, texts, place.path)
-    names = {it: f"{it[: -len('.antt')]}At{number}.antt" for it in paths}
-    named = re.compile(rf"\bRattle\.{crate.name}\.(?:{'|'.join(re.escape(it[: -len('.antt')].replace('/', '.')) for it in paths)})(?![\w])")
     altered = texts | {place.path: place.altered(texts[place.path])[0]}
-    return {names[it]: named.sub(rf"\g<0>At{number}", altered[it]) for it in paths}
+    uses = uses_of(crate, paths)
+    return {it.replace(".antt", f"At{number}.antt"): uses.sub(rf"\g<0>At{number}", altered[it]) for it in paths}
 
 
 def prepare(crate, room):

@@ -59,7 +59,7 @@ front : ChangesFront (1 ∷ 2 ∷ 3 ∷ 4 ∷ []) (7 ∷ 8 ∷ 9 ∷ 4 ∷ []) (
 unfolding outcome
 front = (refl, λ e. absurd cc, λ e. absurd cc)
 
--- a byte waits, none leaves it as it is, and nothing waits behind a flush
+-- a byte waits, none leaves it as it is, and a call that fails changes nothing
 waiting : (waits_after false (1 ∷ []) ≡ true) × (waits_after false [] ≡ false) × (waits_after true [] ≡ true) × LetsWait false true (outcome true) (1 ∷ []) × LetsWait false false (outcome false) (1 ∷ []) × (LetsWait true false (outcome true) [] → ⊥) × (LetsWait false true (outcome false) (1 ∷ []) → ⊥)
 unfolding outcome
 waiting = (refl, refl, refl, refl, refl, λ e. absurd cc, λ e. absurd cc)

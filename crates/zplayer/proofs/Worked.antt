@@ -1,5 +1,5 @@
 -- Values of the definitions, computed.
-use Rattle.std.proofs.Common.{◌≡◌, ◌≢◌, inl, inr, ℕ, zero, suc, Bool, true, false, List, [], ◌∷◌, ◌++◌, replicate, Option, Some, None, refl, ap, subst, true≢false, arith}
+use Rattle.std.proofs.Common.{◌≡◌, ◌≢◌, ◌⊎◌, ◌<◌, ◌^◌, ◌-◌, inl, inr, ℕ, zero, suc, Bool, true, false, List, [], ◌∷◌, ◌++◌, length, replicate, Option, Some, None, Ok, refl, ap, subst, true≢false, arith}
 use Rattle.std.specs.Prelude.{pos, ⊤}
 use Rattle.std.specs.List.{All}
 use Rattle.std.proofs.lemmas.List.Elements.{All-cons, All-nil}
@@ -7,19 +7,21 @@ use Rattle.rand_core.specs.Steps.{stream_of, u32_at, word_bytes}
 use Rattle.rand_core.specs.Stream.{fill_bytes}
 use Rattle.zfault.specs.declared.event.Event.TheVariants as events
 use Rattle.zfault.specs.declared.fault.Fault.TheVariants.{IllegalOpcode}
+use Rattle.zfault.specs.declared.item.Item.{Item}
 use Rattle.zfault.specs.declared.pause.Need.TheVariants as needs
 use Rattle.zfault.specs.declared.pause.Pause.TheVariants as pauses
 use Rattle.zstate.specs.declared.halt.Stop.TheVariants as stops
 use Rattle.zstate.specs.State.{State, Setting}
+use Rattle.zstate.specs.Saves.{restoring}
 use Rattle.zstate.specs.Run.{Given, Restored, awaited}
 use Rattle.zplayer.specs.declared.end.End.TheVariants as ends
 use Rattle.zplayer.specs.declared.end.PlayError.TheVariants as errors
 use Rattle.zplayer.specs.declared.lines.LineEnd.TheVariants.{Newline, Input}
 use Rattle.zplayer.specs.declared.lines.TheConstants.{KEPT, PIECE}
 use Rattle.zplayer.specs.declared.turns.TheConstants.{TURN}
-use Rattle.zplayer.specs.Lines.{BlamesReader, ReadsLine, Hears, Takes, line_of, without_return}
+use Rattle.zplayer.specs.Lines.{BlamesReader, IsEnded, IsLast, ReadsLine, Hears, Takes, line_of, without_return}
 use Rattle.zplayer.specs.Outside.{Blames, BlamesWriter, Coming, CountsRefusal, words_of}
-use Rattle.zplayer.specs.Playing.{Breaks, Meets, Plays, PlaysInPart, Stage, Writes, end_of, stage}
+use Rattle.zplayer.specs.Playing.{Breaks, Leads, Meets, Plays, PlaysInPart, Stage, Walks, Writes, end_of, stage}
 use Rattle.zplayer.specs.World.{Answers, Asks, Draws, Gets, HasNone, Puts, Refuses, Resumes, Store, Stores, World, world}
 
 -- ---- how playing ends
@@ -131,6 +133,13 @@ stored = ((tt, refl), (λ s. omega (arith, s.1)), (refl, refl))
 gets : Gets (Some (Some (1 ∷ []))) (1 ∷ []) × (Gets (Some (Some (1 ∷ []))) (2 ∷ []) → ⊥) × (Gets (Some None) (1 ∷ []) → ⊥)
 gets = (refl, (λ e. cc), λ e. cc)
 
+-- the end of a line keeps what was kept, and a line is an ended or the last one of the bytes that were there
+line_ends : (old new : Option (List ℕ)) (front now : List ℕ) → (Takes old new front now (Some Newline) → now ≡ front) × (Takes old new front now (Some Input) → now ≡ front)
+line_ends old new front now = ((λ taken. taken.1), λ taken. taken.2)
+
+line_read : (bytes line rest : List ℕ) → length bytes < 2 ^ 64 - 1 → ReadsLine (Some bytes) line (Some rest) → IsEnded bytes line rest ⊎ IsLast bytes line rest
+line_read bytes line rest few read = read few
+
 -- ---- the world
 
 module _ (m : Setting) (s : State) (store : Store) where
@@ -156,7 +165,14 @@ module _ (m : Setting) (s : State) (store : Store) where
   asked : Asks m any s needs.Line (world (Some []) None store) None (world (Some []) None store) × Asks m any s needs.Line silent (Some (events.Line (110 ∷ []))) silent × (Asks m any s needs.Line (world (Some (10 ∷ [])) None store) None silent → ⊥) × (Asks m any s needs.Random silent (Some (events.Line [])) silent → ⊥)
   asked = ((refl, refl, refl), (tt, refl, refl), (λ a. let e = a.0 in cc), λ a. a)
 
-  -- and then no word is drawn and no save is put away
+  -- play goes on from the state that a restore asks in, and with no input left a play only walks on
+  resumed : (bytes : List ℕ) (old new : State) → restoring m bytes old ≡ Ok new → Resumes m any bytes old new
+  resumed bytes old new goes_on = (goes_on, tt)
+
+  walked : (old new : Stage) (given : List Item) → Leads m any [] old new given → Walks m old new given
+  walked old new given leads = leads
+
+  -- where there is no answer, no word is drawn and no save is put away
   untouched :
       (Asks m any s needs.Line (world (Some []) None store) None (world (Some []) (Some (λ k. 7)) store) → ⊥)
       × (Asks m any s needs.Line (world (Some []) None (record { kept = None; failures = 3 })) None (world (Some []) None (record { kept = None; failures = 4 })) → ⊥)

@@ -581,7 +581,7 @@ event_unused : run setting (Given (events.Random 7) ∷ []) 5 (at 78) ≡ record
 unfolding run until at
 event_unused = rw no_step.0 refl
 
--- no step leads nowhere else
+-- where no step is made, the state stays
 stays_there : (t : State) → Goes setting 0 state t [] → t ≡ state
 stays_there t goes = goes.0
 
