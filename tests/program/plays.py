@@ -81,6 +81,8 @@ CONDITIONS = [
     ("a count up to 1 is above 0", b"\x05\x10\x00", (-32768, 32767), b"yn", b"y"),
     ("a count down to -1 is below 0", b"\x04\x10\x00", (-32768, 32767), b"yn", b"y"),
     ("a count down to -1 isn't below -1", b"\xc4\x4f\x10\xff\xff", (-32768, 32767), b"yn", b"n"),
+    ("a count isn't above 32767, which isn't told of a global", b"\xc5\x4f\x10\x7f\xff", (-32768, 32767), b"yn", b"n"),
+    ("a count isn't below -32768, which isn't told of a global", b"\xc4\x4f\x10\x80\x00", (-32768, 32767), b"yn", b"n"),
 ]
 
 # ---- branches in a routine of two locals: the instruction up to its branch, what the locals may be before, and what they may be
@@ -110,6 +112,7 @@ NARROWED = [
 # ---- plays: the instructions, each with the slots of its stack, what globals may be, what is printed
 
 COUNTDOWN = [b"\x0d\x10\x03", PRINT_FIRST, b"\x04\x10\x01\xc5", b"\x8c\xff\xf8", QUIT]
+TOP_ABOVE_8 = [PUSH + b"\x07", (b"\x05\x00\x08" + BRANCH, slots(7)), (SAY_NO, slots(8)), (QUIT, slots(8))]
 COUNT_FOR_EVER = [b"\x95\x10", b"\x8c\xff\xfd"]
 DIVIDE_BY_FIRST = [b"\x0d\x10\x01", b"\x37\x07\x10\x00", (PRINT_TOP, ANY), QUIT]
 
@@ -125,6 +128,7 @@ PLAYS = [
         ZERO,
         b"8",
     ),
+    ("the top is counted to 8, which may be above 8 or not", TOP_ABOVE_8 + [(SAY_YES, slots(8)), (QUIT, slots(8))], ZERO, b"n"),
     ("a global is pulled", [PUSH + b"\x09", (b"\xe9\x7f\x10", slots(9)), PRINT_FIRST, QUIT], {16: (0, 9)}, b"9"),
     ("the top is pulled", [PUSH + b"\x01", (PUSH + b"\x02", slots(1)), (b"\xe9\x7f\x00", slots(1, 2)), (PRINT_TOP, slots(2)), QUIT], ZERO, b"2"),
     ("the variable's number is popped", [PUSH + b"\x10", (b"\x4d\x00\x05", slots(16)), PRINT_FIRST, QUIT], {16: (0, 5)}, b"5"),
@@ -215,6 +219,8 @@ REFUSED = [
     ("a jump below 0", [b"\x8c\x80\x00", (QUIT, UNLISTED)], ZERO, "I4 at 00324", fault("F1 at -31963")),
     ("a jump by what isn't known", [b"\xac\x10"], {16: (0, 1)}, "I4 at 00324", ended("budget")),
     ("a return from the main code", [b"\x90\x00\xc0", QUIT], ZERO, "I13 at 00324", fault("F15 at 00324")),
+    ("a return that isn't known to be never taken", [b"\xc5\x4f\x10\x7f\xff\xc0", QUIT], {16: (-32768, 32767)}, "I13 at 00324", printed(b"")),
+    ("the top is counted to 8, never listed above 8", TOP_ABOVE_8 + [(SAY_YES, UNLISTED), (QUIT, UNLISTED)], ZERO, "I4 at 00327", printed(b"n")),
     ("a return of 1 from the main code", [b"\x90\x00\xc1", QUIT], ZERO, "I13 at 00324", fault("F15 at 00324")),
     ("a store past what is stated", [b"\x0d\x10\x05", PRINT_FIRST, QUIT], {16: (0, 4)}, "I16 at 00324", printed(b"5")),
     ("a result past what is stated", [b"\x14\x02\x03\x10", PRINT_FIRST, QUIT], {16: (0, 4)}, "I16 at 00324", printed(b"5")),

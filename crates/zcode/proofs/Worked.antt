@@ -167,6 +167,15 @@ heads_read : (checked_head Je (types.Small ∷ []) ≡ Err Operands) × (long_he
 unfolding checked_head long_head short_head
 heads_read = (refl, refl, refl, refl)
 
+-- both bits of the long form, and the first bytes at which the forms of one operand and of 2OP begin
+long_heads : (long_head 0x01 ≡ Ok (record { opcode = Je; operand_types = types.Small ∷ types.Small ∷ [] })) × (long_head 0x21 ≡ Ok (record { opcode = Je; operand_types = types.Small ∷ types.Variable ∷ [] })) × (long_head 0x41 ≡ Ok (record { opcode = Je; operand_types = types.Variable ∷ types.Small ∷ [] })) × (long_head 0x61 ≡ Ok (record { opcode = Je; operand_types = types.Variable ∷ types.Variable ∷ [] }))
+unfolding checked_head long_head
+long_heads = (refl, refl, refl, refl)
+
+forms_begin : (head_at (0x80 ∷ 7 ∷ []) ≡ Ok (record { opcode = Jz; operand_types = types.Large ∷ [] }, 7 ∷ [])) × (head_at (0xC0 ∷ 7 ∷ []) ≡ Err NoSuchOpcode) × (head_at (0xE0 ∷ 0x3F ∷ 7 ∷ []) ≡ Ok (record { opcode = Call; operand_types = types.Large ∷ [] }, 7 ∷ []))
+unfolding head_at checked_head long_head short_head variable_head
+forms_begin = (refl, refl, refl)
+
 -- an opcode is judged before its type byte, and their number before the operands
 first_faults : (variable_head Many 0xEB [] ≡ Err (NotInProfile SetWindow)) × (variable_head Many 0xE0 [] ≡ Err Truncated) × (variable_head Many 0xE1 (0xFF ∷ []) ≡ Err Operands) × (head_at (0xBE ∷ []) ≡ Err NoSuchOpcode) × (head_at [] ≡ Err Truncated)
 unfolding head_at short_head variable_head checked_head

@@ -4,3 +4,4 @@ mod Changes
 mod Operands
 mod Answering
 mod Worked
+mod WorkedDemands

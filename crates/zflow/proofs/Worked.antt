@@ -223,6 +223,11 @@ others : (locals_on (inc_chk (Variable 2) (Constant 5)) true ≡ Some (span 6 10
 unfolding operation_of outcome_of shape globals inc_chk
 others = (refl, refl, refl)
 
+-- of a global, and of the top of the stack, either may come, though their values are known
+either : (locals_on (inc_chk (Constant 16) (Constant 111)) true ≡ Some (span 0 9 ∷ only 1 ∷ span 0 1 ∷ [])) × (locals_on (inc_chk (Constant 17) (Constant 3)) false ≡ Some (span 0 9 ∷ only 1 ∷ span 0 1 ∷ [])) × (slots_on (inc_chk (Constant 0) (Constant 8)) true ≡ Some (only 8 ∷ span 20 30 ∷ [])) × (slots_on (inc_chk (Constant 0) (Constant 7)) false ≡ Some (only 8 ∷ span 20 30 ∷ []))
+unfolding operation_of outcome_of shape globals inc_chk
+either = (refl, refl, refl, refl)
+
 -- a plain count has one edge; the top of the stack is counted in place
 plainly : (locals_on (plain opcodes.Dec (Constant 1 ∷ [])) true ≡ Some ((negsuc 0, pos 8) ∷ only 1 ∷ span 0 1 ∷ [])) × (outcome_on (plain opcodes.Dec (Constant 1 ∷ [])) false ≡ nothing) × (slots_on (plain opcodes.Inc (Constant 0 ∷ [])) true ≡ Some (only 8 ∷ span 20 30 ∷ []))
 unfolding operation_of outcome_of shape globals

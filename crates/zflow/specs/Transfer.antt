@@ -162,9 +162,12 @@ enters_in a = record goes_on { leads = Entering a }
 abbrev pub follows_in : {V : Type 0} → Bool → V → Outcome V
 follows_in c a = record (asks c untold) { gives = Some a }
 
+abbrev pub is_local : ℕ → Bool
+is_local v = nat_le 1 v && nat_lt v 16
+
 -- a variable that is a local keeps what a branch says of it
 abbrev pub local_kept : {V : Type 0} → ℕ → V → Option (ℕ × V)
-local_kept v a = if nat_le 1 v && nat_lt v 16 then Some (v, a) else None
+local_kept v a = if is_local v then Some (v, a) else None
 
 abbrev pub operand_kept : {V : Type 0} → Option Operand → V → Option (ℕ × V)
 operand_kept None a = None
@@ -192,9 +195,9 @@ module _ {V : Type 0} (o : SetOperations V) (globals : List V) where
   abbrev pub compared_kept : Question → Bool → List Operand → (ℕ → V) → Option (Kept V)
   compared_kept q c operands arg = if length operands == 2 then option_map (both_kept operands) (o.narrow q c (arg 0) (arg 1)) else Some untold
 
-  -- and of a variable that was counted
+  -- and of a local that was counted; of another variable that was, it says nothing
   abbrev pub counted_kept : Question → Bool → ℕ → V → V → Option (Kept V)
-  counted_kept q c v new x = option_map (λ p. record untold { first = local_kept v p.0 }) (o.narrow q c new x)
+  counted_kept q c v new x = if is_local v then option_map (λ p. record untold { first = Some (v, p.0) }) (o.narrow q c new x) else Some untold
 
   -- a variable that was counted, and asked against others
   abbrev pub counted_outcome : CountOp → Question → Bool → Option ℕ → V → Shape V → Option (Outcome V)

@@ -3,7 +3,7 @@
 ghost use Rattle.std.specs.Prelude.{◌≡◌, List, [], Some, None, true, false, option_map};
 ghost use Rattle.zcode.specs.declared.instr.Operand.{Operand as AnOperand};
 ghost use Rattle.zcode.specs.declared.operation.Operation.TheVariants.{Count};
-ghost use Rattle.zflow.specs.Transfer.{asks, assigns_in, called_outcome, compared_kept, counted_kept, counts_in, drawn_set, followed_outcome, follows_in, gives_in, goes_on, jumps, local_kept, once_known, operand_kept, outcome_of, returns_in, small, unrestored, untold, variable_set};
+ghost use Rattle.zflow.specs.Transfer.{asks, assigns_in, called_outcome, compared_kept, counted_kept, counts_in, drawn_set, followed_outcome, follows_in, gives_in, goes_on, is_local, jumps, local_kept, once_known, operand_kept, outcome_of, returns_in, small, unrestored, untold, variable_set};
 ghost use Rattle.zflow.specs.Kept.{both};
 ghost use Rattle.zflow.specs.View.{seen};
 ghost use Rattle.zpairs.specs.Frozen.{FrozenStory};
@@ -219,11 +219,17 @@ fn operand_kept<V: Domain>(operand: Operand, set: V) -> Option<(u8, V)>
 fn local_kept<V: Domain>(variable: u8, set: V) -> Option<(u8, V)>
     ensures { result ≡ local_kept variable set }
 {
-    if 1 <= variable && variable < 16 {
+    if is_local(variable) {
         Some((variable, set))
     } else {
         None
     }
+}
+
+fn is_local(variable: u8) -> bool
+    ensures { result ≡ is_local variable }
+{
+    1 <= variable && variable < 16
 }
 
 /// The variable that the first operand names is counted, and its new value asked against the second, if at all.
@@ -261,15 +267,31 @@ fn counted_edge<V: Domain>(
 ) -> Option<Outcome<V>>
     ensures { result ≡ option_map (counts_in variable new answer) (counted_kept V.operations [] question answer variable new second) }
 {
-    let (of_new, _) = V::narrow(question, answer, new, second)?;
     Some(Outcome {
         assigns: Some((variable, new)),
         tests: Some(answer),
-        kept: Kept {
-            first: local_kept(variable, of_new),
-            second: None,
-        },
+        kept: counted_kept(question, answer, variable, new, second)?,
         ..goes_on()
+    })
+}
+
+/// What that says of the new value, which a local alone keeps: of another variable either answer may come.
+fn counted_kept<V: Domain>(
+    question: Question,
+    answer: bool,
+    variable: u8,
+    new: V,
+    second: V,
+) -> Option<Kept<V>>
+    ensures { result ≡ counted_kept V.operations [] question answer variable new second }
+{
+    if !is_local(variable) {
+        return Some(untold());
+    }
+    let (of_new, _) = V::narrow(question, answer, new, second)?;
+    Some(Kept {
+        first: Some((variable, of_new)),
+        second: None,
     })
 }
 

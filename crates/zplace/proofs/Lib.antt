@@ -4,3 +4,4 @@ mod Lists
 pub mod Each
 pub mod Staying
 mod Worked
+mod WorkedPlaces

@@ -23,16 +23,16 @@ none_is_frozen : (none_frozen 0 ≡ false) × (none_frozen 64 ≡ false)
 none_is_frozen = (refl, refl)
 
 -- a name of one word, a property of one byte, a property of two, and the end
-table : List ℕ
+unfoldable pub table : List ℕ
 table = 0x01 ∷ 0x98 ∷ 0xA5 ∷ 0x05 ∷ 0x07 ∷ 0x23 ∷ 0x12 ∷ 0x34 ∷ 0x00 ∷ []
 
 -- The object table is at 64, the globals are at 160, and static memory begins at 656. Both objects have the property table
 -- at 144, and there are no abbreviations.
-memory : List ℕ
+unfoldable pub memory : List ℕ
 memory = replicate 10 0 ++ 0 ∷ 64 ∷ 0 ∷ 160 ∷ 2 ∷ 144 ∷ replicate 8 0 ++ 255 ∷ 255 ∷ replicate 107 0 ++ 0 ∷ 144 ∷ replicate 7 0 ++ 0 ∷ 144 ∷ table ++ replicate 7 0 ++ 1 ∷ 2 ∷ 3 ∷ 4 ∷ replicate 596 0
 
 -- two objects, whose entries begin at 126 and at 135
-story : LoadedStory
+unfoldable pub story : LoadedStory
 story = record { memory = memory; objects = 2 }
 
 places : (headers.object_table memory ≡ 64) × (headers.globals memory ≡ 160) × (headers.static_base memory ≡ 656) × (headers.abbreviations memory ≡ 65535) × (object_place memory 1 ≡ 126) × (object_place memory 2 ≡ 135)
@@ -40,7 +40,7 @@ unfolding memory table
 places = (refl, refl, refl, refl, refl, refl)
 
 -- what holds of both objects
-of_two : (P : ℕ → Type 0) → P 1 → P 2 → (object : ℕ) → 1 ≤ object → object ≤ 2 → P object
+pub of_two : (P : ℕ → Type 0) → P 1 → P 2 → (object : ℕ) → 1 ≤ object → object ≤ 2 → P object
 of_two P one two zero some few = absurd (omega (arith, some))
 of_two P one two (suc zero) some few = one
 of_two P one two (suc (suc zero)) some few = two
@@ -147,13 +147,13 @@ cut_places p first = by_part (size_split cut p 1 first)
 
 -- ---- what stores may write
 
-no_word : (n : ℕ) → readable_word memory (65535 + 2 * n) ≡ None
+pub no_word : (n : ℕ) → readable_word memory (65535 + 2 * n) ≡ None
 unfolding memory table
 no_word n =
     let outside : nat_lt (65535 + 2 * n + 1) 760 ≡ false = le-ltb (65535 + 2 * n + 1) 760 (omega arith) in
     ap (λ (b : Bool). if b then Some (word_at memory (65535 + 2 * n)) else None) outside
 
-same_table : (object : ℕ) → 1 ≤ object → object ≤ 2 → property_table memory object ≡ 144
+pub same_table : (object : ℕ) → 1 ≤ object → object ≤ 2 → property_table memory object ≡ 144
 unfolding memory table
 same_table = of_two (λ k. property_table memory k ≡ 144) refl refl
 

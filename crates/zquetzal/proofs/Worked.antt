@@ -97,6 +97,11 @@ bytes : (body_of (take 11 large) ≡ Err errors.NotForm) × (body_of (0x47 ∷ r
 unfolding large first body_of sized_chunk chunk_at
 bytes = (refl, refl, refl, refl, refl, refl, refl, refl, refl)
 
+-- twelve bytes are a file with no chunk; both names are asked for
+shortest : (body_of (0x46 ∷ 0x4F ∷ 0x52 ∷ 0x4D ∷ 0 ∷ 0 ∷ 0 ∷ 4 ∷ 0x49 ∷ 0x46 ∷ 0x5A ∷ 0x53 ∷ []) ≡ Ok []) × (body_of (0x47 ∷ 0x4F ∷ 0x52 ∷ 0x4D ∷ 0 ∷ 0 ∷ 0 ∷ 4 ∷ 0x49 ∷ 0x46 ∷ 0x5A ∷ 0x53 ∷ []) ≡ Err errors.NotForm) × (body_of (0x46 ∷ 0x4F ∷ 0x52 ∷ 0x4D ∷ 0 ∷ 0 ∷ 0 ∷ 4 ∷ 0x49 ∷ 0x46 ∷ 0x5A ∷ 0x54 ∷ []) ≡ Err errors.NotForm)
+unfolding body_of
+shortest = (refl, refl, refl)
+
 -- Q3: `IFhd`, `Stks` or memory isn't there, or `IFhd` is late. It comes before Q4 and Q5
 missing : (reads (memory ∷ stacks ∷ []) ≡ Err errors.ChunkMissing) × (reads (head_of 1 12 ∷ memory ∷ memory ∷ []) ≡ Err errors.ChunkMissing) × (reads (head_of 1 12 ∷ stacks ∷ []) ≡ Err errors.ChunkMissing) × (reads (memory ∷ head_of 1 12 ∷ stacks ∷ []) ≡ Err errors.ChunkMissing)
 unfolding reads story first called chunk head_of memory stacks reading body_of sized_chunk chunk_at chunks_within chosen
@@ -129,6 +134,11 @@ full = record { return_place = 0x12345; result = 16; supplied = 3; locals = 1 �
 front_read : frame_at (frame_bytes full ++ 6 ∷ 7 ∷ 8 ∷ []) ≡ Ok (full, 6 ∷ 7 ∷ 8 ∷ [])
 unfolding full framed frame_at
 front_read = refl
+
+-- a frame with as many locals as there may be, whole and cut off; and a head that is cut off
+most_locals : (frame_at (0 ∷ 0 ∷ 0 ∷ 15 ∷ 0 ∷ 0 ∷ 0 ∷ 0 ∷ replicate 30 0) ≡ Ok (record { return_place = 0; result = 0; supplied = 0; locals = replicate 15 0; stack = [] }, [])) × (frame_at (0 ∷ 0 ∷ 0 ∷ 15 ∷ 0 ∷ 0 ∷ 0 ∷ 0 ∷ replicate 29 0) ≡ Err errors.Frames) × (frame_at (replicate 7 0) ≡ Err errors.Frames)
+unfolding framed frame_at
+most_locals = (refl, refl, refl)
 
 -- as many frames as there may be, and one more
 counted : (frames_within 2 (replicate 16 0) ≡ Ok (first ∷ first ∷ [])) × (frames_within 2 (replicate 24 0) ≡ Err errors.Frames)

@@ -36,4 +36,5 @@ pub mod Restarting
 pub mod Elsewhere
 pub mod Runs
 mod Worked
+mod WorkedApart
 pub mod Instances

@@ -40,14 +40,14 @@ use Rattle.zstate.specs.declared.halt.Halt.{Halt}
 use Rattle.zstate.specs.declared.halt.Halt.TheVariants as halts
 use Rattle.zstate.specs.InTurn.{◌>>=◌}
 use Rattle.zstate.specs.State.{State, Setting, IsState, popped, with_stack, with_locals, with_memory, write_word, global, exists, put_named, put_in_place, read_in_place, has_head, fault}
-use Rattle.zstate.specs.Step.{Move, on, back, calling, closing, called_at, call_of, unpacked, arguments, Effect, Done, way, arg, asked_of, giving, assigning, testing, printing, jumping, following, marking, rearranging, rewriting, rewritten, answering, reading, filling, storing, showing, proceeds, saving, unrestored, is_data_writable, fetch, printed, print_at, effect_of, has_caller, is_taken, turned, course, admits, pauses, assigned, changed, stored, advance, act, step, came, drawn, used}
+use Rattle.zstate.specs.Step.{counting, Move, on, back, calling, closing, called_at, call_of, unpacked, arguments, Effect, Done, way, arg, asked_of, giving, assigning, testing, printing, jumping, following, marking, rearranging, rewriting, rewritten, answering, reading, filling, storing, showing, proceeds, saving, unrestored, is_data_writable, fetch, printed, print_at, effect_of, has_caller, is_taken, turned, course, admits, pauses, assigned, changed, stored, advance, act, step, came, drawn, used}
 use Rattle.zstate.proofs.Effects.{table_place}
 use Rattle.zstate.proofs.Keeps.{changed_aside, step_keeps}
 use Rattle.zflow.specs.declared.parts.Kept.{Kept}
 use Rattle.zflow.specs.declared.parts.Outcome.{Outcome}
 use Rattle.zflow.specs.declared.parts.Demands.{Demands}
 use Rattle.zpairs.specs.Pairs.{AreUnfrozen}
-use Rattle.zflow.specs.Transfer.{Shape, drawn_set, pops, variable_set, small, local_kept, operand_kept, both_kept, untold, counted_set, demands_of, goes_on, gives_in, assigns_in, asks, counts_in, follows_in, returns_in, enters_in, argument_sets, jumps, outcome_of, leading, named_with, with_result, with_assigned, narrowed, read_set, mid_shape, changed_by, after}
+use Rattle.zflow.specs.Transfer.{Shape, drawn_set, pops, variable_set, small, is_local, local_kept, operand_kept, both_kept, untold, counted_set, demands_of, goes_on, gives_in, assigns_in, asks, counts_in, follows_in, returns_in, enters_in, argument_sets, jumps, outcome_of, leading, named_with, with_result, with_assigned, narrowed, read_set, mid_shape, changed_by, after}
 use Rattle.zrule.specs.declared.rule.Rule.TheVariants as rules
 use Rattle.zrule.specs.Claims.{Claims, frozen_in, told_of}
 use Rattle.zrule.specs.Rules.{Begins, Enters, TakesBack, HasLineObject, IsThere, IsKnown, IsNamed, IsVariable, HasTop, Supports, Takes, TakesInPlace, GoesOn, Returns, OnEdge, Whatever, IsLow, demands_at, AreObjects, NamesObject, Finds, FindsProperty, Spares, AreRead, AreWritten, KnowsAnswers}
@@ -277,9 +277,13 @@ module _ {V : Type 0} (o : SetOperations V) (lawful : AreSound o) (claims : Clai
   unfolding outcome_of
   compared_two q c p two narrows = (c, rw (two, narrows) refl)
 
-  counted_asked : (op : CountOp) (q : Question) (c : Bool) (v : ℕ) (p : V × V) → small (o.known (args 0)) ≡ Some v → o.narrow q c (counted_set o claims.globals op v mid) (args 1) ≡ Some p → ComesOf (Count op (Some q)) (counts_in v (counted_set o claims.globals op v mid) c (record untold { first = local_kept v p.0 }))
+  counted_asked : (op : CountOp) (q : Question) (c : Bool) (v : ℕ) (p : V × V) → is_local v ≡ true → small (o.known (args 0)) ≡ Some v → o.narrow q c (counted_set o claims.globals op v mid) (args 1) ≡ Some p → ComesOf (Count op (Some q)) (counts_in v (counted_set o claims.globals op v mid) c (record untold { first = Some (v, p.0) }))
   unfolding outcome_of
-  counted_asked op q c v p known narrows = (c, rw (known, narrows) refl)
+  counted_asked op q c v p is known narrows = (c, rw (known, is, narrows) refl)
+
+  counted_unasked : (op : CountOp) (q : Question) (c : Bool) (v : ℕ) → is_local v ≡ false → small (o.known (args 0)) ≡ Some v → ComesOf (Count op (Some q)) (counts_in v (counted_set o claims.globals op v mid) c untold)
+  unfolding outcome_of
+  counted_unasked op q c v is known = (c, rw (known, is) refl)
 
   compares : (q : Question) → Expected (Compare q) (Ok (testing (asked_of q all.values)))
   unfolding outcome_of
@@ -302,13 +306,29 @@ module _ {V : Type 0} (o : SetOperations V) (lawful : AreSound o) (claims : Clai
       let r = p.reads in let known = p.variable in
       rw r (assigns_expected (Count op None) p.v _ (arg all.values 0) (counted op p.old) (true, rw known refl) p.named (counted_in op p) p.exists)
   counts op (Some q) p =
-      let r = p.reads in let known = p.variable in let new = counted op p.old in
-      let a = counted_set o claims.globals op p.v mid in let c = holds q new (arg all.values 1) in
-      let n = edge_of (o.narrow q c a (args 1)) _ (lawful.narrow q c a (args 1) new (arg all.values 1) (counted_in op p) (all.members 1) refl) in
-      let kept : Kept V = record untold { first = local_kept p.v n.0.0 } in
-      let held : Hold o lawful kept (put_in_place m.story p.v new t).frame.locals = (counted_local p.v new n.0.0 t (sym same_count) p.exists n.2.0, tt) in
-      let named = p.named in let comes = counted_asked op q c p.v n.0 p.variable n.1 in
-      rw r (inr (counts_in p.v a c kept, comes, record { gives = tt; assigns = (named, counted_in op p, p.exists); tests = refl; leads = refl; kept = rw named held; memory = tt; needs = refl; goes = refl; acts = refl; stays = refl }))
+      let r = p.reads in rw r (by_local (is_local p.v) refl)
+    where
+      new : ℕ
+      new = counted op p.old
+
+      c : Bool
+      c = holds q new (arg all.values 1)
+
+      a : V
+      a = counted_set o claims.globals op p.v mid
+
+      comes_so : (kept : Kept V) → ComesOf (Count op (Some q)) (counts_in p.v a c kept) → Hold o lawful kept (put_in_place m.story p.v new t).frame.locals → Expected (Count op (Some q)) (Ok (counting (arg all.values 0) new (Some q) (arg all.values 1)))
+      comes_so kept comes held =
+          let named = p.named in
+          inr (counts_in p.v a c kept, comes, record { gives = tt; assigns = (named, counted_in op p, p.exists); tests = refl; leads = refl; kept = rw named held; memory = tt; needs = refl; goes = refl; acts = refl; stays = refl })
+
+      by_local : (b : Bool) → is_local p.v ≡ b → Expected (Count op (Some q)) (Ok (counting (arg all.values 0) new (Some q) (arg all.values 1)))
+      by_local false is = comes_so untold (counted_unasked op q c p.v is p.variable) (tt, tt)
+      by_local true is =
+          let n = edge_of (o.narrow q c a (args 1)) _ (lawful.narrow q c a (args 1) new (arg all.values 1) (counted_in op p) (all.members 1) refl) in
+          let kept_local : local_kept p.v n.0.0 ≡ Some (p.v, n.0.0) = rw is refl in
+          let held = counted_local p.v new n.0.0 t (sym same_count) p.exists n.2.0 in
+          comes_so (record untold { first = Some (p.v, n.0.0) }) (counted_asked op q c p.v n.0 is p.variable n.1) (subst (λ (k : Option (ℕ × V)). HoldsOne o lawful k (put_in_place m.story p.v new t).frame.locals) kept_local held, tt)
 
   pub known_jump : IsTrue (is_some (o.known (args 0))) → (x : ℕ) × (o.known (args 0) ≡ Some x) × (arg all.values 0 ≡ x)
   known_jump h = by_known (o.known (args 0)) refl h

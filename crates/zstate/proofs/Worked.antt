@@ -254,7 +254,7 @@ unfolding effect_of
 questions_asked = (refl, refl, refl, refl, refl)
 
 -- the second local is 8, and the top of the stack is 5, which stays
-counted_variables : (effect_of setting (operations.Count counts.Up (Some questions.Greater)) (2 ∷ 0 ∷ []) state ≡ Ok (record (assigning 2 9) { tests = Some true })) × (effect_of setting (operations.Count counts.Up (Some questions.Greater)) (2 ∷ 9 ∷ []) state ≡ Ok (record (assigning 2 9) { tests = Some false })) × (effect_of setting (operations.Count counts.Down None) (0 ∷ []) state ≡ Ok (assigning 0 4)) × (effect_of setting (operations.Count counts.Down None) (3 ∷ []) state ≡ Err (halts.Fault AbsentLocal))
+counted_variables : (effect_of setting (operations.Count counts.Up (Some questions.Greater)) (2 ∷ 8 ∷ []) state ≡ Ok (record (assigning 2 9) { tests = Some true })) × (effect_of setting (operations.Count counts.Up (Some questions.Greater)) (2 ∷ 9 ∷ []) state ≡ Ok (record (assigning 2 9) { tests = Some false })) × (effect_of setting (operations.Count counts.Down None) (0 ∷ []) state ≡ Ok (assigning 0 4)) × (effect_of setting (operations.Count counts.Down None) (3 ∷ []) state ≡ Err (halts.Fault AbsentLocal))
 unfolding effect_of read_in_place read_named state frame
 counted_variables = (refl, refl, refl, refl)
 
@@ -263,9 +263,9 @@ unfolding effect_of read_in_place read_named setting story memory code state fra
 named_variables = (refl, refl, refl, refl, refl, refl)
 
 -- the story has no checksum in its header, and its bytes behind the header sum up to more
-printed_and_moved : (effect_of setting operations.PrintChar (65 ∷ []) state ≡ Ok (printing (65 ∷ []))) × (effect_of setting operations.PrintChar (13 ∷ []) state ≡ Ok (printing (10 ∷ []))) × (effect_of setting operations.PrintChar (0 ∷ []) state ≡ Ok (printing [])) × (effect_of setting operations.PrintNumber (65535 ∷ []) state ≡ Ok (printing (45 ∷ 49 ∷ []))) × (effect_of setting operations.Jump (65535 ∷ []) state ≡ Ok (record proceeds { moves = on (negsuc 2) })) × (effect_of setting operations.Verify [] state ≡ Ok (testing false))
+printed_and_moved : (effect_of setting operations.PrintChar (65 ∷ []) state ≡ Ok (printing (65 ∷ []))) × (effect_of setting operations.PrintChar (13 ∷ []) state ≡ Ok (printing (10 ∷ []))) × (effect_of setting operations.PrintChar (0 ∷ []) state ≡ Ok (printing [])) × (effect_of setting operations.PrintNumber (65535 ∷ []) state ≡ Ok (printing (45 ∷ 49 ∷ []))) × (effect_of setting operations.Jump (65535 ∷ []) state ≡ Ok (record proceeds { moves = on (negsuc 2) })) × (effect_of setting operations.Verify [] state ≡ Ok (testing false)) × (effect_of setting operations.Jump (9 ∷ []) state ≡ Ok (record proceeds { moves = on (pos 7) }))
 unfolding digits effect_of setting story memory code
-printed_and_moved = (refl, refl, refl, refl, refl, refl)
+printed_and_moved = (refl, refl, refl, refl, refl, refl, refl)
 
 -- where the header says that sum, 1,905, it is right
 verified : effect_of (record setting { story = record story { memory = slice_set (slice_set memory 0x1C 0x07) 0x1D 0x71 } }) operations.Verify [] state ≡ Ok (testing true)
@@ -381,9 +381,9 @@ last_local = (refl, refl, refl, refl, refl)
 written_words : (write_word (1 ∷ 2 ∷ 3 ∷ 4 ∷ []) 1 0xFF00 ≡ 1 ∷ 0xFF ∷ 0x00 ∷ 4 ∷ []) × (write_word (1 ∷ 2 ∷ 3 ∷ []) 0 0x0100 ≡ 1 ∷ 0 ∷ 3 ∷ []) × (write_word (1 ∷ 2 ∷ []) 0 0xFFFF ≡ 0xFF ∷ 0xFF ∷ [])
 written_words = (refl, refl, refl)
 
-there : (exists 0 frame ≡ true) × (exists 2 frame ≡ true) × (exists 3 frame ≡ false) × (exists 15 frame ≡ false) × (exists 16 frame ≡ true)
+there : (exists 0 frame ≡ true) × (exists 2 frame ≡ true) × (exists 3 frame ≡ false) × (exists 15 frame ≡ false) × (exists 16 frame ≡ true) × (exists 1 (record frame { locals = []; stack = 5 ∷ [] }) ≡ false)
 unfolding frame
-there = (refl, refl, refl, refl, refl)
+there = (refl, refl, refl, refl, refl, refl)
 
 full : (stack : List ℕ) → length stack ≡ 65535 → (has_room 0 (record frame { stack = stack }) ≡ false) × (has_room 1 (record frame { stack = stack }) ≡ true)
 full stack deep = (rw deep refl, refl)

@@ -109,6 +109,11 @@ draws : (step setting (at_place (pos 90) (opening story)) ≡ Err (halts.Need ne
 unfolding step plan act changed fetch effect_of operation_of admits must_pause in_turn read_operand instruction_at head_at variable_head checked_head operands_at operand_at store_if branch_if text_if put setting story fresh asking code asks prompted
 draws = (refl, refl)
 
+-- a step that counts goes on with the count, and leaves what waits and the mark of a prompt
+counting_on : step setting (record (give (events.Random 7) (at_place (pos 90) prompted)) { random = Counting 3 3 }) ≡ Ok (record { state = record (give (events.Random 7) (at_place (pos 94) (with_stack (4 ∷ 70 ∷ 8 ∷ []) prompted))) { random = Counting 3 1 }; items = [] })
+unfolding step plan act changed fetch effect_of operation_of admits must_pause in_turn read_operand instruction_at head_at variable_head checked_head operands_at operand_at store_if branch_if text_if put setting story fresh asking code asks prompted
+counting_on = refl
+
 -- ---- what is asked of buffers: both lie in memory of 94 bytes, then their sizes, then all bytes that they take
 
 sized : (buffered story 93 75 fresh ≡ Err (halts.Fault SmallBuffer)) × (buffered story 94 75 fresh ≡ Err (halts.Fault ReadOutside)) × (buffered story 70 94 fresh ≡ Err (halts.Fault ReadOutside))
