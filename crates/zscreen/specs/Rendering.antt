@@ -20,7 +20,7 @@ score_and_moves score moves = codes "Score: " ++ signed_decimal score ++ codes "
 abbrev pub numbers : Status → List ℕ
 numbers status = if status.time then time_of_day status.first status.second else score_and_moves status.first status.second
 
--- a status line, on a line of its own (own)
+-- a status line, in brackets, with an end of line behind it (own)
 abbrev pub status_line : Status → List ℕ
 status_line status = codes "[" ++ status.name ++ codes " | " ++ numbers status ++ codes "]\n"
 
