@@ -13,7 +13,7 @@ use Rattle.zcode.specs.Instruction.{Instruction, IsWellFormed, destination}
 use Rattle.zcode.specs.Names.{name_of, excluded_name}
 use Rattle.zcode.specs.Opcodes.{missing, table, opcode_of, operand_bounds, TakesOperands, stores, branches, prints_text}
 use Rattle.zcode.specs.Places.{padded, typed, type_byte}
-use Rattle.zcode.specs.Spelling.{type_of, long_type, before_omitted, types_of, Long, ShortOne, VariableTwo, VariableMany, Spells, SpellsHead, SpellsOperand, SpellsOperands, SpellsBranch, SpellsBranchIf, SpellsTextIf, signed_14}
+use Rattle.zcode.specs.Spelling.{type_of, long_type, before_omitted, types_of, Long, ShortOne, ShortZero, VariableTwo, VariableMany, Spells, SpellsHead, SpellsOperand, SpellsOperands, SpellsBranch, SpellsBranchIf, SpellsTextIf, signed_14}
 use Rattle.zcode.specs.Reading.{Gives, first_byte, checked_head, long_head, short_head, variable_head, head_at, operand_at, operands_at, store_if, branch_at, branch_if, text_if, instruction_at, Agree}
 
 -- ---- opcodes
@@ -89,8 +89,8 @@ type_bytes = (refl, refl, refl, refl, refl, refl)
 offsets : (signed_14 0 ≡ pos 0) × (signed_14 0x1FFF ≡ pos 8191) × (signed_14 0x2000 ≡ negsuc 8191) × (signed_14 0x3FFE ≡ negsuc 1) × (signed_14 0x3FFF ≡ negsuc 0)
 offsets = (refl, refl, refl, refl, refl)
 
-heads : SpellsHead Long (0x05 ∷ []) IncChk (types.Small ∷ types.Small ∷ []) × SpellsHead ShortOne (0xA0 ∷ []) Jz (types.Variable ∷ []) × SpellsHead VariableTwo (0xD6 ∷ 0x2F ∷ []) Mul (types.Large ∷ types.Variable ∷ []) × SpellsHead VariableMany (0xE0 ∷ 0x3F ∷ []) Call (types.Large ∷ [])
-heads = ((lit< tt, refl, refl), (lit≤ tt, lit< tt, refl, types.Variable, refl, refl), (lit≤ tt, lit< tt, refl, refl), (lit≤ tt, refl, refl))
+heads : SpellsHead Long (0x05 ∷ []) IncChk (types.Small ∷ types.Small ∷ []) × SpellsHead ShortOne (0xA0 ∷ []) Jz (types.Variable ∷ []) × SpellsHead VariableTwo (0xD6 ∷ 0x2F ∷ []) Mul (types.Large ∷ types.Variable ∷ []) × SpellsHead VariableMany (0xE0 ∷ 0x3F ∷ []) Call (types.Large ∷ []) × SpellsHead ShortZero (0xB0 ∷ []) Rtrue []
+heads = ((lit< tt, refl, refl), (lit≤ tt, lit< tt, refl, types.Variable, refl, refl), (lit≤ tt, lit< tt, refl, refl), (lit≤ tt, refl, refl), (lit≤ tt, lit< tt, refl, refl, refl))
 
 no_heads : (SpellsHead Long (0x85 ∷ []) IncChk (types.Small ∷ types.Small ∷ []) → ⊥) × (SpellsHead VariableTwo (0xF6 ∷ 0x2F ∷ []) Mul (types.Large ∷ types.Variable ∷ []) → ⊥) × (SpellsHead VariableMany (0xE0 ∷ []) Call (types.Large ∷ []) → ⊥)
 no_heads = (λ h. omega (arith, h.0), λ h. omega (arith, h.1), λ h. h)

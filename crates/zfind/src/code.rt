@@ -197,6 +197,14 @@ impl<'a> Code<'a> {
         u16::from_be_bytes([self.byte_at(place), self.byte_at(place.saturating_add(1))])
     }
 
+    /// Whether a routine's head stands at a packed address in static memory, so that a certificate may list it (Z 5.1, 5.2).
+    pub(crate) fn has_head(&self, packed: u16) -> bool {
+        let head = 2 * usize::from(packed);
+        let locals = usize::from(self.byte_at(head));
+        let end = head.saturating_add(1 + 2 * locals);
+        head >= self.story.static_base() && locals <= 15 && end <= self.story.memory().len()
+    }
+
     /// The byte at a place, 0 outside memory.
     pub(crate) fn byte_at(&self, place: usize) -> u8 {
         self.story.memory().get(place).copied().unwrap_or(0)

@@ -186,7 +186,8 @@ fn global_given<V: Domain>(variable: u8, set: Option<V>) -> Option<(u8, V)> {
     }
 }
 
-/// What the routines at the packed addresses of a set give, as far as is known: anything, where one of them isn't listed.
+/// What the routines at the packed addresses of a set give, as far as is known: anything, where one of them is none, and nothing yet,
+/// where a certificate may list those that the story doesn't.
 fn given_by<V: Domain>(code: &Code<'_>, state: &State<V>, callees: V) -> Option<V> {
     let mut given = None;
     let mut callee = callees.least_from(1);
@@ -195,12 +196,37 @@ fn given_by<V: Domain>(code: &Code<'_>, state: &State<V>, callees: V) -> Option<
             return given;
         };
         let Some(number) = code.routine_of(packed) else {
-            return Some(V::any());
+            return anything_unless(may_be_listed(code, callees));
         };
         given = joined(given, state.result(number));
         callee = next_callee(callees, packed);
     }
     Some(V::any())
+}
+
+/// Any word, unless it is to be waited for what comes.
+fn anything_unless<V: Domain>(waits: bool) -> Option<V> {
+    if waits { None } else { Some(V::any()) }
+}
+
+/// Whether the story doesn't list each routine at a packed address of a set, but a certificate may: where heads stand at all of them. Of a
+/// set with too many to be looked at it may be so.
+pub(crate) fn may_be_listed<V: Domain>(code: &Code<'_>, callees: V) -> bool {
+    let mut is_more = false;
+    let mut callee = callees.least_from(1);
+    for _ in 0..MOST_CALLEES {
+        let Some(packed) = callee else {
+            return is_more;
+        };
+        if code.routine_of(packed).is_none() {
+            if !code.has_head(packed) {
+                return false;
+            }
+            is_more = true;
+        }
+        callee = next_callee(callees, packed);
+    }
+    true
 }
 
 /// The next word of a set behind one.

@@ -8,7 +8,7 @@ use crate::state::State;
 use std::alloc::{AllocError, Global};
 use zcode::{Operand, Operation};
 use zdomain::Domain;
-use zflow::{Demands, first_known};
+use zflow::{Demands, Lead, first_known};
 use zlist::Record;
 use zruns::Tables;
 
@@ -32,16 +32,8 @@ pub(crate) fn look<V: Domain>(
     record: &Record,
     index: usize,
 ) -> Result<Option<Seen<V>>, AllocError> {
-    let Some((locals, slots)) = state.sets_at(index) else {
+    let Some(visit) = visit_at(alloc, code, state, record, index) else {
         return Ok(None);
-    };
-    let visit = Visit {
-        alloc,
-        code,
-        state,
-        record,
-        locals,
-        slots,
     };
     let flow = visit.flow(tables);
     Ok(Some(Seen {
@@ -50,6 +42,41 @@ pub(crate) fn look<V: Domain>(
         reach: reach_of(code, &flow.demands),
         demands: flow.demands,
     }))
+}
+
+/// An instruction of an index, with what is known there, where that was reached.
+fn visit_at<'a, V: Domain>(
+    alloc: Global,
+    code: &'a Code<'a>,
+    state: &'a State<V>,
+    record: &'a Record,
+    index: usize,
+) -> Option<Visit<'a, V>> {
+    let (locals, slots) = state.sets_at(index)?;
+    Some(Visit {
+        alloc,
+        code,
+        state,
+        record,
+        locals,
+        slots,
+    })
+}
+
+/// The packed addresses of the routines that it calls.
+pub(crate) fn callees_at<V: Domain>(
+    alloc: Global,
+    code: &Code<'_>,
+    tables: &Tables<'_>,
+    state: &State<V>,
+    record: &Record,
+    index: usize,
+) -> Option<V> {
+    let visit = visit_at(alloc, code, state, record, index)?;
+    match visit.flow(tables).held?.lead {
+        Lead::Entering(callees) => Some(callees),
+        _ => None,
+    }
 }
 
 /// The words that an instruction compares with what else it compares, where they are known of variables.

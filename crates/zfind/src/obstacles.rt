@@ -93,6 +93,12 @@ fn broken_in_listed(
         let grown = walk.grow(&mut left);
         let certificate = certificate_of(alloc, &code, &mut walk)?;
         match grown {
+            Ok(()) if walk.waits() => return Ok(certain_obstacle(
+                story,
+                &code,
+                &walk,
+                &certificate,
+            )),
             Ok(()) => return obstacle_for(story, certificate),
             Err(FindError::RoundLimit) => {}
             Err(error) => return Err(error),
@@ -153,7 +159,7 @@ fn certain_obstacle(
             None,
         );
         if let Err(rule) = judged
-            && is_certain(rule, is_waiting(code, walk, listed.address))
+            && is_certain(rule, is_waiting(code, walk, &tables, listed.address))
         {
             return Some(Obstacle::Place(listed.address.cast_signed(), rule));
         }
@@ -161,16 +167,21 @@ fn certain_obstacle(
     None
 }
 
-/// Whether the instruction at an address is to be visited.
-fn is_waiting(code: &Code<'_>, walk: &Walk<'_, Interval>, address: u32) -> bool {
+/// Whether the instruction at an address is to be visited, or calls a routine that the story doesn't list, and a certificate may.
+fn is_waiting(
+    code: &Code<'_>,
+    walk: &Walk<'_, Interval>,
+    tables: &Tables<'_>,
+    address: u32,
+) -> bool {
     match code.index_behind(address as usize, 0) {
-        Some(index) => walk.is_waiting(index),
+        Some(index) => walk.is_waiting(index) || walk.waits_at(tables, index),
         None => true,
     }
 }
 
 /// Whether a rule that is broken now stays broken when more is found. Where an instruction leads to and what it gives is said there only
-/// once it was visited, and what comes back only once a routine returned.
+/// once it was visited, and what comes back only once a routine returned; and of a routine that the story doesn't list, nothing is said.
 fn is_certain(rule: Rule, is_waiting: bool) -> bool
     ensures { IsTrue result → IsLasting rule }
 {

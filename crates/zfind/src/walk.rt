@@ -5,11 +5,11 @@ ghost use Rattle.zfind.specs.Finding.{IsStopped};
 
 use crate::bytes::{Bytes, Span};
 use crate::code::Code;
-use crate::effects::{Calls, Effect, Effects, MOST_CALLEES, next_callee};
+use crate::effects::{Calls, Effect, Effects, MOST_CALLEES, may_be_listed, next_callee};
 use crate::error::FindError;
 use crate::frame::Frame;
 use crate::groups::{Groups, index_in};
-use crate::looking::look;
+use crate::looking::{callees_at, look};
 use crate::openings::open_written;
 use crate::queue::Queue;
 use crate::state::{Plan, State};
@@ -38,6 +38,8 @@ pub(crate) struct Walk<'a, V> {
     found: u32,
     /// How often each instruction was visited, where those come first that were visited least.
     visits: Option<Vec<u32>>,
+    /// Whether a routine was called that the story doesn't list, and a certificate may.
+    waits: bool,
 }
 
 impl<'a, V: Domain> Walk<'a, V> {
@@ -60,6 +62,7 @@ impl<'a, V: Domain> Walk<'a, V> {
             ranks: vec![in alloc; 0; code.routines().len().saturating_add(1)]?,
             found: 0,
             visits: None,
+            waits: false,
         };
         if let Some(first) = code.first() {
             walk.join(first, &Frame::empty(alloc), false)?;
@@ -116,10 +119,10 @@ impl<'a, V: Domain> Walk<'a, V> {
     }
 
     /// Has those visited that were put off: what looked where bytes were opened, and, where there is none, what waits for a routine that
-    /// never returns.
+    /// never returns. Where a routine that isn't listed may return, none is known to be such a one.
     fn wake_more(&mut self) -> Result<(), AllocError> {
         self.wake_outdated()?;
-        if self.queue.is_empty() {
+        if self.queue.is_empty() && !self.waits {
             self.end_routines()?;
         }
         Ok(())
@@ -250,6 +253,7 @@ impl<'a, V: Domain> Walk<'a, V> {
                 return Ok(());
             };
             let Some(number) = self.code.routine_of(packed) else {
+                self.waits = self.waits || may_be_listed(self.code, calls.callees);
                 return Ok(());
             };
             self.enter(number, calls)?;
@@ -301,6 +305,22 @@ impl<'a, V: Domain> Walk<'a, V> {
     /// Whether an instruction is to be visited.
     pub(crate) fn is_waiting(&self, index: usize) -> bool {
         self.queue.has(index)
+    }
+
+    /// Whether a routine was called that the story doesn't list, and a certificate may.
+    pub(crate) fn waits(&self) -> bool {
+        self.waits
+    }
+
+    /// Whether an instruction calls such a one.
+    pub(crate) fn waits_at(&self, tables: &Tables<'_>, index: usize) -> bool {
+        let Some(record) = self.code.records().get(index) else {
+            return false;
+        };
+        match callees_at(self.alloc, self.code, tables, &self.state, record, index) {
+            Some(callees) => may_be_listed(self.code, callees),
+            None => false,
+        }
     }
 
     /// Has a place visited, if it was reached.
