@@ -72,7 +72,7 @@ laid_again now s [] memory place some long = absurd (omega (arith, some))
 laid_again now s (f ∷ fs) memory place some long =
     ap (λ (bytes : List ℕ). let t : State = record now { memory = bytes; frame = f; callers = fs; place = place; prompted = false; waiting = Some (events.Saved true) } in t) (sym (flags_again now.memory s.memory memory long))
 
-goes_where : (m : Setting) (saved : Saved) (s t : State) → going_on m saved s ≡ Ok t → resumed m.story saved s ≡ t
+pub goes_where : (m : Setting) (saved : Saved) (s t : State) → going_on m saved s ≡ Ok t → resumed m.story saved s ≡ t
 unfolding going_on
 goes_where m saved s t e =
     let there = need_ok (saves (fetch m.scope (save_place saved) (resumed m.story saved s).memory)) errors.Place _ t e in

@@ -35,6 +35,7 @@ pub mod Rewriting
 pub mod Restarting
 pub mod Elsewhere
 pub mod Runs
+pub mod Alike
 mod Worked
 mod WorkedApart
 pub mod Instances

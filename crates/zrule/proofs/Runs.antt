@@ -59,7 +59,7 @@ module _ {V : Type 0} (o : SetOperations V) (lawful : AreSound o) (claims : Clai
   restored_fine (Ok t) u fine is = subst (Described o claims m.limit m.story) (same_Some t u is) (fine t refl)
   restored_fine (Err e) u fine is = absurd cc
 
-  handed_fine : (h : Halt) (x : Input) (t u : State) → IsFine o claims m x → Described o claims m.limit m.story t → handed m h x t ≡ Some u → Described o claims m.limit m.story u
+  pub handed_fine : (h : Halt) (x : Input) (t u : State) → IsFine o claims m x → Described o claims m.limit m.story t → handed m h x t ≡ Some u → Described o claims m.limit m.story u
   handed_fine h (Given e) t u fine d is = given_fine (is_answered h e) e t u d is
   handed_fine (halts.Need needs.Restore) (Restored bytes) t u fine d is = restored_fine (restoring m bytes t) u (λ v is. fine t v d.is_state is) is
   handed_fine (halts.Need needs.Line) (Restored bytes) t u fine d is = absurd cc

@@ -124,6 +124,10 @@ module _ {V : Type 0} (o : SetOperations V) (claims : Claims V) where
   abbrev pub NeverFaults : Type 0
   NeverFaults = (story : LoadedStory) (limit : ℕ) (inputs : List Input) (n : ℕ) → IsLoadedStory story → Supports o claims story → AreFine o claims (record { story = story; scope = scope_all story; limit = limit }) inputs → IsNoFault (run (record { story = story; scope = scope_all story; limit = limit }) inputs n (opening story)).stop
 
+  -- a run from a described state is the same run in every scope that has the listed places, as long as the saves are fine in both
+  abbrev pub PlaysAlike : Type 0
+  PlaysAlike = (m : Setting) (wide : Scope) (inputs : List Input) (n : ℕ) (s : State) → IsLoadedStory m.story → Supports o claims m.story → IsListedIn o claims m.scope → IsListedIn o claims wide → AreFine o claims m inputs → AreFine o claims (record m { scope = wide }) inputs → Described o claims m.limit m.story s → run (record m { scope = wide }) inputs n s ≡ run m inputs n s
+
   -- a save that is accepted in one state is fine, in any scope
   abbrev pub AcceptedAreFine : Type 0
   AcceptedAreFine = (m : Setting) (scope : Scope) (bytes : List ℕ) (s : State) → IsLoadedStory m.story → Supports o claims m.story → IsAcceptedIn o claims m bytes s → IsFineSave o claims (record m { scope = scope }) bytes

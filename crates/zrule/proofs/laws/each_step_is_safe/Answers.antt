@@ -2,6 +2,7 @@ use Rattle.zrule.proofs.Opening.{opening_described}
 use Rattle.zrule.proofs.Restarting.{restarted_described}
 use Rattle.zrule.proofs.Steps.{step_safe}
 use Rattle.zrule.proofs.Runs.{run_safe, never_faults}
+use Rattle.zrule.proofs.Alike.{run_alike}
 use Rattle.zrule.proofs.laws.each_step_is_safe.Goals as goal
 
 pub returns-clause-opening : goal.returns-clause-opening
@@ -18,3 +19,6 @@ returns-clause-runs g c = λ claims m inputs n s loaded supports listed fine d. 
 
 pub returns-clause-never_faults : goal.returns-clause-never_faults
 returns-clause-never_faults g c = λ claims story limit inputs n loaded supports fine. never_faults g.V.Domain.operations g.met.V.Domain.sound claims story limit inputs n loaded supports fine
+
+pub returns-clause-alike : goal.returns-clause-alike
+returns-clause-alike g c = λ claims m wide inputs n s loaded supports listed listed_wide fine fine_there d. run_alike g.V.Domain.operations g.met.V.Domain.sound claims m wide loaded supports listed listed_wide inputs n s fine fine_there d
