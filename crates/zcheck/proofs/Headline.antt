@@ -19,9 +19,10 @@ use Rattle.zplace.specs.Bytes.{IsFixed, frozen}
 use Rattle.zrule.specs.Described.{AreFine, Described, IsListedIn, IsLoadedStory, IsNoFault}
 use Rattle.zrule.proofs.Listed.{entry_listed, few_there}
 use Rattle.zrule.proofs.Runs.{all_listed, run_safe}
+use Rattle.zrule.proofs.Alike.{run_alike}
 use Rattle.zrule.proofs.Opening.{opening_described}
 use Rattle.zcheck.specs.declared.refusal.StoryRule.TheVariants as rules
-use Rattle.zcheck.specs.Acceptance.{IsRecordOf, IsListingOf, RunsWithoutFault, RunsWithoutChange, playing_in}
+use Rattle.zcheck.specs.Acceptance.{IsRecordOf, IsListingOf, RunsAlike, RunsWithoutFault, RunsWithoutChange, playing_in}
 use Rattle.zcheck.specs.Passes.{Passes}
 use Rattle.zcheck.proofs.Heads.{heads_where, routine_there}
 
@@ -97,3 +98,8 @@ module _ {V : Type 0} (o : SetOperations V) (lawful : AreSound o) (format : Form
   pub never_changes : (listing : ListedCode) → IsLoadedStory story → Passes o story c → IsListingOf story c listing → RunsWithoutChange o (claims_of o c) story (scope_only listing) × RunsWithoutChange o (claims_of o c) story (scope_all story)
   never_changes listing loaded passes lists =
       (same_in loaded passes (scope_only listing) (lists_where listing lists), same_in loaded passes (scope_all story) (all_listed o (claims_of o c) story (supports_where passes)))
+
+  pub plays_alike : (listing : ListedCode) → IsLoadedStory story → Passes o story c → IsListingOf story c listing → RunsAlike o (claims_of o c) story (scope_only listing) (scope_all story)
+  plays_alike listing loaded passes lists inputs n fine fine_everywhere =
+      let supports = supports_where passes in
+      run_alike o lawful (claims_of o c) (playing_in story (scope_only listing)) (scope_all story) loaded supports (lists_where listing lists) (all_listed o (claims_of o c) story supports) inputs n (opening story) fine fine_everywhere (opening_described o (claims_of o c) story usual_limit loaded supports)

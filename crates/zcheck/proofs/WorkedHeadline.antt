@@ -12,7 +12,7 @@ use Rattle.zstate.specs.Run.{Ending, Input, Given, Restored, run}
 use Rattle.zstate.specs.Saves.{restoring}
 use Rattle.zrule.specs.Claims.{Claims, claims_of, frozen_in}
 use Rattle.zrule.specs.Described.{AreFine, Described, IsNoFault}
-use Rattle.zcheck.specs.Acceptance.{AcceptanceOver, NeverFaults, NeverChanges}
+use Rattle.zcheck.specs.Acceptance.{AcceptanceOver, NeverFaults, NeverChanges, PlaysAlike}
 
 module _ {V : Type 0} (o : SetOperations V) (a : AcceptanceOver V) where
   abbrev claims : Claims V
@@ -60,3 +60,7 @@ module _ {V : Type 0} (o : SetOperations V) (a : AcceptanceOver V) where
     λ may. never.listed inputs n p (fine listed inputs may) stays,
     λ may. never.everywhere inputs n p (fine everywhere inputs may) stays,
   )
+
+  -- where the saves may be handed in both ways, it ends with every place as with what the certificate lists, and gives out the same
+  ends_alike : PlaysAlike o a → (inputs : List Input) (n : ℕ) → AllByRecursion (May listed) inputs → AllByRecursion (May everywhere) inputs → ending everywhere inputs n ≡ ending listed inputs n
+  ends_alike alike inputs n may may_everywhere = alike inputs n (fine listed inputs may) (fine everywhere inputs may_everywhere)

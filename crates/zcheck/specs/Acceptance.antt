@@ -59,6 +59,11 @@ module _ {V : Type 0} (o : SetOperations V) (claims : Claims V) where
   RunsWithoutChange story scope =
       (inputs : List Input) (n p : ℕ) → AreFine o claims (playing_in story scope) inputs → IsFixed story (frozen_in claims) p ⊎ ((frozen_in claims) p ≡ true) → byte_at (run (playing_in story scope) inputs n (opening story)).state.memory p ≡ byte_at story.memory p
 
+  -- the story has the same runs in both scopes, as long as the saves are fine in both
+  abbrev pub RunsAlike : LoadedStory → Scope → Scope → Type 0
+  RunsAlike story scope wide =
+      (inputs : List Input) (n : ℕ) → AreFine o claims (playing_in story scope) inputs → AreFine o claims (playing_in story wide) inputs → run (playing_in story wide) inputs n (opening story) ≡ run (playing_in story scope) inputs n (opening story)
+
 -- with the certificate's listing as with every place of the story
 pub record NeverFaults {V : Type 0} (o : SetOperations V) (a : AcceptanceOver V) : Type 0 where
   pub listed : RunsWithoutFault o (claims_of o a.certificate) a.story (scope_only a.listing)
@@ -68,3 +73,7 @@ pub record NeverFaults {V : Type 0} (o : SetOperations V) (a : AcceptanceOver V)
 pub record NeverChanges {V : Type 0} (o : SetOperations V) (a : AcceptanceOver V) : Type 0 where
   pub listed : RunsWithoutChange o (claims_of o a.certificate) a.story (scope_only a.listing)
   pub everywhere : RunsWithoutChange o (claims_of o a.certificate) a.story (scope_all a.story)
+
+-- with every place of the story it is the run with the certificate's listing
+abbrev pub PlaysAlike : {V : Type 0} → SetOperations V → AcceptanceOver V → Type 0
+PlaysAlike o a = RunsAlike o (claims_of o a.certificate) a.story (scope_only a.listing) (scope_all a.story)

@@ -1,4 +1,4 @@
-use Rattle.zcheck.proofs.Headline.{never_changes, never_faults}
+use Rattle.zcheck.proofs.Headline.{never_changes, never_faults, plays_alike}
 use Rattle.zcheck.proofs.checking.check.Goals as goal
 
 pub returns-clause-never_faults : goal.returns-clause-never_faults
@@ -10,3 +10,7 @@ pub returns-clause-never_changes : goal.returns-clause-never_changes
 returns-clause-never_changes g c =
     let same = never_changes g.V.Domain.operations g.met.V.Domain.sound g.V.Spelled.format c.args.story c.args.certificate c.well_spelled.ensures c.in_ok-listing.listing c.loaded_soundly.ensures c.in_ok-listing.ensures.passes c.in_ok-listing.ensures.lists in
     rw c.new.ensures (record { listed = same.0; everywhere = same.1 })
+
+pub returns-clause-plays_alike : goal.returns-clause-plays_alike
+returns-clause-plays_alike g c =
+    rw c.new.ensures (plays_alike g.V.Domain.operations g.met.V.Domain.sound g.V.Spelled.format c.args.story c.args.certificate c.well_spelled.ensures c.in_ok-listing.listing c.loaded_soundly.ensures c.in_ok-listing.ensures.passes c.in_ok-listing.ensures.lists)
