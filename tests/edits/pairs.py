@@ -1,13 +1,19 @@
 #!/usr/bin/env python3
 """Alters the definitions of a crate, one place at a time, and says which of its computed values refuse each.
 
-    pairs.py [--jobs N] [--most N] [--seed N] [--at-once N] [--quick] CRATE [FILE..]
+    pairs.py [--jobs N] [--most N] [--seed N] [--at-once N] [--kind KIND] [--quick] CRATE [FILE..]
 
-A definition that is changed together with its code goes through every proof: only a value that is computed from it can refuse that. So a
-number, a sum, a comparison, a truth value or a condition of specs/ is altered, an equation answers as the one beside it, or a parameter stands
-where another one does, with no code beside it, in a copy whose functions are emptied and have a hole for a proof. Each place is `refused` by modules of values, or else by
-definitions of a law; or it is `ill`, as no definition any more; or it passes. What passes has to be read: a definition that only stands
-between others is held to them by proofs. Folders of specs/ hold proofs of laws, and are left as they are.
+A definition that is changed together with its code goes through every proof: only a value that is computed from it can refuse that. So
+specs/ are altered, one place at a time and with no code beside them, in a copy whose functions are emptied and have a hole for a proof:
+
+- signs: a number, a sum, a comparison, a truth value or a condition is another one;
+- answers: an equation answers as the one beside it;
+- parameters: a parameter, or what a line before was bound to, stands where another one does;
+- names: so does a variant, a field or a function of the same type.
+
+Each place is `refused` by modules of values, or else by definitions of a law; or it is `ill`, as no definition any more; or it passes. What
+passes has to be read: a definition that only stands between others is held to them by proofs. Folders of specs/ hold proofs of laws, and are
+left as they are.
 
 The values alone come first, by a function that does nothing and whose proof reads them, and several places in one check: each in a copy
 of its file, and of the files that stand on it, under names of their own. What they let pass is checked as a whole, but under --quick.
@@ -16,6 +22,7 @@ It runs at the top of a repository whose libraries are built. No gate runs it.
 """
 import argparse
 import concurrent.futures
+import glob
 import os
 import random
 import re
@@ -57,11 +64,22 @@ WORDS = {
 # The names that they need an import of: of a word its own, of a sign that with its places.
 IMPORTS = {new: new.strip() for new in WORDS.values() if new.strip().isidentifier()}
 IMPORTS |= {f" {it} ": f"◌{it}◌" for it in ("*", "+", "<", "≤", "||", "&&")} | {" == 1 + ": "◌+◌"}
-NUMBER = re.compile(r"(?<![\w.'≡])(?:0x[0-9A-Fa-f]+|\d+)(?![\w.'])")
+NUMBER = re.compile(r"(?<![\w.'≡{])(?<!Type )(?:0x[0-9A-Fa-f]+|\d+)(?![\w.'])")
 CONDITION = re.compile(r"\bif (.+?) then\b")
 # A definition's name in front of an equation's patterns, and what it answers.
-EQUATION = re.compile(r"(\s*(?:\w+|◌\S+) )(.*) = (.+)")
+EQUATION = re.compile(r"(\s*(?:\w+|◌\S+) )(.*?) = (.+)")
 PARAMETER = re.compile(r"(?<![\w.'◌])[a-z][a-z_]*(?![\w'◌])")
+# A variant, by its enum's other name too, or a function.
+NAME = re.compile(r"(?<![\w.'◌])(?:[a-z]\w*\.)?[A-Za-z]\w*(?![\w'◌])")
+# The beginnings of lines: of what stands outside of definitions; of a record or an enum; of a type; of an equation, with its patterns; of a
+# field; of what is bound, or given to a field.
+OUTSIDE = re.compile(r"\s*(?:use|(?:pub )?mod|module) ")
+BLOCK = re.compile(r"\s*(?:pub )?(?:record|data) .* where")
+SIGNATURE = re.compile(r"\s*(?:(?:abbrev|unfoldable) )?(?:pub )?\S+ : ")
+HEAD = re.compile(r"\s*\S+( .*?)? =(?: |$)")
+FIELD = re.compile(r"\s*(?:pub )?\w+ : ")
+BOUND = re.compile(r"\s*([\w(), ]+) (?:←|=) ")
+BINDER = re.compile(r"[({]([a-z][\w ]*) : ")
 ERROR = re.compile(r"(?m)^\./(\S+?):\d+:\d+: error: ")
 # A function that does nothing, whose proof reads the modules of values.
 READER = "reads_values"
@@ -88,44 +106,112 @@ class Place(NamedTuple):
         return "\n".join(lines), line.strip()
 
 
-def places_of(path, text):
-    """The places of a file that can be altered: behind the first `=` of a line, or anywhere in a line that goes on with a definition."""
+def answers_of(text):
+    """The lines of a file that say what something is, each with where that begins, and with the names that stand for something there."""
+    names, depth, block = None, -1, None
     for number, line in enumerate(text.split("\n")):
-        code = line.partition("--")[0]
-        if re.match(r"\s*(?:use|(?:pub )?mod|module) ", code) or not code.strip():
+        code = line.partition("--")[0].rstrip()
+        indent = len(code) - len(code.lstrip())
+        if not code:
             continue
-        _, equals, _ = code.partition(" = ")
-        start = code.find(" = ") + len(" =") if equals else 0 if code.startswith("    ") else len(code)
+        if block is not None and indent <= block:
+            block = None
+        head = HEAD.match(code)
+        if BLOCK.match(code):
+            names, depth, block = BINDER.findall(code), indent, indent
+        elif block is not None:
+            field = FIELD.match(code)
+            yield number, code, field.end() if field else indent, words_of([*names, *BINDER.findall(code)])
+        elif OUTSIDE.match(code) or SIGNATURE.match(code):
+            names, depth = None, indent
+        elif head and indent <= depth:
+            names = words_of(PARAMETER.findall(head[1] or ""))
+            yield number, code, head.end(), names
+        elif names is not None:
+            bound = BOUND.match(code)
+            yield number, code, bound.end() if bound else indent, names
+            names = words_of([*names, *PARAMETER.findall(bound[1])]) if bound else names
+
+
+def words_of(texts):
+    """Each word of some texts, once."""
+    return list(dict.fromkeys(word for it in texts for word in it.split()))
+
+
+def signs_of(path, text, others):
+    """The places of a file where a number, a sign or a condition can be another."""
+    for number, code, start, _ in answers_of(text):
         for found in NUMBER.finditer(code, start):
             value = int(found[0], 0)
             yield from (Place(path, number, found.start(), found.end(), str(it)) for it in (value + 1, value - 1) if it >= 0)
         for old, new in WORDS.items():
-            for found in re.finditer(re.escape(old), code[start:]):
-                yield Place(path, number, start + found.start(), start + found.end(), new)
+            for found in re.finditer(re.escape(old), code[start - 1 :]):
+                yield Place(path, number, start - 1 + found.start(), start - 1 + found.end(), new)
         for found in CONDITION.finditer(code):
             yield Place(path, number, found.start(), found.end(), f"if not ({found[1]}) then")
 
 
-def neighbours_of(path, text):
+def neighbours_of(path, text, others):
     """The equations of a file, each with what another one beside it of the same definition answers."""
     found = [EQUATION.fullmatch(it) for it in text.split("\n")]
     for number, it in enumerate(found):
         beside = (*found[number + 1 : number + 2], *found[max(number - 1, 0) : number])
-        others = [other[3] for other in beside if it and other and other[1] == it[1] and other[3] != it[3]]
-        if others:
-            yield Place(path, number, it.start(3), it.end(3), others[0])
+        answers = [other[3] for other in beside if it and other and other[1] == it[1] and other[3] != it[3]]
+        if answers:
+            yield Place(path, number, it.start(3), it.end(3), answers[0])
 
 
-def parameters_of(path, text):
-    """The places of a file where an equation names a parameter, with the one behind it in its patterns; behind the last is the first."""
-    for number, line in enumerate(text.split("\n")):
-        equation = EQUATION.fullmatch(line.partition("--")[0])
-        if not equation or equation[1].strip() in ("abbrev", "unfoldable", "pub"):
-            continue
-        names = list(dict.fromkeys(PARAMETER.findall(equation[2])))
-        for found in PARAMETER.finditer(line, equation.start(3), equation.end(3)):
+def parameters_of(path, text, others):
+    """The places of a file where a parameter is named, with the one behind it; behind the last is the first."""
+    for number, code, start, names in answers_of(text):
+        for found in PARAMETER.finditer(code, start):
             if found[0] in names and len(names) > 1:
                 yield Place(path, number, found.start(), found.end(), names[(names.index(found[0]) + 1) % len(names)])
+
+
+def names_of(path, text, others):
+    """The places of a file where a variant, a field or a function is named, with another one that may stand there."""
+    beside = beside_in(text)
+    for number, code, start, names in answers_of(text):
+        for found in NAME.finditer(code, start):
+            if found[0] in beside and found[0] not in names:
+                yield Place(path, number, found.start(), found.end(), beside[found[0]])
+        for found in re.finditer(r"(?<=[\w)]\.)[a-z]\w*", code[start:]):
+            for other in others.get(found[0], ()):
+                yield Place(path, number, start + found.start(), start + found.end(), other)
+
+
+KINDS = {"signs": signs_of, "answers": neighbours_of, "parameters": parameters_of, "names": names_of}
+
+
+def in_turn(groups):
+    """Each name of some groups with the next of its group."""
+    return {it: group[(at + 1) % len(group)] for group in groups for at, it in enumerate(group) if len(group) > 1}
+
+
+def beside_in(text):
+    """Each variant that a file names with the next of its enum, and each function that it defines with the next one of its type."""
+    groups = [[it.split(" as ")[-1].strip() for it in found.split(",")] for found in re.findall(r"(?m)^use \S+\.TheVariants\.\{(.*)\}", text)]
+    for alias in re.findall(r"(?m)^use \S+\.TheVariants as (\w+)", text):
+        groups.append(sorted(set(re.findall(rf"\b{alias}\.\w+", text))))
+    of_type = {}
+    for name, sort in re.findall(r"(?m)^\s*(?:abbrev |unfoldable )?(?:pub )?(\w+|◌\S+) : (.*)", text):
+        of_type.setdefault(sort.strip(), []).append(name)
+    return in_turn([*groups, *of_type.values()])
+
+
+def fields_beside():
+    """Each field of the repository's records and structs with those of the same type beside it."""
+    found = {}
+    for top in ("specs/*.antt", "src/*.rt"):
+        for path in glob.glob(f"crates/*/{top}"):
+            for body in re.findall(r"(?m)^(?:pub record .* where|pub struct .*\{)$((?:\n\s+.*|\n$)+)", RT.rtlib.text_of(path)):
+                of_type = {}
+                for name, sort in re.findall(r"(?m)^\s+(?:pub )?(\w+) ?: (.*?),?$", body):
+                    of_type.setdefault(sort, {})[name] = None
+                for name, other in in_turn(map(list, of_type.values())).items():
+                    found.setdefault(name, {})[other] = None
+    return found
 
 
 def keep_values(crate, room):
@@ -286,6 +372,7 @@ def main():
     words.add_argument("--most", type=int, default=sys.maxsize)
     words.add_argument("--seed", type=int, default=1)
     words.add_argument("--at-once", type=int, default=8, help="places in one check")
+    words.add_argument("--kind", action="append", choices=KINDS, help="what is altered; none: all")
     words.add_argument("--quick", action="store_true", help="asks the values alone")
     words.add_argument("crate")
     words.add_argument("files", nargs="*", help="of specs/, as Spelling; none: all")
@@ -297,8 +384,9 @@ def main():
     with tempfile.TemporaryDirectory(prefix="pairs-") as base, concurrent.futures.ThreadPoolExecutor(given.jobs) as pool:
         prepare(crate, base)
         texts = {it: text for it, text in modules_of(base).items() if it.startswith("specs/") and (not given.files or name_of(it) in given.files)}
-        kinds = places_of, neighbours_of, parameters_of
-        places = [place for path, text in texts.items() for kind in kinds for place in kind(path, text)]
+        kinds = [KINDS[it] for it in given.kind or KINDS]
+        beside = fields_beside()
+        places = [place for path, text in texts.items() for kind in kinds for place in kind(path, text, beside)]
         random.Random(given.seed).shuffle(places)
         chosen = places[: given.most]
         passed = 0

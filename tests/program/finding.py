@@ -4,7 +4,7 @@ import subprocess
 import tempfile
 
 from program import Answer, side_by_side
-from samples import HELLO, NEW_LINE, NOP, QUIT, certificate, changed, story, with_objects
+from samples import HELLO, NEW_LINE, NOP, QUIT, certificate, changed, interval, story, with_objects
 
 HERE = os.path.dirname(os.path.abspath(__file__))
 SAMPLE = story(HELLO + QUIT)
@@ -62,6 +62,22 @@ SINGLE = [
 
 NEVER_THERE = story(b"\x01\x01\x02\xc3" + QUIT + b"\xbe")
 
+
+def calls_by_local(packed):
+    """Calls 32e, quits; there, with a local: stores a packed address in it, calls what is there, returns 1. At 33c a routine that returns 1."""
+    return story(b"\xe0\x3f\x01\x97\x00" + QUIT + bytes(4) + b"\x01\0\0" + b"\xcd\x4f\x01" + packed + b"\xe0\xbf\x01\x00\xb0" + b"\0\0\xb0")
+
+
+CALLS_UNLISTED = calls_by_local(b"\x01\x9e")
+STORED = interval(0x19E, 0x19E)
+LISTING_MORE = certificate(
+    CALLS_UNLISTED,
+    [0x324, 0x329, 0x331, 0x336, 0x33A, 0x33D],
+    routines=[(0x32E, 1, (1, 1)), (0x33C, 0, (1, 1))],
+    inside={0x331: (1, interval(0, 0)), 0x336: (1, STORED), 0x33A: (1, STORED), 0x33D: (2, b"")},
+    stacks={0x329: interval(1, 1), 0x33A: interval(1, 1)},
+)
+
 NONE = [
     ("a byte that is no opcode", story(b"\xbe"), ("G1 at 00324", "no certificate: I1 at 00324")),
     ("a jump out of memory", story(b"\x8c\x7f\xff"), ("G1 at 08324", "not found")),
@@ -78,6 +94,9 @@ NONE = [
         with_objects(WITH_CHILD + b"\xc2\xa3\x01\x00\xb0"),
         ("G1 at 00387", "no certificate: I5 at 00387"),
     ),
+    # a routine that is called by a local alone isn't listed. There is a certificate, by hand; and none where no head stands there
+    ("a call of what a certificate may list", CALLS_UNLISTED, ("G1 at 00336", "not found")),
+    ("a call of what is no routine", calls_by_local(b"\x00\x01"), ("G1 at 00336", "no certificate: I12 at 00336")),
     # print_num of 1 divided by global 16, which is 0
     ("a division by 0", story(b"\x37\x01\x10\x11" + QUIT), ("G1 at 00324", "no certificate: I8 at 00324")),
 ]
@@ -108,6 +127,7 @@ def see_none(program, count):
         count.see(written is None, f"{name}, find: a certificate was written")
     by_hand = {"story": NEVER_THERE, "certificate": certificate(NEVER_THERE, [0x324, 0x328])}
     count.is_answer("a listing that leaves out where play never comes", program.run(["check", "story", "certificate"], by_hand), Answer(0, b"accepted\n", b""))
+    count.is_answer("a listing of more than the story lists", program.run(["check", "story", "certificate"], {"story": CALLS_UNLISTED, "certificate": LISTING_MORE}), Answer(0, b"accepted\n", b""))
     count.is_answer("no story there to find for", program.run(["find", "absent", "certificate"]), Answer(4, b"", b"failed: file\n"))
 
 

@@ -102,8 +102,8 @@ differences : IsFrom (binary Sub few (from (pos 2) (pos 3) refl)) (minus 3) (pos
 differences = ((refl, refl), (refl, refl), (refl, refl))
 
 -- of 15, -12, -10 and 8
-products : IsFrom (binary Mul (from (minus 3) (pos 2) refl) (from (minus 5) (pos 4) refl)) (minus 12) (pos 15) × IsFrom (binary Mul (from (minus 2) (pos 3) refl) (word (pos 7))) (minus 14) (pos 21) × IsFrom (binary Mul (word (pos 300)) (word (pos 300))) (minus 32768) (pos 32767)
-products = ((refl, refl), (refl, refl), (refl, refl))
+products : IsFrom (binary Mul (from (minus 3) (pos 2) refl) (from (minus 5) (pos 4) refl)) (minus 12) (pos 15) × IsFrom (binary Mul (from (minus 2) (pos 3) refl) (word (pos 7))) (minus 14) (pos 21) × IsFrom (binary Mul (word (pos 300)) (word (pos 300))) (minus 32768) (pos 32767) × IsFrom (binary Mul (from (pos 1) (pos 2) refl) (from (minus 5) (pos 3) refl)) (minus 10) (pos 6)
+products = ((refl, refl), (refl, refl), (refl, refl), (refl, refl))
 
 -- -11 by 2 is -5, and 10 and 20 by -3 and by -2 are -3, -5, -6 and -10
 quotients : IsFrom (binary Div (from (minus 11) (pos 11) refl) (word (pos 2))) (minus 5) (pos 5) × IsFrom (binary Div (from (pos 10) (pos 20) refl) (from (minus 3) (minus 2) refl)) (minus 10) (minus 3)
@@ -114,8 +114,8 @@ no_quotients : IsFrom (binary Div (word (pos 1)) few) (minus 32768) (pos 32767) 
 no_quotients = ((refl, refl), (refl, refl), (refl, refl))
 
 -- by 5 nothing beyond 4 is left, on either side; by -5 the same; a dividend of one sign leaves that sign, and no more than it is
-remainders : IsFrom (binary Mod (from (minus 13) (pos 13) refl) (word (pos 5))) (minus 4) (pos 4) × IsFrom (binary Mod (word (pos 13)) (word (minus 5))) (pos 0) (pos 4) × IsFrom (binary Mod (from (minus 13) (minus 2) refl) (from (pos 5) (pos 7) refl)) (minus 6) (pos 0) × IsFrom (binary Mod (from (pos 2) (pos 3) refl) (word (pos 10))) (pos 0) (pos 3) × IsFrom (binary Mod few (word (minus 1))) (pos 0) (pos 0) × IsFrom (binary Mod (from (pos 0) (pos 32767) refl) (word (minus 32768))) (pos 0) (pos 32767)
-remainders = ((refl, refl), (refl, refl), (refl, refl), (refl, refl), (refl, refl), (refl, refl))
+remainders : IsFrom (binary Mod (from (minus 13) (pos 13) refl) (word (pos 5))) (minus 4) (pos 4) × IsFrom (binary Mod (word (pos 13)) (word (minus 5))) (pos 0) (pos 4) × IsFrom (binary Mod (from (minus 13) (minus 2) refl) (from (pos 5) (pos 7) refl)) (minus 6) (pos 0) × IsFrom (binary Mod (from (pos 2) (pos 3) refl) (word (pos 10))) (pos 0) (pos 3) × IsFrom (binary Mod few (word (minus 1))) (pos 0) (pos 0) × IsFrom (binary Mod (from (pos 0) (pos 32767) refl) (word (minus 32768))) (pos 0) (pos 32767) × IsFrom (binary Mod (from (minus 13) (pos 13) refl) (from (minus 6) (minus 3) refl)) (minus 5) (pos 5)
+remainders = ((refl, refl), (refl, refl), (refl, refl), (refl, refl), (refl, refl), (refl, refl), (refl, refl))
 
 -- 1 isn't 0: by it a number is its own quotient, and nothing is left
 by_one : IsFrom (binary Div few (word (pos 1))) (pos 0) (pos 5) × IsFrom (binary Mod few (word (pos 1))) (pos 0) (pos 0)
@@ -128,16 +128,16 @@ no_remainders = ((refl, refl), (refl, refl))
 conjunctions : IsFrom (binary And (word (pos 12)) (word (pos 10))) (pos 8) (pos 8) × IsFrom (binary And (word (minus 1)) (word (minus 8))) (minus 8) (minus 8) × IsFrom (binary And (from (pos 2) (pos 9) refl) (from (pos 1) (pos 5) refl)) (pos 0) (pos 5) × IsFrom (binary And (from (minus 4) (pos 9) refl) (from (pos 0) (pos 7) refl)) (pos 0) (pos 7) × IsFrom (binary And few (from (minus 1) (pos 100) refl)) (pos 0) (pos 5) × IsFrom (binary And (word (pos 12)) (from (minus 1) (pos 3) refl)) (pos 0) (pos 12) × IsFrom (binary And (from (minus 4) (pos 9) refl) (from (minus 1) (pos 3) refl)) (minus 32768) (pos 32767)
 conjunctions = ((refl, refl), (refl, refl), (refl, refl), (refl, refl), (refl, refl), (refl, refl), (refl, refl))
 
-disjunctions : IsFrom (binary Or (word (pos 12)) (word (pos 3))) (pos 15) (pos 15) × IsFrom (binary Or (word (minus 8)) (word (pos 1))) (minus 7) (minus 7) × IsFrom (binary Or few (from (pos 0) (pos 1) refl)) (pos 0) (pos 32767) × IsFrom (binary Or (from (minus 1) (pos 5) refl) (word (pos 1))) (minus 32768) (pos 32767)
-disjunctions = ((refl, refl), (refl, refl), (refl, refl), (refl, refl))
+disjunctions : IsFrom (binary Or (word (pos 12)) (word (pos 3))) (pos 15) (pos 15) × IsFrom (binary Or (word (minus 8)) (word (pos 1))) (minus 7) (minus 7) × IsFrom (binary Or few (from (pos 0) (pos 1) refl)) (pos 0) (pos 32767) × IsFrom (binary Or (from (minus 1) (pos 5) refl) (word (pos 1))) (minus 32768) (pos 32767) × IsFrom (binary Or few (from (minus 2) (minus 1) refl)) (minus 32768) (pos 32767) × IsFrom (binary Or few (word (pos 4))) (pos 0) (pos 32767)
+disjunctions = ((refl, refl), (refl, refl), (refl, refl), (refl, refl), (refl, refl), (refl, refl))
 
 complements : IsFrom (unary Not few) (minus 6) (minus 1) × IsFrom (unary Not all_words) (minus 32768) (pos 32767) × IsFrom (unary Keep few) (pos 0) (pos 5)
 complements = ((refl, refl), (refl, refl), (refl, refl))
 
 -- ---- sets joined and met
 
-joined : IsFrom (join (from (pos 0) (pos 2) refl) (from (pos 8) (pos 9) refl)) (pos 0) (pos 9) × IsFrom (join few (word (minus 1))) (minus 1) (pos 5)
-joined = ((refl, refl), (refl, refl))
+joined : IsFrom (join (from (pos 0) (pos 2) refl) (from (pos 8) (pos 9) refl)) (pos 0) (pos 9) × IsFrom (join few (word (minus 1))) (minus 1) (pos 5) × IsFrom (join (from (pos 5) (pos 6) refl) (from (pos 1) (pos 2) refl)) (pos 1) (pos 6)
+joined = ((refl, refl), (refl, refl), (refl, refl))
 
 -- the ends of what is there
 abbrev IsSomeFrom : Option Interval → ℤ → ℤ → Type 0

@@ -31,6 +31,8 @@ pub(crate) struct Code<'a> {
     recursive: Vec<bool>,
     /// Where the property tables are.
     properties: Span,
+    /// Whether it is waited for routines that a certificate may list and the story doesn't; else they may give any word.
+    waits: bool,
 }
 
 impl<'a> Code<'a> {
@@ -49,6 +51,7 @@ impl<'a> Code<'a> {
             wanderers: Vec::new(alloc),
             recursive: recursive_routines(alloc, listing)?,
             properties: property_span(story),
+            waits: false,
         };
         for (index, record) in listing.records().iter().enumerate() {
             code.note(index, &record.instruction)?;
@@ -56,6 +59,19 @@ impl<'a> Code<'a> {
         code.readers.sort()?;
         code.callers.sort()?;
         Ok(code)
+    }
+
+    /// The same, where it is waited for routines that a certificate may list and the story doesn't.
+    pub(crate) fn waiting(self) -> Code<'a> {
+        Code {
+            waits: true,
+            ..self
+        }
+    }
+
+    /// Whether it is.
+    pub(crate) fn waits(&self) -> bool {
+        self.waits
     }
 
     /// Notes what an instruction depends on.

@@ -196,7 +196,7 @@ fn given_by<V: Domain>(code: &Code<'_>, state: &State<V>, callees: V) -> Option<
             return given;
         };
         let Some(number) = code.routine_of(packed) else {
-            return anything_unless(may_be_listed(code, callees));
+            return anything_unless(is_waited_for(code, callees));
         };
         given = joined(given, state.result(number));
         callee = next_callee(callees, packed);
@@ -209,9 +209,12 @@ fn anything_unless<V: Domain>(waits: bool) -> Option<V> {
     if waits { None } else { Some(V::any()) }
 }
 
-/// Whether the story doesn't list each routine at a packed address of a set, but a certificate may: where heads stand at all of them. Of a
-/// set with too many to be looked at it may be so.
-pub(crate) fn may_be_listed<V: Domain>(code: &Code<'_>, callees: V) -> bool {
+/// Whether it is waited for a routine at a packed address of a set: where the story doesn't list each of them, but a certificate may, since
+/// heads stand at all that it doesn't. Of a set with too many to be looked at it may be so.
+pub(crate) fn is_waited_for<V: Domain>(code: &Code<'_>, callees: V) -> bool {
+    if !code.waits() {
+        return false;
+    }
     let mut is_more = false;
     let mut callee = callees.least_from(1);
     for _ in 0..MOST_CALLEES {

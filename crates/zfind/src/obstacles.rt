@@ -86,7 +86,7 @@ fn broken_in_listed(
     ensures told { IfOk result (λ obstacle. IfSome obstacle (IsMet story.now)) }
     ensures memory { IfErr result (λ error. error ≡ OutOfMemory) }
 {
-    let code = Code::new(alloc, story, listing)?;
+    let code = Code::new(alloc, story, listing)?.waiting();
     let mut walk = Walk::fair(alloc, &code)?;
     let mut left = MOST_FAIR_VISITS;
     for _ in 0..MOMENTS {

@@ -5,7 +5,7 @@ ghost use Rattle.zfind.specs.Finding.{IsStopped};
 
 use crate::bytes::{Bytes, Span};
 use crate::code::Code;
-use crate::effects::{Calls, Effect, Effects, MOST_CALLEES, may_be_listed, next_callee};
+use crate::effects::{Calls, Effect, Effects, MOST_CALLEES, is_waited_for, next_callee};
 use crate::error::FindError;
 use crate::frame::Frame;
 use crate::groups::{Groups, index_in};
@@ -38,7 +38,7 @@ pub(crate) struct Walk<'a, V> {
     found: u32,
     /// How often each instruction was visited, where those come first that were visited least.
     visits: Option<Vec<u32>>,
-    /// Whether a routine was called that the story doesn't list, and a certificate may.
+    /// Whether a routine was called that it is waited for.
     waits: bool,
 }
 
@@ -119,7 +119,7 @@ impl<'a, V: Domain> Walk<'a, V> {
     }
 
     /// Has those visited that were put off: what looked where bytes were opened, and, where there is none, what waits for a routine that
-    /// never returns. Where a routine that isn't listed may return, none is known to be such a one.
+    /// never returns. Where it is waited for a routine, none is known to be such a one.
     fn wake_more(&mut self) -> Result<(), AllocError> {
         self.wake_outdated()?;
         if self.queue.is_empty() && !self.waits {
@@ -253,7 +253,7 @@ impl<'a, V: Domain> Walk<'a, V> {
                 return Ok(());
             };
             let Some(number) = self.code.routine_of(packed) else {
-                self.waits = self.waits || may_be_listed(self.code, calls.callees);
+                self.waits = self.waits || is_waited_for(self.code, calls.callees);
                 return Ok(());
             };
             self.enter(number, calls)?;
@@ -307,7 +307,7 @@ impl<'a, V: Domain> Walk<'a, V> {
         self.queue.has(index)
     }
 
-    /// Whether a routine was called that the story doesn't list, and a certificate may.
+    /// Whether a routine was called that it is waited for.
     pub(crate) fn waits(&self) -> bool {
         self.waits
     }
@@ -318,7 +318,7 @@ impl<'a, V: Domain> Walk<'a, V> {
             return false;
         };
         match callees_at(self.alloc, self.code, tables, &self.state, record, index) {
-            Some(callees) => may_be_listed(self.code, callees),
+            Some(callees) => is_waited_for(self.code, callees),
             None => false,
         }
     }

@@ -228,6 +228,11 @@ either : (locals_on (inc_chk (Constant 16) (Constant 111)) true ≡ Some (span 0
 unfolding operation_of outcome_of shape globals inc_chk
 either = (refl, refl, refl, refl)
 
+-- what a branch says of a local leaves the stack, and what is counted there the locals
+apart : (slots_on (inc_chk (Constant 1) (Constant 5)) true ≡ Some (only 7 ∷ span 20 30 ∷ [])) × (locals_on (plain opcodes.Inc (Constant 0 ∷ [])) true ≡ Some (span 0 9 ∷ only 1 ∷ span 0 1 ∷ []))
+unfolding operation_of outcome_of shape globals inc_chk
+apart = (refl, refl)
+
 -- a plain count has one edge; the top of the stack is counted in place
 plainly : (locals_on (plain opcodes.Dec (Constant 1 ∷ [])) true ≡ Some ((negsuc 0, pos 8) ∷ only 1 ∷ span 0 1 ∷ [])) × (outcome_on (plain opcodes.Dec (Constant 1 ∷ [])) false ≡ nothing) × (slots_on (plain opcodes.Inc (Constant 0 ∷ [])) true ≡ Some (only 8 ∷ span 20 30 ∷ []))
 unfolding operation_of outcome_of shape globals
