@@ -1,5 +1,5 @@
 -- All that each operation asks for, and that it asks for nothing else. The values are the numbers of its operands, from 10 on.
-use Rattle.std.proofs.Common.{◌≡◌, ℕ, ◌+◌, true, List, [], ◌∷◌, replicate, map, Some, None, refl}
+use Rattle.std.proofs.Common.{◌≡◌, ℕ, ◌+◌, true, List, [], ◌∷◌, replicate, map, Some, refl}
 use Rattle.zword.specs.declared.addressing.Addressing.TheVariants.{Byte, Packed}
 use Rattle.zword.specs.declared.binary.BinaryOp.TheVariants.{Add, Sub, Mul, Div, Mod, Or, And}
 use Rattle.zword.specs.declared.question.Question.TheVariants.{Equal, Less}

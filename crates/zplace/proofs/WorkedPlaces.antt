@@ -1,12 +1,12 @@
 -- Values of what may be written and of property tables, on both sides of each bound.
-use Rattle.std.proofs.Common.{◌≡◌, ◌↔◌, ◌⊎◌, inl, inr, ℕ, ◌+◌, ◌<◌, ◌≤◌, List, [], ◌∷◌, ◌++◌, replicate, Some, None, refl, sym, ap, subst, arith, ◌*◌}
+use Rattle.std.proofs.Common.{◌≡◌, ◌↔◌, ◌⊎◌, inl, inr, ℕ, ◌+◌, ◌<◌, ◌≤◌, List, [], ◌∷◌, ◌++◌, replicate, Some, None, refl, sym, subst, arith, ◌*◌}
 use Rattle.zstory.specs.Objects.{object_place, property_table}
 use Rattle.zstory.specs.LoadedStory.{LoadedStory, abbreviations, globals, object_table, static_base}
 use Rattle.ztext.specs.Abbreviations.{readable_word}
 use Rattle.ztext.specs.Local.{read_length}
 use Rattle.zobj.specs.Properties.{list_place}
-use Rattle.zplace.specs.Bytes.{IsWithin, IsObjectEntry, IsPropertyFrame, IsSizePlace, here, behind, IsOpen, IsClosed, header, a_global, a_default, an_entry, a_property, an_abbreviation, frozen, static}
-use Rattle.zplace.specs.Tables.{none_frozen, IsList, ended, longer, IsDataPlace, in_data, in_rest, IsPropertyTable, IsPropertyData, HasPropertyTables}
+use Rattle.zplace.specs.Bytes.{IsWithin, IsObjectEntry, IsSizePlace, here, behind, IsOpen, IsClosed, header, a_global, a_default, an_entry, a_property, an_abbreviation, frozen, static}
+use Rattle.zplace.specs.Tables.{none_frozen, ended, longer, IsDataPlace, in_data, in_rest, IsPropertyTable, IsPropertyData, HasPropertyTables}
 use Rattle.zplace.proofs.Worked.{memory, table, story, of_two, no_word, same_table}
 
 -- ---- bytes
