@@ -12,8 +12,8 @@ specs/ are altered, one place at a time and with no code beside them, in a copy 
 - names: so does a variant, a field or a function of the same type.
 
 Each place is `refused` by modules of values, or else by definitions of a law; or it is `ill`, as no definition any more; or it passes. What
-passes has to be read: a definition that only stands between others is held to them by proofs. Folders of specs/ hold proofs of laws, and are
-left as they are.
+passes has to be read: a definition that only stands between others is held to them by proofs. Where no value reads its file, it is `unread`
+under --quick, since nothing looked at it. Folders of specs/ hold proofs of laws, and are left as they are.
 
 The values alone come first, by a function that does nothing and whose proof reads them, and several places in one check: each in a copy
 of its file, and of the files that stand on it, under names of their own. What they let pass is checked as a whole, but under --quick.
@@ -277,6 +277,11 @@ def standing_on(crate, texts, path):
     return reached
 
 
+def is_read(crate, texts, path):
+    """Whether values read a file of these."""
+    return any(VALUES.fullmatch(name_of(it)) for it in standing_on(crate, texts, path) if it.startswith("proofs/"))
+
+
 def copies_of(crate, texts, place, number):
     """A file with a place altered, none for no place, and what stands on the file, under names with a number."""
     paths = standing_on(crate, texts, place.path)
@@ -389,10 +394,13 @@ def main():
         places = [place for path, text in texts.items() for kind in kinds for place in kind(path, text, beside)]
         random.Random(given.seed).shuffle(places)
         chosen = places[: given.most]
+        modules = modules_of(base)
+        unread = {it for it in texts if given.quick and not is_read(crate, modules, it)}
         passed = 0
         groups = in_groups(crate, base, chosen, given.at_once)
         for found in pool.map(lambda group: list(judged_in_turn(crate, base, group, given.quick)), groups):
             for place, verdict in found:
+                verdict = "unread" if verdict == "passes" and place.path in unread else verdict
                 passed += verdict == "passes"
                 print(f"{place.path}:{place.line + 1}: {verdict}: {place.altered(texts[place.path])[1]}", flush=True)
         print(f"pairs: {len(chosen)} of {len(places)} places, {passed} pass")
