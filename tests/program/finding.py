@@ -4,7 +4,7 @@ import subprocess
 import tempfile
 
 from program import Answer, side_by_side
-from samples import HELLO, NEW_LINE, NOP, QUIT, certificate, changed, interval, story, with_objects
+from samples import HELLO, NEW_LINE, NOP, QUIT, STATIC, certificate, changed, interval, story, with_objects
 
 HERE = os.path.dirname(os.path.abspath(__file__))
 SAMPLE = story(HELLO + QUIT)
@@ -78,6 +78,35 @@ LISTING_MORE = certificate(
     stacks={0x329: interval(1, 1), 0x33A: interval(1, 1)},
 )
 
+# je 1 2 ?32a; quit; there a call of 192, which is 324: no head, since its count would be 193
+CALLS_ITS_START = story(b"\xc1\x5f\x01\x02\xc3" + QUIT + b"\xe0\x3f\x01\x92\x00" + QUIT)
+
+# At 51c6, in a story with room: call 51e6 -> stack; storeb 260 that 0; call 51d8; quit. 51d8 calls 51f6 by its local, which returns 1, and
+# returns 1. 51e6 counts its local up to 20,000, in a loop, and returns 1 less or 0, so that the walk that widens nothing doesn't end.
+ROOM = 0x5100 - STATIC
+STORES_FARTHER = story(
+    b"\xe0\x3f\x28\xf3\x00\xe2\x27\x02\x60\x00\x00\xe0\x3f\x28\xec\x00" + QUIT + b"\0"
+    + b"\x01\0\0" + b"\xcd\x4f\x01\x28\xfb\xe0\xbf\x01\x00\xb0\0"
+    + b"\x01\0\0" + b"\xbd\xca\xc5\x4f\x01\x4e\x20\x3f\xf9\xb1\xab\x01\0"
+    + b"\0\xb0",
+    room=ROOM,
+)
+COUNTED = interval(0, 20000)
+CALLED_ALONE = interval(0x28FB, 0x28FB)
+STORES_WITHIN = certificate(
+    STORES_FARTHER,
+    [0x51C6, 0x51CB, 0x51D1, 0x51D6, 0x51DB, 0x51E0, 0x51E4, 0x51E9, 0x51EB, 0x51F2, 0x51F3, 0x51F7],
+    routines=[(0x51D8, 1, (1, 1)), (0x51E6, 1, (0, 20000)), (0x51F6, 0, (1, 1))],
+    inside={
+        **{at: (1, CALLED_ALONE) for at in (0x51E0, 0x51E4)},
+        **{at: (2, COUNTED) for at in (0x51E9, 0x51EB, 0x51F3)},
+        0x51DB: (1, interval(0, 0)),
+        0x51F2: (2, interval(20001, 20001)),
+        0x51F7: (3, b""),
+    },
+    stacks={0x51CB: COUNTED, 0x51D6: interval(1, 1), 0x51E4: interval(1, 1)},
+)
+
 NONE = [
     ("a byte that is no opcode", story(b"\xbe"), ("G1 at 00324", "no certificate: I1 at 00324")),
     ("a jump out of memory", story(b"\x8c\x7f\xff"), ("G1 at 08324", "not found")),
@@ -85,6 +114,9 @@ NONE = [
     ("a jump by the stack", story(b"\xac\x00"), ("G1 at 00324", "not found")),
     # je 1 2 ?329, where no instruction stands; quit. It has a certificate, by hand
     ("no instruction where play never comes", NEVER_THERE, ("G1 at 00329", "not found")),
+    # and so have this one, which never calls, and the next
+    ("a head where play begins, and where play never calls", CALLS_ITS_START, ("G1 at 00324", "not found")),
+    ("a store to what is opened farther and farther", STORES_FARTHER, ("G1 at 051e0", "not found")),
     ("a pull of an empty stack", story(b"\xe9\x7f\x10" + QUIT), ("G1 at 00324", "no certificate: I2 at 00324")),
     ("a return of the main code", story(b"\xb0"), ("G1 at 00324", "no certificate: I13 at 00324")),
     ("the parent of object 0", story(b"\x93\x00\x10" + QUIT), ("G1 at 00324", "no certificate: I5 at 00324")),
@@ -125,9 +157,13 @@ def see_none(program, count):
         answer, written = program.found(made)
         count.is_answer(f"{name}, find", answer, Answer(1, b"", f"refused: {code}\n".encode()))
         count.see(written is None, f"{name}, find: a certificate was written")
-    by_hand = {"story": NEVER_THERE, "certificate": certificate(NEVER_THERE, [0x324, 0x328])}
-    count.is_answer("a listing that leaves out where play never comes", program.run(["check", "story", "certificate"], by_hand), Answer(0, b"accepted\n", b""))
-    count.is_answer("a listing of more than the story lists", program.run(["check", "story", "certificate"], {"story": CALLS_UNLISTED, "certificate": LISTING_MORE}), Answer(0, b"accepted\n", b""))
+    for name, made, by_hand in [
+        ("a listing that leaves out where play never comes", NEVER_THERE, certificate(NEVER_THERE, [0x324, 0x328])),
+        ("a listing that leaves out a call of its beginning", CALLS_ITS_START, certificate(CALLS_ITS_START, [0x324, 0x329])),
+        ("a listing of more than the story lists", CALLS_UNLISTED, LISTING_MORE),
+        ("a listing of more, with stores", STORES_FARTHER, STORES_WITHIN),
+    ]:
+        count.is_answer(name, program.run(["check", "story", "certificate"], {"story": made, "certificate": by_hand}), Answer(0, b"accepted\n", b""))
     count.is_answer("no story there to find for", program.run(["find", "absent", "certificate"]), Answer(4, b"", b"failed: file\n"))
 
 

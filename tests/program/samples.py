@@ -15,24 +15,26 @@ def word(number):
     return struct.pack(">H", number)
 
 
-def header(length_word, checksum, first):
+def with_header(rest, first, dictionary, static, code):
+    """A story with this behind its header, which begins at `first`; the abbreviations table is the first thing in static memory."""
+    length_word, checksum = (64 + len(rest)) // 2 % 65536, sum(rest) % 65536
     words = struct.pack(
         ">BBHHHHHHHH6sHHH",
-        3, 0, RELEASE, CODE, first, DICTIONARY, DEFAULTS, GLOBALS, STATIC, 0, SERIAL, STATIC, length_word, checksum,
+        3, 0, RELEASE, code, first, dictionary, DEFAULTS, GLOBALS, static, 0, SERIAL, static, length_word, checksum,
     )
-    return words.ljust(64, b"\0")
+    return words.ljust(64, b"\0") + rest
 
 
-def story(code, first=CODE, abbreviations=None):
+def story(code, first=CODE, abbreviations=None, room=0):
     """A story with this code at CODE, no object and an empty dictionary, with a zero behind code of an odd length. It begins at
     `first`. Each of the 96 abbreviations is empty, or has the text at the even place that is given. One of 131,072 bytes says
-    nothing of its length, since the word in the header can't."""
-    places = abbreviations or [EMPTY_TEXT] * 96
-    rest = bytes(STATIC - 64) + b"".join(word(place // 2) for place in places) + b"\x94\xa5" + bytes([0, 4, 0, 0]) + code
+    nothing of its length, since the word in the header can't. Of dynamic memory there are so many zeros more, at STATIC, and all
+    behind them lies that far behind."""
+    places = abbreviations or [EMPTY_TEXT + room] * 96
+    rest = bytes(STATIC + room - 64) + b"".join(word(place // 2) for place in places) + b"\x94\xa5" + bytes([0, 4, 0, 0]) + code
     rest += b"\0" * (len(rest) % 2)
-    length = 64 + len(rest)
-    assert length <= 131072, length
-    return header(length // 2 % 65536, sum(rest) % 65536, first) + rest
+    assert 64 + len(rest) <= 131072, len(rest)
+    return with_header(rest, first + room, DICTIONARY + room, STATIC + room, CODE + room)
 
 
 def with_objects(code=QUIT):
@@ -43,11 +45,7 @@ def with_objects(code=QUIT):
     rest = (rest + b"\x02").ljust(0x29A - 64, b"\0")
     rest += word(0x35A // 2) * 96 + b"\x94\xa5\x01\x2c\x07\x00\x02"
     rest += b"\x1b\x25\x94\xa5\0\0\0" + b"\x46\x94\xc0\xa5\0\0\0" + b"\0" + code + b"\0" * (len(code) % 2)
-    words = struct.pack(
-        ">BBHHHHHHHH6sHHH",
-        3, 0, RELEASE, 0x370, 0x370, 0x35C, 0x220, 0x40, 0x29A, 0, SERIAL, 0x29A, (64 + len(rest)) // 2, sum(rest) % 65536,
-    )
-    return words.ljust(64, b"\0") + rest
+    return with_header(rest, 0x370, 0x35C, 0x29A, 0x370)
 
 
 def interval(lower, upper):

@@ -229,6 +229,8 @@ def see_files(program, count):
     for name, script, output, wanted in [
         ("a disk that has no room", 'printf old >kept; trap "" XFSZ; ulimit -f 0; "$1" play --save kept story certificate', b"", b"old"),
         ("a link", 'printf old >other; ln -s other kept; "$1" play --save kept story certificate; test -L kept && cat other >&2', b"hello", None),
+        ("a link where the file beside it would be", 'printf old >kept; ln -s story kept.part; "$1" play --save kept story certificate; test -L kept.part && rm kept.part', b"", b"old"),
+        ("a file that was left beside it", 'printf old >kept.part; "$1" play --save kept story certificate', b"hello", None),
         ("a name as long as may be", '"$1" play --save "$(printf "%0250d" 0)" story certificate; cp "$(printf "%0250d" 0)" kept', b"hello", saved(TELLS, 0x324)),
     ]:
         with tempfile.TemporaryDirectory(prefix="saves-") as room:

@@ -26,7 +26,7 @@ use Rattle.zcert.specs.Contents.{values_of, stored_instruction, LiesIn}
 use Rattle.zcert.specs.Listed.{listed_at, Finds}
 use Rattle.zcert.specs.Listed as listing
 use Rattle.zcert.specs.Refusal.{number_of}
-use Rattle.zcert.specs.View.{Refuses, RefusesField, Takes}
+use Rattle.zcert.specs.View.{Answers, Refuses, RefusesField, Takes}
 
 -- ---- limits
 
@@ -47,6 +47,14 @@ written = (refl, refl, refl)
 room : HasRoom numbers.Height 255 × HasRoom numbers.RangeLast 65535 × (HasRoom numbers.Height 256 → ⊥)
 room = (omega arith, omega arith, λ more. omega (arith, more))
 
+-- each number of an identity has room of its own, and so has the last place of a range
+crowded : (i : Identity) → (IsIdentity (record i { release = 65536; checksum = 0 }) → ⊥) × (IsIdentity (record i { release = 0; checksum = 65536 }) → ⊥) × (IsRange (record { first = 0; last = 65536 }) → ⊥)
+crowded i = (λ it. omega (arith, it.release), λ it. omega (arith, it.checksum), λ it. omega (arith, it.room))
+
+-- both ends of an interval are signed words
+too_high : interval_format.Has (record { lo = pos 0; hi = pos 32767; ordered = in_order (pos 0) (pos 32767) refl }) × (interval_format.Has (record { lo = pos 0; hi = pos 32768; ordered = in_order (pos 0) (pos 32768) refl }) → ⊥)
+too_high = ((omega arith, omega arith), λ has. omega (arith, has.1))
+
 -- ---- parts
 
 range : Range
@@ -55,6 +63,13 @@ range = record { first = 64; last = 66 }
 -- a routine at 0x32E with one local, which gives 1; and one with 15
 routine : Routine Interval
 routine = record { address = 0x32E; locals = 1; result = point 1 }
+
+-- addresses rise, whichever routines the instructions are in
+abbrev bare : ℕ → ℕ → Instruction Interval
+bare address number = record { address = address; routine = number; locals = []; slots = [] }
+
+addresses_rise : InstructionsRise (bare 5 1 ∷ bare 6 0 ∷ []) × (InstructionsRise (bare 6 0 ∷ bare 5 1 ∷ []) → ⊥)
+addresses_rise = ((omega arith, (omega arith, tt)), λ rise. omega (arith, rise.1.0))
 
 routines : List (Routine Interval)
 routines = routine ∷ record { address = 0x340; locals = 15; result = point 2 } ∷ []
@@ -299,6 +314,10 @@ made_of_values : instruction_of header (point 0 ∷ point 7 ∷ []) ≡ instruct
 unfolding header instruction
 made_of_values = refl
 
+-- one local, and then two slots
+made_of_three : instruction_of (record { address = 4; routine = 1; locals = 1; height = 2 }) (point 0 ∷ point 7 ∷ point 8 ∷ []) ≡ record { address = 4; routine = 1; locals = point 0 ∷ []; slots = point 7 ∷ point 8 ∷ [] }
+made_of_three = refl
+
 start : Progress Interval
 start = opening
 
@@ -309,6 +328,18 @@ at_turn turn floor = record opening { turn = turn; floor = floor }
 first_fields : (all_taken start (fields.Release 1 ∷ fields.Serial identity.serial ∷ fields.Checksum 0x3A7A ∷ fields.LoadedLength 0x32A ∷ fields.RangeCount 0 ∷ []) ≡ Ok (record { content = record { identity = identity; ranges = []; globals = []; routines = []; instructions = [] }; values = []; floor = 0; turn = turns.Global 239 })) × (taken start (fields.Checksum 1) ≡ Err errors.Order) × (all_taken start (fields.Release 1 ∷ fields.Release 1 ∷ []) ≡ Err errors.Order)
 unfolding start identity
 first_fields = (refl, refl, refl)
+
+-- nor is any other where none is to come
+abbrev complete : Progress Interval
+complete = record opening { turn = turns.Complete }
+
+out_of_turn :
+    (taken complete (fields.Release 1) ≡ Err errors.Order) × (taken complete (fields.Serial []) ≡ Err errors.Order) × (taken complete (fields.Checksum 1) ≡ Err errors.Order) × (taken complete (fields.LoadedLength 1) ≡ Err errors.Order)
+    × (taken complete (fields.RangeCount 1) ≡ Err errors.Order) × (taken complete (fields.RangeFirst 1) ≡ Err errors.Order) × (taken complete (fields.RangeLast 1) ≡ Err errors.Order) × (taken complete (fields.Global (point 1)) ≡ Err errors.Order)
+    × (taken complete (fields.RoutineCount 1) ≡ Err errors.Order) × (taken complete (fields.RoutineAddress 1) ≡ Err errors.Order) × (taken complete (fields.LocalCount 1) ≡ Err errors.Order) × (taken complete (fields.RoutineResult (point 1)) ≡ Err errors.Order)
+    × (taken complete (fields.InstructionCount 1) ≡ Err errors.Order) × (taken complete (fields.InstructionAddress 1) ≡ Err errors.Order) × (taken complete (fields.RoutineNumber 1) ≡ Err errors.Order) × (taken complete (fields.Height 1) ≡ Err errors.Order)
+    × (taken complete (fields.Value (point 1)) ≡ Err errors.Order)
+out_of_turn = (refl, refl, refl, refl, refl, refl, refl, refl, refl, refl, refl, refl, refl, refl, refl, refl, refl)
 
 range_fields : (taken (at_turn (turns.RangeFirst 0) 68) (fields.RangeFirst 68) ≡ Ok (at_turn (turns.RangeLast 0 68) 68)) × (taken (at_turn (turns.RangeFirst 0) 68) (fields.RangeFirst 67) ≡ Err errors.Order) × (taken (at_turn (turns.RangeLast 0 68) 68) (fields.RangeLast 67) ≡ Err errors.Order)
 unfolding at_turn
@@ -353,6 +384,10 @@ refused = (refl, λ e. absurd cc, tt, refl, λ e. absurd cc, λ e. absurd cc)
 -- what is refused with what is due leaves the old one
 left : Takes {P = ℕ} {U = ℕ} 1 1 (Err errors.Order) (Err errors.Order) × (Takes {P = ℕ} {U = ℕ} 1 2 (Err errors.Order) (Err errors.Order) → ⊥) × Takes {P = ℕ} {U = ℕ} 1 2 (Ok 0) (Ok 2)
 left = ((refl, refl), (λ t. omega (arith, t.0)), refl)
+
+-- where memory is refused, a field that is wrong is still told as wrong, and of a whole certificate nothing is
+lacking : (Takes {P = ℕ} {U = ℕ} 1 1 (Err errors.OutOfMemory) (Err errors.Order) → ⊥) × Takes {P = ℕ} {U = ℕ} 1 1 (Err errors.OutOfMemory) (Ok 2) × Answers {Y = ℕ} (Err errors.OutOfMemory) (Err errors.Order) × (Answers {Y = ℕ} (Err errors.Order) (Ok 1) → ⊥)
+lacking = ((λ t. absurd (let e : false ≡ true = t.1 in cc)), (refl, refl), tt, (λ e. absurd cc))
 
 -- the next address is to be above this one
 routine_fields : (taken (at_turn (turns.RoutineAddress 1) 0) (fields.RoutineAddress 0x32E) ≡ Ok (at_turn (turns.LocalCount 1 0x32E) 0)) × (taken (at_turn (turns.LocalCount 1 0x32E) 0) (fields.LocalCount 16) ≡ Err errors.Limit) × (taken (at_turn (turns.RoutineResult 1 0x32E 1) 0) (fields.RoutineResult (point 1)) ≡ Ok (record { content = record start.content { routines = routine ∷ [] }; values = []; floor = 0x32F; turn = turns.RoutineAddress 0 }))

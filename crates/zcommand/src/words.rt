@@ -126,6 +126,7 @@ fn play_of<'a>(matches: &ArgMatches<'a>) -> Command<'a>
 {
     let story = matches.get_str("STORY").unwrap_or("");
     let certificate = matches.get_str("CERT");
+    // What the words leave out clap fills in, so that no 0 comes of that.
     let seed = matches.get_one("seed").unwrap_or(0);
     let budget = matches.get_one("budget").unwrap_or(0);
     let status = matches.get_one("status").unwrap_or(false);

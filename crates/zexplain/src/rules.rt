@@ -26,8 +26,8 @@ Do: where a variable is named by a number, as in @inc [ptr], let that be a const
     (
         "I4",
         "I4: what follows the instruction isn't known well enough.
-Rule: what may follow is listed, in the same routine, with as many slots and values within those stated; a jump is by a
-constant (Z 4.7, 15 jump).
+Rule: what may follow is listed, in the same routine, with as many slots and values within those stated; a jump is by one
+known number (Z 4.7, 15 jump).
 Do: in a story, leave each loop with as many words on the stack as it began; no jump by a variable. Else find the certificate
 anew.
 ",
@@ -65,7 +65,8 @@ Do: divide behind if (b > 0), and once more behind if (b < 0): a test for 0 alon
     (
         "I9",
         "I9: a store may change what no store may change.
-Rule: what is stored to is open: no header, globals, object tables, abbreviations, frozen bytes or static memory (Z 1.1; own).
+Rule: what is stored to is open: no header but Flags 2, no globals, object tables, abbreviations, frozen bytes or static
+memory (Z 1.1; own).
 Do: bound the index by constants right before the store, at both ends if it comes from outside.
 ",
     ),
@@ -101,8 +102,8 @@ Do: in a story, end the main routine with quit. Else find the certificate anew.
     (
         "I14",
         "I14: the buffers of a read aren't known, too small, or may not be written.
-Rule: both are constants whose first bytes, the sizes, never change; a text takes at least one letter, a parse one word (Z 15
-sread; own).
+Rule: each is at one known address, and its first byte, the size, never changes; a text takes at least one letter, a parse one
+word (Z 15 sread; own).
 Do: initialise the sizes and never store to them: Array text -> 60 0 0 ..; instead of text->0 = 60;
 ",
     ),

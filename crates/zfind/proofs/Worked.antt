@@ -1,6 +1,7 @@
 -- Values of the definitions, computed.
-use Rattle.std.proofs.Common.{◌≡◌, ◌⊎◌, inl, inr, Some, None, arith, refl, pos, negsuc}
+use Rattle.std.proofs.Common.{◌≡◌, ◌⊎◌, [], ◌∷◌, false, inl, inr, Some, None, arith, refl, true, pos, negsuc, ℕ}
 use Rattle.zstory.specs.LoadedStory.{LoadedStory}
+use Rattle.zcode.specs.Reading.{branch_if, checked_head, head_at, instruction_at, operands_at, short_head, store_if, text_if}
 use Rattle.zcode.specs.declared.error.DecodeError.TheVariants.{Truncated}
 use Rattle.zlist.specs.declared.list_error.ListError.TheVariants as faults
 use Rattle.zrule.specs.declared.rule.Rule.TheVariants.{Decodes, Height, Local, Successor, Object, Attribute, Property, Divisor, Write, Read, Text, Called, Returned, Buffers, Known, Stored, High, Status}
@@ -29,6 +30,19 @@ lasts = (tt, tt, tt, tt, tt, tt, tt, tt, tt, tt, tt, tt, tt, tt, tt)
 
 mended : (IsLasting Successor → ⊥) × (IsLasting Returned → ⊥) × (IsLasting Stored → ⊥)
 mended = (λ x. x, λ x. x, λ x. x)
+
+-- a memory of twelve bytes, of which play begins at the last
+abbrev begun : ℕ → LoadedStory
+begun byte = record { memory = 0 ∷ 0 ∷ 0 ∷ 0 ∷ 0 ∷ 0 ∷ 0 ∷ 11 ∷ 0 ∷ 0 ∷ 0 ∷ byte ∷ []; objects = 0 }
+
+-- no instruction is spelled by 0xBE, and 0xBA is `quit`: then it is something else that is at fault there
+starts : IsAtStart (begun 190) (Place (pos 11) Decodes) × (IsAtStart (begun 186) (Place (pos 11) Decodes) → ⊥)
+unfolding instruction_at head_at short_head checked_head operands_at store_if branch_if text_if
+starts = ((refl, refl), (λ start. absurd (let e : false ≡ true = start.1 in cc)))
+
+-- nor is it where another rule is broken, or at another place
+starts_alone : (IsAtStart (begun 190) (Place (pos 11) Height) → ⊥) × (IsAtStart (begun 190) (Place (pos 10) Decodes) → ⊥)
+starts_alone = ((λ start. absurd (let e : Place (pos 11) Height ≡ Place (pos 11) Decodes = start.0 in cc)), (λ start. absurd (let e : Place (pos 10) Decodes ≡ Place (pos 11) Decodes = start.0 in cc)))
 
 -- ---- what is told, said once more
 

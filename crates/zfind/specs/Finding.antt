@@ -1,7 +1,8 @@
 -- What the finder answers (own).
-use Rattle.std.specs.Prelude.{◌≡◌, ◌⊎◌, ⊤, pos, ℕ, Option, Some, None}
+use Rattle.std.specs.Prelude.{◌≡◌, ◌⊎◌, ⊤, pos, ℕ, drop, IsErr, Option, Some, None}
 use Rattle.std.specs.Int.{w32, cast_signed}
 use Rattle.zstory.specs.LoadedStory.{LoadedStory, first_instruction}
+use Rattle.zcode.specs.Reading.{instruction_at}
 use Rattle.zlist.specs.declared.list_error.ListError.{ListError}
 use Rattle.zlist.specs.declared.list_error.ListError.TheVariants as faults
 use Rattle.zlist.specs.Listing.{ListedCode}
@@ -46,7 +47,8 @@ IsStopped left (NotFound _) = ⊥
 IsStopped left RoundLimit = left ≡ 0
 IsStopped left OutOfMemory = ⊤
 
--- More that is found can't mend the rule: where an instruction leads, what it returns and what it stores is said only once that was found.
+-- More that is found can't mend the rule at an instruction that was visited: where it leads, what it returns and what it stores is said
+-- only once that was found.
 abbrev pub IsLasting : Rule → Type 0
 IsLasting Successor = ⊥
 IsLasting Returned = ⊥
@@ -102,7 +104,7 @@ module _ (story : LoadedStory) where
 
   -- no instruction stands where play begins, which each certificate lists
   abbrev pub IsAtStart : Obstacle → Type 0
-  IsAtStart obstacle = obstacle ≡ obstacles.Place (pos (first_instruction story)) Decodes
+  IsAtStart obstacle = (obstacle ≡ obstacles.Place (pos (first_instruction story)) Decodes) × IsErr (instruction_at (drop (first_instruction story) story.memory))
 
   -- What stands in the way of certificates: that none can list where play begins, and else what one was tried with.
   abbrev pub IsObstacleOf : Obstacle → Type 0

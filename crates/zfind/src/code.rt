@@ -25,7 +25,7 @@ pub(crate) struct Code<'a> {
     callers: Groups,
     /// What loads elements of arrays, or asks for properties.
     loaders: Vec<u32>,
-    /// What calls a routine, or names a variable, by a variable.
+    /// What calls a routine, or names a variable, by a variable: which one, isn't known beforehand.
     wanderers: Vec<u32>,
     /// Whether each routine, by its number, may be entered once more before it returns.
     recursive: Vec<bool>,

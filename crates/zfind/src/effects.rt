@@ -9,7 +9,7 @@ use zflow::{Edge, Flow, Lead, argument_set, flow_of};
 use zlist::Record;
 use zruns::Tables;
 
-/// How many routines an instruction may call that are followed: of more none has an interval of such words alone.
+/// How many routines one call may name and have each of them followed; with more, it may give any word.
 pub(crate) const MOST_CALLEES: usize = 1024;
 
 /// What an instruction does, by its edges that can be taken.

@@ -12,6 +12,7 @@ use crate::finding::{listing_of, tried};
 use crate::walk::Walk;
 use std::alloc::Global;
 use zcert::Certificate;
+use zcode::decode;
 use zdomain::Interval;
 use zlist::Listing;
 use zrule::{Rule, judge};
@@ -22,7 +23,8 @@ use ztext::TextEnds;
 /// How many instructions are visited at most to find what is broken in every certificate (own).
 const MOST_FAIR_VISITS: u32 = 60_000;
 
-/// How often it is looked what is broken, where more is to be found: what is to be visited differs from one time to the next.
+/// How often it is looked what is broken in a walk that isn't at its end: I4 is broken wherever a visit is due, and what is due differs
+/// from one time to the next, so that it hides no other rule each time.
 const MOMENTS: usize = 8;
 
 /// How many are visited between two such times.
@@ -64,14 +66,15 @@ fn certain_fault(story: &Story, error: FindError) -> Result<Option<Obstacle>, Fi
     }
 }
 
-/// Whether it is that no instruction stands where play begins.
+/// Whether it is that no instruction stands where play begins. One may stand there, and what is at fault be a head that is called there.
 fn is_at_start(story: &Story, obstacle: Obstacle) -> bool
     ensures yes { IsTrue result → IsAtStart story.now obstacle }
     ensures no { IsAtStart story.now obstacle → IsTrue result }
 {
+    let first = story.first_instruction();
     match obstacle {
         Obstacle::Place(place, Rule::Decodes) => {
-            place >= 0 && place as usize == story.first_instruction()
+            place >= 0 && place as usize == first && decode(story.memory(), first).is_err()
         }
         _ => false,
     }
@@ -180,14 +183,15 @@ fn is_waiting(
     }
 }
 
-/// Whether a rule that is broken now stays broken when more is found. Where an instruction leads to and what it gives is said there only
-/// once it was visited, and what comes back only once a routine returned; and of a routine that the story doesn't list, nothing is said.
+/// Whether a rule that is broken now stays broken when more is found. Where an instruction leads to, what it gives and which bytes it opens
+/// is said only once it was visited, and what comes back only once a routine returned; and of a routine that the story doesn't list,
+/// nothing is said.
 fn is_certain(rule: Rule, is_waiting: bool) -> bool
     ensures { IsTrue result → IsLasting rule }
 {
     match rule {
         Rule::Successor | Rule::Returned | Rule::Stored => false,
-        Rule::Called => !is_waiting,
+        Rule::Called | Rule::Write => !is_waiting,
         _ => true,
     }
 }

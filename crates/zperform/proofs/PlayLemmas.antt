@@ -20,7 +20,7 @@ use Rattle.zperform.specs.declared.outcome.Problem.{Problem}
 use Rattle.zperform.specs.declared.outcome.Problem.TheVariants.{Refused, Unreadable, BreaksStory, BreaksInstruction, Unlisted, Unfound, Failed}
 use Rattle.zperform.specs.declared.outcome.Outcome.{Outcome}
 use Rattle.zperform.specs.declared.outcome.Outcome.TheVariants.{Listed, Found, Accepted, Explained, NoSuchCode, Played, Stopped}
-use Rattle.zperform.specs.Playing.{ComesTo, Holds, IsPlayed, IsRefused, IsUnloaded, Reads}
+use Rattle.zperform.specs.Playing.{ComesTo, Holds, IsPlayed, IsRefused, IsUnloaded, Reads, StaysEmpty}
 use Rattle.zperform.specs.Report.{outcome_of, problem_of_load, problem_of_play}
 use Rattle.zperform.specs.Contents.{HasBytes}
 use Rattle.zperform.proofs.AcceptLemmas.{part_bytes, sound_bytes}
@@ -42,7 +42,7 @@ module _ (known : Option (List ℕ)) (taken : List ℕ) (options : Options) (giv
   played_along : (result : Result End PlayError) → Reads (Some taken) (λ file. IsPlayed file options given before now result) → Reads known (λ file. IsPlayed file options given before now result)
   played_along result h =
       along (λ file. IsPlayed file options given before now result)
-      (λ file e p. record { story = p.story; holds = holds_whole 131073 taken file (omega arith) e p.story p.holds; state = p.state; words = p.words; store = p.store; comes = p.comes }) h
+      (λ file e p. record { story = p.story; holds = holds_whole 131073 taken file (omega arith) e p.story p.holds; state = p.state; words = p.words; store = p.store; comes = p.comes; unsaved = p.unsaved }) h
 
   pub of_part : (outcome : Outcome) → ComesTo (Some taken) options given before now outcome → ComesTo known options given before now outcome
   of_part (Played end) h = played_along (Ok end) h
@@ -103,10 +103,10 @@ passed_on known options given before now (Ok end) problem (is, same) h = absurd 
 passed_on known options given before now (Err q) problem (is, same) h = subst (λ (x : Problem). ComesTo known options given before now (Stopped x)) (sym same) h
 
 -- a story that was loaded from a file is played
-module _ (file : List ℕ) (story : LoadedStory) (holds : Holds file story) (options : Options) (m : Machine) (opened : m ≡ record { story = story; scope = All; state = opening story }) (given : World) (before now : Option (List ℕ)) (state : State) (words : Option Coming) (store : Store) where
+module _ (file : List ℕ) (story : LoadedStory) (holds : Holds file story) (options : Options) (m : Machine) (opened : m ≡ record { story = story; scope = All; state = opening story }) (given : World) (before now : Option (List ℕ)) (state : State) (words : Option Coming) (store : Store) (unsaved : StaysEmpty given.store store) where
   played : (result : Result End PlayError) → PlayComes (setting m) (λ _. ⊤) (WantsOrSaves (setting m)) options given m.state state words store before now result → Reads (Some file) (λ file. IsPlayed file options given before now result)
   played result comes =
-      (file, refl, record { story = story; holds = holds; state = state; words = words; store = store; comes = subst (λ (x : Machine). PlayComes (setting x) (λ _. ⊤) (WantsOrSaves (setting x)) options given x.state state words store before now result) opened comes })
+      (file, refl, record { story = story; holds = holds; state = state; words = words; store = store; comes = subst (λ (x : Machine). PlayComes (setting x) (λ _. ⊤) (WantsOrSaves (setting x)) options given x.state state words store before now result) opened comes; unsaved = unsaved })
 
   -- to its end
   pub ended : (end : End) → PlayComes (setting m) (λ _. ⊤) (WantsOrSaves (setting m)) options given m.state state words store before now (Ok end) → ComesTo (Some file) options given before now (Played end)

@@ -21,6 +21,7 @@ use Rattle.zperform.specs.declared.outcome.Problem.{Problem}
 use Rattle.zperform.specs.declared.outcome.Problem.TheVariants.{Refused, Unreadable, BreaksStory, BreaksInstruction, Unlisted, Unfound, Failed}
 use Rattle.zperform.specs.declared.outcome.Outcome.TheVariants.{Played, Stopped}
 use Rattle.zperform.specs.Accepting.{Accepts, IsAccepted, IsPlayedBy, IsUnaccepted, PlayComesTo}
+use Rattle.zperform.specs.Playing.{StaysEmpty}
 use Rattle.zperform.specs.Report.{outcome_of, problem_of_play}
 use Rattle.zperform.specs.Contents.{HasBytes}
 use Rattle.zperform.specs.Devices.{FlushesUnless}
@@ -103,11 +104,11 @@ module _ (story certificate : Option (List ℕ)) (options : Options) (given : Wo
   unopened a accepted = story_bytes story a.story accepted.story
 
   -- a session that opened
-  module _ (a : Acceptance) (accepted : IsAccepted story certificate a) (p : Playing) (opened : p ≡ record { accepted = a; state = opening a.story }) (now : Option (List ℕ)) (state : State) (words : Option Coming) (store : Store) where
+  module _ (a : Acceptance) (accepted : IsAccepted story certificate a) (p : Playing) (opened : p ≡ record { accepted = a; state = opening a.story }) (now : Option (List ℕ)) (state : State) (words : Option Coming) (store : Store) (unsaved : StaysEmpty given.store store) where
     by : (result : Result End PlayError) → PlayComes (setting_of p.accepted) (Describes interval_operations p.accepted) (GivesOrSaves (setting_of p.accepted)) options given p.state state words store before now result → IfOk result (λ end. (fault : Fault) (place : ℤ) → end ≢ ends.Fault fault place)
         → Accepts story certificate (λ a. IsPlayedBy a options given before now result)
     by result comes safe =
-        (a, accepted, record { state = state; words = words; store = store; comes = subst (λ (q : Playing). PlayComes (setting_of q.accepted) (Describes interval_operations q.accepted) (GivesOrSaves (setting_of q.accepted)) options given q.state state words store before now result) opened comes; safe = safe })
+        (a, accepted, record { state = state; words = words; store = store; comes = subst (λ (q : Playing). PlayComes (setting_of q.accepted) (Describes interval_operations q.accepted) (GivesOrSaves (setting_of q.accepted)) options given q.state state words store before now result) opened comes; unsaved = unsaved; safe = safe })
 
     pub played : (end : End) → PlayComes (setting_of p.accepted) (Describes interval_operations p.accepted) (GivesOrSaves (setting_of p.accepted)) options given p.state state words store before now (Ok end) → ((fault : Fault) (place : ℤ) → end ≢ ends.Fault fault place) → PlayComesTo story certificate options given before now (Played end)
     played end comes safe = by (Ok end) comes safe

@@ -12,17 +12,20 @@ use Rattle.zcert.specs.declared.error.CertError.TheVariants as readings
 use Rattle.zcert.specs.Format.{interval_format}
 use Rattle.zcert.specs.Reading.{heading_at, magic_at, reading}
 use Rattle.zrule.specs.declared.rule.Rule.TheVariants as rules
+use Rattle.zcheck.specs.Acceptance.{Acceptance}
 use Rattle.zcheck.specs.declared.refusal.StoryRule.TheVariants as story_rules
 use Rattle.zcheck.specs.declared.refusal.Refusal.TheVariants as refusals
+use Rattle.zplayer.specs.declared.end.End.{End}
 use Rattle.zplayer.specs.declared.end.End.TheVariants as ends
 use Rattle.zplayer.specs.declared.end.Options.{Options}
+use Rattle.zplayer.specs.declared.end.PlayError.{PlayError}
 use Rattle.zplayer.specs.declared.end.PlayError.TheVariants as errors
 use Rattle.zperform.specs.declared.outcome.Failure.{Failure}
 use Rattle.zperform.specs.declared.outcome.Failure.TheVariants.{File, Read, Write, Memory}
 use Rattle.zperform.specs.declared.outcome.Problem.TheVariants.{Refused, Unreadable, BreaksStory, BreaksInstruction, Unlisted, Unfound, Failed}
 use Rattle.zperform.specs.declared.outcome.Outcome.{Outcome}
 use Rattle.zperform.specs.declared.outcome.Outcome.TheVariants.{Listed, Found, Accepted, Explained, NoSuchCode, Played, Stopped}
-use Rattle.std.specs.Prelude.{◌≢◌, ◌⊎◌, ⊤, ℤ, negsuc, Option, None, Some}
+use Rattle.std.specs.Prelude.{◌≢◌, ◌⊎◌, ⊤, ℤ, negsuc, Option, None, Some, Result}
 use Rattle.zcode.specs.declared.error.DecodeError.TheVariants.{NoSuchOpcode, Truncated}
 use Rattle.zcode.specs.declared.opcode.Opcode.{Opcode}
 use Rattle.zcode.specs.declared.opcode.Opcode.TheVariants as opcodes
@@ -32,13 +35,13 @@ use Rattle.zlist.specs.declared.list_error.ListError.TheVariants as listings
 use Rattle.zlist.specs.declared.record.Record.{Record}
 use Rattle.zperform.specs.Listing.{IsNoListing, listing_text}
 use Rattle.zperform.specs.Contents.{GivesPart, IsBeginning}
-use Rattle.zperform.specs.Accepting.{CheckComesTo, IsNoCertificate, PlayComesTo, Stops}
+use Rattle.zperform.specs.Accepting.{CheckComesTo, IsNoCertificate, IsPlayedBy, PlayComesTo, Stops}
 use Rattle.zcommand.specs.CommandLine.{ListStory, Find, Check, Play, Explain}
 use Rattle.zplayer.specs.World.{World}
 use Rattle.zperform.specs.Devices.{Breaks, Ends, FlushesUnless, Held, ReadsUnless, Says, Seen, Takes, UsesUnless}
-use Rattle.zperform.specs.Performing.{is_quiet, is_request, store_of, written_by}
+use Rattle.zperform.specs.Performing.{given, is_quiet, is_request, store_of, written_by}
 use Rattle.zperform.specs.Finding.{HasAlone}
-use Rattle.zperform.specs.Playing.{ComesTo, Holds, IsRefused}
+use Rattle.zperform.specs.Playing.{ComesTo, Holds, IsPlayed, IsRefused}
 use Rattle.zperform.specs.declared.accepting.TheConstants.{CERTIFICATE_LIMIT, STORY_LIMIT}
 use Rattle.zperform.proofs.AcceptLemmas.{story_bytes}
 use Rattle.zperform.specs.Report.{line_of, place_text, problem_of_checking, problem_of_listing, problem_of_load, problem_of_play, problem_of_reading, status_of, text_of}
@@ -204,8 +207,8 @@ unread : IsNoCertificate (Some []) (Failed File) × IsNoCertificate (Some []) (U
 unread = (tt, ([], refl, empty_certificate), (λ bytes. omega (arith, bytes)), omega arith, λ never. never)
 
 -- of a file of three bytes a buffer with room for three gets the last two from place 1 on, and none from its end on
-given : GivesPart (10 ∷ 20 ∷ 30 ∷ []) 1 2 (20 ∷ 30 ∷ 99 ∷ []) × GivesPart (10 ∷ 20 ∷ 30 ∷ []) 3 0 (99 ∷ [])
-given = (record { within = omega arith; read = refl; ends = λ none _. omega (arith, none) }, record { within = omega arith; read = refl; ends = λ _ _. omega arith })
+part_given : GivesPart (10 ∷ 20 ∷ 30 ∷ []) 1 2 (20 ∷ 30 ∷ 99 ∷ []) × GivesPart (10 ∷ 20 ∷ 30 ∷ []) 3 0 (99 ∷ [])
+part_given = (record { within = omega arith; read = refl; ends = λ none _. omega (arith, none) }, record { within = omega arith; read = refl; ends = λ _ _. omega arith })
 
 -- but not none before its end
 no_gap : GivesPart (10 ∷ 20 ∷ 30 ∷ []) 1 0 (99 ∷ []) → ⊥
@@ -301,3 +304,10 @@ files_written = (refl, refl, refl, refl, refl)
 -- a text that was found isn't kept by a file of other bytes
 kept_whole : HasAlone (1 ∷ 2 ∷ []) (Some (1 ∷ 2 ∷ [])) × (HasAlone (1 ∷ 2 ∷ []) (Some (1 ∷ [])) → ⊥)
 kept_whole = (refl, λ e. omega (arith, ap length e))
+
+-- where saves are kept nowhere, none is kept by a play of either machine, whatever comes of it
+kept_nowhere :
+    (input before now : Option (List ℕ)) (seed : ℕ) (options : Options) (result : Result End PlayError)
+    → ((file : List ℕ) (p : IsPlayed file options (given input seed (store_of None)) before now result) → p.store.kept ≡ Some None)
+    × ((a : Acceptance) (p : IsPlayedBy a options (given input seed (store_of None)) before now result) → p.store.kept ≡ Some None)
+kept_nowhere input before now seed options result = (λ file p. p.unsaved refl, λ a p. p.unsaved refl)

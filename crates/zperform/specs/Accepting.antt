@@ -30,7 +30,7 @@ use Rattle.zperform.specs.declared.outcome.Problem.{Problem}
 use Rattle.zperform.specs.declared.outcome.Problem.TheVariants.{Refused, Unreadable, BreaksStory, BreaksInstruction, Unlisted, Unfound, Failed}
 use Rattle.zperform.specs.declared.outcome.Outcome.{Outcome}
 use Rattle.zperform.specs.declared.outcome.Outcome.TheVariants.{Listed, Found, Accepted, Explained, NoSuchCode, Played, Stopped}
-use Rattle.zperform.specs.Playing.{Holds, IsRefused, Reads}
+use Rattle.zperform.specs.Playing.{Holds, IsRefused, Reads, StaysEmpty}
 
 -- the story that a file holds
 abbrev pub HoldsStory : Option (List ℕ) → LoadedStory → Type 0
@@ -126,6 +126,7 @@ pub record IsPlayedBy (a : Acceptance) (options : Options) (given : World) (befo
   pub words : Option Coming
   pub store : Store
   pub comes : PlayComes (setting_of a) (Describes interval_operations a) (GivesOrSaves (setting_of a)) options given (opening a.story) state words store before now result
+  pub unsaved : StaysEmpty given.store store
   pub safe : IfOk result (λ end. (fault : Fault) (place : ℤ) → end ≢ ends.Fault fault place)
 
 abbrev pub Accepts : Option (List ℕ) → Option (List ℕ) → (Acceptance → Type 0) → Type 0

@@ -1,5 +1,5 @@
 -- What playing a story file comes to (own).
-use Rattle.std.specs.Prelude.{◌≡◌, ◌≢◌, ℕ, List, Option, IfSome, Result, Ok, Err, ◌⊎◌, ⊤}
+use Rattle.std.specs.Prelude.{◌≡◌, ◌≢◌, ℕ, List, Option, None, Some, IfSome, Result, Ok, Err, ◌⊎◌, ⊤}
 use Rattle.zstory.specs.LoadedStory.{LoadedStory}
 use Rattle.zstory.specs.Loading.{IsLoaded}
 use Rattle.zstory.specs.Refusal.{HasNone, IsCause, IsLowest}
@@ -27,6 +27,10 @@ pub record Holds (file : List ℕ) (story : LoadedStory) : Type 0 where
   pub loaded : IsLoaded file story
   pub no_cause : HasNone (IsCause file)
 
+-- where it is known at first that no save is kept, none is in the end: each save failed, and so did each restore
+abbrev pub StaysEmpty : Store → Store → Type 0
+StaysEmpty old new = old.kept ≡ Some None → new.kept ≡ Some None
+
 -- the story that a file holds was played from its opening, with every place of it in scope, and came to this
 pub record IsPlayed (file : List ℕ) (options : Options) (given : World) (before now : Option (List ℕ)) (result : Result End PlayError) : Type 0 where
   pub story : LoadedStory
@@ -35,6 +39,7 @@ pub record IsPlayed (file : List ℕ) (options : Options) (given : World) (befor
   pub words : Option Coming
   pub store : Store
   pub comes : PlayComes (setting_of story All) (λ _. ⊤) (WantsOrSaves (setting_of story All)) options given (opening story) state words store before now result
+  pub unsaved : StaysEmpty given.store store
 
 -- a file is no story, for its cause with the lowest number; want of memory is none
 pub record IsRefused (file : List ℕ) (error : LoadError) : Type 0 where

@@ -145,13 +145,20 @@ fn replace<R: Runtime>(rt: &R, name: &str, bytes: &[u8]) -> io::Result<()> {
     }
 }
 
-/// Writes a plain file beside the one of its name, and gives it that name.
+/// Writes a plain file beside the one of its name, and gives it that name. There may be one that was left behind; anything else of the name
+/// beside isn't touched.
 fn replace_plain<R: Runtime>(rt: &R, name: &str, bytes: &[u8]) -> io::Result<()> {
     let mut beside = ArrayString::<BESIDE_LIMIT>::new();
     if beside.try_push_str(name).is_err() || beside.try_push_str(BESIDE).is_err() {
         return Err(io::Error::from(ErrorKind::InvalidFilename));
     }
-    let written = write_through(rt, beside.as_str(), bytes);
+    if let Ok(there) = fs::symlink_metadata(rt, beside.as_str())
+        && !there.is_file()
+    {
+        return Err(io::Error::from(ErrorKind::AlreadyExists));
+    }
+    let mut file = fs::File::create(rt, beside.as_str())?;
+    let written = write_through(&mut file, bytes);
     let done = written.and_then(|()| fs::rename(rt, beside.as_str(), name));
     if done.is_err() {
         let _ = fs::remove_file(rt, beside.as_str());
@@ -159,9 +166,8 @@ fn replace_plain<R: Runtime>(rt: &R, name: &str, bytes: &[u8]) -> io::Result<()>
     done
 }
 
-/// Writes a file, and sees that it is on its device.
-fn write_through<R: Runtime>(rt: &R, name: &str, bytes: &[u8]) -> io::Result<()> {
-    let mut file = fs::File::create(rt, name)?;
+/// Writes a new file, and sees that it is on its device.
+fn write_through<F: OpenFile + Write>(file: &mut F, bytes: &[u8]) -> io::Result<()> {
     file.write_all(bytes)?;
     file.sync_all()
 }

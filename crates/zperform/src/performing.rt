@@ -232,7 +232,7 @@ fn play_keeping<S: SaveStore, R: Source, W: Sink>(
     reader: &mut R,
     writer: &mut W,
 ) -> Result<End, Problem>
-    ensures comes { (file : List ℕ) → Holds file story.now → ComesTo (Some file) options (given (R.remaining reader.old) seed (told_store S.kept S.failures store.old)) (W.contents writer.old) (W.contents writer.new) (outcome_of result) }
+    ensures comes { (file : List ℕ) → Holds file story.now → (S.kept store.old ≡ Some None → S.kept store.new ≡ Some None) → ComesTo (Some file) options (given (R.remaining reader.old) seed (told_store S.kept S.failures store.old)) (W.contents writer.old) (W.contents writer.new) (outcome_of result) }
     ensures writer { FlushesUnless W.failures W.waits writer.old writer.new (IsErrOf result (Problem.Failed Failure.Write)) }
     ensures no_file { ¬ IsErrOf result (Problem.Failed Failure.File) }
     ensures reader { Blames (IsErrOf result (Problem.Failed Failure.Read)) (R.failures reader.old) (R.failures reader.new) }
@@ -314,7 +314,7 @@ fn play_accepted_keeping<S: SaveStore, R: Source, W: Sink>(
     reader: &mut R,
     writer: &mut W,
 ) -> Result<End, Problem>
-    ensures comes { (story certificate : Option (List ℕ)) → IsAccepted story certificate accepted.now → PlayComesTo story certificate options (given (R.remaining reader.old) seed (told_store S.kept S.failures store.old)) (W.contents writer.old) (W.contents writer.new) (outcome_of result) }
+    ensures comes { (story certificate : Option (List ℕ)) → IsAccepted story certificate accepted.now → (S.kept store.old ≡ Some None → S.kept store.new ≡ Some None) → PlayComesTo story certificate options (given (R.remaining reader.old) seed (told_store S.kept S.failures store.old)) (W.contents writer.old) (W.contents writer.new) (outcome_of result) }
     ensures writer { FlushesUnless W.failures W.waits writer.old writer.new (IsErrOf result (Problem.Failed Failure.Write)) }
     ensures no_file { ¬ IsErrOf result (Problem.Failed Failure.File) }
     ensures reader { Blames (IsErrOf result (Problem.Failed Failure.Read)) (R.failures reader.old) (R.failures reader.new) }

@@ -8,8 +8,8 @@ use crate::files::{Files, read_file};
 use std::alloc::Global;
 use zplayer::SaveStore;
 
-/// The most bytes that are read of a save. The longest that can be written has 134,451,287: of 1,025 frames with 15 locals and
-/// 65,535 words each. Others may have chunks beside those.
+/// The most bytes that are read of a save. The longest that can be written has 134,451,256: of the first frame and 1,024 with 15
+/// locals, each with 65,535 words. Others may have chunks beside those.
 const SAVE_LIMIT: usize = 1 << 28;
 
 /// A store in which no save can be kept: each call fails.

@@ -1,5 +1,5 @@
 -- Values of what may be written and of property tables, on both sides of each bound.
-use Rattle.std.proofs.Common.{◌≡◌, ◌↔◌, ◌⊎◌, inl, inr, ℕ, ◌+◌, ◌<◌, ◌≤◌, List, [], ◌∷◌, ◌++◌, replicate, Some, None, refl, sym, subst, arith, ◌*◌}
+use Rattle.std.proofs.Common.{Bool, ◌≡◌, ◌↔◌, ◌⊎◌, inl, inr, ℕ, ◌+◌, ◌<◌, ◌≤◌, List, [], ◌∷◌, ◌++◌, replicate, Some, None, refl, sym, subst, arith, ◌*◌}
 use Rattle.zstory.specs.Objects.{object_place, property_table}
 use Rattle.zstory.specs.LoadedStory.{LoadedStory, abbreviations, globals, object_table, static_base}
 use Rattle.ztext.specs.Abbreviations.{readable_word}
@@ -95,6 +95,10 @@ of_ones = (
 -- a table at 64, without a name, with property 31 and then property 1; and none before it
 first_table : LoadedStory
 first_table = record { memory = replicate 14 0 ++ 0 ∷ 80 ∷ replicate 48 0 ++ 0 ∷ 0x1F ∷ 7 ∷ 0x01 ∷ 8 ∷ replicate 20 0; objects = 0 }
+
+-- the header's own bytes on both sides of Flags 2 are closed as such
+around_flags : (story : LoadedStory) (is_frozen : ℕ → Bool) → IsClosed story is_frozen 15 × IsClosed story is_frozen 18
+around_flags story is_frozen = (header (omega arith, λ flags. omega (arith, flags.0)), header (omega arith, λ flags. omega (arith, flags.1)))
 
 above_header : IsPropertyTable first_table 64 × (IsPropertyTable first_table 63 → ⊥)
 unfolding first_table

@@ -81,7 +81,7 @@ fn is_short(story: &Story)
     story.memory();
 }
 
-/// The arguments of a call, at most three, behind the address (Z 6.4.2).
+/// The arguments of a call, at most three, behind the address (Z 6.4.1).
 fn arguments(words: &[u16]) -> &[u16]
     ensures value { result.now ≡ arguments words.now }
     ensures few { length result.now ≤ 3 }

@@ -12,7 +12,7 @@ use crate::site::Site;
 use zcert::Spelled;
 use zdomain::Domain;
 
-/// The set of each argument: there are at most three (Z 4.5.1).
+/// The set of each argument: there are at most three (Z 6.4.1).
 #[derive(Clone, Copy)]
 pub enum Arguments<V> {
     Zero,

@@ -33,7 +33,7 @@ impl<'a> Tables<'a> {
     ghost use Rattle.std.specs.Prelude.{◌≡◌};
 
     /// Those of a story, of which the bytes in some ranges stay as they are. Each of its own tables is gone over once, each place of each
-    /// range, and each place of memory. They take no memory beside their own, about 400 KB.
+    /// range, and each place of memory. They take no memory beside their own, about 500 KB.
     pub fn new(story: &'a Story, ranges: &'a [Range]) -> Tables<'a>
         ensures { result ≡ record { story = story.now; ranges = ranges.now } }
     {

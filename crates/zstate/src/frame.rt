@@ -71,7 +71,7 @@ impl<'a> Frame<'a> {
         self.stack.len()
     }
 
-    /// Whether it has a variable: the stack and each global are there, and a local below its count (Z 6.4.2).
+    /// Whether it has a variable: the stack and each global are there, and a local below its count (Z 4.2.2).
     #[inline(always)]
     pub fn has(&self, variable: u8) -> bool
         ensures { result ≡ exists variable self.now }

@@ -1,10 +1,10 @@
 -- Values of the definitions, computed.
-use Rattle.std.proofs.Common.{◌≡◌, ◌⊎◌, inl, inr, ℕ, zero, suc, ◌<◌, ◌≤◌, true, false, List, [], ◌∷◌, ◌++◌, replicate, length, take, refl, arith, lit<, lit≤}
+use Rattle.std.proofs.Common.{◌≡◌, ◌⊎◌, ap, inl, inr, ℕ, zero, suc, ◌<◌, ◌≤◌, true, false, List, [], ◌∷◌, ◌++◌, replicate, length, take, refl, arith, lit<, lit≤}
 use Rattle.std.specs.Prelude.{slice_set}
 use Rattle.std.proofs.lemmas.Bool.{cases_lt}
 use Rattle.zstory.specs.declared.load_error.LoadError.{LoadError}
 use Rattle.zstory.specs.declared.load_error.LoadError.TheVariants.{TooShort, TooLong, NotVersion3, LengthWord, StaticBase, Globals, Objects, Dictionary, EntryLength, DictionaryOrder, FirstInstruction, OutOfMemory}
-use Rattle.zstory.specs.Bytes.{byte_at, word_at, readable_end}
+use Rattle.zstory.specs.Bytes.{AreBytes, byte_at, word_at, readable_end}
 use Rattle.zstory.specs.Header as header
 use Rattle.zstory.specs.Objects.{object_place, object_end, property_table, HasEntries, IsEntry, IsObjectCount}
 use Rattle.zstory.specs.Dictionary.{separator_count, entry_length, entry_count, entry_place, dictionary_end, encoded_text, IsOrdered, HasFallingEntries}
@@ -51,6 +51,10 @@ sizes = (refl, refl)
 
 bytes : (byte_at (7 ∷ 8 ∷ []) 1 ≡ 8) × (byte_at (7 ∷ 8 ∷ []) 2 ≡ 0) × (word_at (1 ∷ 2 ∷ 3 ∷ []) 1 ≡ 0x0203) × (word_at (1 ∷ 2 ∷ 3 ∷ []) 2 ≡ 0x0300)
 bytes = (refl, refl, refl, refl)
+
+-- each by itself, though two of them make a greater word
+small : AreBytes (1 ∷ 2 ∷ []) × (AreBytes (0 ∷ 256 ∷ []) → ⊥)
+small = (bytes_tested (1 ∷ 2 ∷ []) refl, λ are. omega (arith, are 1))
 
 -- memory is readable to its end, and no further than byte addresses reach
 readable : (readable_end plain ≡ 810) × ((memory : List ℕ) → length memory ≡ 65536 → readable_end memory ≡ 65536) × ((memory : List ℕ) → length memory ≡ 131072 → readable_end memory ≡ 65536)
@@ -189,6 +193,11 @@ flags : (with_flags_cleared (1 ∷ 0xFF ∷ 0xFF ∷ []) ≡ 1 ∷ 0x8F ∷ 0xFF
 unfolding plain
 flags = (refl, refl, refl)
 
+-- and are in no story
+flags_gone : IsLoaded (with_flags 0x32) (record { memory = with_flags 0x32; objects = 0 }) → ⊥
+unfolding plain
+flags_gone it = let e : 0x32 ≡ 0x02 = ap (λ (m : List ℕ). byte_at m 1) it.memory in omega (arith, e)
+
 loaded : IsLoaded (plain ++ 0x55 ∷ []) (record { memory = plain; objects = 0 }) × IsLoaded peopled (record { memory = peopled; objects = 2 })
 unfolding plain peopled
 loaded = (record { memory = refl; objects = no_object }, record { memory = refl; objects = two_objects })
@@ -296,6 +305,10 @@ wrapped = refl
 
 refusals : (number_of TooShort ≡ 1) × (number_of TooLong ≡ 2) × (number_of NotVersion3 ≡ 3) × (number_of LengthWord ≡ 4) × (number_of StaticBase ≡ 5) × (number_of Globals ≡ 6) × (number_of Objects ≡ 7) × (number_of Dictionary ≡ 8) × (number_of EntryLength ≡ 9) × (number_of DictionaryOrder ≡ 10) × (number_of FirstInstruction ≡ 11) × (number_of OutOfMemory ≡ 12)
 refusals = (refl, refl, refl, refl, refl, refl, refl, refl, refl, refl, refl, refl)
+
+-- where no cause holds, neither the first nor the last does
+none_holds : (causes : LoadError → Type 0) → HasNone causes → (causes TooShort → ⊥) × (causes FirstInstruction → ⊥)
+none_holds causes none = (none TooShort (omega arith), none FirstInstruction (omega arith))
 
 too_short : IsTooShort (take 63 plain) × (IsTooShort (take 64 plain) → ⊥)
 unfolding plain

@@ -3,12 +3,9 @@
 ghost use Rattle.std.specs.Prelude.{◌≡◌, ◌+◌, ◌*◌, ◌<◌, ◌≤◌, ◌↔◌, length, take, drop, IsSome, IfSome, option_map};
 ghost use Rattle.std.specs.Option.{option_copied};
 ghost use Rattle.zstory.specs.Bytes.{word_at};
-ghost use Rattle.ztext.specs.Pieces.{pieces_of};
 ghost use Rattle.ztext.specs.Abbreviations.{readable_word, abbreviation_at, IsPlainAbbreviation};
-ghost use Rattle.ztext.specs.Words.{characters_in};
 
 use crate::length::text_length;
-use crate::pieces::Pieces;
 use crate::plain::is_plain;
 
 // The place in the header of the abbreviations table's address (Z 1.1, 11.1).
@@ -66,14 +63,6 @@ fn abbreviation_span(memory: &[u8], number: u8) -> Option<TextSpan>
     let place = 2 * usize::from(word);
     let size = text_length(memory, place)?;
     Some(TextSpan { place, size })
-}
-
-// The pieces of the text that lies there.
-fn span_pieces(memory: &[u8], span: TextSpan) -> Pieces<'_>
-    requires { span.place + span.size ≤ length memory.now }
-    ensures { result ≡ pieces_of (characters_in (take span.size (drop span.place memory.now))) }
-{
-    Pieces::new(&memory[span.place..span.place + span.size])
 }
 
 // The word at a place of readable memory.

@@ -10,7 +10,7 @@ use Rattle.zperform.proofs.SessionLemmas.{writer_handed_on}
 use Rattle.zperform.proofs.performing.play_keeping.Goals as goal
 
 pub returns-in_err-play_checked-clause-comes : goal.returns-in_err-play_checked-clause-comes
-returns-in_err-play_checked-clause-comes g c = λ file holds.
+returns-in_err-play_checked-clause-comes g c = λ file holds unsaved.
     let error = c.in_err-play_checked.field-0.0 in
     let input = g.R.Source.remaining c.args.reader.now in
     let store = told g.S.SaveStore.kept g.S.SaveStore.failures c.args.store.now in
@@ -18,14 +18,14 @@ returns-in_err-play_checked-clause-comes g c = λ file holds.
     let now = g.W.Sink.contents c.play_checked.new.writer in
     passed_on (Some file) c.args.options (given input c.args.seed store) before now c.from_residual-in_err-play_checked.result (problem_of_play error) c.from_residual-in_err-play_checked.ensures
     (with_words (λ w. ComesTo (Some file) c.args.options w before now (Stopped (problem_of_play error))) input store c.new-2.result _ c.new-2.ensures
-    (broken file c.args.story.now holds c.args.options _ c.in_ok-machine.ensures (world input (Some (words_from c.new-2.result)) store) _ _ _ _ _ error c.in_err-play_checked.ensures.comes))
+    (broken file c.args.story.now holds c.args.options _ c.in_ok-machine.ensures (world input (Some (words_from c.new-2.result)) store) _ _ _ _ _ unsaved error c.in_err-play_checked.ensures.comes))
 
 pub returns-in_err-play_checked-clause-writer : goal.returns-in_err-play_checked-clause-writer
 returns-in_err-play_checked-clause-writer g c = writer_handed_on c.in_err-play_checked.field-0.0 c.from_residual-in_err-play_checked.result c.from_residual-in_err-play_checked.ensures _ _ _ _ c.in_err-play_checked.ensures.writes
 
 pub returns-clause-comes : goal.returns-clause-comes
-returns-clause-comes g c = λ file holds.
+returns-clause-comes g c = λ file holds unsaved.
     let input = g.R.Source.remaining c.args.reader.now in
     let store = told g.S.SaveStore.kept g.S.SaveStore.failures c.args.store.now in
     with_words (λ w. ComesTo (Some file) c.args.options w (g.W.Sink.contents c.args.writer.now) (g.W.Sink.contents c.play_checked.new.writer) (Played c.in_ok-play_checked.field-0)) input store c.new-2.result _ c.new-2.ensures
-    (ended file c.args.story.now holds c.args.options _ c.in_ok-machine.ensures (world input (Some (words_from c.new-2.result)) store) _ _ _ _ _ _ c.in_ok-play_checked.ensures.comes)
+    (ended file c.args.story.now holds c.args.options _ c.in_ok-machine.ensures (world input (Some (words_from c.new-2.result)) store) _ _ _ _ _ unsaved _ c.in_ok-play_checked.ensures.comes)
