@@ -17,6 +17,7 @@ use zstory::Identity;
 pub struct Building<V> {
     pub contents: Contents<V>,
     pub start: usize,
+    /// The least that the next address, or the next range's first byte, may be.
     pub floor: u32,
     pub turn: Turn,
     pub ghost begun: { start ≤ length contents.values.items },

@@ -57,9 +57,13 @@ impl<V: Copy> Clone for Field<V> {
 /// What is said of an instruction before its values.
 #[derive(Clone, Copy)]
 pub struct Header {
+    /// The byte address of the instruction.
     pub address: u32,
+    /// The number of its routine, 0 for the main code.
     pub routine: u16,
+    /// How many locals that has.
     pub locals: u8,
+    /// How many slots the stack has there.
     pub height: u8,
 }
 

@@ -126,6 +126,7 @@ impl Operands {
             types: 64 * bits_of(a) + 16 * bits_of(b) + 4 * bits_of(c) + bits_of(d),
         }
     }
+
     /// The operands in order.
     pub(crate) fn list(&self) -> ArrayVec<Operand, MOST>
         ensures { result.items ≡ self.now }

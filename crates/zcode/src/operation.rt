@@ -170,8 +170,8 @@ impl Opcode {
 }
 
 impl Instr {
-    #[tactic(auto, using(crate::proofs::Operating::inputting))]
     /// All that the instruction reads, from left to right: its operands, and what its opcode takes beside them.
+    #[tactic(auto, using(crate::proofs::Operating::inputting))]
     pub fn inputs(&self) -> ArrayVec<Operand, 4>
         ensures value { result.items ≡ inputs self.now }
         ensures few { length result.items ≤ 4 }

@@ -88,7 +88,7 @@ impl<'a, V: Domain> Walk<'a, V> {
     }
 
     /// Walks until nothing more is found, with at most so many visits. What looks where bytes were opened is visited once more when
-    /// nothing else is left, so that tables are seldom made.
+    /// nothing else is left, so that tables are seldom made: the first visit behind that is made here, and the others of its round by `run`.
     pub(crate) fn grow(&mut self, left: &mut u32) -> Result<(), FindError>
         ensures fewer { left.new ≤ left.old }
         ensures stopped { IfErr result (IsStopped left.new) }

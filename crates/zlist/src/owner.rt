@@ -15,7 +15,9 @@ pub enum Owner {
 /// Whose code a place was found to be so far.
 #[derive(Clone, Copy)]
 pub(crate) enum Label {
+    /// Nothing leads there.
     Nobody,
+    /// That of one owner.
     One(Owner),
     /// That of two or more.
     Several,

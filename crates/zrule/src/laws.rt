@@ -18,8 +18,8 @@ pub fn each_step_is_safe<V: Domain>()
     ensures alike { (claims : Claims V) → PlaysAlike V.operations claims }
 {}
 
-/// A save that is accepted in one state of a story leads to described states alone, wherever and in whatever scope it is handed in. What is saved of a
-/// described state is accepted in every state.
+/// A save that is accepted in one state of a story leads to described states alone, wherever and in whatever scope it is handed in. What is
+/// saved of a described state is accepted in every state.
 pub fn saves_are_accepted<V: Domain>()
     ensures fine { (claims : Claims V) → AcceptedAreFine V.operations claims }
     ensures saved { (claims : Claims V) → SavedAreAccepted V.operations claims }
