@@ -21,7 +21,7 @@ use Rattle.zflow.specs.declared.parts.Access.TheVariants.{Reading, Writing}
 use Rattle.zflow.specs.declared.parts.Asked.TheVariants.{Answered, Filled}
 use Rattle.zflow.specs.declared.parts.Lead.TheVariants.{Ahead, Returning, Entering}
 use Rattle.zflow.specs.Transfer.{Shape, demands_of, outcome_of}
-use Rattle.zstate.specs.State.{Frame, has_head}
+use Rattle.zstate.specs.State.{Frame, State, has_head}
 use Rattle.zruns.specs.Buffers.{IsParseBuffer, IsTextBuffer}
 use Rattle.zcert.specs.declared.parts.Range.{Range}
 use Rattle.zcert.specs.Certificate.{Certificate}
@@ -31,7 +31,7 @@ use Rattle.zrule.specs.Numbers.{number_of}
 use Rattle.zrule.specs.Edges.{StaysLow}
 use Rattle.zpairs.specs.Frozen.{is_inside}
 use Rattle.zrule.specs.Claims.{Entry, Claims, claims_of, frozen_in}
-use Rattle.zrule.specs.Described.{Fits, FitsWith}
+use Rattle.zrule.specs.Described.{Callers, Described, Fits, FitsWith}
 use Rattle.zrule.specs.Rules.{AreObjects, Finds, Spares, AreWritten, AreRead, HasHeads, HasLineObject, gives_by_property, global_in, IsNamed, Covers, Leads, Enters, GoesOn, Asks, Begins, Starts, Takes, TakesBack, comes_back, result_at}
 use Rattle.zstate.specs.Step.{words_from}
 use Rattle.zrule.proofs.Instances.{by_answers}
@@ -357,6 +357,28 @@ line_with_status : (asks Status [] [] (sread (Constant 640) (Constant 656)) → 
 unfolding operation_of demands_of small
 line_with_status = (λ s. (let few = s 5 (record { word = omega arith; member = (record { le = tt }, record { le = tt }) }) in omega (arith, few)), tt)
 
+-- what two operands name together is asked of the one and of the other
+abbrev first_set : Interval
+first_set = from (pos 1) (pos 2) refl
+
+abbrev second_set : Interval
+second_set = from (pos 3) (pos 5) refl
+
+abbrev of_both : Rule → Opcode → List Operand → Type 0
+of_both rule opcode more = asks rule (first_set ∷ second_set ∷ []) [] (plain opcode (Variable 1 ∷ Variable 2 ∷ more))
+
+elements_asked :
+    ((AreWritten interval_operations nowhere (frozen_in small) Writing Byte first_set second_set → of_both Write opcodes.Storeb (Constant 7 ∷ [])) × (of_both Write opcodes.Storeb (Constant 7 ∷ []) → AreWritten interval_operations nowhere (frozen_in small) Writing Byte first_set second_set))
+    × ((AreRead interval_operations nowhere Reading Byte first_set second_set → of_both Read opcodes.Loadb []) × (of_both Read opcodes.Loadb [] → AreRead interval_operations nowhere Reading Byte first_set second_set))
+unfolding operation_of demands_of small
+elements_asked = ((λ w. (tt, w), λ a. a.1), (λ r. (tt, r), λ a. a.1))
+
+properties_asked :
+    ((Finds interval_operations nowhere (Answered Value) first_set second_set → of_both Property opcodes.GetProp []) × (of_both Property opcodes.GetProp [] → Finds interval_operations nowhere (Answered Value) first_set second_set))
+    × ((Spares interval_operations nowhere (frozen_in small) Filled first_set second_set → of_both Write opcodes.PutProp (Constant 7 ∷ [])) × (of_both Write opcodes.PutProp (Constant 7 ∷ []) → Spares interval_operations nowhere (frozen_in small) Filled first_set second_set))
+unfolding operation_of demands_of small
+properties_asked = ((λ f. f, λ a. a), (λ s. (s, tt), λ a. a.0))
+
 -- ---- edges
 
 -- an edge leads to the one place that is so far behind another
@@ -450,6 +472,27 @@ stored = (λ fits. fits, λ fits. fits.1, λ fits. fits.1)
 not_stored : (FitsWith interval_operations (claims_of interval_operations certificate) 2 9 shape frame → ⊥) × (FitsWith interval_operations (claims_of interval_operations certificate) 256 9 shape frame → ⊥)
 unfolding certificate frame
 not_stored = (λ fits. omega (arith, fits.0), λ fits. omega (arith, fits.0))
+
+-- a local takes one where the frame has no stack, and none where it has a stack alone
+abbrev of_local : Frame
+of_local = record { return_place = 0; result = 0; supplied = 0; locals = 4 ∷ []; stack = [] }
+
+abbrev of_slot : Frame
+of_slot = record { return_place = 0; result = 0; supplied = 0; locals = []; stack = 4 ∷ [] }
+
+stored_in_local : FitsWith interval_operations small 1 9 (before (point 9 ∷ []) []) of_local × (FitsWith interval_operations small 1 9 (before [] (point 4 ∷ [])) of_slot → ⊥)
+stored_in_local = ((omega arith, record { in_locals = (interval_sound.single 9 (omega arith), tt); in_slots = tt }), λ fits. omega (arith, fits.0))
+
+-- a caller takes whatever the routine above it may give, in the variable that the frame above it keeps, and was called by its own callers
+called_by :
+    (routine place result : ℕ) (g : Frame) (gs : List Frame) (c : Callers interval_operations small routine place result (g ∷ gs))
+    → (1 ≤ routine) × (small.entry place ≡ Some c.1) × ((x : ℕ) → In interval_operations (small.result routine) x → FitsWith interval_operations small result x c.1.shape g)
+    × Callers interval_operations small c.1.routine g.return_place g.result gs
+called_by routine place result g gs c = (c.0, c.2, c.3, c.4)
+
+-- and so do those of a state
+callers_of : (story : LoadedStory) (s : State) (d : Described interval_operations small 5 story s) → Callers interval_operations small d.entry.routine s.frame.return_place s.frame.result s.callers
+callers_of story s d = d.callers
 
 -- ---- globals of a memory
 
