@@ -196,8 +196,8 @@ def beside_in(text):
         groups.append(sorted(set(re.findall(rf"\b{alias}\.\w+", text))))
     of_type = {}
     for name, sort in re.findall(r"(?m)^\s*(?:abbrev |unfoldable )?(?:pub )?(\w+|◌\S+) : (.*)", text):
-        of_type.setdefault(sort.strip(), []).append(name)
-    return in_turn([*groups, *of_type.values()])
+        of_type.setdefault(sort.strip(), {})[name] = None
+    return in_turn([*groups, *map(list, of_type.values())])
 
 
 def fields_beside():

@@ -13,7 +13,7 @@ use Rattle.zfault.specs.declared.pause.Pause.TheVariants as pauses
 use Rattle.zstate.specs.declared.halt.Stop.TheVariants as stops
 use Rattle.zstate.specs.State.{State, Setting}
 use Rattle.zstate.specs.Saves.{restoring}
-use Rattle.zstate.specs.Run.{Given, Restored, awaited}
+use Rattle.zstate.specs.Run.{Given, GivesOut, Restored, WantsMemory, awaited}
 use Rattle.zplayer.specs.declared.end.End.TheVariants as ends
 use Rattle.zplayer.specs.declared.end.PlayError.TheVariants as errors
 use Rattle.zplayer.specs.declared.lines.LineEnd.TheVariants.{Newline, Input}
@@ -21,7 +21,7 @@ use Rattle.zplayer.specs.declared.lines.TheConstants.{KEPT, PIECE}
 use Rattle.zplayer.specs.declared.turns.TheConstants.{TURN}
 use Rattle.zplayer.specs.Lines.{BlamesReader, IsEnded, IsLast, ReadsLine, Hears, Takes, line_of, without_return}
 use Rattle.zplayer.specs.Outside.{Blames, BlamesWriter, Coming, CountsRefusal, words_of}
-use Rattle.zplayer.specs.Playing.{Breaks, Leads, Meets, Plays, PlaysInPart, Stage, Walks, Writes, end_of, stage}
+use Rattle.zplayer.specs.Playing.{Breaks, GivesOrSaves, Leads, Meets, Plays, PlaysInPart, Stage, Walks, WantsOrSaves, Writes, end_of, stage}
 use Rattle.zplayer.specs.World.{Answers, Asks, Draws, Gets, HasNone, Puts, Refuses, Resumes, Store, Stores, World, world}
 
 -- ---- how playing ends
@@ -214,3 +214,20 @@ module _ (m : Setting) (Takes : State → Type 0) (asked : Bool) (s t : State) (
 
   not_more_at_a_need : Meets m Takes (Given (events.Random 7)) (stage 5 s w) (stage 6 t w) [] → ⊥
   not_more_at_a_need meets = omega (arith, meets.all)
+
+-- memory may be refused where a save is told of, on a checked machine where one is wanted too, and where a line is only for the step
+module _ (m : Setting) (s : State) where
+  may_be_refused : (awaited m s ≡ Some needs.Saved → GivesOrSaves m s × WantsOrSaves m s) × (awaited m s ≡ Some needs.Restore → WantsOrSaves m s)
+  may_be_refused = ((λ saved. (inr saved, inr (inl saved))), λ restores. inr (inr restores))
+
+  for_the_step : awaited m s ≡ Some needs.Line → (GivesOrSaves m s → GivesOut m s) × (WantsOrSaves m s → WantsMemory m s)
+  for_the_step line = (gives, wants)
+    where
+      gives : GivesOrSaves m s → GivesOut m s
+      gives (inl g) = g
+      gives (inr e) = absurd cc
+
+      wants : WantsOrSaves m s → WantsMemory m s
+      wants (inl w) = w
+      wants (inr (inl e)) = absurd cc
+      wants (inr (inr e)) = absurd cc

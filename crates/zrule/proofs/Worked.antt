@@ -21,8 +21,10 @@ use Rattle.zflow.specs.declared.parts.Access.TheVariants.{Reading, Writing}
 use Rattle.zflow.specs.declared.parts.Asked.TheVariants.{Answered, Filled}
 use Rattle.zflow.specs.declared.parts.Lead.TheVariants.{Ahead, Returning, Entering}
 use Rattle.zflow.specs.Transfer.{Shape, demands_of, outcome_of}
-use Rattle.zstate.specs.State.{Frame, State, has_head}
+use Rattle.zstate.specs.State.{Frame, Scope, State, has_head}
 use Rattle.zruns.specs.Buffers.{IsParseBuffer, IsTextBuffer}
+use Rattle.zruns.specs.Texts.{AreFixedTexts}
+use Rattle.zword.specs.declared.addressing.Addressing.TheVariants.{Byte as ByAddress}
 use Rattle.zcert.specs.declared.parts.Range.{Range}
 use Rattle.zcert.specs.Certificate.{Certificate}
 use Rattle.zrule.specs.declared.rule.Rule.{Rule}
@@ -31,8 +33,8 @@ use Rattle.zrule.specs.Numbers.{number_of}
 use Rattle.zrule.specs.Edges.{StaysLow}
 use Rattle.zpairs.specs.Frozen.{is_inside}
 use Rattle.zrule.specs.Claims.{Entry, Claims, claims_of, frozen_in}
-use Rattle.zrule.specs.Described.{Callers, Described, Fits, FitsWith}
-use Rattle.zrule.specs.Rules.{AreObjects, Finds, Spares, AreWritten, AreRead, HasHeads, HasLineObject, gives_by_property, global_in, IsNamed, Covers, Leads, Enters, GoesOn, Asks, Begins, Starts, Takes, TakesBack, comes_back, result_at}
+use Rattle.zrule.specs.Described.{Callers, Described, Fits, FitsWith, IsListedIn}
+use Rattle.zrule.specs.Rules.{AreObjects, Finds, Spares, AreWritten, AreRead, HasFirstPlace, HasHeads, HasLineObject, gives_by_property, global_in, IsNamed, KnowsAnswers, Covers, Leads, Enters, GoesOn, Asks, Begins, Starts, Takes, TakesBack, comes_back, result_at}
 use Rattle.zstate.specs.Step.{words_from}
 use Rattle.zrule.proofs.Instances.{by_answers}
 
@@ -379,6 +381,33 @@ properties_asked :
 unfolding operation_of demands_of small
 properties_asked = ((λ f. f, λ a. a), (λ s. (s, tt), λ a. a.0))
 
+-- what has no object, or no answer, isn't known, and then I4 asks nothing
+asks_property : Instruction
+asks_property = storing opcodes.GetProp (Variable 1 ∷ Variable 2 ∷ []) 1
+
+no_object : asks Successor (point 0 ∷ point 5 ∷ []) [] asks_property
+unfolding asks_property operation_of demands_of small
+no_object = λ divides reads known begins. absurd (omega (arith, (known.0.0 0 (interval_sound.single 0 (omega arith))).0))
+
+known_answers : KnowsAnswers interval_operations small nowhere asks_property (before (first_set ∷ second_set ∷ []) []) → Finds interval_operations nowhere (Answered Value) first_set second_set
+unfolding asks_property operation_of demands_of small
+known_answers known = known.1
+
+-- a length is read before an address, where there is no memory just at address 0
+asks_length : Instruction
+asks_length = storing opcodes.GetPropLen (Variable 1 ∷ []) 1
+
+lengths : asks Read (point 0 ∷ []) [] asks_length × (asks Read (point 5 ∷ []) [] asks_length → ⊥)
+unfolding asks_length operation_of demands_of small
+lengths = ((λ x inside. rw (interval_sound.known (point 0) 0 x refl inside) refl, tt), λ r. let none = r.0 5 (interval_sound.single 5 (omega arith)) in absurd cc)
+
+-- texts are printed by their addresses
+texts_asked :
+    (AreFixedTexts interval_operations nowhere (frozen_in small) ByAddress first_set → asks Text (first_set ∷ []) [] (plain opcodes.PrintAddr (Variable 1 ∷ [])))
+    × (asks Text (first_set ∷ []) [] (plain opcodes.PrintAddr (Variable 1 ∷ [])) → AreFixedTexts interval_operations nowhere (frozen_in small) ByAddress first_set)
+unfolding operation_of demands_of small
+texts_asked = (λ f. (tt, f), λ t. t.1)
+
 -- ---- edges
 
 -- an edge leads to the one place that is so far behind another
@@ -490,9 +519,34 @@ called_by :
     × Callers interval_operations small c.1.routine g.return_place g.result gs
 called_by routine place result g gs c = (c.0, c.2, c.3, c.4)
 
--- and so do those of a state
+-- a global that takes a value leaves the frame as it is
+stored_in_global : FitsWith interval_operations small 16 3 (before (point 4 ∷ []) []) of_local
+unfolding small
+stored_in_global = (omega arith, record { word = omega arith; member = (record { le = tt }, record { le = tt }) }, record { in_locals = (interval_sound.single 4 (omega arith), tt); in_slots = tt })
+
+-- the newest frame of a state fits, with its locals and its stack, and so do its callers
+fits_of : (story : LoadedStory) (s : State) (d : Described interval_operations small 5 story s) → Fits interval_operations small d.entry.shape s.frame.locals s.frame.stack
+fits_of story s d = d.fits
+
 callers_of : (story : LoadedStory) (s : State) (d : Described interval_operations small 5 story s) → Callers interval_operations small d.entry.routine s.frame.return_place s.frame.result s.callers
 callers_of story s d = d.callers
+
+-- of a scope that has what is listed, each listed place may be played, and each routine called
+listed_in : (scope : Scope) (l : IsListedIn interval_operations small scope) → (scope.instructions 8 ≡ true) × ((p k : ℕ) → small.routine_at p ≡ Some k → scope.routines p ≡ true)
+unfolding small
+listed_in scope l = (l.places 8 _ refl, l.routines)
+
+-- the first place is in the main code, which has no locals, with an empty stack
+begins_with : ℕ → Shape Interval → Claims Interval
+begins_with number said = record small { entry = λ p. Some (record { routine = number; shape = said }) }
+
+first_place : HasFirstPlace interval_operations (begins_with 0 (before [] [])) nowhere × (HasFirstPlace interval_operations (begins_with 1 (before [] [])) nowhere → ⊥)
+unfolding begins_with
+first_place = (record { entry = record { routine = 0; shape = before [] [] }; listed = refl; main = refl; no_locals = refl; no_slots = refl }, λ f. let is = same_Some _ _ f.listed in omega (arith, ap (λ (e : Entry Interval). e.routine) is, f.main))
+
+first_place_empty : (HasFirstPlace interval_operations (begins_with 0 (before (point 1 ∷ []) [])) nowhere → ⊥) × (HasFirstPlace interval_operations (begins_with 0 (before [] (point 1 ∷ []))) nowhere → ⊥)
+unfolding begins_with
+first_place_empty = (λ f. let is = ap (λ (e : Entry Interval). e.shape.locals) (same_Some _ _ f.listed) ∙ f.no_locals in absurd cc, λ f. let is = ap (λ (e : Entry Interval). e.shape.slots) (same_Some _ _ f.listed) ∙ f.no_slots in absurd cc)
 
 -- ---- globals of a memory
 
