@@ -29,6 +29,8 @@ FORMS = [
     ("variable", "I15", b""),
     ("kinds", "I11", b""),
     ("table", "I12", b""),
+    ("texts", "I11", b""),
+    ("things", "I5", b""),
 ]
 
 

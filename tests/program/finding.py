@@ -136,7 +136,7 @@ NONE = [
 EXPLAINED = b"""I5: an operand that has to be an object may be none, most often 0.
 Rule: each value of such an operand is 1 to the count of the story's objects (Z 12.3, 15).
 Do: test the local that is then used: p = parent(o); if (p == 0) rfalse; o = p; and keep no 0 or -1 in a global that
-names an object.
+names an object. Of a table: o = things-->k; if (o >= First && o <= Last) print (object) o;
 """
 
 

@@ -127,7 +127,8 @@ pub const FINDING: [(&str, &str); 3] = [
         "G1: no certificate was found.
 Rule: what zpc find answers has passed its own check (own). The address is where that stopped, if it was at one.
 Do: read the second line. \"no certificate: I5 at 00b99\" says that no certificate exists: see zpc explain I5 and
-docs/AUTHORS.md. \"not found\" says that it isn't known whether one exists: a certificate by hand may still be accepted.
+docs/AUTHORS.md. \"not found\" says that it isn't known whether one exists; zpc list says what is wrong with the story's
+listing, if that is what is at fault, as an opcode that isn't played (zpc explain U1).
 ",
     ),
     (

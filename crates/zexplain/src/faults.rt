@@ -13,7 +13,8 @@ Do: as its author, see what jumps there; as a player, report it with your last l
         "F2",
         "F2: play came to what is no instruction.
 Rule: the bytes at each place of play spell an instruction that is played (Z 4, 14).
-Do: as its author, see what leads there, and zpc explain J1 to J5; as a player, report it with your last lines.
+Do: as its author, see what leads there, and zpc explain J1 to J5: it may be an opcode that isn't played, as output_stream
+(J3); as a player, report it with your last lines.
 ",
     ),
     (

@@ -37,7 +37,7 @@ anew.
         "I5: an operand that has to be an object may be none, most often 0.
 Rule: each value of such an operand is 1 to the count of the story's objects (Z 12.3, 15).
 Do: test the local that is then used: p = parent(o); if (p == 0) rfalse; o = p; and keep no 0 or -1 in a global that
-names an object.
+names an object. Of a table: o = things-->k; if (o >= First && o <= Last) print (object) o;
 ",
     ),
     (
@@ -81,8 +81,8 @@ Do: bound the index by constants right before the load; neither a count byte of 
         "I11",
         "I11: a text that is printed may not be one.
 Rule: at each address that may be printed stands a text with an end, and no play changes it (Z 3.2, 15).
-Do: print addresses from constants or read-only tables; a word of the dictionary behind a test of its range:
-d = 0-->4; if (w > d && w < d + 900) print (address) w;
+Do: print addresses from constants; test what is read of a table, and a word of the dictionary, at both ends:
+s = names-->k; if (s >= First && s <= Last) print (string) s; d = 0-->4; if (w > d && w < d + 900) print (address) w;
 ",
     ),
     (

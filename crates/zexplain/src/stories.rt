@@ -158,7 +158,8 @@ pub const LISTING: [(&str, &str); 4] = [
         "U1",
         "U1: play may lead to what is no instruction, or call what is no routine.
 Rule: an instruction stands at each place that play may lead to, and a called routine has at most 15 locals (Z 4, 5.2).
-Do: see what leads to the address: a routine without a return at its end, a jump too far, or J1 to J5 there.
+Do: see what leads to the address: an opcode that isn't played, as output_stream (J3), a routine without a return at its
+end, a jump too far, or J1, J2, J4 or J5 there.
 ",
     ),
     (

@@ -312,6 +312,26 @@ not_there : asks Known [] [] store_named
 unfolding store_named operation_of demands_of small
 not_there = λ there. absurd (omega (arith, there.1))
 
+-- one that is named by the top of the stack is there where there is a slot, whatever locals there are
+store_by_top : Instruction
+store_by_top = plain opcodes.Store (Variable 0 ∷ Constant 5 ∷ [])
+
+named_by_top : (asks Known [] (point 256 ∷ []) store_by_top → ⊥) × asks Known (point 256 ∷ []) [] store_by_top
+unfolding store_by_top operation_of demands_of small
+named_by_top = (λ k. let none = k (omega arith, omega arith) in cc, λ there. absurd (omega (arith, there.0)))
+
+-- both numbers of a move are of objects
+abbrev moves : ℕ → ℕ → Type 0
+moves object under = Asks interval_operations small two_objects 10 (record { routine = 1; shape = before [] [] }) (plain opcodes.InsertObj (Constant object ∷ Constant under ∷ [])) Object
+
+both_objects : moves 1 2 × (moves 3 2 → ⊥) × (moves 1 3 → ⊥)
+unfolding operation_of demands_of small two_objects
+both_objects = (
+  (λ x inside. omega (arith, interval_sound.known (point 1) 1 x refl inside), λ x inside. omega (arith, interval_sound.known (point 2) 2 x refl inside)),
+  λ n. omega (arith, (n.0 3 (interval_sound.single 3 (omega arith))).1),
+  λ n. omega (arith, (n.1 3 (interval_sound.single 3 (omega arith))).1),
+)
+
 -- global 16 takes 5 and not 6, as a result and in place
 abbrev gives_global : ℕ → Instruction
 gives_global x = storing opcodes.Or (Constant x ∷ Constant x ∷ []) 16
