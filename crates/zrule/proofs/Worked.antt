@@ -23,6 +23,8 @@ use Rattle.zflow.specs.declared.parts.Lead.TheVariants.{Ahead, Returning, Enteri
 use Rattle.zflow.specs.Transfer.{Shape, demands_of, outcome_of}
 use Rattle.zstate.specs.State.{Frame, Scope, State, has_head}
 use Rattle.zruns.specs.Buffers.{IsParseBuffer, IsTextBuffer}
+use Rattle.zpairs.specs.Pairs.{AreAnswered, AreUnfrozen, CanBePut}
+use Rattle.zruns.specs.Runs.{AreOpen, AreReadable}
 use Rattle.zruns.specs.Texts.{AreFixedTexts}
 use Rattle.zword.specs.declared.addressing.Addressing.TheVariants.{Byte as ByAddress}
 use Rattle.zcert.specs.declared.parts.Range.{Range}
@@ -400,6 +402,15 @@ properties_asked :
     × ((Spares interval_operations nowhere (frozen_in small) Filled first_set second_set → of_both Write opcodes.PutProp (Constant 7 ∷ [])) × (of_both Write opcodes.PutProp (Constant 7 ∷ []) → Spares interval_operations nowhere (frozen_in small) Filled first_set second_set))
 unfolding operation_of demands_of small
 properties_asked = ((λ f. f, λ a. a), (λ s. (s, tt), λ a. a.0))
+
+-- which is that an answer is there, or that a word can be put and spares what is frozen; that all is open, or can be read
+together :
+    (Finds interval_operations nowhere (Answered Value) first_set second_set → AreAnswered interval_operations nowhere Value first_set second_set)
+    × (Finds interval_operations nowhere Filled first_set second_set → CanBePut interval_operations nowhere first_set second_set)
+    × (Spares interval_operations nowhere (frozen_in small) Filled first_set second_set → AreUnfrozen interval_operations nowhere (frozen_in small) first_set second_set)
+    × (AreWritten interval_operations nowhere (frozen_in small) Writing Byte first_set second_set → AreOpen interval_operations nowhere (frozen_in small) Byte first_set second_set)
+    × (AreRead interval_operations nowhere Reading Byte first_set second_set → AreReadable interval_operations nowhere Byte first_set second_set)
+together = (λ a. a, λ a. a, λ a. a, λ a. a, λ a. a)
 
 -- what has no object, or no answer, isn't known, and then I4 asks nothing
 asks_property : Instruction
