@@ -1,6 +1,6 @@
 //! What a player is handed, with no memory taken.
 
-ghost use Rattle.std.specs.Prelude.{Some, zero};
+ghost use Rattle.std.specs.Prelude.{Some, zero, ⊤};
 
 use arrayvec::ArrayVec;
 use zfault::{Failed, Items, Sink};
@@ -71,6 +71,8 @@ pub struct Nothing;
 impl SaveStore for Nothing {
     ghost failures = { λ _. zero };
 
+    ghost Spares = { λ _ _. ⊤ };
+
     fn put(&mut self, _save: &[u8]) -> bool {
         true
     }
@@ -78,4 +80,8 @@ impl SaveStore for Nothing {
     fn get(&mut self, _save: &mut Vec<u8>) -> bool {
         true
     }
+
+    ghost itself = { λ _. tt };
+
+    ghost through = { λ _ _ _ _ _. tt };
 }

@@ -122,6 +122,8 @@ module _ {V : Type 0} (format : Format V) (law : IsFormat format) where
         last = n.field;
         rest = n.rest;
         each = each_more format r.fields n.field r.each t.is;
+        before = p;
+        reached = r.led;
         led = taken_too r.fields n.field p (taken p n.field) r.led refl n.due;
         adds = n.adds;
         spelled = one_spelled n.field r.fields bytes rest n.rest r.spelled t.takes.parts;
@@ -132,6 +134,6 @@ module _ {V : Type 0} (format : Format V) (law : IsFormat format) where
   heading_wants_none e bytes h d = plain_heading format.version bytes (h ∙ ap (λ (x : CertError). Err x) d)
 
 -- a field that memory was wanting for
-pub next_adds : {V : Type 0} (format : Format V) (p : Progress V) (bytes : List ℕ) (e : CertError) (f : Field V) (rest : List ℕ) → field_at format p.turn bytes ≡ Ok (f, rest) → RefusesField e (taken p f) → Adds f → e ≡ errors.OutOfMemory → NextAdds format p bytes
+pub next_adds : {V : Type 0} (format : Format V) (p : Progress V) (bytes : List ℕ) (e : CertError) (f : Field V) (rest : List ℕ) → field_at format p.turn bytes ≡ Ok (f, rest) → RefusesField e (taken p f) → Adds p f → e ≡ errors.OutOfMemory → NextAdds format p bytes
 next_adds format p bytes e f rest read refused adds same =
     record { field = f; rest = rest; read = read; due = subst (λ (x : CertError). RefusesField x (taken p f)) same refused; adds = adds }

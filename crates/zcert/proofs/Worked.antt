@@ -20,7 +20,7 @@ use Rattle.zcert.specs.Steps.{◌>>=◌, need, sized_at, number_at, serial_at}
 use Rattle.zcert.specs.Format.{interval_format, nonempty}
 use Rattle.zcert.specs.Spelling.{identity_bytes, range_bytes, counted, routine_bytes, instruction_bytes, heading, IsIdentity, IsRange, AreApart, InstructionsRise, IsRoutine, IsInstruction}
 use Rattle.zcert.specs.Reading.{magic_at, version_at, heading_at, identity_at, range_at, ranges_at, all_ranges_at, address_fits, values_at, routine_at, routines_at, all_routines_at, instruction_at, instructions_at, all_instructions_at}
-use Rattle.zcert.specs.Building.{Progress, opening, before_globals, before_ranges, before_routines, before_instructions, instruction_of, InTurn, taken, all_taken, Adds, IsDue}
+use Rattle.zcert.specs.Building.{Progress, opening, before_globals, before_ranges, before_routines, before_instructions, instruction_of, with_routine, InTurn, taken, all_taken, Adds, IsDue}
 use Rattle.zcert.specs.Fields.{field_bytes, IsField, field_at, next_at, IsReached, LeadsToPart}
 use Rattle.zcert.specs.Contents.{values_of, stored_instruction, LiesIn}
 use Rattle.zcert.specs.Listed.{listed_at, Finds}
@@ -368,9 +368,16 @@ addresses_taken = (refl, refl, refl, refl)
 in_turns : InTurn {V = Interval} turns.Checksum (fields.Checksum 7) × (InTurn {V = Interval} turns.Checksum (fields.Release 7) → ⊥) × InTurn (turns.Global 3) (fields.Global (point 1)) × (InTurn (turns.Global 3) (fields.Value (point 1)) → ⊥) × (InTurn (turns.Value 3 header 1) (fields.RoutineResult (point 1)) → ⊥) × (InTurn {V = Interval} turns.Complete (fields.Release 7) → ⊥) × InTurn (turns.Value 3 header 1) (fields.Value (point 1))
 in_turns = (tt, λ t. t, tt, λ t. t, λ t. t, λ t. t, tt)
 
--- which fields add a part, and what is due in an unfinished one
-parts_added : Adds {V = Interval} (fields.Height 0) × Adds {V = Interval} (fields.RangeLast 1) × (Adds {V = Interval} (fields.RangeFirst 1) → ⊥) × (Adds {V = Interval} (fields.InstructionAddress 1) → ⊥) × Adds (fields.Value (point 1))
-parts_added = (tt, tt, λ a. a, λ a. a, tt)
+-- at an instruction of a routine of two locals
+with_two_locals : Turn → Progress Interval
+with_two_locals turn = record (at_turn turn 0) { content = with_routine (at_turn turn 0).content (record { address = 4; locals = 2; result = point 1 }) }
+
+-- which fields need room, a height only with no values behind it, and what is due in an unfinished one
+parts_added :
+    Adds start (fields.RangeLast 1) × (Adds start (fields.RangeFirst 1) → ⊥) × (Adds start (fields.InstructionAddress 1) → ⊥) × Adds start (fields.Value (point 1)) × Adds (at_turn (turns.Height 0 5 0) 0) (fields.Height 0)
+    × (Adds (at_turn (turns.Height 0 5 0) 0) (fields.Height 1) → ⊥) × (Adds (with_two_locals (turns.Height 0 5 1)) (fields.Height 0) → ⊥) × (Adds start (fields.Height 0) → ⊥)
+unfolding start at_turn with_two_locals
+parts_added = (tt, λ a. a, λ a. a, tt, refl, λ a. omega (arith, a), λ a. omega (arith, a), λ a. a)
 
 due : IsDue {V = Interval} (turns.LocalCount 0 131071) [] × (IsDue {V = Interval} (turns.RoutineResult 0 131072 1) [] → ⊥) × (IsDue {V = Interval} (turns.Height 0 131072 0) [] → ⊥) × (IsDue (turns.RoutineNumber 0 1) (point 1 ∷ []) → ⊥) × IsDue (turns.Value 0 header 0) (point 1 ∷ []) × (IsDue (turns.Value 0 header 1) (point 1 ∷ []) → ⊥)
 unfolding header
@@ -394,9 +401,9 @@ routine_fields : (taken (at_turn (turns.RoutineAddress 1) 0) (fields.RoutineAddr
 unfolding at_turn start routine
 routine_fields = (refl, refl, refl)
 
-instruction_fields : (taken (at_turn turns.InstructionCount 7) (fields.InstructionCount 131073) ≡ Err errors.Limit) × (taken (at_turn turns.InstructionCount 7) (fields.InstructionCount 2) ≡ Ok (at_turn (turns.InstructionAddress 1) 0)) × (taken (at_turn (turns.RoutineNumber 1 0x324) 0) (fields.RoutineNumber 1) ≡ Err errors.Limit) × (taken (at_turn (turns.Height 1 0x324 0) 0) (fields.Height 0) ≡ Ok (record { content = record start.content { instructions = main_instruction ∷ [] }; values = []; floor = 0x325; turn = turns.InstructionAddress 0 }))
+instruction_fields : (taken (at_turn turns.InstructionCount 7) (fields.InstructionCount 131073) ≡ Err errors.Limit) × (taken (at_turn turns.InstructionCount 7) (fields.InstructionCount 2) ≡ Ok (at_turn (turns.InstructionAddress 1) 0)) × (taken (at_turn (turns.RoutineNumber 1 0x324) 0) (fields.RoutineNumber 1) ≡ Err errors.Limit) × (taken (at_turn (turns.Height 1 0x324 0) 0) (fields.Height 0) ≡ Ok (record { content = record start.content { instructions = main_instruction ∷ [] }; values = []; floor = 0x325; turn = turns.InstructionAddress 0 })) × (taken (at_turn (turns.RoutineNumber 1 0x324) 0) (fields.RoutineNumber 0) ≡ Ok (at_turn (turns.Height 1 0x324 0) 0))
 unfolding at_turn start main_instruction
-instruction_fields = (refl, refl, refl, refl)
+instruction_fields = (refl, refl, refl, refl, refl)
 
 value_fields : (taken (at_turn (turns.Value 0 header 1) 0) (fields.Value (point 0)) ≡ Ok (record { content = start.content; values = point 0 ∷ []; floor = 0; turn = turns.Value 0 header 0 })) × (taken (record { content = start.content; values = point 0 ∷ []; floor = 0; turn = turns.Value 0 header 0 }) (fields.Value (point 7)) ≡ Ok (record { content = record start.content { instructions = instruction ∷ [] }; values = point 0 ∷ point 7 ∷ []; floor = 0x332; turn = turns.Complete }))
 unfolding at_turn start header instruction
@@ -422,7 +429,7 @@ reached = ([], tt, refl)
 
 -- the first global is the first part of a certificate without ranges; before it nothing wants memory
 first_part : LeadsToPart interval_format (heading interval_format ++ identity_text ++ 0 ∷ 0 ∷ 0 ∷ 0 ∷ 0 ∷ 7 ∷ 9 ∷ [])
-unfolding identity_text
+unfolding identity identity_text
 first_part = record {
   fields = fields.Release 1 ∷ fields.Serial (0x32 ∷ 0x36 ∷ 0x30 ∷ 0x31 ∷ 0x30 ∷ 0x31 ∷ []) ∷ fields.Checksum 0x3A7A ∷ fields.LoadedLength 0x32A ∷ fields.RangeCount 0 ∷ [];
   last = fields.Global (record { lo = pos 0; hi = pos 7; ordered = in_order (pos 0) (pos 7) refl });
@@ -431,6 +438,8 @@ first_part = record {
     omega arith,
     ((refl, (omega arith, (omega arith, (omega arith, (omega arith, (omega arith, (omega arith, tt))))))), (omega arith, (omega arith, (omega arith, ((omega arith, omega arith), tt))))),
   );
+  before = record { content = record { identity = identity; ranges = []; globals = []; routines = []; instructions = [] }; values = []; floor = 0; turn = turns.Global 239 };
+  reached = refl;
   led = refl;
   adds = tt;
   spelled = refl;

@@ -219,14 +219,19 @@ InTurn (turns.Height more address routine) (fields.Height n) = ⊤
 InTurn (turns.Value more h left) (fields.Value v) = ⊤
 InTurn _ _ = ⊥
 
--- the field may be the last of a part, for which there has to be room
-abbrev pub Adds : {V : Type 0} → Field V → Type 0
-Adds (fields.RangeLast n) = Unit {0}
-Adds (fields.Global v) = Unit {0}
-Adds (fields.RoutineResult v) = Unit {0}
-Adds (fields.Height n) = Unit {0}
-Adds (fields.Value v) = Unit {0}
-Adds _ = ⊥
+-- no values come behind a height: its routine has no locals, and there are no slots
+abbrev pub HasNoValues : {V : Type 0} → List (Routine V) → Turn → ℕ → Type 0
+HasNoValues routines (turns.Height more address routine) height = locals_of routines routine + height ≡ 0
+HasNoValues routines turn height = ⊥
+
+-- the field adds something for which there has to be room: a part of which it is the last field, or a value of an instruction
+abbrev pub Adds : {V : Type 0} → Progress V → Field V → Type 0
+Adds p (fields.RangeLast n) = Unit {0}
+Adds p (fields.Global v) = Unit {0}
+Adds p (fields.RoutineResult v) = Unit {0}
+Adds p (fields.Height n) = HasNoValues p.content.routines p.turn n
+Adds p (fields.Value v) = Unit {0}
+Adds p _ = ⊥
 
 -- what is known of an unfinished part: its address is below the limit, and an instruction lacks as many values as are left
 abbrev pub IsDue : {V : Type 0} → Turn → List V → Type 0

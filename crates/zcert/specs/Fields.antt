@@ -105,7 +105,7 @@ module _ {V : Type 0} (format : Format V) where
     pub rest : List ℕ
     pub read : field_at p.turn bytes ≡ Ok (field, rest)
     pub due : IsOk (taken p field)
-    pub adds : Adds field
+    pub adds : Adds p field
 
   -- the bytes begin with the heading and fields that can all be taken, of which the last adds a part
   pub record LeadsToPart (bytes : List ℕ) : Type 0 where
@@ -113,6 +113,8 @@ module _ {V : Type 0} (format : Format V) where
     pub last : Field V
     pub rest : List ℕ
     pub each : AllByRecursion IsField (fields ++ last ∷ [])
+    pub before : Progress V
+    pub reached : all_taken opening fields ≡ Ok before
     pub led : IsOk (all_taken opening (fields ++ last ∷ []))
-    pub adds : Adds last
+    pub adds : Adds before last
     pub spelled : bytes ≡ heading format ++ (flat_map field_bytes (fields ++ last ∷ []) ++ rest)

@@ -65,7 +65,7 @@ impl<V: Spelled> CertBuilder<V> {
         // What is refused is refused for what is wrong with it, and changes nothing. Memory is wanted only for a field that would be
         // taken, and that adds a part.
         ensures refused { IfErr result (λ e. RefusesField e (taken self.old field)) }
-        ensures memory { result ≡ Err CertError.OutOfMemory → Adds field }
+        ensures memory { result ≡ Err CertError.OutOfMemory → Adds self.old field }
         ensures err { OnErr result (self.new ≡ self.old) }
     {
         self.building.take(field)

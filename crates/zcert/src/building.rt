@@ -30,7 +30,7 @@ impl<V: Spelled> Building<V> {
     ghost use Rattle.zcert.specs.Reading.{address_fits};
     ghost use Rattle.zcert.specs.Certificate.{locals_of};
     ghost use Rattle.zcert.specs.Fields.{IsField};
-    ghost use Rattle.zcert.specs.Building.{opening, before_values, taken, Adds, IsDue, after_release, after_serial, after_checksum, after_loaded_length, after_range_count, after_range_first, after_range_last, after_global, after_routine_count, after_routine_address, after_local_count, after_routine_result, after_instruction_count, after_instruction_address, after_routine_number, after_height, after_value};
+    ghost use Rattle.zcert.specs.Building.{opening, before_values, taken, Adds, HasNoValues, IsDue, after_release, after_serial, after_checksum, after_loaded_length, after_range_count, after_range_first, after_range_last, after_global, after_routine_count, after_routine_address, after_local_count, after_routine_result, after_instruction_count, after_instruction_address, after_routine_number, after_height, after_value};
 
     /// Nothing yet.
     pub fn new(alloc: Global) -> Building<V>
@@ -321,7 +321,8 @@ impl<V: Spelled> Building<V> {
 
     fn height(&mut self, height: u8) -> Result<(), CertError>
         requires { IsDue self.old.turn (progress_of self.old).values }
-        ensures { Takes (progress_of self.old) (progress_of self.new) result (after_height height self.old.turn (progress_of self.old)) }
+        ensures takes { Takes (progress_of self.old) (progress_of self.new) result (after_height height self.old.turn (progress_of self.old)) }
+        ensures memory { result ≡ Err CertError.OutOfMemory → HasNoValues self.old.contents.routines.items self.old.turn height }
     {
         let Turn::Height {
             more,
@@ -369,7 +370,7 @@ impl<V: Spelled> Building<V> {
         requires { IsDue self.old.turn (progress_of self.old).values }
         ensures takes { Takes (progress_of self.old) (progress_of self.new) result (taken (progress_of self.old) field) }
         ensures fits { IsField V.format field }
-        ensures memory { result ≡ Err CertError.OutOfMemory → Adds field }
+        ensures memory { result ≡ Err CertError.OutOfMemory → Adds (progress_of self.old) field }
     {
         match field {
             Field::Release(release) => self.release(release),

@@ -125,8 +125,8 @@ no_remainders : IsFrom (binary Mod few few) (minus 32768) (pos 32767) × IsFrom 
 no_remainders = ((refl, refl), (refl, refl))
 
 -- two single words exactly; else at most the lesser end of those that are never negative
-conjunctions : IsFrom (binary And (word (pos 12)) (word (pos 10))) (pos 8) (pos 8) × IsFrom (binary And (word (minus 1)) (word (minus 8))) (minus 8) (minus 8) × IsFrom (binary And (from (pos 2) (pos 9) refl) (from (pos 1) (pos 5) refl)) (pos 0) (pos 5) × IsFrom (binary And (from (minus 4) (pos 9) refl) (from (pos 0) (pos 7) refl)) (pos 0) (pos 7) × IsFrom (binary And few (from (minus 1) (pos 100) refl)) (pos 0) (pos 5) × IsFrom (binary And (word (pos 12)) (from (minus 1) (pos 3) refl)) (pos 0) (pos 12) × IsFrom (binary And (from (minus 4) (pos 9) refl) (from (minus 1) (pos 3) refl)) (minus 32768) (pos 32767)
-conjunctions = ((refl, refl), (refl, refl), (refl, refl), (refl, refl), (refl, refl), (refl, refl), (refl, refl))
+conjunctions : IsFrom (binary And (word (pos 12)) (word (pos 10))) (pos 8) (pos 8) × IsFrom (binary And (word (minus 1)) (word (minus 8))) (minus 8) (minus 8) × IsFrom (binary And (from (pos 2) (pos 9) refl) (from (pos 1) (pos 5) refl)) (pos 0) (pos 5) × IsFrom (binary And (from (minus 4) (pos 9) refl) (from (pos 0) (pos 7) refl)) (pos 0) (pos 7) × IsFrom (binary And few (from (minus 1) (pos 100) refl)) (pos 0) (pos 5) × IsFrom (binary And (word (pos 12)) (from (minus 1) (pos 3) refl)) (pos 0) (pos 12) × IsFrom (binary And (from (minus 4) (pos 9) refl) (from (minus 1) (pos 3) refl)) (minus 32768) (pos 32767) × IsFrom (binary And (from (pos 1) (pos 5) refl) (from (pos 2) (pos 9) refl)) (pos 0) (pos 5)
+conjunctions = ((refl, refl), (refl, refl), (refl, refl), (refl, refl), (refl, refl), (refl, refl), (refl, refl), (refl, refl))
 
 disjunctions : IsFrom (binary Or (word (pos 12)) (word (pos 3))) (pos 15) (pos 15) × IsFrom (binary Or (word (minus 8)) (word (pos 1))) (minus 7) (minus 7) × IsFrom (binary Or few (from (pos 0) (pos 1) refl)) (pos 0) (pos 32767) × IsFrom (binary Or (from (minus 1) (pos 5) refl) (word (pos 1))) (minus 32768) (pos 32767) × IsFrom (binary Or few (from (minus 2) (minus 1) refl)) (minus 32768) (pos 32767) × IsFrom (binary Or few (word (pos 4))) (pos 0) (pos 32767)
 disjunctions = ((refl, refl), (refl, refl), (refl, refl), (refl, refl), (refl, refl), (refl, refl))
@@ -144,8 +144,8 @@ abbrev IsSomeFrom : Option Interval → ℤ → ℤ → Type 0
 IsSomeFrom None lo hi = ⊥
 IsSomeFrom (Some i) lo hi = IsFrom i lo hi
 
-common : IsSomeFrom (meet few (from (pos 3) (pos 9) refl)) (pos 3) (pos 5) × IsSomeFrom (meet few (from (pos 5) (pos 9) refl)) (pos 5) (pos 5) × (meet few (from (pos 6) (pos 9) refl) ≡ None)
-common = ((refl, refl), (refl, refl), refl)
+common : IsSomeFrom (meet few (from (pos 3) (pos 9) refl)) (pos 3) (pos 5) × IsSomeFrom (meet few (from (pos 5) (pos 9) refl)) (pos 5) (pos 5) × (meet few (from (pos 6) (pos 9) refl) ≡ None) × IsSomeFrom (meet (from (pos 3) (pos 9) refl) few) (pos 3) (pos 5)
+common = ((refl, refl), (refl, refl), refl, (refl, refl))
 
 only : (interval_operations.known (word (pos 5)) ≡ Some 5) × (interval_operations.known (word (minus 2)) ≡ Some 0xFFFE) × (interval_operations.known (from (pos 0) (pos 1) refl) ≡ None)
 only = (refl, refl, refl)
@@ -168,21 +168,21 @@ pairs_none = None
 abbrev ten : Interval
 ten = from (pos 0) (pos 9) refl
 
-less : AreFrom (narrow Less true ten few) (pos 0) (pos 4) (pos 1) (pos 5) × (narrow Less true (from (pos 5) (pos 9) refl) few ≡ pairs_none) × (narrow Less true all_words (word (minus 32768)) ≡ pairs_none) × AreFrom (narrow Less true (word (minus 1)) (word (pos 0))) (minus 1) (minus 1) (pos 0) (pos 0)
-less = (((refl, refl), (refl, refl)), refl, refl, ((refl, refl), (refl, refl)))
+less : AreFrom (narrow Less true ten few) (pos 0) (pos 4) (pos 1) (pos 5) × (narrow Less true (from (pos 5) (pos 9) refl) few ≡ pairs_none) × (narrow Less true all_words (word (minus 32768)) ≡ pairs_none) × AreFrom (narrow Less true (word (minus 1)) (word (pos 0))) (minus 1) (minus 1) (pos 0) (pos 0) × AreFrom (narrow Less true few (from (pos 3) (pos 20) refl)) (pos 0) (pos 5) (pos 3) (pos 20)
+less = (((refl, refl), (refl, refl)), refl, refl, ((refl, refl), (refl, refl)), ((refl, refl), (refl, refl)))
 
-not_less : AreFrom (narrow Less false ten (from (pos 3) (pos 5) refl)) (pos 3) (pos 9) (pos 3) (pos 5) × AreFrom (narrow Less false few ten) (pos 0) (pos 5) (pos 0) (pos 5) × (narrow Less false (from (pos 0) (pos 2) refl) (from (pos 3) (pos 9) refl) ≡ pairs_none)
-not_less = (((refl, refl), (refl, refl)), ((refl, refl), (refl, refl)), refl)
+not_less : AreFrom (narrow Less false ten (from (pos 3) (pos 5) refl)) (pos 3) (pos 9) (pos 3) (pos 5) × AreFrom (narrow Less false few ten) (pos 0) (pos 5) (pos 0) (pos 5) × (narrow Less false (from (pos 0) (pos 2) refl) (from (pos 3) (pos 9) refl) ≡ pairs_none) × AreFrom (narrow Less false (from (pos 3) (pos 5) refl) few) (pos 3) (pos 5) (pos 0) (pos 5)
+not_less = (((refl, refl), (refl, refl)), ((refl, refl), (refl, refl)), refl, ((refl, refl), (refl, refl)))
 
-greater : AreFrom (narrow Greater true ten few) (pos 1) (pos 9) (pos 0) (pos 5) × AreFrom (narrow Greater false ten few) (pos 0) (pos 5) (pos 0) (pos 5) × (narrow Greater true (word (pos 0)) few ≡ pairs_none)
-greater = (((refl, refl), (refl, refl)), ((refl, refl), (refl, refl)), refl)
+greater : AreFrom (narrow Greater true ten few) (pos 1) (pos 9) (pos 0) (pos 5) × AreFrom (narrow Greater false ten few) (pos 0) (pos 5) (pos 0) (pos 5) × (narrow Greater true (word (pos 0)) few ≡ pairs_none) × AreFrom (narrow Greater false few ten) (pos 0) (pos 5) (pos 0) (pos 9)
+greater = (((refl, refl), (refl, refl)), ((refl, refl), (refl, refl)), refl, ((refl, refl), (refl, refl)))
 
 equal : AreFrom (narrow Equal true ten (from (pos 5) (pos 20) refl)) (pos 5) (pos 9) (pos 5) (pos 9) × AreFrom (narrow Equal true (from (minus 3) (pos 4) refl) (word (pos 0))) (pos 0) (pos 0) (pos 0) (pos 0) × (narrow Equal true few (word (pos 6)) ≡ pairs_none)
 equal = (((refl, refl), (refl, refl)), ((refl, refl), (refl, refl)), refl)
 
 -- a single value is cut off at one end, and nowhere else
-unequal : AreFrom (narrow Equal false few (word (pos 0))) (pos 1) (pos 5) (pos 0) (pos 0) × AreFrom (narrow Equal false (from (minus 9) (pos 0) refl) (word (pos 0))) (minus 9) (minus 1) (pos 0) (pos 0) × AreFrom (narrow Equal false (from (minus 9) (pos 9) refl) (word (pos 0))) (minus 9) (pos 9) (pos 0) (pos 0) × AreFrom (narrow Equal false few ten) (pos 0) (pos 5) (pos 0) (pos 9) × AreFrom (narrow Equal false (word (pos 9)) ten) (pos 9) (pos 9) (pos 0) (pos 8) × AreFrom (narrow Equal false all_words (word (pos 32767))) (minus 32768) (pos 32766) (pos 32767) (pos 32767) × (narrow Equal false (word (pos 7)) (word (pos 7)) ≡ pairs_none)
-unequal = (((refl, refl), (refl, refl)), ((refl, refl), (refl, refl)), ((refl, refl), (refl, refl)), ((refl, refl), (refl, refl)), ((refl, refl), (refl, refl)), ((refl, refl), (refl, refl)), refl)
+unequal : AreFrom (narrow Equal false few (word (pos 0))) (pos 1) (pos 5) (pos 0) (pos 0) × AreFrom (narrow Equal false (from (minus 9) (pos 0) refl) (word (pos 0))) (minus 9) (minus 1) (pos 0) (pos 0) × AreFrom (narrow Equal false (from (minus 9) (pos 9) refl) (word (pos 0))) (minus 9) (pos 9) (pos 0) (pos 0) × AreFrom (narrow Equal false few ten) (pos 0) (pos 5) (pos 0) (pos 9) × AreFrom (narrow Equal false (word (pos 9)) ten) (pos 9) (pos 9) (pos 0) (pos 8) × AreFrom (narrow Equal false all_words (word (pos 32767))) (minus 32768) (pos 32766) (pos 32767) (pos 32767) × (narrow Equal false (word (pos 7)) (word (pos 7)) ≡ pairs_none) × AreFrom (narrow Equal false (from (pos 3) (pos 9) refl) (word (pos 0))) (pos 3) (pos 9) (pos 0) (pos 0) × AreFrom (narrow Equal false (from (pos 3) (pos 9) refl) (word (pos 20))) (pos 3) (pos 9) (pos 20) (pos 20)
+unequal = (((refl, refl), (refl, refl)), ((refl, refl), (refl, refl)), ((refl, refl), (refl, refl)), ((refl, refl), (refl, refl)), ((refl, refl), (refl, refl)), ((refl, refl), (refl, refl)), refl, ((refl, refl), (refl, refl)), ((refl, refl), (refl, refl)))
 
 tested : AreFrom (narrow Test true ten few) (pos 0) (pos 9) (pos 0) (pos 5) × AreFrom (narrow Test false ten few) (pos 0) (pos 9) (pos 0) (pos 5)
 tested = (((refl, refl), (refl, refl)), ((refl, refl), (refl, refl)))

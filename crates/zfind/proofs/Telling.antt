@@ -17,7 +17,7 @@ use Rattle.zfind.specs.declared.error.FindError.TheVariants.{NotFound}
 use Rattle.zfind.specs.declared.error.Obstacle.{Obstacle}
 use Rattle.zfind.specs.declared.error.Obstacle.TheVariants as obstacles
 use Rattle.zfind.specs.Attempts.{IsNamed}
-use Rattle.zfind.specs.Finding.{IsAtStart, IsFailure, IsLasting, IsMet, IsTold, IsTried}
+use Rattle.zfind.specs.Finding.{IsAtStart, IsBrokenIn, IsFailure, IsLasting, IsMet, IsTold, IsWrongWith}
 
 module _ (story : LoadedStory) where
   -- a fault where play begins is told
@@ -40,15 +40,19 @@ module _ (story : LoadedStory) where
   same_obstacle one other e = cc
 
   -- what the checker says first of one that was tried
-  pub met_where_tried : (error : FindError) (obstacle : Obstacle) → error ≡ NotFound obstacle → IsTried story obstacle → (told : Result (Option Obstacle) FindError) → IfOk told (IsNamed error) → IfOk told (λ other. IfSome other (IsMet story))
-  met_where_tried error obstacle is tried (Err other) named = tt
-  met_where_tried error obstacle is tried (Ok None) named = tt
-  met_where_tried error obstacle is tried (Ok (Some other)) named = inl (subst (IsTried story) (same_obstacle obstacle other (sym is ∙ named)) tried)
+  pub wrong_where_tried : (c : Certificate Interval) (error : FindError) (obstacle : Obstacle) → error ≡ NotFound obstacle → IsWrongWith story c obstacle → (told : Result (Option Obstacle) FindError) → IfOk told (IsNamed error) → IfOk told (λ other. IfSome other (IsWrongWith story c))
+  wrong_where_tried c error obstacle is wrong (Err other) named = tt
+  wrong_where_tried c error obstacle is wrong (Ok None) named = tt
+  wrong_where_tried c error obstacle is wrong (Ok (Some other)) named = subst (IsWrongWith story c) (same_obstacle obstacle other (sym is ∙ named)) wrong
+
+  pub met_where_tried : (c : Certificate Interval) (told : Result (Option Obstacle) FindError) → IfOk told (λ obstacle. IfSome obstacle (IsWrongWith story c)) → IfOk told (λ obstacle. IfSome obstacle (IsMet story))
+  met_where_tried c (Err other) wrong = tt
+  met_where_tried c (Ok None) wrong = tt
+  met_where_tried c (Ok (Some obstacle)) wrong = inl (c, wrong)
 
   -- or a rule that is broken where it lists an instruction
-  pub met_where_broken : (c : Certificate Interval) (i : Instruction Interval) (rule : Rule) → listed_at c.instructions i.address ≡ Some i → IsLowestBroken interval_operations (claims_of interval_operations c) story i.address (entry_of i) rule → IsLasting rule → IsMet story (obstacles.Place (cast_signed w32 i.address) rule)
-  met_where_broken c i rule listed lowest lasting = inr (record {
-    certificate = c;
+  pub broken_where_listed : (c : Certificate Interval) (i : Instruction Interval) (rule : Rule) → listed_at c.instructions i.address ≡ Some i → IsLowestBroken interval_operations (claims_of interval_operations c) story i.address (entry_of i) rule → IsLasting rule → IsBrokenIn story c (obstacles.Place (cast_signed w32 i.address) rule)
+  broken_where_listed c i rule listed lowest lasting = record {
     place = i.address;
     entry = entry_of i;
     rule = rule;
@@ -56,4 +60,8 @@ module _ (story : LoadedStory) where
     lowest = lowest;
     lasting = lasting;
     told = refl;
-  })
+  }
+
+  pub met_where_broken : (c : Certificate Interval) (told : Option Obstacle) → IfSome told (IsBrokenIn story c) → IfSome told (IsMet story)
+  met_where_broken c None broken = tt
+  met_where_broken c (Some obstacle) broken = inr (c, broken)

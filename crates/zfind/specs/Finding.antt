@@ -67,12 +67,15 @@ module _ (story : LoadedStory) where
     pub listing : ListedCode
     pub lists : Lists story listing
 
-  -- a certificate was tried, and this is wrong with it first
-  pub record IsTried (obstacle : Obstacle) : Type 0 where
-    pub certificate : Certificate Interval
+  -- this is wrong first with a certificate
+  pub record IsWrongWith (certificate : Certificate Interval) (obstacle : Obstacle) : Type 0 where
     pub refusal : Refusal
     pub cause : IsCause interval_operations story certificate refusal
     pub told : refused_for refusal ≡ NotFound obstacle
+
+  -- a certificate was tried, and this is wrong with it first
+  abbrev pub IsTried : Obstacle → Type 0
+  IsTried obstacle = (certificate : Certificate Interval) × IsWrongWith certificate obstacle
 
   -- Why no certificate is found: a story that lists something at fault is refused for that, and for nothing else but want of memory.
   abbrev pub IsFailure : FindError → Type 0
@@ -86,10 +89,9 @@ module _ (story : LoadedStory) where
   IsWalkFailure left RoundLimit = left ≡ 0
   IsWalkFailure left OutOfMemory = ⊤
 
-  -- A certificate was tried, and at a place that it lists this rule is broken, of those that are the one with the lowest number, and more
-  -- that is found can't mend it.
-  pub record IsBrokenAt (obstacle : Obstacle) : Type 0 where
-    pub certificate : Certificate Interval
+  -- At a place that a certificate lists this rule is broken, of those that are the one with the lowest number, and more that is found can't
+  -- mend it.
+  pub record IsBrokenIn (certificate : Certificate Interval) (obstacle : Obstacle) : Type 0 where
     pub place : ℕ
     pub entry : Entry Interval
     pub rule : Rule
@@ -97,6 +99,10 @@ module _ (story : LoadedStory) where
     pub lowest : IsLowestBroken interval_operations (claims_of interval_operations certificate) story place entry rule
     pub lasting : IsLasting rule
     pub told : obstacle ≡ obstacles.Place (cast_signed w32 place) rule
+
+  -- a certificate was tried that breaks a rule so
+  abbrev pub IsBrokenAt : Obstacle → Type 0
+  IsBrokenAt obstacle = (certificate : Certificate Interval) × IsBrokenIn certificate obstacle
 
   -- a certificate was tried that this is wrong with
   abbrev pub IsMet : Obstacle → Type 0

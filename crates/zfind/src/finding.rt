@@ -5,7 +5,7 @@ ghost use Rattle.zdomain.specs.Interval.{interval_operations};
 ghost use Rattle.zlist.specs.Listed.{Lists};
 ghost use Rattle.zcheck.specs.Passes.{Passes};
 ghost use Rattle.zfind.specs.Attempts.{IsAttempt};
-ghost use Rattle.zfind.specs.Finding.{IsFailure, IsStopped, IsTried, IsWalkFailure};
+ghost use Rattle.zfind.specs.Finding.{IsFailure, IsStopped, IsWalkFailure, IsWrongWith};
 ghost use Rattle.zfind.specs.declared.error.FindError.TheVariants.{NotFound, RoundLimit};
 ghost use Rattle.zfind.specs.declared.error.Obstacle.{Obstacle as AnObstacle};
 
@@ -156,10 +156,10 @@ fn make_attempt(
     }))
 }
 
-/// A certificate, if it passes.
+/// A certificate, if it passes, and else what is wrong with it first.
 pub(crate) fn tried(story: &Story, certificate: Certificate) -> Result<Certificate, FindError>
-    ensures passes { IfOk result (Passes interval_operations story.now) }
-    ensures failed { IfErr result (λ error. (obstacle : AnObstacle) × (error ≡ NotFound obstacle) × IsTried story.now obstacle) }
+    ensures passes { IfOk result (λ passed. (passed ≡ certificate) × Passes interval_operations story.now certificate) }
+    ensures failed { IfErr result (λ error. (obstacle : AnObstacle) × (error ≡ NotFound obstacle) × IsWrongWith story.now certificate obstacle) }
 {
     match examine(story, &certificate) {
         None => Ok(certificate),

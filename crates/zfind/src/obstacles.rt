@@ -2,7 +2,7 @@
 
 ghost use Rattle.std.specs.Prelude.{◌≡◌, IfErr, IfOk, IfSome, IsTrue};
 ghost use Rattle.zfind.specs.Attempts.{IsNamed};
-ghost use Rattle.zfind.specs.Finding.{IsAtStart, IsFailure, IsLasting, IsMet, IsTold};
+ghost use Rattle.zfind.specs.Finding.{IsAtStart, IsBrokenIn, IsFailure, IsLasting, IsMet, IsTold, IsWrongWith};
 ghost use Rattle.zfind.specs.declared.error.FindError.TheVariants.{OutOfMemory, RoundLimit};
 
 use crate::certificate::certificate_of;
@@ -81,6 +81,7 @@ fn is_at_start(story: &Story, obstacle: Obstacle) -> bool
 }
 
 /// The same of a story that has a listing.
+#[tactic(auto, using(crate::proofs::Telling::met_where_broken))]
 fn broken_in_listed(
     alloc: Global,
     story: &Story,
@@ -115,9 +116,9 @@ fn broken_in_listed(
 }
 
 /// What the checker says first of a certificate that says no more than any other.
-#[tactic(auto, using(crate::proofs::Telling::met_where_tried))]
+#[tactic(auto, using(crate::proofs::Telling::wrong_where_tried))]
 fn obstacle_for(story: &Story, certificate: Certificate) -> Result<Option<Obstacle>, FindError>
-    ensures told { IfOk result (λ obstacle. IfSome obstacle (IsMet story.now)) }
+    ensures told { IfOk result (λ obstacle. IfSome obstacle (IsWrongWith story.now certificate)) }
     ensures memory { IfErr result (λ error. error ≡ OutOfMemory) }
 {
     match tried(story, certificate) {
@@ -139,14 +140,14 @@ fn obstacle_in(error: FindError) -> Result<Option<Obstacle>, FindError>
 }
 
 /// The first rule that is broken, where more is to be found, and is broken by what was found alone.
-#[tactic(auto, using(crate::proofs::Telling::met_where_broken))]
+#[tactic(auto, using(crate::proofs::Telling::broken_where_listed))]
 fn certain_obstacle(
     story: &Story,
     code: &Code<'_>,
     walk: &Walk<'_, Interval>,
     certificate: &Certificate,
 ) -> Option<Obstacle>
-    ensures { IfSome result (IsMet story.now) }
+    ensures { IfSome result (IsBrokenIn story.now certificate.now) }
 {
     let tables = Tables::new(story, certificate.ranges());
     let mut ends = TextEnds::new(story.memory());

@@ -1,5 +1,5 @@
 -- What was read of files, as what is known of them.
-use Rattle.std.proofs.Common.{◌≡◌, ◌≢◌, ℕ, List, Option, Some, None, ◌+◌, ◌<◌, ◌∙◌, refl, sym, ap, subst, take, length, length-take, arith}
+use Rattle.std.proofs.Common.{◌≡◌, ◌≢◌, ℕ, Bool, List, Option, Some, None, ◌+◌, ◌<◌, ◌∙◌, refl, sym, ap, subst, take, length, length-take, arith}
 use Rattle.std.specs.Prelude.{IfOk, IfErr, IsErr, IsErrAnd, Result, Ok, Err}
 use Rattle.zstory.specs.LoadedStory.{LoadedStory}
 use Rattle.zperform.specs.declared.outcome.Failure.TheVariants.{File, Read, Write, Memory}
@@ -101,8 +101,8 @@ no_reason P problem (Ok x) none h e = absurd cc
 no_reason P problem (Err other) none h e = none (subst P (let is : other ≡ problem = cc in is) h)
 
 -- files that were read, and then nothing more of them
-pub read_on : {F : Type 0} (known : F → List ℕ → Option (List ℕ)) (failures : F → ℕ) (old new : F) (failed fails : Type 0) → ReadsUnless known failures old new failed → ¬ failed → ¬ fails → ReadsUnless known failures old new fails
-read_on known failures old new failed fails files well still = record { blamed = ((λ is. absurd (still is)), λ other. files.blamed.1 well); kept = files.kept }
+pub read_on : {F : Type 0} (known : F → List ℕ → Option (List ℕ)) (failures : F → ℕ) (can_fail : F → List ℕ → Bool) (old new : F) (failed fails : Type 0) → ReadsUnless known failures can_fail old new failed → ¬ failed → ¬ fails → ReadsUnless known failures can_fail old new fails
+read_on known failures can_fail old new failed fails files well still = record { blamed = ((λ is. absurd (still is)), λ other. files.blamed.1 well); kept = files.kept; alike = files.alike }
 
 -- bytes of which memory is wanted for a part are some
 part_has_bytes : (taken : List ℕ) → LeadsToPart interval_format taken → 0 < length taken

@@ -6,7 +6,7 @@ use Rattle.zplayer.specs.declared.end.End.{End}
 use Rattle.zplayer.specs.Outside.{Blames}
 use Rattle.zcommand.specs.CommandLine.{Asks, Request, zpc_app}
 use Rattle.zperform.specs.Devices.{Devices, FlushesUnless, Held, Seen, UsesUnless, seen, told}
-use Rattle.zperform.specs.Performing.{Comes, Explains, Performs, Reports, is_quiet, save_in, written_by}
+use Rattle.zperform.specs.Performing.{Comes, Explains, IsBlamed, Performs, Reports, is_quiet, save_in, written_by}
 use Rattle.zperform.specs.declared.outcome.Failure.TheVariants.{File, Read, Write}
 use Rattle.zperform.specs.Report.{outcome_of}
 use Rattle.zperform.specs.declared.outcome.Problem.{Problem}
@@ -35,12 +35,13 @@ writer_as_outcome failures waits old new r outcome problem is writer = record {
   flushed = λ other. writer.flushed (λ e. other (is ∙ ap outcome_of e));
 }
 
-pub files_as_outcome : {F : Type 0} (known : F → List ℕ → Option (List ℕ)) (failures : F → ℕ) (old new : F) (unsaved without unwritten : Type 0) (r : Result End Problem) (outcome : Outcome) (problem : Problem) → outcome ≡ outcome_of r → (without → unsaved) → (unwritten → unsaved)
-    → UsesUnless known failures old new unsaved unsaved (IsErrOf r problem) → UsesUnless known failures old new without unwritten (outcome ≡ Stopped problem)
-files_as_outcome known failures old new unsaved without unwritten r outcome problem is so alike files = record {
+pub files_as_outcome : {F : Type 0} (known : F → List ℕ → Option (List ℕ)) (failures : F → ℕ) (old new : F) (save saves writes : Option (List ℕ)) (r : Result End Problem) (outcome : Outcome) (problem : Problem) → outcome ≡ outcome_of r → saves ≡ save → writes ≡ save
+    → UsesUnless known failures old new save save (IsErrOf r problem) → UsesUnless known failures old new saves writes (outcome ≡ Stopped problem)
+files_as_outcome known failures old new save saves writes r outcome problem is so alike files = record {
   unread = λ e. files.unread (stopped_is r problem (sym is ∙ e));
-  unfailed = λ none other. files.unfailed (so none) (λ e. other (is ∙ ap outcome_of e));
-  kept = λ none. files.kept (alike none);
+  unfailed = λ none other. files.unfailed (sym so ∙ none) (λ e. other (is ∙ ap outcome_of e));
+  kept = λ none. files.kept (sym alike ∙ none);
+  spared = λ name other. files.spared name (λ e. other (alike ∙ e));
 }
 
 -- what is seen of a sink
@@ -56,15 +57,15 @@ module _ (words : List Text) (status : ℕ) (old new : Devices) (outcome : Outco
     (writer : FlushesUnless (λ (s : Seen). s.failures) (λ (s : Seen). s.waits) old.writer new.writer (outcome ≡ Stopped (Failed Write)))
     (reader : Blames (outcome ≡ Stopped (Failed Read)) old.reader.failures new.reader.failures)
     (reported : Reports outcome status old.errors new.errors) where
-  pub performs_request : (request : Request) → UsesUnless (λ (f : Held). f.known) (λ (f : Held). f.failures) old.files new.files (save_in request ≡ None) (written_by request ≡ None) (outcome ≡ Stopped (Failed File))
+  pub performs_request : (request : Request) → UsesUnless (λ (f : Held). f.known) (λ (f : Held). f.failures) old.files new.files (save_in request) (written_by request) (outcome ≡ Stopped (Failed File)) → (outcome ≡ Stopped (Failed File) → IsBlamed request old.files)
       → (is_quiet request ≡ true → new.reader ≡ old.reader) → Comes request old.files.known new.files.known old.reader.remaining old.writer.contents new.writer.contents outcome → IsSomeAnd (subcommand_of zpc_app words) (λ matches. Asks matches request)
       → Performs words status old new
-  performs_request request files unasked comes read = go (subcommand_of zpc_app words) refl read
+  performs_request request files could unasked comes read = go (subcommand_of zpc_app words) refl read
     where
       go : (o : Option (Text × List Row)) → subcommand_of zpc_app words ≡ o → IsSomeAnd o (λ matches. Asks matches request) → Performs words status old new
       go None e h = absurd h
       go (Some matches) e asks =
-          inl (record { matches = matches; named = e; request = request; asks = asks; outcome = outcome; comes = comes; writer = writer; files = files; reader = reader; unasked = unasked; reported = reported })
+          inl (record { matches = matches; named = e; request = request; asks = asks; outcome = outcome; comes = comes; writer = writer; files = files; could = could; reader = reader; unasked = unasked; reported = reported })
 
 -- what is told of a source that wasn't asked
 pub told_same : {R : Type 0} (remaining : R → Option (List ℕ)) (failures : R → ℕ) (old new : R) → new ≡ old → told remaining failures new ≡ told remaining failures old

@@ -1,5 +1,5 @@
 -- Values of the definitions, computed.
-use Rattle.std.proofs.Common.{◌≡◌, ◌<◌, inl, inr, ℕ, List, length, ap, [], ◌∷◌, ◌++◌, Bool, true, false, pos, codes, Err, refl, arith}
+use Rattle.std.proofs.Common.{◌≡◌, ◌<◌, inl, inr, ℕ, List, length, ap, [], ◌∷◌, ◌++◌, Bool, true, false, true≢false, pos, codes, Err, refl, sym, arith}
 use Rattle.std.specs.Fmt.{digits}
 use Rattle.clap.specs.declared.error.kind.ErrorKind.TheVariants.{DisplayHelp, DisplayVersion, UnknownArgument}
 use Rattle.zfault.specs.declared.fault.Fault.{Fault}
@@ -25,7 +25,8 @@ use Rattle.zperform.specs.declared.outcome.Failure.TheVariants.{File, Read, Writ
 use Rattle.zperform.specs.declared.outcome.Problem.TheVariants.{Refused, Unreadable, BreaksStory, BreaksInstruction, Unlisted, Unfound, Failed}
 use Rattle.zperform.specs.declared.outcome.Outcome.{Outcome}
 use Rattle.zperform.specs.declared.outcome.Outcome.TheVariants.{Listed, Found, Accepted, Explained, NoSuchCode, Played, Stopped}
-use Rattle.std.specs.Prelude.{◌≢◌, ◌⊎◌, ⊤, ℤ, negsuc, Option, None, Some, Result}
+use Rattle.std.specs.Prelude.{◌≢◌, ◌⊎◌, ⊤, ℤ, negsuc, Option, None, Some, Result, if◌then◌else◌}
+use Rattle.std.specs.Str.{bytes_eq}
 use Rattle.zcode.specs.declared.error.DecodeError.TheVariants.{NoSuchOpcode, Truncated}
 use Rattle.zcode.specs.declared.opcode.Opcode.{Opcode}
 use Rattle.zcode.specs.declared.opcode.Opcode.TheVariants as opcodes
@@ -35,11 +36,11 @@ use Rattle.zlist.specs.declared.list_error.ListError.TheVariants as listings
 use Rattle.zlist.specs.declared.record.Record.{Record}
 use Rattle.zperform.specs.Listing.{IsNoListing, listing_text}
 use Rattle.zperform.specs.Contents.{GivesPart, IsBeginning}
-use Rattle.zperform.specs.Accepting.{CheckComesTo, IsNoCertificate, IsPlayedBy, PlayComesTo, Stops}
+use Rattle.zperform.specs.Accepting.{CheckComesTo, HoldsStory, IsNoCertificate, IsPlayedBy, PlayComesTo, Stops}
 use Rattle.zcommand.specs.CommandLine.{ListStory, Find, Check, Play, Explain}
 use Rattle.zplayer.specs.World.{World}
 use Rattle.zperform.specs.Devices.{Breaks, Ends, FlushesUnless, Held, ReadsUnless, Says, Seen, Takes, UsesUnless}
-use Rattle.zperform.specs.Performing.{given, is_quiet, is_request, store_of, written_by}
+use Rattle.zperform.specs.Performing.{IsBlamed, given, is_quiet, is_request, store_of, written_by}
 use Rattle.zperform.specs.Finding.{HasAlone}
 use Rattle.zperform.specs.Playing.{ComesTo, Holds, IsPlayed, IsRefused}
 use Rattle.zperform.specs.declared.accepting.TheConstants.{CERTIFICATE_LIMIT, STORY_LIMIT}
@@ -265,20 +266,69 @@ through = (
     waits (inl e) = absurd cc
     waits (inr e) = absurd (let f = ap (λ (s : Seen). s.waits) e in cc)
 
-drawer : ℕ → Held
-drawer failures = record { known = λ name. None; failures = failures }
+-- files of which one has bytes, and one can fail
+drawer : ℕ → List ℕ → List ℕ → List ℕ → Held
+drawer failures name bytes weak = record { known = λ asked. if bytes_eq asked name then Some bytes else None; failures = failures; can_fail = λ asked. bytes_eq asked weak }
 
--- files fail in silence only where saves are kept in one
+-- files fail in silence only where saves are kept in one, and only that one is written
 used :
-    UsesUnless (λ (f : Held). f.known) (λ (f : Held). f.failures) (drawer 0) (drawer 3) ⊥ ⊤ ⊥ × (UsesUnless (λ (f : Held). f.known) (λ (f : Held). f.failures) (drawer 0) (drawer 1) ⊤ ⊤ ⊥ → ⊥)
-    × (ReadsUnless (λ (f : Held). f.known) (λ (f : Held). f.failures) (drawer 0) (drawer 0) ⊤ → ⊥) × (ReadsUnless (λ (f : Held). f.known) (λ (f : Held). f.failures) (drawer 0) (drawer 1) ⊥ → ⊥)
+    UsesUnless (λ (f : Held). f.known) (λ (f : Held). f.failures) (drawer 0 [] [] []) (drawer 3 [] [] []) (Some (7 ∷ [])) None ⊥
+    × (UsesUnless (λ (f : Held). f.known) (λ (f : Held). f.failures) (drawer 0 [] [] []) (drawer 1 [] [] []) None None ⊥ → ⊥)
+    × (UsesUnless (λ (f : Held). f.known) (λ (f : Held). f.failures) (drawer 0 (5 ∷ []) (1 ∷ []) []) (drawer 0 (5 ∷ []) (2 ∷ []) []) (Some (7 ∷ [])) (Some (7 ∷ [])) ⊥ → ⊥)
+    × (ReadsUnless (λ (f : Held). f.known) (λ (f : Held). f.failures) (λ (f : Held). f.can_fail) (drawer 0 [] [] []) (drawer 0 [] [] []) ⊤ → ⊥)
+    × (ReadsUnless (λ (f : Held). f.known) (λ (f : Held). f.failures) (λ (f : Held). f.can_fail) (drawer 0 [] [] []) (drawer 1 [] [] []) ⊥ → ⊥)
 unfolding drawer
 used = (
-  record { unread = λ fails. absurd fails; unfailed = λ none. absurd none; kept = λ none. refl },
-  λ files. omega (arith, files.unfailed tt (λ fails. fails)),
+  record { unread = λ fails. absurd fails; unfailed = λ none. absurd cc; kept = λ none. refl; spared = λ other another. refl },
+  λ files. omega (arith, files.unfailed refl (λ fails. fails)),
+  λ files. changed (files.spared (5 ∷ []) other),
   λ files. omega (arith, files.blamed.0 tt),
   λ files. omega (arith, files.blamed.1 (λ fails. fails)),
 )
+  where
+    other : ◌≢◌ {A = Option (List ℕ)} (Some (7 ∷ [])) (Some (5 ∷ []))
+    other e = absurd cc
+
+    changed : ◌≡◌ {A = Option (List ℕ)} (Some (2 ∷ [])) (Some (1 ∷ [])) → ⊥
+    changed e = absurd cc
+
+-- a failure is of the story's file, or of the other that a request names once there is a story; of no file that it doesn't name
+blamed :
+    IsBlamed (ListStory (5 ∷ [])) (drawer 0 [] [] (5 ∷ [])) × (IsBlamed (ListStory (5 ∷ [])) (drawer 0 [] [] (6 ∷ [])) → ⊥)
+    × IsBlamed (Play (5 ∷ []) None 1 100 false (Some (6 ∷ []))) (drawer 0 [] [] (5 ∷ [])) × (IsBlamed (Play (5 ∷ []) None 1 100 false (Some (6 ∷ []))) (drawer 0 [] [] (6 ∷ [])) → ⊥)
+    × IsBlamed (Check (5 ∷ []) (6 ∷ [])) (drawer 0 [] [] (5 ∷ [])) × (IsBlamed (Check (5 ∷ []) (6 ∷ [])) (drawer 0 (5 ∷ []) [] (6 ∷ [])) → ⊥) × (IsBlamed (Check (5 ∷ []) (6 ∷ [])) (drawer 0 [] [] (7 ∷ [])) → ⊥)
+    × IsBlamed (Play (5 ∷ []) (Some (6 ∷ [])) 1 100 false None) (drawer 0 [] [] (5 ∷ [])) × (IsBlamed (Play (5 ∷ []) (Some (6 ∷ [])) 1 100 false None) (drawer 0 (5 ∷ []) [] (6 ∷ [])) → ⊥)
+    × IsBlamed (Find (5 ∷ []) (6 ∷ [])) (drawer 0 [] [] (5 ∷ [])) × (IsBlamed (Find (5 ∷ []) (6 ∷ [])) (drawer 0 (5 ∷ []) [] (6 ∷ [])) → ⊥) × (IsBlamed (Explain (5 ∷ [])) (drawer 0 [] [] (5 ∷ [])) → ⊥)
+unfolding drawer
+blamed = (
+  refl,
+  λ e. true≢false (sym e),
+  refl,
+  λ e. true≢false (sym e),
+  inl refl,
+  of_none,
+  of_another,
+  inl refl,
+  of_none,
+  inl refl,
+  of_none_found,
+  λ no. no,
+)
+  where
+    empty_holds_none : (story : LoadedStory) → HoldsStory (Some []) story → ⊥
+    empty_holds_none story held = omega (arith, story_bytes (Some []) story held)
+
+    of_none : IsBlamed (Check (5 ∷ []) (6 ∷ [])) (drawer 0 (5 ∷ []) [] (6 ∷ [])) → ⊥
+    of_none (inl e) = true≢false (sym e)
+    of_none (inr ((story, held), e)) = empty_holds_none story held
+
+    of_another : IsBlamed (Check (5 ∷ []) (6 ∷ [])) (drawer 0 [] [] (7 ∷ [])) → ⊥
+    of_another (inl e) = true≢false (sym e)
+    of_another (inr (held, e)) = true≢false (sym e)
+
+    of_none_found : IsBlamed (Find (5 ∷ []) (6 ∷ [])) (drawer 0 (5 ∷ []) [] (6 ∷ [])) → ⊥
+    of_none_found (inl e) = true≢false (sym e)
+    of_none_found (inr ((bytes, (story, held, found)), e)) = empty_holds_none story held
 
 -- for an empty story's file memory is never wanted, nor is it listed
 unlisted_empty : IsNoListing (Some []) (Failed Memory) → ⊥

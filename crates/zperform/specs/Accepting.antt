@@ -1,5 +1,5 @@
 -- What the files of a story and of a certificate come to (own).
-use Rattle.std.specs.Prelude.{◌≡◌, ◌≢◌, ◌⊎◌, ⊤, ℕ, ℤ, ◌++◌, ◌∷◌, [], List, Option, Result, Ok, Err, IfOk, codes}
+use Rattle.std.specs.Prelude.{◌≡◌, ◌≢◌, ◌⊎◌, ⊤, ℕ, ℤ, true, ◌++◌, ◌∷◌, [], List, Option, Result, Ok, Err, IfOk, codes}
 use Rattle.std.specs.Io.KnownBytes.{Appends}
 use Rattle.zfault.specs.Devices.{AppendsBeginning}
 use Rattle.zfault.specs.declared.fault.Fault.{Fault}
@@ -25,6 +25,7 @@ use Rattle.zcheck.specs.Acceptance.{Acceptance, IsListingOf}
 use Rattle.zcheck.specs.Passes.{IsCause, Passes}
 use Rattle.zcheck.specs.declared.refusal.Refusal.TheVariants.{Story, Instruction}
 use Rattle.zperform.specs.Contents.{HasBytes}
+use Rattle.zperform.specs.Devices.{Held}
 use Rattle.zperform.specs.declared.outcome.Failure.TheVariants.{File, Read, Write, Memory}
 use Rattle.zperform.specs.declared.outcome.Problem.{Problem}
 use Rattle.zperform.specs.declared.outcome.Problem.TheVariants.{Refused, Unreadable, BreaksStory, BreaksInstruction, Unlisted, Unfound, Failed}
@@ -98,6 +99,10 @@ IsUnaccepted story_known certificate_known (Failed File) = ⊤
 IsUnaccepted story_known certificate_known (Failed Memory) = HasBytes story_known
 IsUnaccepted story_known certificate_known (Failed Read) = ⊥
 IsUnaccepted story_known certificate_known (Failed Write) = ⊥
+
+-- which file a failure is of: the story's, or the certificate's, which is read once there is a story
+abbrev pub IsOfEither : Held → List ℕ → List ℕ → Type 0
+IsOfEither files story certificate = (files.can_fail story ≡ true) ⊎ (((loaded : LoadedStory) × HoldsStory (files.known story) loaded) × (files.can_fail certificate ≡ true))
 
 -- What a problem that stops a command says: where writing failed, this was begun; else why, and that nothing was written.
 abbrev pub Stops : Type 0 → (Problem → Type 0) → Option (List ℕ) → Option (List ℕ) → Problem → Type 0

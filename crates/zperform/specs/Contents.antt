@@ -1,5 +1,5 @@
 -- What a file that is known gives (own).
-use Rattle.std.specs.Prelude.{◌≡◌, ℕ, ◌-◌, ◌<◌, ◌≤◌, List, length, take, drop, Option, Some, None, IfSome, MatchOption, ⊤}
+use Rattle.std.specs.Prelude.{◌≡◌, ◌≢◌, ℕ, ◌-◌, ◌<◌, ◌≤◌, List, length, take, drop, Option, Some, None, IfSome, MatchOption, ⊤}
 use Rattle.zfault.specs.Devices.{RisesByOne}
 
 -- so many bytes of the file, from a place on, were put to the front of the buffer: none only at the end of the file
@@ -20,6 +20,10 @@ CountsNone old new answer = MatchOption answer (RisesByOne old new) (λ _. new �
 -- these bytes are the first of the file
 abbrev pub IsBeginning : List ℕ → List ℕ → Type 0
 IsBeginning part file = part ≡ take (length part) file
+
+-- no file but the one of this name has other bytes than before
+abbrev pub SparesOthers : List ℕ → (List ℕ → Option (List ℕ)) → (List ℕ → Option (List ℕ)) → Type 0
+SparesOthers name held holds = (other : List ℕ) → other ≢ name → holds other ≡ held other
 
 -- there is a byte in the file of a name, where its bytes are known
 abbrev pub HasBytes : Option (List ℕ) → Type 0

@@ -1,5 +1,5 @@
 -- What is seen of devices, and what calls say of those that they use (own).
-use Rattle.std.specs.Prelude.{◌≡◌, ◌⊎◌, ℕ, Bool, false, List, [], ◌∷◌, Option, MatchResult, Result}
+use Rattle.std.specs.Prelude.{◌≡◌, ◌≢◌, ◌⊎◌, ℕ, Bool, false, List, [], ◌∷◌, Option, None, Some, MatchResult, Result}
 use Rattle.std.specs.Io.KnownBytes.{Appends}
 use Rattle.zfault.specs.Devices.{AppendsBeginning, RisesByOne}
 use Rattle.zplayer.specs.Outside.{Blames}
@@ -27,13 +27,14 @@ pub record Told : Type 0 where
 abbrev pub told : {Source : Type 0} → (Source → Option (List ℕ)) → (Source → ℕ) → Source → Told
 told remaining failures source = record { remaining = remaining source; failures = failures source }
 
--- what is told of files: the bytes of each, by its name, where they are known, and their count of failures
+-- what is told of files: the bytes of each, by its name, where they are known, their count of failures, and which can fail
 pub record Held : Type 0 where
   pub known : List ℕ → Option (List ℕ)
   pub failures : ℕ
+  pub can_fail : List ℕ → Bool
 
-abbrev pub held : {Files : Type 0} → (Files → List ℕ → Option (List ℕ)) → (Files → ℕ) → Files → Held
-held known failures files = record { known = known files; failures = failures files }
+abbrev pub held : {Files : Type 0} → (Files → List ℕ → Option (List ℕ)) → (Files → ℕ) → (Files → List ℕ → Bool) → Files → Held
+held known failures can_fail files = record { known = known files; failures = failures files; can_fail = can_fail files }
 
 -- the files, the reader, the writer, and the errors
 pub record Devices : Type 0 where
@@ -52,17 +53,19 @@ pub record FlushesUnless {W : Type 0} (failures : W → ℕ) (waits : W → Bool
   pub blamed : Blames fails (failures old) (failures new)
   pub flushed : ¬ fails → (waits new ≡ false) ⊎ (new ≡ old)
 
--- files are blamed just where reading one fails, and each has the bytes that it had
-pub record ReadsUnless {F : Type 0} (known : F → List ℕ → Option (List ℕ)) (failures : F → ℕ) (old new : F) (fails : Type 0) : Type 0 where
+-- files are blamed just where reading one fails, and each has the bytes that it had, and can fail where it could
+pub record ReadsUnless {F : Type 0} (known : F → List ℕ → Option (List ℕ)) (failures : F → ℕ) (can_fail : F → List ℕ → Bool) (old new : F) (fails : Type 0) : Type 0 where
   pub blamed : Blames fails (failures old) (failures new)
   pub kept : known new ≡ known old
+  pub alike : can_fail new ≡ can_fail old
 
 -- Files are blamed where this fails, and nowhere else while none is for saves: with one, they may fail and a play goes on. Each has the
--- bytes that it had while none is written.
-pub record UsesUnless {F : Type 0} (known : F → List ℕ → Option (List ℕ)) (failures : F → ℕ) (old new : F) (unsaved unwritten fails : Type 0) : Type 0 where
+-- bytes that it had, but the one that may be written.
+pub record UsesUnless {F : Type 0} (known : F → List ℕ → Option (List ℕ)) (failures : F → ℕ) (old new : F) (saves writes : Option (List ℕ)) (fails : Type 0) : Type 0 where
   pub unread : fails → RisesByOne (failures old) (failures new)
-  pub unfailed : unsaved → ¬ fails → failures new ≡ failures old
-  pub kept : unwritten → known new ≡ known old
+  pub unfailed : saves ≡ None → ¬ fails → failures new ≡ failures old
+  pub kept : writes ≡ None → known new ≡ known old
+  pub spared : (other : List ℕ) → writes ≢ Some other → known new other ≡ known old other
 
 -- ---- texts that are written
 

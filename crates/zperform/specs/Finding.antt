@@ -1,5 +1,5 @@
 -- What finding a certificate of a story file comes to, and what explaining a code does (own).
-use Rattle.std.specs.Prelude.{◌≡◌, ◌≢◌, ⊤, ℕ, ◌++◌, List, [], ◌∷◌, Option, None, Some, IfSome, codes}
+use Rattle.std.specs.Prelude.{◌≡◌, ◌≢◌, ◌⊎◌, ⊤, ℕ, true, ◌++◌, List, [], ◌∷◌, Option, None, Some, IfSome, codes}
 use Rattle.std.specs.Io.KnownBytes.{Appends}
 use Rattle.zfault.specs.Devices.{AppendsBeginning}
 use Rattle.zstory.specs.LoadedStory.{LoadedStory}
@@ -12,6 +12,8 @@ use Rattle.zcheck.specs.Passes.{Passes}
 use Rattle.zfind.specs.Finding.{IsFailure, IsTold}
 use Rattle.zfind.specs.declared.error.FindError.TheVariants.{OutOfMemory as NoMemoryToFind}
 use Rattle.zexplain.specs.Texts.{explanation_of}
+use Rattle.zperform.specs.Contents.{SparesOthers}
+use Rattle.zperform.specs.Devices.{Held}
 use Rattle.zperform.specs.Accepting.{HoldsSuch, IsWhyNone, Stops}
 use Rattle.zperform.specs.declared.outcome.Failure.TheVariants.{File, Write, Memory}
 use Rattle.zperform.specs.declared.outcome.Problem.{Problem}
@@ -59,7 +61,11 @@ FindEnds story certificate held holds before now outcome = ⊥
 -- and no other file changes
 pub record FindComesTo (story certificate : List ℕ) (held holds : List ℕ → Option (List ℕ)) (before now : Option (List ℕ)) (outcome : Outcome) : Type 0 where
   pub ends : FindEnds story certificate held holds before now outcome
-  pub spared : (name : List ℕ) → name ≢ certificate → holds name ≡ held name
+  pub spared : SparesOthers certificate held holds
+
+-- which file a failure is of: the story's, or the one that a certificate was to be written to
+abbrev pub IsOfStoryOrFound : Held → List ℕ → List ℕ → Type 0
+IsOfStoryOrFound files story certificate = (files.can_fail story ≡ true) ⊎ (((bytes : List ℕ) × IsFound (files.known story) bytes) × (files.can_fail certificate ≡ true))
 
 -- What explaining a code comes to, with what the writer took before and has taken now: its text is written, if it is one.
 abbrev pub ExplainComesTo : List ℕ → Option (List ℕ) → Option (List ℕ) → Outcome → Type 0

@@ -9,8 +9,8 @@ use Rattle.zplayer.specs.Outside.{Blames, words_of}
 use Rattle.zplayer.specs.World.{Store, World, world}
 use Rattle.zperform.specs.Devices.{Breaks, Devices, FlushesUnless, Held, Says, Seen, Takes, UsesUnless}
 use Rattle.zperform.specs.Playing.{ComesTo}
-use Rattle.zperform.specs.Accepting.{CheckComesTo, PlayComesTo}
-use Rattle.zperform.specs.Finding.{ExplainComesTo, FindComesTo}
+use Rattle.zperform.specs.Accepting.{CheckComesTo, IsOfEither, PlayComesTo}
+use Rattle.zperform.specs.Finding.{ExplainComesTo, FindComesTo, IsOfStoryOrFound}
 use Rattle.zperform.specs.Listing.{ListComesTo}
 use Rattle.zperform.specs.Report.{line_of, status_of, text_of}
 use Rattle.zperform.specs.declared.outcome.Failure.TheVariants.{File, Read, Write, Memory}
@@ -91,9 +91,19 @@ abbrev pub written_by : Request → Option Text
 written_by (Find story certificate) = Some certificate
 written_by request = save_in request
 
+-- which file a failure of files is of, by what is asked for
+abbrev pub IsBlamed : Request → Held → Type 0
+IsBlamed (ListStory story) files = files.can_fail story ≡ true
+IsBlamed (Find story certificate) files = IsOfStoryOrFound files story certificate
+IsBlamed (Check story certificate) files = IsOfEither files story certificate
+IsBlamed (Play story None seed budget status save) files = files.can_fail story ≡ true
+IsBlamed (Play story (Some certificate) seed budget status save) files = IsOfEither files story certificate
+IsBlamed (Explain code) files = ⊥
+
 -- A request, with the values among clap's matches: what it comes to is reported. The writer is blamed just where it failed, and
 -- so are the reader, which isn't asked but for a play, and the files, unless saves are kept in one: then they may fail, and the play goes
--- on. No file is written but for saves. What was written is flushed unless the writer failed.
+-- on. A failure of files is one of a file that the request names. No file is written but the one for saves or for a certificate that is
+-- found. What was written is flushed unless the writer failed.
 pub record Does (words : List Text) (status : ℕ) (old new : Devices) : Type 0 where
   pub matches : Text × List Row
   pub named : subcommand_of zpc_app words ≡ Some matches
@@ -102,7 +112,8 @@ pub record Does (words : List Text) (status : ℕ) (old new : Devices) : Type 0 
   pub outcome : Outcome
   pub comes : Comes request old.files.known new.files.known old.reader.remaining old.writer.contents new.writer.contents outcome
   pub writer : FlushesUnless (λ (s : Seen). s.failures) (λ (s : Seen). s.waits) old.writer new.writer (outcome ≡ Stopped (Failed Write))
-  pub files : UsesUnless (λ (f : Held). f.known) (λ (f : Held). f.failures) old.files new.files (save_in request ≡ None) (written_by request ≡ None) (outcome ≡ Stopped (Failed File))
+  pub files : UsesUnless (λ (f : Held). f.known) (λ (f : Held). f.failures) old.files new.files (save_in request) (written_by request) (outcome ≡ Stopped (Failed File))
+  pub could : outcome ≡ Stopped (Failed File) → IsBlamed request old.files
   pub reader : Blames (outcome ≡ Stopped (Failed Read)) old.reader.failures new.reader.failures
   pub unasked : is_quiet request ≡ true → new.reader ≡ old.reader
   pub reported : Reports outcome status old.errors new.errors

@@ -1,9 +1,9 @@
 //! Stories and certificates from files.
 
-ghost use Rattle.std.specs.Prelude.{◌≡◌, Ok, IfErr, IfOk, IsErrOf};
-ghost use Rattle.zperform.specs.Devices.{ReadsUnless};
+ghost use Rattle.std.specs.Prelude.{◌≡◌, true, Ok, IfErr, IfOk, IsErrOf};
+ghost use Rattle.zperform.specs.Devices.{ReadsUnless, held};
 ghost use Rattle.zperform.specs.Playing.{Holds, IsUnloaded};
-ghost use Rattle.zperform.specs.Accepting.{HoldsCertificate, HoldsStory, IsAccepted, IsNoCertificate, IsNoStory, IsUnaccepted, IsUnreadable};
+ghost use Rattle.zperform.specs.Accepting.{HoldsCertificate, HoldsStory, IsAccepted, IsNoCertificate, IsNoStory, IsOfEither, IsUnaccepted, IsUnreadable};
 ghost use Rattle.zcert.specs.Format.{interval_format};
 ghost use Rattle.zcert.specs.Reading.{reading};
 
@@ -30,7 +30,8 @@ pub fn accept<F: Files>(
 ) -> Result<Accepted, Problem>
     ensures accepted { IfOk result (IsAccepted (F.known files.old story.now) (F.known files.old certificate.now)) }
     ensures refused { IfErr result (IsUnaccepted (F.known files.old story.now) (F.known files.old certificate.now)) }
-    ensures files { ReadsUnless F.known F.failures files.old files.new (IsErrOf result (Problem.Failed Failure.File)) }
+    ensures files { ReadsUnless F.known F.failures F.can_fail files.old files.new (IsErrOf result (Problem.Failed Failure.File)) }
+    ensures could { IsErrOf result (Problem.Failed Failure.File) → IsOfEither (held F.known F.failures F.can_fail files.old) story.now certificate.now }
 {
     let story = open_story(alloc, story, files)?;
     let certificate = open_certificate(alloc, certificate, files)?;
@@ -41,7 +42,8 @@ pub fn accept<F: Files>(
 pub fn open_story<F: Files>(alloc: Global, name: &str, files: &mut F) -> Result<Story, Problem>
     ensures held { IfOk result (HoldsStory (F.known files.old name.now)) }
     ensures refused { IfErr result (IsNoStory (F.known files.old name.now)) }
-    ensures files { ReadsUnless F.known F.failures files.old files.new (IsErrOf result (Problem.Failed Failure.File)) }
+    ensures files { ReadsUnless F.known F.failures F.can_fail files.old files.new (IsErrOf result (Problem.Failed Failure.File)) }
+    ensures could { IsErrOf result (Problem.Failed Failure.File) → F.can_fail files.old name.now ≡ true }
 {
     let file = read_file(alloc, files, name, STORY_LIMIT)?;
     load(alloc, file)
@@ -63,7 +65,8 @@ fn open_certificate<F: Files>(
 ) -> Result<Certificate, Problem>
     ensures held { IfOk result (HoldsCertificate (F.known files.old name.now)) }
     ensures refused { IfErr result (IsNoCertificate (F.known files.old name.now)) }
-    ensures files { ReadsUnless F.known F.failures files.old files.new (IsErrOf result (Problem.Failed Failure.File)) }
+    ensures files { ReadsUnless F.known F.failures F.can_fail files.old files.new (IsErrOf result (Problem.Failed Failure.File)) }
+    ensures could { IsErrOf result (Problem.Failed Failure.File) → F.can_fail files.old name.now ≡ true }
 {
     largest_decides();
     let file = read_file(alloc, files, name, CERTIFICATE_LIMIT)?;

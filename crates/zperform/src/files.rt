@@ -1,9 +1,9 @@
 //! The files that commands name.
 
-ghost use Rattle.std.specs.Prelude.{◌≡◌, ◌≢◌, ◌<◌, ◌≤◌, ◌+◌, ℕ, true, false, List, None, Option, ◌⊎◌, Ok, Err, IfErr, IfOk, IfSome, IsErrOf, OnOk, Some, length, take, vec_len};
+ghost use Rattle.std.specs.Prelude.{◌≡◌, ◌<◌, ◌≤◌, ◌+◌, ℕ, Bool, true, false, List, None, Option, ◌⊎◌, Ok, Err, IfErr, IfOk, IfSome, IsErrOf, OnOk, Some, length, take, vec_len};
 ghost use Rattle.zfault.specs.Devices.{RisesByOne};
 ghost use Rattle.zplayer.specs.Outside.{CountsRefusal};
-ghost use Rattle.zperform.specs.Contents.{CountsNone, HasBytes, IsBeginning, ReadsPart};
+ghost use Rattle.zperform.specs.Contents.{CountsNone, HasBytes, IsBeginning, ReadsPart, SparesOthers};
 ghost use Rattle.zperform.specs.Devices.{ReadsUnless};
 ghost use Rattle.zperform.specs.Finding.{HasAlone};
 
@@ -29,19 +29,26 @@ pub trait Files {
     /// How often a call failed so far, a `u64` that stays at its last value.
     ghost failures: { Self → ℕ };
 
+    /// Whether a call on the file of a name can fail.
+    ghost can_fail: { Self → List ℕ → Bool } = { λ _ _. true };
+
     /// Reads bytes of a file, from a place on, to the front of the buffer and answers how many: 0 of a buffer with room
     /// is the end of the file. `None` where it failed, and only then the count of failures rises, by one.
     fn read_at(&mut self, name: &str, from: u64, buffer: &mut [u8]) -> Option<usize>
         ensures bound { IfSome result (λ count. count ≤ length buffer.new) }
         ensures bytes { IfSome result (λ count. ReadsPart (known self.old name.now) from count buffer.new) }
         ensures kept { known self.new ≡ known self.old }
-        ensures counts { CountsNone (failures self.old) (failures self.new) result };
+        ensures counts { CountsNone (failures self.old) (failures self.new) result }
+        ensures could { result ≡ None → can_fail self.old name.now ≡ true }
+        ensures alike { can_fail self.new ≡ can_fail self.old };
 
     /// Makes a file that has these bytes alone. False where it failed, and only then the count of failures rises, by one.
     fn put(&mut self, name: &str, bytes: &[u8]) -> bool
         ensures whole { result ≡ true → HasAlone bytes.now (known self.new name.now) }
-        ensures spared { (other : List ℕ) → other ≢ name.now → known self.new other ≡ known self.old other }
-        ensures counts { CountsRefusal (failures self.old) (failures self.new) result };
+        ensures spared { SparesOthers name.now (known self.old) (known self.new) }
+        ensures counts { CountsRefusal (failures self.old) (failures self.new) result }
+        ensures could { result ≡ false → can_fail self.old name.now ≡ true }
+        ensures alike { can_fail self.new ≡ can_fail self.old };
 }
 
 /// A file that is open, and how far it was read.
@@ -183,7 +190,8 @@ pub fn read_file<F: Files>(
     ensures read { (bytes : List ℕ) → F.known files.old name.now ≡ Some bytes → IfOk result (λ file. file.items ≡ take most bytes) }
     ensures failed { IfErr result (λ problem. (problem ≡ Problem.Failed Failure.File) ⊎ (problem ≡ Problem.Failed Failure.Memory)) }
     ensures wanted { result ≡ Err (Problem.Failed Failure.Memory) → HasBytes (F.known files.old name.now) }
-    ensures files { ReadsUnless F.known F.failures files.old files.new (IsErrOf result (Problem.Failed Failure.File)) }
+    ensures files { ReadsUnless F.known F.failures F.can_fail files.old files.new (IsErrOf result (Problem.Failed Failure.File)) }
+    ensures could { IsErrOf result (Problem.Failed Failure.File) → F.can_fail files.old name.now ≡ true }
 {
     let mut file = Vec::new(alloc);
     'pieces: while read_more(files, name, &mut file, most)? {}
@@ -205,7 +213,8 @@ fn read_more<F: Files>(
     ensures whole { (bytes : List ℕ) → F.known files.old name.now ≡ Some bytes → IsBeginning file.old.items bytes → result ≡ Ok false → file.new.items ≡ take most bytes }
     ensures failed { IfErr result (λ problem. (problem ≡ Problem.Failed Failure.File) ⊎ (problem ≡ Problem.Failed Failure.Memory)) }
     ensures wanted { result ≡ Err (Problem.Failed Failure.Memory) → HasBytes (F.known files.old name.now) }
-    ensures files { ReadsUnless F.known F.failures files.old files.new (IsErrOf result (Problem.Failed Failure.File)) }
+    ensures files { ReadsUnless F.known F.failures F.can_fail files.old files.new (IsErrOf result (Problem.Failed Failure.File)) }
+    ensures could { IsErrOf result (Problem.Failed Failure.File) → F.can_fail files.old name.now ≡ true }
 {
     let at = file.len();
     if at == most {

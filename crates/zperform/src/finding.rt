@@ -1,10 +1,10 @@
 //! Certificates found for a story's file, and codes explained.
 
-ghost use Rattle.std.specs.Prelude.{◌≡◌, ◌≢◌, IfErr, IfOk, IsErrOf};
+ghost use Rattle.std.specs.Prelude.{◌≡◌, ◌≢◌, true, IfErr, IfOk, IsErrOf};
 ghost use Rattle.zfind.specs.Finding.{IsFailure};
 ghost use Rattle.zplayer.specs.Outside.{Blames};
-ghost use Rattle.zperform.specs.Devices.{FlushesUnless, ReadsUnless};
-ghost use Rattle.zperform.specs.Finding.{ExplainComesTo, FindComesTo, IsCertificateOf, IsFound, IsNotFound, IsUnfound};
+ghost use Rattle.zperform.specs.Devices.{FlushesUnless, ReadsUnless, held};
+ghost use Rattle.zperform.specs.Finding.{ExplainComesTo, FindComesTo, IsCertificateOf, IsFound, IsNotFound, IsOfStoryOrFound, IsUnfound};
 
 use crate::accepting::open_story;
 use crate::files::Files;
@@ -30,6 +30,7 @@ pub fn find_file<F: Files, W: Sink>(
     ensures comes { FindComesTo story.now certificate.now (F.known files.old) (F.known files.new) (W.contents writer.old) (W.contents writer.new) result }
     ensures writer { FlushesUnless W.failures W.waits writer.old writer.new (result ≡ Outcome.Stopped (Problem.Failed Failure.Write)) }
     ensures files { Blames (result ≡ Outcome.Stopped (Problem.Failed Failure.File)) (F.failures files.old) (F.failures files.new) }
+    ensures could { result ≡ Outcome.Stopped (Problem.Failed Failure.File) → IsOfStoryOrFound (held F.known F.failures F.can_fail files.old) story.now certificate.now }
 {
     let bytes = match certificate_of(alloc, story, files) {
         Ok(bytes) => bytes,
@@ -45,7 +46,8 @@ pub fn find_file<F: Files, W: Sink>(
 fn certificate_of<F: Files>(alloc: Global, name: &str, files: &mut F) -> Result<Vec<u8>, Problem>
     ensures found { IfOk result (λ bytes. IsFound (F.known files.old name.now) bytes.items) }
     ensures refused { IfErr result (IsNotFound (F.known files.old name.now)) }
-    ensures files { ReadsUnless F.known F.failures files.old files.new (IsErrOf result (Problem.Failed Failure.File)) }
+    ensures files { ReadsUnless F.known F.failures F.can_fail files.old files.new (IsErrOf result (Problem.Failed Failure.File)) }
+    ensures could { IsErrOf result (Problem.Failed Failure.File) → F.can_fail files.old name.now ≡ true }
     ensures unwritten { ¬ IsErrOf result (Problem.Failed Failure.Write) }
 {
     let story = open_story(alloc, name, files)?;

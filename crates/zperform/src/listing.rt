@@ -1,6 +1,6 @@
 //! The listing of a story's file, as lines.
 
-ghost use Rattle.std.specs.Prelude.{◌≡◌, ◌++◌, IfErr, IfOk, IsErrOf, pos};
+ghost use Rattle.std.specs.Prelude.{◌≡◌, ◌++◌, true, IfErr, IfOk, IsErrOf, pos};
 ghost use Rattle.zperform.specs.Devices.{FlushesUnless, ReadsUnless};
 ghost use Rattle.zperform.specs.Listing.{HoldsListed, IsListedAs, IsNoListing, IsUnlisted, ListComesTo, listing_text, record_line};
 ghost use Rattle.zperform.specs.Report.{place_text};
@@ -25,7 +25,8 @@ pub fn list_file<F: Files, W: Sink>(
 ) -> Outcome
     ensures comes { ListComesTo (F.known files.old story.now) (W.contents writer.old) (W.contents writer.new) result }
     ensures writer { FlushesUnless W.failures W.waits writer.old writer.new (result ≡ Outcome.Stopped (Problem.Failed Failure.Write)) }
-    ensures files { ReadsUnless F.known F.failures files.old files.new (result ≡ Outcome.Stopped (Problem.Failed Failure.File)) }
+    ensures files { ReadsUnless F.known F.failures F.can_fail files.old files.new (result ≡ Outcome.Stopped (Problem.Failed Failure.File)) }
+    ensures could { result ≡ Outcome.Stopped (Problem.Failed Failure.File) → F.can_fail files.old story.now ≡ true }
 {
     match listing_of(alloc, story, files) {
         Ok(text) => write_done(&text, Outcome::Listed, writer),
@@ -37,7 +38,8 @@ pub fn list_file<F: Files, W: Sink>(
 fn listing_of<F: Files>(alloc: Global, name: &str, files: &mut F) -> Result<Vec<u8>, Problem>
     ensures listed { IfOk result (λ text. HoldsListed (F.known files.old name.now) text.items) }
     ensures refused { IfErr result (IsNoListing (F.known files.old name.now)) }
-    ensures files { ReadsUnless F.known F.failures files.old files.new (IsErrOf result (Problem.Failed Failure.File)) }
+    ensures files { ReadsUnless F.known F.failures F.can_fail files.old files.new (IsErrOf result (Problem.Failed Failure.File)) }
+    ensures could { IsErrOf result (Problem.Failed Failure.File) → F.can_fail files.old name.now ≡ true }
     ensures unwritten { ¬ IsErrOf result (Problem.Failed Failure.Write) }
 {
     let story = open_story(alloc, name, files)?;

@@ -7,9 +7,9 @@ ghost use Rattle.clap.specs.Words.{fault_of};
 ghost use Rattle.zcommand.specs.CommandLine.{request_of, zpc_app};
 ghost use Rattle.zplayer.specs.Outside.{Blames};
 ghost use Rattle.zplayer.specs.World.{told as told_store};
-ghost use Rattle.zperform.specs.Accepting.{CheckComesTo, IsAccepted, PlayComesTo};
+ghost use Rattle.zperform.specs.Accepting.{CheckComesTo, IsAccepted, IsOfEither, PlayComesTo};
 ghost use Rattle.zperform.specs.Devices.{Ends, FlushesUnless, Held, ReadsUnless, Says, Told, UsesUnless, Writes, devices, held, seen, told};
-ghost use Rattle.zperform.specs.Performing.{Comes, Explains, Performs, given, is_quiet, save_in, store_of, written_by};
+ghost use Rattle.zperform.specs.Performing.{Comes, Explains, IsBlamed, Performs, given, is_quiet, save_in, store_of, written_by};
 ghost use Rattle.zperform.specs.Playing.{ComesTo, Holds};
 ghost use Rattle.zperform.specs.Report.{failure_text, line_of, no_text, outcome_of, status_of, text_of};
 
@@ -58,8 +58,8 @@ pub fn perform<F: Files, R: Source, W: Sink, E: Sink>(
     writer: &mut W,
     errors: &mut E,
 ) -> u8
-    ensures performs { fault_of zpc_app (texts words.entry.now) ≡ [] → Performs (texts words.entry.now) result (devices (held F.known F.failures files.old) (told R.remaining R.failures reader.old) (seen W.contents W.failures W.waits writer.old) (seen E.contents E.failures E.waits errors.old)) (devices (held F.known F.failures files.new) (told R.remaining R.failures reader.new) (seen W.contents W.failures W.waits writer.new) (seen E.contents E.failures E.waits errors.new)) }
-    ensures explains { fault_of zpc_app (texts words.entry.now) ≢ [] → Explains (fault_of zpc_app (texts words.entry.now)) result (devices (held F.known F.failures files.old) (told R.remaining R.failures reader.old) (seen W.contents W.failures W.waits writer.old) (seen E.contents E.failures E.waits errors.old)) (devices (held F.known F.failures files.new) (told R.remaining R.failures reader.new) (seen W.contents W.failures W.waits writer.new) (seen E.contents E.failures E.waits errors.new)) }
+    ensures performs { fault_of zpc_app (texts words.entry.now) ≡ [] → Performs (texts words.entry.now) result (devices (held F.known F.failures F.can_fail files.old) (told R.remaining R.failures reader.old) (seen W.contents W.failures W.waits writer.old) (seen E.contents E.failures E.waits errors.old)) (devices (held F.known F.failures F.can_fail files.new) (told R.remaining R.failures reader.new) (seen W.contents W.failures W.waits writer.new) (seen E.contents E.failures E.waits errors.new)) }
+    ensures explains { fault_of zpc_app (texts words.entry.now) ≢ [] → Explains (fault_of zpc_app (texts words.entry.now)) result (devices (held F.known F.failures F.can_fail files.old) (told R.remaining R.failures reader.old) (seen W.contents W.failures W.waits writer.old) (seen E.contents E.failures E.waits errors.old)) (devices (held F.known F.failures F.can_fail files.new) (told R.remaining R.failures reader.new) (seen W.contents W.failures W.waits writer.new) (seen E.contents E.failures E.waits errors.new)) }
 {
     match read_words(alloc, words) {
         Ok(command) => report(&carry_out(alloc, command, files, reader, writer), errors),
@@ -77,7 +77,8 @@ fn carry_out<F: Files, R: Source, W: Sink>(
 ) -> Outcome
     ensures comes { Comes (request_of command.entry) (F.known files.old) (F.known files.new) (R.remaining reader.old) (W.contents writer.old) (W.contents writer.new) result }
     ensures writer { FlushesUnless W.failures W.waits writer.old writer.new (result ≡ Outcome.Stopped (Problem.Failed Failure.Write)) }
-    ensures files { UsesUnless F.known F.failures files.old files.new (save_in (request_of command.entry) ≡ None) (written_by (request_of command.entry) ≡ None) (result ≡ Outcome.Stopped (Problem.Failed Failure.File)) }
+    ensures files { UsesUnless F.known F.failures files.old files.new (save_in (request_of command.entry)) (written_by (request_of command.entry)) (result ≡ Outcome.Stopped (Problem.Failed Failure.File)) }
+    ensures could { result ≡ Outcome.Stopped (Problem.Failed Failure.File) → IsBlamed (request_of command.entry) (held F.known F.failures F.can_fail files.old) }
     ensures reader { Blames (result ≡ Outcome.Stopped (Problem.Failed Failure.Read)) (R.failures reader.old) (R.failures reader.new) }
     ensures unasked { is_quiet (request_of command.entry) ≡ true → reader.new ≡ reader.old }
 {
@@ -138,7 +139,8 @@ fn check_files<F: Files, W: Sink>(
 ) -> Outcome
     ensures comes { CheckComesTo (F.known files.old story.now) (F.known files.old certificate.now) (W.contents writer.old) (W.contents writer.new) result }
     ensures writer { FlushesUnless W.failures W.waits writer.old writer.new (result ≡ Outcome.Stopped (Problem.Failed Failure.Write)) }
-    ensures files { ReadsUnless F.known F.failures files.old files.new (result ≡ Outcome.Stopped (Problem.Failed Failure.File)) }
+    ensures files { ReadsUnless F.known F.failures F.can_fail files.old files.new (result ≡ Outcome.Stopped (Problem.Failed Failure.File)) }
+    ensures could { result ≡ Outcome.Stopped (Problem.Failed Failure.File) → IsOfEither (held F.known F.failures F.can_fail files.old) story.now certificate.now }
 {
     match accept(alloc, story, certificate, files) {
         Ok(_) => {}
@@ -180,7 +182,8 @@ fn play<F: Files, R: Source, W: Sink>(
 ) -> Result<End, Problem>
     ensures comes { ComesTo (F.known files.old name.now) options (given (R.remaining reader.old) seed (store_of (option_map (λ n. n.now) save.entry))) (W.contents writer.old) (W.contents writer.new) (outcome_of result) }
     ensures writer { FlushesUnless W.failures W.waits writer.old writer.new (IsErrOf result (Problem.Failed Failure.Write)) }
-    ensures files { UsesUnless F.known F.failures files.old files.new (option_map (λ n. n.now) save.entry ≡ None) (option_map (λ n. n.now) save.entry ≡ None) (IsErrOf result (Problem.Failed Failure.File)) }
+    ensures files { UsesUnless F.known F.failures files.old files.new (option_map (λ n. n.now) save.entry) (option_map (λ n. n.now) save.entry) (IsErrOf result (Problem.Failed Failure.File)) }
+    ensures could { IsErrOf result (Problem.Failed Failure.File) → F.can_fail files.old name.now ≡ true }
     ensures reader { Blames (IsErrOf result (Problem.Failed Failure.Read)) (R.failures reader.old) (R.failures reader.new) }
 {
     let file = read_file(alloc, files, name, STORY_LIMIT)?;
@@ -204,6 +207,7 @@ fn play_story<F: Files, R: Source, W: Sink>(
     ensures no_file { ¬ IsErrOf result (Problem.Failed Failure.File) }
     ensures reader { Blames (IsErrOf result (Problem.Failed Failure.Read)) (R.failures reader.old) (R.failures reader.new) }
     ensures unsaved { option_map (λ n. n.now) save.entry ≡ None → files.new ≡ files.old }
+    ensures spared { (other : List ℕ) → option_map (λ n. n.now) save.entry ≢ Some other → F.known files.new other ≡ F.known files.old other }
 {
     match save {
         Some(name) => {
@@ -236,6 +240,7 @@ fn play_keeping<S: SaveStore, R: Source, W: Sink>(
     ensures writer { FlushesUnless W.failures W.waits writer.old writer.new (IsErrOf result (Problem.Failed Failure.Write)) }
     ensures no_file { ¬ IsErrOf result (Problem.Failed Failure.File) }
     ensures reader { Blames (IsErrOf result (Problem.Failed Failure.Read)) (R.failures reader.old) (R.failures reader.new) }
+    ensures spared { S.Spares store.old store.new }
 {
     let mut machine = CheckedMachine::new(alloc, story, Scope::All)?;
     Ok(play_checked(
@@ -263,7 +268,8 @@ fn play_by_certificate<F: Files, R: Source, W: Sink>(
 ) -> Result<End, Problem>
     ensures comes { PlayComesTo (F.known files.old story.now) (F.known files.old certificate.now) options (given (R.remaining reader.old) seed (store_of (option_map (λ n. n.now) save.entry))) (W.contents writer.old) (W.contents writer.new) (outcome_of result) }
     ensures writer { FlushesUnless W.failures W.waits writer.old writer.new (IsErrOf result (Problem.Failed Failure.Write)) }
-    ensures files { UsesUnless F.known F.failures files.old files.new (option_map (λ n. n.now) save.entry ≡ None) (option_map (λ n. n.now) save.entry ≡ None) (IsErrOf result (Problem.Failed Failure.File)) }
+    ensures files { UsesUnless F.known F.failures files.old files.new (option_map (λ n. n.now) save.entry) (option_map (λ n. n.now) save.entry) (IsErrOf result (Problem.Failed Failure.File)) }
+    ensures could { IsErrOf result (Problem.Failed Failure.File) → IsOfEither (held F.known F.failures F.can_fail files.old) story.now certificate.now }
     ensures reader { Blames (IsErrOf result (Problem.Failed Failure.Read)) (R.failures reader.old) (R.failures reader.new) }
 {
     let accepted = accept(alloc, story, certificate, files)?;
@@ -286,6 +292,7 @@ fn play_accepted<F: Files, R: Source, W: Sink>(
     ensures no_file { ¬ IsErrOf result (Problem.Failed Failure.File) }
     ensures reader { Blames (IsErrOf result (Problem.Failed Failure.Read)) (R.failures reader.old) (R.failures reader.new) }
     ensures unsaved { option_map (λ n. n.now) save.entry ≡ None → files.new ≡ files.old }
+    ensures spared { (other : List ℕ) → option_map (λ n. n.now) save.entry ≢ Some other → F.known files.new other ≡ F.known files.old other }
 {
     match save {
         Some(name) => {
@@ -318,6 +325,7 @@ fn play_accepted_keeping<S: SaveStore, R: Source, W: Sink>(
     ensures writer { FlushesUnless W.failures W.waits writer.old writer.new (IsErrOf result (Problem.Failed Failure.Write)) }
     ensures no_file { ¬ IsErrOf result (Problem.Failed Failure.File) }
     ensures reader { Blames (IsErrOf result (Problem.Failed Failure.Read)) (R.failures reader.old) (R.failures reader.new) }
+    ensures spared { S.Spares store.old store.new }
 {
     let mut session = Session::start(alloc, accepted)?;
     let end = zplayer::play_story(

@@ -12,18 +12,29 @@ pub trait SaveStore {
     /// How often a call failed so far, a `u64` that stays at its last value.
     ghost failures: { Self → ℕ };
 
+    /// The second is the first with other saves: what isn't the store's own is as it was.
+    ghost Spares: { Self → Self → Type 0 };
+
     /// Keeps a save in place of the one before. False where it failed: then the one before is still kept, and only then the
     /// count of failures rises.
     fn put(&mut self, save: &[u8]) -> bool
         ensures stores { Puts (kept self.old) save.now result (kept self.new) }
-        ensures counts { CountsRefusal (failures self.old) (failures self.new) result };
+        ensures counts { CountsRefusal (failures self.old) (failures self.new) result }
+        ensures spared { Spares self.old self.new };
 
     /// Puts the save that is kept into `save`, in the place of what is there. False where it failed, as where none is kept, and
     /// only then the count of failures rises.
     fn get(&mut self, save: &mut Vec<u8>) -> bool
         ensures gives { result ≡ true → Gets (kept self.old) save.new.items }
         ensures same { kept self.new ≡ kept self.old }
-        ensures counts { CountsRefusal (failures self.old) (failures self.new) result };
+        ensures counts { CountsRefusal (failures self.old) (failures self.new) result }
+        ensures spared { Spares self.old self.new };
+
+    /// A store that wasn't called.
+    ghost itself: { (store : Self) → Spares store store };
+
+    /// Calls one after another.
+    ghost through: { (old now new : Self) → Spares old now → Spares now new → Spares old new };
 }
 
 /// Random words, one after another.

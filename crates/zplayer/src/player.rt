@@ -46,6 +46,7 @@ pub fn play_checked<R: Source, W: Sink, S: SaveStore, G: Words>(
     ensures comes { ComesTo (setting machine.old) (λ _. ⊤) (WantsOrSaves (setting machine.old)) options (world (R.remaining reader.old) (G.coming words.old) (told S.kept S.failures store.old)) machine.old.state machine.new.state (G.coming words.new) (told S.kept S.failures store.new) (W.contents writer.old) (W.contents writer.new) result }
     ensures reads { Blames (IsErrOf result PlayError.Read) (R.failures reader.old) (R.failures reader.new) }
     ensures writes { BlamesWriter W.failures W.waits writer.old writer.new (IsErrOf result PlayError.Write) (¬ IsErrOf result PlayError.Write) }
+    ensures spared { S.Spares store.old store.new }
 {
     play_machine(alloc, machine, reader, writer, store, words, options)
 }
@@ -66,6 +67,7 @@ pub fn play_story<V: Spelled, R: Source, W: Sink, S: SaveStore, G: Words>(
     ensures no_fault { IfOk result (λ end. (fault : AFault) (place : ℤ) → end ≢ End.Fault fault place) }
     ensures reads { Blames (IsErrOf result PlayError.Read) (R.failures reader.old) (R.failures reader.new) }
     ensures writes { BlamesWriter W.failures W.waits writer.old writer.new (IsErrOf result PlayError.Write) (¬ IsErrOf result PlayError.Write) }
+    ensures spared { S.Spares store.old store.new }
 {
     let played = play_machine(alloc, session, reader, writer, store, words, options);
     session.never_faults();
@@ -86,6 +88,7 @@ fn play_machine<M: Machine, R: Source, W: Sink, S: SaveStore, G: Words>(
     ensures comes { ComesTo (M.setting machine.old) (M.Takes machine.old) (M.Wants (M.setting machine.old)) options (world (R.remaining reader.old) (G.coming words.old) (told S.kept S.failures store.old)) (M.state machine.old) (M.state machine.new) (G.coming words.new) (told S.kept S.failures store.new) (W.contents writer.old) (W.contents writer.new) result }
     ensures reads { Blames (IsErrOf result PlayError.Read) (R.failures reader.old) (R.failures reader.new) }
     ensures writes { BlamesWriter W.failures W.waits writer.old writer.new (IsErrOf result PlayError.Write) (¬ IsErrOf result PlayError.Write) }
+    ensures spared { S.Spares store.old store.new }
 {
     match play_turns(alloc, machine, reader, writer, store, words, options) {
         // At a failed read all was flushed before it.
@@ -111,6 +114,7 @@ fn play_turns<M: Machine, R: Source, W: Sink, S: SaveStore, G: Words>(
     ensures comes { ComesTo (M.setting machine.old) (M.Takes machine.old) (M.Wants (M.setting machine.old)) options (world (R.remaining reader.old) (G.coming words.old) (told S.kept S.failures store.old)) (M.state machine.old) (M.state machine.new) (G.coming words.new) (told S.kept S.failures store.new) (W.contents writer.old) (W.contents writer.new) result }
     ensures reads { Blames (IsErrOf result PlayError.Read) (R.failures reader.old) (R.failures reader.new) }
     ensures writes { BlamesWriter W.failures W.waits writer.old writer.new (IsErrOf result PlayError.Write) (IsErrOf result PlayError.Read) }
+    ensures spared { S.Spares store.old store.new }
 {
     let mut items = Items::new(alloc);
     let mut lines = Lines::new();
@@ -147,6 +151,7 @@ fn supply<M: Machine, R: Source, W: Sink, S: SaveStore, G: Words>(
     ensures wanted { IsErrOf result PlayError.OutOfMemory → M.Wants (M.setting machine.old) (M.state machine.old) }
     ensures reads { BlamesReader R.remaining R.failures reader.old reader.new lines.new (IsErrOf result PlayError.Read) }
     ensures writes { BlamesWriter W.failures W.waits writer.old writer.new (IsErrOf result PlayError.Write) (IsErrOf result PlayError.Read) }
+    ensures spared { S.Spares store.old store.new }
 {
     let Some(need) = machine.awaits(stop) else {
         return Ok(false);
@@ -185,6 +190,7 @@ fn ask<M: Machine, R: Source, W: Sink, S: SaveStore, G: Words>(
     ensures wanted { IsErrOf result PlayError.OutOfMemory → M.Wants (M.setting machine.now) (M.state machine.now) }
     ensures reads { BlamesReader R.remaining R.failures reader.old reader.new lines.new (IsErrOf result PlayError.Read) }
     ensures writes { BlamesWriter W.failures W.waits writer.old writer.new (IsErrOf result PlayError.Write) (IsErrOf result PlayError.Read) }
+    ensures spared { S.Spares store.old store.new }
 {
     match need {
         Need::Line => {

@@ -24,6 +24,7 @@ pub(crate) fn save<M: Machine, S: SaveStore>(
     ensures put { IfOk result (λ done. Stores (told S.kept S.failures store.old) (save_text (origin_of (M.setting machine.now).story) (saved_of (M.setting machine.now).story (M.state machine.now))) done (told S.kept S.failures store.new)) }
     ensures same { OnErr result (store.new ≡ store.old) }
     ensures wanted { IfErr result (λ error. (error ≡ PlayError.OutOfMemory) × M.Wants (M.setting machine.now) (M.state machine.now)) }
+    ensures spared { S.Spares store.old store.new }
 {
     let save = machine.save_bytes(alloc)?;
     Ok(store.put(&save))
@@ -40,6 +41,7 @@ pub(crate) fn resume<M: Machine, S: SaveStore>(
     ensures restored { OnOk result (Restores (M.setting machine.old) (M.Takes machine.old) (M.state machine.old) (told S.kept S.failures store.old) (M.state machine.new) (told S.kept S.failures store.new)) }
     ensures same { OnErr result ((M.state machine.new ≡ M.state machine.old) × (told S.kept S.failures store.new ≡ told S.kept S.failures store.old)) }
     ensures wanted { IfErr result (λ error. (error ≡ PlayError.OutOfMemory) × M.Wants (M.setting machine.old) (M.state machine.old)) }
+    ensures spared { S.Spares store.old store.new }
 {
     if !take_up(alloc, machine, store)? {
         machine.give(Event::NotRestored);
@@ -60,6 +62,7 @@ fn take_up<M: Machine, S: SaveStore>(
     ensures still { result ≢ Ok true → M.state machine.new ≡ M.state machine.old }
     ensures same { OnErr result (told S.kept S.failures store.new ≡ told S.kept S.failures store.old) }
     ensures wanted { IfErr result (λ error. (error ≡ PlayError.OutOfMemory) × M.Wants (M.setting machine.old) (M.state machine.old)) }
+    ensures spared { S.Spares store.old store.new }
 {
     let mut save = Vec::new(alloc);
     if !store.get(&mut save) {

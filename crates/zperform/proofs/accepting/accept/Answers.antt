@@ -21,6 +21,7 @@ pub returns-in_err-check-clause-files : goal.returns-in_err-check-clause-files
 returns-in_err-check-clause-files g c = record {
   blamed = ((λ e. absurd (refused_reads c.from_residual-in_err-check.result _ c.from_residual-in_err-check.ensures e)), search rules);
   kept = search rules;
+  alike = search rules;
 }
 
 pub returns-in_err-check-clause-refused : goal.returns-in_err-check-clause-refused

@@ -12,4 +12,4 @@ returns-clause-refused g c = certificate_refused _ c.in_ok-file.file.items c.in_
 
 pub returns-clause-files : goal.returns-clause-files
 returns-clause-files g c =
-    read_on _ _ _ _ _ _ c.in_ok-file.ensures.files (λ e. cc) (no_reason (IsUnreadable c.in_ok-file.file.items) (Failed File) c.read_certificate.result (λ none. none) c.read_certificate.ensures.unreadable)
+    read_on _ _ _ _ _ _ _ c.in_ok-file.ensures.files (λ e. cc) (no_reason (IsUnreadable c.in_ok-file.file.items) (Failed File) c.read_certificate.result (λ none. none) c.read_certificate.ensures.unreadable)

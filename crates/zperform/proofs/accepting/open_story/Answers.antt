@@ -11,4 +11,4 @@ pub returns-clause-refused : goal.returns-clause-refused
 returns-clause-refused g c = refused_err _ c.in_ok-file.file.items c.in_ok-file.ensures.read c.load.result c.load.ensures.unloaded
 
 pub returns-clause-files : goal.returns-clause-files
-returns-clause-files g c = read_on _ _ _ _ _ _ c.in_ok-file.ensures.files (λ e. cc) (no_reason (IsUnloaded c.in_ok-file.file.items) (Failed File) c.load.result (λ none. none) c.load.ensures.unloaded)
+returns-clause-files g c = read_on _ _ _ _ _ _ _ c.in_ok-file.ensures.files (λ e. cc) (no_reason (IsUnloaded c.in_ok-file.file.items) (Failed File) c.load.result (λ none. none) c.load.ensures.unloaded)

@@ -8,6 +8,7 @@ invariant-pieces g l = record {
   within : vec_len l.file ≤ l.most;
   kept : g.F.Files.known l.files ≡ g.F.Files.known l.initial.files;
   unfailed : g.F.Files.failures l.files ≡ g.F.Files.failures l.initial.files;
+  alike : g.F.Files.can_fail l.files ≡ g.F.Files.can_fail l.initial.files;
   read : (bytes : List ℕ) → g.F.Files.known l.initial.files l.name ≡ Some bytes → IsBeginning l.file.items bytes;
 }
 

@@ -16,7 +16,7 @@ returns-in-Ok-clause-comes g c =
     ends_so _ _ _ _ _ (λ (o : Outcome). ListComesTo known (g.W.Sink.contents c.args.writer.now) (g.W.Sink.contents c.write_done.new.writer) o) c.write_done.ensures.ends (λ written. (_, listed, written)) (λ begun. (_, listed, begun))
 
 pub returns-in-Ok-clause-files : goal.returns-in-Ok-clause-files
-returns-in-Ok-clause-files g c = read_on _ _ _ _ _ _ c.in-Ok.ensures.files (λ e. cc) (ends_so _ _ _ _ _ (λ (o : Outcome). o ≢ Stopped (Failed File)) c.write_done.ensures.ends (λ _ e. cc) (λ _ e. cc))
+returns-in-Ok-clause-files g c = read_on _ _ _ _ _ _ _ c.in-Ok.ensures.files (λ e. cc) (ends_so _ _ _ _ _ (λ (o : Outcome). o ≢ Stopped (Failed File)) c.write_done.ensures.ends (λ _ e. cc) (λ _ e. cc))
 
 pub returns-in-Err-clause-comes : goal.returns-in-Err-clause-comes
 returns-in-Err-clause-comes g c = stops _ (IsNoListing (g.F.Files.known c.args.files.now c.args.story.now)) _ c.in-Err.problem (λ (e : c.in-Err.problem ≡ Failed Write). c.in-Err.ensures.unwritten (ap Err e)) c.in-Err.ensures.refused

@@ -13,7 +13,7 @@ returns-clause-refused g c =
     for_reason (IsUnlisted c.in_ok-story.story) (IsNoListing (g.F.Files.known c.args.files.now c.args.name.now)) c.list_loaded.result (λ problem why. inr (c.in_ok-story.story, c.in_ok-story.ensures.held, why)) c.list_loaded.ensures.refused
 
 pub returns-clause-files : goal.returns-clause-files
-returns-clause-files g c = read_on _ _ _ _ _ _ c.in_ok-story.ensures.files (λ e. cc) (no_reason (IsUnlisted c.in_ok-story.story) (Failed File) c.list_loaded.result (λ none. none) c.list_loaded.ensures.refused)
+returns-clause-files g c = read_on _ _ _ _ _ _ _ c.in_ok-story.ensures.files (λ e. cc) (no_reason (IsUnlisted c.in_ok-story.story) (Failed File) c.list_loaded.result (λ none. none) c.list_loaded.ensures.refused)
 
 pub returns-clause-unwritten : goal.returns-clause-unwritten
 returns-clause-unwritten g c = no_reason (IsUnlisted c.in_ok-story.story) (Failed Write) c.list_loaded.result (λ none. none) c.list_loaded.ensures.refused

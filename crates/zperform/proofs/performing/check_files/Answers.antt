@@ -25,4 +25,4 @@ returns-clause-comes g c =
     (λ written. ((_, c.in-Ok.ensures.accepted), written)) (λ begun. ((_, c.in-Ok.ensures.accepted), begun))
 
 pub returns-clause-files : goal.returns-clause-files
-returns-clause-files g c = read_on _ _ _ _ _ _ c.in-Ok.ensures.files (λ e. cc) (ends_so _ _ _ _ _ (λ (o : Outcome). o ≢ Stopped (Failed File)) c.write_done.ensures.ends (λ _ e. cc) (λ _ e. cc))
+returns-clause-files g c = read_on _ _ _ _ _ _ _ c.in-Ok.ensures.files (λ e. cc) (ends_so _ _ _ _ _ (λ (o : Outcome). o ≢ Stopped (Failed File)) c.write_done.ensures.ends (λ _ e. cc) (λ _ e. cc))

@@ -1,4 +1,5 @@
-use Rattle.std.specs.Prelude.{option_map}
+use Rattle.std.proofs.Common.{◌∙◌, ℕ, List, ap, rules}
+use Rattle.std.specs.Prelude.{Option, option_map}
 use Rattle.zperform.specs.Performing.{given, store_of}
 use Rattle.zperform.specs.declared.outcome.Outcome.TheVariants.{Stopped}
 use Rattle.zperform.proofs.PlayLemmas.{of_part, passed_on, unloaded_comes}
@@ -16,3 +17,11 @@ returns-in_err-story-clause-comes g c =
 
 pub returns-clause-comes : goal.returns-clause-comes
 returns-clause-comes g c = of_part _ c.in_ok-file.file.items _ _ _ _ c.in_ok-file.ensures.read _ (c.play_story.ensures.comes c.in_ok-file.file.items c.in_ok-story.ensures.loaded)
+
+pub returns-clause-files : goal.returns-clause-files
+returns-clause-files g c = record {
+  unread = search rules;
+  unfailed = search rules;
+  kept = search rules;
+  spared = λ other another. c.play_story.ensures.spared other another ∙ ap (λ (known : List ℕ → Option (List ℕ)). known other) c.in_ok-file.ensures.files.kept;
+}

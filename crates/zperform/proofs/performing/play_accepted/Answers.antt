@@ -9,7 +9,7 @@ use Rattle.zperform.proofs.performing.play_accepted.Goals as goal
 pub returns-in-Some-clause-comes : goal.returns-in-Some-clause-comes
 returns-in-Some-clause-comes g c = λ story certificate accepted.
     rw c.in-Some.is
-    (with_store (λ (s : Store). PlayComesTo story certificate c.args.options (given (g.R.Source.remaining c.args.reader.now) c.args.seed s) (g.W.Sink.contents c.args.writer.now) (g.W.Sink.contents c.play_accepted_keeping.new.writer) (outcome_of c.play_accepted_keeping.result)) None c.new-store.result.failures c.new-store.ensures (c.play_accepted_keeping.ensures.comes story certificate accepted (λ empty. absurd cc)))
+    (with_store (λ (s : Store). PlayComesTo story certificate c.args.options (given (g.R.Source.remaining c.args.reader.now) c.args.seed s) (g.W.Sink.contents c.args.writer.now) (g.W.Sink.contents c.play_accepted_keeping.new.writer) (outcome_of c.play_accepted_keeping.result)) None c.new-store.result.failures c.new-store.ensures.fresh (c.play_accepted_keeping.ensures.comes story certificate accepted (λ empty. absurd cc)))
 
 pub returns-in-None-clause-comes : goal.returns-in-None-clause-comes
 returns-in-None-clause-comes g c = λ story certificate accepted.

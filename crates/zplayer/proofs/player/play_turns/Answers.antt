@@ -11,6 +11,7 @@ turns-init g c = record {
   ended = search rules;
   unread = refl;
   quiet = refl;
+  spared = g.met.S.SaveStore.itself _;
 }
 
 pub turns-preserved : goal.turns-preserved
@@ -23,6 +24,7 @@ turns-preserved g c =
       ended = so_far.ended;
       unread = so_far.unread;
       quiet = search rules;
+      spared = so_far.spared;
     }
 
 pub turns-preserved-else-not-branch : goal.turns-preserved-else-not-branch
@@ -39,6 +41,7 @@ turns-preserved-else-not-branch g c =
       ended = c.in_ok-supply.ensures.reads.ended;
       unread = search rules;
       quiet = search rules;
+      spared = g.met.S.SaveStore.through _ _ _ so_far.spared c.in_ok-supply.ensures.spared;
     }
 
 pub returns-in_err-stop-clause-comes : goal.returns-in_err-stop-clause-comes

@@ -5,7 +5,7 @@ use Rattle.zplayer.specs.World.{told, world}
 use Rattle.zplayer.proofs.Stages.{to_come}
 use Rattle.zplayer.proofs.player.play_turns.Given as goal
 
--- what was done and written so far, what is left of the budget, and what the world still has
+-- what was done and written so far, what is left of the budget, what the world still has, and that the store spared what isn't its own
 abbrev pub invariant-turns : goal.invariant-turns
 invariant-turns g l = record {
   play : g.M.Machine.IsSamePlay l.fn.machine l.machine;
@@ -13,6 +13,7 @@ invariant-turns g l = record {
   ended : KnowsEnd l.lines (g.R.Source.remaining l.reader);
   unread : g.R.Source.failures l.reader ≡ g.R.Source.failures l.fn.reader;
   quiet : g.W.Sink.failures l.writer ≡ g.W.Sink.failures l.fn.writer;
+  spared : g.S.SaveStore.Spares l.fn.store l.store;
 }
 
 abbrev pub decreases-turns : goal.decreases-turns
