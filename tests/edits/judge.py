@@ -277,7 +277,6 @@ def rename(path, old, new):
 # functions that are named aren't, so that their edits needn't be tried with half.
 HALVED = {
     "zboard": ("Board::global", "running::play", "table::target_of"),
-    "zcert": (),
     "zobj": (),
     "zplace": (),
     "zref": (

@@ -6,3 +6,4 @@ mod AcceptLemmas
 mod EndLemmas
 mod SessionLemmas
 mod Worked
+mod WorkedClaims

@@ -1,0 +1,356 @@
+-- What devices and outcomes are told to be, before and after: which of the two each claim is of.
+use Rattle.std.proofs.Common.{◌≡◌, ◌≢◌, ◌⊎◌, inl, inr, ℕ, List, [], ◌∷◌, ◌++◌, Bool, true, false, codes, ap, refl, subst, arith, length}
+use Rattle.std.specs.Prelude.{⊤, Option, None, Some, IfSome, Result, Ok, Err}
+use Rattle.std.specs.Io.KnownBytes.{Appends}
+use Rattle.clap.specs.declared.error.kind.ErrorKind.TheVariants.{DisplayHelp, UnknownArgument}
+use Rattle.zfault.specs.Devices.{AppendsBeginning}
+use Rattle.zstory.specs.LoadedStory.{LoadedStory}
+use Rattle.zstory.specs.declared.load_error.LoadError.{LoadError}
+use Rattle.zstate.specs.State.{Setting, State}
+use Rattle.zdomain.specs.declared.interval.Interval.{Interval}
+use Rattle.zcert.specs.Certificate.{Certificate}
+use Rattle.zcert.specs.Format.{interval_format}
+use Rattle.zcert.specs.Reading.{heading_at, magic_at, reading}
+use Rattle.zrule.specs.declared.rule.Rule.{Rule}
+use Rattle.zcheck.specs.Acceptance.{Acceptance}
+use Rattle.zcheck.specs.declared.refusal.StoryRule.{StoryRule}
+use Rattle.zcommand.specs.CommandLine.{ListStory, Find, Check, Play, Explain}
+use Rattle.zref.specs.Machine.{setting_of}
+use Rattle.zref.specs.declared.scope.Scope.TheVariants.{All}
+use Rattle.zplay.specs.Session.{setting_of as session_of}
+use Rattle.zplayer.specs.declared.end.End.{End}
+use Rattle.zplayer.specs.declared.end.Options.{Options}
+use Rattle.zplayer.specs.declared.end.PlayError.{PlayError}
+use Rattle.zplayer.specs.declared.end.PlayError.TheVariants as errors
+use Rattle.zplayer.specs.Outside.{Blames, Coming}
+use Rattle.zplayer.specs.Playing.{GivesOrSaves, WantsOrSaves, ComesTo as PlayComes}
+use Rattle.zplayer.specs.World.{Store, World}
+use Rattle.zperform.specs.declared.outcome.Failure.TheVariants.{File, Read, Write, Memory}
+use Rattle.zperform.specs.declared.outcome.Problem.TheVariants.{Refused, BreaksStory, BreaksInstruction, Failed}
+use Rattle.zperform.specs.declared.outcome.Outcome.{Outcome}
+use Rattle.zperform.specs.declared.outcome.Outcome.TheVariants.{Listed, Found, Accepted, Explained, NoSuchCode, Played, Stopped}
+use Rattle.zperform.specs.Accepting.{CheckComesTo, HoldsCertificate, HoldsStory, IsAccepted, IsPlayedBy, IsUnaccepted, PlayComesTo}
+use Rattle.zperform.specs.Contents.{CountsNone, ReadsPart, SparesOthers}
+use Rattle.zperform.specs.Devices.{Breaks, Devices, Ends, FlushesUnless, Held, ReadsUnless, Says, Seen, Takes, Told, UsesUnless, Writes, devices}
+use Rattle.zperform.specs.Finding.{ExplainComesTo, FindComesTo, FindEnds, HasAlone, IsFound, IsNotFound, found_line}
+use Rattle.zperform.specs.Listing.{HoldsListed, IsNoListing, ListComesTo}
+use Rattle.zperform.specs.Performing.{Comes, Does, Explains, IsBlamed, Lacks, Performs, Reports, Shows, Tells, given, is_quiet, save_in, store_of, written_by}
+use Rattle.zperform.specs.Playing.{ComesTo, IsPlayed, IsRefused}
+use Rattle.zperform.proofs.AcceptLemmas.{story_bytes}
+
+-- ---- devices
+
+abbrev sink : List ℕ → ℕ → Bool → Seen
+sink bytes failures waits = record { contents = Some bytes; failures = failures; waits = waits }
+
+abbrev source : List ℕ → ℕ → Told
+source bytes failures = record { remaining = Some bytes; failures = failures }
+
+-- files that all have the same bytes
+abbrev files : List ℕ → ℕ → Bool → Held
+files bytes failures weak = record { known = λ name. Some bytes; failures = failures; can_fail = λ name. weak }
+
+abbrev all : ℕ → ℕ → ℕ → ℕ → Devices
+all f r w e = devices (files (f ∷ []) 0 true) (source (r ∷ []) 0) (sink (w ∷ []) 0 false) (sink (e ∷ []) 0 false)
+
+apart : ((all 1 2 3 4).files ≡ files (1 ∷ []) 0 true) × ((all 1 2 3 4).reader ≡ source (2 ∷ []) 0) × ((all 1 2 3 4).writer ≡ sink (3 ∷ []) 0 false) × ((all 1 2 3 4).errors ≡ sink (4 ∷ []) 0 false)
+apart = (refl, refl, refl, refl)
+
+-- a sink isn't blamed for what didn't fail
+unblamed : FlushesUnless (λ (s : Seen). s.failures) (λ (s : Seen). s.waits) (sink [] 0 false) (sink [] 1 false) ⊥ → ⊥
+unblamed writer = omega (arith, writer.blamed.1 (λ no. no))
+
+-- files that were read have the bytes that they had, and can fail where they could
+abbrev IsRead : Held → Held → Type 0
+IsRead old new = ReadsUnless (λ (f : Held). f.known) (λ (f : Held). f.failures) (λ (f : Held). f.can_fail) old new ⊥
+
+kept : IsRead (files [] 0 true) (files [] 0 true) × (IsRead (files [] 0 true) (files (1 ∷ []) 0 true) → ⊥) × (IsRead (files [] 0 true) (files [] 0 false) → ⊥)
+kept = (
+  record { blamed = (λ no. absurd no, λ other. refl); kept = refl; alike = refl },
+  λ read. full (ap (λ (known : List ℕ → Option (List ℕ)). known []) read.kept),
+  λ read. absurd (let same : false ≡ true = ap (λ (weak : List ℕ → Bool). weak []) read.alike in cc),
+)
+  where
+    full : ◌≡◌ {A = Option (List ℕ)} (Some (1 ∷ [])) (Some []) → ⊥
+    full e = absurd cc
+
+-- a failure is counted once, and what may not be written isn't
+abbrev IsUsed : Held → Held → Type 0 → Type 0
+IsUsed old new fails = UsesUnless (λ (f : Held). f.known) (λ (f : Held). f.failures) old new None None fails
+
+used : IsUsed (files [] 0 true) (files [] 1 true) ⊤ × (IsUsed (files [] 0 true) (files (1 ∷ []) 0 true) ⊥ → ⊥)
+used = (
+  record { unread = λ fails. refl; unfailed = λ none other. absurd (other tt); kept = λ none. refl; spared = λ other another. refl },
+  λ uses. full (ap (λ (known : List ℕ → Option (List ℕ)). known []) (uses.kept refl)),
+)
+  where
+    full : ◌≡◌ {A = Option (List ℕ)} (Some (1 ∷ [])) (Some []) → ⊥
+    full e = absurd cc
+
+-- a text is taken behind what was there, with no failure, and begun where there is one
+taken : Takes (sink (1 ∷ []) 3 true) (sink (1 ∷ 2 ∷ []) 3 false) (2 ∷ [])
+taken = record { whole = refl; quiet = refl; flushed = refl }
+
+broken : Breaks (sink (1 ∷ []) 3 false) (sink (1 ∷ []) 4 false) (2 ∷ [])
+broken = record { begun = record { taken = 0; grown = refl }; blamed = refl }
+
+not_taken : (Takes (sink [] 0 true) (sink (2 ∷ []) 1 false) (2 ∷ []) → ⊥) × (Breaks (sink (1 ∷ []) 0 false) (sink (5 ∷ []) 1 false) (2 ∷ []) → ⊥)
+not_taken = ((λ taken. omega (arith, taken.quiet)), λ broken. absurd (let e = broken.begun.grown in cc))
+
+written :
+    Writes {A = ℕ} {E = ℕ} (sink (1 ∷ []) 3 true) (sink (1 ∷ 2 ∷ []) 3 false) (2 ∷ []) (Ok 0) × Writes {A = ℕ} {E = ℕ} (sink (1 ∷ []) 3 false) (sink (1 ∷ []) 4 false) (2 ∷ []) (Err 0)
+    × Says (sink (1 ∷ []) 3 false) (sink (1 ∷ []) 4 false) (2 ∷ []) × Ends (sink (1 ∷ []) 3 true) (sink (1 ∷ 2 ∷ []) 3 false) (2 ∷ []) Found Found × Ends (sink (1 ∷ []) 3 false) (sink (1 ∷ []) 4 false) (2 ∷ []) Found (Stopped (Failed Write))
+written = (taken, broken, inr broken, inl (refl, taken), inr (refl, broken))
+
+-- no file but the one that is named changes
+spared : SparesOthers (1 ∷ []) (λ name. Some []) (λ name. Some []) × (SparesOthers (1 ∷ []) (λ name. Some []) (λ name. Some (2 ∷ [])) → ⊥)
+spared = ((λ other another. refl), λ spares. full (spares [] (λ e. omega (arith, ap length e))))
+  where
+    full : ◌≡◌ {A = Option (List ℕ)} (Some (2 ∷ [])) (Some []) → ⊥
+    full e = absurd cc
+
+-- ---- what is said of them
+
+-- the line on want of memory, behind what the errors took before
+abbrev memory_line : List ℕ
+memory_line = codes "failed: memory" ++ 10 ∷ []
+
+reported : Reports (Stopped (Failed Memory)) 4 (sink (1 ∷ []) 0 true) (sink (1 ∷ memory_line) 0 false)
+reported = record { status_is = refl; said = inl (record { whole = refl; quiet = refl; flushed = refl }) }
+
+abbrev with_errors : ℕ → List ℕ → Devices
+with_errors w bytes = devices (files (1 ∷ []) 0 true) (source (2 ∷ []) 0) (sink (w ∷ []) 0 false) (sink bytes 0 false)
+
+abbrev with_writer : List ℕ → ℕ → List ℕ → Devices
+with_writer bytes failures errors = devices (files (1 ∷ []) 0 true) (source (2 ∷ []) 0) (sink bytes failures false) (sink errors 0 false)
+
+-- help goes to the writer and nothing to the errors; where writing it fails that is told there
+shown : Shows (5 ∷ []) 0 (with_writer (3 ∷ []) 0 (4 ∷ [])) (with_writer (3 ∷ 5 ∷ []) 0 (4 ∷ [])) × (Shows (5 ∷ []) 0 (with_writer (3 ∷ []) 0 (4 ∷ [])) (with_writer (3 ∷ 5 ∷ []) 0 []) → ⊥) × Shows (5 ∷ []) 4 (with_writer (3 ∷ []) 0 []) (with_writer (3 ∷ []) 1 (codes "failed: write" ++ 10 ∷ []))
+shown = (
+  inl (record { whole = refl; quiet = refl; flushed = refl }, refl, refl),
+  told_too,
+  inr (record { begun = record { taken = 0; grown = refl }; blamed = refl }, record { status_is = refl; said = inl (record { whole = refl; quiet = refl; flushed = refl }) }),
+)
+  where
+    told_too : Shows (5 ∷ []) 0 (with_writer (3 ∷ []) 0 (4 ∷ [])) (with_writer (3 ∷ 5 ∷ []) 0 []) → ⊥
+    told_too (inl (takes, status, same)) = absurd (let e = ap (λ (s : Seen). s.contents) same in cc)
+    told_too (inr (breaks, reports)) = omega (arith, breaks.blamed)
+
+-- a mistake goes to the errors and nothing to the writer
+told : Tells (5 ∷ []) 2 (with_errors 3 (4 ∷ [])) (with_errors 3 (4 ∷ 5 ∷ [])) × (Tells (5 ∷ []) 2 (with_errors 3 (4 ∷ [])) (with_errors 6 (4 ∷ 5 ∷ [])) → ⊥)
+told = ((inl (record { whole = refl; quiet = refl; flushed = refl }), refl, refl), λ tells. absurd (let e = ap (λ (s : Seen). s.contents) tells.2 in cc))
+
+-- want of memory is told, and nothing else is done
+lacking :
+    Lacks 4 (with_errors 3 (4 ∷ [])) (with_errors 3 (4 ∷ memory_line)) × (Lacks 4 (all 1 2 3 4) (all 1 2 5 4) → ⊥) × (Lacks 4 (all 1 2 3 4) (all 5 2 3 4) → ⊥) × (Lacks 4 (all 1 2 3 4) (all 1 5 3 4) → ⊥)
+lacking = (
+  record { reported = record { status_is = refl; said = inl (record { whole = refl; quiet = refl; flushed = refl }) }; writer = refl; files = refl; reader = refl },
+  λ lacks. absurd (let e = ap (λ (s : Seen). s.contents) lacks.writer in cc),
+  λ lacks. absurd (let e = ap (λ (f : Held). f.known []) lacks.files in cc),
+  λ lacks. absurd (let e = ap (λ (s : Told). s.remaining) lacks.reader in cc),
+)
+
+-- ---- what comes of requests
+
+-- each is of the file that its request names, as it was, and of what was written before and is now
+module _ (story certificate : List ℕ) (held holds : List ℕ → Option (List ℕ)) (input before now : Option (List ℕ)) (outcome : Outcome) where
+  comes_of_files :
+      (Comes (ListStory story) held holds input before now outcome → ListComesTo (held story) before now outcome) × (Comes (Find story certificate) held holds input before now outcome → FindComesTo story certificate held holds before now outcome)
+      × (Comes (Check story certificate) held holds input before now outcome → CheckComesTo (held story) (held certificate) before now outcome) × (Comes (Explain story) held holds input before now outcome → ExplainComesTo story before now outcome)
+  comes_of_files = (λ comes. comes, λ comes. comes, λ comes. comes, λ comes. comes)
+
+  comes_of_plays :
+      (seed budget : ℕ) (status : Bool) (save : Option (List ℕ))
+      → (Comes (Play story None seed budget status save) held holds input before now outcome → ComesTo (held story) (record { budget = budget; status = status }) (given input seed (store_of save)) before now outcome)
+      × (Comes (Play story (Some certificate) seed budget status save) held holds input before now outcome → PlayComesTo (held story) (held certificate) (record { budget = budget; status = status }) (given input seed (store_of save)) before now outcome)
+  comes_of_plays seed budget status save = (λ comes. comes, λ comes. comes)
+
+-- nothing is written where a file isn't read, is no story, or wants memory
+abbrev IsUnwritten : (Option (List ℕ) → Option (List ℕ) → Outcome → Type 0) → Outcome → Type 0
+IsUnwritten ComesSo outcome = ComesSo (Some (1 ∷ [])) (Some (1 ∷ 2 ∷ [])) outcome → ⊥
+
+longer : ◌≡◌ {A = Option (List ℕ)} (Some (1 ∷ 2 ∷ [])) (Some (1 ∷ [])) → ⊥
+longer e = absurd cc
+
+unwritten :
+    (options : Options) (outside : World) (error : LoadError)
+    → IsUnwritten (ComesTo (Some []) options outside) (Stopped (Failed File)) × IsUnwritten (ComesTo (Some []) options outside) (Stopped (Refused error)) × IsUnwritten (ComesTo (Some []) options outside) (Stopped (Failed Memory))
+    × IsUnwritten (PlayComesTo (Some []) (Some []) options outside) (Stopped (Failed File)) × IsUnwritten (PlayComesTo (Some []) (Some []) options outside) (Stopped (Refused error)) × IsUnwritten (PlayComesTo (Some []) (Some []) options outside) (Stopped (Failed Memory))
+    × IsUnwritten (ListComesTo (Some [])) (Stopped (Failed File)) × IsUnwritten (ListComesTo (Some [])) (Stopped (Failed Memory)) × IsUnwritten (CheckComesTo (Some []) (Some [])) (Stopped (Failed File)) × IsUnwritten (ExplainComesTo (codes "X9")) NoSuchCode
+unwritten options outside error = (
+  longer,
+  λ comes. longer comes.1,
+  no_memory,
+  λ comes. longer comes.1,
+  λ comes. longer comes.1,
+  no_memory_to_accept,
+  λ comes. longer comes.1,
+  λ comes. longer comes.1,
+  λ comes. longer comes.1,
+  λ comes. longer comes.1,
+)
+  where
+    no_memory : IsUnwritten (ComesTo (Some []) options outside) (Stopped (Failed Memory))
+    no_memory (inl (same, some)) = longer same
+    no_memory (inr (file, same, played)) = omega (arith, story_bytes (Some []) played.story (file, same, played.holds))
+
+    no_memory_to_accept : IsUnwritten (PlayComesTo (Some []) (Some []) options outside) (Stopped (Failed Memory))
+    no_memory_to_accept (inl (same, some)) = longer same
+    no_memory_to_accept (inr (a, accepted, played)) = omega (arith, story_bytes (Some []) a.story accepted.story)
+
+-- what was written before is never taken back
+loses : (m : Setting) (T : State → Type 0) (W : State → Type 0) (options : Options) (given : World) (s t : State) (words : Option Coming) (store : Store) (result : Result End PlayError)
+    → PlayComes m T W options given s t words store (Some (1 ∷ [])) (Some []) result → ⊥
+loses m T W options given s t words store (Ok end) (left, input, finished) = absurd (let e = finished.written in cc)
+loses m T W options given s t words store (Err errors.Read) (left, input, (plays, awaited)) = absurd (let e = plays.written in cc)
+loses m T W options given s t words store (Err errors.Write) (left, input, plays) = absurd (let e = plays.written.grown in cc)
+loses m T W options given s t words store (Err errors.OutOfMemory) (left, input, (plays, wants)) = absurd (let e = plays.written in cc)
+
+of_play : (options : Options) (outside : World) (file : List ℕ) (result : Result End PlayError) → IsPlayed file options outside (Some (1 ∷ [])) (Some []) result → ⊥
+of_play options outside file result played = loses _ _ (WantsOrSaves (setting_of played.story All)) _ _ _ _ _ _ result played.comes
+
+of_accepted : (options : Options) (outside : World) (a : Acceptance) (result : Result End PlayError) → IsPlayedBy a options outside (Some (1 ∷ [])) (Some []) result → ⊥
+of_accepted options outside a result played = loses _ _ (GivesOrSaves (session_of a)) _ _ _ _ _ _ result played.comes
+
+abbrev Loses : (Option (List ℕ) → Option (List ℕ) → Outcome → Type 0) → Outcome → Type 0
+Loses ComesSo outcome = ComesSo (Some (1 ∷ [])) (Some []) outcome → ⊥
+
+played_on :
+    (options : Options) (outside : World) (end : End)
+    → Loses (ComesTo None options outside) (Played end) × Loses (ComesTo None options outside) (Stopped (Failed Read)) × Loses (ComesTo None options outside) (Stopped (Failed Write)) × Loses (ComesTo None options outside) (Stopped (Failed Memory))
+    × Loses (PlayComesTo None None options outside) (Played end) × Loses (PlayComesTo None None options outside) (Stopped (Failed Read)) × Loses (PlayComesTo None None options outside) (Stopped (Failed Write)) × Loses (PlayComesTo None None options outside) (Stopped (Failed Memory))
+played_on options outside end = (
+  λ comes. of_play options outside comes.0 (Ok end) comes.2,
+  λ comes. of_play options outside comes.0 (Err errors.Read) comes.2,
+  λ comes. of_play options outside comes.0 (Err errors.Write) comes.2,
+  no_memory,
+  λ comes. of_accepted options outside comes.0 (Ok end) comes.2,
+  λ comes. of_accepted options outside comes.0 (Err errors.Read) comes.2,
+  λ comes. of_accepted options outside comes.0 (Err errors.Write) comes.2,
+  no_memory_to_accept,
+)
+  where
+    empty : ◌≡◌ {A = Option (List ℕ)} (Some []) (Some (1 ∷ [])) → ⊥
+    empty e = absurd cc
+
+    no_memory : Loses (ComesTo None options outside) (Stopped (Failed Memory))
+    no_memory (inl (same, some)) = empty same
+    no_memory (inr (file, same, played)) = of_play options outside file (Err errors.OutOfMemory) played
+
+    no_memory_to_accept : Loses (PlayComesTo None None options outside) (Stopped (Failed Memory))
+    no_memory_to_accept (inl (same, some)) = empty same
+    no_memory_to_accept (inr (a, accepted, played)) = of_accepted options outside a (Err errors.OutOfMemory) played
+
+-- nothing comes of an empty file, whatever the other one is
+module _ (a : Acceptance) (certificate : Option (List ℕ)) where
+  no_story : IsAccepted (Some []) certificate a → ⊥
+  no_story accepted = omega (arith, story_bytes (Some []) a.story accepted.story)
+
+no_certificate : (story : Option (List ℕ)) (a : Acceptance) → IsAccepted story (Some []) a → ⊥
+unfolding reading heading_at magic_at
+no_certificate story a accepted = absurd (let unread = subst (λ (file : List ℕ). reading interval_format file ≡ Ok a.certificate) accepted.certificate.1 accepted.certificate.2 in cc)
+
+abbrev ComesOfNone : (Option (List ℕ) → Option (List ℕ) → Outcome → Type 0) → Outcome → Type 0
+ComesOfNone ComesSo outcome = ComesSo None None outcome → ⊥
+
+-- (of the story's file first, then of the certificate's)
+accepted_of_files :
+    (options : Options) (outside : World) (end : End)
+    → ComesOfNone (CheckComesTo (Some []) None) Accepted × ComesOfNone (CheckComesTo (Some []) None) (Stopped (Failed Write)) × ComesOfNone (PlayComesTo (Some []) None options outside) (Played end)
+    × ComesOfNone (PlayComesTo (Some []) None options outside) (Stopped (Failed Read)) × ComesOfNone (PlayComesTo (Some []) None options outside) (Stopped (Failed Write)) × ComesOfNone (PlayComesTo (Some []) (Some (1 ∷ [])) options outside) (Stopped (Failed Memory))
+    × ComesOfNone (CheckComesTo None (Some [])) Accepted × ComesOfNone (CheckComesTo None (Some [])) (Stopped (Failed Write)) × ComesOfNone (PlayComesTo None (Some []) options outside) (Played end)
+accepted_of_files options outside end = (
+  λ comes. no_story comes.0.0 _ comes.0.1,
+  λ comes. no_story comes.0.0 _ comes.0.1,
+  λ comes. no_story comes.0 _ comes.1,
+  λ comes. no_story comes.0 _ comes.1,
+  λ comes. no_story comes.0 _ comes.1,
+  no_memory,
+  λ comes. no_certificate _ comes.0.0 comes.0.1,
+  λ comes. no_certificate _ comes.0.0 comes.0.1,
+  λ comes. no_certificate _ comes.0 comes.1,
+)
+  where
+    no_memory : ComesOfNone (PlayComesTo (Some []) (Some (1 ∷ [])) options outside) (Stopped (Failed Memory))
+    no_memory (inl (same, some)) = omega (arith, some)
+    no_memory (inr (a, accepted, played)) = no_story a _ accepted
+
+-- an acceptance that was begun to be written isn't taken back either
+begun_on : Loses (CheckComesTo None None) (Stopped (Failed Write)) × ((code : List ℕ) → Loses (ExplainComesTo code) Explained × Loses (ExplainComesTo code) (Stopped (Failed Write)))
+begun_on = ((λ comes. absurd (let e = comes.1.grown in cc)), λ code. ((λ comes. absurd (let e = comes.2 in cc)), λ comes. absurd (let e = comes.2.grown in cc)))
+
+-- memory is wanted for a story's file alone
+unaccepted : (IsUnaccepted (Some []) (Some (1 ∷ [])) (Failed Memory) → ⊥) × (CheckComesTo (Some []) (Some (1 ∷ [])) None None (Stopped (Failed Memory)) → ⊥)
+unaccepted = ((λ some. omega (arith, some)), λ comes. omega (arith, comes.0))
+
+-- what is refused is the story that its file holds, with the certificate of the other
+module _ (story certificate : Option (List ℕ)) (rule : StoryRule) (address : ℕ) (broken : Rule) where
+  broken_of_files :
+      (IsUnaccepted story certificate (BreaksStory rule) → (s : LoadedStory) × (c : Certificate Interval) × HoldsStory story s × HoldsCertificate certificate c)
+      × (IsUnaccepted story certificate (BreaksInstruction address broken) → (s : LoadedStory) × (c : Certificate Interval) × HoldsStory story s × HoldsCertificate certificate c)
+      × ((options : Options) (outside : World) (before now : Option (List ℕ)) → PlayComesTo story certificate options outside before now (Stopped (BreaksStory rule)) → (s : LoadedStory) × (c : Certificate Interval) × HoldsStory story s × HoldsCertificate certificate c)
+  broken_of_files = (λ b. (b.story, b.certificate, b.held, b.read), λ b. (b.story, b.certificate, b.held, b.read), λ options outside before now comes. (comes.0.story, comes.0.certificate, comes.0.held, comes.0.read))
+
+-- a story is refused for its own file
+refused_story : (story certificate : Option (List ℕ)) (error : LoadError) → IsUnaccepted story certificate (Refused error) → (file : List ℕ) × IfSome story (λ bytes. file ≡ bytes) × IsRefused file error
+refused_story story certificate error refused = refused
+
+-- a certificate that is found is of the story as it was, and stands in its file now; where none is found no file changes
+module _ (story certificate : List ℕ) (held holds : List ℕ → Option (List ℕ)) (before now : Option (List ℕ)) where
+  found_in_files :
+      (FindEnds story certificate held holds before now Found → (bytes : List ℕ) × IsFound (held story) bytes × HasAlone bytes (holds certificate) × Appends before now found_line)
+      × (FindEnds story certificate held holds before now (Stopped (Failed Write)) → (bytes : List ℕ) × IsFound (held story) bytes × HasAlone bytes (holds certificate) × AppendsBeginning before now found_line)
+      × (FindEnds story certificate held holds before now (Stopped (Failed Memory)) → (IsNotFound (held story) (Failed Memory) × (Failed Memory ≢ Failed File → holds ≡ held)) × (now ≡ before))
+  found_in_files = (λ ends. ends, λ ends. ends, λ ends. ends)
+
+  found_at_last : (outcome : Outcome) → FindComesTo story certificate held holds before now outcome → FindEnds story certificate held holds before now outcome × SparesOthers certificate held holds
+  found_at_last outcome comes = (comes.ends, comes.spared)
+
+  listed_of_file :
+      (known : Option (List ℕ)) → (ListComesTo known before now Listed → (text : List ℕ) × HoldsListed known text × Appends before now text)
+      × (ListComesTo known before now (Stopped (Failed Write)) → (text : List ℕ) × HoldsListed known text × AppendsBeginning before now text) × (ListComesTo known before now (Stopped (Failed Memory)) → IsNoListing known (Failed Memory) × (now ≡ before))
+  listed_of_file known = (λ comes. comes, λ comes. comes, λ comes. comes)
+
+-- ---- parts of files, and calls that fail
+
+-- bytes 1 and 2 of three; none of a file that goes on, where there is no room
+parts : ReadsPart (Some (10 ∷ 20 ∷ 30 ∷ [])) 1 2 (20 ∷ 30 ∷ []) × ReadsPart (Some (10 ∷ 20 ∷ [])) 0 0 []
+parts = (record { within = omega arith; read = refl; ends = λ none some. absurd (omega (arith, none)) }, record { within = omega arith; read = refl; ends = λ none some. absurd (omega (arith, some)) })
+
+counted : CountsNone {A = ℕ} 3 4 None × CountsNone {A = ℕ} 3 3 (Some 0) × (CountsNone {A = ℕ} 3 4 (Some 0) → ⊥) × (CountsNone {A = ℕ} 3 3 None → ⊥)
+counted = (refl, refl, λ e. omega (arith, e), λ e. omega (arith, e))
+
+-- words that name no command: want of memory, help and a mistake, with no file and no input touched
+explained :
+    Explains (DisplayHelp ∷ []) 4 (with_errors 3 (4 ∷ [])) (with_errors 3 (4 ∷ memory_line)) × Explains (DisplayHelp ∷ []) 0 (with_writer (3 ∷ []) 0 (4 ∷ [])) (with_writer (3 ∷ 5 ∷ []) 0 (4 ∷ []))
+    × Explains (UnknownArgument ∷ []) 2 (with_errors 3 (4 ∷ [])) (with_errors 3 (4 ∷ 5 ∷ [])) × (Explains (UnknownArgument ∷ []) 2 (all 1 2 3 4) (all 5 2 3 4) → ⊥) × (Explains (UnknownArgument ∷ []) 2 (all 1 2 3 4) (all 1 5 3 4) → ⊥)
+explained = (
+  inl lacking.0,
+  inr (DisplayHelp, 5 ∷ [], inl refl, shown.0, refl, refl),
+  inr (UnknownArgument, 5 ∷ [], inl refl, told.0, refl, refl),
+  no_file,
+  no_input,
+)
+  where
+    no_file : Explains (UnknownArgument ∷ []) 2 (all 1 2 3 4) (all 5 2 3 4) → ⊥
+    no_file (inl lacks) = absurd (omega (arith, lacks.reported.status_is))
+    no_file (inr (kind, text, among, tells, same, unread)) = absurd (let e = ap (λ (f : Held). f.known []) same in cc)
+
+    no_input : Explains (UnknownArgument ∷ []) 2 (all 1 2 3 4) (all 1 5 3 4) → ⊥
+    no_input (inl lacks) = absurd (omega (arith, lacks.reported.status_is))
+    no_input (inr (kind, text, among, tells, same, unread)) = absurd (let e = ap (λ (s : Told). s.remaining) unread in cc)
+
+-- ---- all that is done
+
+module _ (words : List (List ℕ)) (status : ℕ) (old new : Devices) where
+  -- the words do it, or there was no memory to read them
+  performed : Performs words status old new → Does words status old new ⊎ Lacks status old new
+  performed performs = performs
+
+  -- what is done is of the devices as they were and as they are
+  done :
+      (did : Does words status old new) → Comes did.request old.files.known new.files.known old.reader.remaining old.writer.contents new.writer.contents did.outcome
+      × (did.outcome ≡ Stopped (Failed File) → IsBlamed did.request old.files) × Blames (did.outcome ≡ Stopped (Failed Read)) old.reader.failures new.reader.failures × (is_quiet did.request ≡ true → new.reader ≡ old.reader)
+      × Reports did.outcome status old.errors new.errors × FlushesUnless (λ (s : Seen). s.failures) (λ (s : Seen). s.waits) old.writer new.writer (did.outcome ≡ Stopped (Failed Write))
+      × UsesUnless (λ (f : Held). f.known) (λ (f : Held). f.failures) old.files new.files (save_in did.request) (written_by did.request) (did.outcome ≡ Stopped (Failed File))
+  done did = (did.comes, did.could, did.reader, did.unasked, did.reported, did.writer, did.files)
