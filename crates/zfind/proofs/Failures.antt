@@ -1,5 +1,5 @@
 -- What kept a certificate from being found, as what is told of it.
-use Rattle.std.proofs.Common.{◌≡◌, ℕ, inl, inr, refl, subst, sym}
+use Rattle.std.proofs.Common.{◌≡◌, ℕ, inl, inr, refl}
 use Rattle.std.specs.Prelude.{◌≢◌, Result, Ok, Err, IfErr}
 use Rattle.zstory.specs.LoadedStory.{LoadedStory}
 use Rattle.zlist.specs.declared.list_error.ListError.{ListError}
@@ -10,7 +10,7 @@ use Rattle.zcert.specs.Certificate.{Certificate}
 use Rattle.zfind.specs.declared.error.Obstacle.{Obstacle}
 use Rattle.zfind.specs.declared.error.FindError.{FindError}
 use Rattle.zfind.specs.declared.error.FindError.TheVariants.{NotFound, RoundLimit, OutOfMemory}
-use Rattle.zfind.specs.Finding.{IsFailure, IsFaulty, IsListable, IsWalkFailure, IsWrongWith, told_of}
+use Rattle.zfind.specs.Finding.{IsFailure, IsFaulty, IsListable, IsTried, IsWalkFailure, IsWrongWith, told_of}
 
 module _ (story : LoadedStory) where
   faulty : (fault : ListError) → IsLowestFault story fault → IsFaulty story (told_of fault)
@@ -36,10 +36,10 @@ module _ (story : LoadedStory) where
   of_walk listable left RoundLimit it = listable
   of_walk listable left OutOfMemory it = tt
 
-  -- what is wrong with a certificate that was tried kept a walk from one
-  pub of_tried : (c : Certificate Interval) (left : ℕ) (tried : Result (Certificate Interval) FindError) → IfErr tried (λ error. (obstacle : Obstacle) × (error ≡ NotFound obstacle) × IsWrongWith story c obstacle) → IfErr tried (IsWalkFailure story left)
-  of_tried c left (Ok passed) wrong = tt
-  of_tried c left (Err error) (obstacle, is, wrong) = subst (IsWalkFailure story left) (sym is) (c, wrong)
+  -- what is wrong with this certificate is wrong with one that was tried
+  pub as_tried : (c : Certificate Interval) (tried : Result (Certificate Interval) FindError) → IfErr tried (λ error. (obstacle : Obstacle) × (error ≡ NotFound obstacle) × IsWrongWith story c obstacle) → IfErr tried (λ error. (obstacle : Obstacle) × (error ≡ NotFound obstacle) × IsTried story obstacle)
+  as_tried c (Ok passed) wrong = tt
+  as_tried c (Err error) (obstacle, is, wrong) = (obstacle, is, (c, wrong))
 
   pub limit_of_walk : (left : ℕ) (error : FindError) → IsWalkFailure story left error → error ≡ RoundLimit → left ≡ 0
   limit_of_walk left (NotFound obstacle) it e = absurd cc

@@ -5,7 +5,7 @@ ghost use Rattle.zdomain.specs.Interval.{interval_operations};
 ghost use Rattle.zlist.specs.Listed.{Lists};
 ghost use Rattle.zcheck.specs.Passes.{Passes};
 ghost use Rattle.zfind.specs.Attempts.{IsAttempt};
-ghost use Rattle.zfind.specs.Finding.{IsFailure, IsStopped, IsWalkFailure, IsWrongWith};
+ghost use Rattle.zfind.specs.Finding.{IsFailure, IsStopped, IsTried, IsWalkFailure, IsWrongWith};
 ghost use Rattle.zfind.specs.declared.error.FindError.TheVariants.{NotFound, RoundLimit};
 ghost use Rattle.zfind.specs.declared.error.Obstacle.{Obstacle as AnObstacle};
 
@@ -127,6 +127,15 @@ fn walked(
     let mut walk = Walk::new(alloc, code, plan)?;
     walk.grow(left)?;
     let certificate = certificate_of(alloc, code, &mut walk)?;
+    last_tried(story, certificate)
+}
+
+/// The certificate of the last walk, if it passes.
+#[tactic(auto, using(crate::proofs::Failures::as_tried))]
+fn last_tried(story: &Story, certificate: Certificate) -> Result<Certificate, FindError>
+    ensures passes { IfOk result (Passes interval_operations story.now) }
+    ensures failed { IfErr result (λ error. (obstacle : AnObstacle) × (error ≡ NotFound obstacle) × IsTried story.now obstacle) }
+{
     tried(story, certificate)
 }
 

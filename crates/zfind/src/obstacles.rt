@@ -116,9 +116,10 @@ fn broken_in_listed(
 }
 
 /// What the checker says first of a certificate that says no more than any other.
-#[tactic(auto, using(crate::proofs::Telling::wrong_where_tried))]
+#[tactic(auto, using(crate::proofs::Telling::wrong_where_tried, crate::proofs::Telling::met_where_tried))]
 fn obstacle_for(story: &Story, certificate: Certificate) -> Result<Option<Obstacle>, FindError>
     ensures told { IfOk result (λ obstacle. IfSome obstacle (IsWrongWith story.now certificate)) }
+    ensures met { IfOk result (λ obstacle. IfSome obstacle (IsMet story.now)) }
     ensures memory { IfErr result (λ error. error ≡ OutOfMemory) }
 {
     match tried(story, certificate) {
