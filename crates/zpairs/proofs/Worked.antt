@@ -1,6 +1,7 @@
 -- Values of the definitions, computed.
-use Rattle.std.proofs.Common.{◌≡◌, ℕ, true, false, List, [], ◌∷◌, ◌++◌, replicate, Some, None, refl}
+use Rattle.std.proofs.Common.{◌≡◌, ℕ, ◌<◌, true, false, List, [], ◌∷◌, ◌++◌, replicate, Some, None, refl, sym, subst, arith}
 use Rattle.zdomain.specs.Interval.{interval_operations}
+use Rattle.zdomain.specs.IntervalLaw.{interval_sound}
 use Rattle.zdomain.specs.declared.interval.Interval.{Interval}
 use Rattle.zstory.specs.LoadedStory.{LoadedStory}
 use Rattle.zcert.specs.declared.parts.Range.{Range}
@@ -12,7 +13,7 @@ use Rattle.zpairs.specs.Frozen.{FrozenStory, frozen_by}
 use Rattle.zpairs.specs.Ends.{turned, exactly, a_byte, any_word, no_word, joined, value_ends, address_ends}
 use Rattle.zpairs.specs.Blocks.{object_cell, object_in, place_cell}
 use Rattle.zpairs.specs.Cells.{absent_passes, is_unfrozen, cell_of, cell_at, no_cell, merged, passes}
-use Rattle.zpairs.specs.Pairs.{may_exceed, is_asked, ends_below, answers}
+use Rattle.zpairs.specs.Pairs.{AreAnswered, AreUnfrozen, CanBePut, EachPair, may_exceed, is_asked, ends_below, answers}
 
 -- ---- the order of signed readings
 
@@ -89,9 +90,9 @@ cells = (refl, refl, refl, refl, refl)
 
 both_cells :
     (merged (cell_at told 1 3) (cell_at told 2 3) ≡ record { has = false; short = true; unfrozen = false; values = record { least = 0x7FFE; greatest = 0x9234 }; addresses = record { least = 0x8000; greatest = 0x8276 } })
-    × ((merged (cell_at told 1 2) (cell_at told 1 3)).short ≡ false)
+    × ((merged (cell_at told 1 2) (cell_at told 1 3)).short ≡ false) × ((merged (cell_at told 2 3) (cell_at told 1 3)).has ≡ false)
 unfolding told story front tables first_properties is_unfrozen
-both_cells = (refl, refl)
+both_cells = (refl, refl, refl)
 
 -- what is known of none says nothing of others
 none_beside : (merged no_cell (cell_at told 1 3) ≡ cell_at told 1 3) × (merged no_cell (cell_at told 1 2) ≡ cell_at told 1 2)
@@ -131,3 +132,41 @@ address_hulls = (refl, refl, refl, refl, refl)
 nothing : answers interval_operations told Value (between 3 9) (between 3 3) ≡ interval_operations.any
 unfolding between told story front tables first_properties is_unfrozen ends_below
 nothing = refl
+
+-- ---- which set is of objects, and which of numbers
+
+only : ℕ → Interval
+only = interval_operations.single
+
+abbrev OfFirst : ℕ → (ℕ → ℕ → Type 0) → Type 0
+OfFirst number Holds = EachPair interval_operations story (only 1) (only number) Holds
+
+module _ (number : ℕ) (is_word : number < 65536) (Holds : ℕ → ℕ → Type 0) where
+  -- what holds of object 1 with a number holds of the pairs of two sets that have no other, and the other way round
+  of_pair : Holds 1 number → OfFirst number Holds
+  unfolding only
+  of_pair it x n least most object named = (
+      let first : x ≡ 1 = interval_sound.known (interval_operations.single 1) 1 x refl object
+      in let same : n ≡ number = interval_sound.known (interval_operations.single number) number n (interval_sound.known_single number is_word) named
+      in subst (λ (y : ℕ). Holds y n) (sym first) (subst (Holds 1) (sym same) it)
+      )
+
+  pair_of : OfFirst number Holds → Holds 1 number
+  unfolding only story
+  pair_of each = each 1 number (omega arith) (omega arith) (interval_sound.single 1 (omega arith)) (interval_sound.single number is_word)
+
+-- Object 1 can be given a word in property 5, of one byte, and asked for it; not in property 2, of three. Its property 5 isn't frozen,
+-- and its property 3 is
+pairs :
+    CanBePut interval_operations story (only 1) (only 5) × (CanBePut interval_operations story (only 1) (only 2) → ⊥)
+    × AreAnswered interval_operations story Value (only 1) (only 5) × (AreAnswered interval_operations story Value (only 1) (only 2) → ⊥)
+    × AreUnfrozen interval_operations story (frozen_by told.ranges) (only 1) (only 5) × (AreUnfrozen interval_operations story (frozen_by told.ranges) (only 1) (only 3) → ⊥)
+unfolding told story front tables first_properties
+pairs = (
+  of_pair 5 (omega arith) _ refl,
+  λ can. absurd (let never : false ≡ true = pair_of 2 (omega arith) _ can in cc),
+  of_pair 5 (omega arith) _ refl,
+  λ are. absurd (let never : false ≡ true = pair_of 2 (omega arith) _ are in cc),
+  of_pair 5 (omega arith) _ (λ p inside. (let here : p ≡ 0x274 = omega (arith, inside.0, inside.1) in subst (λ (q : ℕ). frozen_by told.ranges q ≡ false) (sym here) refl)),
+  λ are. absurd (let never = pair_of 3 (omega arith) _ are 0x276 (omega arith, omega arith) in cc),
+)

@@ -74,7 +74,7 @@ changing p = (there, back)
 lengths : (data_length 0x05 ≡ 1) × (data_length 0x23 ≡ 2) × (data_length 0xFF ≡ 8)
 lengths = (refl, refl, refl)
 
-size_places : IsSizePlace memory 147 147 × IsSizePlace memory 149 147 × IsSizePlace memory 152 147
+pub size_places : IsSizePlace memory 147 147 × IsSizePlace memory 149 147 × IsSizePlace memory 152 147
 unfolding memory table
 size_places = (
   here 147 refl (omega arith),

@@ -5,9 +5,12 @@ use Rattle.zstory.specs.LoadedStory.{LoadedStory, abbreviations, globals, object
 use Rattle.ztext.specs.Abbreviations.{readable_word}
 use Rattle.ztext.specs.Local.{read_length}
 use Rattle.zobj.specs.Properties.{list_place}
-use Rattle.zplace.specs.Bytes.{IsWithin, IsObjectEntry, IsSizePlace, here, behind, IsOpen, IsClosed, header, a_global, a_default, an_entry, a_property, an_abbreviation, frozen, static}
+use Rattle.zplace.specs.declared.places.Places.TheVariants.{Run, Sizes}
+use Rattle.zplace.specs.Apart.{AreApart, HasNoObjectState}
+use Rattle.zplace.specs.Bytes.{IsWithin, IsObjectEntry, IsObjectState, IsUnchanging, IsSizePlace, here, behind, IsOpen, IsClosed, header, a_global, a_default, an_entry, a_property, an_abbreviation, frozen, static}
 use Rattle.zplace.specs.Tables.{none_frozen, ended, longer, IsDataPlace, in_data, in_rest, IsPropertyTable, IsPropertyData, HasPropertyTables}
-use Rattle.zplace.proofs.Worked.{memory, table, story, of_two, no_word, same_table}
+use Rattle.zplace.specs.Places.{IsAmong}
+use Rattle.zplace.proofs.Worked.{memory, table, story, of_two, no_word, same_table, size_places}
 
 -- ---- bytes
 
@@ -125,3 +128,33 @@ tableless objects = record { memory = []; objects = objects }
 each_has_one : (HasPropertyTables (tableless 1) → ⊥) × (HasPropertyTables (tableless 2) → IsPropertyTable (tableless 2) (property_table [] 2))
 unfolding tableless
 each_has_one = (λ tables. (let low = (tables.tables 1 (omega arith) (omega arith)).above in omega (arith, low)), λ tables. tables.tables 2 (omega arith) (omega arith))
+
+-- ---- what lies apart
+
+-- two bytes from 4 on, and those from 6 on; not the second of them, from either side
+apart : AreApart 4 2 6 2 × (AreApart 4 2 5 2 → ⊥) × (AreApart 5 1 4 2 → ⊥)
+apart = (
+  λ p left right. omega (arith, left.1, right.0),
+  λ are. are 5 (omega arith, omega arith) (omega arith, omega arith),
+  λ are. are 5 (omega arith, omega arith) (omega arith, omega arith),
+)
+
+-- of the entry from 126 on the last two of nine bytes are no state, and the seventh is
+state_at : IsObjectState story 132
+unfolding story memory table
+state_at = record { object = 1; first = omega arith; last = omega arith; inside = (omega arith, omega arith) }
+
+stateless : HasNoObjectState story 133 2 × (HasNoObjectState story 132 1 → ⊥) × (IsUnchanging story 132 1 → ⊥)
+unfolding story memory table
+stateless = (
+  λ p within state. of_object p within state.object state.first state.last state.inside,
+  λ none. none 132 (omega arith, omega arith) state_at,
+  λ unchanging. unchanging.still 132 (omega arith, omega arith) (inr (inr state_at)),
+)
+  where
+    of_object : (p : ℕ) → IsWithin 133 2 p → (object : ℕ) → 1 ≤ object → object ≤ 2 → IsWithin (object_place memory object) 7 p → ⊥
+    of_object p within = of_two (λ k. IsWithin (object_place memory k) 7 p → ⊥) (λ one. omega (arith, within.0, one.1)) (λ two. omega (arith, within.1, two.0))
+
+-- what a run names, and what a list's size bytes are
+among : IsAmong memory (Run 4 2) 5 × (IsAmong memory (Run 4 2) 6 → ⊥) × (IsAmong memory (Run 4 2) 3 → ⊥) × IsAmong memory (Sizes 147) 149
+among = ((omega arith, omega arith), (λ is. omega (arith, is.1)), (λ is. omega (arith, is.0)), size_places.1)

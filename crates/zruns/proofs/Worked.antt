@@ -1,5 +1,5 @@
 -- Values of the definitions, computed.
-use Rattle.std.proofs.Common.{◌≡◌, ◌⊎◌, inl, inr, ℕ, zero, suc, ◌+◌, ◌-◌, ◌<◌, ◌≤◌, Bool, true, false, List, [], ◌∷◌, ◌++◌, replicate, Some, None, refl, sym, subst, ◌∙◌, arith}
+use Rattle.std.proofs.Common.{◌≡◌, ◌⊎◌, inl, inr, ℕ, zero, suc, ◌+◌, ◌-◌, ◌%◌, ◌<◌, ◌≤◌, Bool, true, false, List, [], ◌∷◌, ◌++◌, replicate, Some, None, refl, sym, subst, ◌∙◌, arith, nat_le}
 use Rattle.zdomain.specs.Interval.{interval_operations}
 use Rattle.zdomain.specs.IntervalLaw.{interval_sound}
 use Rattle.zdomain.specs.declared.interval.Interval.{Interval}
@@ -10,9 +10,9 @@ use Rattle.zword.specs.declared.addressing.Addressing.TheVariants as addressings
 use Rattle.zword.specs.Addressing.{place_of}
 use Rattle.zpairs.specs.Frozen.{FrozenStory, frozen_by}
 use Rattle.zpairs.specs.Ends.{exactly}
-use Rattle.zplace.specs.Bytes.{IsFixed}
+use Rattle.zplace.specs.Bytes.{IsFixed, IsOpen}
 use Rattle.zruns.specs.Fixed.{any_below, is_in_abbreviation, is_size_place, is_in_text, is_closed, is_changing, is_fixed}
-use Rattle.zruns.specs.Runs.{AreReadable, run_of, address, cell_at, no_cell, merged, merged_below, any_element, elements}
+use Rattle.zruns.specs.Runs.{AreOpen, AreReadable, run_of, address, cell_at, no_cell, merged, merged_below, any_element, elements}
 use Rattle.zruns.specs.Blocks.{step_length}
 use Rattle.zruns.specs.Texts.{HasFixedText, AreFixedTexts, begins_text, run_length}
 use Rattle.zruns.specs.Buffers.{IsTextBuffer, IsParseBuffer, AreBuffers}
@@ -38,8 +38,8 @@ whole_runs = (refl, refl, refl)
 addresses : (address (record { first = 65534; more = 3 }) 0 ≡ 65534) × (address (record { first = 65534; more = 3 }) 1 ≡ 65535) × (address (record { first = 65534; more = 3 }) 2 ≡ 0) × (address (record { first = 65534; more = 3 }) 3 ≡ 1)
 addresses = (refl, refl, refl, refl)
 
-steps : (step_length 255 1000 ≡ 1) × (step_length 256 512 ≡ 256) × (step_length 256 511 ≡ 1) × (step_length 0 65536 ≡ 256)
-steps = (refl, refl, refl, refl)
+steps : (step_length 255 1000 ≡ 1) × (step_length 256 512 ≡ 256) × (step_length 256 511 ≡ 1) × (step_length 0 65536 ≡ 256) × (step_length 256 600 ≡ 256)
+steps = (refl, refl, refl, refl, refl)
 
 -- ---- a story with one object
 
@@ -109,9 +109,11 @@ unfolding told story front tables any_below is_size_place
 cells = (refl, refl, refl, refl, refl, refl, refl)
 
 -- -2 and 258
-both_cells : (merged (cell_at told Word 0x270) (cell_at told Word 0x272) ≡ record { is_open = false; fixed = false; ends = record { least = 0x7FFE; greatest = 0x8102 } }) × (merged no_cell (cell_at told Word 0x272) ≡ cell_at told Word 0x272)
+both_cells :
+    (merged (cell_at told Word 0x270) (cell_at told Word 0x272) ≡ record { is_open = false; fixed = false; ends = record { least = 0x7FFE; greatest = 0x8102 } }) × (merged no_cell (cell_at told Word 0x272) ≡ cell_at told Word 0x272)
+    × ((merged (cell_at told Word 0x272) (cell_at told Word 0x270)).is_open ≡ false)
 unfolding told story front tables any_below is_size_place
-both_cells = (refl, refl)
+both_cells = (refl, refl, refl)
 
 -- ---- what is read
 
@@ -122,6 +124,23 @@ at_end = (λ k few. omega (arith, few, end), λ k few. omega (arith, few, end), 
   where
     end : readable_end story.memory ≡ 0x284
     end = refl
+
+-- of an array at 0x268 byte 1 is open, the property's data, and byte 2 isn't, which ends the list
+abbrev Open : ℕ → Type 0
+Open p = IsOpen story (frozen_by told.ranges) p
+
+data_open : (k : ℕ) → k ≤ 0 → (j : ℕ) → j < 1 → Open ((0x269 + k) % 65536 + j)
+unfolding told story front tables any_below is_size_place merged_below
+data_open zero none zero one = (piece_open told 0x269 1).0 refl 0x269 (omega arith, omega arith)
+data_open zero none (suc j) one = absurd (omega (arith, one))
+data_open (suc k) none j one = absurd (omega (arith, none))
+
+at_index : AreOpen interval_operations story (frozen_by told.ranges) Byte (between 0x268 0x268) (between 1 1) × (AreOpen interval_operations story (frozen_by told.ranges) Byte (between 0x268 0x268) (between 2 2) → ⊥)
+unfolding between told story front tables any_below is_size_place merged_below
+at_index = (data_open, λ are. none_open ((piece_open told 0x26A 1).1 (λ p within. (let here : p ≡ 0x26A = omega (arith, within.0, within.1) in subst Open (sym here) (are 0 (omega arith) 0 (omega arith))))))
+  where
+    none_open : false ≡ true → ⊥
+    none_open e = cc
 
 any_elements : (any_element interval_operations Byte ≡ between 0 255) × (any_element interval_operations Word ≡ interval_operations.any)
 unfolding between
@@ -197,8 +216,8 @@ sets_of_texts = (
 )
 
 -- no run is longer than the greatest word
-run_lengths : (run_length (λ x. true) 7 0 ≡ 1) × (run_length (λ x. true) 7 65534 ≡ 65535) × (run_length (λ x. true) 7 65535 ≡ 65535) × (run_length (λ x. false) 7 3 ≡ 0)
-run_lengths = (refl, refl, refl, refl)
+run_lengths : (run_length (λ x. true) 7 0 ≡ 1) × (run_length (λ x. true) 7 65534 ≡ 65535) × (run_length (λ x. true) 7 65535 ≡ 65535) × (run_length (λ x. false) 7 3 ≡ 0) × (run_length (nat_le 7) 7 3 ≡ 4)
+run_lengths = (refl, refl, refl, refl, refl)
 
 -- ---- buffers
 
