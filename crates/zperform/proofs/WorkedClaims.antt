@@ -246,9 +246,13 @@ module _ (a : Acceptance) (certificate : Option (List ℕ)) where
   no_story : IsAccepted (Some []) certificate a → ⊥
   no_story accepted = omega (arith, story_bytes (Some []) a.story accepted.story)
 
-no_certificate : (story : Option (List ℕ)) (a : Acceptance) → IsAccepted story (Some []) a → ⊥
+-- no bytes are no certificate
+unread : (c : Certificate Interval) → HoldsCertificate (Some []) c → ⊥
 unfolding reading heading_at magic_at
-no_certificate story a accepted = absurd (let unread = subst (λ (file : List ℕ). reading interval_format file ≡ Ok a.certificate) accepted.certificate.1 accepted.certificate.2 in cc)
+unread c held = absurd (let none = subst (λ (file : List ℕ). reading interval_format file ≡ Ok c) held.1 held.2 in cc)
+
+no_certificate : (story : Option (List ℕ)) (a : Acceptance) → IsAccepted story (Some []) a → ⊥
+no_certificate story a accepted = unread a.certificate accepted.certificate
 
 abbrev ComesOfNone : (Option (List ℕ) → Option (List ℕ) → Outcome → Type 0) → Outcome → Type 0
 ComesOfNone ComesSo outcome = ComesSo None None outcome → ⊥
@@ -290,6 +294,10 @@ module _ (story certificate : Option (List ℕ)) (rule : StoryRule) (address : �
       × (IsUnaccepted story certificate (BreaksInstruction address broken) → (s : LoadedStory) × (c : Certificate Interval) × HoldsStory story s × HoldsCertificate certificate c)
       × ((options : Options) (outside : World) (before now : Option (List ℕ)) → PlayComesTo story certificate options outside before now (Stopped (BreaksStory rule)) → (s : LoadedStory) × (c : Certificate Interval) × HoldsStory story s × HoldsCertificate certificate c)
   broken_of_files = (λ b. (b.story, b.certificate, b.held, b.read), λ b. (b.story, b.certificate, b.held, b.read), λ options outside before now comes. (comes.0.story, comes.0.certificate, comes.0.held, comes.0.read))
+
+-- `check` tells of no rule where the certificate's file holds no certificate, whatever was written before
+unread_at_check : (rule : StoryRule) (address : ℕ) (broken : Rule) → (CheckComesTo None (Some []) None None (Stopped (BreaksStory rule)) → ⊥) × (CheckComesTo None (Some []) None None (Stopped (BreaksInstruction address broken)) → ⊥)
+unread_at_check rule address broken = (λ comes. unread _ comes.0.read, λ comes. unread _ comes.0.read)
 
 -- a story is refused for its own file
 refused_story : (story certificate : Option (List ℕ)) (error : LoadError) → IsUnaccepted story certificate (Refused error) → (file : List ℕ) × IfSome story (λ bytes. file ≡ bytes) × IsRefused file error

@@ -215,7 +215,8 @@ module _ (m : Setting) (Takes : State → Type 0) (asked : Bool) (s t : State) (
   not_more_at_a_need : Meets m Takes (Given (events.Random 7)) (stage 5 s w) (stage 6 t w) [] → ⊥
   not_more_at_a_need meets = omega (arith, meets.all)
 
--- memory may be refused where a save is told of, on a checked machine where one is wanted too, and where a line is only for the step
+-- Memory may be refused where a save is told of, and on a checked machine where one is wanted too; where a line is awaited, only where the
+-- step itself wants some
 module _ (m : Setting) (s : State) where
   may_be_refused : (awaited m s ≡ Some needs.Saved → GivesOrSaves m s × WantsOrSaves m s) × (awaited m s ≡ Some needs.Restore → WantsOrSaves m s)
   may_be_refused = ((λ saved. (inr saved, inr (inl saved))), λ restores. inr (inr restores))
