@@ -135,6 +135,7 @@ fn walked(
 fn last_tried(story: &Story, certificate: Certificate) -> Result<Certificate, FindError>
     ensures passes { IfOk result (Passes interval_operations story.now) }
     ensures failed { IfErr result (λ error. (obstacle : AnObstacle) × (error ≡ NotFound obstacle) × IsTried story.now obstacle) }
+    ensures wrong { IfErr result (λ error. (obstacle : AnObstacle) → error ≡ NotFound obstacle → IsWrongWith story.now certificate obstacle) }
 {
     tried(story, certificate)
 }
