@@ -1,11 +1,14 @@
 //! The parts of what may come of an instruction.
 
+ghost use Rattle.std.specs.Prelude.{◌≡◌, ⊤};
+
+use std::alloc::AllocError;
 use zarray::Width;
 use zobj::PropertyQuestion;
 use zword::Addressing;
 
 /// What an operation asks for, once for an instruction.
-#[derive(Clone, Copy)]
+#[derive(Copy)]
 pub struct Demands<V> {
     /// The first operand names a variable.
     pub indirect: bool,
@@ -35,6 +38,17 @@ pub struct Demands<V> {
     pub has_text: bool,
     /// The status line shows what the first three globals say.
     pub shows_status: bool,
+}
+
+// By hand, since a derived one goes through all fields.
+impl<V: Copy> Clone for Demands<V> {
+    ghost is_clone = { λ demands copy. copy ≡ demands };
+
+    ghost is_infallible = { λ _. ⊤ };
+
+    fn clone(&self) -> Result<Demands<V>, AllocError> {
+        Ok(*self)
+    }
 }
 
 /// What is asked of a property.

@@ -55,6 +55,13 @@ module _ (P : Rule → Type 0) where
       let next : suc k ≡ k + 1 = omega arith in
       subst (λ (n : ℕ). AllByRecursion P (take n asked)) next (more_kept P asked k rule e p a)
 
+  -- so does the next, where it is one of them
+  pub kept_next : (k : ℕ) (default : Rule) → k < 17 → P (slice_index_or asked k default) → AllByRecursion P (take k asked) → AllByRecursion P (take (k + 1) asked)
+  kept_next k default within p a =
+      let at = some_at asked k within in
+      let same : slice_index_or asked k default ≡ at.0 = get_or_from_slice_get asked k at.0 default at.1 in
+      kept_more k at.0 at.1 (subst P same p) a
+
   pub kept_before : P Decodes → (k : ℕ) (rule : Rule) → slice_get asked k ≡ Some rule → AllByRecursion P (take k asked) → (q : Rule) → number_of q < number_of rule → P q
   kept_before d k rule e a q l = by_others (others q)
     where

@@ -248,6 +248,24 @@ fn keeps<V: Spelled>(site: Site<'_, V>, flow: &Flow<'_, V>, rule: Rule) -> bool
     asks(site, flow, rule)
 }
 
+/// The lowest rule that an instruction breaks of those that are asked where one is, and `None` where it keeps all (own).
+fn first_broken<V: Spelled>(site: Site<'_, V>, flow: &Flow<'_, V>) -> Option<Rule>
+    requires there { IsThere site.story.now site.listed.now.address site.instruction.now }
+    requires near { site.listed.now.address + site.instruction.now.size ≤ 131072 }
+    requires tables { site.tables.now ≡ record { story = site.story.now; ranges = site.certificate.now.ranges } }
+    requires flow { IsFlow V.operations site.certificate.now.globals (told_of (claims_of V.operations site.certificate.now) site.story.now) site.instruction.now (entry_of (seen site.listed.now)).shape flow.now }
+    requires told { IfSome site.blocks (λ b. AreBlocks V.operations (claims_of V.operations site.certificate.now) site.story.now b.now) }
+    ensures kept { IfNone result ((rule : ARule) → Keeps V.operations (claims_of V.operations site.entry.certificate.now) site.entry.story.now site.entry.listed.now.address (entry_of (seen site.entry.listed.now)) rule) }
+    ensures broken { IfSome result (IsLowestBroken V.operations (claims_of V.operations site.entry.certificate.now) site.entry.story.now site.entry.listed.now.address (entry_of (seen site.entry.listed.now))) }
+{
+    for rule in RULES {
+        if !keeps(site, flow, rule) {
+            return Some(rule);
+        }
+    }
+    None
+}
+
 /// The lowest rule that a listed instruction breaks, and `None` where it keeps all (own). No other rule is asked of a
 /// place where no instruction is.
 fn broken_rule<V: Spelled>(
@@ -314,12 +332,10 @@ pub fn judge<'c, V: Spelled>(
         near,
         blocks,
     };
-    for rule in RULES {
-        if !keeps(site, &flow, rule) {
-            return Err(rule);
-        }
+    match first_broken(site, &flow) {
+        None => Ok(instruction),
+        Some(rule) => Err(rule),
     }
-    Ok(instruction)
 }
 
 /// The lowest rule that is broken at an address, where an instruction is listed there (own). `None` where all are kept,

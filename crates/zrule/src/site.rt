@@ -1,6 +1,9 @@
 //! Where the rules are asked.
 
+ghost use Rattle.std.specs.Prelude.{◌≡◌, ⊤};
+
 use crate::blocks::{Block, Blocks};
+use std::alloc::AllocError;
 use zcert::{Certificate, Instruction, Spelled};
 use zcode::Instr;
 use zflow::argument_set;
@@ -8,7 +11,7 @@ use zruns::Tables;
 use zstory::Story;
 
 /// A listed instruction that is there, with what the rules look at beside it.
-#[derive(Clone, Copy)]
+#[derive(Copy)]
 pub(crate) struct Site<'s, V: Spelled> {
     pub(crate) story: &'s Story,
     /// What comes of asking the story's objects for properties, and what is known of its arrays.
@@ -20,6 +23,17 @@ pub(crate) struct Site<'s, V: Spelled> {
     pub(crate) near: usize,
     /// What is known of the certificate's routines block by block, if anything.
     pub(crate) blocks: Option<&'s Blocks<V>>,
+}
+
+// By hand, since a derived one goes through all fields.
+impl<'s, V: Spelled> Clone for Site<'s, V> {
+    ghost is_clone = { λ site copy. copy ≡ site };
+
+    ghost is_infallible = { λ _. ⊤ };
+
+    fn clone(&self) -> Result<Site<'s, V>, AllocError> {
+        Ok(*self)
+    }
 }
 
 impl<'s, V: Spelled> Site<'s, V> {

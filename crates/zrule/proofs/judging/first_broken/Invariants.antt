@@ -4,8 +4,8 @@ use Rattle.zcert.specs.Listed.{seen}
 use Rattle.zrule.specs.Claims.{claims_of, entry_of}
 use Rattle.zrule.specs.Rules.{Keeps}
 use Rattle.zrule.proofs.Order.{asked}
-use Rattle.zrule.proofs.judging.judge.Given as goal
+use Rattle.zrule.proofs.judging.first_broken.Given as goal
 
 abbrev pub invariant-loop-rule : goal.invariant-loop-rule
 invariant-loop-rule g l =
-    AllByRecursion (Keeps g.V.Domain.operations (claims_of g.V.Domain.operations l.certificate) l.story l.fn.listed.address (entry_of (seen l.fn.listed))) (take l.rule-index asked)
+    AllByRecursion (Keeps g.V.Domain.operations (claims_of g.V.Domain.operations l.fn.site.certificate.now) l.fn.site.story.now l.fn.site.listed.now.address (entry_of (seen l.fn.site.listed.now))) (take l.rule-index asked)
