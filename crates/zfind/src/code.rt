@@ -101,7 +101,7 @@ impl<'a> Code<'a> {
     /// Notes that a variable is read, if it is a global.
     fn note_global(&mut self, index: usize, variable: u16) -> Result<(), AllocError> {
         match variable.checked_sub(16) {
-            Some(global) => self.readers.add(global, index),
+            Some(global) => self.readers.add(global, short(index)),
             None => Ok(()),
         }
     }
@@ -121,7 +121,7 @@ impl<'a> Code<'a> {
     fn note_call(&mut self, index: usize, instruction: &Instr) -> Result<(), AllocError> {
         match instruction.inputs().as_slice().first() {
             Some(Operand::Constant(packed)) => match self.routine_of(*packed) {
-                Some(number) => self.callers.add(number, index),
+                Some(number) => self.callers.add(number, short(index)),
                 None => Ok(()),
             },
             _ => {
@@ -271,7 +271,7 @@ fn add_constants(thresholds: &mut Thresholds, instruction: &Instr) -> Result<(),
 }
 
 /// An index in four bytes.
-fn short(index: usize) -> u32 {
+pub(crate) fn short(index: usize) -> u32 {
     u32::try_from(index).unwrap_or(u32::MAX)
 }
 

@@ -1,13 +1,15 @@
 //! Which instructions are to be visited.
 
 use std::alloc::{AllocError, Global};
+use std::cmp::Reverse;
 use std::collections::BinaryHeap;
 
 /// The instructions that are to be visited, by their indices among the listed ones: the highest rank comes first, and of one rank the
 /// lowest index.
 #[derive(Drop)]
 pub(crate) struct Queue {
-    heap: BinaryHeap<u64>,
+    /// Each rank with its index.
+    heap: BinaryHeap<(u32, Reverse<u32>)>,
     waiting: Vec<bool>,
 }
 
@@ -21,12 +23,12 @@ impl Queue {
     }
 
     /// One more, if it isn't there.
-    pub(crate) fn push(&mut self, index: usize, rank: u32) -> Result<(), AllocError> {
-        let Some(waiting) = self.waiting.get_mut(index) else {
+    pub(crate) fn push(&mut self, index: u32, rank: u32) -> Result<(), AllocError> {
+        let Some(waiting) = self.waiting.get_mut(index as usize) else {
             return Ok(());
         };
         if !*waiting {
-            self.heap.push(key_of(index, rank))?;
+            self.heap.push((rank, Reverse(index)))?;
             *waiting = true;
         }
         Ok(())
@@ -34,15 +36,16 @@ impl Queue {
 
     /// The next one.
     pub(crate) fn next(&self) -> Option<usize> {
-        Some(index_of(*self.heap.peek()?))
+        let (_, Reverse(index)) = *self.heap.peek()?;
+        Some(index as usize)
     }
 
     /// Takes the next one out.
     pub(crate) fn remove_next(&mut self) {
-        let Some(key) = self.heap.pop() else {
+        let Some((_, Reverse(index))) = self.heap.pop() else {
             return;
         };
-        if let Some(waiting) = self.waiting.get_mut(index_of(key)) {
+        if let Some(waiting) = self.waiting.get_mut(index as usize) {
             *waiting = false;
         }
     }
@@ -56,16 +59,4 @@ impl Queue {
     pub(crate) fn is_empty(&self) -> bool {
         self.heap.is_empty()
     }
-}
-
-/// A number that is greater for a higher rank, and of one rank for a lower index.
-fn key_of(index: usize, rank: u32) -> u64 {
-    let below = u32::try_from(index).unwrap_or(u32::MAX);
-    (u64::from(rank) << 32) | u64::from(u32::MAX - below)
-}
-
-/// The index that it was made of.
-fn index_of(key: u64) -> usize {
-    let below = (key & 0xffff_ffff) as u32;
-    (u32::MAX - below) as usize
 }

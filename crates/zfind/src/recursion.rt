@@ -1,6 +1,6 @@
 //! Which routines may be entered once more before they return.
 
-use crate::groups::{Groups, index_in};
+use crate::groups::Groups;
 use std::alloc::{AllocError, Global};
 use zcode::{Operand, Operation};
 use zlist::{Listing, Record};
@@ -56,7 +56,7 @@ impl Calls {
 
     /// One more.
     fn add(&mut self, from: u16, to: u16) -> Result<(), AllocError> {
-        self.callers.add(to, usize::from(from))?;
+        self.callers.add(to, u32::from(from))?;
         if let Some(count) = self.counts.get_mut(usize::from(from)) {
             *count = count.saturating_add(1);
         }
@@ -92,12 +92,9 @@ impl Calls {
 
     /// Takes the calls of a routine that ends off those of its callers, and adds each of these that ends thereby.
     fn end(&mut self, number: u16, ended: &mut Vec<u16>) -> Result<(), AllocError> {
-        for pair in self.callers.from(number) {
-            let Some(caller) = index_in(*pair, number) else {
-                return Ok(());
-            };
-            if is_last_call(&mut self.counts, caller) {
-                ended.push(caller.min(0xffff) as u16)?;
+        for (_, caller) in self.callers.of(number) {
+            if is_last_call(&mut self.counts, *caller as usize) {
+                ended.push((*caller).min(0xffff) as u16)?;
             }
         }
         Ok(())

@@ -4,11 +4,11 @@ ghost use Rattle.std.specs.Prelude.{◌≤◌, IfErr};
 ghost use Rattle.zfind.specs.Finding.{IsStopped};
 
 use crate::bytes::{Bytes, Span};
-use crate::code::Code;
+use crate::code::{Code, short};
 use crate::effects::{Calls, Effect, Effects, MOST_CALLEES, is_waited_for, next_callee};
 use crate::error::FindError;
 use crate::frame::Frame;
-use crate::groups::{Groups, index_in};
+use crate::groups::Groups;
 use crate::looking::{callees_at, look};
 use crate::openings::open_written;
 use crate::queue::Queue;
@@ -327,7 +327,7 @@ impl<'a, V: Domain> Walk<'a, V> {
     fn wake(&mut self, index: usize) -> Result<(), AllocError> {
         if self.state.is_reached(index) {
             let rank = self.rank_of(index);
-            self.queue.push(index, rank)?;
+            self.queue.push(short(index), rank)?;
         }
         Ok(())
     }
@@ -366,11 +366,8 @@ impl<'a, V: Domain> Walk<'a, V> {
 
     /// Has all visited that depends on a thing of a number.
     fn wake_group(&mut self, groups: &Groups, number: u16) -> Result<(), AllocError> {
-        for pair in groups.from(number) {
-            let Some(index) = index_in(*pair, number) else {
-                return Ok(());
-            };
-            self.wake(index)?;
+        for (_, index) in groups.of(number) {
+            self.wake(*index as usize)?;
         }
         Ok(())
     }
