@@ -7,7 +7,7 @@ use Rattle.ztext.specs.Local.{read_length}
 use Rattle.zobj.specs.Properties.{list_place}
 use Rattle.zplace.specs.declared.places.Places.TheVariants.{Run, Sizes}
 use Rattle.zplace.specs.Apart.{AreApart, HasNoObjectState}
-use Rattle.zplace.specs.Bytes.{IsWithin, IsObjectEntry, IsObjectState, IsUnchanging, IsSizePlace, here, behind, IsOpen, IsClosed, header, a_global, a_default, an_entry, a_property, an_abbreviation, frozen, static}
+use Rattle.zplace.specs.Bytes.{IsWithin, IsChanging, IsObjectEntry, IsObjectState, IsUnchanging, IsSizePlace, here, behind, IsOpen, IsClosed, header, a_global, a_default, an_entry, a_property, an_abbreviation, frozen, static}
 use Rattle.zplace.specs.Tables.{none_frozen, ended, longer, IsDataPlace, in_data, in_rest, IsPropertyTable, IsPropertyData, HasPropertyTables}
 use Rattle.zplace.specs.Places.{IsAmong}
 use Rattle.zplace.proofs.Worked.{memory, table, story, of_two, no_word, same_table, size_places}
@@ -131,10 +131,11 @@ each_has_one = (λ tables. (let low = (tables.tables 1 (omega arith) (omega arit
 
 -- ---- what lies apart
 
--- two bytes from 4 on, and those from 6 on; not the second of them, from either side
-apart : AreApart 4 2 6 2 × (AreApart 4 2 5 2 → ⊥) × (AreApart 5 1 4 2 → ⊥)
+-- two bytes from 4 on, and those from 6 on; a byte at 9, and five from 4 on; not the second of two, from either side
+apart : AreApart 4 2 6 2 × AreApart 9 1 4 5 × (AreApart 4 2 5 2 → ⊥) × (AreApart 5 1 4 2 → ⊥)
 apart = (
   λ p left right. omega (arith, left.1, right.0),
+  λ p left right. omega (arith, left.0, right.1),
   λ are. are 5 (omega arith, omega arith) (omega arith, omega arith),
   λ are. are 5 (omega arith, omega arith) (omega arith, omega arith),
 )
@@ -154,6 +155,16 @@ stateless = (
   where
     of_object : (p : ℕ) → IsWithin 133 2 p → (object : ℕ) → 1 ≤ object → object ≤ 2 → IsWithin (object_place memory object) 7 p → ⊥
     of_object p within = of_two (λ k. IsWithin (object_place memory k) 7 p → ⊥) (λ one. omega (arith, within.0, one.1)) (λ two. omega (arith, within.1, two.0))
+
+-- so these two don't change, and the globals behind them do
+unchanging : IsUnchanging story 133 2 × (IsUnchanging story 133 28 → ⊥)
+unfolding story memory table
+unchanging = (record { still = λ p within. by_cause p within }, λ more. more.still 160 (omega arith, omega arith) (inr (inl (omega arith, omega arith))))
+  where
+    by_cause : (p : ℕ) → IsWithin 133 2 p → IsChanging story p → ⊥
+    by_cause p within (inl flags) = omega (arith, within.0, flags.1)
+    by_cause p within (inr (inl global)) = omega (arith, within.1, global.0)
+    by_cause p within (inr (inr state)) = stateless.0 p within state
 
 -- what a run names, and what a list's size bytes are
 among : IsAmong memory (Run 4 2) 5 × (IsAmong memory (Run 4 2) 6 → ⊥) × (IsAmong memory (Run 4 2) 3 → ⊥) × IsAmong memory (Sizes 147) 149
