@@ -50,4 +50,4 @@ too_full = (λ f. omega (arith, f.few), λ f. omega (arith, f.height), λ f. ome
 
 -- 84 words are held for each frame, no fewer and no more
 room : (words : List ℕ) → IsHeld 1 0 5 5 words → length words ≡ 168
-room words held = held.room
+room packed held = held.room

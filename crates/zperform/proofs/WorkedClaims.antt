@@ -297,7 +297,7 @@ module _ (story certificate : Option (List ℕ)) (rule : StoryRule) (address : �
 
 -- `check` tells of no rule where the certificate's file holds no certificate, whatever was written before
 unread_at_check : (rule : StoryRule) (address : ℕ) (broken : Rule) → (CheckComesTo None (Some []) None None (Stopped (BreaksStory rule)) → ⊥) × (CheckComesTo None (Some []) None None (Stopped (BreaksInstruction address broken)) → ⊥)
-unread_at_check rule address broken = (λ comes. unread _ comes.0.read, λ comes. unread _ comes.0.read)
+unread_at_check rule address unkept = (λ comes. unread _ comes.0.read, λ comes. unread _ comes.0.read)
 
 -- a story is refused for its own file
 refused_story : (story certificate : Option (List ℕ)) (error : LoadError) → IsUnaccepted story certificate (Refused error) → (file : List ℕ) × IfSome story (λ bytes. file ≡ bytes) × IsRefused file error

@@ -32,10 +32,7 @@ pub(crate) fn step_call(
     requires operation { row.now.operation ≡ Operation.Call }
     ensures { (items : List Item) → StepsBy (setting_of story.now scope.now) row.now result state.old state.new items items }
 {
-    let values = match state.read_operands(story, row.inputs()) {
-        Ok(values) => values,
-        Err(halt) => return Err(StepError::Halt(halt)),
-    };
+    let values = state.read_operands(story, row.inputs())?;
     let (words, popped) = (values.words(), values.popped());
     let address = arg(words, 0);
     if address == 0 {
@@ -105,10 +102,7 @@ pub(crate) fn halt_call(
     requires operation { row.now.operation ≡ Operation.Call }
     ensures { Judges (step_by (setting_of story.now scope.now) row.now state.now) result state.now }
 {
-    let values = match state.read_operands(story, row.inputs()) {
-        Ok(values) => values,
-        Err(halt) => return Err(StepError::Halt(halt)),
-    };
+    let values = state.read_operands(story, row.inputs())?;
     let (words, popped) = (values.words(), values.popped());
     let address = arg(words, 0);
     if address == 0 {

@@ -37,10 +37,7 @@ pub(crate) fn step_random(story: &Story, row: &Row, state: &mut State) -> Result
     requires operation { row.now.operation ≡ Operation.Random }
     ensures { StepsQuietly story.now row.now result state.old state.new }
 {
-    let (draw, popped) = match plan_random(story, row, state) {
-        Ok(plan) => plan,
-        Err(halt) => return Err(StepError::Halt(halt)),
-    };
+    let (draw, popped) = plan_random(story, row, state)?;
     globals_are_dynamic(story);
     match state.put(story, row.target, popped, draw.number) {
         Ok(()) => {

@@ -33,10 +33,7 @@ pub(crate) fn restored(
     ensures holds { IfOk result (IsState usual_limit story.now) }
     ensures loaded { IfOk result (λ next. IsAsLoaded story.now next.memory) }
 {
-    let view = match read(story, save) {
-        Ok(view) => view,
-        Err(error) => return Err(error),
-    };
+    let view = read(story, save)?;
     saves_are_states();
     are_bytes(view.memory());
     let next = match State::resumed(alloc, story, &view, state) {

@@ -121,10 +121,7 @@ fn step_told(
     requires asks { Asks story.now row.now state.old need condition }
     ensures { StepsQuietly story.now row.now result state.old state.new }
 {
-    let (course, popped) = match plan_told(need, condition, story, row, state) {
-        Ok(plan) => plan,
-        Err(halt) => return Err(StepError::Halt(halt)),
-    };
+    let (course, popped) = plan_told(need, condition, story, row, state)?;
     globals_are_dynamic(story);
     state.use_word();
     lead(course, popped, story, row, state);
@@ -164,17 +161,12 @@ fn plan_told(
     ensures way { IfOk result (λ p. IsOpenWay p.0 state.now) }
     ensures within { IfOk result (λ p. p.1 ≤ length state.now.frame.stack) }
 {
-    let values = match state.read_operands(story, row.inputs()) {
-        Ok(values) => values,
-        Err(halt) => return Err(halt),
-    };
+    let values = state.read_operands(story, row.inputs())?;
     let Some(condition) = condition else {
         return Err(Halt::Need(need));
     };
-    match settle(row, testing(condition), state, values.popped()) {
-        Ok(course) => Ok((course, values.popped())),
-        Err(halt) => Err(halt),
-    }
+    let course = settle(row, testing(condition), state, values.popped())?;
+    Ok((course, values.popped()))
 }
 
 /// Takes so many words off the stack, and leads on or back.
@@ -201,8 +193,6 @@ fn plan_restart(story: &Story, row: &Row, state: &State) -> Result<usize, Halt>
     requires operation { row.now.operation ≡ Operation.Restart }
     ensures { (scope : Scope) → Gives (λ n. (restarting, popped n state.now)) result (plan_by (within story.now scope) row.now state.now) }
 {
-    match state.read_operands(story, row.inputs()) {
-        Ok(values) => Ok(values.popped()),
-        Err(halt) => Err(halt),
-    }
+    let values = state.read_operands(story, row.inputs())?;
+    Ok(values.popped())
 }
