@@ -34,7 +34,7 @@ use Rattle.zstate.specs.declared.mode.RandomMode.TheVariants.{Words, Counting}
 use Rattle.zstate.specs.InTurn.{in_turn}
 use Rattle.zstate.specs.State.{AreWords, Frame, State, Setting, has_head, usual_limit, scope_all, scope_only, first_frame, opening, IsFrame, IsFirst, AreFrames, IsCount, IsState, with_stack, with_locals, write_word, exists, has_room, put, put_named, put_in_place, read_in_place, popped, at_place, give, global, pop, found, read_named, read_variable, read_operand, read_operands}
 use Rattle.zstate.specs.Step.{Called, Move, on, back, into, has_caller, is_taken, is_roomy, arguments, tells_time, words_from, laid_over, calling, returning, proceeds, giving, rewriting, changed, assigning, testing, printing, quitting, showing, following, decoded, fetch, printed, print_at, effect_of, way, course, admits, pauses, settle, plan, advance, act, items_of, step}
-use Rattle.zstate.specs.Run.{stop_of, until, is_answered, need_in, awaited, Given, run, Goes, Makes, Stands, IsLonger, IsDeeper}
+use Rattle.zstate.specs.Run.{stop_of, until, is_answered, need_in, awaited, Given, run, Ending, Ends, Goes, Makes, Stands, IsLonger, IsDeeper}
 use Rattle.zstate.proofs.Words.{no_words, words_pushed}
 use Rattle.zstate.specs.Gives.{Gives, IsNear}
 use Rattle.zstate.specs.declared.head.Head.{Head}
@@ -591,6 +591,13 @@ goes = ((refl, refl), (_, _, new_line_step, (_, _, nop_step, (refl, refl), refl)
 -- so what is given out comes behind what was there
 makes : Makes setting 2 (at 70) (at 72) (Text 1 ∷ []) (Text 1 ∷ Text 10 ∷ []) × ((t : State) → Makes setting 0 state t [] [] → t ≡ state) × (Makes setting 0 state state [] (Text 1 ∷ []) → ⊥)
 makes = (record { given = Text 10 ∷ []; goes = goes.1; items_are = refl }, (λ t made. made.goes.0), λ made. let none = made.goes.1 in let e = made.items_are in absurd cc)
+
+ending : Ending
+ending = record { stop = stops.Paused pauses.Budget; state = state; items = Text 10 ∷ [] }
+
+ends_so : Ends (stops.Paused pauses.Budget) state (Text 1 ∷ []) (Text 1 ∷ Text 10 ∷ []) ending × (Ends (stops.Paused pauses.Budget) state [] [] ending → ⊥)
+unfolding ending
+ends_so = (record { stop_is = refl; state_is = refl; items_are = refl }, λ its. let e = its.items_are in absurd cc)
 
 stands : Stands setting (stops.Paused pauses.Budget) (at 70) × Stands setting (stops.Paused pauses.Quit) (at 77) × Stands setting (stops.Fault IllegalOpcode (pos 78)) (at 78)
 unfolding at

@@ -17,7 +17,7 @@ use Rattle.zstate.specs.declared.mode.RandomMode.{RandomMode}
 use Rattle.zstate.specs.declared.mode.RandomMode.TheVariants.{Words, Counting}
 use Rattle.zstate.specs.InTurn.{in_turn}
 use Rattle.zstate.specs.State.{State, Setting, usual_limit, scope_all, opening, at_place, give, with_stack, put, read_operand, read_variable}
-use Rattle.zstate.specs.Step.{fetch, effect_of, giving, random_of, buffered, are_writable, admits, pauses as must_pause, plan, changed, act, step}
+use Rattle.zstate.specs.Step.{fetch, effect_of, giving, random_of, buffered, are_writable, line_read, admits, pauses as must_pause, plan, changed, act, step}
 use Rattle.zstate.specs.Run.{Given, awaited, run, until}
 
 -- ---- random numbers
@@ -123,6 +123,11 @@ sized = (refl, refl, refl)
 large : (buffered story 70 75 (slice_set fresh 70 2) ≡ Ok tt) × (buffered story 70 75 (slice_set fresh 70 1) ≡ Err (halts.Fault SmallBuffer)) × (buffered story 70 75 (slice_set fresh 75 0) ≡ Err (halts.Fault SmallBuffer))
 unfolding buffered are_writable story fresh asking code
 large = (refl, refl, refl)
+
+-- the sizes are those that memory has now
+small_now : line_read story 70 75 (record (opening story) { memory = slice_set fresh 70 1 }) ≡ Err (halts.Fault SmallBuffer)
+unfolding buffered are_writable story fresh asking code
+small_now = refl
 
 -- the buffers end below the static base, and none begins in the header
 free : (buffered story 70 75 (slice_set fresh 70 10) ≡ Ok tt) × (buffered story 70 75 (slice_set fresh 70 11) ≡ Err (halts.Fault WriteOutside)) × (buffered story 70 75 (slice_set fresh 75 2) ≡ Err (halts.Fault WriteOutside)) × (buffered story 62 75 (slice_set fresh 62 2) ≡ Err (halts.Fault WriteOutside)) × (buffered story 63 75 (slice_set fresh 63 2) ≡ Ok tt) × (buffered story 70 63 (slice_set fresh 63 1) ≡ Ok tt) × (buffered story 70 76 (slice_set fresh 76 1) ≡ Err (halts.Fault WriteOutside))
