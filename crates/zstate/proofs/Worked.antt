@@ -153,10 +153,14 @@ too_many_frames s many is = omega (arith, many, is.few)
 is_count : IsCount (Counting 32768 32768) × (IsCount (Counting 3 4) → ⊥) × (IsCount (Counting 3 0) → ⊥) × (IsCount (Counting 32769 1) → ⊥)
 is_count = ((omega arith, omega arith, omega arith), λ h. omega (arith, h.1), λ h. omega (arith, h.0), λ h. omega (arith, h.2))
 
--- memory is as long as the story
+-- memory is as long as the story, and neither shorter nor longer
 shortened : IsState usual_limit story (record (opening story) { memory = [] }) → ⊥
 unfolding story memory code
 shortened s = omega (arith, s.memory)
+
+lengthened : IsState usual_limit tabled (record (opening tabled) { memory = tabled.memory ++ 0 ∷ [] }) → ⊥
+unfolding tabled memory code
+lengthened s = omega (arith, s.memory)
 
 -- and holds bytes
 no_byte : IsState usual_limit story (record (opening story) { memory = slice_set story.memory 64 256 }) → ⊥

@@ -97,6 +97,15 @@ heard : step setting (give line prompted) ≡ Ok (record { state = record (at_pl
 unfolding step plan act changed fetch effect_of operation_of buffered are_writable with_line with_blocks lookup admits must_pause in_turn read_operand read_variable instruction_at head_at variable_head checked_head operands_at operand_at store_if branch_if text_if setting story fresh asking code asks prompted line
 heard = refl
 
+-- what is shown, and all that a line isn't stored in, are as memory is now: a global was given 261
+shown_now : step setting (record asks { memory = slice_set fresh 67 5 }) ≡ Ok (record { state = record prompted { memory = slice_set fresh 67 5 }; items = Status (record { name = []; first = pos 261; second = negsuc 1; time = false }) ∷ [] })
+unfolding step plan act changed fetch effect_of operation_of buffered are_writable admits must_pause in_turn read_operand read_variable instruction_at head_at variable_head checked_head operands_at operand_at store_if branch_if text_if setting story fresh asking code asks prompted
+shown_now = refl
+
+kept_now : step setting (give line (record prompted { memory = slice_set fresh 67 5 })) ≡ Ok (record { state = record (at_place (pos 90) (with_stack (8 ∷ []) (opening story))) { memory = slice_set (asking (0x69 ∷ 0x2C ∷ 0x71 ∷ 0 ∷ []) (1 ∷ 0 ∷ 0 ∷ 1 ∷ 1 ∷ [])) 67 5 }; items = [] })
+unfolding step plan act changed fetch effect_of operation_of buffered are_writable with_line with_blocks lookup admits must_pause in_turn read_operand read_variable instruction_at head_at variable_head checked_head operands_at operand_at store_if branch_if text_if setting story fresh asking code asks prompted line
+kept_now = refl
+
 -- a run that stands at a line goes on with a line that is handed in, and with nothing else
 handed_in :
     (run setting (Given line ∷ []) 0 prompted ≡ record { stop = stops.Paused pauses.Budget; state = give line prompted; items = [] })
