@@ -20,7 +20,7 @@ use Rattle.zarray.specs.declared.width.Width.TheVariants.{Byte}
 use Rattle.zflow.specs.declared.parts.Access.TheVariants.{Reading, Writing}
 use Rattle.zflow.specs.declared.parts.Asked.TheVariants.{Answered, Filled}
 use Rattle.zflow.specs.declared.parts.Lead.TheVariants.{Ahead, Returning, Entering}
-use Rattle.zflow.specs.Transfer.{Shape, demands_of, outcome_of}
+use Rattle.zflow.specs.Transfer.{Shape, demands_of, outcome_of, with_result}
 use Rattle.zstate.specs.State.{Frame, Scope, State, has_head}
 use Rattle.zruns.specs.Buffers.{IsParseBuffer, IsTextBuffer}
 use Rattle.zpairs.specs.Pairs.{AreAnswered, AreUnfrozen, CanBePut}
@@ -629,6 +629,10 @@ not_begun = (λ b. (eight b).member.1.le, λ b. let none = b.routine in cc)
 gives_back : (result_at interval_operations routines 4 ≡ point 5) × (result_at interval_operations routines 6 ≡ all_words)
 unfolding routines
 gives_back = (refl, refl)
+
+-- behind a call play goes on in the routine of the call, whichever variable takes the result
+leads_behind : (r v : ℕ) (f : Shape Interval) (q : ℕ) → GoesOn interval_operations routines r v f q (Entering (point 2)) → Leads interval_operations routines r (with_result (Some (result_at interval_operations routines 4)) v f) q
+leads_behind r v f q goes_on = goes_on 2 (interval_sound.single 2 (omega arith)) (λ e. omega (arith, e))
 
 -- a global doesn't take it
 untaken : TakesBack interval_operations routines 16 (Entering (point 2)) → ⊥
