@@ -269,7 +269,7 @@ def many_objects(program, count):
 
 def many_words(program, count):
     """A line of as many words as a line can have, of which a parse buffer takes so many."""
-    room = 1000
+    room = 1400
     buffer, parse, start = STATIC, STATIC + 300, CODE + room
     for words, takes in ((9, 9), (127, 127), (127, 255), (127, 8)):
         told = min(words, takes)
