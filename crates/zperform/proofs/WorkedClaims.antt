@@ -2,6 +2,7 @@
 use Rattle.std.proofs.Common.{◌≡◌, ◌≢◌, ◌⊎◌, inl, inr, ℕ, List, [], ◌∷◌, ◌++◌, Bool, true, false, codes, ap, refl, subst, arith, length}
 use Rattle.std.specs.Prelude.{⊤, Option, None, Some, IfSome, Result, Ok, Err}
 use Rattle.std.specs.Io.KnownBytes.{Appends}
+use Rattle.std.proofs.KnownBytes.{Appends-trans}
 use Rattle.clap.specs.declared.error.kind.ErrorKind.TheVariants.{DisplayHelp, UnknownArgument}
 use Rattle.zfault.specs.Devices.{AppendsBeginning}
 use Rattle.zstory.specs.LoadedStory.{LoadedStory}
@@ -205,7 +206,7 @@ loses : (m : Setting) (T : State → Type 0) (W : State → Type 0) (options : O
     → PlayComes m T W options given s t words store (Some (1 ∷ [])) (Some []) result → ⊥
 loses m T W options given s t words store (Ok end) (left, input, finished) = absurd (let e = finished.written in cc)
 loses m T W options given s t words store (Err errors.Read) (left, input, (plays, awaited)) = absurd (let e = plays.written in cc)
-loses m T W options given s t words store (Err errors.Write) (left, input, plays) = absurd (let e = plays.written.grown in cc)
+loses m T W options given s t words store (Err errors.Write) (left, input, part) = absurd (let e = Appends-trans _ _ _ _ _ part.plays.written part.turn.written.grown in cc)
 loses m T W options given s t words store (Err errors.OutOfMemory) (left, input, (plays, wants)) = absurd (let e = plays.written in cc)
 
 of_play : (options : Options) (outside : World) (file : List ℕ) (result : Result End PlayError) → IsPlayed file options outside (Some (1 ∷ [])) (Some []) result → ⊥
