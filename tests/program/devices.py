@@ -103,7 +103,7 @@ def main():
     with tempfile.TemporaryDirectory(prefix="devices-") as folder:
         devices = Devices(program, shim(folder), folder)
         for settings in ({}, {"SHORT": 1000}):
-            for words in (["list", "story"], ["play", "story"], ["play", "story", "certificate"], ["check", "story", "certificate"], ["play", "absent"]):
+            for words in (["list", "story"], ["list", "story", "certificate"], ["play", "story"], ["play", "story", "certificate"], ["check", "story", "certificate"], ["play", "absent"]):
                 see_each(devices, count, words, files, settings)
             for words in (["--help"], ["--version"], ["play"], ["list"], ["explain", "I5"], ["explain", "I19"], ["check", "story", "story"]):
                 see_each(devices, count, words, files, settings)
