@@ -1,5 +1,5 @@
 -- Accepted saves: play goes on from them wherever that is asked for, and runs over them are safe.
-use Rattle.std.proofs.Common.{◌≡◌, ◌⊎◌, ℕ, ◌+◌, ◌*◌, ◌/◌, ◌%◌, ◌≤◌, true, List, [], ◌∷◌, length, map, drop, Result, Ok, ℤ, refl, sym, ap, subst, ◌∙◌, arith}
+use Rattle.std.proofs.Common.{◌≡◌, ℕ, ◌+◌, ◌*◌, ◌/◌, ◌%◌, ◌≤◌, true, List, [], ◌∷◌, length, map, Result, Ok, ℤ, refl, sym, ap, subst, ◌∙◌, arith}
 use Rattle.std.specs.Prelude.{nat_le, pos, reverse}
 use Rattle.std.proofs.lemmas.Bool.{le-leb}
 use Rattle.std.proofs.lemmas.List.{drop-set-lt, length-map, length-reverse}
@@ -13,7 +13,7 @@ use Rattle.zquetzal.proofs.Steps.{bind_ok, need_ok, ok_is}
 use Rattle.zdomain.specs.Domain.{SetOperations, AreSound}
 use Rattle.zcert.specs.Format.{Format}
 use Rattle.zcert.specs.Spelling.{HasSpelling}
-use Rattle.zstate.specs.State.{Frame, IsState, Scope, State, keeping_flags, scope_all, scope_only, usual_limit}
+use Rattle.zstate.specs.State.{Frame, Scope, State, keeping_flags, scope_all, scope_only, usual_limit}
 use Rattle.zstate.specs.Step.{fetch}
 use Rattle.zstate.specs.Saves.{going_on, restoring, resumed, save_place, saves, taken_frame, taken_memory, with_frames}
 use Rattle.zstate.specs.Run.{Input, Given, Restored}

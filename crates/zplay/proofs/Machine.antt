@@ -1,9 +1,8 @@
 -- A session and the checked machine over one list.
-use Rattle.std.proofs.Common.{◌≡◌, ◌↔◌, ℕ, zero, suc, ◌+◌, Bool, true, false, List, [], ◌∷◌, ◌++◌, Option, Some, None, Result, Ok, Err, if◌then◌else◌, refl, sym, ap, subst, ◌∙◌, append_assoc, add-zero, arith}
+use Rattle.std.proofs.Common.{◌≡◌, ◌↔◌, ℕ, zero, suc, ◌+◌, Bool, true, false, List, [], ◌∷◌, ◌++◌, Some, None, Result, Ok, Err, if◌then◌else◌, refl, sym, ap, ◌∙◌, append_assoc, add-zero, arith}
 use Rattle.std.specs.Prelude.{IsTrue, is_some}
 use Rattle.std.proofs.lemmas.List.{append-nil}
 use Rattle.zfault.specs.Answers.{answers}
-use Rattle.zfault.specs.declared.event.Event.{Event}
 use Rattle.zfault.specs.declared.item.Item.{Item}
 use Rattle.zfault.specs.declared.pause.Need.{Need}
 use Rattle.zfault.specs.declared.pause.Need.TheVariants as needs
@@ -11,18 +10,16 @@ use Rattle.zfault.specs.declared.pause.Pause.{Pause}
 use Rattle.zfault.specs.declared.pause.Pause.TheVariants as pauses
 use Rattle.zcert.specs.Format.{Format}
 use Rattle.zdomain.specs.Domain.{SetOperations, AreSound}
-use Rattle.zquetzal.specs.declared.error.SaveError.{SaveError}
 use Rattle.zstate.specs.declared.halt.Halt.{Halt}
 use Rattle.zstate.specs.declared.halt.Halt.TheVariants as halts
 use Rattle.zstate.specs.declared.halt.Stop.{Stop}
 use Rattle.zstate.specs.declared.halt.Stop.TheVariants.{Paused}
 use Rattle.zstate.specs.State.{Scope, Setting, State, give, scope_all, scope_only, usual_limit}
 use Rattle.zstate.specs.Step.{Done, step}
-use Rattle.zstate.specs.Saves.{restoring}
-use Rattle.zstate.specs.Run.{Ending, Given, Input, Restored, Stands, after, awaited, by_step, ends, handed, need_in, or_ends, restored, run, stop_of, until}
+use Rattle.zstate.specs.Run.{Ending, Given, Input, Restored, Stands, after, awaited, ends, handed, need_in, restored, run, stop_of, until}
 use Rattle.zstate.proofs.Joins.{inputs_join, steps_join}
 use Rattle.zstate.proofs.Calls.{stands_still}
-use Rattle.zrule.specs.Described.{AreFine, Described, IsListedIn, IsNoFault}
+use Rattle.zrule.specs.Described.{AreFine, Described, IsListedIn}
 use Rattle.zrule.proofs.Alike.{run_alike}
 use Rattle.zrule.proofs.Elsewhere.{accepted_fine}
 use Rattle.zrule.proofs.Runs.{all_listed, run_safe}

@@ -1,5 +1,5 @@
 -- What calls of a session did, one after another, and that the checked machine does the same over one list.
-use Rattle.std.specs.Prelude.{◌≡◌, ℕ, ◌+◌, List, [], ◌∷◌, ◌++◌, Some, None, Ok, Err, IsTrue}
+use Rattle.std.specs.Prelude.{◌≡◌, ℕ, ◌+◌, List, [], ◌∷◌, ◌++◌, Some, None, Err, IsTrue}
 use Rattle.zfault.specs.declared.event.Event.{Event}
 use Rattle.zfault.specs.declared.item.Item.{Item}
 use Rattle.zfault.specs.declared.pause.Need.{Need}
