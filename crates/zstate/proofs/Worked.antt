@@ -464,11 +464,6 @@ full_stack : (stack : List ℕ) → length stack ≡ 65535 → settle 1024 (plai
 unfolding admits pauses plain
 full_stack stack deep = rw deep refl
 
--- and what a step needs comes before that
-needed_when_full : (stack : List ℕ) → length stack ≡ 65535 → settle 1024 (plain 1) (record (giving 4) { needs = Some needs.Random }) (with_stack stack state) ≡ Err (halts.Need needs.Random)
-unfolding admits pauses plain
-needed_when_full stack deep = refl
-
 -- ---- the effect, done
 
 acts : (act story (plain 5) proceeds (at 72) ≡ at 77) × (act story (plain 5) (printing hello) (at 72) ≡ at 77) × (advance (plain 1) (at_place (negsuc 0) (at 0)) ≡ at 0)

@@ -32,7 +32,7 @@ kept_from : Faults (0x93 ∷ 0x09 ∷ 0x05 ∷ []) AbsentObject × Faults (0xCF 
 unfolding Faults holding step plan fetch in_turn read_operand read_variable read_in_place effect_of operation_of instruction_at head_at short_head variable_head checked_head operands_at operand_at store_if branch_if text_if
 kept_from = (refl, refl, refl)
 
--- `call`: a routine that isn't listed, before an absent local for the result, and that before the limit of frames
-uncalled : Faults (0xE0 ∷ 0x3F ∷ 0x00 ∷ 0x01 ∷ 0x05 ∷ []) UnlistedCall × Faults (0xE0 ∷ 0x3F ∷ 0x00 ∷ 0x23 ∷ 0x05 ∷ 0x00 ∷ 0x00 ∷ 0xB0 ∷ []) AbsentLocal
+-- `call`: a routine that isn't there, before an absent local for the result, and that before the limit of frames
+uncalled : Faults (0xE0 ∷ 0x3F ∷ 0x7F ∷ 0xFF ∷ 0x05 ∷ []) UnlistedCall × Faults (0xE0 ∷ 0x3F ∷ 0x00 ∷ 0x23 ∷ 0x05 ∷ 0x00 ∷ 0x00 ∷ 0xB0 ∷ []) AbsentLocal
 unfolding Faults holding step plan fetch in_turn read_operand effect_of admits operation_of instruction_at head_at variable_head checked_head operands_at operand_at store_if branch_if text_if
 uncalled = (refl, refl)
