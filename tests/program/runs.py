@@ -8,6 +8,8 @@ The texts of clap that are shown for help and for wrong words are stored in help
 import os
 import subprocess
 import sys
+import tempfile
+import threading
 
 from arrays import see_arrays
 from calls import see_calls
@@ -89,6 +91,14 @@ def with_any_globals(*bytes_there):
 
 ONE, TWO, WIDE = interval(1, 1), interval(2, 2), interval(-32768, 32767)
 
+# It pushes the packed address of the routine at 32e, which gives 1, and calls what it pulls off.
+PUSHED = story(b"\xe8\x3f\x01\x97" + b"\xe0\xbf\x00\x12" + QUIT + b"\0" * 2 + b"\xb0")
+PUSHED_LISTED = certificate(
+    PUSHED, [0x324, 0x328, 0x32C, 0x32F], stacks={0x328: interval(0x197, 0x197)}, routines=[(0x32E, 0, (1, 1))], inside={0x32F: (1, b"")}, own={18: (0, 1)}
+)
+# A branch that is always taken, over two instructions.
+TAKEN = b"\x90\x00\xc4" + NOP * 2 + QUIT
+
 # ---- words: name, words, answer
 
 WORDS = [
@@ -127,6 +137,8 @@ WORDS = [
     ("a budget that is too large", ["play", "--budget", "4294967296", "story"], Answer(2, b"", help_text("too_large.txt"))),
     ("a budget of no digit", ["play", "--budget=", "story"], Answer(2, b"", help_text("empty_budget.txt"))),
     ("a budget without a number", ["play", "--budget"], Answer(2, b"", help_text("no_budget.txt"))),
+    ("an empty name for saves", ["play", "--save", "", "story"], Answer(2, b"", help_text("empty_name.txt"))),
+    ("no name for saves", ["play", "--save=", "story"], Answer(2, b"", help_text("empty_name.txt"))),
     ("two budgets", ["play", "--budget", "1", "--budget", "2", "story"], Answer(2, b"", help_text("two_budgets.txt"))),
     ("a budget to check", ["check", "--budget", "3", "story", "certificate"], Answer(2, b"", help_text("budget_to_check.txt"))),
     ("a budget to list", ["list", "--budget", "3", "story"], Answer(2, b"", help_text("budget_to_list.txt"))),
@@ -215,6 +227,11 @@ COMMANDS = [
     ("a text without an end", PLAY, {"story": story(b"\xb2\x35\x51\x46\x85" + QUIT)}, fault("F2 at 00324")),
     ("the end of memory", PLAY, {"story": story(NOP + NOP)}, fault("F1 at 00326")),
     ("a text whose abbreviation uses one", PLAY, {"story": story(b"\xb2\x84\x05" + QUIT + b"\x84\x05", abbreviations=[0x328] * 96)}, fault("F13 at 00324")),
+    # what is listed and never played, and what is played and isn't listed
+    ("a list of a story that calls by the stack", LIST, files(PUSHED), done(b"00324 0 push\n00328 0 call\n0032c 0 quit\n")),
+    ("which has a certificate with the routine that is called", CHECK, files(PUSHED, PUSHED_LISTED), done(b"accepted\n")),
+    ("a list with what stands behind a branch that is always taken", LIST, coded(TAKEN, [0x324, 0x329]), done(lines([(0x324, "jz"), (0x327, "nop"), (0x328, "nop"), (0x329, "quit")]))),
+    ("which a certificate leaves out", CHECK, coded(TAKEN, [0x324, 0x329]), done(b"accepted\n")),
     # files that are refused, the story before its certificate
     ("no story there", ["play", "absent"], files(), failed("file")),
     ("no story there to list", ["list", "absent"], files(), failed("file")),
@@ -352,6 +369,29 @@ def see_streams(program, count):
         count.see(well, f"{name}: {answer}; wanted was {wanted}")
 
 
+def see_endless(program, count):
+    """What a story prints that never ends is seen while it plays, on both machines; and where nobody reads any more, the play ends."""
+    made = story(HELLO + b"\x8c\xff\xfa")
+    given = {"story": made, "certificate": certificate(made, [0x324, 0x329])}
+    for words in (["story"], ["story", "certificate"]):
+        with tempfile.TemporaryDirectory(prefix="endless-") as room:
+            for name, contents in given.items():
+                with open(os.path.join(room, name), "wb") as file:
+                    file.write(contents)
+            play = subprocess.Popen(
+                [program.path, "play", "--budget", "4294967295", *words], cwd=room, stdin=subprocess.DEVNULL, stdout=subprocess.PIPE, stderr=subprocess.PIPE
+            )
+            late = threading.Timer(60, play.kill)
+            late.start()
+            first = play.stdout.read(5)
+            play.stdout.close()
+            errors = play.stderr.read()
+            status = play.wait()
+            late.cancel()
+            play.stderr.close()
+            count.is_answer(f"a story that never ends, {words}", Answer(status, first, errors), failed("write", b"hello"))
+
+
 def main():
     program = Program(sys.argv[1])
     count = Count("runs")
@@ -379,6 +419,7 @@ def main():
     see_finding(program, count)
     see_game(program, count)
     see_streams(program, count)
+    see_endless(program, count)
     count.end()
 
 

@@ -29,7 +29,7 @@ unfolding defaults_fault walk_fault walked
 asked = ((refl, (refl, refl)), (refl, (refl, refl, refl, refl, refl, refl, refl)), (refl, (refl, refl, refl, refl, refl, refl, refl)), (refl, (refl, refl, refl, refl, refl, refl, refl)), (refl, (refl, refl, refl)), (refl, (refl, refl, refl)), (refl, (refl, refl)))
 
 -- a command lacks a file or has too many, or there is none of the name, or none at all, or the budget is 2 to the 32nd or the
--- seed 2 to the 64th, or the flag has a value, or the option has none
+-- seed 2 to the 64th, or the flag has a value, or the option has none or an empty one
 is_wrong : Kinds → Bool
 is_wrong [] = false
 is_wrong (kind ∷ kinds) = true
@@ -42,6 +42,7 @@ wrong :
     × (is_wrong (fault_of zpc_app []) ≡ true) × (is_wrong (fault_of zpc_app (codes "play" ∷ codes "hello.z3" ∷ codes "--budget" ∷ codes "4294967296" ∷ [])) ≡ true)
     × (is_wrong (fault_of zpc_app (codes "play" ∷ codes "hello.z3" ∷ codes "--status=true" ∷ [])) ≡ true)
     × (is_wrong (fault_of zpc_app (codes "play" ∷ codes "hello.z3" ∷ codes "--save" ∷ [])) ≡ true)
+    × (is_wrong (fault_of zpc_app (codes "play" ∷ codes "hello.z3" ∷ codes "--save" ∷ [] ∷ [])) ≡ true) × (is_wrong (fault_of zpc_app (codes "play" ∷ codes "hello.z3" ∷ codes "--save=" ∷ [])) ≡ true)
     × (is_wrong (fault_of zpc_app (codes "play" ∷ codes "hello.z3" ∷ codes "--seed" ∷ codes "18446744073709551616" ∷ [])) ≡ true)
 unfolding is_wrong defaults_fault walk_fault walked
-wrong = (refl, refl, refl, refl, refl, refl, refl, refl, refl, refl, refl, refl, refl)
+wrong = (refl, refl, refl, refl, refl, refl, refl, refl, refl, refl, refl, refl, refl, refl, refl)

@@ -42,9 +42,9 @@ budget_rule = record (new_rule (codes "budget")) {
 abbrev pub status_rule : Rule
 status_rule = record (new_rule (codes "status")) { long = Some (codes "status"); action = Some SetTrue }
 
--- `--save FILE`
+-- `--save FILE`, where FILE isn't empty
 abbrev pub save_rule : Rule
-save_rule = record (new_rule (codes "save")) { long = Some (codes "save"); value_names = 1 }
+save_rule = record (new_rule (codes "save")) { long = Some (codes "save"); value_names = 1; parser = Some parsers.NonEmptyString }
 
 -- `CERT`, which has to be there or may be
 abbrev pub certificate_rule : Bool → Rule

@@ -6,6 +6,7 @@ ghost use Rattle.clap.specs.Words.{FailsBy, app_of, fault_of, found_of, rows_of,
 ghost use Rattle.clap.specs.declared.builder.command.Command.TheViews.{out-Command as fields_of};
 ghost use Rattle.zcommand.specs.CommandLine.{IsCommand, IsReadFrom, bare_app, budget_rule, certificate_rule, certifying_app, check_app, code_rule, explain_app, files_app, find_app, list_app, play_app, save_rule, seed_rule, status_rule, story_rule, word_rule, zpc_app};
 
+use clap::builder::ValueParser;
 use clap::{Arg, ArgAction, ArgMatches, Error, value_parser};
 use std::alloc::{AllocError, Global};
 
@@ -313,4 +314,5 @@ fn save<'a>(alloc: Global) -> Arg<'a>
         .long("save")
         .help("The file that saves are kept in")
         .value_name("FILE")
+        .value_parser(ValueParser::NonEmptyString)
 }
