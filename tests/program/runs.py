@@ -8,6 +8,8 @@ The texts of clap that are shown for help and for wrong words are stored in help
 import os
 import subprocess
 import sys
+import tempfile
+import threading
 
 from arrays import see_arrays
 from calls import see_calls
@@ -378,6 +380,29 @@ def see_streams(program, count):
         count.see(well, f"{name}: {answer}; wanted was {wanted}")
 
 
+def see_endless(program, count):
+    """What a story prints that never ends is seen while it plays, on both machines; and where nobody reads any more, the play ends."""
+    made = story(HELLO + b"\x8c\xff\xfa")
+    given = {"story": made, "certificate": certificate(made, [0x324, 0x329])}
+    for words in (["story"], ["story", "certificate"]):
+        with tempfile.TemporaryDirectory(prefix="endless-") as room:
+            for name, contents in given.items():
+                with open(os.path.join(room, name), "wb") as file:
+                    file.write(contents)
+            play = subprocess.Popen(
+                [program.path, "play", "--budget", "4294967295", *words], cwd=room, stdin=subprocess.DEVNULL, stdout=subprocess.PIPE, stderr=subprocess.PIPE
+            )
+            late = threading.Timer(60, play.kill)
+            late.start()
+            first = play.stdout.read(5)
+            play.stdout.close()
+            errors = play.stderr.read()
+            status = play.wait()
+            late.cancel()
+            play.stderr.close()
+            count.is_answer(f"a story that never ends, {words}", Answer(status, first, errors), failed("write", b"hello"))
+
+
 def main():
     program = Program(sys.argv[1])
     count = Count("runs")
@@ -405,6 +430,7 @@ def main():
     see_finding(program, count)
     see_game(program, count)
     see_streams(program, count)
+    see_endless(program, count)
     count.end()
 
 
