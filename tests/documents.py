@@ -136,6 +136,31 @@ def wrong_authors():
         yield f"AUTHORS: {name} is a story or a form, and not both"
 
 
+def wrong_tested():
+    """README's section of what is only tested: each sentence names the test that it is of, and the gate runs that."""
+    body = next(it for _, heading, it in sections(text_of("README.md"), "##") if heading == "What is only tested")
+    ran = text_of("tests/run")
+    for sentence in re.split(r"(?<=\.)\s+(?=[A-Z`])|\n- ", body.partition("\n- ")[2].strip()):
+        told = re.findall(r"\b(?:tests/[\w/]+(?:\.(?:py|sh))?|crates/\w+)", sentence)
+        if not told:
+            yield f"README: no test is named: {' '.join(sentence.split())}"
+        for path in told:
+            if not (path in crates_of_tests() or path in ran or any(path in it for it in files_of_run(ran))):
+                yield f"README names {path}, which the gate doesn't run"
+
+
+def crates_of_tests():
+    """The crates that are tests alone; `rt ci` runs them."""
+    return {"crates/ztests", "crates/zcalls"}
+
+
+def files_of_run(ran):
+    """The folders of the scripts that the gate runs, and the files of stored runs, which runs.py reads."""
+    scripts = set(re.findall(r"tests/[\w/]+\.(?:py|sh)", ran))
+    stored = {f"tests/program/{name}.py" for name in re.findall(r"(?m)^from (\w+) import see_", text_of("tests/program/runs.py"))}
+    return scripts | stored | {os.path.dirname(it) for it in scripts}
+
+
 def wrong_edits():
     """Each text that a must-fail edit replaces stands once in its file, after those that it replaced before."""
     for path in files(r"^crates/\w+/edits/\w+\.edit$"):
@@ -164,7 +189,7 @@ def wrong_shape():
 
 def main():
     passed = failed = 0
-    for check in (wrong_bugs, wrong_clauses, wrong_crates, wrong_names, wrong_codes, wrong_authors, wrong_edits, wrong_shape):
+    for check in (wrong_bugs, wrong_clauses, wrong_crates, wrong_names, wrong_codes, wrong_authors, wrong_tested, wrong_edits, wrong_shape):
         found = list(check())
         for line in found:
             print(f"documents: {line}")

@@ -77,19 +77,28 @@ def functions_of(source, text):
     for match, following in zip(matches, [*(it.start() for it in matches[1:]), len(text)]):
         closing = re.compile(rf"^{match[1]}\}}", re.M).search(text, match.end())
         end = closing.end() if closing else len(text)
-        owner, is_plain = module, True
+        owner = module
         if match[1]:
             block = [it for it in BLOCK.finditer(text, 0, match.start())][-1]
             trait = (block[1] or "").rpartition("::")[2]
-            owner = f"{block[3] or block[4]}{trait if block[3] else ''}"
-            # a trait's arguments are a part of the path
-            is_plain = not block[2]
-        body = body_of(text, match, following) if is_plain else None
+            # what a trait is given is a part of the path, as in `ProblemFromLoadError`
+            owner = f"{block[3] or block[4]}{trait if block[3] else ''}{''.join(heads_of(block[2] or ''))}"
+        body = body_of(text, match, following)
         path = f"{owner}::{match[2]}".removeprefix("::")
         is_of_trait = bool(match[1] and (block[1] or block[4]))
         inside = text[brace_of(text, match, following) : end]
         found.append(Function(path, match.start(), end, (body, end) if body else None, is_of_trait, calls_itself(path, module, bool(match[1]), inside)))
     return found
+
+
+def heads_of(arguments):
+    """The names of the types that a trait is given, each without its path and without what it is given itself."""
+    depth, names = 0, []
+    for mark in re.findall(r"[<>]|(?:\w+::)*\w+", arguments):
+        if depth == 1 and mark not in "<>":
+            names.append(mark.rpartition("::")[2])
+        depth += (mark == "<") - (mark == ">")
+    return names
 
 
 def brace_of(text, match, following):

@@ -54,6 +54,30 @@ pub fn spread(n: u32) -> u32
     doubled
 }
 
+/// A count.
+pub struct Count {
+    pub number: u32,
+}
+
+/// A short number as a count.
+impl From<u16> for Count {
+    ghost from_gives = { λ n count. count.number ≡ n };
+
+    fn from(n: u16) -> Count {
+        Count { number: u32::from(n) }
+    }
+}
+
+/// A byte as a count.
+impl From<u8> for Count {
+    ghost from_gives = { λ n count. count.number ≡ n };
+
+    fn from(n: u8) -> Count {
+        let number = u32::from(n);
+        Count { number }
+    }
+}
+
 /// What is done with a number.
 #[derive(Clone, Copy)]
 pub enum Deed {
@@ -105,6 +129,10 @@ EDITS = {
     "one_more_forgotten": (True, [("    n + 1", "    n")]),
     "first_for_second": (True, [("    successor(first)", "    first")]),
     "most_is_one_more": (True, [("u32 = 20", "u32 = 21")]),
+    # in two methods of one name, of one trait that is given two types
+    "short_count_lost": (True, [("        Count { number: u32::from(n) }", "        Count { number: u32::from(n / 2) }")]),
+    "byte_count_lost": (True, [("        Count { number }", "        Count { number: number / 2 }")]),
+    "harmless_count": (False, [("        let number = u32::from(n);", "        let number = u32::from(n) + 0;")]),
     # proved as before, but beside the first one its callee isn't
     "harmless_caller": (False, [("    let first = successor(n);", "    let first = { successor(n) };")]),
     # proved as before, by a copy of the answer

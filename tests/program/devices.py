@@ -11,7 +11,7 @@ import sys
 import tempfile
 
 from program import Answer, Count, Program
-from samples import HELLO, QUIT, certificate, printed, story
+from samples import HELLO, QUIT, certificate, printed, story, with_objects
 from saves import SAVES, SAVES_LISTED
 
 HERE = os.path.dirname(os.path.abspath(__file__))
@@ -29,10 +29,10 @@ class Devices:
     def __init__(self, program, library, folder):
         self.program, self.library, self.calls = program, library, os.path.join(folder, "calls")
 
-    def run(self, words, files, settings):
+    def run(self, words, files, settings, typed=b""):
         """What a run comes to, and the calls that it made: kind, device, and whether it failed."""
         environment = {"LD_PRELOAD": self.library, "CALLS": self.calls, **{name: str(value) for name, value in settings.items()}}
-        answer = self.program.run(words, files, environment=environment)
+        answer = self.program.run(words, files, environment=environment, typed=typed)
         with open(self.calls, encoding="ascii") as file:
             return answer, [tuple(line.split()) for line in file]
 
@@ -50,18 +50,36 @@ def is_well(answer, calls, ample, error):
     if (kind, device) == ("write", "1"):
         begun = ample.output.startswith(answer.output) and answer.output != ample.output
         return (answer.status, answer.errors) == (4, b"failed: write\n") and begun and not after
+    if (kind, device) == ("read", "0"):
+        return (answer.status, answer.errors) == (4, b"failed: read\n") and ample.output.startswith(answer.output) and not after
     return answer == Answer(4, b"", b"failed: file\n") and not after
 
 
-def see_each(devices, count, words, files, settings):
+def see_each(devices, count, words, files, settings, typed=b""):
     """Has each call of a run fail in turn."""
-    ample, calls = devices.run(words, files, settings)
+    ample, calls = devices.run(words, files, settings, typed)
     assert calls, "the shim sees no call"
     for number in range(1, len(calls) + 1):
         for error in (errno.EIO, errno.EINTR):
-            answer, made = devices.run(words, files, {**settings, "FAIL": number, "ERROR": error})
+            answer, made = devices.run(words, files, {**settings, "FAIL": number, "ERROR": error}, typed)
             count.see(is_well(answer, made, ample, error), f"{' '.join(words)} with call {number} failing by {error}: {answer}, calls {made[number - 1:]}")
     return ample
+
+
+def see_lines(devices, count):
+    """Has each call fail of a play that reads three lines, or two and the end of its input. At most 256 bytes are read at once."""
+    made = with_objects((b"\xb2" + HELLO[1:] + b"\xe4\x0f\x02\x80\x02\x90") * 3 + QUIT)
+    listed = certificate(made, [place for at in (0x370, 0x37B, 0x386) for place in (at, at + 5)] + [0x391], ranges=[(0x280, 0x280), (0x290, 0x290)])
+    for words in (["play", "story"], ["play", "story", "certificate"]):
+        for lines, errors in ((3, b""), (2, b"end: no input\n")):
+            ample = see_each(devices, count, words, {"story": made, "certificate": listed}, {}, (b"look,at" + b" " * 190 + b"\n") * lines)
+            count.is_answer(f"{words} on {lines} lines", ample, Answer(0, b"hello" * 3, errors))
+
+
+def is_through(calls):
+    """Whether what was written last to a file was seen to be on the disk, and only then was the file given its name."""
+    kinds = [call[0] for call in calls if call[0] in ("write", "fsync", "rename") and call[1] == "3"]
+    return kinds[-3:] == ["write", "fsync", "rename"] and kinds.count("rename") == kinds.count("fsync") == 1
 
 
 def see_saves(devices, count, words):
@@ -73,6 +91,7 @@ def see_saves(devices, count, words):
     play = ["play", "--budget", "5", "--save", "kept", *words]
     ample, calls = devices.run(play, files, {})
     count.is_answer(f"{' '.join(play)}", ample, Answer(0, b"", b"end: budget\n"))
+    count.see(is_through(calls), f"{' '.join(play)}: the calls were {calls}")
     last = max(index for index, call in enumerate(calls, 1) if call[0] == "open")
     for number, call in enumerate(calls, 1):
         if call[:2] == ("write", "2"):
@@ -88,6 +107,7 @@ def see_found(devices, count, story):
     words, files = ["find", "story", "kept"], {"story": story}
     ample, calls = devices.run(words, files, {})
     count.is_answer(" ".join(words), ample, Answer(0, b"found\n", b""))
+    count.see(is_through(calls), f"{' '.join(words)}: the calls were {calls}")
     for number, call in enumerate(calls, 1):
         answer, made = devices.run(words, files, {"FAIL": number, "ERROR": errno.EIO})
         wanted = b"failed: write\n" if call[:2] == ("write", "1") else b"failed: file\n"
@@ -103,10 +123,11 @@ def main():
     with tempfile.TemporaryDirectory(prefix="devices-") as folder:
         devices = Devices(program, shim(folder), folder)
         for settings in ({}, {"SHORT": 1000}):
-            for words in (["list", "story"], ["play", "story"], ["play", "story", "certificate"], ["check", "story", "certificate"], ["play", "absent"]):
+            for words in (["list", "story"], ["list", "story", "certificate"], ["play", "story"], ["play", "story", "certificate"], ["check", "story", "certificate"], ["play", "absent"]):
                 see_each(devices, count, words, files, settings)
             for words in (["--help"], ["--version"], ["play"], ["list"], ["explain", "I5"], ["explain", "I19"], ["check", "story", "story"]):
                 see_each(devices, count, words, files, settings)
+        see_lines(devices, count)
         see_found(devices, count, made)
         see_saves(devices, count, ["story"])
         see_saves(devices, count, ["story", "certificate"])

@@ -1,5 +1,6 @@
 """Runs of `find` and `explain`: what is written, where, and what is said of stories that have no certificate."""
 import os
+import re
 import subprocess
 import tempfile
 
@@ -184,9 +185,22 @@ names an object. Of a table: o = things-->k; if (o >= First && o <= Last) print 
 """
 
 
+CODES = [f"{letter}{number}" for letter, last in zip("LUJEKSIGFQP", (12, 4, 5, 3, 8, 8, 18, 3, 16, 11, 3)) for number in range(1, last + 1)]
+
+
+def explained():
+    """What each code means, as it stands in explained.txt: one text behind the other, in the order of the codes."""
+    with open(os.path.join(HERE, "explained.txt"), "rb") as file:
+        texts = re.split(rb"^(?=[A-Z]\d+: )", file.read(), flags=re.M)[1:]
+    return [(text.split(b":")[0].decode(), text) for text in texts]
+
+
 def see_explaining(program, count):
     count.is_answer("a code", program.run(["explain", "I5"]), Answer(0, EXPLAINED, b""))
-    count.is_answer("a code of two digits", program.run(["explain", "F11"]).output[:42], b"F11: a store where nothing may be stored.\n")
+    count.see([code for code, _ in explained()] == CODES, "explained.txt doesn't have each code once, in order")
+    asked = lambda it: (it, program.run(["explain", it[0]]))
+    for (code, text), answer in side_by_side(asked, explained()):
+        count.is_answer(f"explain {code}", answer, Answer(0, text, b""))
     for name, script in [("a full device", '"$1" explain I5 >/dev/full'), ("a closed output", '"$1" explain I5 >&-')]:
         ran = subprocess.run(["bash", "-c", script, "run", program.path], stdin=subprocess.DEVNULL, capture_output=True, timeout=60)
         count.is_answer(f"explain to {name}", Answer(ran.returncode, ran.stdout, ran.stderr), Answer(4, b"", b"failed: write\n"))

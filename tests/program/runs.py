@@ -8,6 +8,8 @@ The texts of clap that are shown for help and for wrong words are stored in help
 import os
 import subprocess
 import sys
+import tempfile
+import threading
 
 from arrays import see_arrays
 from calls import see_calls
@@ -89,6 +91,14 @@ def with_any_globals(*bytes_there):
 
 ONE, TWO, WIDE = interval(1, 1), interval(2, 2), interval(-32768, 32767)
 
+# It pushes the packed address of the routine at 32e, which gives 1, and calls what it pulls off.
+PUSHED = story(b"\xe8\x3f\x01\x97" + b"\xe0\xbf\x00\x12" + QUIT + b"\0" * 2 + b"\xb0")
+PUSHED_LISTED = certificate(
+    PUSHED, [0x324, 0x328, 0x32C, 0x32F], stacks={0x328: interval(0x197, 0x197)}, routines=[(0x32E, 0, (1, 1))], inside={0x32F: (1, b"")}, own={18: (0, 1)}
+)
+# A branch that is always taken, over two instructions.
+TAKEN = b"\x90\x00\xc4" + NOP * 2 + QUIT
+
 # ---- words: name, words, answer
 
 WORDS = [
@@ -117,7 +127,7 @@ WORDS = [
     ("a code in small letters", ["explain", "i5"], Answer(2, b"", help_text("unknown_code.txt"))),
     ("an empty code", ["explain", ""], Answer(2, b"", help_text("unknown_code.txt"))),
     ("no certificate", ["check", "story"], Answer(2, b"", help_text("no_certificate.txt"))),
-    ("too many words to list", ["list", "a", "b"], Answer(2, b"", help_text("too_many_to_list.txt"))),
+    ("too many words to list", ["list", "a", "b", "c"], Answer(2, b"", help_text("too_many_to_list.txt"))),
     ("too many words to find", ["find", "a", "b", "c"], Answer(2, b"", help_text("too_many_to_check.txt").replace(b"check", b"find"))),
     ("too many words to explain", ["explain", "a", "b"], Answer(2, b"", help_text("too_many_to_explain.txt"))),
     ("too many words to check", ["check", "a", "b", "c"], Answer(2, b"", help_text("too_many_to_check.txt"))),
@@ -127,6 +137,8 @@ WORDS = [
     ("a budget that is too large", ["play", "--budget", "4294967296", "story"], Answer(2, b"", help_text("too_large.txt"))),
     ("a budget of no digit", ["play", "--budget=", "story"], Answer(2, b"", help_text("empty_budget.txt"))),
     ("a budget without a number", ["play", "--budget"], Answer(2, b"", help_text("no_budget.txt"))),
+    ("an empty name for saves", ["play", "--save", "", "story"], Answer(2, b"", help_text("empty_name.txt"))),
+    ("no name for saves", ["play", "--save=", "story"], Answer(2, b"", help_text("empty_name.txt"))),
     ("two budgets", ["play", "--budget", "1", "--budget", "2", "story"], Answer(2, b"", help_text("two_budgets.txt"))),
     ("a budget to check", ["check", "--budget", "3", "story", "certificate"], Answer(2, b"", help_text("budget_to_check.txt"))),
     ("a budget to list", ["list", "--budget", "3", "story"], Answer(2, b"", help_text("budget_to_list.txt"))),
@@ -193,6 +205,7 @@ def lines(listed):
 # ---- commands: name, words, files, answer
 
 LIST = ["list", "story"]
+LIST_BY = ["list", "story", "certificate"]
 CHECK = ["check", "story", "certificate"]
 PLAY = ["play", "story"]
 PLAY_LISTED = ["play", "story", "certificate"]
@@ -215,6 +228,19 @@ COMMANDS = [
     ("a text without an end", PLAY, {"story": story(b"\xb2\x35\x51\x46\x85" + QUIT)}, fault("F2 at 00324")),
     ("the end of memory", PLAY, {"story": story(NOP + NOP)}, fault("F1 at 00326")),
     ("a text whose abbreviation uses one", PLAY, {"story": story(b"\xb2\x84\x05" + QUIT + b"\x84\x05", abbreviations=[0x328] * 96)}, fault("F13 at 00324")),
+    # what a certificate lists, where it is accepted
+    ("a certificate's list", LIST_BY, files(), done(lines([(0x324, "print"), (0x329, "quit")]))),
+    ("a certificate's list, with what is never reached", LIST_BY, coded(NEW_LINE + QUIT + NOP + QUIT, range(0x324, 0x328)), done(lines([(0x324, "new_line"), (0x325, "quit"), (0x326, "nop"), (0x327, "quit")]))),
+    ("a certificate's list, with a routine that nothing calls", LIST_BY, with_routines((0x326, 1)), done(b"00324 0 new_line\n00325 0 quit\n00329 1 quit\n")),
+    ("a list of a story that calls by the stack", LIST, files(PUSHED), done(b"00324 0 push\n00328 0 call\n0032c 0 quit\n")),
+    ("a certificate's list, with the routine that is called so", LIST_BY, files(PUSHED, PUSHED_LISTED), done(b"00324 0 push\n00328 0 call\n0032c 0 quit\n0032f 1 rtrue\n")),
+    ("a list with what stands behind a branch that is always taken", LIST, coded(TAKEN, [0x324, 0x329]), done(lines([(0x324, "jz"), (0x327, "nop"), (0x328, "nop"), (0x329, "quit")]))),
+    ("a certificate's list without it", LIST_BY, coded(TAKEN, [0x324, 0x329]), done(lines([(0x324, "jz"), (0x329, "quit")]))),
+    ("a list by the story's own file", ["list", "story", "story"], files(), refused("K1")),
+    ("a list by a certificate that breaks a rule", LIST_BY, files(listed=certificate(SAMPLE, [0x324])), refused("I4 at 00324")),
+    ("a list by the certificate of another story", LIST_BY, files(listed=certificate(SAMPLE, LISTED, release=2)), refused("S1")),
+    ("a list by a certificate that isn't there", ["list", "story", "absent"], files(), failed("file")),
+    ("a list of a bad story by a certificate that isn't there", ["list", "story", "absent"], files(bytes(63)), refused("L1")),
     # files that are refused, the story before its certificate
     ("no story there", ["play", "absent"], files(), failed("file")),
     ("no story there to list", ["list", "absent"], files(), failed("file")),
@@ -338,6 +364,8 @@ def see_streams(program, count):
         ("a list of a story from a pipe", '"$1" list <(cat "$2/hello.z3")', done(lines([(0x324, "print"), (0x329, "quit")]))),
         ("a list to a full device", '"$1" list "$2/hello.z3" >/dev/full', failed("write")),
         ("a list to a closed output", '"$1" list "$2/hello.z3" >&-', failed("write")),
+        ("a list of a story by its certificate, from pipes", '"$1" list <(cat "$2/hello.z3") <(cat "$2/hello.cert")', done(lines([(0x324, "print"), (0x329, "quit")]))),
+        ("a certificate's list to a full device", '"$1" list "$2/hello.z3" "$2/hello.cert" >/dev/full', failed("write")),
         ("help to a full device", '"$1" --help >/dev/full', failed("write")),
         ("version to a full device", '"$1" --version >/dev/full', failed("write")),
         ("an output that nobody reads", '"$1" play "$2/hello.z3" > >(exec <&-; sleep 0.2)', None),
@@ -350,6 +378,29 @@ def see_streams(program, count):
         # whether a pipe is closed by then is a race: it is written, or named
         well = answer == wanted if wanted else answer in (done(), failed("write"))
         count.see(well, f"{name}: {answer}; wanted was {wanted}")
+
+
+def see_endless(program, count):
+    """What a story prints that never ends is seen while it plays, on both machines; and where nobody reads any more, the play ends."""
+    made = story(HELLO + b"\x8c\xff\xfa")
+    given = {"story": made, "certificate": certificate(made, [0x324, 0x329])}
+    for words in (["story"], ["story", "certificate"]):
+        with tempfile.TemporaryDirectory(prefix="endless-") as room:
+            for name, contents in given.items():
+                with open(os.path.join(room, name), "wb") as file:
+                    file.write(contents)
+            play = subprocess.Popen(
+                [program.path, "play", "--budget", "4294967295", *words], cwd=room, stdin=subprocess.DEVNULL, stdout=subprocess.PIPE, stderr=subprocess.PIPE
+            )
+            late = threading.Timer(60, play.kill)
+            late.start()
+            first = play.stdout.read(5)
+            play.stdout.close()
+            errors = play.stderr.read()
+            status = play.wait()
+            late.cancel()
+            play.stderr.close()
+            count.is_answer(f"a story that never ends, {words}", Answer(status, first, errors), failed("write", b"hello"))
 
 
 def main():
@@ -379,6 +430,7 @@ def main():
     see_finding(program, count)
     see_game(program, count)
     see_streams(program, count)
+    see_endless(program, count)
     count.end()
 
 

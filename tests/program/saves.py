@@ -100,6 +100,17 @@ TELLS_LISTED = certificate(TELLS, [0x324, 0x326, 0x327, 0x32C])
 TELLS_NONE = story(b"\xb6\x43" + QUIT + HELLO + QUIT)
 TELLS_NONE_LISTED = certificate(TELLS_NONE, [0x324, 0x327, 0x32C])
 
+# It tries to restore, saves, prints global 16 and counts it up, and restores again; where that fails it prints the global once more.
+AGAIN = story(RESTORE + SAVE + PRINT_FIRST + b"\x95\x10" + RESTORE + PRINT_FIRST + QUIT)
+AGAIN_LISTED = certificate(AGAIN, [0x324, 0x326, 0x328, 0x32B, 0x32D, 0x32F, 0x332], own={16: (-32768, 32767)})
+
+# It tries to restore, and else prints n and calls a routine with 1,000, which pushes 550 words and calls itself with one less, until its
+# local is 0: then it saves, prints y, and quits. Each frame that it saves has 10 bytes beside those words.
+DEEP = story(
+    RESTORE + SAY_NO + b"\xe0\x0f\x01\x9a\x03\xe8\x10" + QUIT + b"\0" * 3
+    + b"\x01\0\0" + b"\xe8\x7f\x05" * 550 + b"\xa0\x01\xcc" + b"\x55\x01\x01\x01" + b"\xe0\x2f\x01\x9a\x01\0" + SAVE + SAY_YES + QUIT
+)
+
 QUITS = story(SAVE + QUIT)
 QUITS_LISTED = certificate(QUITS, [0x324, 0x326])
 
@@ -184,6 +195,25 @@ def see_plays(program, count):
             count.see(answer == done(output, errors) and left == wanted and not others, f"{name}, {machine}: {answer}; kept {left and left[:60]}")
 
 
+def see_again(program, count):
+    """A save is restored that was kept since the file was last read: at first it is empty, and can't be restored from."""
+    for machine, answer, left, others in on_both(program, AGAIN, AGAIN_LISTED, ["--save", "kept", "--budget", "9"], b""):
+        well = answer == done(b"000", b"end: budget\n") and left == saved(AGAIN, 0x326) and not others
+        count.see(well, f"restored, saved and restored, {machine}: {answer}; kept {left and left[:60]}")
+
+
+def see_long(program, count):
+    """A save of over a million bytes, by one process, and restored by another."""
+    with tempfile.TemporaryDirectory(prefix="saves-") as room:
+        kept = os.path.join(room, "kept")
+        with open(os.path.join(room, "story"), "wb") as file:
+            file.write(DEEP)
+        for output in (b"ny", b"y"):
+            count.is_answer(f"a long save, {output}", program.run_in(room, ["play", "--save", "kept", "story"]), done(output))
+            size = os.path.getsize(kept) if os.path.exists(kept) else 0
+            count.see(size > 1001 * 1108, f"a long save: {size} bytes were kept")
+
+
 def what_is_printed(at):
     """What the story that restores prints where this byte of its save is altered: nothing is restored by the machine that tests
     everything unless the byte is one of dynamic memory; nor by the certificate, by which each global is 0 and property defaults stay,
@@ -250,6 +280,8 @@ def main():
     count = Count("saves")
     assert len(QUITS_SAVE) == len(ITS_SAVE) == 664
     see_plays(program, count)
+    see_again(program, count)
+    see_long(program, count)
     see_processes(program, count)
     see_files(program, count)
     see_altered(program, count)

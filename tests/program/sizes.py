@@ -5,16 +5,31 @@
 
 No clause says that a call succeeds where there is memory, so these runs do. What they print is worked out from the stories' texts.
 """
+import os
+import re
 import struct
 import sys
+import tempfile
 
-from calls import RET_POPPED, RTRUE, call_with, deep, files, routine
-from plays import PRINT_TOP, PUSH
+from calls import RET_POPPED, RTRUE, WIDE, call, call_with, deep, files, printing, routine
+from lines import telling
+from plays import PRINT_TOP, PUSH, ended, placed
 from program import Answer, Count, Program
-from samples import CODE, DICTIONARY, NEW_LINE, NOP, QUIT, certificate, interval, printed, story, text
+from samples import CODE, DICTIONARY, NEW_LINE, NOP, QUIT, STATIC, certificate, changed, interval, letter, printed, story, text, word
+from saves import RESTORE, SAVE
 
 LONGEST = 131072
-WIDE = (-32768, 32767)
+
+
+def calls_that_take_memory():
+    """The public functions of the libraries that are handed an allocator, each by its crate and name."""
+    crates = os.path.join(os.path.dirname(os.path.abspath(__file__)), "../../crates")
+    for at, _, names in sorted(os.walk(crates)):
+        crate, _, part = os.path.relpath(at, crates).partition(os.sep)
+        for name in names if part.startswith("src") and crate != "zcalls" else ():
+            with open(os.path.join(at, name), encoding="utf-8") as file:
+                for called in re.findall(r"(?m)^ *pub fn (\w+)(?:<[^(]*>)?\([^)]*\balloc: Global", file.read()):
+                    yield f"{crate} {called}"
 
 
 def see(program, count, name, made, listed, output, errors=b"", budget=None):
@@ -176,19 +191,218 @@ def long_names(program, count):
     count.is_answer("a name that no file can have", program.run(["play", "n" * 100000], {}), Answer(4, b"", b"failed: file\n"))
 
 
+def many_routines(program, count):
+    """A story that calls as many routines by constants, one after another: listed, searched and played."""
+    for routines in (500, 501, 18000):
+        first = CODE + 5 * routines + 1
+        first += first % 2
+        places = [first + 2 * it for it in range(routines)]
+        code = b"".join(call(place, 17) for place in places) + QUIT
+        code = code.ljust(first - CODE, b"\0") + (b"\0" + RTRUE) * routines
+        made = story(code)
+        lines = "".join(f"{CODE + 5 * it:05x} 0 call\n" for it in range(routines)) + f"{CODE + 5 * routines:05x} 0 quit\n"
+        lines += "".join(f"{place + 1:05x} {it} rtrue\n" for it, place in enumerate(places, 1))
+        count.is_answer(f"{routines} routines, listed", program.run(["list", "story"], {"story": made}), Answer(0, lines.encode(), b""))
+        see_found(program, count, f"{routines} routines", made, b"")
+
+
+def see_found(program, count, name, made, output):
+    """A story whose certificate is found, accepted and played."""
+    answer, listed = program.found(made)
+    count.is_answer(f"{name}, searched", answer, Answer(0, b"found\n", b""))
+    see(program, count, f"{name}, as it was found", made, listed or b"", output)
+
+
+def searched(program, count):
+    """Stories of many instructions, whose certificates are found."""
+    for instructions in (4095, 4096, 4097, 20001, 60000):
+        see_found(program, count, f"{instructions} instructions", story(NEW_LINE * (instructions - 1) + QUIT), b"\n" * (instructions - 1))
+
+
+def long_results(program, count):
+    """A routine that prints a text of so many letters, and returns."""
+    for length in (600, 5000):
+        string = ("abcdefghijklmnopqrstuvwxyz " * (length // 27 + 1))[:length]
+        print_ret = b"\xb3" + printed(string)[1:]
+        given = files(printing(call(0x360, 0), (1, 1)), [routine(0x360, [], (1, 1), (print_ret, []))])
+        see(program, count, f"print_ret of {length} letters", given["story"], given["certificate"], string.encode() + b"\n1")
+
+
+def peopled(names, code, properties=b""):
+    """A story of objects with these names and these properties, and where its code begins."""
+    texts = [text([letter(it) for it in name]) for name in names]
+    tables = [bytes([len(it) // 2]) + it + properties + b"\0" for it in texts]
+    place, entries = STATIC + 9 * len(names), b""
+    for table in tables:
+        entries += bytes(7) + word(place)
+        place += len(table)
+    room = place - STATIC + (place - STATIC) % 2
+    return changed(story(code, room=room), STATIC, *entries, *b"".join(tables)), CODE + room
+
+
+def status_lines(program, count):
+    """Status lines with names of many letters, and many of them in a turn."""
+    for letters, lines in ((40, 1), (41, 1), (64, 1), (65, 1), (765, 1), (3, 301), (3, 302), (3, 303), (3, 2000), (765, 1100)):
+        name = ("abcdefghijklmnopqrstuvwxyz" * 30)[:letters]
+        made, start = peopled([name], b"\xbc" * lines + QUIT)
+        made = changed(made, 0x41, 1)
+        listed = certificate(made, range(start, start + lines + 1), own={16: (1, 1)})
+        given = {"story": made, "certificate": listed}
+        wanted = Answer(0, f"[{name} | Score: 0 | Moves: 0]\n".encode() * lines, b"")
+        for words in (["story"], ["story", "certificate"]):
+            what = f"{lines} status lines with a name of {letters} letters, {len(words)} files"
+            count.is_answer(what, program.run(["play", "--status", *words], given), wanted)
+
+
+def many_objects(program, count):
+    """As many objects as there may be, each with a name and 31 properties: the last one's is printed, and it is asked for its last."""
+    properties = b"".join(bytes([number, number + 100]) for number in range(31, 0, -1))
+    for objects in (250, 251, 255):
+        names = [chr(97 + it % 26) * 3 for it in range(objects)]
+        code = b"\x9a" + bytes([objects]) + b"\x51\x10\x01\x00" + PRINT_TOP + QUIT
+        made, start = peopled(names, code, properties)
+        made = changed(made, 0x41, objects)
+        listed = certificate(made, [start, start + 2, start + 6, start + 9], own={16: (1, objects)}, stacks={start + 6: interval(0, 255)})
+        see(program, count, f"{objects} objects of 31 properties", made, listed, names[-1].encode() + b"101")
+        see_found(program, count, f"{objects} objects of 31 properties", made, names[-1].encode() + b"101")
+
+
+def many_words(program, count):
+    """A line of as many words as a line can have, of which a parse buffer takes so many."""
+    room = 1400
+    buffer, parse, start = STATIC, STATIC + 300, CODE + room
+    for words, takes in ((9, 9), (127, 127), (127, 255), (127, 8)):
+        told = min(words, takes)
+        last = parse + 2 + 4 * (told - 1)
+        lines = placed([b"\xe4\x0f" + word(buffer) + word(parse), *telling(parse + 1, 1), *telling(last + 2, 2), QUIT], start)
+        made = story(b"".join(code for _, code, _ in lines), room=room)
+        made = changed(changed(made, buffer, 255), parse, takes)
+        stacks = {at: slots for at, _, slots in lines}
+        listed = certificate(made, list(stacks), stacks=stacks, ranges=[(buffer, buffer), (parse, parse)])
+        typed = b" ".join([b"a"] * words) + b"\n"
+        given, wanted = {"story": made, "certificate": listed}, Answer(0, b"%d 1 %d " % (told, 2 * told - 1), b"")
+        for named in (["story"], ["story", "certificate"]):
+            answer = program.run(["play", *named], given, typed=typed)
+            count.is_answer(f"{told} of {words} words of a line, {len(named)} files", answer, wanted)
+
+
+def saved_and_restored(program, words, given):
+    """What two plays print that share one file of saves, and how long that is."""
+    with tempfile.TemporaryDirectory(prefix="zpc-") as room:
+        for name, contents in given.items():
+            with open(os.path.join(room, name), "wb") as file:
+                file.write(contents)
+        answers = [program.run_in(room, ["play", "--save", "kept", *words]) for _ in range(2)]
+        return *answers, os.path.getsize(os.path.join(room, "kept"))
+
+
+def deep_saves(program, count):
+    """Saves within as many frames, each with 15 locals and 20 words on its stack, and what goes on from them."""
+    place, locals_ = CODE + 30, list(range(1, 16))
+    rest = [(it, it) for it in locals_[1:]]
+    before, after, one = [(1, 1023), *rest], [(0, 1022), *rest], interval(1, 1)
+    # at level 0 it goes over what follows, to the save
+    skipped = 4 + 20 * 3 + 6 + 1
+    lines = [(b"\xa0\x01" + struct.pack(">H", 0x8000 | skipped + 2), [(0, 1023), *rest]), (b"\x55\x01\x01\x01", before)]
+    lines += [(PUSH + b"\x01", after, one * it) for it in range(20)]
+    lines += [(call_with(place, 0, 1), after, one * 20), (RET_POPPED, after, one * 20 + interval(15, 15))]
+    lines += [(SAVE, [(0, 0), *rest]), (b"\xab\x0f", [(0, 0), *rest])]
+    for levels in (98, 99, 100, 101, 1023):
+        given = files([RESTORE, *deep(levels, place)[:1], (PRINT_TOP, interval(15, 15)), QUIT], [routine(place, locals_, (15, 15), *lines)])
+        count.is_answer(f"saves in {levels} levels, checked", program.run(["check", "story", "certificate"], given), Answer(0, b"accepted\n", b""))
+        for words in (["story"], ["story", "certificate"]):
+            first, second, length = saved_and_restored(program, words, given)
+            count.is_answer(f"saved in {levels} levels, {len(words)} files", first, Answer(0, b"15", b""))
+            count.is_answer(f"restored in {levels} levels, {len(words)} files", second, Answer(0, b"15", b""))
+            # the header, IFhd, and two chunks: dynamic memory, and frames of eight bytes, 15 locals and 20 words, the newest without words
+            wanted = 12 + 22 + 8 + STATIC + 8 + 8 + levels * (8 + 30 + 40) + 38
+            count.see(length == wanted, f"saved in {levels} levels: {length} bytes, wanted were {wanted}")
+
+
+def largest_save(program, count):
+    """A save of as much dynamic memory as there may be."""
+    room = 65534 - STATIC
+    code = RESTORE + SAVE + PRINT_TOP.replace(b"\xbf\x00", b"\xbf\x10") + QUIT
+    made = story(code, room=room)
+    start = CODE + room
+    listed = certificate(made, [start, start + 2, start + 4, start + 7])
+    for words in (["story"], ["story", "certificate"]):
+        first, second, length = saved_and_restored(program, words, {"story": made, "certificate": listed})
+        count.is_answer(f"a save of 65,534 bytes, {len(words)} files", first, Answer(0, b"0", b""))
+        count.is_answer(f"a save of 65,534 bytes restored, {len(words)} files", second, Answer(0, b"0", b""))
+        count.see(length == 12 + 22 + 8 + 65534 + 8 + 8, f"a save of 65,534 bytes: {length}")
+
+
+def tallest(program, count):
+    """The tallest stack of the checked machine, and one word more."""
+    push, back = PUSH + b"\x01", b"\x8c\xff\xfc"
+    made = {"story": story(push + back)}
+    for steps, wanted in ((2 * 65535 - 1, ended("budget")), (2 * 65535, ended("frame limit")), (200000, ended("frame limit"))):
+        count.is_answer(f"pushes in {steps} steps", program.run(["play", "--budget", str(steps), "story"], made), wanted)
+
+
+# Each call of a library that takes memory, each thing that it grows by, and the runs in which that is largest.
+GROWTH = [
+    ("zstory load", "bytes of the file", longest),
+    ("zlist list_story", "instructions", longest_list),
+    ("zlist list_story", "overlapping texts", longest_list),
+    ("zlist list_story", "routines", many_routines),
+    ("zlist new", "instructions and routines of a listing", many_routines),
+    ("zcert read", "instructions", long_certificates),
+    ("zcert read", "slots and locals", highest),
+    ("zcert read", "routines", most_routines),
+    ("zcert read", "frozen ranges", most_ranges),
+    ("zcert write", "instructions", searched),
+    ("zcert write", "routines", many_routines),
+    ("zcert new", "fields of a certificate that is built", searched),
+    ("zcheck check", "instructions", longest),
+    ("zcheck check", "routines", most_routines),
+    ("zcheck check", "routines that a call may enter", most_callees),
+    ("zcheck check", "objects and properties", many_objects),
+    ("zcheck check", "frozen ranges", most_ranges),
+    ("zrule new", "objects and properties", many_objects),
+    ("zfind find", "instructions", searched),
+    ("zfind find", "routines", many_routines),
+    ("zfind find", "objects and properties", many_objects),
+    ("zfind broken_in_all", "what `find` grows by: the walk is the same", searched),
+    ("zref new", "bytes of memory", longest),
+    ("zref run", "text of a step, and of a turn", long_texts),
+    ("zref run", "text before a return", long_results),
+    ("zref run", "status lines of a turn, and letters of a name", status_lines),
+    ("zref run", "frames", deepest),
+    ("zref run", "words of a stack", tallest),
+    ("zref run", "words of a line", many_words),
+    ("zref save_bytes", "frames with their locals and stacks", deep_saves),
+    ("zref save_bytes", "dynamic memory", largest_save),
+    ("zref restore", "frames with their locals and stacks", deep_saves),
+    ("zref restore", "dynamic memory", largest_save),
+    ("zplay start", "bytes of memory, and frames", longest),
+    ("zplay run", "text of a step, and of a turn", long_texts),
+    ("zplay run", "text before a return", long_results),
+    ("zplay run", "status lines of a turn, and letters of a name", status_lines),
+    ("zplay run", "words of a line", many_words),
+    ("zplay save_bytes", "frames with their locals and stacks", deep_saves),
+    ("zplay save_bytes", "dynamic memory", largest_save),
+    ("zframe new", "frames that a session may have", deepest),
+    ("zstate opening", "bytes of memory", longest),
+    ("zstate resume", "frames with their locals and stacks", deep_saves),
+    ("zquetzal write", "frames and memory", deep_saves),
+    ("zfault new", "bytes and status lines of a turn", status_lines),
+    ("zfault from_slice", "letters of a name", status_lines),
+    ("zplayer play_checked", "text and status lines of a turn", status_lines),
+    ("zplayer play_story", "text and status lines of a turn", status_lines),
+    ("zcommand read_words", "words, and letters of a word", long_names),
+    ("zperform", "names of files", long_names),
+]
+
+
 def main():
     program = Program(sys.argv[1])
     count = Count("sizes")
-    longest_list(program, count)
-    longest(program, count)
-    highest(program, count)
-    most_routines(program, count)
-    deepest(program, count)
-    most_callees(program, count)
-    most_ranges(program, count)
-    long_certificates(program, count)
-    long_texts(program, count)
-    long_names(program, count)
+    for run in dict.fromkeys(run for _, _, run in GROWTH):
+        run(program, count)
+    for call_ in calls_that_take_memory():
+        count.see(any(call_ == row or row == call_.split()[0] for row, _, _ in GROWTH), f"{call_} takes memory, and has no row")
     count.end()
 
 

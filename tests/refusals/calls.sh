@@ -34,7 +34,7 @@ while [ "$n" -lt 5000 ]; do
     [ -e "$work/refused" ] || break
 done
 # Each call that takes memory was refused in some run.
-if [ "$(sort -u "$work/kinds" | tr '\n' ' ')" = "$(printf 'refused: %s\n' check file load new play read run start step | tr '\n' ' ')" ]; then
+if [ "$(sort -u "$work/kinds" | tr '\n' ' ')" = "$(printf 'refused: %s\n' check file load new play read render run start step | tr '\n' ' ')" ]; then
     passed=$((passed + 1))
 else
     failed=$((failed + 1))

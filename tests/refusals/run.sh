@@ -82,6 +82,9 @@ refuse_each play --budget 0 hello.z3
 refuse_each play absent.z3
 refuse_each list hello.z3
 refuse_each list absent.z3
+refuse_each list hello.z3 hello.cert
+refuse_each list hello.z3 absent.cert
+refuse_each list "$work/story" "$work/certificate"
 refuse_each list hello.cert
 refuse_each find hello.z3 "$work/found.cert"
 refuse_each find hello.cert "$work/found.cert"

@@ -1,6 +1,6 @@
 //! What comes to a game from outside: random numbers, lines of the player, and what is told of saves.
 
-ghost use Rattle.std.specs.Prelude.{◌≡◌, ◌<◌, ◌≤◌};
+ghost use Rattle.std.specs.Prelude.{◌≡◌, ◌<◌, ◌≤◌, false, None};
 ghost use Rattle.zboard.specs.Outside.{after_draw, after_told, lacks_line, lacks_word, number_drawn, told};
 
 use crate::row::Outcome;
@@ -74,6 +74,15 @@ impl Outside {
             }
             (RandomMode::Words, _) => 0,
         }
+    }
+
+    /// No line is asked for any more, and nothing waits: so a story begins anew (own).
+    #[inline(never)]
+    pub(crate) fn begin_anew(&mut self)
+        ensures { self.new ≡ record self.old { prompted = false; waiting = None } }
+    {
+        self.prompted = false;
+        self.waiting = None;
     }
 
     /// Whether a line was asked for and none waits (Z 15 sread).

@@ -36,6 +36,7 @@ impl Board {
     {
         self.at = begin(&mut self.memory, story, listing);
         self.frames.reset();
+        self.outside.begin_anew();
     }
 }
 

@@ -9,7 +9,7 @@ mod outside;
 mod pieces;
 
 use crate::accepting::accept;
-use crate::pieces::{Way, go};
+use crate::pieces::{Way, flush, go};
 use std::alloc::AllocError;
 use std::io;
 use zcheck::Accepted;
@@ -37,14 +37,16 @@ fn on_session(rt: &HostRuntime, accepted: &Accepted) -> io::Result<()> {
     println!(rt; "session")?;
     start_and_go(rt, accepted, Way::Steps)?;
     start_and_go(rt, accepted, Way::Whole)?;
-    start_and_go(rt, accepted, Way::Pieces)
+    start_and_go(rt, accepted, Way::Pieces)?;
+    flush(rt, &mut started(rt, accepted)?)
 }
 
 /// Plays the story on the checked machine in the same ways.
 fn on_checked(rt: &HostRuntime, story: &Story, scope: Scope<'_>) -> io::Result<()> {
     make_and_go(rt, story, scope, Way::Steps)?;
     make_and_go(rt, story, scope, Way::Whole)?;
-    make_and_go(rt, story, scope, Way::Pieces)
+    make_and_go(rt, story, scope, Way::Pieces)?;
+    flush(rt, &mut made(rt, story, scope)?)
 }
 
 /// Plays on a session of its own.

@@ -15,6 +15,7 @@ pub struct Page {
     bytes: ArrayVec<u8, ROOM>,
     failures: u64,
     waits: bool,
+    is_blocked: bool,
 }
 
 impl Page {
@@ -24,6 +25,15 @@ impl Page {
             bytes: ArrayVec::new(),
             failures: 0,
             waits: false,
+            is_blocked: false,
+        }
+    }
+
+    /// A page that hands nothing on: each flush fails.
+    pub fn blocked() -> Page {
+        Page {
+            is_blocked: true,
+            ..Page::new()
         }
     }
 
@@ -59,6 +69,10 @@ impl Sink for Page {
     }
 
     fn flush(&mut self) -> Result<(), Failed> {
+        if self.is_blocked {
+            self.failures = self.failures.saturating_add(1);
+            return Err(Failed);
+        }
         self.waits = false;
         Ok(())
     }

@@ -3,9 +3,11 @@
 
 use crate::machine::Machine;
 use crate::outside::Page;
+use std::alloc::AllocError;
 use std::{io, str};
 use zfault::{Items, Pause};
 use zplayer::{End, PlayError};
+use zscreen::render;
 use zstate::Stop;
 
 /// More pieces than any of these plays needs, with one that is refused.
@@ -57,6 +59,7 @@ fn run<M: Machine>(rt: &HostRuntime, machine: &mut M) -> io::Result<()> {
         match ran {
             Ok(stop) => {
                 println!(rt; "run, with {left} left")?;
+                show(rt, &items)?;
                 return end(rt, "run", machine, &page, End::from(stop));
             }
             Err(_) => say(rt, "refused: run", machine, &page)?,
@@ -77,6 +80,27 @@ fn play<M: Machine>(rt: &HostRuntime, machine: &mut M) -> io::Result<()> {
         }
     }
     Ok(())
+}
+
+/// Renders what was given out.
+fn show(rt: &HostRuntime, items: &Items) -> io::Result<()> {
+    let bytes = match render(rt.alloc(), items, true) {
+        Ok(bytes) => bytes,
+        Err(AllocError) => {
+            println!(rt; "refused: render")?;
+            render(rt.alloc(), items, true)?
+        }
+    };
+    let text = str::from_utf8(&bytes).unwrap_or("no text");
+    println!(rt; "rendered {text}")
+}
+
+/// Plays no step, to a page that fails where it is flushed.
+pub fn flush<M: Machine>(rt: &HostRuntime, machine: &mut M) -> io::Result<()> {
+    match machine.play(rt.alloc(), &mut Page::blocked(), 0) {
+        Ok(end) => println!(rt; "flushed: {end:?}"),
+        Err(error) => println!(rt; "flush: {error}"),
+    }
 }
 
 /// Says where the machine stands, and what it has given out.

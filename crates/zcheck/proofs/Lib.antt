@@ -7,6 +7,7 @@ mod Lists
 mod Heads
 mod Trees
 pub mod Headline
+pub mod Saves
 mod Worked
 mod WorkedHeadline
 pub mod Instances

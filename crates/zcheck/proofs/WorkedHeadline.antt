@@ -1,6 +1,6 @@
 -- What is known of every run of an accepted story, said once more in other words, and with the limit of its frames in digits.
 use Rattle.std.proofs.Common.{◌≡◌, ◌⊎◌, ℕ, true, List, [], ◌∷◌, Ok, subst}
-use Rattle.std.specs.Prelude.{ℤ}
+use Rattle.std.specs.Prelude.{ℤ, pos, ◌-ℤ◌}
 use Rattle.std.specs.List.{AllByRecursion}
 use Rattle.zstory.specs.Bytes.{byte_at}
 use Rattle.zfault.specs.declared.fault.Fault.{Fault}
@@ -9,10 +9,13 @@ use Rattle.zplace.specs.Bytes.{IsFixed}
 use Rattle.zstate.specs.declared.halt.Stop.TheVariants as stops
 use Rattle.zstate.specs.State.{Scope, Setting, State, IsState, opening, scope_all, scope_only}
 use Rattle.zstate.specs.Run.{Ending, Input, Given, Restored, run}
-use Rattle.zstate.specs.Saves.{restoring}
+use Rattle.zquetzal.specs.Reading.{reading}
+use Rattle.zquetzal.specs.Saved.{Saved}
+use Rattle.zstate.specs.Step.{fetch}
+use Rattle.zstate.specs.Saves.{restoring, resumed, saves}
 use Rattle.zrule.specs.Claims.{Claims, claims_of, frozen_in}
 use Rattle.zrule.specs.Described.{AreFine, Described, IsNoFault}
-use Rattle.zcheck.specs.Acceptance.{AcceptanceOver, NeverFaults, NeverChanges, PlaysAlike}
+use Rattle.zcheck.specs.Acceptance.{AcceptanceOver, AreAccepted, IsAcceptedSave, NeverFaults, NeverChanges, PlaysAlike, PlaysSafely}
 
 module _ {V : Type 0} (o : SetOperations V) (a : AcceptanceOver V) where
   abbrev claims : Claims V
@@ -64,3 +67,37 @@ module _ {V : Type 0} (o : SetOperations V) (a : AcceptanceOver V) where
   -- where the saves may be handed in both ways, it ends with every place as with what the certificate lists, and gives out the same
   ends_alike : PlaysAlike o a → (inputs : List Input) (n : ℕ) → AllByRecursion (May listed) inputs → AllByRecursion (May everywhere) inputs → ending everywhere inputs n ≡ ending listed inputs n
   ends_alike alike inputs n may may_everywhere = alike inputs n (fine listed inputs may) (fine everywhere inputs may_everywhere)
+
+  -- an event, or bytes that are read as a save of which a `save` is listed at the byte before its place, and whose state is described
+  abbrev Good : Input → Type 0
+  Good (Given event) = Unit {0}
+  Good (Restored bytes) = (saved : Saved) × (s : State) × (reading a.story bytes ≡ Ok saved) × (saves (fetch listed (pos saved.place -ℤ pos 1) (resumed a.story saved s).memory) ≡ true) × Described o claims 1024 a.story (resumed a.story saved s)
+
+  accepted : (inputs : List Input) → AllByRecursion Good inputs → AreAccepted o a inputs
+  accepted [] good = tt
+  accepted (Given event ∷ inputs) good = (tt, accepted inputs good.1)
+  accepted (Restored bytes ∷ inputs) ((saved, s, reads, spelled, described), good) = (record { saved = saved; reads = reads; before = s; spelled = spelled; described = described }, accepted inputs good)
+
+  -- nothing else is accepted
+  good_alone : (bytes : List ℕ) → IsAcceptedSave o a bytes → Good (Restored bytes)
+  good_alone bytes x = (x.saved, x.before, x.reads, x.spelled, x.described)
+
+  -- over these no run stops at a fault, both are the same, and no byte changes that is fixed or frozen
+  headline :
+      PlaysSafely o a → (inputs : List Input) (n p : ℕ) (fault : Fault) (place : ℤ) → AllByRecursion Good inputs
+      → ((ending listed inputs n).stop ≡ stops.Fault fault place → ⊥) × ((ending everywhere inputs n).stop ≡ stops.Fault fault place → ⊥) × (ending everywhere inputs n ≡ ending listed inputs n)
+      × (IsFixed a.story (frozen_in claims) p ⊎ (frozen_in claims p ≡ true) → byte_at (ending listed inputs n).state.memory p ≡ byte_at a.story.memory p)
+  headline safe inputs n p fault place good = (
+    λ e. subst IsNoFault e (safe.listed inputs n (accepted inputs good)),
+    λ e. subst IsNoFault e (safe.everywhere inputs n (accepted inputs good)),
+    safe.alike inputs n (accepted inputs good),
+    λ stays. safe.unchanged inputs n p (accepted inputs good) stays,
+  )
+
+  -- and play goes on from a good save in both scopes
+  goes_on : PlaysSafely o a → (bytes : List ℕ) → Good (Restored bytes) → (s : State) → IsState 1024 a.story s → ((t : State) × (restoring (played_in listed) bytes s ≡ Ok t)) × ((t : State) × (restoring (played_in everywhere) bytes s ≡ Ok t))
+  goes_on safe bytes good s is =
+      let x = (accepted (Restored bytes ∷ []) (good, tt)).0 in
+      let here = safe.taken bytes x s is in
+      let there = safe.taken_everywhere bytes x s is in
+      ((here.0, here.1), (there.0, there.1))

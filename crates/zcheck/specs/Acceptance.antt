@@ -1,6 +1,6 @@
 -- What is known of a story with a certificate that passes (own).
 use Rattle.std.specs.Prelude.{◌≡◌, ◌⊎◌, ℕ, true, List, map, drop, Ok}
-use Rattle.std.specs.List.{AllZip}
+use Rattle.std.specs.List.{AllByRecursion, AllZip}
 use Rattle.zstory.specs.Bytes.{byte_at}
 use Rattle.zstory.specs.LoadedStory.{LoadedStory}
 use Rattle.zcode.specs.Reading.{instruction_at}
@@ -9,11 +9,15 @@ use Rattle.zlist.specs.Listing.{ListedCode}
 use Rattle.zcert.specs.Certificate.{Instruction, Certificate}
 use Rattle.zdomain.specs.declared.interval.Interval.{Interval}
 use Rattle.zdomain.specs.Domain.{SetOperations}
-use Rattle.zstate.specs.State.{Scope, Setting, opening, scope_all, scope_only, usual_limit}
-use Rattle.zstate.specs.Run.{Input, run}
+use Rattle.zquetzal.specs.Reading.{reading}
+use Rattle.zquetzal.specs.Saved.{Saved}
+use Rattle.zstate.specs.State.{Scope, Setting, State, IsState, opening, scope_all, scope_only, usual_limit}
+use Rattle.zstate.specs.Step.{fetch}
+use Rattle.zstate.specs.Saves.{restoring, resumed, save_place, saves}
+use Rattle.zstate.specs.Run.{Ending, Input, Given, Restored, run}
 use Rattle.zplace.specs.Bytes.{IsFixed}
 use Rattle.zrule.specs.Claims.{Claims, claims_of, frozen_in}
-use Rattle.zrule.specs.Described.{AreFine, IsNoFault}
+use Rattle.zrule.specs.Described.{AreFine, Described, IsNoFault}
 
 -- a story, its certificate over a type V of sets of words, and the certificate's listing
 pub record AcceptanceOver (V : Type 0) : Type 0 where
@@ -77,3 +81,42 @@ pub record NeverChanges {V : Type 0} (o : SetOperations V) (a : AcceptanceOver V
 -- with every place of the story it is the run with the certificate's listing
 abbrev pub PlaysAlike : {V : Type 0} → SetOperations V → AcceptanceOver V → Type 0
 PlaysAlike o a = RunsAlike o (claims_of o a.certificate) a.story (scope_only a.listing) (scope_all a.story)
+
+-- ---- play from events and accepted saves
+
+module _ {V : Type 0} (o : SetOperations V) (a : AcceptanceOver V) where
+  -- Bytes of a save that is accepted, whoever wrote them: they are read, a `save` is listed at the byte before their place, and in the state
+  -- in which play goes on from them, which is described, it is spelled there. It makes no difference before which state that is asked
+  pub record IsAcceptedSave (bytes : List ℕ) : Type 0 where
+    pub saved : Saved
+    pub reads : reading a.story bytes ≡ Ok saved
+    pub before : State
+    pub spelled : saves (fetch (scope_only a.listing) (save_place saved) (resumed a.story saved before).memory) ≡ true
+    pub described : Described o (claims_of o a.certificate) usual_limit a.story (resumed a.story saved before)
+
+  -- an event, or an accepted save
+  abbrev pub IsAcceptedInput : Input → Type 0
+  IsAcceptedInput (Given event) = Unit {0}
+  IsAcceptedInput (Restored bytes) = IsAcceptedSave bytes
+
+  abbrev pub AreAccepted : List Input → Type 0
+  AreAccepted inputs = AllByRecursion IsAcceptedInput inputs
+
+  -- a run from where the story opens
+  abbrev pub run_in : Scope → List Input → ℕ → Ending
+  run_in scope inputs n = run (playing_in a.story scope) inputs n (opening a.story)
+
+  -- play goes on from the save wherever that is asked for, and in a described state
+  abbrev pub IsTakenIn : Scope → List ℕ → Type 0
+  IsTakenIn scope bytes = (s : State) → IsState usual_limit a.story s → (t : State) × (restoring (playing_in a.story scope) bytes s ≡ Ok t) × Described o (claims_of o a.certificate) usual_limit a.story t
+
+  -- The headline, of the fully checked machine: whatever the events and the accepted saves, and however many the steps, no run meets a
+  -- fault, with the certificate's listing as with every place; both are the same run; and no byte changes that is fixed or frozen. An accepted
+  -- save is one from which play goes on, wherever it is asked for.
+  pub record PlaysSafely : Type 0 where
+    pub listed : (inputs : List Input) (n : ℕ) → AreAccepted inputs → IsNoFault (run_in (scope_only a.listing) inputs n).stop
+    pub everywhere : (inputs : List Input) (n : ℕ) → AreAccepted inputs → IsNoFault (run_in (scope_all a.story) inputs n).stop
+    pub alike : (inputs : List Input) (n : ℕ) → AreAccepted inputs → run_in (scope_all a.story) inputs n ≡ run_in (scope_only a.listing) inputs n
+    pub unchanged : (inputs : List Input) (n p : ℕ) → AreAccepted inputs → IsFixed a.story (frozen_in (claims_of o a.certificate)) p ⊎ (frozen_in (claims_of o a.certificate) p ≡ true) → byte_at (run_in (scope_only a.listing) inputs n).state.memory p ≡ byte_at a.story.memory p
+    pub taken : (bytes : List ℕ) → IsAcceptedSave bytes → IsTakenIn (scope_only a.listing) bytes
+    pub taken_everywhere : (bytes : List ℕ) → IsAcceptedSave bytes → IsTakenIn (scope_all a.story) bytes

@@ -3,7 +3,7 @@
 ghost use Rattle.std.specs.Prelude.{◌≡◌, IfOk, IfErr};
 ghost use Rattle.zcert.specs.Spelling.{HasSpelling};
 ghost use Rattle.zrule.specs.Described.{IsLoadedStory};
-ghost use Rattle.zcheck.specs.Acceptance.{IsListingOf, NeverChanges, NeverFaults, PlaysAlike};
+ghost use Rattle.zcheck.specs.Acceptance.{IsListingOf, NeverChanges, NeverFaults, PlaysAlike, PlaysSafely};
 ghost use Rattle.zcheck.specs.Passes.{IsRefused, Passes};
 
 use crate::accepted::Accepted;
@@ -18,8 +18,8 @@ use zstory::Story;
 /// Whatever is typed, drawn or answered, and however long it is played, a story that is accepted meets no fault, and no
 /// byte changes that is fixed or that the certificate says is frozen. It is the same play with every place in scope as
 /// with the certificate's listing. That holds of play from saves too, where each leads to states alone that the
-/// certificate describes. Both are taken over; a refusal hands nothing back. `OutOfMemory` is answered only for a
-/// certificate that passes.
+/// certificate describes; so does every save that is accepted, as `plays_safely` says in one sentence. Both are taken over; a
+/// refusal hands nothing back. `OutOfMemory` is answered only for a certificate that passes.
 pub fn check<V: Spelled>(
     alloc: Global,
     story: Story,
@@ -33,6 +33,7 @@ pub fn check<V: Spelled>(
     ensures never_faults { IfOk result (NeverFaults V.operations) }
     ensures never_changes { IfOk result (NeverChanges V.operations) }
     ensures plays_alike { IfOk result (PlaysAlike V.operations) }
+    ensures plays_safely { IfOk result (PlaysSafely V.operations) }
 {
     let listing = judged_listing(alloc, &story, &certificate)?;
     loaded_soundly(&story);

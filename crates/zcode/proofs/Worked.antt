@@ -177,9 +177,9 @@ unfolding head_at checked_head long_head short_head variable_head
 forms_begin = (refl, refl, refl)
 
 -- an opcode is judged before its type byte, and their number before the operands
-first_faults : (variable_head Many 0xEB [] ≡ Err (NotInProfile SetWindow)) × (variable_head Many 0xE0 [] ≡ Err Truncated) × (variable_head Many 0xE1 (0xFF ∷ []) ≡ Err Operands) × (head_at (0xBE ∷ []) ≡ Err NoSuchOpcode) × (head_at [] ≡ Err Truncated)
+first_faults : (variable_head Many 0xEB [] ≡ Err (NotInProfile SetWindow)) × (variable_head Many 0xE0 [] ≡ Err Truncated) × (variable_head Many 0xE1 (0xFF ∷ []) ≡ Err Operands) × (head_at (0xBE ∷ []) ≡ Err NoSuchOpcode) × (head_at [] ≡ Err Truncated) × (variable_head Two 0xC0 [] ≡ Err NoSuchOpcode) × (variable_head Many 0xEB (0xFF ∷ []) ≡ Err (NotInProfile SetWindow))
 unfolding head_at short_head variable_head checked_head
-first_faults = (refl, refl, refl, refl, refl)
+first_faults = (refl, refl, refl, refl, refl, refl, refl)
 
 operands_read : (operand_at types.Large (0x03 ∷ 0xE8 ∷ 9 ∷ []) ≡ Ok (Constant 1000, 9 ∷ [])) × (operand_at types.Large (0x03 ∷ []) ≡ Err Truncated) × (operands_at (types.Small ∷ types.Variable ∷ []) (7 ∷ 8 ∷ 9 ∷ []) ≡ Ok (Constant 7 ∷ Variable 8 ∷ [], 9 ∷ [])) × (operands_at (types.Small ∷ types.Variable ∷ []) (7 ∷ []) ≡ Err Truncated)
 unfolding operand_at operands_at

@@ -42,9 +42,9 @@ budget_rule = record (new_rule (codes "budget")) {
 abbrev pub status_rule : Rule
 status_rule = record (new_rule (codes "status")) { long = Some (codes "status"); action = Some SetTrue }
 
--- `--save FILE`
+-- `--save FILE`, where FILE isn't empty
 abbrev pub save_rule : Rule
-save_rule = record (new_rule (codes "save")) { long = Some (codes "save"); value_names = 1 }
+save_rule = record (new_rule (codes "save")) { long = Some (codes "save"); value_names = 1; parser = Some parsers.NonEmptyString }
 
 -- `CERT`, which has to be there or may be
 abbrev pub certificate_rule : Bool → Rule
@@ -58,9 +58,9 @@ code_rule = word_rule (codes "CODE") true
 abbrev pub files_app : Text → Bool → App
 files_app name required = with_rule (with_rule (new_app name) story_rule) (certificate_rule required)
 
--- `list STORY`
+-- `list STORY [CERT]`
 abbrev pub list_app : App
-list_app = with_rule (new_app (codes "list")) story_rule
+list_app = files_app (codes "list") false
 
 -- `find STORY CERT`
 abbrev pub find_app : App
@@ -135,7 +135,7 @@ code_of rows = unwrap_or (first_of (codes "CODE") rows) []
 
 -- what is asked for, by the names of files
 pub data Request : Type 0 where
-  ListStory : (story : Text) → Request
+  ListStory : (story : Text) (certificate : Option Text) → Request
   Find : (story certificate : Text) → Request
   Check : (story certificate : Text) → Request
   Play : (story : Text) (certificate : Option Text) (seed budget : ℕ) (status : Bool) (save : Option Text) → Request
@@ -143,7 +143,7 @@ pub data Request : Type 0 where
 
 -- the request is the one that clap's matches name, with the values among them
 abbrev pub Asks : Text × List Row → Request → Type 0
-Asks matches (ListStory story) = (matches.0 ≡ codes "list") × (story ≡ story_of matches.1)
+Asks matches (ListStory story certificate) = (matches.0 ≡ codes "list") × (story ≡ story_of matches.1) × (certificate ≡ certificate_of matches.1)
 Asks matches (Find story certificate) =
     (matches.0 ≡ codes "find") × (story ≡ story_of matches.1) × (certificate ≡ unwrap_or (certificate_of matches.1) [])
 Asks matches (Check story certificate) =
@@ -155,7 +155,7 @@ Asks matches (Explain code) = (matches.0 ≡ codes "explain") × (code ≡ code_
 
 -- what a command asks for
 abbrev pub request_of : Command → Request
-request_of (commands.List story) = ListStory story.now
+request_of (commands.List story certificate) = ListStory story.now (option_map (λ c. c.now) certificate)
 request_of (commands.Find story certificate) = Find story.now certificate.now
 request_of (commands.Check story certificate) = Check story.now certificate.now
 request_of (commands.Play story certificate seed budget status save) = Play story.now (option_map (λ c. c.now) certificate) seed budget status (option_map (λ f. f.now) save)

@@ -6,6 +6,7 @@ ghost use Rattle.clap.specs.Words.{FailsBy, app_of, fault_of, found_of, rows_of,
 ghost use Rattle.clap.specs.declared.builder.command.Command.TheViews.{out-Command as fields_of};
 ghost use Rattle.zcommand.specs.CommandLine.{IsCommand, IsReadFrom, bare_app, budget_rule, certificate_rule, certifying_app, check_app, code_rule, explain_app, files_app, find_app, list_app, play_app, save_rule, seed_rule, status_rule, story_rule, word_rule, zpc_app};
 
+use clap::builder::ValueParser;
 use clap::{Arg, ArgAction, ArgMatches, Error, value_parser};
 use std::alloc::{AllocError, Global};
 
@@ -21,10 +22,12 @@ const SEED: &str = "1";
 /// What the words ask for.
 #[derive(Clone, Copy, Debug, PartialEq, Eq)]
 pub enum Command<'a> {
-    /// Lists the instructions of a story.
+    /// Lists the instructions of a story, or those of its certificate.
     List {
         /// The name of the story's file.
         story: &'a str,
+        /// The name of the certificate's file, if its instructions are listed and not the story's own.
+        certificate: Option<&'a str>,
     },
     /// Finds a certificate.
     Find {
@@ -94,12 +97,13 @@ fn command_of<'a>(matches: &ArgMatches<'a>) -> Command<'a>
     }
 }
 
-/// `list`, with the value that is among its matches.
+/// `list`, with the values that are among its matches.
 fn list_of<'a>(matches: &ArgMatches<'a>) -> Command<'a>
     ensures { IsReadFrom (codes "list", rows_of (found_of matches.now)) result }
 {
     let story = matches.get_str("STORY").unwrap_or("");
-    Command::List { story }
+    let certificate = matches.get_str("CERT");
+    Command::List { story, certificate }
 }
 
 /// `find`, with the values that are among its matches.
@@ -183,8 +187,12 @@ fn list<'a>(alloc: Global) -> Result<clap::Command<'a>, AllocError>
     ensures app { IfOk result (λ list. app_of list ≡ list_app) }
     ensures local { IfOk result (λ list. (fields_of list).has_globals ≡ false) }
 {
-    let list = clap::Command::new(alloc, "list").about("Lists the instructions of a story");
-    list.arg(story(alloc))
+    on_files(
+        alloc,
+        "list",
+        "Lists the instructions of a story, or of a certificate",
+        false,
+    )
 }
 
 fn find<'a>(alloc: Global) -> Result<clap::Command<'a>, AllocError>
@@ -313,4 +321,5 @@ fn save<'a>(alloc: Global) -> Arg<'a>
         .long("save")
         .help("The file that saves are kept in")
         .value_name("FILE")
+        .value_parser(ValueParser::NonEmptyString)
 }

@@ -1,5 +1,5 @@
 -- Values of the definitions, computed.
-use Rattle.std.proofs.Common.{◌≡◌, ℕ, zero, suc, ◌^◌, ◌-◌, Bool, true, false, [], ◌∷◌, replicate, Some, None, Result, Ok, Err, refl, arith}
+use Rattle.std.proofs.Common.{◌≡◌, ℕ, zero, suc, ◌^◌, ◌-◌, ◌<◌, Bool, true, false, [], ◌∷◌, replicate, Some, None, Result, Ok, Err, refl, arith}
 use Rattle.std.specs.Prelude.{pos, take}
 use Rattle.std.specs.Io.KnownBytes.{Appends}
 use Rattle.zfault.specs.declared.adapters.FromRead.{FromRead}
@@ -10,7 +10,7 @@ use Rattle.zfault.specs.declared.pause.Need.TheVariants as needs
 use Rattle.zfault.specs.declared.pause.Pause.TheVariants as pauses
 use Rattle.zfault.specs.Adapters.{reader_of, read_failures, unflushed, writer_of, write_failures}
 use Rattle.zfault.specs.Answers.{pause_for, answers}
-use Rattle.zfault.specs.Devices.{AppendsBeginning, ChangesFront, CountsFailure, HandsOn, LetsWait, RisesByOne, waits_after}
+use Rattle.zfault.specs.Devices.{AppendsBeginning, BreaksOff, ChangesFront, CountsFailure, HandsOn, LetsWait, RisesByOne, waits_after}
 use Rattle.zfault.specs.Fault.{number_of}
 use Rattle.zfault.specs.declared.item.Item.TheVariants.{Status, Text}
 use Rattle.zfault.specs.declared.item.Status.{Status as AStatus}
@@ -79,6 +79,27 @@ begun = (record { taken = 2; grown = refl }, record { taken = 0; grown = refl },
     other : (n : ℕ) → Appends (Some []) (Some (9 ∷ [])) (take n (2 ∷ [])) → ⊥
     other zero e = absurd cc
     other (suc n) e = absurd cc
+
+-- a write breaks off before the last byte at the latest, and what was taken waits
+broken_off :
+    BreaksOff (Some (1 ∷ [])) (Some (1 ∷ 2 ∷ 3 ∷ [])) false true (2 ∷ 3 ∷ 4 ∷ []) × BreaksOff (Some []) (Some []) false false (2 ∷ []) × BreaksOff (Some []) (Some []) true true (2 ∷ [])
+    × (BreaksOff (Some []) (Some (2 ∷ [])) false true (2 ∷ []) → ⊥) × (BreaksOff None None false false [] → ⊥) × (BreaksOff (Some []) (Some (2 ∷ [])) false false (2 ∷ 3 ∷ []) → ⊥)
+broken_off = (
+  record { taken = 2; short = omega arith; grown = refl; waits = refl },
+  record { taken = 0; short = omega arith; grown = refl; waits = refl },
+  record { taken = 0; short = omega arith; grown = refl; waits = refl },
+  λ b. all b.taken b.short b.grown,
+  λ b. omega (arith, b.short),
+  λ b. unseen b.taken b.grown b.waits,
+)
+  where
+    all : (n : ℕ) → n < 1 → Appends (Some []) (Some (2 ∷ [])) (take n (2 ∷ [])) → ⊥
+    all zero few e = absurd cc
+    all (suc n) few e = omega (arith, few)
+
+    unseen : (n : ℕ) → Appends (Some []) (Some (2 ∷ [])) (take n (2 ∷ 3 ∷ [])) → false ≡ waits_after false (take n (2 ∷ 3 ∷ [])) → ⊥
+    unseen zero e waits = absurd cc
+    unseen (suc n) e waits = absurd cc
 
 source : FromRead ℕ
 source = record { reader = 7; failed_reads = 2 }

@@ -1,5 +1,5 @@
 -- What a call of a device does to its count of failures, to its known bytes, and to what waits to be handed on (own).
-use Rattle.std.specs.Prelude.{◌≡◌, ℕ, ◌+◌, ◌-◌, ◌^◌, min, Bool, true, false, List, [], ◌∷◌, take, drop, MatchResult, Result, Option}
+use Rattle.std.specs.Prelude.{◌≡◌, ℕ, ◌+◌, ◌-◌, ◌^◌, ◌<◌, min, Bool, true, false, List, [], ◌∷◌, length, take, drop, MatchResult, Result, Option}
 use Rattle.std.specs.Io.KnownBytes.{Appends}
 
 -- a count of failures, a u64, goes up by one, and stays at its last value
@@ -23,6 +23,18 @@ pub record AppendsBeginning (old new : Option (List ℕ)) (bytes : List ℕ) : T
 abbrev pub waits_after : Bool → List ℕ → Bool
 waits_after before [] = before
 waits_after before (byte ∷ bytes) = true
+
+-- known bytes grow by these, which wait for a flush if there are any
+pub record LeavesWaiting (old new : Option (List ℕ)) (before now : Bool) (bytes : List ℕ) : Type 0 where
+  pub grown : Appends old new bytes
+  pub waits : now ≡ waits_after before bytes
+
+-- a write broke off before the end of these bytes: known bytes grow by those that were taken, which wait for a flush
+pub record BreaksOff (old new : Option (List ℕ)) (before now : Bool) (bytes : List ℕ) : Type 0 where
+  pub taken : ℕ
+  pub short : taken < length bytes
+  pub grown : Appends old new (take taken bytes)
+  pub waits : now ≡ waits_after before (take taken bytes)
 
 -- the bytes that a call took wait for a flush, and at an error nothing has changed
 abbrev pub LetsWait : {E : Type 0} → Bool → Bool → Result ℕ E → List ℕ → Type 0

@@ -1,5 +1,5 @@
--- What a story lists (own): the places that play may reach by what the code spells, whatever values it computes, and whose code
--- each is.
+-- What a story lists (own): the places that its code leads to by jumps, both ways of branches and constant calls, whatever values it
+-- computes, and whose code each is. A routine that only a variable names isn't among them, and what no play reaches may be.
 use Rattle.std.specs.Prelude.{◌≡◌, ℕ, zero, suc, ◌+◌, ◌*◌, ◌≤◌, ℤ, pos, negsuc, ◌+ℤ◌, ◌-ℤ◌, ◌<ℤ◌, Bool, true, false, IsTrue, List, ◌∷◌, [], length, drop, All, Option, Some, None, option_map, Result, Ok, Err, if◌then◌else◌, nat_lt, slice_index, ◌⊎◌, ◌↔◌, ◌≢◌}
 use Rattle.std.specs.Int.{w16, cast_signed}
 use Rattle.zstory.specs.Bytes.{byte_at}

@@ -1,7 +1,7 @@
 //! Listings: the instructions of a story that may be played, and its routines.
 //!
 //! A `Listing` is made from parts in order, and tells of an address what is listed there without a search. `list_story` makes the
-//! one of all that play may reach.
+//! one of all that constant calls, jumps and both ways of branches lead to.
 #![tactic(auto)]
 
 mod leading;

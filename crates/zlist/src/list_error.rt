@@ -11,8 +11,8 @@ use zcode::DecodeError;
 /// address the first.
 #[derive(Clone, Copy, Debug, PartialEq, Eq, Error)]
 pub enum ListError {
-    /// U1: no instruction stands at a place that play may reach, or no head at a routine that is called. The place may lie
-    /// outside memory.
+    /// U1: no instruction stands at a place that the code leads to, or no head at a routine that a constant calls. The place may
+    /// lie outside memory.
     #[error("no instruction at {0}: {1}")]
     Decode(i32, DecodeError),
     /// U2: the instruction at the address belongs to two routines.

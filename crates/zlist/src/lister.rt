@@ -276,11 +276,12 @@ fn records_of(
     Ok(records)
 }
 
-/// The listing of all that a story lists (own): the instructions that play may reach, whatever values it computes, and the routines
-/// that are called by constants.
+/// The listing of all that a story lists (own): the instructions that its code leads to by jumps, both ways of branches and constant
+/// calls, whatever values it computes, and the routines that are called by constants. What only a call by a variable leads to isn't
+/// among them, and what stands behind a branch that is never taken is.
 ///
 /// U1 where no instruction stands at such a place, U2 where it belongs to two routines, U3 where it is a `jump` by a variable:
-/// the one at the lowest address. U4 where memory was refused.
+/// the one at the lowest address. U4 where memory was refused, which is taken for every story.
 pub fn list_story(alloc: Global, story: &Story) -> Result<Listing, ListError>
     ensures lists { IfOk result (Lists story.now) }
     ensures lowest { IfErr result (λ e. e ≢ OutOfMemory → IsLowestFault story.now e) }

@@ -294,7 +294,9 @@ used = (
 
 -- a failure is of the story's file, or of the other that a request names once there is a story; of no file that it doesn't name
 blamed :
-    IsBlamed (ListStory (5 ∷ [])) (drawer 0 [] [] (5 ∷ [])) × (IsBlamed (ListStory (5 ∷ [])) (drawer 0 [] [] (6 ∷ [])) → ⊥)
+    IsBlamed (ListStory (5 ∷ []) None) (drawer 0 [] [] (5 ∷ [])) × (IsBlamed (ListStory (5 ∷ []) None) (drawer 0 [] [] (6 ∷ [])) → ⊥)
+    × IsBlamed (ListStory (5 ∷ []) (Some (6 ∷ []))) (drawer 0 [] [] (5 ∷ [])) × (IsBlamed (ListStory (5 ∷ []) (Some (6 ∷ []))) (drawer 0 (5 ∷ []) [] (6 ∷ [])) → ⊥)
+    × (IsBlamed (ListStory (5 ∷ []) (Some (6 ∷ []))) (drawer 0 [] [] (7 ∷ [])) → ⊥)
     × IsBlamed (Play (5 ∷ []) None 1 100 false (Some (6 ∷ []))) (drawer 0 [] [] (5 ∷ [])) × (IsBlamed (Play (5 ∷ []) None 1 100 false (Some (6 ∷ []))) (drawer 0 [] [] (6 ∷ [])) → ⊥)
     × IsBlamed (Check (5 ∷ []) (6 ∷ [])) (drawer 0 [] [] (5 ∷ [])) × (IsBlamed (Check (5 ∷ []) (6 ∷ [])) (drawer 0 (5 ∷ []) [] (6 ∷ [])) → ⊥) × (IsBlamed (Check (5 ∷ []) (6 ∷ [])) (drawer 0 [] [] (7 ∷ [])) → ⊥)
     × IsBlamed (Play (5 ∷ []) (Some (6 ∷ [])) 1 100 false None) (drawer 0 [] [] (5 ∷ [])) × (IsBlamed (Play (5 ∷ []) (Some (6 ∷ [])) 1 100 false None) (drawer 0 (5 ∷ []) [] (6 ∷ [])) → ⊥)
@@ -303,6 +305,9 @@ unfolding drawer
 blamed = (
   refl,
   λ e. true≢false (sym e),
+  inl refl,
+  of_none,
+  of_another,
   refl,
   λ e. true≢false (sym e),
   inl refl,
@@ -342,14 +347,14 @@ never : (story certificate before now : Option (List ℕ)) (options : Options) (
 never story certificate before now options outside = (λ no. no, λ no. no, λ no. no, λ no. no.0)
 
 -- input is read for a play alone
-input_read : (is_quiet (ListStory (codes "hello.z3")) ≡ true) × (is_quiet (Find (codes "hello.z3") (codes "hello.cert")) ≡ true) × (is_quiet (Explain (codes "I5")) ≡ true) × (is_quiet (Check (codes "hello.z3") (codes "hello.cert")) ≡ true) × (is_quiet (Play (codes "hello.z3") None 1 100 false None) ≡ false)
-input_read = (refl, refl, refl, refl, refl)
+input_read : (is_quiet (ListStory (codes "hello.z3") None) ≡ true) × (is_quiet (ListStory (codes "hello.z3") (Some (codes "hello.cert"))) ≡ true) × (is_quiet (Find (codes "hello.z3") (codes "hello.cert")) ≡ true) × (is_quiet (Explain (codes "I5")) ≡ true) × (is_quiet (Check (codes "hello.z3") (codes "hello.cert")) ≡ true) × (is_quiet (Play (codes "hello.z3") None 1 100 false None) ≡ false)
+input_read = (refl, refl, refl, refl, refl, refl)
 
 -- a file may be written for a certificate and for saves
 files_written :
-    (written_by (ListStory (codes "hello.z3")) ≡ None) × (written_by (Find (codes "hello.z3") (codes "hello.cert")) ≡ Some (codes "hello.cert")) × (written_by (Check (codes "hello.z3") (codes "hello.cert")) ≡ None)
+    (written_by (ListStory (codes "hello.z3") None) ≡ None) × (written_by (ListStory (codes "hello.z3") (Some (codes "hello.cert"))) ≡ None) × (written_by (Find (codes "hello.z3") (codes "hello.cert")) ≡ Some (codes "hello.cert")) × (written_by (Check (codes "hello.z3") (codes "hello.cert")) ≡ None)
     × (written_by (Play (codes "hello.z3") None 1 100 false (Some (codes "a.qzl"))) ≡ Some (codes "a.qzl")) × (written_by (Explain (codes "I5")) ≡ None)
-files_written = (refl, refl, refl, refl, refl)
+files_written = (refl, refl, refl, refl, refl, refl)
 
 -- a text that was found isn't kept by a file of other bytes
 kept_whole : HasAlone (1 ∷ 2 ∷ []) (Some (1 ∷ 2 ∷ [])) × (HasAlone (1 ∷ 2 ∷ []) (Some (1 ∷ [])) → ⊥)

@@ -2,6 +2,7 @@
 use Rattle.std.proofs.Common.{◌≡◌, ◌≢◌, ◌⊎◌, inl, inr, ℕ, List, [], ◌∷◌, ◌++◌, Bool, true, false, codes, ap, refl, subst, arith, length}
 use Rattle.std.specs.Prelude.{⊤, Option, None, Some, IfSome, Result, Ok, Err}
 use Rattle.std.specs.Io.KnownBytes.{Appends}
+use Rattle.std.proofs.KnownBytes.{Appends-trans}
 use Rattle.clap.specs.declared.error.kind.ErrorKind.TheVariants.{DisplayHelp, UnknownArgument}
 use Rattle.zfault.specs.Devices.{AppendsBeginning}
 use Rattle.zstory.specs.LoadedStory.{LoadedStory}
@@ -33,7 +34,7 @@ use Rattle.zperform.specs.Accepting.{CheckComesTo, HoldsCertificate, HoldsStory,
 use Rattle.zperform.specs.Contents.{CountsNone, ReadsPart, SparesOthers}
 use Rattle.zperform.specs.Devices.{Breaks, Devices, Ends, FlushesUnless, Held, ReadsUnless, Says, Seen, Takes, Told, UsesUnless, Writes, devices}
 use Rattle.zperform.specs.Finding.{ExplainComesTo, FindComesTo, FindEnds, HasAlone, IsFound, IsNotFound, found_line}
-use Rattle.zperform.specs.Listing.{HoldsListed, IsNoListing, ListComesTo}
+use Rattle.zperform.specs.Listing.{HoldsListed, HoldsListedBy, IsNoListing, ListByComesTo, ListComesTo, listing_text}
 use Rattle.zperform.specs.Performing.{Comes, Does, Explains, IsBlamed, Lacks, Performs, Reports, Shows, Tells, given, is_quiet, save_in, store_of, written_by}
 use Rattle.zperform.specs.Playing.{ComesTo, IsPlayed, IsRefused}
 use Rattle.zperform.proofs.AcceptLemmas.{story_bytes}
@@ -155,9 +156,10 @@ lacking = (
 -- each is of the file that its request names, as it was, and of what was written before and is now
 module _ (story certificate : List ℕ) (held holds : List ℕ → Option (List ℕ)) (input before now : Option (List ℕ)) (outcome : Outcome) where
   comes_of_files :
-      (Comes (ListStory story) held holds input before now outcome → ListComesTo (held story) before now outcome) × (Comes (Find story certificate) held holds input before now outcome → FindComesTo story certificate held holds before now outcome)
+      (Comes (ListStory story None) held holds input before now outcome → ListComesTo (held story) before now outcome)
+      × (Comes (ListStory story (Some certificate)) held holds input before now outcome → ListByComesTo (held story) (held certificate) before now outcome) × (Comes (Find story certificate) held holds input before now outcome → FindComesTo story certificate held holds before now outcome)
       × (Comes (Check story certificate) held holds input before now outcome → CheckComesTo (held story) (held certificate) before now outcome) × (Comes (Explain story) held holds input before now outcome → ExplainComesTo story before now outcome)
-  comes_of_files = (λ comes. comes, λ comes. comes, λ comes. comes, λ comes. comes)
+  comes_of_files = (λ comes. comes, λ comes. comes, λ comes. comes, λ comes. comes, λ comes. comes)
 
   comes_of_plays :
       (seed budget : ℕ) (status : Bool) (save : Option (List ℕ))
@@ -176,7 +178,7 @@ unwritten :
     (options : Options) (outside : World) (error : LoadError)
     → IsUnwritten (ComesTo (Some []) options outside) (Stopped (Failed File)) × IsUnwritten (ComesTo (Some []) options outside) (Stopped (Refused error)) × IsUnwritten (ComesTo (Some []) options outside) (Stopped (Failed Memory))
     × IsUnwritten (PlayComesTo (Some []) (Some []) options outside) (Stopped (Failed File)) × IsUnwritten (PlayComesTo (Some []) (Some []) options outside) (Stopped (Refused error)) × IsUnwritten (PlayComesTo (Some []) (Some []) options outside) (Stopped (Failed Memory))
-    × IsUnwritten (ListComesTo (Some [])) (Stopped (Failed File)) × IsUnwritten (ListComesTo (Some [])) (Stopped (Failed Memory)) × IsUnwritten (CheckComesTo (Some []) (Some [])) (Stopped (Failed File)) × IsUnwritten (ExplainComesTo (codes "X9")) NoSuchCode
+    × IsUnwritten (ListComesTo (Some [])) (Stopped (Failed File)) × IsUnwritten (ListComesTo (Some [])) (Stopped (Failed Memory)) × IsUnwritten (ListByComesTo (Some []) (Some [])) (Stopped (Failed File)) × IsUnwritten (CheckComesTo (Some []) (Some [])) (Stopped (Failed File)) × IsUnwritten (ExplainComesTo (codes "X9")) NoSuchCode
 unwritten options outside error = (
   longer,
   λ comes. longer comes.1,
@@ -184,6 +186,7 @@ unwritten options outside error = (
   λ comes. longer comes.1,
   λ comes. longer comes.1,
   no_memory_to_accept,
+  λ comes. longer comes.1,
   λ comes. longer comes.1,
   λ comes. longer comes.1,
   λ comes. longer comes.1,
@@ -203,7 +206,7 @@ loses : (m : Setting) (T : State → Type 0) (W : State → Type 0) (options : O
     → PlayComes m T W options given s t words store (Some (1 ∷ [])) (Some []) result → ⊥
 loses m T W options given s t words store (Ok end) (left, input, finished) = absurd (let e = finished.written in cc)
 loses m T W options given s t words store (Err errors.Read) (left, input, (plays, awaited)) = absurd (let e = plays.written in cc)
-loses m T W options given s t words store (Err errors.Write) (left, input, plays) = absurd (let e = plays.written.grown in cc)
+loses m T W options given s t words store (Err errors.Write) (left, input, part) = absurd (let e = Appends-trans _ _ _ _ _ part.plays.written part.turn.written.grown in cc)
 loses m T W options given s t words store (Err errors.OutOfMemory) (left, input, (plays, wants)) = absurd (let e = plays.written in cc)
 
 of_play : (options : Options) (outside : World) (file : List ℕ) (result : Result End PlayError) → IsPlayed file options outside (Some (1 ∷ [])) (Some []) result → ⊥
@@ -263,6 +266,7 @@ accepted_of_files :
     → ComesOfNone (CheckComesTo (Some []) None) Accepted × ComesOfNone (CheckComesTo (Some []) None) (Stopped (Failed Write)) × ComesOfNone (PlayComesTo (Some []) None options outside) (Played end)
     × ComesOfNone (PlayComesTo (Some []) None options outside) (Stopped (Failed Read)) × ComesOfNone (PlayComesTo (Some []) None options outside) (Stopped (Failed Write)) × ComesOfNone (PlayComesTo (Some []) (Some (1 ∷ [])) options outside) (Stopped (Failed Memory))
     × ComesOfNone (CheckComesTo None (Some [])) Accepted × ComesOfNone (CheckComesTo None (Some [])) (Stopped (Failed Write)) × ComesOfNone (PlayComesTo None (Some []) options outside) (Played end)
+    × ComesOfNone (ListByComesTo (Some []) None) Listed × ComesOfNone (ListByComesTo None (Some [])) Listed × ComesOfNone (ListByComesTo None (Some [])) (Stopped (Failed Write))
 accepted_of_files options outside end = (
   λ comes. no_story comes.0.0 _ comes.0.1,
   λ comes. no_story comes.0.0 _ comes.0.1,
@@ -273,6 +277,9 @@ accepted_of_files options outside end = (
   λ comes. no_certificate _ comes.0.0 comes.0.1,
   λ comes. no_certificate _ comes.0.0 comes.0.1,
   λ comes. no_certificate _ comes.0 comes.1,
+  λ comes. no_story comes.1.0 _ comes.1.1,
+  λ comes. no_certificate _ comes.1.0 comes.1.1,
+  λ comes. no_certificate _ comes.1.0 comes.1.1,
 )
   where
     no_memory : ComesOfNone (PlayComesTo (Some []) (Some (1 ∷ [])) options outside) (Stopped (Failed Memory))
@@ -282,6 +289,18 @@ accepted_of_files options outside end = (
 -- an acceptance that was begun to be written isn't taken back either
 begun_on : Loses (CheckComesTo None None) (Stopped (Failed Write)) × ((code : List ℕ) → Loses (ExplainComesTo code) Explained × Loses (ExplainComesTo code) (Stopped (Failed Write)))
 begun_on = ((λ comes. absurd (let e = comes.1.grown in cc)), λ code. ((λ comes. absurd (let e = comes.2 in cc)), λ comes. absurd (let e = comes.2.grown in cc)))
+
+-- of a certificate that is accepted each instruction has its line, as its listing has it, behind what was written before
+module _ (story certificate : Option (List ℕ)) (before now : Option (List ℕ)) where
+  listed_by_files :
+      (ListByComesTo story certificate before now Listed → (a : Acceptance) × IsAccepted story certificate a × Appends before now (listing_text a.listing.records))
+      × (ListByComesTo story certificate before now (Stopped (Failed Write)) → (a : Acceptance) × IsAccepted story certificate a × AppendsBeginning before now (listing_text a.listing.records))
+      × (ListByComesTo story certificate before now (Stopped (Failed Memory)) → IsUnaccepted story certificate (Failed Memory) × (now ≡ before))
+  listed_by_files = (
+    λ comes. (comes.1.0, comes.1.1, subst (λ (text : List ℕ). Appends before now text) comes.1.2 comes.2),
+    λ comes. (comes.1.0, comes.1.1, subst (λ (text : List ℕ). AppendsBeginning before now text) comes.1.2 comes.2),
+    λ comes. comes,
+  )
 
 -- memory is wanted for a story's file alone
 unaccepted : (IsUnaccepted (Some []) (Some (1 ∷ [])) (Failed Memory) → ⊥) × (CheckComesTo (Some []) (Some (1 ∷ [])) None None (Stopped (Failed Memory)) → ⊥)

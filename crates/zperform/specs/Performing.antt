@@ -11,7 +11,7 @@ use Rattle.zperform.specs.Devices.{Breaks, Devices, FlushesUnless, Held, Says, S
 use Rattle.zperform.specs.Playing.{ComesTo}
 use Rattle.zperform.specs.Accepting.{CheckComesTo, IsOfEither, PlayComesTo}
 use Rattle.zperform.specs.Finding.{ExplainComesTo, FindComesTo, IsOfStoryOrFound}
-use Rattle.zperform.specs.Listing.{ListComesTo}
+use Rattle.zperform.specs.Listing.{ListByComesTo, ListComesTo}
 use Rattle.zperform.specs.Report.{line_of, status_of, text_of}
 use Rattle.zperform.specs.declared.outcome.Failure.TheVariants.{File, Read, Write, Memory}
 use Rattle.zperform.specs.declared.outcome.Problem.TheVariants.{Failed}
@@ -67,7 +67,8 @@ given input seed store = world input (Some (words_of seed)) store
 
 -- what comes of a request, with the bytes of files before and now, with the input, and with what the writer took before and has taken now
 abbrev pub Comes : Request → (List ℕ → Option (List ℕ)) → (List ℕ → Option (List ℕ)) → Option (List ℕ) → Option (List ℕ) → Option (List ℕ) → Outcome → Type 0
-Comes (ListStory story) held holds input before now outcome = ListComesTo (held story) before now outcome
+Comes (ListStory story None) held holds input before now outcome = ListComesTo (held story) before now outcome
+Comes (ListStory story (Some certificate)) held holds input before now outcome = ListByComesTo (held story) (held certificate) before now outcome
 Comes (Find story certificate) held holds input before now outcome = FindComesTo story certificate held holds before now outcome
 Comes (Check story certificate) held holds input before now outcome = CheckComesTo (held story) (held certificate) before now outcome
 Comes (Play story None seed budget status save) held holds input before now outcome =
@@ -93,7 +94,8 @@ written_by request = save_in request
 
 -- which file a failure of files is of, by what is asked for
 abbrev pub IsBlamed : Request → Held → Type 0
-IsBlamed (ListStory story) files = files.can_fail story ≡ true
+IsBlamed (ListStory story None) files = files.can_fail story ≡ true
+IsBlamed (ListStory story (Some certificate)) files = IsOfEither files story certificate
 IsBlamed (Find story certificate) files = IsOfStoryOrFound files story certificate
 IsBlamed (Check story certificate) files = IsOfEither files story certificate
 IsBlamed (Play story None seed budget status save) files = files.can_fail story ≡ true

@@ -1,17 +1,19 @@
-//! The listing of a story's file, as lines.
+//! The listing of a story's file, or of a certificate's, as lines.
 
 ghost use Rattle.std.specs.Prelude.{◌≡◌, ◌++◌, true, IfErr, IfOk, IsErrOf, pos};
-ghost use Rattle.zperform.specs.Devices.{FlushesUnless, ReadsUnless};
-ghost use Rattle.zperform.specs.Listing.{HoldsListed, IsListedAs, IsNoListing, IsUnlisted, ListComesTo, listing_text, record_line};
+ghost use Rattle.zperform.specs.Accepting.{IsOfEither, IsUnaccepted};
+ghost use Rattle.zperform.specs.Devices.{FlushesUnless, ReadsUnless, held};
+ghost use Rattle.zperform.specs.Listing.{HoldsListed, HoldsListedBy, IsListedAs, IsNoListing, IsUnlisted, ListByComesTo, ListComesTo, listing_text, record_line};
 ghost use Rattle.zperform.specs.Report.{place_text};
 
-use crate::accepting::open_story;
+use crate::accepting::{accept, open_story};
 use crate::files::Files;
 use crate::message::address_text;
 use crate::outcome::{Failure, Outcome, Problem};
 use crate::performing::write_done;
 use itoa::Buffer;
 use std::alloc::{AllocError, Global};
+use zcheck::Accepted;
 use zfault::Sink;
 use zlist::{Record, list_story};
 use zstory::Story;
@@ -53,6 +55,50 @@ fn list_loaded(alloc: Global, story: &Story) -> Result<Vec<u8>, Problem>
 {
     let listing = list_story(alloc, story)?;
     let text = lines_of(alloc, listing.records())?;
+    Ok(text)
+}
+
+/// Writes the instructions of a certificate, if the story is accepted with it: nothing before all lines are made.
+pub fn list_certificate<F: Files, W: Sink>(
+    alloc: Global,
+    story: &str,
+    certificate: &str,
+    files: &mut F,
+    writer: &mut W,
+) -> Outcome
+    ensures comes { ListByComesTo (F.known files.old story.now) (F.known files.old certificate.now) (W.contents writer.old) (W.contents writer.new) result }
+    ensures writer { FlushesUnless W.failures W.waits writer.old writer.new (result ≡ Outcome.Stopped (Problem.Failed Failure.Write)) }
+    ensures files { ReadsUnless F.known F.failures F.can_fail files.old files.new (result ≡ Outcome.Stopped (Problem.Failed Failure.File)) }
+    ensures could { result ≡ Outcome.Stopped (Problem.Failed Failure.File) → IsOfEither (held F.known F.failures F.can_fail files.old) story.now certificate.now }
+{
+    match listing_by(alloc, story, certificate, files) {
+        Ok(text) => write_done(&text, Outcome::Listed, writer),
+        Err(problem) => Outcome::Stopped(problem),
+    }
+}
+
+/// The lines of the instructions of a certificate, if the story is accepted with it.
+fn listing_by<F: Files>(
+    alloc: Global,
+    story: &str,
+    certificate: &str,
+    files: &mut F,
+) -> Result<Vec<u8>, Problem>
+    ensures listed { IfOk result (λ text. HoldsListedBy (F.known files.old story.now) (F.known files.old certificate.now) text.items) }
+    ensures refused { IfErr result (IsUnaccepted (F.known files.old story.now) (F.known files.old certificate.now)) }
+    ensures files { ReadsUnless F.known F.failures F.can_fail files.old files.new (IsErrOf result (Problem.Failed Failure.File)) }
+    ensures could { IsErrOf result (Problem.Failed Failure.File) → IsOfEither (held F.known F.failures F.can_fail files.old) story.now certificate.now }
+{
+    let accepted = accept(alloc, story, certificate, files)?;
+    list_accepted(alloc, &accepted)
+}
+
+/// The lines of the instructions of a certificate that was accepted.
+fn list_accepted(alloc: Global, accepted: &Accepted) -> Result<Vec<u8>, Problem>
+    ensures listed { IfOk result (λ text. text.items ≡ listing_text accepted.now.listing.records) }
+    ensures wanted { IfErr result (λ problem. problem ≡ Problem.Failed Failure.Memory) }
+{
+    let text = lines_of(alloc, accepted.listing().records())?;
     Ok(text)
 }
 

@@ -16,7 +16,7 @@ ghost use Rattle.zperform.specs.Report.{failure_text, line_of, no_text, outcome_
 use crate::accepting::{STORY_LIMIT, accept, load};
 use crate::files::{Files, read_file};
 use crate::finding::{explain_code, find_file};
-use crate::listing::list_file;
+use crate::listing::{list_certificate, list_file};
 use crate::message::Message;
 use crate::outcome::{Failure, Outcome, Problem};
 use crate::saves::{FileSaves, NoSaves};
@@ -83,7 +83,14 @@ fn carry_out<F: Files, R: Source, W: Sink>(
     ensures unasked { is_quiet (request_of command.entry) ≡ true → reader.new ≡ reader.old }
 {
     match command {
-        Command::List { story } => list_file(alloc, story, files, writer),
+        Command::List {
+            story,
+            certificate: None,
+        } => list_file(alloc, story, files, writer),
+        Command::List {
+            story,
+            certificate: Some(certificate),
+        } => list_certificate(alloc, story, certificate, files, writer),
         Command::Find { story, certificate } => {
             find_file(alloc, story, certificate, files, writer)
         }

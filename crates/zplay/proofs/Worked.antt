@@ -7,8 +7,11 @@ use Rattle.zcode.specs.Operation.{operation_of}
 use Rattle.zcert.specs.Certificate.{Certificate}
 use Rattle.zdomain.specs.declared.interval.Interval.{Interval}
 use Rattle.zdomain.specs.Interval.{point, interval_operations}
-use Rattle.zstate.specs.State.{opening}
 use Rattle.zcheck.specs.Acceptance.{Acceptance}
+use Rattle.zfault.specs.declared.event.Event.TheVariants.{Random}
+use Rattle.zstate.specs.State.{Setting, State, opening}
+use Rattle.zstate.specs.Run.{Given, Restored}
+use Rattle.zplay.specs.Calls.{AllDid, Call, Gave, IsUnused, Ran, Took, handed_in, steps_of}
 use Rattle.zplay.specs.Session.{first_at, game_of, stands_in}
 
 -- a jump by the word on the stack at 64, 66 and 68, and `nop` at 70, where the story begins; its globals would begin at 71
@@ -44,3 +47,15 @@ firsts = (refl, refl, refl, refl)
 games : ((game_of interval_operations a).setting.limit ≡ 1024) × ((game_of interval_operations a).setting.scope.instructions 70 ≡ false) × ((game_of interval_operations a).first 64 ≡ first_at interval_operations a 64) × (stands_in interval_operations a None ≡ opening story)
 unfolding a
 games = (refl, refl, refl, refl)
+
+-- two calls of `run` with an event behind the first, and a save behind the second
+calls : List Call
+calls = Ran 3 ∷ Gave (Random 7) ∷ Ran 4 ∷ Took (1 ∷ []) ∷ []
+
+in_one_list : (handed_in calls ≡ Given (Random 7) ∷ Restored (1 ∷ []) ∷ []) × (steps_of calls ≡ 7)
+unfolding calls
+in_one_list = (refl, refl)
+
+-- with no call, as with one of `run` that made no step, nothing has changed, and nothing is left to be used
+nothing_did : (s : State) (m : Setting) → AllDid interval_operations a [] s s [] × AllDid interval_operations a (Ran 0 ∷ []) s s [] × IsUnused interval_operations a m [] s
+nothing_did s m = ((refl, refl), (s, [], [], (refl, refl), (refl, refl), refl), tt)

@@ -10,7 +10,9 @@ ghost use Rattle.zquetzal.specs.Grammar.{save_text};
 ghost use Rattle.zquetzal.specs.Saved.{origin_of};
 ghost use Rattle.zstate.specs.Saves.{restoring, saved_of};
 ghost use Rattle.zrule.specs.Described.{AreFine, Described, IsFineSave, IsNoFault};
+ghost use Rattle.zcheck.specs.Acceptance.{IsAcceptedSave};
 ghost use Rattle.zplay.specs.Accepted.{IsAccepted, claims};
+ghost use Rattle.zplay.specs.Calls.{MovesAsMachine};
 ghost use Rattle.zboard.specs.Play.{state_in};
 ghost use Rattle.zboard.specs.Head.{Head};
 ghost use Rattle.zboard.specs.Position.{with_outside};
@@ -45,8 +47,8 @@ const OPENING: Outside = Outside {
 /// A play of an accepted story. It makes no test for a fault, since none can come, and moves as the checked machine whose
 /// scope is the listing.
 ///
-/// Any sequence of calls of `run` and `give` is one run over a list of events, by the law `zstate::runs_join`: its
-/// premises are what `run` says of the steps that were made, and what `give` asks for.
+/// Any sequence of calls of `run`, `give` and `restore` is one run of the checked machine over a list of events and accepted saves, by the
+/// law `moves_as_machine`.
 #[derive(Drop)]
 pub struct Session<'a, V: Spelled = Interval> {
     accepted: &'a Accepted<V>,
@@ -248,12 +250,23 @@ impl<'a, V: Spelled> Session<'a, V> {
         let _board = self.board();
     }
 
+    /// The law of sessions and checked machines: whatever calls of `run`, `give` and `restore` were made from here, where the session
+    /// pauses the checked machine pauses that is given the same list, for the same cause, in the same state and with the same items, with
+    /// the certificate's listing in scope as with every place; and it meets no fault.
+    pub fn moves_as_machine(&self)
+        ensures { MovesAsMachine V.operations self.now.accepted self.now.state }
+    {
+        let _board = self.board();
+    }
+
     /// The laws of saves. A session stands in a state that its certificate describes. What it saves is accepted by every session of the
-    /// same story and certificate, in whatever described state that stands. And a save that a session accepts leads to described states
-    /// alone, wherever and in whatever scope it is handed in: so no run over events and accepted saves meets a fault.
+    /// same story and certificate, in whatever described state that stands. What a session accepts are the accepted saves of
+    /// `zcheck::check`. And a save that a session accepts leads to described states alone, wherever and in whatever scope it is handed in:
+    /// so no run over events and accepted saves meets a fault.
     pub fn saves_are_accepted(&self)
         ensures described { IsDescribed V.operations self.now }
         ensures saved { awaited (setting self.now) self.now.state ≡ Some ASave → (other : PlayingOver V) → other.accepted ≡ self.now.accepted → IsDescribed V.operations other → Accepts V.operations other (save_text (origin_of self.now.accepted.story) (saved_of self.now.accepted.story self.now.state)) }
+        ensures accepted { (save : List ℕ) → Accepts V.operations self.now save ↔ IsAcceptedSave V.operations self.now.accepted save }
         ensures fine { (save : List ℕ) (scope : Scope) → Accepts V.operations self.now save → IsFineSave V.operations (claims V.operations self.now.accepted) (record (setting self.now) { scope = scope }) save }
     {
         saves_are_accepted::<V>();

@@ -5,8 +5,7 @@ use Rattle.std.specs.Io.KnownBytes.{Appends, Keeps}
 use Rattle.std.proofs.KnownBytes.{Appends-kept, Appends-trans, Appends-nil, prepend_known-nil}
 use Rattle.std.proofs.lemmas.List.{append-nil}
 use Rattle.zfault.specs.Answers.{answers}
-use Rattle.zfault.specs.Devices.{AppendsBeginning}
-use Rattle.zfault.proofs.DeviceLemmas.{AppendsBeginning-after, AppendsBeginning-whole}
+use Rattle.zfault.proofs.DeviceLemmas.{AppendsBeginning-whole}
 use Rattle.zfault.specs.declared.event.Event.{Event}
 use Rattle.zfault.specs.declared.event.Event.TheVariants as events
 use Rattle.zquetzal.specs.declared.error.SaveError.{SaveError}
@@ -183,6 +182,16 @@ module _ (m : Setting) (Takes : State → Type 0) where
     pub plays_none : (a : Stage) (c : Option (List ℕ)) → Plays m Takes asked a a c c
     plays_none a c = record { inputs = []; given = []; leads = walks_none a; written = Appends-nil c }
 
+    -- of a play that was written as a whole no turn is left
+    pub no_turn_more : (a b : Stage) (x y z : Option (List ℕ)) → Plays m Takes asked a b x y → Keeps y z → PlaysInPart m Takes asked a b x z
+    no_turn_more a b x y z plays kept = record {
+      at = b;
+      between = y;
+      plays = plays;
+      turn = record { steps = 0; few = omega arith; given = []; all = omega arith; goes = (refl, refl); written = AppendsBeginning-whole y y z [] (Appends-nil y) kept };
+      same_world = refl;
+    }
+
     -- ---- a turn more
 
     module _ (a : Stage) (n : ℕ) (s : State) (w : World) (x y : Option (List ℕ)) (so_far : Plays m Takes asked a (stage n s w) x y) where
@@ -195,12 +204,7 @@ module _ (m : Setting) (Takes : State → Type 0) where
       }
 
       pub turns_in_part : (k : ℕ) (t : State) (z : Option (List ℕ)) → WritesInPart m asked n k s t y z → PlaysInPart m Takes asked a (stage k t w) x z
-      turns_in_part k t z turn = record {
-        inputs = so_far.inputs ++ [];
-        given = so_far.given ++ turn.given;
-        leads = leads_join so_far.inputs [] a (stage n s w) (stage k t w) so_far.given turn.given so_far.leads (record { steps = turn.steps; all = turn.all; goes = turn.goes; same_world = refl });
-        written = subst (AppendsBeginning x z) (sym (renders asked so_far.given turn.given)) (AppendsBeginning-after x y z (render asked so_far.given) (render asked turn.given) so_far.written turn.written);
-      }
+      turns_in_part k t z turn = record { at = stage n s w; between = y; plays = so_far; turn = turn; same_world = refl }
 
       -- and what the world answers; a flush may come before it
       pub hands_in : (input : Input) (need : Need) (u : State) (v : World) (z : Option (List ℕ)) → awaited m s ≡ Some need → Answers m Takes s need w input v → handed m (halts.Need need) input s ≡ Some u → Keeps y z
@@ -230,7 +234,7 @@ module _ (m : Setting) (Takes : State → Type 0) where
 
       -- or it broke off: at a flush that failed, or at a line that couldn't be read
       pub flush_broke : (z : Option (List ℕ)) → Keeps y z → PlaysInPart m Takes asked a (stage n s w) x z
-      flush_broke z kept = record { inputs = so_far.inputs; given = so_far.given; leads = so_far.leads; written = AppendsBeginning-whole x y z (render asked so_far.given) so_far.written kept }
+      flush_broke z kept = no_turn_more a (stage n s w) x y z so_far kept
 
       pub flushed : (z : Option (List ℕ)) → Keeps y z → Plays m Takes asked a (stage n s w) x z
       flushed z kept = record { inputs = so_far.inputs; given = so_far.given; leads = so_far.leads; written = Appends-kept x y z (render asked so_far.given) so_far.written kept }
@@ -314,10 +318,10 @@ module _ (m : Setting) (Takes : State → Type 0) (wants : State → Type 0) (as
 
   -- or wasn't
   pub end_unflushed : (r : Result End PlayError) → ¬ IsErrOf r errors.Write → MatchResult r (Finishes m Takes asked a b x y) (Breaks m Takes wants asked a b x y) → PlaysInPart m Takes asked a b x z
-  end_unflushed (Ok end) well f = record { inputs = f.inputs; given = f.given; leads = f.leads; written = AppendsBeginning-whole x y z (render asked f.given) f.written kept }
-  end_unflushed (Err errors.Read) well (p, awaits) = record { inputs = p.inputs; given = p.given; leads = p.leads; written = AppendsBeginning-whole x y z (render asked p.given) p.written kept }
+  end_unflushed (Ok end) well f = no_turn_more m Takes asked a b x y z (record { inputs = f.inputs; given = f.given; leads = f.leads; written = f.written }) kept
+  end_unflushed (Err errors.Read) well (p, awaits) = no_turn_more m Takes asked a b x y z p kept
   end_unflushed (Err errors.Write) well p = absurd (well refl)
-  end_unflushed (Err errors.OutOfMemory) well (p, wanted) = record { inputs = p.inputs; given = p.given; leads = p.leads; written = AppendsBeginning-whole x y z (render asked p.given) p.written kept }
+  end_unflushed (Err errors.OutOfMemory) well (p, wanted) = no_turn_more m Takes asked a b x y z p kept
 
 -- ---- fewer steps or an event: turns come to an end
 

@@ -1,5 +1,5 @@
 -- Values of the definitions, computed.
-use Rattle.std.proofs.Common.{◌≡◌, ◌≢◌, ◌⊎◌, ◌<◌, ◌^◌, ◌-◌, inl, inr, ℕ, zero, suc, Bool, true, false, List, [], ◌∷◌, ◌++◌, length, replicate, Option, Some, None, Ok, refl, ap, subst, true≢false, arith}
+use Rattle.std.proofs.Common.{◌≡◌, ◌≢◌, ◌⊎◌, ◌<◌, ◌≤◌, ◌^◌, ◌-◌, inl, inr, ℕ, zero, suc, Bool, true, false, List, [], ◌∷◌, ◌++◌, length, replicate, Option, Some, None, Ok, refl, ap, subst, true≢false, arith}
 use Rattle.std.specs.Prelude.{pos, ⊤}
 use Rattle.std.specs.List.{All}
 use Rattle.std.proofs.lemmas.List.Elements.{All-cons, All-nil}
@@ -13,7 +13,9 @@ use Rattle.zfault.specs.declared.pause.Pause.TheVariants as pauses
 use Rattle.zstate.specs.declared.halt.Stop.TheVariants as stops
 use Rattle.zstate.specs.State.{State, Setting}
 use Rattle.zstate.specs.Saves.{restoring}
-use Rattle.zstate.specs.Run.{Given, GivesOut, Restored, WantsMemory, awaited}
+use Rattle.zfault.specs.Devices.{AppendsBeginning}
+use Rattle.zscreen.specs.Rendering.{render}
+use Rattle.zstate.specs.Run.{Given, GivesOut, Goes, Restored, WantsMemory, awaited}
 use Rattle.zplayer.specs.declared.end.End.TheVariants as ends
 use Rattle.zplayer.specs.declared.end.PlayError.TheVariants as errors
 use Rattle.zplayer.specs.declared.lines.LineEnd.TheVariants.{Newline, Input}
@@ -21,7 +23,7 @@ use Rattle.zplayer.specs.declared.lines.TheConstants.{KEPT, PIECE}
 use Rattle.zplayer.specs.declared.turns.TheConstants.{TURN}
 use Rattle.zplayer.specs.Lines.{BlamesReader, IsEnded, IsLast, ReadsLine, Hears, Takes, line_of, without_return}
 use Rattle.zplayer.specs.Outside.{Blames, BlamesWriter, Coming, CountsRefusal, words_of}
-use Rattle.zplayer.specs.Playing.{Breaks, GivesOrSaves, Leads, Meets, Plays, PlaysInPart, Stage, Walks, WantsOrSaves, Writes, end_of, stage}
+use Rattle.zplayer.specs.Playing.{Breaks, GivesOrSaves, Leads, Meets, Plays, PlaysInPart, Stage, Walks, WantsOrSaves, Writes, WritesInPart, end_of, stage}
 use Rattle.zplayer.specs.World.{Answers, Asks, Draws, Gets, HasNone, Puts, Refuses, Resumes, Store, Stores, World, world}
 
 -- ---- how playing ends
@@ -200,6 +202,22 @@ module _ (m : Setting) (Takes wants : State → Type 0) (asked : Bool) (old new 
 
   written_in_part : PlaysInPart m Takes asked old new before now → Breaks m Takes wants asked old new before now errors.Write
   written_in_part plays = plays
+
+-- where a write failed, all that came before the turn that was being written is written, and play stands where that turn ended
+module _ (m : Setting) (Takes : State → Type 0) (asked : Bool) (old new : Stage) (before now : Option (List ℕ)) where
+  written_before : (part : PlaysInPart m Takes asked old new before now) → Plays m Takes asked old part.at before part.between
+  written_before part = part.plays
+
+  world_of_turn : (part : PlaysInPart m Takes asked old new before now) → new.world ≡ part.at.world
+  world_of_turn part = part.same_world
+
+-- of 5,000 steps such a turn makes 1,024 at most, and it may make so many
+module _ (m : Setting) (asked : Bool) (s t : State) (given : List Item) (a b : Option (List ℕ)) where
+  few_in_turn : (left : ℕ) → WritesInPart m asked 5000 left s t a b → 3976 ≤ left
+  few_in_turn left part = omega (arith, part.few, part.all)
+
+  whole_turn : Goes m 1024 s t given → AppendsBeginning a b (render asked given) → WritesInPart m asked 5000 3976 s t a b
+  whole_turn goes written = record { steps = 1024; few = omega arith; given = given; all = omega arith; goes = goes; written = written }
 
 -- ---- stages
 

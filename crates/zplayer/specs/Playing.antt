@@ -1,5 +1,5 @@
 -- What playing comes to.
-use Rattle.std.specs.Prelude.{◌≡◌, ◌⊎◌, ℕ, ◌+◌, Bool, true, false, List, [], ◌∷◌, ◌++◌, Option, Some, Result, MatchResult}
+use Rattle.std.specs.Prelude.{◌≡◌, ◌⊎◌, ℕ, ◌+◌, ◌≤◌, Bool, true, false, List, [], ◌∷◌, ◌++◌, Option, Some, Result, MatchResult}
 use Rattle.std.specs.Io.KnownBytes.{Appends}
 use Rattle.zfault.specs.Devices.{AppendsBeginning}
 use Rattle.zfault.specs.declared.event.Event.TheVariants as events
@@ -43,9 +43,10 @@ pub record Writes (m : Setting) (asked : Bool) (budget left : ℕ) (old new : St
   pub goes : Goes m steps old new given
   pub written : Appends before now (render asked given)
 
--- of what they gave out, a beginning was written
+-- of what the steps of a turn gave out, a beginning was written: at most 1,024 are made before that is tried
 pub record WritesInPart (m : Setting) (asked : Bool) (budget left : ℕ) (old new : State) (before now : Option (List ℕ)) : Type 0 where
   pub steps : ℕ
+  pub few : steps ≤ 1024
   pub given : List Item
   pub all : steps + left ≡ budget
   pub goes : Goes m steps old new given
@@ -100,12 +101,13 @@ module _ (m : Setting) (Takes : State → Type 0) where
       pub leads : Leads inputs old new given
       pub written : Appends before now (render asked given)
 
-    -- of what it gave out, a beginning was written
+    -- a play has come from one stage to another: what it gave out up to its last turn was written, and of that turn a beginning
     pub record PlaysInPart (old new : Stage) (before now : Option (List ℕ)) : Type 0 where
-      pub inputs : List Input
-      pub given : List Item
-      pub leads : Leads inputs old new given
-      pub written : AppendsBeginning before now (render asked given)
+      pub at : Stage
+      pub between : Option (List ℕ)
+      pub plays : Plays old at before between
+      pub turn : WritesInPart m asked at.left new.left at.state new.state between now
+      pub same_world : new.world ≡ at.world
 
     -- A play has come to its end, which is that of the run over what the world answered: it stops so, in this state, and all that it
     -- gives out was written. The world has no answer for what it then awaits.

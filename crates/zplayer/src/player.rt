@@ -30,8 +30,9 @@ use zstate::Stop;
 /// than was used, and before it is read all that was given out is written and flushed. A random word comes from `words`. A save goes
 /// to the store, and comes from it: what doesn't go there, or from where the machine doesn't go on, the story is told, and plays on.
 ///
-/// After P2 a beginning of what the finished steps give out was written, and the writer isn't called again; after P1 and P3 all
-/// of it. After P1 the machine awaits a line, and after P3 the next step gives something out or makes a stack longer, or it is a
+/// What a turn of at most 1,024 steps gives out is written before the next turn's first step. So after P2 the machine stands where a turn
+/// ended, all that was given out before that turn was written, and a beginning of what the turn gave out, and the writer isn't called again;
+/// after P1 and P3 all of it was. After P1 the machine awaits a line, and after P3 the next step gives something out or makes a stack longer, or it is a
 /// save or a restore. At any other end than P2 what was written is flushed.
 pub fn play_checked<R: Source, W: Sink, S: SaveStore, G: Words>(
     alloc: Global,

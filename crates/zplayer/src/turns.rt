@@ -17,7 +17,7 @@ use zstate::Stop;
 const TURN: u32 = 1024;
 
 /// Makes at most `TURN` of the steps that are left, and writes what they gave out. Answers where playing then stands
-/// still, if it does. A failed write is the last call of the writer.
+/// still, if it does. A failed write is the last call of the writer: it leaves the machine where the turn ended.
 pub(crate) fn turn<M: Machine, W: Sink>(
     machine: &mut M,
     writer: &mut W,

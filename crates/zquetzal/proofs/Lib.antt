@@ -7,4 +7,7 @@ pub mod Steps
 pub mod Loops
 pub mod Saves
 mod Written
-mod Worked
+pub mod Worked
+mod WorkedCauses
+pub mod Causes
+pub mod Lowest

@@ -41,14 +41,14 @@ bytes_again r c place (a ∷ b ∷ d ∷ e ∷ f ∷ g ∷ []) six small also lo
     record { release = number_again 2 r (serial ++ big_bytes 2 c ++ big_bytes 3 place) small; serial = refl; checksum = number_again 2 c (big_bytes 3 place) also; place_is = number_again 3 place [] low }
 bytes_again r c place s six small also low = absurd (omega (arith, six))
 
-header_again : (o : Origin) (place : ℕ) → IsOrigin o → place < 2 ^ 24 → HasHeader (header_bytes o place) o place
+pub header_again : (o : Origin) (place : ℕ) → IsOrigin o → place < 2 ^ 24 → HasHeader (header_bytes o place) o place
 header_again o place is low = bytes_again o.release o.checksum place o.serial is.serial is.release is.checksum low
 
-six_long : (h : List ℕ) → length h ≡ 13 → length (slice_range h 2 8) ≡ 6
+pub six_long : (h : List ℕ) → length h ≡ 13 → length (slice_range h 2 8) ≡ 6
 six_long h long = omega (arith, length-take 6 (drop 2 h), length-drop 2 h, long)
 
 -- thirteen bytes are a header
-header_takes : (h : List ℕ) → length h ≡ 13 → IsBytes h → h ≡ header_bytes (record { release = big_number 2 h; serial = slice_range h 2 8; checksum = big_number 2 (drop 8 h) }) (big_number 3 (drop 10 h))
+pub header_takes : (h : List ℕ) → length h ≡ 13 → IsBytes h → h ≡ header_bytes (record { release = big_number 2 h; serial = slice_range h 2 8; checksum = big_number 2 (drop 8 h) }) (big_number 3 (drop 10 h))
 header_takes (a ∷ b ∷ c ∷ d ∷ e ∷ f ∷ g ∷ h ∷ i ∷ j ∷ k ∷ l ∷ m ∷ []) long fits =
     let rest : List ℕ = c ∷ d ∷ e ∷ f ∷ g ∷ h ∷ i ∷ j ∷ k ∷ l ∷ m ∷ [] in
     let serial : List ℕ = c ∷ d ∷ e ∷ f ∷ g ∷ h ∷ [] in
@@ -81,7 +81,7 @@ both_true true true e = (refl, refl)
 both_true true false e = absurd cc
 both_true false b e = absurd cc
 
-of_story : (story : LoadedStory) (h : List ℕ) (o : Origin) (place : ℕ) → HasHeader h o place → Names story o → is_of story h ≡ true
+pub of_story : (story : LoadedStory) (h : List ℕ) (o : Origin) (place : ℕ) → HasHeader h o place → Names story o → is_of story h ≡ true
 of_story story h o place has names =
     let sum : (o.checksum ≡ save_checksum story) ⊎ (o.checksum ≡ checksum story) → ((big_number 2 (drop 8 h) == save_checksum story) || (big_number 2 (drop 8 h) == checksum story)) ≡ true = λ s. elim s [
       | inl e ↦ one_holds _ _ (inl (eq-eqb _ _ (has.checksum ∙ e)))
@@ -89,7 +89,7 @@ of_story story h o place has names =
     ] in
     all_three _ _ _ (eq-eqb _ _ (has.release ∙ names.release)) ((bytes_eq-Decides (slice_range h 2 8) (serial story)).1 (has.serial ∙ names.serial)) (sum names.checksum)
 
-named : (story : LoadedStory) (h : List ℕ) → is_of story h ≡ true → Names story (record { release = big_number 2 h; serial = slice_range h 2 8; checksum = big_number 2 (drop 8 h) })
+pub named : (story : LoadedStory) (h : List ℕ) → is_of story h ≡ true → Names story (record { release = big_number 2 h; serial = slice_range h 2 8; checksum = big_number 2 (drop 8 h) })
 named story h e =
     let a = both_true ((big_number 2 h == release story) && bytes_eq (slice_range h 2 8) (serial story)) ((big_number 2 (drop 8 h) == save_checksum story) || (big_number 2 (drop 8 h) == checksum story)) e in
     let b = both_true (big_number 2 h == release story) (bytes_eq (slice_range h 2 8) (serial story)) a.0 in

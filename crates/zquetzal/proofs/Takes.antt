@@ -15,7 +15,7 @@ use Rattle.zquetzal.proofs.Steps.{bind_ok, need_ok, ok_is}
 use Rattle.zquetzal.proofs.Numbers.{IsBytes, IsBytes-drop, IsBytes-take, front_4, taken_2, taken_3, number_fits}
 use Rattle.zquetzal.proofs.Words.{words_taken, words_fit, length-words_of}
 
-both_true : (a b : Bool) → (a && b) ≡ true → (a ≡ true) × (b ≡ true)
+pub both_true : (a b : Bool) → (a && b) ≡ true → (a ≡ true) × (b ≡ true)
 both_true true true e = (refl, refl)
 both_true true false e = absurd cc
 both_true false b e = absurd cc

@@ -25,7 +25,7 @@ numbers = (refl, refl, refl, refl, refl, refl, refl, refl, refl, refl, refl)
 
 -- ---- what is written
 
-first : Frame
+unfoldable pub first : Frame
 first = record { return_place = 0; result = 0; supplied = 0; locals = []; stack = [] }
 
 -- a story with 606 bytes of dynamic memory is saved by the `save` at 0x324
@@ -46,7 +46,7 @@ unfolding large first
 long = refl
 
 -- a frame with two locals and three arguments, of which one was spare, and one word on the stack
-called : Frame
+unfoldable pub called : Frame
 called = record { return_place = 0x12345; result = 16; supplied = 3; locals = 1 ∷ 0x0203 ∷ []; stack = 0xFFFF ∷ [] }
 
 frame_written : frame_bytes called ≡ 0x01 ∷ 0x23 ∷ 0x45 ∷ 2 ∷ 16 ∷ 7 ∷ 0 ∷ 1 ∷ 0x00 ∷ 0x01 ∷ 0x02 ∷ 0x03 ∷ 0xFF ∷ 0xFF ∷ []
@@ -56,7 +56,7 @@ frame_written = refl
 -- ---- what is read
 
 -- release 1, dynamic memory of three bytes, no checksum in the header, and a sum of 12
-story : LoadedStory
+unfoldable pub story : LoadedStory
 story = record {
   memory = 3 ∷ 0 ∷ 0 ∷ 1 ∷ replicate 10 0 ++ 0 ∷ 3 ∷ 0 ∷ 0 ∷ 0x32 ∷ 0x36 ∷ 0x30 ∷ 0x31 ∷ 0x30 ∷ 0x31 ∷ replicate 40 0 ++ 5 ∷ 7 ∷ [];
   objects = 0;
@@ -65,16 +65,16 @@ story = record {
 saved : Saved
 saved = record { memory = 9 ∷ 8 ∷ 7 ∷ []; place = 0x10203; frames = first ∷ called ∷ [] }
 
-chunk : ℕ → List ℕ → Chunk
+unfoldable pub chunk : ℕ → List ℕ → Chunk
 chunk id d = record { id = id; contents = d }
 
-head_of : ℕ → ℕ → Chunk
+unfoldable pub head_of : ℕ → ℕ → Chunk
 head_of release checksum = chunk IFHD (header_bytes (record { release = release; serial = 0x32 ∷ 0x36 ∷ 0x30 ∷ 0x31 ∷ 0x30 ∷ 0x31 ∷ []; checksum = checksum }) 0x10203)
 
-memory : Chunk
+unfoldable pub memory : Chunk
 memory = chunk UMEM (9 ∷ 8 ∷ 7 ∷ [])
 
-stacks : Chunk
+unfoldable pub stacks : Chunk
 stacks = chunk STKS (frame_bytes first ++ frame_bytes called)
 
 -- `IntD` with one byte

@@ -3,5 +3,6 @@ pub mod Grammar
 pub mod Steps
 pub mod Reading
 pub mod Refusal
+pub mod Causes
 pub mod Survey
 pub mod View

@@ -1,10 +1,11 @@
 //! Reading a save.
 
-ghost use Rattle.std.specs.Prelude.{◌≡◌, ◌<◌, ◌^◌, length, drop, IfOk, Ok};
+ghost use Rattle.std.specs.Prelude.{◌≡◌, ◌<◌, ◌^◌, length, drop, IfErr, IfOk, OnOk, Ok};
 ghost use Rattle.byteorder.specs.Endian.{big_number};
 ghost use Rattle.zquetzal.specs.Saved.{Saved};
 ghost use Rattle.zquetzal.specs.Grammar.{ReadsAs};
 ghost use Rattle.zquetzal.specs.Reading.{body_of, parts_at, is_of, reading};
+ghost use Rattle.zquetzal.specs.Causes.{IsCause, IsLowest, HasNone};
 ghost use Rattle.zquetzal.specs.View.{Gives, seen_parts};
 
 use crate::error::SaveError;
@@ -89,7 +90,10 @@ pub fn read<'a>(story: &Story, bytes: &'a [u8]) -> Result<SaveView<'a>, SaveErro
     ensures found { IfOk result (ReadsAs story.now bytes.now) }
     // A save is read.
     ensures only { (s : Saved) → ReadsAs story.now bytes.now s → result ≡ Ok s }
-    // Which refusal it is.
+    // Of the causes that hold, the lowest.
+    ensures lowest_cause { IfErr result (IsLowest (IsCause story.now bytes.now)) }
+    ensures no_cause { OnOk result (HasNone (IsCause story.now bytes.now)) }
+    // Which refusal it is, as the reader finds it.
     ensures exact { result ≡ reading story.now bytes.now }
 {
     view_of(story, bytes)

@@ -1,5 +1,5 @@
 -- A story that begins anew, and a memory in which the two bits stay that no restart and no save changes.
-use Rattle.std.proofs.Common.{◌≡◌, ◌≢◌, ◌⊎◌, inl, inr, ℕ, ◌+◌, ◌*◌, ◌/◌, ◌%◌, ◌≤◌, Bool, List, length, Option, ap, ◌∙◌, arith}
+use Rattle.std.proofs.Common.{◌≡◌, ◌≢◌, ◌⊎◌, inl, inr, ℕ, ◌+◌, ◌*◌, ◌/◌, ◌%◌, ◌≤◌, Bool, false, List, length, Option, None, ap, ◌∙◌, arith}
 use Rattle.std.proofs.lemmas.Bool.Decides.{eqb_tells}
 use Rattle.std.proofs.lemmas.List.{length-set, get_or-set_other, get_or-set_same}
 use Rattle.zfault.specs.declared.event.Event.{Event}
@@ -86,4 +86,4 @@ module _ {V : Type 0} (o : SetOperations V) (claims : Claims V) (story : LoadedS
 
   -- and a story begins anew as it opened
   pub restarted_described : (limit : ℕ) (s : State) → IsCount s.random → Described o claims limit story (restarted story s)
-  restarted_described limit s count = elsewhere_described limit s.memory (opening story) s.random s.prompted s.waiting count (opening_described o claims story limit loaded supports)
+  restarted_described limit s count = elsewhere_described limit s.memory (opening story) s.random false None count (opening_described o claims story limit loaded supports)

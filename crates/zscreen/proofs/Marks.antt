@@ -3,8 +3,8 @@ use Rattle.std.proofs.Common.{◌≡◌, ℕ, true, false, ◌+◌, ◌-◌, ◌
 use Rattle.std.specs.Prelude.{Bool, Option, reverse, slice_range}
 use Rattle.std.proofs.lemmas.List.{append_assoc, append-nil, length-take-le, reverse-append, take-append-drop, take-take, take_more, take_all, drop_all}
 use Rattle.std.proofs.Math.Seq.{take-add}
-use Rattle.zfault.specs.Devices.{AppendsBeginning}
-use Rattle.zfault.proofs.DeviceLemmas.{AppendsBeginning-append}
+use Rattle.zfault.specs.Devices.{BreaksOff}
+use Rattle.zfault.proofs.DeviceLemmas.{BreaksOff-append}
 use Rattle.zfault.specs.declared.item.Item.{Item}
 use Rattle.zfault.specs.declared.item.Item.TheVariants.{Text, Status}
 use Rattle.zfault.specs.declared.items.Mark.{Mark}
@@ -72,22 +72,22 @@ shown_with text mark older within =
     rw (same, none) (renders true (items_of front older) (Status mark.status ∷ []) ∙ ap (λ (bytes : List ℕ). render true (items_of front older) ++ bytes) (append-nil (status_line mark.status)))
 
 -- what is shown up to the newest of the older status lines begins what is shown of all
-pub begins_all : (a b : Option (List ℕ)) (text : List ℕ) (newer older : List Mark) → StandWithin (length text) (newer ++ older) → AppendsBeginning a b (shown_to text (newest_place older) older) → AppendsBeginning a b (render true (items_of text (newer ++ older)))
-begins_all a b text [] older stands begun =
+pub begins_all : (a b : Option (List ℕ)) (u v : Bool) (text : List ℕ) (newer older : List Mark) → StandWithin (length text) (newer ++ older) → BreaksOff a b u v (shown_to text (newest_place older) older) → BreaksOff a b u v (render true (items_of text (newer ++ older)))
+begins_all a b u v text [] older stands begun =
     let n = newest_place older in
     let below : n ≤ length text = newest_before (length text) older stands in
     let more = shown_further text n (length text) older (newest_stands (length text) older stands) below (omega arith) in
     let whole : take (length text) text ≡ text = take_all (length text) text (omega arith) in
-    subst (λ (bytes : List ℕ). AppendsBeginning a b (render true (items_of bytes older))) whole (subst (AppendsBeginning a b) (sym more) (AppendsBeginning-append a b (shown_to text n older) (take (length text - n) (drop n text)) begun))
-begins_all a b text (mark ∷ newer) older stands begun =
+    subst (λ (bytes : List ℕ). BreaksOff a b u v (render true (items_of bytes older))) whole (subst (BreaksOff a b u v) (sym more) (BreaksOff-append a b u v (shown_to text n older) (take (length text - n) (drop n text)) begun))
+begins_all a b u v text (mark ∷ newer) older stands begun =
     let front = take mark.place text in
     let n = newest_place older in
     let place : length front ≡ mark.place = length-take-le mark.place text stands.0 in
     let below : n ≤ mark.place = newest_before mark.place older (stands_between mark.place newer older stands.1) in
     let same : take n front ≡ take n text = take-take n mark.place text below in
-    let inner : AppendsBeginning a b (render true (items_of front (newer ++ older))) = begins_all a b front newer older (subst (λ (k : ℕ). StandWithin k (newer ++ older)) (sym place) stands.1) (subst (λ (bytes : List ℕ). AppendsBeginning a b (render true (items_of bytes older))) (sym same) begun) in
+    let inner : BreaksOff a b u v (render true (items_of front (newer ++ older))) = begins_all a b u v front newer older (subst (λ (k : ℕ). StandWithin k (newer ++ older)) (sym place) stands.1) (subst (λ (bytes : List ℕ). BreaksOff a b u v (render true (items_of bytes older))) (sym same) begun) in
     let behind = Status mark.status ∷ map Text (drop mark.place text) in
-    subst (AppendsBeginning a b) (sym (renders true (items_of front (newer ++ older)) behind)) (AppendsBeginning-append a b (render true (items_of front (newer ++ older))) (render true behind) inner)
+    subst (BreaksOff a b u v) (sym (renders true (items_of front (newer ++ older)) behind)) (BreaksOff-append a b u v (render true (items_of front (newer ++ older))) (render true behind) inner)
 
 -- ---- the status lines as they are gone through, oldest first
 
@@ -137,11 +137,11 @@ module _ (text : List ℕ) (marks : List Mark) (i : ℕ) (mark : Mark) (here : i
       ∙ sym (shown_with text mark (before i marks) there.0)
       ∙ ap (shown_to text mark.place) (sym next)
 
-  pub next_begins : (a b : Option (List ℕ)) → AppendsBeginning a b (shown_to text mark.place (before (i + 1) marks)) → AppendsBeginning a b (render true (items_of text (reverse marks)))
-  next_begins a b begun =
+  pub next_begins : (a b : Option (List ℕ)) (u v : Bool) → BreaksOff a b u v (shown_to text mark.place (before (i + 1) marks)) → BreaksOff a b u v (render true (items_of text (reverse marks)))
+  next_begins a b u v begun =
       let split = split_at marks (i + 1) in
-      let at_newest = subst (λ (n : ℕ). AppendsBeginning a b (shown_to text n (before (i + 1) marks))) next_place begun in
-      subst (λ (all : List Mark). AppendsBeginning a b (render true (items_of text all))) (sym split) (begins_all a b text (reverse (drop (i + 1) marks)) (before (i + 1) marks) (subst (StandWithin (length text)) split stands) at_newest)
+      let at_newest = subst (λ (n : ℕ). BreaksOff a b u v (shown_to text n (before (i + 1) marks))) next_place begun in
+      subst (λ (all : List Mark). BreaksOff a b u v (render true (items_of text all))) (sym split) (begins_all a b u v text (reverse (drop (i + 1) marks)) (before (i + 1) marks) (subst (StandWithin (length text)) split stands) at_newest)
 
 -- behind the last of them
 pub all_shown : (text : List ℕ) (marks : List Mark) (i from : ℕ) → length marks ≤ i → StandWithin (length text) (reverse marks) → from ≡ newest_place (before i marks) → shown_to text from (before i marks) ++ take (length text - from) (drop from text) ≡ render true (items_of text (reverse marks))

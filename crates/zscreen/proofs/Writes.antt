@@ -1,22 +1,29 @@
--- What writes in a row append, whole or begun.
-use Rattle.std.proofs.Common.{◌≡◌, ℕ, zero, suc, ◌-◌, List, [], ◌∷◌, ◌++◌, take, replicate, refl, arith}
-use Rattle.std.specs.Prelude.{Option, Result, Ok, Err, OnErr, OnOk, min}
+-- What writes in a row leave, whole or broken off.
+use Rattle.std.proofs.Common.{◌≡◌, ◌≢◌, ℕ, zero, suc, ◌-◌, List, [], ◌∷◌, ◌++◌, length, take, replicate, refl, ap, arith}
+use Rattle.std.specs.Prelude.{Option, Bool, Result, Ok, Err, OnErr, OnOk, min}
 use Rattle.std.specs.Io.KnownBytes.{Appends}
-use Rattle.std.proofs.KnownBytes.{Appends-trans}
-use Rattle.zfault.specs.Devices.{AppendsBeginning}
-use Rattle.zfault.proofs.DeviceLemmas.{AppendsBeginning-after, AppendsBeginning-append}
+use Rattle.zfault.specs.Devices.{AppendsBeginning, BreaksOff, LeavesWaiting}
+use Rattle.zfault.proofs.DeviceLemmas.{BreaksOff-after, BreaksOff-append, LeavesWaiting-after}
 
-pub whole_after : (a b c : Option (List ℕ)) (xs ys : List ℕ) → Appends a b xs → Appends b c ys → Appends a c (xs ++ ys)
-whole_after = Appends-trans
+pub whole_after : (a b c : Option (List ℕ)) (u v w : Bool) (xs ys : List ℕ) → LeavesWaiting a b u v xs → LeavesWaiting b c v w ys → LeavesWaiting a c u w (xs ++ ys)
+whole_after = LeavesWaiting-after
 
-pub begun_after : (a b c : Option (List ℕ)) (xs ys : List ℕ) → Appends a b xs → AppendsBeginning b c ys → AppendsBeginning a c (xs ++ ys)
-begun_after = AppendsBeginning-after
+pub begun_after : (a b c : Option (List ℕ)) (u v w : Bool) (xs ys : List ℕ) → LeavesWaiting a b u v xs → BreaksOff b c v w ys → BreaksOff a c u w (xs ++ ys)
+begun_after = BreaksOff-after
 
-pub begun_before : (a b : Option (List ℕ)) (xs ys : List ℕ) → AppendsBeginning a b xs → AppendsBeginning a b (xs ++ ys)
-begun_before = AppendsBeginning-append
+pub begun_before : (a b : Option (List ℕ)) (u v : Bool) (xs ys : List ℕ) → BreaksOff a b u v xs → BreaksOff a b u v (xs ++ ys)
+begun_before = BreaksOff-append
 
-pub third_begun : (a b c d : Option (List ℕ)) (xs ys zs : List ℕ) → Appends a b xs → Appends b c ys → AppendsBeginning c d zs → AppendsBeginning a d (xs ++ ys ++ zs)
-third_begun a b c d xs ys zs first second third = begun_after a c d (xs ++ ys) zs (whole_after a b c xs ys first second) third
+pub third_begun : (a b c d : Option (List ℕ)) (u v w x : Bool) (xs ys zs : List ℕ) → LeavesWaiting a b u v xs → LeavesWaiting b c v w ys → BreaksOff c d w x zs → BreaksOff a d u x (xs ++ ys ++ zs)
+third_begun a b c d u v w x xs ys zs first second third = begun_after a c d u w x (xs ++ ys) zs (whole_after a b c u v w xs ys first second) third
+
+-- what of it is said without what waits
+pub begun_of : (a b : Option (List ℕ)) (u v : Bool) (xs : List ℕ) → BreaksOff a b u v xs → AppendsBeginning a b xs
+begun_of a b u v xs broke = record { taken = broke.taken; grown = broke.grown }
+
+-- what broke off had a byte
+pub some_of : (a b : Option (List ℕ)) (u v : Bool) (xs : List ℕ) → BreaksOff a b u v xs → xs ≢ []
+some_of a b u v xs broke none = omega (arith, broke.short, ap length none)
 
 -- a colon and two zeros, without the zeros that so many places want no more
 pub zeros_left : (places : ℕ) → take {A = ℕ} (3 - min places 2) (58 ∷ 48 ∷ 48 ∷ []) ≡ 58 ∷ replicate {A = ℕ} (2 - places) 48

@@ -2,6 +2,7 @@
 #![tactic(auto)]
 
 mod laws;
+mod pieces;
 mod rendering;
 mod status;
 mod writing;

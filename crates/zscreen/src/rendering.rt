@@ -1,6 +1,6 @@
 //! Rendering items to bytes in memory.
 
-ghost use Rattle.std.specs.Prelude.{◌≡◌, IfOk};
+ghost use Rattle.std.specs.Prelude.{◌≡◌, ◌≢◌, [], IfOk, OnErr};
 ghost use Rattle.zscreen.specs.Rendering.{render};
 
 use crate::writing::write_items;
@@ -39,9 +39,11 @@ impl Sink for Kept {
     }
 }
 
-/// The bytes of all items, with status lines where they are asked for. Want of memory is the only error.
+/// The bytes of all items, with status lines where they are asked for. Want of memory is the only error, and comes only where
+/// there is a byte to be shown.
 pub fn render(alloc: Global, items: &Items, status: bool) -> Result<Vec<u8>, AllocError>
-    ensures { IfOk result (λ bytes. bytes.items ≡ render status items.now.items) }
+    ensures ok { IfOk result (λ bytes. bytes.items ≡ render status items.now.items) }
+    ensures wanted { OnErr result (render status items.now.items ≢ []) }
 {
     let mut kept = Kept {
         bytes: Vec::new(alloc),

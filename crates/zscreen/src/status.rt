@@ -1,17 +1,17 @@
 //! Writing a status line.
 
 ghost use Rattle.std.specs.Prelude.{◌≡◌, ◌-◌, ◌++◌, ◌∷◌, OnErr, OnOk, codes, replicate};
-ghost use Rattle.std.specs.Io.KnownBytes.{Appends};
-ghost use Rattle.zfault.specs.Devices.{AppendsBeginning, RisesByOne};
+ghost use Rattle.zfault.specs.Devices.{BreaksOff, LeavesWaiting, RisesByOne};
 ghost use Rattle.zscreen.specs.Rendering.{numbers, status_line};
 
+use crate::pieces::write_piece;
 use itoa::Buffer;
-use zfault::{Failed, Sink, Status, write_whole};
+use zfault::{Failed, Sink, Status};
 
 /// Writes a status line.
 pub(crate) fn write_status<W: Sink>(sink: &mut W, status: &Status) -> Result<(), Failed>
-    ensures ok { OnOk result (Appends (W.contents sink.old) (W.contents sink.new) (status_line status.now)) }
-    ensures begun { OnErr result (AppendsBeginning (W.contents sink.old) (W.contents sink.new) (status_line status.now)) }
+    ensures ok { OnOk result (LeavesWaiting (W.contents sink.old) (W.contents sink.new) (W.waits sink.old) (W.waits sink.new) (status_line status.now)) }
+    ensures begun { OnErr result (BreaksOff (W.contents sink.old) (W.contents sink.new) (W.waits sink.old) (W.waits sink.new) (status_line status.now)) }
     ensures quiet { OnOk result (W.failures sink.new ≡ W.failures sink.old) }
     ensures blamed { OnErr result (RisesByOne (W.failures sink.old) (W.failures sink.new)) }
 {
@@ -26,20 +26,20 @@ fn write_between<W: Sink>(
     status: &Status,
     behind: &[u8],
 ) -> Result<(), Failed>
-    ensures ok { OnOk result (Appends (W.contents sink.old) (W.contents sink.new) (before.now ++ status.now.name ++ codes " | " ++ numbers status.now ++ behind.now)) }
-    ensures begun { OnErr result (AppendsBeginning (W.contents sink.old) (W.contents sink.new) (before.now ++ status.now.name ++ codes " | " ++ numbers status.now ++ behind.now)) }
+    ensures ok { OnOk result (LeavesWaiting (W.contents sink.old) (W.contents sink.new) (W.waits sink.old) (W.waits sink.new) (before.now ++ status.now.name ++ codes " | " ++ numbers status.now ++ behind.now)) }
+    ensures begun { OnErr result (BreaksOff (W.contents sink.old) (W.contents sink.new) (W.waits sink.old) (W.waits sink.new) (before.now ++ status.now.name ++ codes " | " ++ numbers status.now ++ behind.now)) }
     ensures quiet { OnOk result (W.failures sink.new ≡ W.failures sink.old) }
     ensures blamed { OnErr result (RisesByOne (W.failures sink.old) (W.failures sink.new)) }
 {
     write_three(sink, before, status.name.as_slice(), b" | ")?;
     write_numbers(sink, status)?;
-    write_whole(sink, behind)
+    write_piece(sink, behind)
 }
 
 // Writes score and moves, or hours and minutes.
 fn write_numbers<W: Sink>(sink: &mut W, status: &Status) -> Result<(), Failed>
-    ensures ok { OnOk result (Appends (W.contents sink.old) (W.contents sink.new) (numbers status.now)) }
-    ensures begun { OnErr result (AppendsBeginning (W.contents sink.old) (W.contents sink.new) (numbers status.now)) }
+    ensures ok { OnOk result (LeavesWaiting (W.contents sink.old) (W.contents sink.new) (W.waits sink.old) (W.waits sink.new) (numbers status.now)) }
+    ensures begun { OnErr result (BreaksOff (W.contents sink.old) (W.contents sink.new) (W.waits sink.old) (W.waits sink.new) (numbers status.now)) }
     ensures quiet { OnOk result (W.failures sink.new ≡ W.failures sink.old) }
     ensures blamed { OnErr result (RisesByOne (W.failures sink.old) (W.failures sink.new)) }
 {
@@ -63,13 +63,13 @@ fn write_four<W: Sink>(
     third: &[u8],
     fourth: &[u8],
 ) -> Result<(), Failed>
-    ensures ok { OnOk result (Appends (W.contents sink.old) (W.contents sink.new) (first.now ++ second.now ++ third.now ++ fourth.now)) }
-    ensures begun { OnErr result (AppendsBeginning (W.contents sink.old) (W.contents sink.new) (first.now ++ second.now ++ third.now ++ fourth.now)) }
+    ensures ok { OnOk result (LeavesWaiting (W.contents sink.old) (W.contents sink.new) (W.waits sink.old) (W.waits sink.new) (first.now ++ second.now ++ third.now ++ fourth.now)) }
+    ensures begun { OnErr result (BreaksOff (W.contents sink.old) (W.contents sink.new) (W.waits sink.old) (W.waits sink.new) (first.now ++ second.now ++ third.now ++ fourth.now)) }
     ensures quiet { OnOk result (W.failures sink.new ≡ W.failures sink.old) }
     ensures blamed { OnErr result (RisesByOne (W.failures sink.old) (W.failures sink.new)) }
 {
     write_three(sink, first, second, third)?;
-    write_whole(sink, fourth)
+    write_piece(sink, fourth)
 }
 
 // Writes three pieces, one after another.
@@ -80,14 +80,14 @@ fn write_three<W: Sink>(
     second: &[u8],
     third: &[u8],
 ) -> Result<(), Failed>
-    ensures ok { OnOk result (Appends (W.contents sink.old) (W.contents sink.new) (first.now ++ second.now ++ third.now)) }
-    ensures begun { OnErr result (AppendsBeginning (W.contents sink.old) (W.contents sink.new) (first.now ++ second.now ++ third.now)) }
+    ensures ok { OnOk result (LeavesWaiting (W.contents sink.old) (W.contents sink.new) (W.waits sink.old) (W.waits sink.new) (first.now ++ second.now ++ third.now)) }
+    ensures begun { OnErr result (BreaksOff (W.contents sink.old) (W.contents sink.new) (W.waits sink.old) (W.waits sink.new) (first.now ++ second.now ++ third.now)) }
     ensures quiet { OnOk result (W.failures sink.new ≡ W.failures sink.old) }
     ensures blamed { OnErr result (RisesByOne (W.failures sink.old) (W.failures sink.new)) }
 {
-    write_whole(sink, first)?;
-    write_whole(sink, second)?;
-    write_whole(sink, third)
+    write_piece(sink, first)?;
+    write_piece(sink, second)?;
+    write_piece(sink, third)
 }
 
 // A colon before minutes of so many places, with the zeros that they want of two.

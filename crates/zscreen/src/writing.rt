@@ -2,17 +2,20 @@
 
 ghost use Rattle.std.specs.Prelude.{◌≡◌, ◌≤◌, ◌++◌, true, OnErr, OnOk, length, slice_range};
 ghost use Rattle.std.specs.Io.KnownBytes.{Appends};
-ghost use Rattle.zfault.specs.Devices.{AppendsBeginning, RisesByOne};
+ghost use Rattle.zfault.specs.Devices.{AppendsBeginning, BreaksOff, LeavesWaiting, RisesByOne};
 ghost use Rattle.zscreen.specs.Rendering.{render, status_line};
 
+use crate::pieces::write_piece;
 use crate::status::write_status;
-use zfault::{Failed, Items, Mark, Sink, write_whole};
+use zfault::{Failed, Items, Mark, Sink};
 
-/// Writes all items, status lines where they are asked for. Where a write fails, a beginning of their bytes was taken.
-/// It takes no memory, and flushes nothing.
+/// Writes all items, status lines where they are asked for. Where a write fails, a beginning of their bytes was taken, which
+/// isn't all of them. What was taken waits for a flush. It takes no memory.
 pub fn write_items<W: Sink>(sink: &mut W, items: &Items, status: bool) -> Result<(), Failed>
     ensures ok { OnOk result (Appends (W.contents sink.old) (W.contents sink.new) (render status items.now.items)) }
     ensures begun { OnErr result (AppendsBeginning (W.contents sink.old) (W.contents sink.new) (render status items.now.items)) }
+    ensures waiting { OnOk result (LeavesWaiting (W.contents sink.old) (W.contents sink.new) (W.waits sink.old) (W.waits sink.new) (render status items.now.items)) }
+    ensures broken_off { OnErr result (BreaksOff (W.contents sink.old) (W.contents sink.new) (W.waits sink.old) (W.waits sink.new) (render status items.now.items)) }
 
     // The sink is blamed where a write of this call failed, and only there.
     ensures quiet { OnOk result (W.failures sink.new ≡ W.failures sink.old) }
@@ -21,14 +24,14 @@ pub fn write_items<W: Sink>(sink: &mut W, items: &Items, status: bool) -> Result
     if status {
         write_with_status(sink, items)
     } else {
-        write_whole(sink, items.text())
+        write_piece(sink, items.text())
     }
 }
 
 // Writes text and status lines.
 fn write_with_status<W: Sink>(sink: &mut W, items: &Items) -> Result<(), Failed>
-    ensures ok { OnOk result (Appends (W.contents sink.old) (W.contents sink.new) (render true items.now.items)) }
-    ensures begun { OnErr result (AppendsBeginning (W.contents sink.old) (W.contents sink.new) (render true items.now.items)) }
+    ensures ok { OnOk result (LeavesWaiting (W.contents sink.old) (W.contents sink.new) (W.waits sink.old) (W.waits sink.new) (render true items.now.items)) }
+    ensures begun { OnErr result (BreaksOff (W.contents sink.old) (W.contents sink.new) (W.waits sink.old) (W.waits sink.new) (render true items.now.items)) }
     ensures quiet { OnOk result (W.failures sink.new ≡ W.failures sink.old) }
     ensures blamed { OnErr result (RisesByOne (W.failures sink.old) (W.failures sink.new)) }
 {
@@ -38,7 +41,7 @@ fn write_with_status<W: Sink>(sink: &mut W, items: &Items) -> Result<(), Failed>
         write_up_to(sink, text, written, mark)?;
         written = mark.place;
     }
-    write_whole(sink, &text[written..])
+    write_piece(sink, &text[written..])
 }
 
 // Writes a status line, with the text before it from a place on.
@@ -46,11 +49,11 @@ fn write_with_status<W: Sink>(sink: &mut W, items: &Items) -> Result<(), Failed>
 fn write_up_to<W: Sink>(sink: &mut W, text: &[u8], from: usize, mark: &Mark) -> Result<(), Failed>
     requires order { from ≤ mark.now.place }
     requires within { mark.now.place ≤ length text.now }
-    ensures ok { OnOk result (Appends (W.contents sink.old) (W.contents sink.new) (slice_range text.now from mark.now.place ++ status_line mark.now.status)) }
-    ensures begun { OnErr result (AppendsBeginning (W.contents sink.old) (W.contents sink.new) (slice_range text.now from mark.now.place ++ status_line mark.now.status)) }
+    ensures ok { OnOk result (LeavesWaiting (W.contents sink.old) (W.contents sink.new) (W.waits sink.old) (W.waits sink.new) (slice_range text.now from mark.now.place ++ status_line mark.now.status)) }
+    ensures begun { OnErr result (BreaksOff (W.contents sink.old) (W.contents sink.new) (W.waits sink.old) (W.waits sink.new) (slice_range text.now from mark.now.place ++ status_line mark.now.status)) }
     ensures quiet { OnOk result (W.failures sink.new ≡ W.failures sink.old) }
     ensures blamed { OnErr result (RisesByOne (W.failures sink.old) (W.failures sink.new)) }
 {
-    write_whole(sink, &text[from..mark.place])?;
+    write_piece(sink, &text[from..mark.place])?;
     write_status(sink, &mark.status)
 }

@@ -16,5 +16,6 @@ mod Words
 mod Worked
 mod WorkedCall
 mod WorkedNeeds
+mod WorkedOrders
 mod WorkedSaves
 mod WorkedTables

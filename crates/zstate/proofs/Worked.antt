@@ -445,6 +445,11 @@ settled_in_order : (settle 1024 (record (branching (pos 0)) { store = Some 9 }) 
 unfolding admits pauses branching plain at
 settled_in_order = (refl, refl, refl)
 
+-- the result variable before a need, and a need before room for what it gives
+needed_in_order : (stack : List ℕ) → length stack ≡ 65535 → (settle 1024 (record (plain 1) { store = Some 3 }) (record (giving 0) { needs = Some needs.Random }) state ≡ Err (halts.Fault AbsentLocal)) × (settle 1024 (record (plain 1) { store = Some 0 }) (record (giving 0) { needs = Some needs.Random }) (with_stack stack state) ≡ Err (halts.Need needs.Random)) × (settle 1024 (record (plain 1) { store = Some 0 }) (giving 0) (with_stack stack state) ≡ Err halts.FrameLimit)
+unfolding admits pauses plain state frame
+needed_in_order stack deep = (refl, refl, rw deep refl)
+
 -- a call asks for the variable that takes the result, and then for a frame more
 called_in_order : (settle 1 (record (plain 3) { store = Some 2 }) (calling two) state ≡ Ok tt) × (settle 0 (record (plain 3) { store = Some 2 }) (calling two) state ≡ Err halts.FrameLimit) × (settle 2 (record (plain 3) { store = Some 2 }) (calling two) called ≡ Err halts.FrameLimit) × (settle 3 (record (plain 3) { store = Some 2 }) (calling two) called ≡ Ok tt) × (settle 0 (record (plain 3) { store = Some 3 }) (calling two) state ≡ Err (halts.Fault AbsentLocal))
 unfolding admits pauses called plain state frame two at

@@ -7,7 +7,7 @@ use Rattle.zdict.specs.Lookup.{lookup}
 use Rattle.zline.specs.Storing.{with_blocks, with_line}
 use Rattle.zfault.specs.declared.event.Event.{Event}
 use Rattle.zfault.specs.declared.event.Event.TheVariants as events
-use Rattle.zfault.specs.declared.fault.Fault.TheVariants.{ReadOutside, SmallBuffer, WriteOutside}
+use Rattle.zfault.specs.declared.fault.Fault.TheVariants.{AbsentObject, ReadOutside, SmallBuffer, WriteOutside}
 use Rattle.zfault.specs.declared.pause.Need.TheVariants as needs
 use Rattle.zfault.specs.declared.pause.Pause.TheVariants as pauses
 use Rattle.zfault.specs.declared.item.Item.TheVariants.{Status}
@@ -137,6 +137,11 @@ large = (refl, refl, refl)
 small_now : line_read story 70 75 (record (opening story) { memory = slice_set fresh 70 1 }) ≡ Err (halts.Fault SmallBuffer)
 unfolding buffered are_writable story fresh asking code
 small_now = refl
+
+-- sizes that can't be read come before those that are too small, these before bytes that may not be written, and the status line before all
+in_order : (buffered story 94 75 (slice_set fresh 75 0) ≡ Err (halts.Fault ReadOutside)) × (buffered story 94 75 (slice_set fresh 75 2) ≡ Err (halts.Fault ReadOutside)) × (buffered story 70 75 (slice_set (slice_set fresh 70 1) 75 2) ≡ Err (halts.Fault SmallBuffer)) × (buffered story 70 75 (slice_set (slice_set fresh 70 11) 75 0) ≡ Err (halts.Fault SmallBuffer)) × (line_read story 94 75 (record (opening story) { memory = slice_set fresh 65 9 }) ≡ Err (halts.Fault AbsentObject))
+unfolding buffered are_writable story fresh asking code
+in_order = (refl, refl, refl, refl, refl)
 
 -- the buffers end below the static base, and none begins in the header
 free : (buffered story 70 75 (slice_set fresh 70 10) ≡ Ok tt) × (buffered story 70 75 (slice_set fresh 70 11) ≡ Err (halts.Fault WriteOutside)) × (buffered story 70 75 (slice_set fresh 75 2) ≡ Err (halts.Fault WriteOutside)) × (buffered story 62 75 (slice_set fresh 62 2) ≡ Err (halts.Fault WriteOutside)) × (buffered story 63 75 (slice_set fresh 63 2) ≡ Ok tt) × (buffered story 70 63 (slice_set fresh 63 1) ≡ Ok tt) × (buffered story 70 76 (slice_set fresh 76 1) ≡ Err (halts.Fault WriteOutside))

@@ -120,7 +120,7 @@ goes_to = refl
 left : State
 left = record played { place = pos 78; prompted = true; waiting = Some (events.Random 7) }
 
--- `restart` loads memory anew but for both low bits of Flags 2, and leaves where random numbers come from, the mark and what waits
-restarts : step setting left ≡ Ok (record { state = record { memory = bytes 0x20 0x12 0x36 (1 ∷ 2 ∷ 3 ∷ 4 ∷ 5 ∷ 6 ∷ []); frame = first_frame; callers = []; place = pos 72; random = Counting 3 2; prompted = true; waiting = Some (events.Random 7) }; items = [] })
+-- `restart` loads memory anew but for both low bits of Flags 2, and leaves where random numbers come from; the mark and what waits are gone
+restarts : step setting left ≡ Ok (record { state = record { memory = bytes 0x20 0x12 0x36 (1 ∷ 2 ∷ 3 ∷ 4 ∷ 5 ∷ 6 ∷ []); frame = first_frame; callers = []; place = pos 72; random = Counting 3 2; prompted = false; waiting = None }; items = [] })
 unfolding step plan act changed effect_of admits must_pause fetch in_turn operation_of instruction_at head_at short_head checked_head operands_at store_if branch_if branch_at text_if story bytes code setting called main played left
 restarts = refl

@@ -29,6 +29,11 @@ from base operation values =
 does : Operation → List ℕ → Result Effect Halt
 does = from 154
 
+-- and where the second object's three bytes are those of a property 0
+numbered_none : Operation → List ℕ → Result Effect Halt
+numbered_none operation values =
+    effect_of (record { story = record { memory = memory; objects = 2 }; scope = scope_all (record { memory = memory; objects = 2 }); limit = usual_limit }) operation values (record (opening (record { memory = memory; objects = 2 })) { memory = slice_set memory 156 64 })
+
 -- values, defaults, one that is too long, one of no property, and one of no object
 asked : (does (operations.Property Value) (1 ∷ 20 ∷ []) ≡ Ok (giving 0x1234)) × (does (operations.Property Value) (1 ∷ 5 ∷ []) ≡ Ok (giving 0x7F)) × (does (operations.Property Value) (1 ∷ 6 ∷ []) ≡ Ok (giving 258)) × (does (operations.Property Value) (2 ∷ 20 ∷ []) ≡ Ok (giving 0)) × (does (operations.Property Value) (2 ∷ 3 ∷ []) ≡ Err (halts.Fault PropertyTooLong)) × (does (operations.Property Value) (1 ∷ 32 ∷ []) ≡ Err (halts.Fault AbsentProperty)) × (does (operations.Property Value) (3 ∷ 20 ∷ []) ≡ Err (halts.Fault AbsentObject))
 unfolding does from memory effect_of first_properties after_number
@@ -52,6 +57,11 @@ filled = (refl, refl, refl, refl, refl)
 frozen : (from 151 operations.SetProperty (1 ∷ 20 ∷ 1 ∷ []) ≡ Err (halts.Fault WriteOutside)) × (from 150 operations.SetProperty (1 ∷ 20 ∷ 1 ∷ []) ≡ Err (halts.Fault WriteOutside))
 unfolding from memory effect_of first_properties after_number are_writable
 frozen = (refl, refl)
+
+-- the length is asked before whether the data may be written, the number before the length, and the object before both
+ordered : (from 150 operations.SetProperty (2 ∷ 3 ∷ 1 ∷ []) ≡ Err (halts.Fault PropertyTooLong)) × (numbered_none (operations.Property Value) (2 ∷ 0 ∷ []) ≡ Err (halts.Fault AbsentProperty)) × (does (operations.Property Value) (3 ∷ 32 ∷ []) ≡ Err (halts.Fault AbsentObject)) × (does (operations.Property Next) (0 ∷ 6 ∷ []) ≡ Err (halts.Fault AbsentObject))
+unfolding does from numbered_none memory effect_of first_properties after_number are_writable
+ordered = (refl, refl, refl, refl)
 
 named : (does operations.PrintObject (1 ∷ []) ≡ Ok (printing (0x68 ∷ 0x65 ∷ 0x6C ∷ 0x6C ∷ 0x6F ∷ []))) × (does operations.PrintObject (2 ∷ []) ≡ Ok proceeds) × (does operations.PrintObject (3 ∷ []) ≡ Err (halts.Fault AbsentObject)) × (does operations.PrintObject (0 ∷ []) ≡ Err (halts.Fault AbsentObject))
 unfolding does from memory effect_of output_at output_of_characters small_letters

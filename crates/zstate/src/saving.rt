@@ -39,7 +39,7 @@ impl State {
         matches!(self.waiting, Some(Event::NotRestored))
     }
 
-    /// The story begins anew (Z 15 restart).
+    /// The story begins anew as it opens, but for two bits of Flags 2 and where random numbers come from (Z 15 restart).
     pub fn restart(&mut self, story: &Story)
         requires { length self.old.memory ≡ length story.now.memory }
         ensures { self.new ≡ restarted story.now self.old }
@@ -50,6 +50,8 @@ impl State {
         keep_flags(self.memory.as_mut_slice(), kept);
         self.frames.reset();
         self.place = story.first_instruction() as i32;
+        self.prompted = false;
+        self.waiting = None;
     }
 
     /// The state that goes on from a save, at its `save`, which was kept. Of the state in which that is asked for, the two low bits of

@@ -9,7 +9,7 @@ use zfault::Fault;
 use zstory::LoadError;
 
 /// Whether each of these has the message that stands beside it.
-fn are_told<T: Display>(alloc: Global, told: &[(T, &str)]) -> Result<bool, Fail> {
+pub(crate) fn are_told<T: Display>(alloc: Global, told: &[(T, &str)]) -> Result<bool, Fail> {
     for (error, text) in told {
         let message = format!(in alloc; "{}", error)?;
         if message.as_str() != *text {

@@ -1,4 +1,5 @@
 use Rattle.zcheck.proofs.Headline.{never_changes, never_faults, plays_alike}
+use Rattle.zcheck.proofs.Saves.{plays_safely}
 use Rattle.zcheck.proofs.checking.check.Goals as goal
 
 pub returns-clause-never_faults : goal.returns-clause-never_faults
@@ -14,3 +15,7 @@ returns-clause-never_changes g c =
 pub returns-clause-plays_alike : goal.returns-clause-plays_alike
 returns-clause-plays_alike g c =
     rw c.new.ensures (plays_alike g.V.Domain.operations g.met.V.Domain.sound g.V.Spelled.format c.args.story c.args.certificate c.well_spelled.ensures c.in_ok-listing.listing c.loaded_soundly.ensures c.in_ok-listing.ensures.passes c.in_ok-listing.ensures.lists)
+
+pub returns-clause-plays_safely : goal.returns-clause-plays_safely
+returns-clause-plays_safely g c =
+    rw c.new.ensures (plays_safely g.V.Domain.operations g.met.V.Domain.sound g.V.Spelled.format (record { story = c.args.story; certificate = c.args.certificate; listing = c.in_ok-listing.listing }) c.well_spelled.ensures c.loaded_soundly.ensures c.in_ok-listing.ensures.passes c.in_ok-listing.ensures.lists)

@@ -1,9 +1,9 @@
-use Rattle.std.proofs.Common.{length, ◌-◌, ◌≡◌, ◌≤◌, take}
+use Rattle.std.proofs.Common.{length, ◌-◌, ◌≡◌, ◌≤◌, [], take}
 use Rattle.std.specs.Io.KnownBytes.{Appends}
 use Rattle.zfault.specs.Devices.{waits_after}
 use Rattle.zfault.proofs.writing.write_whole.Given as goal
 
--- the first `at` bytes were taken, and no write has failed
+-- the first `at` bytes were taken, no write has failed, and with no bytes there was none
 abbrev pub invariant-loop-at : goal.invariant-loop-at
 invariant-loop-at g l =
     record {
@@ -11,6 +11,7 @@ invariant-loop-at g l =
       taken : Appends (g.W.Sink.contents l.initial.sink) (g.W.Sink.contents l.sink) (take l.at l.bytes);
       waits : g.W.Sink.waits l.sink ≡ waits_after (g.W.Sink.waits l.initial.sink) (take l.at l.bytes);
       quiet : g.W.Sink.failures l.sink ≡ g.W.Sink.failures l.initial.sink;
+      uncalled : l.bytes ≡ [] → l.sink ≡ l.initial.sink;
     }
 
 abbrev pub decreases-loop-at : goal.decreases-loop-at

@@ -11,4 +11,4 @@ returns-in_err-map_err-clause-in_part g c =
     let begun = refused c.write_items.result _ c.in_err-map_err.ensures.variant c.write_items.ensures.begun in
     let given = made.2.items_are ∙ ap (λ (l : List Item). l ++ made.2.given) c.clear.ensures.items in
     let of_given = subst (λ (l : List Item). AppendsBeginning (g.W.Sink.contents c.args.writer.now) (g.W.Sink.contents c.write_items.new.sink) (render c.args.status l)) given begun in
-    λ _. record { steps = made.0; given = made.2.given; all = omega (arith, made.1, c.min-steps.ensures); goes = made.2.goes; written = of_given }
+    λ _. record { steps = made.0; few = omega (arith, made.1, c.min-steps.ensures); given = made.2.given; all = omega (arith, made.1, c.min-steps.ensures); goes = made.2.goes; written = of_given }
