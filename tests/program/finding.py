@@ -5,7 +5,7 @@ import subprocess
 import tempfile
 
 from program import Answer, side_by_side
-from samples import HELLO, NEW_LINE, NOP, QUIT, STATIC, certificate, changed, interval, story, with_objects
+from samples import CODE, HELLO, NEW_LINE, NOP, QUIT, STATIC, certificate, changed, interval, story, with_objects, word
 
 HERE = os.path.dirname(os.path.abspath(__file__))
 SAMPLE = story(HELLO + QUIT)
@@ -21,6 +21,17 @@ FOUND = [
     # store local through a loop: globals count from 0 on: inc 16; jump back
     ("a loop that never ends", story(b"\x95\x10" + b"\x8c\xff\xfd"), None),
 ]
+
+
+def found_by_more():
+    """Stories that are found by more than what they list, or by what a routine is said to give that never returns."""
+    return [
+        ("a call of what the stack names", CALLS_BY_STACK, b""),
+        ("a call of what a local names", CALLS_UNLISTED, b""),
+        ("a division by what is never given", DIVIDES, b""),
+        ("a call of any of 1,100", calls_many(1100), b""),
+    ]
+
 
 # ---- stories that are found, whatever a number in them is, and what a play of 2,000 steps comes to
 
@@ -79,34 +90,66 @@ LISTING_MORE = certificate(
     stacks={0x329: interval(1, 1), 0x33A: interval(1, 1)},
 )
 
+# call 32e -> stack; div 10 that -> 16; quit; and 32e never returns. So it may be said to give 1, and not 0
+DIVIDES = story(b"\xe0\x3f\x01\x97\x00\x37\x0a\x00\x10" + QUIT + b"\0" + QUIT)
+DIVIDES_BY_ONE = certificate(
+    DIVIDES, [0x324, 0x329, 0x32D, 0x32F], routines=[(0x32E, 0, (1, 1))], inside={0x32F: (1, b"")}, stacks={0x329: interval(1, 1)}, own={16: (0, 10)}
+)
+
+# call 332 -> stack; je that 7 ?32f; print_obj 0; nop, at 32f; quit; and 332 never returns: the callers may bear 7 alone, which isn't tried
+BEARS_SEVEN = story(b"\xe0\x3f\x01\x99\x00\x41\x00\x07\xc4\x9a\x00" + NOP + QUIT + bytes(2) + QUIT)
+GIVES_SEVEN = certificate(
+    BEARS_SEVEN, [0x324, 0x329, 0x32F, 0x330, 0x333], routines=[(0x332, 0, (7, 7))], inside={0x333: (1, b"")}, stacks={0x329: interval(7, 7)}
+)
+
+# push 197; call that -> 18; quit; the routine at 32e stores 19e in its local, calls that, and returns 1; so does the one at 33c
+CALLS_BY_STACK = story(b"\xe8\x3f\x01\x97\xe0\xbf\x00\x12" + QUIT + b"\0" + b"\x01\0\0\xcd\x4f\x01\x01\x9e\xe0\xbf\x01\x00\xb0\0" + b"\0\xb0")
+
+
+def calls_many(count):
+    """je 1 2 ?far; random count -> stack; add that and what is before the first routine -> stack; call that -> 16; quit; far: a call of each,
+    quit; and the routines, which return 1."""
+    calls = CODE + 6 + 5 + 6 + 4 + 1
+    first = (calls + 5 * count + 2) // 2
+    code = b"\xc1\x5f\x01\x02" + word(0x8000 | calls - (CODE + 6) + 2) + b"\xe7\x3f" + word(count) + b"\0" + b"\xd4\x8f\0" + word(first - 1) + b"\0" + b"\xe0\xbf\0\x10" + QUIT
+    code += b"".join(b"\xe0\x3f" + word(first + k) + b"\x10" for k in range(count)) + QUIT
+    return story(code.ljust(2 * first - CODE, b"\0") + b"\0\xb0" * count)
+
+
 # je 1 2 ?32a; quit; there a call of 192, which is 324: no head, since its count would be 193
 CALLS_ITS_START = story(b"\xc1\x5f\x01\x02\xc3" + QUIT + b"\xe0\x3f\x01\x92\x00" + QUIT)
 
-# At 51c6, in a story with room: call 51e6 -> stack; storeb 260 that 0; call 51d8; quit. 51d8 calls 51f6 by its local, which returns 1, and
-# returns 1. 51e6 counts its local up to 20,000, in a loop, and returns 1 less or 0, so that the walk that widens nothing doesn't end.
+# At 51c6, in a story with room: call 51e6 -> stack; storeb 260 that 0; call 51d8; quit. 51d8 calls 51f6, which never returns, and where that
+# gives 7, returns 1; else print_obj 0. 51e6 counts its local up to 20,000, in a loop, and returns 1 less or 0, so that the walk that widens
+# nothing doesn't end.
 ROOM = 0x5100 - STATIC
 STORES_FARTHER = story(
     b"\xe0\x3f\x28\xf3\x00\xe2\x27\x02\x60\x00\x00\xe0\x3f\x28\xec\x00" + QUIT + b"\0"
-    + b"\x01\0\0" + b"\xcd\x4f\x01\x28\xfb\xe0\xbf\x01\x00\xb0\0"
+    + b"\0" + b"\xe0\x3f\x28\xfb\x00\x41\x00\x07\xc4\x9a\x00\xb0\0"
     + b"\x01\0\0" + b"\xbd\xca\xc5\x4f\x01\x4e\x20\x3f\xf9\xb1\xab\x01\0"
-    + b"\0\xb0",
+    + b"\0" + QUIT,
     room=ROOM,
 )
 COUNTED = interval(0, 20000)
-CALLED_ALONE = interval(0x28FB, 0x28FB)
 STORES_WITHIN = certificate(
     STORES_FARTHER,
-    [0x51C6, 0x51CB, 0x51D1, 0x51D6, 0x51DB, 0x51E0, 0x51E4, 0x51E9, 0x51EB, 0x51F2, 0x51F3, 0x51F7],
-    routines=[(0x51D8, 1, (1, 1)), (0x51E6, 1, (0, 20000)), (0x51F6, 0, (1, 1))],
+    [0x51C6, 0x51CB, 0x51D1, 0x51D6, 0x51D9, 0x51DE, 0x51E4, 0x51E9, 0x51EB, 0x51F2, 0x51F3, 0x51F7],
+    routines=[(0x51D8, 0, (1, 1)), (0x51E6, 1, (0, 20000)), (0x51F6, 0, (7, 7))],
     inside={
-        **{at: (1, CALLED_ALONE) for at in (0x51E0, 0x51E4)},
+        **{at: (1, b"") for at in (0x51D9, 0x51DE, 0x51E4)},
         **{at: (2, COUNTED) for at in (0x51E9, 0x51EB, 0x51F3)},
-        0x51DB: (1, interval(0, 0)),
         0x51F2: (2, interval(20001, 20001)),
         0x51F7: (3, b""),
     },
-    stacks={0x51CB: COUNTED, 0x51D6: interval(1, 1), 0x51E4: interval(1, 1)},
+    stacks={0x51CB: COUNTED, 0x51D6: interval(1, 1), 0x51DE: interval(7, 7)},
 )
+
+
+def counts_for_ever(number):
+    """So many nops; call 332 -> 16; quit; and 332 counts its local for ever: inc it; print_obj 0; jump back. Where the walk that widens nothing
+    is looked at first, another of the three is to be visited yet with each number from 0 to 2, and hides what else is broken there."""
+    return story((NOP * number + b"\xe0\x3f\x01\x99\x10" + QUIT).ljust(14, b"\0") + b"\x01\0\0" + b"\x95\x01\x9a\x00\x8c\xff\xfb")
+
 
 NONE = [
     ("a byte that is no opcode", story(b"\xbe"), ("G1 at 00324", "no certificate: I1 at 00324")),
@@ -117,7 +160,9 @@ NONE = [
     ("no instruction where play never comes", NEVER_THERE, ("G1 at 00329", "not found")),
     # and so have this one, which never calls, and the next
     ("a head where play begins, and where play never calls", CALLS_ITS_START, ("G1 at 00324", "not found")),
-    ("a store to what is opened farther and farther", STORES_FARTHER, ("G1 at 051e0", "not found")),
+    ("a store to what is opened farther and farther", STORES_FARTHER, ("G1 at 051e2", "not found")),
+    ("a routine that never returns, and may give 7 alone", BEARS_SEVEN, ("G1 at 0032d", "not found")),
+    *((f"what is broken where it is still visited, {number} late", counts_for_ever(number), ("G1 at 00337", "no certificate: I5 at 00337")) for number in range(3)),
     ("a pull of an empty stack", story(b"\xe9\x7f\x10" + QUIT), ("G1 at 00324", "no certificate: I2 at 00324")),
     ("a return of the main code", story(b"\xb0"), ("G1 at 00324", "no certificate: I13 at 00324")),
     ("the parent of object 0", story(b"\x93\x00\x10" + QUIT), ("G1 at 00324", "no certificate: I5 at 00324")),
@@ -127,8 +172,7 @@ NONE = [
         with_objects(WITH_CHILD + b"\xc2\xa3\x01\x00\xb0"),
         ("G1 at 00387", "no certificate: I5 at 00387"),
     ),
-    # a routine that is called by a local alone isn't listed. There is a certificate, by hand; and none where no head stands there
-    ("a call of what a certificate may list", CALLS_UNLISTED, ("G1 at 00336", "not found")),
+    # a routine that is called by a local alone may be listed only where a head stands
     ("a call of what is no routine", calls_by_local(b"\x00\x01"), ("G1 at 00336", "no certificate: I12 at 00336")),
     # print_num of 1 divided by global 16, which is 0
     ("a division by 0", story(b"\x37\x01\x10\x11" + QUIT), ("G1 at 00324", "no certificate: I8 at 00324")),
@@ -176,13 +220,15 @@ def see_none(program, count):
         ("a listing that leaves out a call of its beginning", CALLS_ITS_START, certificate(CALLS_ITS_START, [0x324, 0x329])),
         ("a listing of more than the story lists", CALLS_UNLISTED, LISTING_MORE),
         ("a listing of more, with stores", STORES_FARTHER, STORES_WITHIN),
+        ("a routine that never returns and is said to give 1", DIVIDES, DIVIDES_BY_ONE),
+        ("one that is said to give 7", BEARS_SEVEN, GIVES_SEVEN),
     ]:
         count.is_answer(name, program.run(["check", "story", "certificate"], {"story": made, "certificate": by_hand}), Answer(0, b"accepted\n", b""))
     count.is_answer("no story there to find for", program.run(["find", "absent", "certificate"]), Answer(4, b"", b"failed: file\n"))
 
 
 def see_found(program, count):
-    for name, made, shown in FOUND:
+    for name, made, shown in FOUND + found_by_more():
         answer, written = program.found(made)
         count.is_answer(f"{name}, find", answer, Answer(0, b"found\n", b""))
         if written is None:

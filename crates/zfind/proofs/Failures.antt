@@ -1,6 +1,6 @@
 -- What kept a certificate from being found, as what is told of it.
-use Rattle.std.proofs.Common.{◌≡◌, ℕ, inl, inr, refl}
-use Rattle.std.specs.Prelude.{◌≢◌, Result, Ok, Err, IfErr}
+use Rattle.std.proofs.Common.{◌≡◌, ℕ, inl, inr, refl, subst, sym}
+use Rattle.std.specs.Prelude.{◌≢◌}
 use Rattle.zstory.specs.LoadedStory.{LoadedStory}
 use Rattle.zlist.specs.declared.list_error.ListError.{ListError}
 use Rattle.zlist.specs.declared.list_error.ListError.TheVariants as faults
@@ -10,7 +10,8 @@ use Rattle.zcert.specs.Certificate.{Certificate}
 use Rattle.zfind.specs.declared.error.Obstacle.{Obstacle}
 use Rattle.zfind.specs.declared.error.FindError.{FindError}
 use Rattle.zfind.specs.declared.error.FindError.TheVariants.{NotFound, RoundLimit, OutOfMemory}
-use Rattle.zfind.specs.Finding.{IsFailure, IsFaulty, IsListable, IsTried, IsWalkFailure, IsWrongWith, told_of}
+use Rattle.zfind.specs.Attempts.{IsMetBy}
+use Rattle.zfind.specs.Finding.{IsFailure, IsFaulty, IsListable, IsStopped, IsTried, IsWalkFailure, IsWrongWith, told_of}
 
 module _ (story : LoadedStory) where
   faulty : (fault : ListError) → IsLowestFault story fault → IsFaulty story (told_of fault)
@@ -36,12 +37,21 @@ module _ (story : LoadedStory) where
   of_walk listable left RoundLimit it = listable
   of_walk listable left OutOfMemory it = tt
 
-  -- what is wrong with this certificate is wrong with one that was tried
-  pub as_tried : (c : Certificate Interval) (tried : Result (Certificate Interval) FindError) → IfErr tried (λ error. (obstacle : Obstacle) × (error ≡ NotFound obstacle) × IsWrongWith story c obstacle) → IfErr tried (λ error. (obstacle : Obstacle) × (error ≡ NotFound obstacle) × IsTried story obstacle)
-  as_tried c (Ok passed) wrong = tt
-  as_tried c (Err error) (obstacle, is, wrong) = (obstacle, is, (c, wrong))
+  -- what is wrong with a certificate that was tried
+  pub met_by : (c : Certificate Interval) (error : FindError) → ((obstacle : Obstacle) × (error ≡ NotFound obstacle) × IsWrongWith story c obstacle) → IsMetBy story error
+  met_by c error (obstacle, is, wrong) = (obstacle, is, (c, wrong))
 
-  pub limit_of_walk : (left : ℕ) (error : FindError) → IsWalkFailure story left error → error ≡ RoundLimit → left ≡ 0
-  limit_of_walk left (NotFound obstacle) it e = absurd cc
-  limit_of_walk left RoundLimit it e = it
-  limit_of_walk left OutOfMemory it e = absurd cc
+  -- and it is what kept the walks from finding one
+  pub walk_failure : (left : ℕ) (error : FindError) → IsMetBy story error → IsWalkFailure story left error
+  walk_failure left (NotFound obstacle) (other, is, tried) = subst (IsTried story) (same other obstacle (sym is)) tried
+    where
+      same : (one two : Obstacle) → NotFound one ≡ NotFound two → one ≡ two
+      same one two e = cc
+  walk_failure left RoundLimit (other, is, tried) = absurd cc
+  walk_failure left OutOfMemory (other, is, tried) = absurd cc
+
+  -- what stopped a walk kept one from being found
+  pub of_stopped : (left : ℕ) (error : FindError) → IsStopped left error → IsWalkFailure story left error
+  of_stopped left (NotFound obstacle) never = absurd never
+  of_stopped left RoundLimit it = it
+  of_stopped left OutOfMemory it = tt

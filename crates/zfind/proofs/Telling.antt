@@ -1,8 +1,10 @@
 -- What stands in the way of certificates, as it is told.
-use Rattle.std.proofs.Common.{◌≡◌, ap, inl, inr, refl, subst, sym, ◌∙◌}
-use Rattle.std.specs.Prelude.{Option, Some, None, Result, Ok, Err, IfOk, IfSome, option_map}
+use Rattle.std.proofs.Common.{◌≡◌, ap, inl, inr, refl, subst}
+use Rattle.std.specs.Prelude.{Option, Some, None, Result, Ok, Err, IfOk, IfSome, IsErr, option_map}
 use Rattle.std.specs.Int.{w32, cast_signed}
-use Rattle.zstory.specs.LoadedStory.{LoadedStory}
+use Rattle.zstory.specs.LoadedStory.{LoadedStory, first_instruction}
+use Rattle.zcode.specs.declared.error.DecodeError.{DecodeError}
+use Rattle.zcode.specs.Instruction.{Instruction as AnInstruction}
 use Rattle.zlist.specs.Listing.{ListedCode}
 use Rattle.zlist.specs.Listed.{Lists}
 use Rattle.zdomain.specs.declared.interval.Interval.{Interval}
@@ -10,19 +12,27 @@ use Rattle.zdomain.specs.Interval.{interval_operations}
 use Rattle.zcert.specs.Certificate.{Certificate, Instruction}
 use Rattle.zcert.specs.Listed.{listed_at}
 use Rattle.zrule.specs.declared.rule.Rule.{Rule}
+use Rattle.zrule.specs.declared.rule.Rule.TheVariants.{Decodes}
+use Rattle.zcheck.specs.declared.refusal.StoryRule.TheVariants as rules
 use Rattle.zrule.specs.Claims.{claims_of, entry_of}
 use Rattle.zrule.specs.Rules.{IsLowestBroken}
 use Rattle.zfind.specs.declared.error.FindError.{FindError}
 use Rattle.zfind.specs.declared.error.FindError.TheVariants.{NotFound}
 use Rattle.zfind.specs.declared.error.Obstacle.{Obstacle}
 use Rattle.zfind.specs.declared.error.Obstacle.TheVariants as obstacles
-use Rattle.zfind.specs.Attempts.{IsNamed}
-use Rattle.zfind.specs.Finding.{IsAtStart, IsBrokenIn, IsFailure, IsLasting, IsMet, IsTold, IsWrongWith}
+use Rattle.zfind.specs.Finding.{HasNone, IsAtStart, IsBrokenIn, IsFailure, IsLasting, IsMet, IsTold, IsWrongWith}
 
 module _ (story : LoadedStory) where
+  -- each certificate that passes lists where play begins, so there is none where no instruction stands there
+  none_at_start : (obstacle : Obstacle) → IsAtStart story obstacle → HasNone story
+  none_at_start obstacle start certificate passes =
+      let first = passes.story_rules rules.FirstPlace in
+      let there = passes.each (first_instruction story) first.entry first.listed Decodes in
+      subst (λ (r : Result AnInstruction DecodeError). IsErr r) there.1.decodes start.1
+
   -- a fault where play begins is told
   pub told_at_start : (obstacle : Obstacle) → IsFailure story (NotFound obstacle) → IsAtStart story obstacle → IsTold story (Some obstacle)
-  told_at_start obstacle (inl fault) start = inl (fault, start)
+  told_at_start obstacle (inl fault) start = inl (fault, start, none_at_start obstacle start)
   told_at_start obstacle (inr there) start = inr (there.0, inl there.1)
 
   -- and none elsewhere
@@ -36,19 +46,10 @@ module _ (story : LoadedStory) where
   told_where_listed listing lists (Ok None) met = inl (record { listing = listing; lists = lists })
   told_where_listed listing lists (Ok (Some obstacle)) met = inr (record { listing = listing; lists = lists }, met)
 
-  same_obstacle : (one other : Obstacle) → NotFound one ≡ NotFound other → one ≡ other
-  same_obstacle one other e = cc
-
-  -- what the checker says first of one that was tried
-  pub wrong_where_tried : (c : Certificate Interval) (error : FindError) (obstacle : Obstacle) → error ≡ NotFound obstacle → IsWrongWith story c obstacle → (told : Result (Option Obstacle) FindError) → IfOk told (IsNamed error) → IfOk told (λ other. IfSome other (IsWrongWith story c))
-  wrong_where_tried c error obstacle is wrong (Err other) named = tt
-  wrong_where_tried c error obstacle is wrong (Ok None) named = tt
-  wrong_where_tried c error obstacle is wrong (Ok (Some other)) named = subst (IsWrongWith story c) (same_obstacle obstacle other (sym is ∙ named)) wrong
-
-  pub met_where_tried : (c : Certificate Interval) (told : Result (Option Obstacle) FindError) → IfOk told (λ obstacle. IfSome obstacle (IsWrongWith story c)) → IfOk told (λ obstacle. IfSome obstacle (IsMet story))
-  met_where_tried c (Err other) wrong = tt
-  met_where_tried c (Ok None) wrong = tt
-  met_where_tried c (Ok (Some obstacle)) wrong = inl (c, wrong)
+  -- what the checker says first of one
+  pub met_where_wrong : (c : Certificate Interval) (told : Option Obstacle) → IfSome told (IsWrongWith story c) → IfSome told (IsMet story)
+  met_where_wrong c None wrong = tt
+  met_where_wrong c (Some obstacle) wrong = inl (c, wrong)
 
   -- or a rule that is broken where it lists an instruction
   pub broken_where_listed : (c : Certificate Interval) (i : Instruction Interval) (rule : Rule) → listed_at c.instructions i.address ≡ Some i → IsLowestBroken interval_operations (claims_of interval_operations c) story i.address (entry_of i) rule → IsLasting rule → IsBrokenIn story c (obstacles.Place (cast_signed w32 i.address) rule)

@@ -10,7 +10,7 @@ use Rattle.zcheck.specs.declared.refusal.StoryRule.TheVariants.{Tree}
 use Rattle.zfind.specs.declared.error.FindError.TheVariants.{NotFound, RoundLimit, OutOfMemory}
 use Rattle.zfind.specs.declared.error.Obstacle.TheVariants.{Place, Story}
 use Rattle.zfind.specs.declared.error.Obstacle.{Obstacle}
-use Rattle.zfind.specs.Finding.{IsAtStart, IsBrokenAt, IsFailure, IsFaulty, IsFaultyElsewhere, IsLasting, IsListable, IsMet, IsStopped, IsTold, IsTried, IsWalkFailure, number_of, refused_for, told_of}
+use Rattle.zfind.specs.Finding.{HasNone, IsAtStart, IsBrokenAt, IsFailure, IsFaulty, IsFaultyElsewhere, IsLasting, IsListable, IsMet, IsStopped, IsTold, IsTried, IsWalkFailure, number_of, refused_for, told_of}
 
 numbers : (number_of (NotFound (Story Tree)) ≡ 1) × (number_of RoundLimit ≡ 2) × (number_of OutOfMemory ≡ 3)
 numbers = (refl, refl, refl)
@@ -67,10 +67,10 @@ stopped o = (refl, (λ left. omega (arith, left)), (λ never. never), tt)
 -- what stands where play begins, or what a certificate was tried with; nothing, where nothing was found or what is at fault is elsewhere
 tells :
     (story : LoadedStory) (o : Obstacle)
-    → (IsFaulty story (NotFound o) → IsAtStart story o → IsTold story (Some o)) × (IsListable story → IsTried story o → IsTold story (Some o)) × (IsListable story → IsBrokenAt story o → IsTold story (Some o))
-    × (IsTold story (Some o) → IsAtStart story o ⊎ IsMet story o) × (IsListable story → IsTold story None) × (IsFaultyElsewhere story → IsTold story None)
-tells story o = ((λ faulty start. inl (faulty, start)), (λ listable tried. inr (listable, inl tried)), (λ listable broken. inr (listable, inr broken)), by_case, inl, inr)
+    → (IsFaulty story (NotFound o) → IsAtStart story o → HasNone story → IsTold story (Some o)) × (IsListable story → IsTried story o → IsTold story (Some o)) × (IsListable story → IsBrokenAt story o → IsTold story (Some o))
+    × (IsTold story (Some o) → (IsAtStart story o × HasNone story) ⊎ IsMet story o) × (IsListable story → IsTold story None) × (IsFaultyElsewhere story → IsTold story None)
+tells story o = ((λ faulty start none. inl (faulty, start, none)), (λ listable tried. inr (listable, inl tried)), (λ listable broken. inr (listable, inr broken)), by_case, inl, inr)
   where
-    by_case : (IsFaulty story (NotFound o) × IsAtStart story o) ⊎ (IsListable story × IsMet story o) → IsAtStart story o ⊎ IsMet story o
+    by_case : (IsFaulty story (NotFound o) × IsAtStart story o × HasNone story) ⊎ (IsListable story × IsMet story o) → (IsAtStart story o × HasNone story) ⊎ IsMet story o
     by_case (inl at_start) = inl at_start.1
     by_case (inr met) = inr met.1

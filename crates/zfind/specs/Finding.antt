@@ -16,7 +16,7 @@ use Rattle.zrule.specs.Claims.{Entry, claims_of}
 use Rattle.zrule.specs.Rules.{IsLowestBroken}
 use Rattle.zcheck.specs.declared.refusal.Refusal.{Refusal}
 use Rattle.zcheck.specs.declared.refusal.Refusal.TheVariants as refusals
-use Rattle.zcheck.specs.Passes.{IsCause}
+use Rattle.zcheck.specs.Passes.{IsCause, Passes}
 use Rattle.zfind.specs.declared.error.FindError.{FindError}
 use Rattle.zfind.specs.declared.error.FindError.TheVariants.{NotFound, RoundLimit, OutOfMemory}
 use Rattle.zfind.specs.declared.error.Obstacle.{Obstacle}
@@ -112,9 +112,13 @@ module _ (story : LoadedStory) where
   abbrev pub IsAtStart : Obstacle → Type 0
   IsAtStart obstacle = (obstacle ≡ obstacles.Place (pos (first_instruction story)) Decodes) × IsErr (instruction_at (drop (first_instruction story) story.memory))
 
-  -- What stands in the way of certificates: that none can list where play begins, and else what one was tried with.
+  -- no certificate of it passes
+  abbrev pub HasNone : Type 0
+  HasNone = (certificate : Certificate Interval) → Passes interval_operations story certificate → ⊥
+
+  -- What stands in the way of certificates: that none can list where play begins, and so none passes, and else what one was tried with.
   abbrev pub IsObstacleOf : Obstacle → Type 0
-  IsObstacleOf obstacle = (IsFaulty (NotFound obstacle) × IsAtStart obstacle) ⊎ (IsListable × IsMet obstacle)
+  IsObstacleOf obstacle = (IsFaulty (NotFound obstacle) × IsAtStart obstacle × HasNone) ⊎ (IsListable × IsMet obstacle)
 
   -- the story lists something at fault that a certificate may leave out, since its sets may say that play never comes there
   abbrev pub IsFaultyElsewhere : Type 0

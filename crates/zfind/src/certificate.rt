@@ -8,7 +8,6 @@ use crate::error::FindError;
 use crate::walk::Walk;
 use std::alloc::Global;
 use zcert::{CertBuilder, CertError, Certificate, Field, Spelled};
-use zlist::Record;
 
 /// The certificate that says what a walk found.
 pub(crate) fn certificate_of<V: Spelled>(
@@ -128,7 +127,7 @@ fn take_instructions<V: Spelled>(
     builder.take(Field::InstructionCount(reached_count(code, walk)))?;
     for (index, record) in code.records().iter().enumerate() {
         if walk.state.is_reached(index) {
-            take_instruction(builder, walk, index, record, numbers)?;
+            take_instruction(builder, walk, index, record.address, numbers)?;
         }
     }
     Ok(())
@@ -150,17 +149,17 @@ fn take_instruction<V: Spelled>(
     builder: &mut CertBuilder<V>,
     walk: &Walk<'_, V>,
     index: usize,
-    record: &Record,
+    address: u32,
     numbers: &[u16],
 ) -> Result<(), CertError> {
     let Some((locals, slots)) = walk.state.sets_at(index) else {
         return Ok(());
     };
     let routine = numbers
-        .get(usize::from(record.routine))
+        .get(usize::from(walk.state.routine_at(index)))
         .copied()
         .unwrap_or(0);
-    builder.take(Field::InstructionAddress(record.address))?;
+    builder.take(Field::InstructionAddress(address))?;
     builder.take(Field::RoutineNumber(routine))?;
     builder.take(Field::Height(slots.len().min(64) as u8))?;
     take_values(builder, locals)?;

@@ -31,7 +31,7 @@ pub(crate) struct Code<'a> {
     recursive: Vec<bool>,
     /// Where the property tables are.
     properties: Span,
-    /// Whether it is waited for routines that a certificate may list and the story doesn't; else they may give any word.
+    /// Whether it is waited for routines that are called and not listed, since they may be listed yet; else they may give any word.
     waits: bool,
 }
 
@@ -61,7 +61,7 @@ impl<'a> Code<'a> {
         Ok(code)
     }
 
-    /// The same, where it is waited for routines that a certificate may list and the story doesn't.
+    /// The same, where it is waited for routines that are called and not listed.
     pub(crate) fn waiting(self) -> Code<'a> {
         Code {
             waits: true,
@@ -189,6 +189,11 @@ impl<'a> Code<'a> {
     /// The number of the routine at a packed address.
     pub(crate) fn routine_of(&self, packed: u16) -> Option<u16> {
         self.listing.routine_at(2 * usize::from(packed))
+    }
+
+    /// The address of the routine of a number, which is 0 for the main code.
+    pub(crate) fn owner_of(&self, number: u16) -> u32 {
+        short(self.head_of(number).unwrap_or(0))
     }
 
     /// The address of the routine of a number, from 1 on.

@@ -9,8 +9,8 @@ use zflow::{Edge, Flow, Lead, argument_set, flow_of};
 use zlist::Record;
 use zruns::Tables;
 
-/// How many routines one call may name and have each of them followed; with more, it may give any word.
-pub(crate) const MOST_CALLEES: usize = 1024;
+/// How many words there are: a call names as many routines at most.
+pub(crate) const WORDS: usize = 65_536;
 
 /// What an instruction does, by its edges that can be taken.
 #[derive(Drop)]
@@ -41,6 +41,8 @@ pub(crate) struct Calls<V> {
     first: Option<V>,
     second: Option<V>,
     third: Option<V>,
+    /// Whether it is known of anything that it comes back.
+    pub(crate) comes_back: bool,
 }
 
 impl<V: Domain> Calls<V> {
@@ -134,14 +136,16 @@ impl<'a, V: Domain> Visit<'a, V> {
 
     /// Says what is called, and what comes back as far as is known.
     fn call(self, effect: &mut Effect<V>, callees: V) -> Result<(), AllocError> {
+        let given = given_by(self.code, self.state, callees);
         effect.calls = Some(Calls {
             callees,
             first: self.argument(0),
             second: self.argument(1),
             third: self.argument(2),
+            comes_back: given.is_some(),
         });
         let target = self.record.instruction.target();
-        let Some(result) = given_by(self.code, self.state, callees) else {
+        let Some(result) = given else {
             return Ok(());
         };
         if target == 0 && effect.frame.height() >= MOST_HEIGHT {
@@ -186,50 +190,76 @@ fn global_given<V: Domain>(variable: u8, set: Option<V>) -> Option<(u8, V)> {
     }
 }
 
-/// What the routines at the packed addresses of a set give, as far as is known: anything, where one of them is none, and nothing yet,
-/// where a certificate may list those that the story doesn't.
-fn given_by<V: Domain>(code: &Code<'_>, state: &State<V>, callees: V) -> Option<V> {
-    let mut given = None;
-    let mut callee = callees.least_from(1);
-    for _ in 0..MOST_CALLEES {
-        let Some(packed) = callee else {
-            return given;
-        };
-        let Some(number) = code.routine_of(packed) else {
-            return anything_unless(is_waited_for(code, callees));
-        };
-        given = joined(given, state.result(number));
-        callee = next_callee(callees, packed);
-    }
-    Some(V::any())
+/// Whether the routines are listed that a call may name.
+#[derive(Clone, Copy, PartialEq, Eq)]
+pub(crate) enum Naming {
+    /// All are.
+    Listed,
+    /// Not all, and heads stand at those that aren't, so that a certificate may list them.
+    Listable,
+    /// At one of these no head stands, so that none can.
+    Headless,
 }
 
-/// Any word, unless it is to be waited for what comes.
-fn anything_unless<V: Domain>(waits: bool) -> Option<V> {
-    if waits { None } else { Some(V::any()) }
-}
-
-/// Whether it is waited for a routine at a packed address of a set: where the story doesn't list each of them, but a certificate may, since
-/// heads stand at all that it doesn't. Of a set with too many to be looked at it may be so.
-pub(crate) fn is_waited_for<V: Domain>(code: &Code<'_>, callees: V) -> bool {
-    if !code.waits() {
-        return false;
-    }
-    let mut is_more = false;
+/// Whether the routines at the packed addresses of a set are listed.
+pub(crate) fn naming_of<V: Domain>(code: &Code<'_>, callees: V) -> Naming {
+    let mut naming = Naming::Listed;
     let mut callee = callees.least_from(1);
-    for _ in 0..MOST_CALLEES {
+    for _ in 0..WORDS {
         let Some(packed) = callee else {
-            return is_more;
+            return naming;
         };
         if code.routine_of(packed).is_none() {
             if !code.has_head(packed) {
-                return false;
+                return Naming::Headless;
             }
-            is_more = true;
+            naming = Naming::Listable;
         }
         callee = next_callee(callees, packed);
     }
-    true
+    naming
+}
+
+/// What the routines at the packed addresses of a set give, as far as is known: anything, where one of them is none, and nothing yet,
+/// where they are still to be listed.
+fn given_by<V: Domain>(code: &Code<'_>, state: &State<V>, callees: V) -> Option<V> {
+    match naming_of(code, callees) {
+        Naming::Listed => returned_by(code, state, callees),
+        Naming::Listable if code.waits() => None,
+        _ => Some(V::any()),
+    }
+}
+
+/// What those routines gave so far.
+fn returned_by<V: Domain>(code: &Code<'_>, state: &State<V>, callees: V) -> Option<V> {
+    let mut given = None;
+    let mut callee = callees.least_from(1);
+    for _ in 0..WORDS {
+        let Some(packed) = callee else {
+            return given;
+        };
+        if let Some(number) = code.routine_of(packed) {
+            given = joined(given, state.result(number));
+        }
+        callee = next_callee(callees, packed);
+    }
+    given
+}
+
+/// Whether nothing is known that one of those routines gives.
+pub(crate) fn is_awaited<V: Domain>(code: &Code<'_>, state: &State<V>, callees: V) -> bool {
+    let mut callee = callees.least_from(1);
+    for _ in 0..WORDS {
+        let Some(packed) = callee else {
+            return false;
+        };
+        match code.routine_of(packed) {
+            Some(number) if state.result(number).is_some() => {}
+            _ => return true,
+        }
+        callee = next_callee(callees, packed);
+    }
+    false
 }
 
 /// The next word of a set behind one.

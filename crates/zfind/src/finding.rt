@@ -4,22 +4,23 @@ ghost use Rattle.std.specs.Prelude.{◌≡◌, ◌≤◌, IfErr, IfOk, Err};
 ghost use Rattle.zdomain.specs.Interval.{interval_operations};
 ghost use Rattle.zlist.specs.Listed.{Lists};
 ghost use Rattle.zcheck.specs.Passes.{Passes};
-ghost use Rattle.zfind.specs.Attempts.{IsAttempt};
-ghost use Rattle.zfind.specs.Finding.{IsFailure, IsStopped, IsTried, IsWalkFailure, IsWrongWith};
+ghost use Rattle.zfind.specs.Attempts.{IsAttempt, IsRound, IsSearch, IsSearchWrong};
+ghost use Rattle.zfind.specs.Finding.{IsFailure, IsStopped, IsWalkFailure, IsWrongWith};
 ghost use Rattle.zfind.specs.declared.error.FindError.TheVariants.{NotFound, RoundLimit};
 ghost use Rattle.zfind.specs.declared.error.Obstacle.{Obstacle as AnObstacle};
 
 use crate::certificate::certificate_of;
 use crate::code::Code;
 use crate::error::FindError;
+use crate::extending::extended;
 use crate::settling::settled;
 use crate::state::Plan;
 use crate::visits::MOST_VISITS;
 use crate::walk::Walk;
-use std::alloc::Global;
+use std::alloc::{AllocError, Global};
 use zcert::Certificate;
 use zcheck::examine;
-use zdomain::Interval;
+use zdomain::{Domain, Interval};
 use zlist::{Listing, list_story};
 use zstory::Story;
 
@@ -29,14 +30,11 @@ const DELAYS: [u16; 7] = [2, 2, 2, 2, 2, 10, 10];
 /// How often in the last walk.
 const LAST_DELAY: u16 = 60;
 
-/// What was found, with what it took.
-#[derive(Drop)]
-pub struct Found {
-    /// The certificate, or why there is none.
-    pub certificate: Result<Certificate, FindError>,
-    /// How many instructions were visited.
-    pub visits: u32,
-}
+/// How often routines are listed at most that the code before calls through a variable alone (own).
+pub(crate) const MOST_EXTENSIONS: usize = 16;
+
+/// What a routine is said to give that never returns, where that it gives 0 leads to no certificate: the callers may bear one of these.
+const OTHERS_GIVEN: [u16; 2] = [1, 16];
 
 /// What comes of a walk.
 #[derive(Drop)]
@@ -45,34 +43,53 @@ enum Attempt {
     Passed(Certificate),
     /// It doesn't, and this is how the next one goes.
     Failed(Plan<Interval>),
+    /// It doesn't, and more is to be listed first.
+    Wanting(Failure),
+}
+
+/// What comes of the walks over what is listed.
+#[derive(Drop)]
+enum Search {
+    /// A certificate passes.
+    Passed(Certificate),
+    /// None does.
+    Failed(Failure),
+}
+
+/// What comes of the walks over a listing.
+#[derive(Drop)]
+enum Round {
+    /// A certificate passes.
+    Passed(Certificate),
+    /// None does, for this.
+    Failed(FindError),
+    /// None does, and this is listed next.
+    Wider(Listing),
+}
+
+/// Why none passes.
+#[derive(Drop)]
+struct Failure {
+    /// What stands in the way.
+    error: FindError,
+    /// Which routines are to be listed, by their packed addresses, if any is.
+    wanted: Option<Vec<bool>>,
+    /// Whether it was said of a routine what it gives that never returns.
+    has_ended: bool,
 }
 
 /// A certificate that passes for a story, if one is found (own).
 ///
 /// Nothing is promised of whether one is found: a story that has a certificate may be refused. One that lists something at fault is
 /// refused for that (G1): no certificate was found, and what stood in its way is told; it is the lister's fault, or what the checker says
-/// first of the last certificate that was tried. G2 comes where the 4,000,001st instruction would be visited, G3 where memory was
-/// refused.
+/// first of a certificate that was tried. G2 comes where the 4,000,001st instruction would be visited before a first round of walks is
+/// done, G3 where memory was refused.
 pub fn find(alloc: Global, story: &Story) -> Result<Certificate, FindError>
     ensures passes { IfOk result (Passes interval_operations story.now) }
     ensures failed { IfErr result (IsFailure story.now) }
 {
-    find_counted(alloc, story).certificate
-}
-
-/// What `find` answers, with how many instructions were visited.
-pub fn find_counted(alloc: Global, story: &Story) -> Found
-    ensures passes { IfOk result.certificate (Passes interval_operations story.now) }
-    ensures failed { IfErr result.certificate (IsFailure story.now) }
-    ensures few { result.visits ≤ 4000000 }
-    ensures limit { result.certificate ≡ Err RoundLimit → result.visits ≡ 4000000 }
-{
     let mut left = MOST_VISITS;
-    let certificate = listed(alloc, story, &mut left);
-    Found {
-        certificate,
-        visits: MOST_VISITS - left,
-    }
+    listed(alloc, story, &mut left)
 }
 
 /// The listing of a story, or what is at fault with it.
@@ -89,37 +106,142 @@ pub(crate) fn listing_of(alloc: Global, story: &Story) -> Result<Listing, FindEr
 }
 
 /// A certificate of a story, if it has a listing. So many visits are left.
-#[tactic(auto, using(crate::proofs::Failures::of_walk, crate::proofs::Failures::limit_of_walk))]
+#[tactic(auto, using(crate::proofs::Failures::of_walk))]
 fn listed(alloc: Global, story: &Story, left: &mut u32) -> Result<Certificate, FindError>
     ensures passes { IfOk result (Passes interval_operations story.now) }
     ensures failed { IfErr result (IsFailure story.now) }
     ensures fewer { left.new ≤ left.old }
-    ensures limit { result ≡ Err RoundLimit → left.new ≡ 0 }
 {
     let listing = listing_of(alloc, story)?;
-    let code = Code::new(alloc, story, &listing)?;
-    walked(alloc, story, &code, left)
+    searched(alloc, story, listing, left)
 }
 
-/// The certificate of one of several walks, of which each is kept from widening beyond what the one before left.
-fn walked(
+/// A certificate over what is listed and, where routines are called through variables alone, over these too.
+fn searched(
     alloc: Global,
     story: &Story,
-    code: &Code<'_>,
+    first: Listing,
     left: &mut u32,
 ) -> Result<Certificate, FindError>
     ensures passes { IfOk result (Passes interval_operations story.now) }
     ensures failed { IfErr result (IsWalkFailure story.now left.new) }
     ensures fewer { left.new ≤ left.old }
 {
-    let mut plan = Plan::widening(code.thresholds(alloc)?);
+    let mut listing = first;
+    for _ in 0..MOST_EXTENSIONS {
+        match search_of(alloc, story, &listing, left)? {
+            Round::Passed(certificate) => return Ok(certificate),
+            Round::Failed(error) => return Err(error),
+            Round::Wider(more) => listing = more,
+        }
+    }
+    last_search(alloc, story, &listing, left)
+}
+
+/// What comes of the walks over a listing, which wait for routines that aren't listed.
+#[tactic(auto, using(crate::proofs::Failures::walk_failure, crate::proofs::Failures::of_stopped))]
+fn search_of(
+    alloc: Global,
+    story: &Story,
+    listing: &Listing,
+    left: &mut u32,
+) -> Result<Round, FindError>
+    ensures round { IfOk result (IsRound story.now left.new) }
+    ensures failed { IfErr result (IsWalkFailure story.now left.new) }
+    ensures fewer { left.new ≤ left.old }
+{
+    let code = Code::new(alloc, story, listing)?.waiting();
+    let failure = match walked_by_each(alloc, story, &code, left)? {
+        Search::Passed(certificate) => return Ok(Round::Passed(certificate)),
+        Search::Failed(failure) => failure,
+    };
+    match wider(alloc, &code, failure.wanted)? {
+        Some(more) => Ok(Round::Wider(more)),
+        None => Ok(Round::Failed(failure.error)),
+    }
+}
+
+/// A listing with the routines that are wanted, if any is.
+pub(crate) fn wider(
+    alloc: Global,
+    code: &Code<'_>,
+    wanted: Option<Vec<bool>>,
+) -> Result<Option<Listing>, AllocError> {
+    match wanted {
+        Some(wanted) => extended(alloc, code, &wanted),
+        None => Ok(None),
+    }
+}
+
+/// The certificate of the walks over a listing, in which routines that aren't listed may give anything.
+#[tactic(auto, using(crate::proofs::Failures::walk_failure, crate::proofs::Failures::of_stopped))]
+fn last_search(
+    alloc: Global,
+    story: &Story,
+    listing: &Listing,
+    left: &mut u32,
+) -> Result<Certificate, FindError>
+    ensures passes { IfOk result (Passes interval_operations story.now) }
+    ensures failed { IfErr result (IsWalkFailure story.now left.new) }
+    ensures fewer { left.new ≤ left.old }
+{
+    let code = Code::new(alloc, story, listing)?;
+    match walked_by_each(alloc, story, &code, left)? {
+        Search::Passed(certificate) => Ok(certificate),
+        Search::Failed(failure) => Err(failure.error),
+    }
+}
+
+/// What comes of walks in which routines that never return are said to give 0, and of those that say otherwise, where the first don't find
+/// a certificate. What stood in the way is that of the first.
+fn walked_by_each(
+    alloc: Global,
+    story: &Story,
+    code: &Code<'_>,
+    left: &mut u32,
+) -> Result<Search, FindError>
+    ensures search { IfOk result (IsSearch story.now) }
+    ensures fewer { left.new ≤ left.old }
+    ensures stopped { IfErr result (IsStopped left.new) }
+{
+    let failure = match walked(alloc, story, code, 0, left)? {
+        Search::Passed(certificate) => return Ok(Search::Passed(certificate)),
+        Search::Failed(failure) => failure,
+    };
+    if failure.has_ended && failure.wanted.is_none() {
+        for given in OTHERS_GIVEN {
+            match walked(alloc, story, code, given, left) {
+                Ok(Search::Passed(certificate)) => return Ok(Search::Passed(certificate)),
+                Ok(Search::Failed(_)) | Err(FindError::RoundLimit) => {}
+                Err(error) => return Err(error),
+            }
+        }
+    }
+    Ok(Search::Failed(failure))
+}
+
+/// What comes of several walks, of which each is kept from widening beyond what the one before left. A routine that never returns is said to
+/// give this word.
+fn walked(
+    alloc: Global,
+    story: &Story,
+    code: &Code<'_>,
+    given: u16,
+    left: &mut u32,
+) -> Result<Search, FindError>
+    ensures search { IfOk result (IsSearch story.now) }
+    ensures fewer { left.new ≤ left.old }
+    ensures stopped { IfErr result (IsStopped left.new) }
+{
+    let mut plan = Plan::widening(code.thresholds(alloc)?, Interval::single(given));
     for delay in DELAYS {
         if plan.is_settled && plan.delay == delay {
             continue;
         }
         plan.delay = delay;
         match make_attempt(alloc, story, code, plan, left)? {
-            Attempt::Passed(certificate) => return Ok(certificate),
+            Attempt::Passed(certificate) => return Ok(Search::Passed(certificate)),
+            Attempt::Wanting(failure) => return Ok(Search::Failed(failure)),
             Attempt::Failed(next) => plan = next,
         }
     }
@@ -127,20 +249,34 @@ fn walked(
     let mut walk = Walk::new(alloc, code, plan)?;
     walk.grow(left)?;
     let certificate = certificate_of(alloc, code, &mut walk)?;
-    last_tried(story, certificate)
+    Ok(last_tried(story, walk, certificate))
 }
 
 /// The certificate of the last walk, if it passes.
-#[tactic(auto, using(crate::proofs::Failures::as_tried))]
-fn last_tried(story: &Story, certificate: Certificate) -> Result<Certificate, FindError>
-    ensures passes { IfOk result (Passes interval_operations story.now) }
-    ensures failed { IfErr result (λ error. (obstacle : AnObstacle) × (error ≡ NotFound obstacle) × IsTried story.now obstacle) }
-    ensures wrong { IfErr result (λ error. (obstacle : AnObstacle) → error ≡ NotFound obstacle → IsWrongWith story.now certificate obstacle) }
+#[tactic(auto, using(crate::proofs::Failures::met_by))]
+fn last_tried(story: &Story, walk: Walk<'_, Interval>, certificate: Certificate) -> Search
+    ensures search { IsSearch story.now result }
+    ensures wrong { IsSearchWrong story.now certificate result }
 {
-    tried(story, certificate)
+    match tried(story, certificate) {
+        Ok(certificate) => Search::Passed(certificate),
+        Err(error) => Search::Failed(failure_of(walk, error)),
+    }
+}
+
+/// Why a walk's certificate doesn't pass.
+fn failure_of(walk: Walk<'_, Interval>, error: FindError) -> Failure
+    ensures { result.error ≡ error }
+{
+    Failure {
+        error,
+        has_ended: walk.has_ended_routines(),
+        wanted: walk.into_wanted(),
+    }
 }
 
 /// A walk, and whether its certificate passes.
+#[tactic(auto, using(crate::proofs::Failures::met_by))]
 fn make_attempt(
     alloc: Global,
     story: &Story,
@@ -155,8 +291,12 @@ fn make_attempt(
     let mut walk = Walk::new(alloc, code, plan)?;
     walk.grow(left)?;
     let certificate = certificate_of(alloc, code, &mut walk)?;
-    if let Ok(certificate) = tried(story, certificate) {
-        return Ok(Attempt::Passed(certificate));
+    let error = match tried(story, certificate) {
+        Ok(certificate) => return Ok(Attempt::Passed(certificate)),
+        Err(error) => error,
+    };
+    if walk.is_wanting() {
+        return Ok(Attempt::Wanting(failure_of(walk, error)));
     }
     let caps = settled(alloc, code, &mut walk, left)?;
     Ok(Attempt::Failed(Plan {

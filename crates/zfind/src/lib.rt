@@ -9,6 +9,7 @@ mod certificate;
 mod code;
 mod effects;
 mod error;
+mod extending;
 mod finding;
 mod frame;
 mod groups;
@@ -24,6 +25,6 @@ mod visits;
 mod walk;
 
 pub use error::{FindError, Obstacle};
-pub use finding::{Found, find, find_counted};
+pub use finding::find;
 pub use obstacles::broken_in_all;
 pub use visits::MOST_VISITS;

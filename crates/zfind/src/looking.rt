@@ -2,7 +2,7 @@
 
 use crate::bytes::Span;
 use crate::code::Code;
-use crate::effects::{Effects, Visit};
+use crate::effects::{Effect, Effects, Naming, Visit, WORDS, naming_of, next_callee};
 use crate::openings::reach_of;
 use crate::state::State;
 use std::alloc::{AllocError, Global};
@@ -77,6 +77,40 @@ pub(crate) fn callees_at<V: Domain>(
         Lead::Entering(callees) => Some(callees),
         _ => None,
     }
+}
+
+/// How many routines are followed by what an instruction does, behind the first.
+pub(crate) fn followed_by<V: Domain>(code: &Code<'_>, effects: &Effects<V>) -> u32 {
+    match &effects.held {
+        Some(effect) => followed_on(code, effect).saturating_sub(1),
+        None => 0,
+    }
+}
+
+/// How many are followed on an edge.
+fn followed_on<V: Domain>(code: &Code<'_>, effect: &Effect<V>) -> u32 {
+    match &effect.calls {
+        Some(calls) => followed(code, calls.callees),
+        None => 0,
+    }
+}
+
+/// How many of the routines are followed at the packed addresses of a set.
+fn followed<V: Domain>(code: &Code<'_>, callees: V) -> u32 {
+    let naming = naming_of(code, callees);
+    let mut count = 0u32;
+    let mut callee = callees.least_from(1);
+    for _ in 0..WORDS {
+        let Some(packed) = callee else {
+            return count;
+        };
+        if naming == Naming::Headless && code.routine_of(packed).is_none() {
+            return count;
+        }
+        count = count.saturating_add(1);
+        callee = next_callee(callees, packed);
+    }
+    count
 }
 
 /// The words that an instruction compares with what else it compares, where they are known of variables.

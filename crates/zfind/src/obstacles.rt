@@ -1,17 +1,18 @@
 //! What stands in the way of every certificate.
 
 ghost use Rattle.std.specs.Prelude.{◌≡◌, IfErr, IfOk, IfSome, IsTrue};
-ghost use Rattle.zfind.specs.Attempts.{IsNamed};
+ghost use Rattle.zfind.specs.Attempts.{IsSight};
 ghost use Rattle.zfind.specs.Finding.{IsAtStart, IsBrokenIn, IsFailure, IsLasting, IsMet, IsTold, IsWrongWith};
 ghost use Rattle.zfind.specs.declared.error.FindError.TheVariants.{OutOfMemory, RoundLimit};
 
 use crate::certificate::certificate_of;
 use crate::code::Code;
 use crate::error::{FindError, Obstacle};
-use crate::finding::{listing_of, tried};
+use crate::finding::{MOST_EXTENSIONS, listing_of, wider};
 use crate::walk::Walk;
 use std::alloc::Global;
 use zcert::Certificate;
+use zcheck::examine;
 use zcode::decode;
 use zdomain::Interval;
 use zlist::Listing;
@@ -30,6 +31,15 @@ const MOMENTS: usize = 8;
 /// How many are visited between two such times.
 const VISITS_BETWEEN: u32 = 7;
 
+/// What is seen of a listing.
+#[derive(Drop)]
+enum Sight {
+    /// This stands in the way.
+    Told(Option<Obstacle>),
+    /// Nothing yet, and this is listed next.
+    Wider(Listing),
+}
+
 /// What stands in the way of every certificate of a story, as far as that is found out (own): that no instruction stands where play begins,
 /// and else the first rule that is broken by a certificate which says no more than any other. `None` where none is found, and where
 /// what the story lists is at fault elsewhere, since a certificate may leave that out. The one error is want of memory.
@@ -41,7 +51,7 @@ pub fn broken_in_all(alloc: Global, story: &Story) -> Result<Option<Obstacle>, F
     ensures memory { IfErr result (λ error. error ≡ OutOfMemory) }
 {
     match listing_of(alloc, story) {
-        Ok(listing) => broken_in_listed(alloc, story, &listing),
+        Ok(listing) => broken_in_listed(alloc, story, listing),
         Err(fault) => certain_fault(story, fault),
     }
 }
@@ -80,34 +90,62 @@ fn is_at_start(story: &Story, obstacle: Obstacle) -> bool
     }
 }
 
-/// The same of a story that has a listing.
-#[tactic(auto, using(crate::proofs::Telling::met_where_broken))]
+/// The same of a story that has a listing. Where routines are called through variables alone, each certificate lists them too.
 fn broken_in_listed(
     alloc: Global,
     story: &Story,
-    listing: &Listing,
+    first: Listing,
 ) -> Result<Option<Obstacle>, FindError>
     ensures told { IfOk result (λ obstacle. IfSome obstacle (IsMet story.now)) }
     ensures memory { IfErr result (λ error. error ≡ OutOfMemory) }
 {
+    let mut listing = first;
+    for _ in 0..MOST_EXTENSIONS {
+        match broken_so_far(alloc, story, &listing)? {
+            Sight::Told(told) => return Ok(told),
+            Sight::Wider(more) => listing = more,
+        }
+    }
+    Ok(None)
+}
+
+/// The same of a listing, or what is listed next.
+fn broken_so_far(alloc: Global, story: &Story, listing: &Listing) -> Result<Sight, FindError>
+    ensures sight { IfOk result (IsSight story.now) }
+    ensures memory { IfErr result (λ error. error ≡ OutOfMemory) }
+{
     let code = Code::new(alloc, story, listing)?.waiting();
     let mut walk = Walk::fair(alloc, &code)?;
+    if let Some(obstacle) = broken_in_code(alloc, story, &code, &mut walk)? {
+        return Ok(Sight::Told(Some(obstacle)));
+    }
+    match wider(alloc, &code, walk.into_wanted())? {
+        Some(more) => Ok(Sight::Wider(more)),
+        None => Ok(Sight::Told(None)),
+    }
+}
+
+/// The same of what is listed.
+#[tactic(auto, using(crate::proofs::Telling::met_where_broken))]
+fn broken_in_code(
+    alloc: Global,
+    story: &Story,
+    code: &Code<'_>,
+    walk: &mut Walk<'_, Interval>,
+) -> Result<Option<Obstacle>, FindError>
+    ensures told { IfOk result (λ obstacle. IfSome obstacle (IsMet story.now)) }
+    ensures memory { IfErr result (λ error. error ≡ OutOfMemory) }
+{
     let mut left = MOST_FAIR_VISITS;
     for _ in 0..MOMENTS {
         let grown = walk.grow(&mut left);
-        let certificate = certificate_of(alloc, &code, &mut walk)?;
+        let certificate = certificate_of(alloc, code, walk)?;
         match grown {
-            Ok(()) if walk.waits() => return Ok(certain_obstacle(
-                story,
-                &code,
-                &walk,
-                &certificate,
-            )),
-            Ok(()) => return obstacle_for(story, certificate),
+            Ok(()) => return Ok(obstacle_at_end(story, code, walk, &certificate)),
             Err(FindError::RoundLimit) => {}
             Err(error) => return Err(error),
         }
-        if let Some(obstacle) = certain_obstacle(story, &code, &walk, &certificate) {
+        if let Some(obstacle) = certain_obstacle(story, code, walk, &certificate) {
             return Ok(Some(obstacle));
         }
         left = VISITS_BETWEEN;
@@ -115,28 +153,49 @@ fn broken_in_listed(
     Ok(None)
 }
 
-/// What the checker says first of a certificate that says no more than any other.
-#[tactic(auto, using(crate::proofs::Telling::wrong_where_tried, crate::proofs::Telling::met_where_tried))]
-fn obstacle_for(story: &Story, certificate: Certificate) -> Result<Option<Obstacle>, FindError>
-    ensures told { IfOk result (λ obstacle. IfSome obstacle (IsWrongWith story.now certificate)) }
-    ensures met { IfOk result (λ obstacle. IfSome obstacle (IsMet story.now)) }
-    ensures memory { IfErr result (λ error. error ≡ OutOfMemory) }
+/// What the checker says first of the certificate of a walk that is at its end, where more can't mend it, and else the first rule that is
+/// broken so.
+#[tactic(auto, using(crate::proofs::Telling::met_where_wrong, crate::proofs::Telling::met_where_broken))]
+fn obstacle_at_end(
+    story: &Story,
+    code: &Code<'_>,
+    walk: &Walk<'_, Interval>,
+    certificate: &Certificate,
+) -> Option<Obstacle>
+    ensures { IfSome result (IsMet story.now) }
 {
-    match tried(story, certificate) {
-        Ok(_) => Ok(None),
-        Err(error) => obstacle_in(error),
+    let first = obstacle_for(story, certificate)?;
+    if is_known_at_end(story, code, walk, certificate, first) {
+        return Some(first);
+    }
+    certain_obstacle(story, code, walk, certificate)
+}
+
+/// What the checker says first of a certificate.
+fn obstacle_for(story: &Story, certificate: &Certificate) -> Option<Obstacle>
+    ensures { IfSome result (IsWrongWith story.now certificate.now) }
+{
+    match FindError::from(examine(story, certificate)?) {
+        FindError::NotFound(obstacle) => Some(obstacle),
+        _ => None,
     }
 }
 
-/// What stands in the way, where it isn't too many visits.
-fn obstacle_in(error: FindError) -> Result<Option<Obstacle>, FindError>
-    requires { error ≡ RoundLimit → ⊥ }
-    ensures told { IfOk result (IsNamed error) }
-    ensures memory { IfErr result (λ error. error ≡ OutOfMemory) }
-{
-    match error {
-        FindError::NotFound(obstacle) => Ok(Some(obstacle)),
-        _ => Err(error),
+/// Whether all is known at the end of a walk that this speaks of: it isn't said of a call of which it is waited for what comes back.
+fn is_known_at_end(
+    story: &Story,
+    code: &Code<'_>,
+    walk: &Walk<'_, Interval>,
+    certificate: &Certificate,
+    obstacle: Obstacle,
+) -> bool {
+    let Obstacle::Place(place, _) = obstacle else {
+        return true;
+    };
+    let tables = Tables::new(story, certificate.ranges());
+    match code.index_behind(0, place) {
+        Some(index) => !walk.awaits_at(&tables, index),
+        None => true,
     }
 }
 
@@ -172,7 +231,7 @@ fn certain_obstacle(
     None
 }
 
-/// Whether the instruction at an address is to be visited, or calls a routine that the story doesn't list, and a certificate may.
+/// Whether the instruction at an address is to be visited, or calls a routine that is to be listed yet.
 fn is_waiting(
     code: &Code<'_>,
     walk: &Walk<'_, Interval>,
@@ -186,14 +245,14 @@ fn is_waiting(
 }
 
 /// Whether a rule that is broken now stays broken when more is found. Where an instruction leads to, what it gives and which bytes it opens
-/// is said only once it was visited, and what comes back only once a routine returned; and of a routine that the story doesn't list,
-/// nothing is said.
+/// is said only once it was visited, and what comes back only once a routine returned; and of a routine that isn't listed yet, nothing is
+/// said.
 fn is_certain(rule: Rule, is_waiting: bool) -> bool
     ensures { IsTrue result → IsLasting rule }
 {
     match rule {
         Rule::Successor | Rule::Returned | Rule::Stored => false,
-        Rule::Called | Rule::Write => !is_waiting,
+        Rule::Called | Rule::Write | Rule::Buffers => !is_waiting,
         _ => true,
     }
 }

@@ -5,11 +5,11 @@ ghost use Rattle.zfind.specs.Finding.{IsStopped};
 
 use crate::code::Code;
 use crate::error::FindError;
-use crate::looking::look;
+use crate::looking::{followed_by, look};
 use crate::state::{Plan, State};
-use crate::visits::count_visit;
+use crate::visits::{count_more, count_visit};
 use crate::walk::Walk;
-use std::alloc::{AllocError, Global};
+use std::alloc::Global;
 use zdomain::Domain;
 use zruns::Tables;
 
@@ -31,7 +31,7 @@ pub(crate) fn settled<V: Domain>(
         if walk.state.is_reached(index) {
             count_visit(left)?;
         }
-        settle(alloc, code, &tables, &walk.state, &mut next, index)?;
+        settle(alloc, code, &tables, &walk.state, &mut next, index, left)?;
     }
     Ok(next.into_state())
 }
@@ -44,12 +44,18 @@ fn settle<V: Domain>(
     state: &State<V>,
     next: &mut Walk<'_, V>,
     index: usize,
-) -> Result<(), AllocError> {
+    left: &mut u32,
+) -> Result<(), FindError>
+    ensures fewer { left.new ≤ left.old }
+    ensures stopped { IfErr result (IsStopped left.new) }
+{
     let Some(record) = code.records().get(index) else {
         return Ok(());
     };
-    match look(alloc, code, tables, state, record, index)? {
-        Some(seen) => next.apply(index, record, &seen.effects),
-        None => Ok(()),
-    }
+    let Some(seen) = look(alloc, code, tables, state, record, index)? else {
+        return Ok(());
+    };
+    count_more(left, followed_by(code, &seen.effects))?;
+    next.apply(index, state.routine_at(index), &seen.effects)?;
+    Ok(())
 }

@@ -16,6 +16,8 @@ const MOST_GROWTHS: u16 = 200;
 #[derive(Clone, Copy)]
 struct Spot {
     start: usize,
+    /// Whose code it is, where it was reached.
+    routine: u16,
     locals: u8,
     height: u8,
     is_reached: bool,
@@ -62,6 +64,8 @@ pub(crate) struct Plan<V> {
     pub(crate) delay: u16,
     /// Whether anything is widened.
     pub(crate) widens: bool,
+    /// What a routine is said to give that never returns, if that is said.
+    pub(crate) unreturned: Option<V>,
     /// Whether nothing was widened too far by the walk before, so that one like it finds nothing else.
     pub(crate) is_settled: bool,
 }
@@ -82,24 +86,26 @@ impl Growths {
 }
 
 impl<V: Domain> Plan<V> {
-    /// Sets are widened to these thresholds.
-    pub(crate) fn widening(thresholds: Thresholds) -> Plan<V> {
+    /// Sets are widened to these thresholds, and a routine that never returns is said to give this.
+    pub(crate) fn widening(thresholds: Thresholds, unreturned: V) -> Plan<V> {
         Plan {
             thresholds,
             caps: None,
             delay: 0,
             widens: true,
+            unreturned: Some(unreturned),
             is_settled: false,
         }
     }
 
-    /// Nothing is widened.
+    /// Nothing is widened, and nothing said of a routine that never returns.
     pub(crate) fn joining(alloc: Global) -> Plan<V> {
         Plan {
             thresholds: Thresholds::none(alloc),
             caps: None,
             delay: 0,
             widens: false,
+            unreturned: None,
             is_settled: false,
         }
     }
@@ -123,6 +129,7 @@ impl<V: Domain> State<V> {
     pub(crate) fn new(alloc: Global, code: &Code<'_>) -> Result<State<V>, AllocError> {
         let spot = Spot {
             start: 0,
+            routine: 0,
             locals: 0,
             height: 0,
             is_reached: false,
@@ -187,19 +194,29 @@ impl<V: Domain> State<V> {
         self.sets_of(spot).get(offset).copied()
     }
 
-    /// Says of a place what is known on a way to it too, and whether that was news. Nothing is said where the heights differ.
+    /// The number of the routine whose code a place is, where it was reached.
+    pub(crate) fn routine_at(&self, index: usize) -> u16 {
+        match self.reached_spot(index) {
+            Some(spot) => spot.routine,
+            None => 0,
+        }
+    }
+
+    /// Says of a place what is known on a way to it too, by the code of a routine, and whether that was news. Nothing is said where it is
+    /// another routine's, or the heights differ.
     pub(crate) fn join_place(
         &mut self,
         plan: &Plan<V>,
         index: usize,
+        routine: u16,
         frame: &Frame<V>,
         may_widen: bool,
     ) -> Result<bool, AllocError> {
         let Some(spot) = self.reached_spot(index) else {
-            self.reach(index, frame)?;
+            self.reach(index, routine, frame)?;
             return Ok(true);
         };
-        if !has_shape(spot, frame) {
+        if spot.routine != routine || !has_shape(spot, frame) {
             return Ok(false);
         }
         let widens = spot.growths.are_enough(may_widen, plan);
@@ -214,13 +231,14 @@ impl<V: Domain> State<V> {
         Ok(is_new)
     }
 
-    /// Says of a place what is known on the first way to it.
-    fn reach(&mut self, index: usize, frame: &Frame<V>) -> Result<(), AllocError> {
+    /// Says of a place what is known on the first way to it, by the code of a routine.
+    fn reach(&mut self, index: usize, routine: u16, frame: &Frame<V>) -> Result<(), AllocError> {
         let start = self.sets.len();
         self.sets.extend_from_slice(frame.sets())?;
         if let Some(spot) = self.spots.get_mut(index) {
             *spot = Spot {
                 start,
+                routine,
                 locals: frame.local_count().min(15) as u8,
                 height: frame.height().min(64) as u8,
                 is_reached: true,

@@ -21,3 +21,20 @@ pub(crate) fn count_visit(left: &mut u32) -> Result<(), FindError>
         None => Err(FindError::RoundLimit),
     }
 }
+
+/// Counts so many visits more, if they are left; else none is left behind.
+pub(crate) fn count_more(left: &mut u32, more: u32) -> Result<(), FindError>
+    ensures counted { OnOk result (left.new + more ≡ left.old) }
+    ensures limit { IfErr result (λ error. (error ≡ RoundLimit) × (left.new ≡ 0)) }
+{
+    match left.checked_sub(more) {
+        Some(fewer) => {
+            *left = fewer;
+            Ok(())
+        }
+        None => {
+            *left = 0;
+            Err(FindError::RoundLimit)
+        }
+    }
+}

@@ -5,19 +5,21 @@ ghost use Rattle.zfind.specs.Finding.{IsStopped};
 
 use crate::bytes::{Bytes, Span};
 use crate::code::{Code, short};
-use crate::effects::{Calls, Effect, Effects, MOST_CALLEES, is_waited_for, next_callee};
+use crate::effects::{Calls, Effect, Effects, Naming, WORDS, is_awaited, naming_of, next_callee};
 use crate::error::FindError;
 use crate::frame::Frame;
 use crate::groups::Groups;
-use crate::looking::{callees_at, look};
+use crate::looking::{callees_at, followed_by, look};
 use crate::openings::open_written;
 use crate::queue::Queue;
 use crate::state::{Plan, State};
-use crate::visits::count_visit;
+use crate::visits::{count_more, count_visit};
 use std::alloc::{AllocError, Global};
 use zdomain::Domain;
-use zlist::Record;
 use zruns::Tables;
+
+/// How often routines that never return are told from those that wait for them, so that each walk ends soon.
+const MOST_ENDINGS: u16 = 64;
 
 /// A walk: what is known so far, and which instructions are to be visited since that grew.
 #[derive(Drop)]
@@ -38,8 +40,14 @@ pub(crate) struct Walk<'a, V> {
     found: u32,
     /// How often each instruction was visited, where those come first that were visited least.
     visits: Option<Vec<u32>>,
-    /// Whether a routine was called that it is waited for.
+    /// Whether each instruction calls what nothing is known to come back of.
+    stuck: Vec<bool>,
+    /// Whether a routine is called at each packed address that isn't listed yet.
+    wanted: Vec<bool>,
+    /// Whether there is one.
     waits: bool,
+    /// How often it was said of routines what they give that never return.
+    endings: u16,
 }
 
 impl<'a, V: Domain> Walk<'a, V> {
@@ -62,15 +70,19 @@ impl<'a, V: Domain> Walk<'a, V> {
             ranks: vec![in alloc; 0; code.routines().len().saturating_add(1)]?,
             found: 0,
             visits: None,
+            stuck: vec![in alloc; false; count]?,
+            wanted: vec![in alloc; false; WORDS]?,
             waits: false,
+            endings: 0,
         };
         if let Some(first) = code.first() {
-            walk.join(first, &Frame::empty(alloc), false)?;
+            walk.join(first, 0, &Frame::empty(alloc), false)?;
         }
         Ok(walk)
     }
 
-    /// One that widens nothing, where those instructions come first that were visited least.
+    /// One that widens nothing, and doesn't go on behind a call of a routine that never returns. Those instructions come first that were
+    /// visited least.
     pub(crate) fn fair(alloc: Global, code: &'a Code<'a>) -> Result<Walk<'a, V>, AllocError> {
         let mut walk = Walk::new(alloc, code, Plan::joining(alloc))?;
         walk.visits = Some(vec![in alloc; 0; code.records().len()]?);
@@ -87,6 +99,16 @@ impl<'a, V: Domain> Walk<'a, V> {
         self.plan
     }
 
+    /// Whether a routine is to be listed before more is found.
+    pub(crate) fn is_wanting(&self) -> bool {
+        self.waits
+    }
+
+    /// Whether a routine is to be listed at each packed address, if one is.
+    pub(crate) fn into_wanted(self) -> Option<Vec<bool>> {
+        self.waits.then_some(self.wanted)
+    }
+
     /// Walks until nothing more is found, with at most so many visits. What looks where bytes were opened is visited once more when
     /// nothing else is left, so that tables are seldom made: the first visit behind that is made here, and the others of its round by `run`.
     pub(crate) fn grow(&mut self, left: &mut u32) -> Result<(), FindError>
@@ -98,7 +120,7 @@ impl<'a, V: Domain> Walk<'a, V> {
             self.queue.remove_next();
             let ranges = self.bytes.ranges(self.alloc)?;
             let tables = Tables::new(self.code.story, &ranges);
-            self.visit(&tables, index)?;
+            self.visit(&tables, index, left)?;
             self.run(&tables, left)?;
             self.wake_more()?;
         }
@@ -113,39 +135,96 @@ impl<'a, V: Domain> Walk<'a, V> {
         while let Some(index) = self.queue.next() {
             count_visit(left)?;
             self.queue.remove_next();
-            self.visit(tables, index)?;
+            self.visit(tables, index, left)?;
         }
         Ok(())
     }
 
     /// Has those visited that were put off: what looked where bytes were opened, and, where there is none, what waits for a routine that
-    /// never returns. Where it is waited for a routine, none is known to be such a one.
+    /// never returns. Where a routine is to be listed yet, none is known to be such a one.
     fn wake_more(&mut self) -> Result<(), AllocError> {
         self.wake_outdated()?;
-        if self.queue.is_empty() && !self.waits {
-            self.end_routines()?;
+        match self.plan.unreturned {
+            Some(given) if self.queue.is_empty() && !self.waits => self.end_routines(given),
+            _ => Ok(()),
+        }
+    }
+
+    /// Says of routines that never return what they give, since a certificate says something of that: of those that wait for no other,
+    /// and of all where each does.
+    fn end_routines(&mut self, given: V) -> Result<(), AllocError> {
+        if !self.has_unreturned() {
+            return Ok(());
+        }
+        self.endings = self.endings.saturating_add(1);
+        let waiting = self.waiting_routines()?;
+        for below in 0..self.routine_count() {
+            if !is_marked(&waiting, below + 1) {
+                self.end_routine(below + 1, given)?;
+            }
+        }
+        if !self.queue.is_empty() {
+            return Ok(());
+        }
+        for below in 0..self.routine_count() {
+            self.end_routine(below + 1, given)?;
         }
         Ok(())
     }
 
-    /// Says of each routine that was entered and never returns that it gives 0, since a certificate says something of what it gives.
-    fn end_routines(&mut self) -> Result<(), AllocError> {
-        for below in 0..self.code.routines().len().min(0xffff) {
-            self.end_routine(below as u16 + 1)?;
+    /// How many routines are listed.
+    fn routine_count(&self) -> u16 {
+        self.code.routines().len().min(0xffff) as u16
+    }
+
+    /// Says what a routine gives, by its number, if it was entered and never returns.
+    fn end_routine(&mut self, number: u16, given: V) -> Result<(), AllocError> {
+        if self.is_unreturned(number) {
+            self.give_back(number, given)?;
         }
         Ok(())
     }
 
-    /// Says so of a routine, by its number, if it was entered and never returns.
-    fn end_routine(&mut self, number: u16) -> Result<(), AllocError> {
-        if self.is_entered(number) && self.state.result(number).is_none() {
-            self.give_back(number, V::single(0))?;
+    /// Whether each routine, by its number, waits for another that it calls. After many endings that is said of none.
+    fn waiting_routines(&self) -> Result<Vec<bool>, AllocError> {
+        let count = usize::from(self.routine_count()) + 1;
+        let mut waiting = vec![in self.alloc; false; count]?;
+        if self.endings > MOST_ENDINGS {
+            return Ok(waiting);
         }
-        Ok(())
+        for (index, is_stuck) in self.stuck.iter().enumerate() {
+            if *is_stuck {
+                mark(&mut waiting, usize::from(self.state.routine_at(index)));
+            }
+        }
+        Ok(waiting)
     }
 
-    /// Visits an instruction.
-    fn visit(&mut self, tables: &Tables<'_>, index: usize) -> Result<(), AllocError> {
+    /// Whether a routine was entered, by its number, and never returned as far as is known.
+    fn is_unreturned(&self, number: u16) -> bool {
+        self.is_entered(number) && self.state.result(number).is_none()
+    }
+
+    /// Whether there is such a one.
+    fn has_unreturned(&self) -> bool {
+        for below in 0..self.routine_count() {
+            if self.is_unreturned(below + 1) {
+                return true;
+            }
+        }
+        false
+    }
+
+    /// Whether it was said of a routine what it gives that never returns.
+    pub(crate) fn has_ended_routines(&self) -> bool {
+        self.endings > 0
+    }
+
+    /// Visits an instruction. Each routine that it calls behind the first is one more visit.
+    fn visit(&mut self, tables: &Tables<'_>, index: usize, left: &mut u32) -> Result<(), FindError>
+        ensures fewer { left.new ≤ left.old }
+        ensures stopped { IfErr result (IsStopped left.new) }
+    {
         let code = self.code;
         let Some(record) = code.records().get(index) else {
             return Ok(());
@@ -153,11 +232,17 @@ impl<'a, V: Domain> Walk<'a, V> {
         let Some(seen) = look(self.alloc, code, tables, &self.state, record, index)? else {
             return Ok(());
         };
+        if let Err(error) = count_more(left, followed_by(code, &seen.effects)) {
+            self.wake(index)?;
+            return Err(error);
+        }
         self.note_visit(index, seen.reach);
         open_written(code, &mut self.bytes, &seen.demands);
         self.note_loaders();
         self.learn(seen.learned)?;
-        self.apply(index, record, &seen.effects)
+        let routine = self.state.routine_at(index);
+        self.apply(index, routine, &seen.effects)?;
+        Ok(())
     }
 
     /// Notes where an instruction looked, and that it was visited once more.
@@ -185,18 +270,18 @@ impl<'a, V: Domain> Walk<'a, V> {
         Ok(())
     }
 
-    /// Does what an instruction does.
+    /// Does what an instruction of a routine does.
     pub(crate) fn apply(
         &mut self,
         index: usize,
-        record: &Record,
+        routine: u16,
         effects: &Effects<V>,
     ) -> Result<(), AllocError> {
         if let Some(effect) = &effects.held {
-            self.apply_effect(index, record, effect)?;
+            self.apply_effect(index, routine, effect)?;
         }
         if let Some(effect) = &effects.failed {
-            self.apply_effect(index, record, effect)?;
+            self.apply_effect(index, routine, effect)?;
         }
         Ok(())
     }
@@ -205,19 +290,20 @@ impl<'a, V: Domain> Walk<'a, V> {
     fn apply_effect(
         &mut self,
         index: usize,
-        record: &Record,
+        routine: u16,
         effect: &Effect<V>,
     ) -> Result<(), AllocError> {
         self.store(effect.assigned)?;
         self.store(effect.given)?;
         if let Some(set) = effect.returned {
-            self.give_back(record.routine, set)?;
+            self.give_back(routine, set)?;
         }
         if let Some(calls) = &effect.calls {
+            self.note_call(index, calls);
             self.enter_each(calls)?;
         }
         match effect.to {
-            Some(to) => self.join(to, &effect.frame, to <= index),
+            Some(to) => self.join(to, routine, &effect.frame, to <= index),
             None => Ok(()),
         }
     }
@@ -245,21 +331,37 @@ impl<'a, V: Domain> Walk<'a, V> {
         Ok(())
     }
 
-    /// Enters each routine that is called, up to the first that isn't listed.
+    /// Notes whether it is known of anything that it comes back of a call.
+    fn note_call(&mut self, index: usize, calls: &Calls<V>) {
+        if let Some(mark) = self.stuck.get_mut(index) {
+            *mark = !calls.comes_back;
+        }
+    }
+
+    /// Enters each routine that is called, or has it listed; up to the first that isn't listed, where one can't be.
     fn enter_each(&mut self, calls: &Calls<V>) -> Result<(), AllocError> {
+        let naming = naming_of(self.code, calls.callees);
         let mut callee = calls.callees.least_from(1);
-        for _ in 0..MOST_CALLEES {
+        for _ in 0..WORDS {
             let Some(packed) = callee else {
                 return Ok(());
             };
-            let Some(number) = self.code.routine_of(packed) else {
-                self.waits = self.waits || is_waited_for(self.code, calls.callees);
-                return Ok(());
-            };
-            self.enter(number, calls)?;
+            match self.code.routine_of(packed) {
+                Some(number) => self.enter(number, calls)?,
+                None if naming == Naming::Listable => self.want(packed),
+                None => return Ok(()),
+            }
             callee = next_callee(calls.callees, packed);
         }
         Ok(())
+    }
+
+    /// Notes that the routine at a packed address is to be listed, where it is waited for that.
+    fn want(&mut self, packed: u16) {
+        if self.code.waits() {
+            mark(&mut self.wanted, usize::from(packed));
+            self.waits = true;
+        }
     }
 
     /// Enters a routine.
@@ -276,7 +378,7 @@ impl<'a, V: Domain> Walk<'a, V> {
             })?;
         }
         frame.end_locals();
-        self.join(entry, &frame, self.code.is_recursive(number))
+        self.join(entry, number, &frame, self.code.is_recursive(number))
     }
 
     /// Gives a routine its rank, if it has none.
@@ -291,12 +393,21 @@ impl<'a, V: Domain> Walk<'a, V> {
 
     /// Whether a routine was entered, by its number.
     pub(crate) fn is_entered(&self, number: u16) -> bool {
-        self.ranks.get(usize::from(number)).copied().unwrap_or(0) > 0
+        self.routine_rank(number) > 0
     }
 
-    /// Says what is known on a way to a place, which is visited where that is news.
-    fn join(&mut self, to: usize, frame: &Frame<V>, may_widen: bool) -> Result<(), AllocError> {
-        if self.state.join_place(&self.plan, to, frame, may_widen)? {
+    /// Says what is known on a way to a place by the code of a routine; the place is visited where that is news.
+    fn join(
+        &mut self,
+        to: usize,
+        routine: u16,
+        frame: &Frame<V>,
+        may_widen: bool,
+    ) -> Result<(), AllocError> {
+        if self
+            .state
+            .join_place(&self.plan, to, routine, frame, may_widen)?
+        {
             self.wake(to)?;
         }
         Ok(())
@@ -307,18 +418,24 @@ impl<'a, V: Domain> Walk<'a, V> {
         self.queue.has(index)
     }
 
-    /// Whether a routine was called that it is waited for.
-    pub(crate) fn waits(&self) -> bool {
-        self.waits
-    }
-
-    /// Whether an instruction calls such a one.
+    /// Whether an instruction calls a routine that is to be listed yet.
     pub(crate) fn waits_at(&self, tables: &Tables<'_>, index: usize) -> bool {
         let Some(record) = self.code.records().get(index) else {
             return false;
         };
         match callees_at(self.alloc, self.code, tables, &self.state, record, index) {
-            Some(callees) => is_waited_for(self.code, callees),
+            Some(callees) => naming_of(self.code, callees) == Naming::Listable,
+            None => false,
+        }
+    }
+
+    /// Whether an instruction calls a routine of which nothing is known that it gives.
+    pub(crate) fn awaits_at(&self, tables: &Tables<'_>, index: usize) -> bool {
+        let Some(record) = self.code.records().get(index) else {
+            return false;
+        };
+        match callees_at(self.alloc, self.code, tables, &self.state, record, index) {
+            Some(callees) => is_awaited(self.code, &self.state, callees),
             None => false,
         }
     }
@@ -336,20 +453,13 @@ impl<'a, V: Domain> Walk<'a, V> {
     fn rank_of(&self, index: usize) -> u32 {
         match &self.visits {
             Some(visits) => u32::MAX - visits.get(index).copied().unwrap_or(0),
-            None => self.routine_rank(index),
+            None => self.routine_rank(self.state.routine_at(index)),
         }
     }
 
-    /// That of its routine.
-    fn routine_rank(&self, index: usize) -> u32 {
-        match self.code.records().get(index) {
-            Some(record) => self
-                .ranks
-                .get(usize::from(record.routine))
-                .copied()
-                .unwrap_or(0),
-            None => 0,
-        }
+    /// That of a routine, by its number.
+    fn routine_rank(&self, number: u16) -> u32 {
+        self.ranks.get(usize::from(number)).copied().unwrap_or(0)
     }
 
     /// Has all visited that reads a global.
@@ -429,4 +539,16 @@ impl<'a, V: Domain> Walk<'a, V> {
             _ => false,
         }
     }
+}
+
+/// Marks what has a number.
+fn mark(marks: &mut Vec<bool>, number: usize) {
+    if let Some(mark) = marks.get_mut(number) {
+        *mark = true;
+    }
+}
+
+/// Whether what has a number is marked.
+fn is_marked(marks: &[bool], number: u16) -> bool {
+    marks.get(usize::from(number)).copied().unwrap_or(false)
 }

@@ -1,0 +1,230 @@
+//! Listings of more than a story lists: with routines that are called through a variable alone.
+
+use crate::code::{Code, short};
+use std::alloc::{AllocError, Global};
+use zcode::{Destination, Instr, Operand, Operation, decode_by};
+use zlist::{Listing, Record};
+use ztext::TextEnds;
+
+/// What is listed so far.
+#[derive(Drop)]
+struct Places<'a> {
+    code: &'a Code<'a>,
+    /// What stands at each address.
+    standing: Vec<Option<Instr>>,
+    /// Whose code each listed address is, by the address of the routine; that of the main code is 0.
+    owners: Vec<Option<u32>>,
+    /// Whether a routine is listed at each address.
+    heads: Vec<bool>,
+    /// The addresses whose instructions are to be followed.
+    waiting: Vec<usize>,
+}
+
+/// A listing of what is listed and of the routines at these packed addresses, with what their code leads to and calls by constants.
+/// It may list more than play reaches, and a place that two routines lead to as that of either, since a walk finds whose it is.
+pub(crate) fn extended(
+    alloc: Global,
+    code: &Code<'_>,
+    wanted: &[bool],
+) -> Result<Option<Listing>, AllocError> {
+    let mut places = Places::new(alloc, code)?;
+    for (packed, is_wanted) in wanted.iter().enumerate() {
+        if *is_wanted {
+            places.enter(packed.min(0xffff) as u16)?;
+        }
+    }
+    places.follow_all()?;
+    places.into_listing(alloc)
+}
+
+impl<'a> Places<'a> {
+    /// Those that are listed.
+    fn new(alloc: Global, code: &'a Code<'a>) -> Result<Places<'a>, AllocError> {
+        let count = code.story.memory().len();
+        let mut places = Places {
+            code,
+            standing: all_standing(alloc, code)?,
+            owners: vec![in alloc; None; count]?,
+            heads: vec![in alloc; false; count]?,
+            waiting: Vec::new(alloc),
+        };
+        for record in code.records() {
+            places.own(record.address as usize, code.owner_of(record.routine));
+        }
+        for head in code.routines() {
+            places.note_head(*head as usize);
+        }
+        Ok(places)
+    }
+
+    /// Notes whose code an address is, and says whether it was nobody's.
+    fn own(&mut self, address: usize, owner: u32) -> bool {
+        match self.owners.get_mut(address) {
+            Some(there) if there.is_none() => {
+                *there = Some(owner);
+                true
+            }
+            _ => false,
+        }
+    }
+
+    /// Notes that a routine is listed at an address.
+    fn note_head(&mut self, address: usize) {
+        if let Some(mark) = self.heads.get_mut(address) {
+            *mark = true;
+        }
+    }
+
+    /// Lists the routine at a packed address, if a head stands there.
+    fn enter(&mut self, packed: u16) -> Result<(), AllocError> {
+        if packed == 0 || !self.code.has_head(packed) {
+            return Ok(());
+        }
+        let head = 2 * usize::from(packed);
+        self.note_head(head);
+        let words = 2 * usize::from(self.code.byte_at(head));
+        self.reach(head + 1 + words, 2 * u32::from(packed))
+    }
+
+    /// Lists an address as a routine's code, if it isn't listed.
+    fn reach(&mut self, address: usize, owner: u32) -> Result<(), AllocError> {
+        if self.own(address, owner) {
+            self.waiting.push(address)?;
+        }
+        Ok(())
+    }
+
+    /// Follows what waits. Each address waits once at most.
+    fn follow_all(&mut self) -> Result<(), AllocError> {
+        for _ in 0..self.owners.len() {
+            let Some(address) = self.waiting.pop() else {
+                return Ok(());
+            };
+            self.follow(address)?;
+        }
+        Ok(())
+    }
+
+    /// Lists what the instruction at an address leads to and calls.
+    fn follow(&mut self, address: usize) -> Result<(), AllocError> {
+        let (Some(instruction), Some(owner)) = (self.at(address), self.owner_at(address)) else {
+            return Ok(());
+        };
+        let next = address.saturating_add(instruction.length());
+        if goes_on(instruction.opcode().operation()) {
+            self.reach(next, owner)?;
+        }
+        if let Some(aside) = aside_place(next, &instruction) {
+            self.reach(aside, owner)?;
+        }
+        match callee(&instruction) {
+            Some(packed) => self.enter(packed),
+            None => Ok(()),
+        }
+    }
+
+    /// The instruction at an address.
+    fn at(&self, address: usize) -> Option<Instr> {
+        *self.standing.get(address)?
+    }
+
+    /// Whose code an address is.
+    fn owner_at(&self, address: usize) -> Option<u32> {
+        *self.owners.get(address)?
+    }
+
+    /// The listing of them. There is one, since what is gone through rises.
+    fn into_listing(self, alloc: Global) -> Result<Option<Listing>, AllocError> {
+        let routines = self.routines(alloc)?;
+        let records = self.records(alloc, &routines)?;
+        if !Listing::is_in_order(&records, &routines) {
+            return Ok(None);
+        }
+        Ok(Some(Listing::new(alloc, records, routines)?))
+    }
+
+    /// The addresses of the routines, rising.
+    fn routines(&self, alloc: Global) -> Result<Vec<u32>, AllocError> {
+        let mut routines = Vec::new(alloc);
+        for (address, is_head) in self.heads.iter().enumerate() {
+            if *is_head {
+                routines.push(short(address))?;
+            }
+        }
+        Ok(routines)
+    }
+
+    /// The instructions, by rising addresses.
+    fn records(&self, alloc: Global, routines: &[u32]) -> Result<Vec<Record>, AllocError> {
+        let mut records = Vec::new(alloc);
+        for (address, owner) in self.owners.iter().enumerate() {
+            if let (Some(owner), Some(instruction)) = (*owner, self.at(address)) {
+                records.push(Record {
+                    address: short(address),
+                    routine: number_of(routines, owner),
+                    instruction,
+                })?;
+            }
+        }
+        Ok(records)
+    }
+}
+
+/// What stands at each address of a story. Each is read once, by rising addresses, so that each text is gone over once.
+fn all_standing(alloc: Global, code: &Code<'_>) -> Result<Vec<Option<Instr>>, AllocError> {
+    let mut ends = TextEnds::new(code.story.memory());
+    let mut standing = Vec::new(alloc);
+    for address in 0..code.story.memory().len() {
+        standing.push(decode_by(&mut ends, address).ok())?;
+    }
+    Ok(standing)
+}
+
+/// The number of the routine at an address, among those that are listed; 0 for the main code.
+fn number_of(routines: &[u32], owner: u32) -> u16 {
+    match routines.binary_search(&owner) {
+        Ok(before) => (before.min(0xfffe) + 1) as u16,
+        Err(_) => 0,
+    }
+}
+
+/// Whether play may go on behind an instruction.
+fn goes_on(operation: Operation) -> bool {
+    !matches!(
+        operation,
+        Operation::Jump
+            | Operation::Quit
+            | Operation::Return
+            | Operation::PrintReturn
+            | Operation::Restart
+    )
+}
+
+/// Where an instruction may lead elsewhere, which ends at an address: by a jump of a known distance, or a branch.
+fn aside_place(next: usize, instruction: &Instr) -> Option<usize> {
+    let place = i64::try_from(next)
+        .ok()?
+        .checked_add(i64::from(aside(instruction)?))?;
+    usize::try_from(place).ok()
+}
+
+/// How far that is.
+fn aside(instruction: &Instr) -> Option<i32> {
+    let operands = instruction.operands();
+    match (instruction.opcode().operation(), operands.as_slice()) {
+        (Operation::Jump, [Operand::Constant(word)]) => Some(i32::from(word.cast_signed()) - 2),
+        _ => match instruction.branch()?.destination() {
+            Destination::Relative(distance) => Some(distance),
+            _ => None,
+        },
+    }
+}
+
+/// The packed address of the routine that an instruction calls by a constant.
+fn callee(instruction: &Instr) -> Option<u16> {
+    let operands = instruction.operands();
+    match (instruction.opcode().operation(), operands.as_slice()) {
+        (Operation::Call, [Operand::Constant(packed), ..]) => Some(*packed),
+        _ => None,
+    }
+}
