@@ -92,11 +92,13 @@ def functions_of(source, text):
 
 
 def heads_of(arguments):
-    """The names of the types that a trait is given, each without its path and without what it is given itself."""
+    """The names of the types that a trait is given, as the prover writes them: without a path, without what they are given themselves, and
+    with a capital, as in `CountFromU16`."""
     depth, names = 0, []
     for mark in re.findall(r"[<>]|(?:\w+::)*\w+", arguments):
         if depth == 1 and mark not in "<>":
-            names.append(mark.rpartition("::")[2])
+            name = mark.rpartition("::")[2]
+            names.append(name[0].upper() + name[1:])
         depth += (mark == "<") - (mark == ">")
     return names
 

@@ -8,12 +8,10 @@ is worked out from the order in which docs/MACHINE.md and docs/CERTIFICATE.md as
 that grows has a row for each new pair.
 """
 import itertools
-import struct
 import sys
 
 from program import Answer, Count, Program, side_by_side
-from samples import GLOBALS, NEW_LINE, QUIT, RELEASE, SERIAL, STATIC, certificate, changed, interval, story, with_objects, word
-from saves import FIRST_FRAME, RESTORES, RESTORES_LISTED, chunk
+from samples import GLOBALS, NEW_LINE, QUIT, certificate, changed, interval, story, with_objects, word
 
 LIST, CHECK, PLAY = ["list", "story"], ["check", "story", "certificate"], ["play", "story"]
 WIDE = (-32768, 32767)
@@ -113,7 +111,7 @@ def listing():
 
 def decoding():
     orders = Orders("J", 5)
-    orders.none_has([(1, 2), (1, 3), (1, 4), (1, 5), (3, 4)], "no run tells which; `first_faults` and `faults_read` of zcode's proofs do")
+    orders.none_has([(1, 2), (1, 3), (1, 4), (1, 5), (3, 4)], "no run tells which; `first_faults`, `faults_read` and `instructions_read` of zcode's proofs do")
     orders.none_has([(2, 3)], "a number is that of no opcode, or of one that isn't played")
     orders.none_has([(2, 4), (2, 5)], "what is no opcode asks for no operands and no text")
     orders.none_has([(3, 5)], "none of those that aren't played prints the text behind it")
@@ -524,59 +522,14 @@ def faulting():
     return orders
 
 
-# ---- what keeps a save from being restored, and how each mistake changes its chunks
-
-CHUNKS = {
-    "kind": b"IFZS", "IFhd": word(RELEASE) + SERIAL + RESTORES[0x1C:0x1E] + b"\0\x03\x27", "UMem": RESTORES[:STATIC], "Stks": FIRST_FRAME, "behind": b"",
-    "order": ["IFhd", "UMem", "Stks"], "memory": b"UMem", "pad": b"\0",
-}
-
-SAVING = {
-    1: {"kind": b"IFZX"},
-    2: {"pad": b"\1"},
-    3: {"order": ["UMem", "IFhd", "Stks"]},
-    4: {"behind": chunk(b"Stks", FIRST_FRAME)},
-    5: {"memory": b"CMem"},
-    6: {"IFhd": word(RELEASE + 1) + SERIAL + RESTORES[0x1C:0x1E] + b"\0\x03\x27"},
-    7: {"UMem": RESTORES[: STATIC - 2]},
-    8: {"Stks": b"\0\0\0\x20\0\0\0\0"},  # a flag that frames don't have
-    9: {"IFhd": word(RELEASE) + SERIAL + RESTORES[0x1C:0x1E] + b"\0\x03\x25"},  # where a `restore` stands
-    10: {"UMem": changed(RESTORES[:STATIC], GLOBALS + 1, 9)},  # a global that is known to be 0
-}
-
-# Where both change one chunk: a release and a place, and a length and a global.
-JOINED = {
-    (6, 9): {"IFhd": word(RELEASE + 1) + SERIAL + RESTORES[0x1C:0x1E] + b"\0\x03\x25"},
-    (7, 10): {"UMem": changed(RESTORES[: STATIC - 2], GLOBALS + 1, 9)},
-}
-
-
-def kept(*changes):
-    parts = dict(CHUNKS)
-    for it in changes:
-        parts.update(it)
-    chunks = b"".join(struct.pack(">4sI", parts["memory"] if it == "UMem" else it.encode(), len(parts[it])) + parts[it] + parts["pad"] * (len(parts[it]) % 2)
-        for it in parts["order"]) + parts["behind"]
-    return b"FORM" + struct.pack(">I", len(chunks) + 4) + parts["kind"] + chunks
-
+# ---- what keeps a save from being restored: the story is told only that it is, so the values are those of zquetzal's proofs
 
 def restoring():
     orders = Orders("Q", 11)
+    orders.none_has(itertools.combinations(range(1, 9), 2), "no run tells which; each two are of one save in WorkedCauses of zquetzal's proofs")
+    orders.none_has(itertools.product(range(1, 9), (9, 10)), "of what isn't read no place is known, and no state")
+    orders.none_has([(9, 10)], "whether a state is described is asked only where a `save` stands before the place")
     orders.none_has([(it, 11) for it in range(1, 11)], "want of memory stands outside the order; zcalls has it")
-    orders.none_has([(5, 7), (5, 10)], "what is compressed isn't as long as memory, and says nothing of a global before it is read")
-    def has(mistakes, told, *changes):
-        told = Answer(0, b"0" if told else b"y0", f"save refused: Q{told}\n".encode() if told else b"")
-        files = {"story": RESTORES, "certificate": RESTORES_LISTED, "kept": kept(*changes)}
-        for words in ([["story"]] if 10 not in mistakes else []) + [["story", "certificate"]]:
-            orders.has(mistakes, told, ["play", "--tell", "--save", "kept", *words], files, f"{len(words)} files")
-    has((), None)
-    for number, change in SAVING.items():
-        has((number,), number, change)
-    for first, second in itertools.combinations(SAVING, 2):
-        if (first, second) in JOINED:
-            has((first, second), first, JOINED[first, second])
-        elif (first, second) not in orders.apart:
-            has((first, second), first, SAVING[first], SAVING[second])
     return orders
 
 

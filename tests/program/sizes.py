@@ -320,17 +320,17 @@ def deep_saves(program, count):
 
 
 def largest_save(program, count):
-    """A save of as much dynamic memory as there may be."""
-    room = 65534 - STATIC
-    code = RESTORE + SAVE + PRINT_TOP.replace(b"\xbf\x00", b"\xbf\x10") + QUIT
-    made = story(code, room=room)
-    start = CODE + room
+    """A save of as much dynamic memory as leaves room for code that a header's word can lead to (Z 5.5)."""
+    room = 64700
+    dynamic = STATIC + room
+    code = RESTORE + SAVE + b"\xe6\xbf\x10" + QUIT
+    made, start = story(code, room=room), CODE + room
     listed = certificate(made, [start, start + 2, start + 4, start + 7])
     for words in (["story"], ["story", "certificate"]):
         first, second, length = saved_and_restored(program, words, {"story": made, "certificate": listed})
-        count.is_answer(f"a save of 65,534 bytes, {len(words)} files", first, Answer(0, b"0", b""))
-        count.is_answer(f"a save of 65,534 bytes restored, {len(words)} files", second, Answer(0, b"0", b""))
-        count.see(length == 12 + 22 + 8 + 65534 + 8 + 8, f"a save of 65,534 bytes: {length}")
+        count.is_answer(f"a save of {dynamic} bytes, {len(words)} files", first, Answer(0, b"0", b""))
+        count.is_answer(f"a save of {dynamic} bytes restored, {len(words)} files", second, Answer(0, b"0", b""))
+        count.see(length == 12 + 22 + 8 + dynamic + 8 + 8, f"a save of {dynamic} bytes: {length}")
 
 
 def tallest(program, count):
