@@ -529,7 +529,7 @@ def restoring():
     orders.none_has(itertools.combinations(range(1, 9), 2), "no run tells which; each two are of one save in WorkedCauses of zquetzal's proofs")
     orders.none_has(itertools.product(range(1, 9), (9, 10)), "of what isn't read no place is known, and no state")
     orders.none_has([(9, 10)], "whether a state is described is asked only where a `save` stands before the place")
-    orders.none_has([(it, 11) for it in range(1, 11)], "want of memory stands outside the order; zcalls has it")
+    orders.none_has([(it, 11) for it in range(1, 11)], "want of memory stands outside the order; tests/refusals has it")
     return orders
 
 
