@@ -1,5 +1,5 @@
 -- What stands in the way of certificates, as it is told.
-use Rattle.std.proofs.Common.{◌≡◌, ap, inl, inr, refl, subst}
+use Rattle.std.proofs.Common.{◌≡◌, ap, false, inl, inr, refl, subst, true}
 use Rattle.std.specs.Prelude.{Option, Some, None, Result, Ok, Err, IfOk, IfSome, IsErr, option_map}
 use Rattle.std.specs.Int.{w32, cast_signed}
 use Rattle.zstory.specs.LoadedStory.{LoadedStory, first_instruction}
@@ -14,21 +14,24 @@ use Rattle.zcert.specs.Listed.{listed_at}
 use Rattle.zrule.specs.declared.rule.Rule.{Rule}
 use Rattle.zrule.specs.declared.rule.Rule.TheVariants.{Decodes}
 use Rattle.zcheck.specs.declared.refusal.StoryRule.TheVariants as rules
+use Rattle.zcheck.specs.Passes.{Passes}
 use Rattle.zrule.specs.Claims.{claims_of, entry_of}
-use Rattle.zrule.specs.Rules.{IsLowestBroken}
+use Rattle.zrule.specs.Rules.{HasFirstPlace, IsLowestBroken, IsThere}
 use Rattle.zfind.specs.declared.error.FindError.{FindError}
 use Rattle.zfind.specs.declared.error.FindError.TheVariants.{NotFound}
 use Rattle.zfind.specs.declared.error.Obstacle.{Obstacle}
 use Rattle.zfind.specs.declared.error.Obstacle.TheVariants as obstacles
-use Rattle.zfind.specs.Finding.{HasNone, IsAtStart, IsBrokenIn, IsFailure, IsLasting, IsMet, IsTold, IsWrongWith}
+use Rattle.zfind.specs.Finding.{IsAtStart, IsBrokenIn, IsFailure, IsLasting, IsMet, IsTold, IsWrongWith}
 
 module _ (story : LoadedStory) where
   -- each certificate that passes lists where play begins, so there is none where no instruction stands there
-  none_at_start : (obstacle : Obstacle) → IsAtStart story obstacle → HasNone story
-  none_at_start obstacle start certificate passes =
-      let first = passes.story_rules rules.FirstPlace in
-      let there = passes.each (first_instruction story) first.entry first.listed Decodes in
-      subst (λ (r : Result AnInstruction DecodeError). IsErr r) there.1.decodes start.1
+  none_at_start : (obstacle : Obstacle) → IsAtStart story obstacle → (c : Certificate Interval) → Passes interval_operations story c → ⊥
+  none_at_start obstacle start c passes = nowhere (passes.each (first_instruction story) first.entry first.listed Decodes)
+    where
+      first : HasFirstPlace interval_operations (claims_of interval_operations c) story
+      first = passes.story_rules rules.FirstPlace
+      nowhere : ((i : AnInstruction) × IsThere story (first_instruction story) i) → ⊥
+      nowhere (i, there) = absurd (let e : false ≡ true = subst (λ (r : Result AnInstruction DecodeError). IsErr r) there.decodes start.1 in cc)
 
   -- a fault where play begins is told
   pub told_at_start : (obstacle : Obstacle) → IsFailure story (NotFound obstacle) → IsAtStart story obstacle → IsTold story (Some obstacle)
