@@ -30,6 +30,7 @@ module _ (story : LoadedStory) where
     where
       first : HasFirstPlace interval_operations (claims_of interval_operations c) story
       first = passes.story_rules rules.FirstPlace
+
       nowhere : ((i : AnInstruction) × IsThere story (first_instruction story) i) → ⊥
       nowhere (i, there) = absurd (let e : false ≡ true = subst (λ (r : Result AnInstruction DecodeError). IsErr r) there.decodes start.1 in cc)
 
