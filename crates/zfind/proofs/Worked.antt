@@ -72,5 +72,5 @@ tells :
 tells story o = ((λ faulty start none. inl (faulty, start, none)), (λ listable tried. inr (listable, inl tried)), (λ listable broken. inr (listable, inr broken)), by_case, inl, inr)
   where
     by_case : (IsFaulty story (NotFound o) × IsAtStart story o × HasNone story) ⊎ (IsListable story × IsMet story o) → (IsAtStart story o × HasNone story) ⊎ IsMet story o
-    by_case (inl at_start) = inl at_start.1
+    by_case (inl at_start) = inl (at_start.1, at_start.2)
     by_case (inr met) = inr met.1
