@@ -201,12 +201,15 @@ unwritten options outside error = (
     no_memory_to_accept (inl (same, some)) = longer same
     no_memory_to_accept (inr (a, accepted, played)) = omega (arith, story_bytes (Some []) a.story accepted.story)
 
--- what was written before is never taken back
+-- what was written before is never taken back, in one part or in two
+never_less : (between : Option (List ℕ)) (first rest : List ℕ) → Appends (Some (1 ∷ [])) between first → Appends between (Some []) rest → ⊥
+never_less between first rest before behind = absurd (let e = Appends-trans (Some (1 ∷ [])) between (Some []) first rest before behind in cc)
+
 loses : (m : Setting) (T : State → Type 0) (W : State → Type 0) (options : Options) (given : World) (s t : State) (words : Option Coming) (store : Store) (result : Result End PlayError)
     → PlayComes m T W options given s t words store (Some (1 ∷ [])) (Some []) result → ⊥
 loses m T W options given s t words store (Ok end) (left, input, finished) = absurd (let e = finished.written in cc)
 loses m T W options given s t words store (Err errors.Read) (left, input, (plays, awaited)) = absurd (let e = plays.written in cc)
-loses m T W options given s t words store (Err errors.Write) (left, input, part) = absurd (let e = Appends-trans _ _ _ _ _ part.plays.written part.turn.written.grown in cc)
+loses m T W options given s t words store (Err errors.Write) (left, input, part) = never_less part.between _ _ part.plays.written part.turn.written.grown
 loses m T W options given s t words store (Err errors.OutOfMemory) (left, input, (plays, wants)) = absurd (let e = plays.written in cc)
 
 of_play : (options : Options) (outside : World) (file : List ℕ) (result : Result End PlayError) → IsPlayed file options outside (Some (1 ∷ [])) (Some []) result → ⊥
