@@ -332,7 +332,7 @@ INSTRUCTIONS = [
         *of_object(), Mistake(7, {1: 4}), Mistake(7, {1: OTHER}, values={19: (3, 5)}, bytes={GLOBALS + 7: 3}), Mistake(9, ranges=[(0x274, 0x274)]),
     ]),
     ("storeb", [0x281, 0, 5], [Mistake(9, {0: 0x35C})]), ("storew", [0x282, 0, 5], [Mistake(9, {1: 0x100})]),
-    ("loadb", [0x35C, 0], [Mistake(10, {0: 0xFFF0}), Mistake(10, {1: UNKNOWN})]), ("loadw", [0x35C, 0], [Mistake(10, {0: 0xFFF0})]),
+    ("loadb", [0x35D, 0], [Mistake(10, {0: 0xFFF0}), Mistake(10, {1: UNKNOWN})]), ("loadw", [0x35C, 0], [Mistake(10, {0: 0xFFF0})]),
     ("get_prop_len", [0x274], [Mistake(10, {0: 0x9000})]),
     ("print_addr", [0x35A], [Mistake(11, {0: 0x8000})]), ("print_paddr", [0x1AD], [Mistake(11, {0: 0x4000})]),
     # a call of 0, or of what isn't listed too
@@ -421,7 +421,6 @@ NESTED = {0x35A: 0x84, 0x35B: 0x05}  # each abbreviation uses an abbreviation
 FAULTY_NAME = {**NESTED, 0x27A: 0x84, 0x27B: 0x05}  # the name of object 2
 ITS_STATUS = {"bytes": {**FAULTY_NAME, GLOBALS + 1: 2}}
 TRIPLE = {0x27C: 0x41, 0x280: 0}  # object 2 has property 1 of three bytes
-HIGH_TABLE = {0x26E: 0x03, 0x26F: 0x5D, 0x35D: 0x41, 0x35E: 7}
 
 FAULTS = [
     ("add", [7, 5], []), ("div", [7, 2], [fault(10, 0, {1: 0})]), ("mod", [7, 2], [fault(10, 0, {1: 0})]),
@@ -443,7 +442,7 @@ FAULTS = [
     ("show_status", [], [fault(6, 0, bytes={GLOBALS + 1: 3}), fault(13, 1, **ITS_STATUS)]),
     ("sread", [0x280, 0x290], [
         fault(6, 0, bytes={GLOBALS + 1: 3}), fault(13, 1, **ITS_STATUS), fault(12, 2, {0: 0x8000}), fault(12, 2, {1: 0xFFFF}),
-        fault(14, 3, bytes={0x280: 1}), fault(14, 3, bytes={0x290: 0}), fault(11, 4, {0: 0x361}), fault(11, 4, {1: 0x361}),
+        fault(14, 3, {0: 0x280}, bytes={0x280: 1}), fault(14, 3, {1: 0x290}, bytes={0x290: 0}), fault(11, 4, {0: 0x361}), fault(11, 4, {1: 0x361}),
     ]),
 ]
 
@@ -455,7 +454,8 @@ def faults_of(name, operands, own):
     if name in STORES:
         found.append(Mistake(5, store=1, rank=(3, 0)))
     if name in BRANCHES:
-        found.append(Mistake(15, branch=0xC0, rank=(4, 0)))
+        # the attribute isn't there
+        found.append(Mistake(15, branch=0x40 if name == "test_attr" else 0xC0, rank=(4, 0)))
     return found
 
 

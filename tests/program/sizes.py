@@ -341,7 +341,8 @@ def tallest(program, count):
         count.is_answer(f"pushes in {steps} steps", program.run(["play", "--budget", str(steps), "story"], made), wanted)
 
 
-# Each call of a library that takes memory, each thing that it grows by, and the runs in which that is largest.
+# Each call of a library that takes memory, each thing that it grows by, and the runs in which that is largest. What no command calls is
+# called by crates/zcalls alone.
 GROWTH = [
     ("zstory load", "bytes of the file", longest),
     ("zlist list_story", "instructions", longest_list),
@@ -385,12 +386,13 @@ GROWTH = [
     ("zplay save_bytes", "dynamic memory", largest_save),
     ("zframe new", "frames that a session may have", deepest),
     ("zstate opening", "bytes of memory", longest),
-    ("zstate resume", "frames with their locals and stacks", deep_saves),
+    ("zstate resumed", "frames with their locals and stacks", deep_saves),
     ("zquetzal write", "frames and memory", deep_saves),
     ("zfault new", "bytes and status lines of a turn", status_lines),
     ("zfault from_slice", "letters of a name", status_lines),
     ("zplayer play_checked", "text and status lines of a turn", status_lines),
     ("zplayer play_story", "text and status lines of a turn", status_lines),
+    ("zscreen render", "bytes and status lines of a turn", None),
     ("zcommand read_words", "words, and letters of a word", long_names),
     ("zperform", "names of files", long_names),
 ]
@@ -399,7 +401,7 @@ GROWTH = [
 def main():
     program = Program(sys.argv[1])
     count = Count("sizes")
-    for run in dict.fromkeys(run for _, _, run in GROWTH):
+    for run in dict.fromkeys(run for _, _, run in GROWTH if run):
         run(program, count)
     for call_ in calls_that_take_memory():
         count.see(any(call_ == row or row == call_.split()[0] for row, _, _ in GROWTH), f"{call_} takes memory, and has no row")
