@@ -284,7 +284,7 @@ def narrowed(question, answer, a, b):
 # ---- a walk
 
 class Broken(Exception):
-    """The walk here finds no certificate that way."""
+    """A rule is broken, by what this script makes of it: the walk goes on elsewhere, since `check` decides."""
 
 
 class Frame:
@@ -303,12 +303,13 @@ class Walk:
         self.known, self.growths, self.waiting, self.entered = {}, {}, [], set()
         self.written = set()
         self.reach((0, 0), Frame(0, [], []))
-        for _ in range(4000):
+        for _ in range(2000):
             if not self.waiting:
                 return
-            at = self.waiting.pop(0)
-            self.visit(at)
-        raise Broken
+            try:
+                self.visit(self.waiting.pop(0))
+            except Broken:
+                pass
 
     def grow(self, key, before, more):
         joined = hull(before, more)
@@ -583,13 +584,6 @@ class Walk:
         )
 
 
-def walked(made, results, global_sets, entries):
-    try:
-        return Walk(made, results, global_sets, entries)
-    except (Broken, RecursionError):
-        return None
-
-
 def choices_of_sets(made, draw):
     """What globals and the locals of routines may have beside what comes of the code: nothing more, one set of the grid, or several."""
     keys = [(number, k) for number, routine in enumerate(made.routines) for k in range(len(routine.initial))]
@@ -607,9 +601,7 @@ def walks(made, draw, global_sets, entries):
     while choices and rounds < 2 * len(GRID):
         chosen = choices.pop(0)
         rounds += 1
-        walk = walked(made, chosen, global_sets, entries)
-        if walk is None:
-            continue
+        walk = Walk(made, chosen, global_sets, entries)
         missing = walk.unreturned()
         if not missing:
             yield walk
@@ -621,19 +613,16 @@ def walks(made, draw, global_sets, entries):
 
 def certificates(made, draw, most):
     """Certificates that may pass, at most so many: of each walk the one with the least sets first, and then some with more here and there."""
-    told, walks_left = set(), 3 * most
+    told = set()
     for global_sets, entries in choices_of_sets(made, draw):
-        for walk in itertools.chain(walks(made, draw, global_sets, entries), [None]):
-            walks_left -= 1
-            if len(told) >= most or walks_left < 0:
-                return
-            if walk is None:
-                continue
-            for rate in (0, 0.1, 0.3, 1.0):
+        for walk in walks(made, draw, global_sets, entries):
+            for rate in (0, draw.choice([0.1, 0.3, 1.0])):
                 spelling = walk.spelled(lambda of, it: hull(it, draw.choice(GRID)) if draw.random() < rate else it)
                 if spelling not in told:
                     told.add(spelling)
                     yield spelling
+                if len(told) >= most:
+                    return
 
 
 def grid_certificates(made, draw, most):
