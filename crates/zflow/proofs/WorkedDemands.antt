@@ -35,11 +35,12 @@ unfolding asked_by demands_of
 texts_asked = (refl, refl)
 
 objects_asked :
-    (asked_by (Inside ∷ Follow Parent ∷ Follow Sibling ∷ Follow Child ∷ Remove ∷ PrintObject ∷ []) ≡ replicate 6 (record nothing { object = Some (arg 0) }))
+    (asked_by (Inside ∷ Follow Parent ∷ Follow Sibling ∷ Follow Child ∷ Remove ∷ []) ≡ replicate 5 (record nothing { object = Some (arg 0) }))
     × (asked_by (TestAttribute ∷ SetAttribute ∷ ClearAttribute ∷ []) ≡ replicate 3 (record nothing { object = Some (arg 0); attribute = Some (arg 1) }))
     × (asked_by (Insert ∷ []) ≡ record nothing { object = Some (arg 0); under = Some (arg 1) } ∷ [])
+    × (asked_by (PrintObject ∷ []) ≡ record nothing { object = Some (arg 0); named = Some (arg 0) } ∷ [])
 unfolding asked_by demands_of
-objects_asked = (refl, refl, refl)
+objects_asked = (refl, refl, refl, refl)
 
 properties_asked :
     (asked_by (Property Value ∷ []) ≡ record nothing { object = Some (arg 0); property = Some (record { asked = Answered Value; objects = arg 0; numbers = arg 1 }) } ∷ [])

@@ -74,7 +74,7 @@ module _ {V : Type 0} (o : SetOperations V) (globals : List V) where
 -- ---- what an operation asks for, once for an instruction
 
 abbrev pub nothing : {V : Type 0} → Demands V
-nothing = record { indirect = false; variable = None; divisor = None; object = None; under = None; attribute = None; property = None; address = None; elements = None; texts = None; buffers = None; certain = true; has_text = false; shows_status = false }
+nothing = record { indirect = false; variable = None; divisor = None; object = None; under = None; named = None; attribute = None; property = None; address = None; elements = None; texts = None; buffers = None; certain = true; has_text = false; shows_status = false }
 
 abbrev pub naming : {V : Type 0} → Option ℕ → Demands V
 naming variable = record nothing { indirect = true; variable = variable }
@@ -119,7 +119,7 @@ module _ {V : Type 0} (o : SetOperations V) where
   demands_of (Property question) arg = record nothing { object = Some (arg 0); property = Some (record { asked = Answered question; objects = arg 0; numbers = arg 1 }) }
   demands_of PropertyLength arg = record nothing { address = Some (arg 0) }
   demands_of SetProperty arg = record nothing { object = Some (arg 0); property = Some (record { asked = Filled; objects = arg 0; numbers = arg 1 }) }
-  demands_of PrintObject arg = record nothing { object = Some (arg 0) }
+  demands_of PrintObject arg = record nothing { object = Some (arg 0); named = Some (arg 0) }
   demands_of (PrintAt addressing) arg = record nothing { texts = Some (record { addressing = addressing; places = arg 0 }) }
   demands_of ShowStatus arg = record nothing { shows_status = true }
   demands_of (LoadArray width) arg = record nothing { elements = Some (record { access = Reading; width = width; arrays = arg 0; indices = arg 1 }) }

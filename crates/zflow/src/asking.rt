@@ -21,8 +21,12 @@ pub(crate) fn demands_of<V: Domain>(operation: Operation, first: V, second: V) -
         Operation::Count(..) | Operation::Store | Operation::Load => return naming(named(first)),
         Operation::Jump => demands.certain = first.known().is_some(),
         Operation::Print | Operation::PrintReturn => demands.has_text = true,
-        Operation::Inside | Operation::Follow(_) | Operation::Remove | Operation::PrintObject => {
+        Operation::Inside | Operation::Follow(_) | Operation::Remove => {
             demands.object = Some(first);
+        }
+        Operation::PrintObject => {
+            demands.object = Some(first);
+            demands.named = Some(first);
         }
         Operation::Property(question) => {
             demands.object = Some(first);
@@ -99,6 +103,7 @@ fn nothing<V: Domain>() -> Demands<V>
         divisor: None,
         object: None,
         under: None,
+        named: None,
         attribute: None,
         property: None,
         address: None,

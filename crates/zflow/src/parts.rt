@@ -20,6 +20,8 @@ pub struct Demands<V> {
     pub object: Option<V>,
     /// The values that it takes for the number of the object that another is put under.
     pub under: Option<V>,
+    /// The values that it takes for the number of the object whose short name it prints.
+    pub named: Option<V>,
     /// The values that it takes for the number of an attribute.
     pub attribute: Option<V>,
     /// What it asks of the properties of objects.

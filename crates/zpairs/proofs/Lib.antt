@@ -1,4 +1,6 @@
 mod Tables
+pub mod Telling
+mod Marking
 mod Found
 mod Tests
 mod Each

@@ -14,11 +14,14 @@ use Rattle.zobj.specs.declared.answers.PropertyQuestion.TheVariants.{Value, Addr
 use Rattle.zobj.specs.Properties.{properties, property_of, next_in}
 use Rattle.zobj.specs.Values.{default_word, value_of, value_or_default}
 use Rattle.zobj.specs.Answers.{address_of, answer_of, if_there, is_property_number}
+use Rattle.zplace.specs.Bytes.{IsFixed}
 use Rattle.zpairs.specs.declared.ends.Ends.{Ends}
 use Rattle.zpairs.specs.Frozen.{FrozenStory, frozen_by}
 use Rattle.zpairs.specs.Ends.{turned, exactly, a_byte, any_word, no_word, byte_ends, word_ends, data_ends, value_ends}
+use Rattle.zpairs.specs.Fixed.{is_fixed}
 use Rattle.zpairs.specs.Cells.{cell_at}
 use Rattle.zpairs.specs.Pairs.{may_have, may_exceed, is_asked, answer_ends, pair_ends, number_ends, object_ends, all_ends, between_ends, answers}
+use Rattle.zpairs.proofs.Telling.{fixed_is}
 use Rattle.zpairs.proofs.Found.{found_small, none_above, next_below}
 use Rattle.zpairs.proofs.Hulls.{IsInside, IsPlace, inside_all, places_below}
 
@@ -48,26 +51,26 @@ byte_inside v few = record { above = omega (arith, few); below = omega (arith, f
 abbrev IsWordInside : Ends → ℕ → Type 0
 IsWordInside ends v = (v < 65536) × IsInside ends (turned v)
 
-module _ (is_frozen : ℕ → Bool) (memory now : List ℕ) (bytes : AreBytes now) (frozen : (p : ℕ) → is_frozen p ≡ true → byte_at now p ≡ byte_at memory p) where
-  of_byte : (at v : ℕ) → byte_at now at ≡ v → IsWordInside (byte_ends is_frozen memory at) v
-  of_byte at v is = (let few = bytes at in omega (arith, few, is), by (is_frozen at) refl)
+module _ (fixed : ℕ → Bool) (memory now : List ℕ) (bytes : AreBytes now) (same : (p : ℕ) → fixed p ≡ true → byte_at now p ≡ byte_at memory p) where
+  of_byte : (at v : ℕ) → byte_at now at ≡ v → IsWordInside (byte_ends fixed memory at) v
+  of_byte at v is = (let few = bytes at in omega (arith, few, is), by (fixed at) refl)
     where
-      by : (b : Bool) → is_frozen at ≡ b → IsInside (if b then exactly (byte_at memory at) else a_byte) (turned v)
-      by true e = exact v (byte_at memory at) (sym is ∙ frozen at e)
+      by : (b : Bool) → fixed at ≡ b → IsInside (if b then exactly (byte_at memory at) else a_byte) (turned v)
+      by true e = exact v (byte_at memory at) (sym is ∙ same at e)
       by false e = byte_inside v (let few = bytes at in omega (arith, few, is))
 
-  of_word : (at v : ℕ) → word_at now at ≡ v → IsWordInside (word_ends is_frozen memory at) v
-  of_word at v is = (let high = bytes at in let low = bytes (at + 1) in omega (arith, high, low, is), by (is_frozen at) (is_frozen (at + 1)) refl refl)
+  of_word : (at v : ℕ) → word_at now at ≡ v → IsWordInside (word_ends fixed memory at) v
+  of_word at v is = (let high = bytes at in let low = bytes (at + 1) in omega (arith, high, low, is), by (fixed at) (fixed (at + 1)) refl refl)
     where
-      by : (a b : Bool) → is_frozen at ≡ a → is_frozen (at + 1) ≡ b → IsInside (if a && b then exactly (word_at memory at) else any_word) (turned v)
-      by true true e f = exact v (word_at memory at) (let high = frozen at e in let low = frozen (at + 1) f in omega (arith, high, low, is))
+      by : (a b : Bool) → fixed at ≡ a → fixed (at + 1) ≡ b → IsInside (if a && b then exactly (word_at memory at) else any_word) (turned v)
+      by true true e f = exact v (word_at memory at) (let high = same at e in let low = same (at + 1) f in omega (arith, high, low, is))
       by true false e f = any_inside v
       by false b e f = any_inside v
 
-  of_data : (property : Property) (v : ℕ) → value_of now property ≡ Ok v → IsWordInside (data_ends is_frozen memory property) v
+  of_data : (property : Property) (v : ℕ) → value_of now property ≡ Ok v → IsWordInside (data_ends fixed memory property) v
   of_data property v = by (property.length == 1) (property.length == 2)
     where
-      by : (one two : Bool) → (if one then Ok (byte_at now property.place) else (if two then Ok (word_at now property.place) else Err PropertyTooLong)) ≡ Ok v → IsWordInside (if one then byte_ends is_frozen memory property.place else (if two then word_ends is_frozen memory property.place else any_word)) v
+      by : (one two : Bool) → (if one then Ok (byte_at now property.place) else (if two then Ok (word_at now property.place) else Err PropertyTooLong)) ≡ Ok v → IsWordInside (if one then byte_ends fixed memory property.place else (if two then word_ends fixed memory property.place else any_word)) v
       by true two e = of_byte property.place v (same_Ok _ _ e)
       by false true e = of_word property.place v (same_Ok _ _ e)
       by false false e = absurd cc
@@ -79,17 +82,17 @@ module _ (is_frozen : ℕ → Bool) (memory now : List ℕ) (bytes : AreBytes no
       by true = omega arith
       by false = let high = bytes (object_table now + 2 * (number - 1)) in let low = bytes (object_table now + 2 * (number - 1) + 1) in omega (arith, high, low)
 
-  of_value : (number : ℕ) (found : Option Property) (v : ℕ) → default_word now number ≡ default_word memory number → value_or_default now number found ≡ Ok v → IsWordInside (value_ends is_frozen memory number found) v
-  of_value number None v same e = let is : default_word now number ≡ v = same_Ok _ _ e in (let small = default_small number in omega (arith, small, is), exact v (default_word memory number) (sym is ∙ same))
-  of_value number (Some property) v same e = of_data property v e
+  of_value : (number : ℕ) (found : Option Property) (v : ℕ) → default_word now number ≡ default_word memory number → value_or_default now number found ≡ Ok v → IsWordInside (value_ends fixed memory number found) v
+  of_value number None v default e = let is : default_word now number ≡ v = same_Ok _ _ e in (let small = default_small number in omega (arith, small, is), exact v (default_word memory number) (sym is ∙ default))
+  of_value number (Some property) v default e = of_data property v e
 
 -- ---- all ends are places of words
 
 exactly_place : (word : ℕ) → IsPlace (exactly word)
 exactly_place word = omega arith
 
-data_place : (is_frozen : ℕ → Bool) (memory : List ℕ) (property : Property) → IsPlace (data_ends is_frozen memory property)
-data_place is_frozen memory property = by (property.length == 1) (property.length == 2) (is_frozen property.place) (is_frozen property.place && is_frozen (property.place + 1))
+data_place : (fixed : ℕ → Bool) (memory : List ℕ) (property : Property) → IsPlace (data_ends fixed memory property)
+data_place fixed memory property = by (property.length == 1) (property.length == 2) (fixed property.place) (fixed property.place && fixed (property.place + 1))
   where
     by : (one two a b : Bool) → IsPlace (if one then (if a then exactly (byte_at memory property.place) else a_byte) else (if two then (if b then exactly (word_at memory property.place) else any_word) else any_word))
     by true two true b = exactly_place (byte_at memory property.place)
@@ -98,15 +101,15 @@ data_place is_frozen memory property = by (property.length == 1) (property.lengt
     by false true a false = omega arith
     by false false a b = omega arith
 
-value_place : (is_frozen : ℕ → Bool) (memory : List ℕ) (number : ℕ) (found : Option Property) → IsPlace (value_ends is_frozen memory number found)
-value_place is_frozen memory number None = exactly_place (default_word memory number)
-value_place is_frozen memory number (Some property) = data_place is_frozen memory property
+value_place : (fixed : ℕ → Bool) (memory : List ℕ) (number : ℕ) (found : Option Property) → IsPlace (value_ends fixed memory number found)
+value_place fixed memory number None = exactly_place (default_word memory number)
+value_place fixed memory number (Some property) = data_place fixed memory property
 
 answer_place : (told : FrozenStory) (question : PropertyQuestion) (x n : ℕ) → IsPlace (answer_ends question (cell_at told x n))
 answer_place told Value x n = by (is_property_number n)
   where
-    by : (b : Bool) → IsPlace (if b then value_ends (frozen_by told.ranges) told.story.memory n (property_of told.story.memory x n) else no_word)
-    by true = value_place (frozen_by told.ranges) told.story.memory n (property_of told.story.memory x n)
+    by : (b : Bool) → IsPlace (if b then value_ends (is_fixed told) told.story.memory n (property_of told.story.memory x n) else no_word)
+    by true = value_place (is_fixed told) told.story.memory n (property_of told.story.memory x n)
     by false = omega arith
 answer_place told Address x n = exactly_place (address_of (property_of told.story.memory x n))
 answer_place told Next x n = omega arith
@@ -185,8 +188,8 @@ module _ {V : Type 0} (o : SetOperations V) (sound : AreSound o) where
   -- ---- answers
 
   pub value_lies : (told : FrozenStory) (now : List ℕ) (objects numbers : V) (x n v : ℕ) → 1 ≤ x → x ≤ told.story.objects → In o objects x → In o numbers n → property_of now x n ≡ property_of told.story.memory x n → default_word now n ≡ default_word told.story.memory n
-      → ((p : ℕ) → frozen_by told.ranges p ≡ true → byte_at now p ≡ byte_at told.story.memory p) → AreBytes now → answer_of Value now x n ≡ Ok v → In o (answers o told Value objects numbers) v
-  value_lies told now objects numbers x n v first last has asked_for found default frozen bytes = by (is_property_number n) refl
+      → ((p : ℕ) → IsFixed told.story (frozen_by told.ranges) p → byte_at now p ≡ byte_at told.story.memory p) → AreBytes now → answer_of Value now x n ≡ Ok v → In o (answers o told Value objects numbers) v
+  value_lies told now objects numbers x n v first last has asked_for found default fixed bytes = by (is_property_number n) refl
     where
       found_as : value_or_default now n (property_of now x n) ≡ Ok v → value_or_default now n (property_of told.story.memory x n) ≡ Ok v
       found_as = subst (λ (f : Option Property). value_or_default now n f ≡ Ok v) found
@@ -195,7 +198,7 @@ module _ {V : Type 0} (o : SetOperations V) (sound : AreSound o) where
       by false is e = absurd cc
       by true is e =
           let small : n < 32 = grind (arith, is) in
-          let inside = of_value (frozen_by told.ranges) told.story.memory now bytes frozen n (property_of told.story.memory x n) v default (found_as e) in
+          let inside = of_value (is_fixed told) told.story.memory now bytes (λ p e. fixed p ((fixed_is told p).0 e)) n (property_of told.story.memory x n) v default (found_as e) in
           let of_cell : IsInside (answer_ends Value (cell_at told x n)) (turned v) = rw is inside.1 in
           lies_between told Value objects numbers v inside.0 (all_inside told Value objects numbers x n (turned v) (omega (arith, small)) first last has (asked numbers n small asked_for) of_cell)
 

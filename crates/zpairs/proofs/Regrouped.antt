@@ -10,7 +10,7 @@ use Rattle.zobj.specs.Answers.{is_property_number}
 use Rattle.zpairs.specs.declared.ends.Ends.{Ends}
 use Rattle.zpairs.specs.declared.cell.Cell.{Cell}
 use Rattle.zpairs.specs.declared.cell.Test.{Test}
-use Rattle.zpairs.specs.declared.cell.Test.TheVariants.{Answered, Put, Unfrozen}
+use Rattle.zpairs.specs.declared.cell.Test.TheVariants.{Answered, Put, Open}
 use Rattle.zpairs.specs.Frozen.{FrozenStory}
 use Rattle.zpairs.specs.Ends.{joined, no_word}
 use Rattle.zpairs.specs.Cells.{cell_at, no_cell, merged, passes}
@@ -95,7 +95,7 @@ step_of (Answered Next) n unit a b = by (n == 0)
     by true = refl
     by false = refl
 step_of Put n unit a b = four a.has b.has a.short b.short
-step_of Unfrozen n unit a b = refl
+step_of Open n unit a b = refl
 
 -- and else of none at all
 none_pass : (test : Test) (n : ℕ) → passes test n no_cell ≡ false → (cell : Cell) → passes test n cell ≡ false
@@ -111,7 +111,7 @@ none_pass (Answered Next) n e cell = by (n == 0) e
     by true e = absurd cc
     by false e = absurd cc
 none_pass Put n e cell = absurd cc
-none_pass Unfrozen n e cell = absurd cc
+none_pass Open n e cell = absurd cc
 
 not_both : (b : Bool) → b ≡ false → IsTrue b → ⊥
 not_both true e f = cc

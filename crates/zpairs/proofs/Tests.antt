@@ -11,17 +11,20 @@ use Rattle.zobj.specs.declared.answers.PropertyQuestion.TheVariants.{Value, Addr
 use Rattle.zobj.specs.Properties.{properties, property_of, next_in, first_number}
 use Rattle.zobj.specs.Values.{IsDataByte, value_of, value_or_default, with_value, with_found, with_property}
 use Rattle.zobj.specs.Answers.{answer_of, if_there, is_property_number}
+use Rattle.zplace.specs.Bytes.{IsOpen}
 use Rattle.zpairs.specs.declared.cell.Test.{Test}
-use Rattle.zpairs.specs.declared.cell.Test.TheVariants.{Answered, Put, Unfrozen}
+use Rattle.zpairs.specs.declared.cell.Test.TheVariants.{Answered, Put, Open}
 use Rattle.zpairs.specs.Frozen.{FrozenStory, frozen_by}
-use Rattle.zpairs.specs.Cells.{is_unfrozen, is_short, are_unfrozen, cell_at, passes, absent_passes}
+use Rattle.zpairs.specs.Fixed.{is_closed}
+use Rattle.zpairs.specs.Cells.{has_none, is_short, has_open_data, cell_at, passes, absent_passes}
+use Rattle.zpairs.proofs.Telling.{closed_is}
 use Rattle.zpairs.proofs.Found.{found_small, none_above, followed}
 
 -- what is asked for by a test
 abbrev pub Meets : FrozenStory → Test → ℕ → ℕ → Type 0
 Meets told (Answered question) x n = IsOk (answer_of question told.story.memory x n)
 Meets told Put x n = IsOk (with_property x n 0 told.story.memory)
-Meets told Unfrozen x n = IfSome (property_of told.story.memory x n) (λ property. (p : ℕ) → IsDataByte property p → frozen_by told.ranges p ≡ false)
+Meets told Open x n = IfSome (property_of told.story.memory x n) (λ property. (p : ℕ) → IsDataByte property p → IsOpen told.story (frozen_by told.ranges) p)
 
 -- ---- data of one or two bytes
 
@@ -83,7 +86,7 @@ module _ (memory : List ℕ) (x n : ℕ) where
       by None e = refl
       by (Some property) e = takes_word memory property (found_small memory x n property e).0.some
 
--- ---- places that aren't frozen
+-- ---- bytes that are open
 
 and_both : (a b : Bool) → IsTrue (a && b) ↔ (IsTrue a × IsTrue b)
 and_both true b = (λ e. (refl, e), λ e. e.1)
@@ -96,26 +99,39 @@ not_true : (b : Bool) → IsTrue (not b) ↔ (b ≡ false)
 not_true true = (λ e. absurd cc, λ e. absurd cc)
 not_true false = (λ e. refl, λ e. refl)
 
-pub unfrozen_run : (is_frozen : ℕ → Bool) (place k : ℕ) → IsTrue (is_unfrozen is_frozen place k) ↔ ((p : ℕ) → place ≤ p → p < place + k → is_frozen p ≡ false)
-unfolding is_unfrozen
-unfrozen_run is_frozen place zero = (λ e p above below. absurd (omega (arith, above, below)), λ each. refl)
-unfrozen_run is_frozen place (suc k) =
-    let before = unfrozen_run is_frozen place k in
-    let parts = and_both (is_unfrozen is_frozen place k) (not (is_frozen (place + k))) in
-    let last = not_true (is_frozen (place + k)) in (
+pub none_of : (holds : ℕ → Bool) (place k : ℕ) → IsTrue (has_none holds place k) ↔ ((p : ℕ) → place ≤ p → p < place + k → holds p ≡ false)
+unfolding has_none
+none_of holds place zero = (λ e p above below. absurd (omega (arith, above, below)), λ each. refl)
+none_of holds place (suc k) =
+    let before = none_of holds place k in
+    let parts = and_both (has_none holds place k) (not (holds (place + k))) in
+    let last = not_true (holds (place + k)) in (
       λ yes p above below. by_place (before.0 (parts.0 yes).0) (last.0 (parts.0 yes).1) p above below (cases_lt p (place + k)),
       λ each. parts.1 (before.1 (λ p above below. each p above (omega (arith, below))), last.1 (each (place + k) (omega arith) (omega arith))),
     )
   where
-    by_place : ((p : ℕ) → place ≤ p → p < place + k → is_frozen p ≡ false) → is_frozen (place + k) ≡ false → (p : ℕ) → place ≤ p → p < place + suc k → (p < place + k) ⊎ (place + k ≤ p) → is_frozen p ≡ false
+    by_place : ((p : ℕ) → place ≤ p → p < place + k → holds p ≡ false) → holds (place + k) ≡ false → (p : ℕ) → place ≤ p → p < place + suc k → (p < place + k) ⊎ (place + k ≤ p) → holds p ≡ false
     by_place each last p above below (inl low) = each p above low
-    by_place each last p above below (inr high) = let same : place + k ≡ p = omega (arith, below, high) in subst (λ (q : ℕ). is_frozen q ≡ false) same last
+    by_place each last p above below (inr high) = let same : place + k ≡ p = omega (arith, below, high) in subst (λ (q : ℕ). holds q ≡ false) same last
 
-unfrozen_data : (is_frozen : ℕ → Bool) (found : Option Property) → IsTrue (are_unfrozen is_frozen found) ↔ IfSome found (λ property. (p : ℕ) → IsDataByte property p → is_frozen p ≡ false)
-unfrozen_data is_frozen None = (λ e. tt, λ e. refl)
-unfrozen_data is_frozen (Some property) =
-    let run = unfrozen_run is_frozen property.place property.length in
-    (λ yes p inside. run.0 yes p inside.0 inside.1, λ each. run.1 (λ p above below. each p (above, below)))
+module _ (told : FrozenStory) where
+  -- a byte that isn't marked as closed is open
+  open_is : (p : ℕ) → (is_closed told p ≡ false) ↔ IsOpen told.story (frozen_by told.ranges) p
+  open_is p = let is = closed_is told p in (λ e closed. opposite (is_closed told p) e (is.1 closed), λ free. not_closed (is_closed told p) (λ e. free (is.0 e)))
+    where
+      opposite : (b : Bool) → b ≡ false → b ≡ true → ⊥
+      opposite true e f = cc
+      opposite false e f = cc
+
+      not_closed : (b : Bool) → (b ≡ true → ⊥) → b ≡ false
+      not_closed true none = absurd (none refl)
+      not_closed false none = refl
+
+  open_data : (found : Option Property) → IsTrue (has_open_data (is_closed told) found) ↔ IfSome found (λ property. (p : ℕ) → IsDataByte property p → IsOpen told.story (frozen_by told.ranges) p)
+  open_data None = (λ e. tt, λ e. refl)
+  open_data (Some property) =
+      let run = none_of (is_closed told) property.place property.length in
+      (λ yes p inside. (open_is p).0 (run.0 yes p inside.0 inside.1), λ each. run.1 (λ p above below. (open_is p).1 (each p (above, below))))
 
 -- ---- what a test of a cell means
 
@@ -127,7 +143,7 @@ meets told (Answered Value) x n = same_test _ _ (value_answered told.story.memor
 meets told (Answered Address) x n = (λ e. refl, λ e. refl)
 meets told (Answered Next) x n = same_test _ _ (next_answered told.story.memory x n)
 meets told Put x n = same_test _ _ (put_answered told.story.memory x n)
-meets told Unfrozen x n = unfrozen_data (frozen_by told.ranges) (property_of told.story.memory x n)
+meets told Open x n = open_data told (property_of told.story.memory x n)
 
 -- ---- numbers that no property has
 
@@ -146,4 +162,4 @@ above_passes told test x n above =
     by none no_number no_zero (Answered Address) = refl
     by none no_number no_zero (Answered Next) = rw (no_zero, none) refl
     by none no_number no_zero Put = rw none refl
-    by none no_number no_zero Unfrozen = rw none refl
+    by none no_number no_zero Open = rw none refl

@@ -28,23 +28,23 @@ no_word = record { least = 65535; greatest = 0 }
 abbrev pub joined : Ends → Ends → Ends
 joined a b = record { least = min a.least b.least; greatest = max a.greatest b.greatest }
 
--- of what a byte may be, and a word: it is known where its bytes are frozen
+-- of what a byte may be, and a word: it is known where no play changes a byte of it
 abbrev pub byte_ends : (ℕ → Bool) → List ℕ → ℕ → Ends
-byte_ends is_frozen memory at = if is_frozen at then exactly (byte_at memory at) else a_byte
+byte_ends fixed memory at = if fixed at then exactly (byte_at memory at) else a_byte
 
 abbrev pub word_ends : (ℕ → Bool) → List ℕ → ℕ → Ends
-word_ends is_frozen memory at = if is_frozen at && is_frozen (at + 1) then exactly (word_at memory at) else any_word
+word_ends fixed memory at = if fixed at && fixed (at + 1) then exactly (word_at memory at) else any_word
 
 -- of what data of one or two bytes may be; longer data have no value, and these ends no meaning
 abbrev pub data_ends : (ℕ → Bool) → List ℕ → Property → Ends
-data_ends is_frozen memory property =
-    if property.length == 1 then byte_ends is_frozen memory property.place
-    else (if property.length == 2 then word_ends is_frozen memory property.place else any_word)
+data_ends fixed memory property =
+    if property.length == 1 then byte_ends fixed memory property.place
+    else (if property.length == 2 then word_ends fixed memory property.place else any_word)
 
 -- of what the value of a property may be: the default where the object has none of the number
 abbrev pub value_ends : (ℕ → Bool) → List ℕ → ℕ → Option Property → Ends
-value_ends is_frozen memory number None = exactly (default_word memory number)
-value_ends is_frozen memory number (Some property) = data_ends is_frozen memory property
+value_ends fixed memory number None = exactly (default_word memory number)
+value_ends fixed memory number (Some property) = data_ends fixed memory property
 
 -- what its address is
 abbrev pub address_ends : Option Property → Ends

@@ -1,4 +1,5 @@
 pub mod Frozen
+pub mod Fixed
 pub mod Ends
 pub mod Cells
 pub mod Pairs

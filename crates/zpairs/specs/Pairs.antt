@@ -1,5 +1,5 @@
 -- What comes of asking any object of a set for the property of any number of a set (own).
-use Rattle.std.specs.Prelude.{◌≡◌, ℕ, zero, suc, ◌+◌, ◌≤◌, Bool, false, ◌||◌, ◌==◌, if◌then◌else◌, is_some, IfSome}
+use Rattle.std.specs.Prelude.{ℕ, zero, suc, ◌+◌, ◌≤◌, Bool, ◌||◌, ◌==◌, if◌then◌else◌, is_some, IfSome}
 use Rattle.std.specs.Result.{IsOk}
 use Rattle.zstory.specs.LoadedStory.{LoadedStory}
 use Rattle.zdomain.specs.Domain.{SetOperations, In}
@@ -8,6 +8,7 @@ use Rattle.zobj.specs.declared.answers.PropertyQuestion.TheVariants.{Value, Addr
 use Rattle.zobj.specs.Properties.{property_of}
 use Rattle.zobj.specs.Values.{IsDataByte, with_property}
 use Rattle.zobj.specs.Answers.{answer_of}
+use Rattle.zplace.specs.Bytes.{IsOpen}
 use Rattle.zpairs.specs.declared.ends.Ends.{Ends}
 use Rattle.zpairs.specs.declared.cell.Cell.{Cell}
 use Rattle.zpairs.specs.Frozen.{FrozenStory}
@@ -28,9 +29,9 @@ module _ {V : Type 0} (o : SetOperations V) where
     abbrev pub CanBePut : V → V → Type 0
     CanBePut objects numbers = EachPair objects numbers (λ x n. IsOk (with_property x n 0 story.memory))
 
-    -- no byte of the property's data is frozen, where the object has it
-    abbrev pub AreUnfrozen : (ℕ → Bool) → V → V → Type 0
-    AreUnfrozen is_frozen objects numbers = EachPair objects numbers (λ x n. IfSome (property_of story.memory x n) (λ property. (p : ℕ) → IsDataByte property p → is_frozen p ≡ false))
+    -- each byte of the property's data is open, where the object has it
+    abbrev pub HaveOpenData : (ℕ → Bool) → V → V → Type 0
+    HaveOpenData is_frozen objects numbers = EachPair objects numbers (λ x n. IfSome (property_of story.memory x n) (λ property. (p : ℕ) → IsDataByte property p → IsOpen story is_frozen p))
 
   -- the set may have the word: for intervals, it has it
   abbrev pub may_have : V → ℕ → Bool

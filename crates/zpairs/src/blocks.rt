@@ -7,10 +7,9 @@ ghost use Rattle.zpairs.specs.Rows.{IsObjectRow};
 
 use crate::cell::Cell;
 use crate::finding::cell_of;
-use crate::frozen::Frozen;
+use crate::marked::Marked;
 use crate::rows::renew;
 use zobj::Property;
-use zstory::Story;
 
 /// How many objects a block has.
 pub(crate) const BLOCK_LENGTH: u8 = 16;
@@ -25,39 +24,32 @@ pub(crate) const OBJECT_CELLS: usize = 8448;
 pub(crate) const BLOCK_CELLS: usize = 528;
 
 /// What is known of each object and each number.
-pub(crate) fn object_cells(story: &Story, frozen: Frozen<'_>) -> [Cell; OBJECT_CELLS]
-    ensures { AreCells (record { story = story.now; ranges = frozen.entry.ranges.now }) result }
+pub(crate) fn object_cells(marked: Marked<'_>) -> [Cell; OBJECT_CELLS]
+    ensures { AreCells (record { story = marked.entry.story.now; ranges = marked.entry.ranges.now }) result }
 {
     let mut cells = [Cell::NONE; OBJECT_CELLS];
     let mut row = [None; COLUMNS];
     for k in 0..OBJECT_CELLS {
-        renew(story, &mut row, k);
-        cells[k] = object_cell(
-            story,
-            frozen,
-            &row,
-            (k / COLUMNS) as u8,
-            (k % COLUMNS) as u16,
-        );
+        renew(marked.story, &mut row, k);
+        cells[k] = object_cell(marked, &row, (k / COLUMNS) as u8, (k % COLUMNS) as u16);
     }
     cells
 }
 
 /// What is known of an object, less 1, and a number, if the story has it, by the row of its properties.
-#[tactic(auto, using(crate::proofs::Found::found_readable, crate::proofs::Tables::defaults_there))]
+#[tactic(auto, using(crate::proofs::Found::found_readable))]
 fn object_cell(
-    story: &Story,
-    frozen: Frozen<'_>,
+    marked: Marked<'_>,
     row: &[Option<Property>; COLUMNS],
     below: u8,
     number: u16,
 ) -> Cell
     requires small { number < 33 }
-    requires there { IsObjectRow story.now below row.now }
-    ensures { result ≡ object_cell (record { story = story.now; ranges = frozen.entry.ranges.now }) below number }
+    requires there { IsObjectRow marked.story.now below row.now }
+    ensures { result ≡ object_cell (record { story = marked.entry.story.now; ranges = marked.entry.ranges.now }) below number }
 {
-    if below < story.objects() {
-        cell_of(story.memory(), frozen, number, row[usize::from(number)])
+    if below < marked.story.objects() {
+        cell_of(marked, number, row[usize::from(number)])
     } else {
         Cell::NONE
     }

@@ -14,8 +14,8 @@ pub(crate) enum Test {
     Answered(PropertyQuestion),
     /// It can be given a word: the object has it, and its data are at most two bytes.
     Put,
-    /// No byte of its data is frozen.
-    Unfrozen,
+    /// Each byte of its data is open.
+    Open,
 }
 
 impl Test {
@@ -24,7 +24,7 @@ impl Test {
         ensures { result ≡ absent_passes self }
     {
         match self {
-            Test::Answered(PropertyQuestion::Address) | Test::Unfrozen => true,
+            Test::Answered(PropertyQuestion::Address) | Test::Open => true,
             Test::Answered(_) | Test::Put => false,
         }
     }
@@ -37,8 +37,8 @@ pub struct Cell {
     pub has: bool,
     /// None of those that have it has more than two bytes of data there.
     pub short: bool,
-    /// No byte of the data is frozen.
-    pub unfrozen: bool,
+    /// Each byte of the data is open, so that stores may write it.
+    pub is_open: bool,
     /// The ends of what its value may be.
     pub values: Ends,
     /// The ends of its addresses.
@@ -50,7 +50,7 @@ impl Cell {
     pub(crate) const NONE: Cell = Cell {
         has: true,
         short: true,
-        unfrozen: true,
+        is_open: true,
         values: Ends::NONE,
         addresses: Ends::NONE,
     };
@@ -62,7 +62,7 @@ impl Cell {
         Cell {
             has: self.has && other.has,
             short: self.short && other.short,
-            unfrozen: self.unfrozen && other.unfrozen,
+            is_open: self.is_open && other.is_open,
             values: self.values.join(other.values),
             addresses: self.addresses.join(other.addresses),
         }
@@ -77,7 +77,7 @@ impl Cell {
             Test::Answered(PropertyQuestion::Address) => true,
             Test::Answered(PropertyQuestion::Next) => number == 0 || self.has,
             Test::Put => self.has && self.short,
-            Test::Unfrozen => self.unfrozen,
+            Test::Open => self.is_open,
         }
     }
 

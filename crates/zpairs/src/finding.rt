@@ -1,34 +1,27 @@
 //! What is known of one object and the number of a property.
 
-ghost use Rattle.std.specs.Prelude.{◌≡◌, ◌≤◌, ◌<◌, ◌+◌, IfSome, length};
+ghost use Rattle.std.specs.Prelude.{◌≡◌, ◌<◌, ◌+◌, IfSome, length};
 ghost use Rattle.zobj.specs.Answers.{address_of};
-ghost use Rattle.zobj.specs.Entries.{HasDefaults};
 ghost use Rattle.zobj.specs.Properties.{IsReadable};
-ghost use Rattle.zpairs.specs.Cells.{are_unfrozen, asked_values, cell_of, is_unfrozen, is_short};
+ghost use Rattle.zpairs.specs.Cells.{asked_values, cell_of, has_none, has_open_data, is_short};
 ghost use Rattle.zpairs.specs.Ends.{byte_ends, data_ends, word_ends};
-ghost use Rattle.zpairs.specs.Frozen.{frozen_by};
+ghost use Rattle.zpairs.specs.Fixed.{is_closed, is_fixed};
 
 use crate::cell::Cell;
 use crate::ends::Ends;
-use crate::frozen::Frozen;
+use crate::marked::Marked;
 use zobj::{Property, default_word};
 
 /// What is known of an object's property of a number, by the one that it has.
-pub(crate) fn cell_of(
-    memory: &[u8],
-    frozen: Frozen<'_>,
-    number: u16,
-    found: Option<Property>,
-) -> Cell
-    requires table { HasDefaults memory.now }
-    requires there { IfSome found (IsReadable memory.now) }
-    ensures { result ≡ cell_of (frozen_by frozen.entry.ranges.now) memory.now number found }
+pub(crate) fn cell_of(marked: Marked<'_>, number: u16, found: Option<Property>) -> Cell
+    requires { IfSome found (IsReadable marked.story.now.memory) }
+    ensures { result ≡ cell_of (is_closed (record { story = marked.entry.story.now; ranges = marked.entry.ranges.now })) (is_fixed (record { story = marked.entry.story.now; ranges = marked.entry.ranges.now })) marked.entry.story.now.memory number found }
 {
     Cell {
         has: found.is_some(),
         short: is_short(found),
-        unfrozen: are_unfrozen(frozen, found),
-        values: asked_values(memory, frozen, number, found),
+        is_open: has_open_data(marked, found),
+        values: asked_values(marked, number, found),
         addresses: Ends::exactly(address_of(found)),
     }
 }
@@ -53,77 +46,75 @@ fn address_of(found: Option<Property>) -> u16
     }
 }
 
-/// Whether no byte of a property's data is frozen, if there is one.
-fn are_unfrozen(frozen: Frozen<'_>, found: Option<Property>) -> bool
-    requires { IfSome found (λ property. property.place + property.length ≤ 65536) }
-    ensures { result ≡ are_unfrozen (frozen_by frozen.entry.ranges.now) found }
+/// Whether each byte of a property's data is open, if there is one.
+fn has_open_data(marked: Marked<'_>, found: Option<Property>) -> bool
+    ensures { result ≡ has_open_data (is_closed (record { story = marked.entry.story.now; ranges = marked.entry.ranges.now })) found }
 {
     match found {
-        Some(property) => is_unfrozen(frozen, usize::from(property.place), property.length),
+        Some(property) => are_open(marked, usize::from(property.place), property.length),
         None => true,
     }
 }
 
-/// Whether none of so many places from one on is frozen.
-#[tactic(auto, unfolding(crate::specs::Cells::is_unfrozen))]
-fn is_unfrozen(frozen: Frozen<'_>, place: usize, size: u8) -> bool
-    requires { place + size ≤ 65536 }
-    ensures { result ≡ is_unfrozen (frozen_by frozen.entry.ranges.now) place size }
+/// Whether so many bytes from a place on are open.
+#[tactic(auto, unfolding(crate::specs::Cells::has_none))]
+fn are_open(marked: Marked<'_>, place: usize, size: u8) -> bool
+    requires { place < 65536 }
+    ensures { result ≡ has_none (is_closed (record { story = marked.entry.story.now; ranges = marked.entry.ranges.now })) place size }
 {
-    let mut unfrozen = true;
+    let mut free = true;
     for behind in 0..size {
-        unfrozen = unfrozen && !frozen.has(place + usize::from(behind));
+        free = free && !marked.is_closed(place + usize::from(behind));
     }
-    unfrozen
+    free
 }
 
 /// The ends of what the value of a property may be: of no word, where the number isn't that of a property.
-fn asked_values(memory: &[u8], frozen: Frozen<'_>, number: u16, found: Option<Property>) -> Ends
-    requires table { HasDefaults memory.now }
-    requires there { IfSome found (IsReadable memory.now) }
-    ensures { result ≡ asked_values (frozen_by frozen.entry.ranges.now) memory.now number found }
+#[tactic(auto, using(crate::proofs::Tables::defaults_there))]
+fn asked_values(marked: Marked<'_>, number: u16, found: Option<Property>) -> Ends
+    requires { IfSome found (IsReadable marked.story.now.memory) }
+    ensures { result ≡ asked_values (is_fixed (record { story = marked.entry.story.now; ranges = marked.entry.ranges.now })) marked.entry.story.now.memory number found }
 {
     if number == 0 || number >= 32 {
         return Ends::NONE;
     }
     match found {
-        Some(property) => data_ends(memory, frozen, property),
-        None => Ends::exactly(default_word(memory, number)),
+        Some(property) => data_ends(marked, property),
+        None => Ends::exactly(default_word(marked.story.memory(), number)),
     }
 }
 
 /// The ends of what a property's data may be.
-fn data_ends(memory: &[u8], frozen: Frozen<'_>, property: Property) -> Ends
-    requires { IsReadable memory.now property }
-    ensures { result ≡ data_ends (frozen_by frozen.entry.ranges.now) memory.now property }
+fn data_ends(marked: Marked<'_>, property: Property) -> Ends
+    requires { IsReadable marked.story.now.memory property }
+    ensures { result ≡ data_ends (is_fixed (record { story = marked.entry.story.now; ranges = marked.entry.ranges.now })) marked.entry.story.now.memory property }
 {
     let place = usize::from(property.place);
     match property.length {
-        1 => byte_ends(memory, frozen, place),
-        2 => word_ends(memory, frozen, place),
+        1 => byte_ends(marked, place),
+        2 => word_ends(marked, place),
         _ => Ends::ANY,
     }
 }
 
 /// Those of a byte.
-fn byte_ends(memory: &[u8], frozen: Frozen<'_>, place: usize) -> Ends
-    requires inside { place < length memory.now }
-    requires word { place < 65536 }
-    ensures { result ≡ byte_ends (frozen_by frozen.entry.ranges.now) memory.now place }
+fn byte_ends(marked: Marked<'_>, place: usize) -> Ends
+    requires { place < length marked.story.now.memory }
+    ensures { result ≡ byte_ends (is_fixed (record { story = marked.entry.story.now; ranges = marked.entry.ranges.now })) marked.entry.story.now.memory place }
 {
-    if !frozen.has(place) {
+    if !marked.is_fixed(place) {
         return Ends::BYTE;
     }
-    Ends::exactly(u16::from(memory[place]))
+    Ends::exactly(u16::from(marked.story.memory()[place]))
 }
 
 /// Those of two bytes.
-fn word_ends(memory: &[u8], frozen: Frozen<'_>, place: usize) -> Ends
-    requires inside { place + 1 < length memory.now }
-    requires word { place + 1 < 65536 }
-    ensures { result ≡ word_ends (frozen_by frozen.entry.ranges.now) memory.now place }
+fn word_ends(marked: Marked<'_>, place: usize) -> Ends
+    requires { place + 1 < length marked.story.now.memory }
+    ensures { result ≡ word_ends (is_fixed (record { story = marked.entry.story.now; ranges = marked.entry.ranges.now })) marked.entry.story.now.memory place }
 {
-    if !frozen.has(place) || !frozen.has(place + 1) {
+    let memory = marked.story.memory();
+    if !marked.is_fixed(place) || !marked.is_fixed(place + 1) {
         return Ends::ANY;
     }
     Ends::exactly(u16::from_be_bytes([memory[place], memory[place + 1]]))

@@ -8,29 +8,8 @@ use zcert::Range;
 /// How many places ranges can reach.
 pub const PLACES: usize = 65_536;
 
-/// Ranges, with a mark for each place that they reach whether it lies in one.
-#[derive(Clone, Copy)]
-pub(crate) struct Frozen<'a> {
-    pub(crate) ranges: &'a [Range],
-    pub(crate) marks: &'a [bool; PLACES],
-    pub(crate) ghost marked: { AreMarked ranges.now marks.now },
-}
-
-impl<'a> Frozen<'a> {
-    ghost use Rattle.std.specs.Prelude.{◌≡◌, ◌<◌};
-    ghost use Rattle.zpairs.specs.Frozen.{frozen_by};
-
-    /// Whether a place lies in one of the ranges.
-    pub(crate) fn has(self, place: usize) -> bool
-        requires { place < 65536 }
-        ensures { result ≡ frozen_by self.entry.ranges.now place }
-    {
-        self.marks[place]
-    }
-}
-
 /// The marks of ranges. Each place of each range is gone over once.
-pub fn marks_of(ranges: &[Range]) -> [bool; PLACES]
+pub(crate) fn marks_of(ranges: &[Range]) -> [bool; PLACES]
     ensures { AreMarked ranges.now result }
 {
     let mut marks = [false; PLACES];

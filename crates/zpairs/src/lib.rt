@@ -3,14 +3,20 @@
 
 mod blocks;
 mod cell;
+mod closed;
 mod ends;
 mod finding;
+mod fixed;
 mod frozen;
 mod laws;
+mod marked;
 mod properties;
 mod rows;
 
+pub use closed::closed_marks;
 pub use ends::{Ends, turned};
-pub use frozen::{PLACES, marks_of};
+pub use fixed::fixed_marks;
+pub use frozen::PLACES;
 pub use laws::answers_lie_in_their_sets;
+pub use marked::Marked;
 pub use properties::Properties;

@@ -10,7 +10,7 @@ ghost use Rattle.zpairs.specs.Pairs.{EachPair, all_ends, is_asked, may_exceed, m
 use crate::blocks::{BLOCK_CELLS, BLOCK_LENGTH, COLUMNS, OBJECT_CELLS, block_cells, object_cells};
 use crate::cell::{Cell, Test};
 use crate::ends::{Ends, turned};
-use crate::frozen::{Frozen, marks_of};
+use crate::marked::Marked;
 use std::marker::Model;
 use zcert::Range;
 use zdomain::Domain;
@@ -49,19 +49,16 @@ impl<'a> Properties<'a> {
     ghost use Rattle.zpairs.specs.Cells.{cell_at, passes};
     ghost use Rattle.zpairs.specs.Ends.{no_word};
     ghost use Rattle.zpairs.specs.Frozen.{frozen_by};
-    ghost use Rattle.zpairs.specs.Pairs.{AreAnswered, AreUnfrozen, CanBePut, EachPair, all_ends, answers, ends_below, number_ends, object_ends, pair_ends};
+    ghost use Rattle.zpairs.specs.Pairs.{AreAnswered, HaveOpenData, CanBePut, EachPair, all_ends, answers, ends_below, number_ends, object_ends, pair_ends};
 
-    /// Those of a story, of which the bytes in some ranges stay as they are. Each object's list is gone over once, and each place of each
-    /// range. It takes no memory beside its own, about 100 KB.
-    pub fn new(story: &'a Story, ranges: &'a [Range]) -> Properties<'a>
+    /// Those of a story, of which the bytes in some ranges stay as they are, by its marks. Each object's list is gone over once. They take
+    /// no memory beside their own, about 100 KB.
+    pub fn new(story: &'a Story, ranges: &'a [Range], marked: Marked<'_>) -> Properties<'a>
+        requires story { marked.story.now ≡ story.now }
+        requires ranges { marked.ranges.now ≡ ranges.now }
         ensures { result ≡ record { story = story.now; ranges = ranges.now } }
     {
-        let marks = marks_of(ranges);
-        let frozen = Frozen {
-            ranges,
-            marks: &marks,
-        };
-        let objects = object_cells(story, frozen);
+        let objects = object_cells(marked);
         Properties {
             story,
             ranges,
@@ -98,15 +95,15 @@ impl<'a> Properties<'a> {
         self.pass(Test::Put, objects, numbers)
     }
 
-    /// Whether no byte of the data of such properties is frozen.
-    pub fn are_unfrozen<V: Domain>(&self, objects: V, numbers: V) -> bool
-        ensures { IsTrue result ↔ AreUnfrozen V.operations self.now.story (frozen_by self.now.ranges) objects numbers }
+    /// Whether each byte of the data of such properties is open, so that stores may write it.
+    pub fn have_open_data<V: Domain>(&self, objects: V, numbers: V) -> bool
+        ensures { IsTrue result ↔ HaveOpenData V.operations self.now.story (frozen_by self.now.ranges) objects numbers }
     {
-        self.pass(Test::Unfrozen, objects, numbers)
+        self.pass(Test::Open, objects, numbers)
     }
 
     /// A set of whatever may be answered of an object of the story and a number of two sets: the words from the least to the greatest,
-    /// by their signed readings. A value is known where it is a default, or its bytes are frozen.
+    /// by their signed readings. A value is known where it is a default, or no play changes a byte of it.
     pub fn answers<V: Domain>(&self, question: PropertyQuestion, objects: V, numbers: V) -> V
         ensures { result ≡ answers V.operations self.now question objects numbers }
     {

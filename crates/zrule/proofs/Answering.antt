@@ -22,8 +22,6 @@ use Rattle.ztext.specs.Output.{output_at}
 use Rattle.ztext.proofs.Printable.{output_at-ok}
 use Rattle.zdomain.specs.Domain.{SetOperations, AreSound, In}
 use Rattle.zstate.specs.Step.{are_writable, is_data_writable, is_writable}
-use Rattle.zplace.specs.Bytes.{frozen}
-use Rattle.zplace.specs.Tables.{IsPropertyData}
 use Rattle.zplace.proofs.Staying.{data_dynamic, default_same, name_same, name_text, name_there, properties_same, property_data}
 use Rattle.zpairs.specs.Pairs.{answers}
 use Rattle.zpairs.proofs.Lying.{value_lies, address_lies, next_lies}
@@ -91,13 +89,10 @@ module _ {V : Type 0} (o : SetOperations V) (lawful : AreSound o) (claims : Clai
 
   -- ---- it lies in the set of the answers
 
-  frozen_same : (p : ℕ) → (frozen_in claims) p ≡ true → byte_at now p ≡ byte_at story.memory p
-  frozen_same p is = d.fixed p (record { closed = frozen is; unchanging = supports.tables.unchanging p is })
-
   pub answer_lies : AreBytes now → (question : PropertyQuestion) (objects numbers : V) (number x : ℕ) → In o objects object → In o numbers number → answer_of question now object number ≡ Ok x → In o (answers o (told_of claims story) question objects numbers) x
   answer_lies are Value objects numbers number x in_objects in_numbers e =
       let same = default_same story (frozen_in claims) loaded.sound loaded.counted supports.tables.apart supports.properties now d.long d.fixed number (number_low number x e) in
-      value_lies o lawful (told_of claims story) now objects numbers object number x first last in_objects in_numbers (found_same number) same frozen_same are e
+      value_lies o lawful (told_of claims story) now objects numbers object number x first last in_objects in_numbers (found_same number) same d.fixed are e
   answer_lies are Address objects numbers number x in_objects in_numbers e =
       address_lies o lawful (told_of claims story) now objects numbers object number x first last in_objects in_numbers (found_same number) e
   answer_lies are Next objects numbers number x in_objects in_numbers e =
@@ -112,7 +107,6 @@ module _ {V : Type 0} (o : SetOperations V) (lawful : AreSound o) (claims : Clai
     pub is : with_property object number word now ≡ Ok after
     pub differs : DiffersOnly (IsDataByte property) now after
     pub writable : is_data_writable story (property_of now object number) ≡ true
-    pub there : (p : ℕ) → IsDataByte property p → IsPropertyData story p
 
   put_length : (property : Property) (word : ℕ) (one two : Bool) → IsOk (with_value 0 story.memory property) → (property.length == 1) ≡ one → (property.length == 2) ≡ two → (after : List ℕ) × (with_value word now property ≡ Ok after)
   put_length property word true two ok e f = (slice_set now property.place (word % 256), rw e refl)
@@ -132,7 +126,6 @@ module _ {V : Type 0} (o : SetOperations V) (lawful : AreSound o) (claims : Clai
         is = ap (with_found word now) found ∙ put.1;
         differs = subst (λ (r : Result (List ℕ) ObjectError). IfOk r (DiffersOnly (IsDataByte property) now)) put.1 (value_differs now word property);
         writable = ap (is_data_writable story) found ∙ run_there story property.length property.place (λ q from below. data_dynamic story supports.properties q (there q (from, below)));
-        there = there;
       }
 
   pub filled : (number word : ℕ) → IsOk (with_property object number 0 story.memory) → Filled number word

@@ -16,8 +16,9 @@ use Rattle.zflow.specs.Flow.{IsFlow}
 use Rattle.zrule.specs.declared.rule.Rule.{Rule}
 use Rattle.zrule.specs.declared.rule.Rule.TheVariants.{Decodes, Height, Local, Successor, Object, Attribute, Property, Divisor, Write, Read, Text, Called, Returned, Buffers, Known, Stored, High, Status}
 use Rattle.zrule.specs.Claims.{Entry, Claims, frozen_in, told_of}
-use Rattle.zrule.specs.Rules.{IsThere, demands_at, IsKnown, Divides, KnowsAnswers, PrintsFixed, Reads, CallsBegin, Asks, Keeps}
+use Rattle.zrule.specs.Rules.{IsThere, demands_at, IsKnown, Divides, KnowsAnswers, NamesFixed, PrintsFixed, Reads, CallsBegin, Asks, Keeps}
 use Rattle.zpairs.specs.Frozen.{FrozenStory, frozen_by}
+use Rattle.zruns.specs.Names.{AreFixedNames}
 use Rattle.zruns.specs.Texts.{AreFixedTexts, HasFixedText}
 use Rattle.zrule.specs.Edges.{EdgesKeep}
 use Rattle.zrule.proofs.Whatever.{leads_on, called, returned, stored, high}
@@ -51,14 +52,14 @@ module _ {V : Type 0} (o : SetOperations V) (claims : Claims V) (story : LoadedS
   local_unknown rule b is known unknown = rw (is, unknown) (λ t k. absurd (let f = known k in cc), λ a. refl)
 
   -- and what a text is asked is so of every opcode that prints the one behind it
-  pub text_fixed : (rule : Rule) (b : Bool) → rule ≡ Text → OnTrue (prints_text i.opcode) (HasFixedText story (frozen_in claims) (p + 1)) → IsTrue b ↔ PrintsFixed o claims story i e.shape → IsTrue b ↔ Asks o claims story p e i rule
-  text_fixed rule b is fixed printed = rw is (λ t. (on_true _ _ _ (text_asked o (read_set o claims.globals i e.shape) i.opcode) fixed, printed.0 t), λ a. printed.1 a.1)
+  pub text_fixed : (rule : Rule) (b : Bool) → rule ≡ Text → OnTrue (prints_text i.opcode) (HasFixedText story (frozen_in claims) (p + 1)) → IsTrue b ↔ PrintsFixed o claims story i e.shape × NamesFixed o claims story i e.shape → IsTrue b ↔ Asks o claims story p e i rule
+  text_fixed rule b is fixed printed = rw is (λ t. let both = printed.0 t in (on_true _ _ _ (text_asked o (read_set o claims.globals i e.shape) i.opcode) fixed, both.0, both.1), λ a. printed.1 (a.1, a.2))
 
   -- by the tables and by what is known of the instruction
-  pub prints_told : (told : FrozenStory) → told ≡ told_of claims story → (flow : Flow V) → IsFlow o claims.globals (told_of claims story) i e.shape flow → (b : Bool) → IsTrue b ↔ IfSome flow.demands.texts (λ x. AreFixedTexts o told.story (frozen_by told.ranges) x.addressing x.places) → IsTrue b ↔ PrintsFixed o claims story i e.shape
+  pub prints_told : (told : FrozenStory) → told ≡ told_of claims story → (flow : Flow V) → IsFlow o claims.globals (told_of claims story) i e.shape flow → (b : Bool) → IsTrue b ↔ IfSome flow.demands.texts (λ x. AreFixedTexts o told.story (frozen_by told.ranges) x.addressing x.places) × IfSome flow.demands.named (AreFixedNames o told.story (frozen_by told.ranges)) → IsTrue b ↔ PrintsFixed o claims story i e.shape × NamesFixed o claims story i e.shape
   prints_told told is flow are b asked =
-      let here = subst (λ (t : FrozenStory). IsTrue b ↔ IfSome flow.demands.texts (λ x. AreFixedTexts o t.story (frozen_by t.ranges) x.addressing x.places)) is asked in
-      subst (λ (d : Demands V). IsTrue b ↔ IfSome d.texts (λ x. AreFixedTexts o story (frozen_in claims) x.addressing x.places)) are.demands here
+      let here = subst (λ (t : FrozenStory). IsTrue b ↔ IfSome flow.demands.texts (λ x. AreFixedTexts o t.story (frozen_by t.ranges) x.addressing x.places) × IfSome flow.demands.named (AreFixedNames o t.story (frozen_by t.ranges))) is asked in
+      subst (λ (d : Demands V). IsTrue b ↔ IfSome d.texts (λ x. AreFixedTexts o story (frozen_in claims) x.addressing x.places) × IfSome d.named (AreFixedNames o story (frozen_in claims))) are.demands here
 
   -- what is asked of edges
   module _ (flow : Flow V) (are : IsFlow o claims.globals (told_of claims story) i e.shape flow) (rule : Rule) (b : Bool) (keep : IsTrue b ↔ EdgesKeep o claims story (argument_sets o claims.globals i e.shape) e.routine (p + i.size) (target i) rule flow) where

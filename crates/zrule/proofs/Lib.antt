@@ -38,4 +38,5 @@ pub mod Runs
 pub mod Alike
 mod Worked
 mod WorkedApart
+mod WorkedStatic
 pub mod Instances

@@ -1,5 +1,5 @@
 -- What is said of every memory of a play stays so when attributes, links of objects, properties or open bytes are written.
-use Rattle.std.proofs.Common.{◌≡◌, ◌⊎◌, inl, inr, ℕ, ◌+◌, ◌*◌, ◌/◌, ◌<◌, ◌≤◌, Bool, false, List, length, Result, Ok, Err, refl, sym, ap, subst, ◌∙◌, arith}
+use Rattle.std.proofs.Common.{◌≡◌, ◌⊎◌, inl, inr, ℕ, ◌+◌, ◌*◌, ◌/◌, ◌<◌, ◌≤◌, Bool, List, length, Result, Ok, Err, refl, sym, ap, subst, ◌∙◌, arith}
 use Rattle.std.specs.Prelude.{IfOk}
 use Rattle.std.specs.Result.{IsOkAnd}
 use Rattle.std.proofs.lemmas.Option.{slice_get_within}
@@ -10,19 +10,15 @@ use Rattle.zstory.specs.Objects.{object_place}
 use Rattle.zobj.specs.declared.error.ObjectError.{ObjectError}
 use Rattle.zobj.specs.declared.tree.Link.{Link}
 use Rattle.zobj.specs.declared.tree.Link.TheVariants.{Parent, Sibling, Child}
-use Rattle.zobj.specs.declared.property.Property.{Property}
 use Rattle.zobj.specs.Attributes.{with_attribute}
 use Rattle.zobj.specs.Entries.{HasTable, IsEntryByte, IsLinkByte}
 use Rattle.zobj.specs.Kept.{DiffersOnly}
 use Rattle.zobj.specs.Moves.{inserted, unlinked}
 use Rattle.zobj.specs.Tree.{IsTree, link_byte, linked}
-use Rattle.zobj.specs.Values.{IsDataByte}
 use Rattle.zobj.proofs.Bytes.{differs_there, entry_byte_is, entry_byte_rests}
 use Rattle.zobj.proofs.Keeping.{inserted_only, inserted_tree, unlinked_only, unlinked_stays}
 use Rattle.zdomain.specs.Domain.{SetOperations, In}
 use Rattle.zplace.specs.Bytes.{IsClosed, IsFixed, IsObjectState, IsOpen, IsWithin, a_global, an_entry}
-use Rattle.zplace.specs.Tables.{HasPropertyTables, IsPropertyData}
-use Rattle.zplace.proofs.Staying.{data_unfixed}
 use Rattle.zrule.specs.Claims.{Claims, frozen_in}
 use Rattle.zrule.specs.Rules.{HasDisjointTables, HasGlobals}
 use Rattle.zrule.specs.Described.{DescribedMemory}
@@ -137,12 +133,6 @@ module _ {V : Type 0} (o : SetOperations V) (claims : Claims V) (story : LoadedS
 
     pub written_described : header.object_table after ≡ object_table story → DescribedMemory o claims story after
     written_described place = record { long = differs.size ∙ d.long; values = written_values; tree = written_tree place; fixed = written_fixed }
-
-  -- a property is given a word
-  pub filled_described : (properties : HasPropertyTables story) (property : Property) (there : (p : ℕ) → IsDataByte property p → IsPropertyData story p) (unfrozen : (p : ℕ) → IsDataByte property p → (frozen_in claims) p ≡ false) (after : List ℕ) → DiffersOnly (IsDataByte property) memory after → header.object_table after ≡ object_table story → DescribedMemory o claims story after
-  filled_described properties property there unfrozen = written_described (IsDataByte property)
-      (λ p is own. properties.data_still p (there p is) (inr own))
-      (λ p is fixed. data_unfixed story (frozen_in claims) properties p (there p is) (unfrozen p is) fixed.closed)
 
   -- the entries of objects are closed
   state_closed : (p : ℕ) → IsObjectState story p → IsClosed story (frozen_in claims) p

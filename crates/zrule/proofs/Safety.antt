@@ -46,11 +46,12 @@ use Rattle.zstate.proofs.Keeps.{changed_aside, step_keeps}
 use Rattle.zflow.specs.declared.parts.Kept.{Kept}
 use Rattle.zflow.specs.declared.parts.Outcome.{Outcome}
 use Rattle.zflow.specs.declared.parts.Demands.{Demands}
-use Rattle.zpairs.specs.Pairs.{AreUnfrozen}
+use Rattle.zpairs.specs.Pairs.{HaveOpenData}
+use Rattle.zplace.specs.Bytes.{IsOpen}
 use Rattle.zflow.specs.Transfer.{Shape, drawn_set, pops, variable_set, small, is_local, local_kept, operand_kept, both_kept, untold, counted_set, demands_of, goes_on, gives_in, assigns_in, asks, counts_in, follows_in, returns_in, enters_in, argument_sets, jumps, outcome_of, leading, named_with, with_result, with_assigned, narrowed, read_set, mid_shape, changed_by, after}
 use Rattle.zrule.specs.declared.rule.Rule.TheVariants as rules
 use Rattle.zrule.specs.Claims.{Claims, frozen_in, told_of}
-use Rattle.zrule.specs.Rules.{Begins, Enters, TakesBack, HasLineObject, IsThere, IsKnown, IsNamed, IsVariable, HasTop, Supports, Takes, TakesInPlace, GoesOn, Returns, OnEdge, Whatever, IsLow, demands_at, AreObjects, NamesObject, Finds, FindsProperty, Spares, AreRead, AreWritten, KnowsAnswers}
+use Rattle.zrule.specs.Rules.{Begins, Enters, TakesBack, HasLineObject, IsThere, IsKnown, IsNamed, IsVariable, HasTop, Supports, Takes, TakesInPlace, GoesOn, Returns, OnEdge, Whatever, IsLow, demands_at, AreObjects, NamesObject, Finds, FindsProperty, FillsOpen, AreRead, AreWritten, KnowsAnswers}
 use Rattle.zrule.specs.Described.{Described, DescribedMemory, Fits, IsSafe, IsListedIn, IsLoadedStory}
 use Rattle.zrule.proofs.Sets.{ReadsAll, reads_all, fits_popped, zip_set, zip_length}
 use Rattle.zrule.proofs.Printing.{line_shown, name_known, text_printed}
@@ -76,7 +77,7 @@ use Rattle.zrule.proofs.Stepping.{fetch_is, done_at, made_by, step_is}
 use Rattle.zrule.proofs.Pieces.{between_small, known_wherever, not_below_one, not_none, not_zero, object_known, on_true, two_asked, first_there, assigned_local, length_assigned, edge_of, defined_where, kept_holds}
 use Rattle.zrule.proofs.Answering.{Filled, answer_lies, answered, filled, found_same, length_there}
 use Rattle.zrule.proofs.Storing.{bytes_of, data_open, element_differs, element_lies, element_there, element_writable}
-use Rattle.zrule.proofs.Rewriting.{filled_described, stored_described, inserted_described, marked_described, unlinked_described}
+use Rattle.zrule.proofs.Rewriting.{stored_described, inserted_described, marked_described, unlinked_described}
 
 module _ {V : Type 0} (o : SetOperations V) (lawful : AreSound o) (claims : Claims V) (m : Setting) (loaded : IsLoadedStory m.story) (supports : Supports o claims m.story) (listed : IsListedIn o claims m.scope) (s : State) (d : Described o claims m.limit m.story s) (i : Instruction) (there : IsThere m.story d.at i) where
   abbrev operands : List Operand
@@ -130,7 +131,7 @@ module _ {V : Type 0} (o : SetOperations V) (lawful : AreSound o) (claims : Clai
     pub object : IfSome out.object (AreObjects o m.story) × IfSome out.under (AreObjects o m.story)
     pub attribute : IfSome out.attribute (λ a. (x : ℕ) → In o a x → x < 32)
     pub property : IfSome out.property (λ p. Finds o m.story p.asked p.objects p.numbers)
-    pub spares : IfSome out.property (λ p. Spares o m.story (frozen_in claims) p.asked p.objects p.numbers)
+    pub puts : IfSome out.property (λ p. FillsOpen o m.story (frozen_in claims) p.asked p.objects p.numbers)
     pub address : IfSome out.address (λ a. (x : ℕ) → In o a x → IsTrue (is_some (length_before m.story.memory x)))
     pub written : IfSome out.elements (λ x. AreWritten o m.story (frozen_in claims) x.access x.width x.arrays x.indices)
     pub read : IfSome out.elements (λ x. AreRead o m.story x.access x.width x.arrays x.indices)
@@ -156,7 +157,7 @@ module _ {V : Type 0} (o : SetOperations V) (lawful : AreSound o) (claims : Clai
     object = supports.each d.at d.entry d.listed rules.Object i there;
     attribute = supports.each d.at d.entry d.listed rules.Attribute i there;
     property = supports.each d.at d.entry d.listed rules.Property i there;
-    spares = (supports.each d.at d.entry d.listed rules.Write i there).0;
+    puts = (supports.each d.at d.entry d.listed rules.Write i there).0;
     written = (supports.each d.at d.entry d.listed rules.Write i there).1;
     address = (supports.each d.at d.entry d.listed rules.Read i there).0;
     read = (supports.each d.at d.entry d.listed rules.Read i there).1;
@@ -439,15 +440,15 @@ module _ {V : Type 0} (o : SetOperations V) (lawful : AreSound o) (claims : Clai
       let few : n.0 ≤ 8 = subst (λ (r : Option ℕ). IfSome r (λ n. n ≤ 8)) n.1 (length_small s.memory (arg all.values 0) d.is_state.bytes) in
       subst (λ (r : Option ℕ). Expected PropertyLength (reading r)) (sym n.1) (gives_expected PropertyLength _ n.0 (true, refl) (between_small o lawful 0 8 n.0 (omega arith) few (omega arith)))
 
-  fills_expected : (object : (1 ≤ arg all.values 0) × (arg all.values 0 ≤ m.story.objects)) → Filled o lawful claims m.story loaded supports s.memory d.memory (arg all.values 0) object.0 object.1 (arg all.values 1) (arg all.values 2) → AreUnfrozen o m.story (frozen_in claims) (args 0) (args 1) → Expected SetProperty (filling (with_property (arg all.values 0) (arg all.values 1) (arg all.values 2) s.memory) (is_data_writable m.story (property_of s.memory (arg all.values 0) (arg all.values 1))))
+  fills_expected : (object : (1 ≤ arg all.values 0) × (arg all.values 0 ≤ m.story.objects)) → Filled o lawful claims m.story loaded supports s.memory d.memory (arg all.values 0) object.0 object.1 (arg all.values 1) (arg all.values 2) → HaveOpenData o m.story (frozen_in claims) (args 0) (args 1) → Expected SetProperty (filling (with_property (arg all.values 0) (arg all.values 1) (arg all.values 2) s.memory) (is_data_writable m.story (property_of s.memory (arg all.values 0) (arg all.values 1))))
   unfolding outcome_of
-  fills_expected object f spared =
+  fills_expected object f free =
       let is = f.is in let writable = f.writable in
-      let frozen = spared (arg all.values 0) (arg all.values 1) object.0 object.1 (all.members 0) (all.members 1) in
+      let loaded_data = free (arg all.values 0) (arg all.values 1) object.0 object.1 (all.members 0) (all.members 1) in
       let was : property_of m.story.memory (arg all.values 0) (arg all.values 1) ≡ Some f.property = sym (found_same o lawful claims m.story loaded supports s.memory d.memory (arg all.values 0) object.0 object.1 (arg all.values 1)) ∙ f.found in
-      let unfrozen : (p : ℕ) → IsDataByte f.property p → (frozen_in claims) p ≡ false = subst (λ (r : Option AProperty). IfSome r (λ property. (p : ℕ) → IsDataByte property p → (frozen_in claims) p ≡ false)) was frozen in
+      let open_there : (p : ℕ) → IsDataByte f.property p → IsOpen m.story (frozen_in claims) p = subst (λ (r : Option AProperty). IfSome r (λ property. (p : ℕ) → IsDataByte property p → IsOpen m.story (frozen_in claims) p)) was loaded_data in
       let place = table_place m.story s.memory f.after f.property (sym (ap (is_data_writable m.story) f.found) ∙ f.writable) f.differs ∙ d.is_state.tables in
-      rw (is, writable) (rewrites SetProperty f.after (true, refl) (filled_described o claims m.story supports.tables supports.few s.memory d.memory d.is_state.objects d.is_state.tables supports.properties f.property f.there unfrozen f.after f.differs place))
+      rw (is, writable) (rewrites SetProperty f.after (true, refl) (stored_described o claims m.story supports.tables supports.few s.memory d.memory d.is_state.objects d.is_state.tables (IsDataByte f.property) open_there f.after f.differs place))
 
   -- an element is read, or given a word
   loads_expected : (width : Width) → AreReadable o m.story width (args 0) (args 1) → Expected (LoadArray width) (reading (element_at width s.memory (element_place width (arg all.values 0) (arg all.values 1))))
@@ -557,7 +558,7 @@ module _ {V : Type 0} (o : SetOperations V) (lawful : AreSound o) (claims : Clai
   by_operation PropertyLength rule begins = measures_expected (rule.address (arg all.values 0) (all.members 0))
   by_operation SetProperty rule begins =
       let object = rule.object.0 (arg all.values 0) (all.members 0) in let known = object_known m.story.objects (arg all.values 0) object in
-      rw known (fills_expected object (filled o lawful claims m.story loaded supports s.memory d.memory (arg all.values 0) object.0 object.1 (arg all.values 1) (arg all.values 2) (rule.property (arg all.values 0) (arg all.values 1) object.0 object.1 (all.members 0) (all.members 1))) rule.spares)
+      rw known (fills_expected object (filled o lawful claims m.story loaded supports s.memory d.memory (arg all.values 0) object.0 object.1 (arg all.values 1) (arg all.values 2) (rule.property (arg all.values 0) (arg all.values 1) object.0 object.1 (all.members 0) (all.members 1))) rule.puts)
   by_operation (LoadArray width) rule begins = loads_expected width rule.read
   by_operation (StoreArray width) rule begins = stores_expected width rule.written
   by_operation (PrintAt addressing) rule begins =

@@ -23,8 +23,9 @@ use Rattle.zflow.specs.declared.parts.Lead.TheVariants.{Ahead, Returning, Enteri
 use Rattle.zflow.specs.Transfer.{Shape, demands_of, outcome_of, with_result}
 use Rattle.zstate.specs.State.{Frame, Scope, State, has_head}
 use Rattle.zruns.specs.Buffers.{IsParseBuffer, IsTextBuffer}
-use Rattle.zpairs.specs.Pairs.{AreAnswered, AreUnfrozen, CanBePut}
+use Rattle.zpairs.specs.Pairs.{AreAnswered, CanBePut, HaveOpenData}
 use Rattle.zruns.specs.Runs.{AreOpen, AreReadable}
+use Rattle.zruns.specs.Names.{AreFixedNames}
 use Rattle.zruns.specs.Texts.{AreFixedTexts}
 use Rattle.zword.specs.declared.addressing.Addressing.TheVariants.{Byte as ByAddress}
 use Rattle.zcert.specs.declared.parts.Range.{Range}
@@ -36,7 +37,7 @@ use Rattle.zrule.specs.Edges.{StaysLow}
 use Rattle.zpairs.specs.Frozen.{is_inside}
 use Rattle.zrule.specs.Claims.{Entry, Claims, claims_of, frozen_in}
 use Rattle.zrule.specs.Described.{Callers, Described, Fits, FitsWith, IsListedIn}
-use Rattle.zrule.specs.Rules.{AreObjects, Finds, Spares, AreWritten, AreRead, HasFirstPlace, HasHeads, HasLineObject, gives_by_property, global_in, IsNamed, KnowsAnswers, Covers, Leads, Enters, GoesOn, Asks, Begins, Starts, Takes, TakesBack, comes_back, result_at}
+use Rattle.zrule.specs.Rules.{AreObjects, Finds, FillsOpen, AreWritten, AreRead, HasFirstPlace, HasHeads, HasLineObject, gives_by_property, global_in, IsNamed, KnowsAnswers, Covers, Leads, Enters, GoesOn, Asks, Begins, Starts, Takes, TakesBack, comes_back, result_at}
 use Rattle.zstate.specs.Step.{words_from}
 use Rattle.zrule.proofs.Instances.{by_answers}
 
@@ -399,15 +400,15 @@ elements_asked = ((λ w. (tt, w), λ a. a.1), (λ r. (tt, r), λ a. a.1))
 
 properties_asked :
     ((Finds interval_operations nowhere (Answered Value) first_set second_set → of_both Property opcodes.GetProp []) × (of_both Property opcodes.GetProp [] → Finds interval_operations nowhere (Answered Value) first_set second_set))
-    × ((Spares interval_operations nowhere (frozen_in small) Filled first_set second_set → of_both Write opcodes.PutProp (Constant 7 ∷ [])) × (of_both Write opcodes.PutProp (Constant 7 ∷ []) → Spares interval_operations nowhere (frozen_in small) Filled first_set second_set))
+    × ((FillsOpen interval_operations nowhere (frozen_in small) Filled first_set second_set → of_both Write opcodes.PutProp (Constant 7 ∷ [])) × (of_both Write opcodes.PutProp (Constant 7 ∷ []) → FillsOpen interval_operations nowhere (frozen_in small) Filled first_set second_set))
 unfolding operation_of demands_of small
 properties_asked = ((λ f. f, λ a. a), (λ s. (s, tt), λ a. a.0))
 
--- which is that an answer is there, or that a word can be put and spares what is frozen; that all is open, or can be read
+-- which is that an answer is there, or that a word can be put where all data are open; that all is open, or can be read
 together :
     (Finds interval_operations nowhere (Answered Value) first_set second_set → AreAnswered interval_operations nowhere Value first_set second_set)
     × (Finds interval_operations nowhere Filled first_set second_set → CanBePut interval_operations nowhere first_set second_set)
-    × (Spares interval_operations nowhere (frozen_in small) Filled first_set second_set → AreUnfrozen interval_operations nowhere (frozen_in small) first_set second_set)
+    × (FillsOpen interval_operations nowhere (frozen_in small) Filled first_set second_set → HaveOpenData interval_operations nowhere (frozen_in small) first_set second_set)
     × (AreWritten interval_operations nowhere (frozen_in small) Writing Byte first_set second_set → AreOpen interval_operations nowhere (frozen_in small) Byte first_set second_set)
     × (AreRead interval_operations nowhere Reading Byte first_set second_set → AreReadable interval_operations nowhere Byte first_set second_set)
 together = (λ a. a, λ a. a, λ a. a, λ a. a, λ a. a)
@@ -432,12 +433,14 @@ lengths : asks Read (point 0 ∷ []) [] asks_length × (asks Read (point 5 ∷ [
 unfolding asks_length operation_of demands_of small
 lengths = ((λ x inside. rw (interval_sound.known (point 0) 0 x refl inside) refl, tt), λ r. let none = r.0 5 (interval_sound.single 5 (omega arith)) in absurd cc)
 
--- texts are printed by their addresses
+-- texts are printed by their addresses, and short names by the numbers of their objects
 texts_asked :
     (AreFixedTexts interval_operations nowhere (frozen_in small) ByAddress first_set → asks Text (first_set ∷ []) [] (plain opcodes.PrintAddr (Variable 1 ∷ [])))
     × (asks Text (first_set ∷ []) [] (plain opcodes.PrintAddr (Variable 1 ∷ [])) → AreFixedTexts interval_operations nowhere (frozen_in small) ByAddress first_set)
+    × (AreFixedNames interval_operations nowhere (frozen_in small) first_set → asks Text (first_set ∷ []) [] (plain opcodes.PrintObj (Variable 1 ∷ [])))
+    × (asks Text (first_set ∷ []) [] (plain opcodes.PrintObj (Variable 1 ∷ [])) → AreFixedNames interval_operations nowhere (frozen_in small) first_set)
 unfolding operation_of demands_of small
-texts_asked = (λ f. (tt, f), λ t. t.1)
+texts_asked = (λ f. (tt, f, tt), λ t. t.1, λ f. (tt, tt, f), λ t. t.2)
 
 -- ---- edges
 
@@ -639,10 +642,10 @@ untaken : TakesBack interval_operations routines 16 (Entering (point 2)) → ⊥
 unfolding routines
 untaken takes = (takes 2 (interval_sound.single 2 (omega arith)) (λ e. omega (arith, e)) 5 (interval_sound.single 5 (omega arith))).member.1.le
 
--- an address is asked of any number, an answer leaves what is frozen, what is read needn't be open nor what is written read, and a
+-- an address is asked of any number, an answer asks for no open data, what is read needn't be open nor what is written read, and a
 -- return leads to no place
 nothing_asked :
-    Finds interval_operations two_objects (Answered Address) (point 1) (point 9) × Spares interval_operations two_objects (λ p. true) (Answered Value) (point 1) (point 1)
+    Finds interval_operations two_objects (Answered Address) (point 1) (point 9) × FillsOpen interval_operations two_objects (λ p. true) (Answered Value) (point 1) (point 1)
     × AreWritten interval_operations two_objects (λ p. true) Reading Byte (point 0) (point 0) × AreRead interval_operations two_objects Writing Byte (point 0) (point 0)
     × Enters interval_operations routines two_objects [] (Returning (point 2)) × GoesOn interval_operations routines 0 16 shape 0 (Returning (point 2)) × TakesBack interval_operations routines 16 (Returning (point 2))
 nothing_asked = ((λ x n least most object number. refl), tt, tt, tt, tt, tt, tt)

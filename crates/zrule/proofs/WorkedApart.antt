@@ -1,5 +1,5 @@
 -- Values of what is asked of a story's tables and of what is frozen (S8), on both sides of each bound.
-use Rattle.std.proofs.Common.{◌≡◌, ℕ, ◌+◌, ◌<◌, ◌≤◌, ◌==◌, Bool, [], ◌∷◌, ◌++◌, replicate, inl, inr, refl, subst, arith, false}
+use Rattle.std.proofs.Common.{◌≡◌, ℕ, ◌<◌, ◌≤◌, ◌==◌, Bool, [], ◌∷◌, ◌++◌, replicate, inl, inr, refl, subst, arith, false}
 use Rattle.std.proofs.lemmas.Bool.{eqb-true}
 use Rattle.zstory.specs.LoadedStory.{LoadedStory, globals, object_table, static_base}
 use Rattle.zplace.specs.Bytes.{IsChanging}

@@ -22,12 +22,13 @@ use Rattle.zrule.specs.Numbers.{number_of}
 use Rattle.zrule.specs.Claims.{Entry, Claims, frozen_in, told_of}
 use Rattle.zplace.specs.Bytes.{IsWithin, IsChanging, IsAbbreviation}
 use Rattle.zplace.specs.Tables.{HasPropertyTables}
-use Rattle.zpairs.specs.Pairs.{AreAnswered, AreUnfrozen, CanBePut}
+use Rattle.zpairs.specs.Pairs.{AreAnswered, CanBePut, HaveOpenData}
 use Rattle.zflow.specs.declared.parts.Lead.{Lead}
 use Rattle.zflow.specs.declared.parts.Lead.TheVariants.{Ahead, Returning, Entering}
 use Rattle.zarray.specs.declared.width.Width.{Width}
 use Rattle.zruns.specs.Runs.{AreOpen, AreReadable}
 use Rattle.zruns.specs.Texts.{AreFixedTexts, HasFixedText}
+use Rattle.zruns.specs.Names.{AreFixedNames}
 use Rattle.zruns.specs.Buffers.{AreBuffers}
 use Rattle.zflow.specs.declared.parts.Access.{Access}
 use Rattle.zflow.specs.declared.parts.Access.TheVariants.{Reading, Writing}
@@ -71,10 +72,10 @@ abbrev pub Finds : {V : Type 0} → SetOperations V → LoadedStory → Asked �
 Finds o story (Answered question) objects numbers = AreAnswered o story question objects numbers
 Finds o story Filled objects numbers = CanBePut o story objects numbers
 
--- a word that one is given leaves what is frozen as it is
-abbrev pub Spares : {V : Type 0} → SetOperations V → LoadedStory → (ℕ → Bool) → Asked → V → V → Type 0
-Spares o story is_frozen (Answered question) objects numbers = Unit {0}
-Spares o story is_frozen Filled objects numbers = AreUnfrozen o story is_frozen objects numbers
+-- a word that one is given is put where all data are open
+abbrev pub FillsOpen : {V : Type 0} → SetOperations V → LoadedStory → (ℕ → Bool) → Asked → V → V → Type 0
+FillsOpen o story is_frozen (Answered question) objects numbers = Unit {0}
+FillsOpen o story is_frozen Filled objects numbers = HaveOpenData o story is_frozen objects numbers
 
 -- elements of arrays that are written are open, and those that are read can be
 abbrev pub AreWritten : {V : Type 0} → SetOperations V → LoadedStory → (ℕ → Bool) → Access → Width → V → V → Type 0
@@ -257,9 +258,9 @@ module _ {V : Type 0} (o : SetOperations V) (claims : Claims V) where
   abbrev pub FindsProperty : LoadedStory → Instruction → Shape V → Type 0
   FindsProperty story i e = IfSome (demands_at i e).property (λ p. Finds o story p.asked p.objects p.numbers)
 
-  -- what is frozen stays as it is
-  abbrev pub SparesFrozen : LoadedStory → Instruction → Shape V → Type 0
-  SparesFrozen story i e = IfSome (demands_at i e).property (λ p. Spares o story (frozen_in claims) p.asked p.objects p.numbers)
+  -- all data of properties that are given a word are open
+  abbrev pub PutsOpen : LoadedStory → Instruction → Shape V → Type 0
+  PutsOpen story i e = IfSome (demands_at i e).property (λ p. FillsOpen o story (frozen_in claims) p.asked p.objects p.numbers)
 
   -- each element that is written is open
   abbrev pub WritesOpen : LoadedStory → Instruction → Shape V → Type 0
@@ -280,6 +281,10 @@ module _ {V : Type 0} (o : SetOperations V) (claims : Claims V) where
   -- the text at each address that it prints one of ends in memory, and stays as it is
   abbrev pub PrintsFixed : LoadedStory → Instruction → Shape V → Type 0
   PrintsFixed story i e = IfSome (demands_at i e).texts (λ x. AreFixedTexts o story (frozen_in claims) x.addressing x.places)
+
+  -- the short name of each object that it prints one of is empty, or a text that ends in memory and stays as it is
+  abbrev pub NamesFixed : LoadedStory → Instruction → Shape V → Type 0
+  NamesFixed story i e = IfSome (demands_at i e).named (AreFixedNames o story (frozen_in claims))
 
   -- each word of the first global's set is 0 or the number of one of the story's objects
   abbrev pub HasLineObject : LoadedStory → Type 0
@@ -308,13 +313,12 @@ module _ {V : Type 0} (o : SetOperations V) (claims : Claims V) where
   Asks story p e i rules.Property = FindsProperty story i e.shape
   -- I8: nothing is divided by 0
   Asks story p e i rules.Divisor = Divides i e.shape
-  -- I9: no property that is given a word has a frozen byte, and that all others may be written is S5; each byte of an element that is
-  -- written is open
-  Asks story p e i rules.Write = SparesFrozen story i e.shape × WritesOpen story i e.shape
+  -- I9: each byte of the data of a property that is given a word is open, and so is each byte of an element that is written
+  Asks story p e i rules.Write = PutsOpen story i e.shape × WritesOpen story i e.shape
   -- I10: each byte of an element, and the size byte before an address of property data, can be read
   Asks story p e i rules.Read = Reads story i e.shape
-  -- I11: the text behind the opcode byte stays as it is, and so does each that is printed by its address; that short names do is S5
-  Asks story p e i rules.Text = OnTrue (demands_at i e.shape).has_text (HasFixedText story (frozen_in claims) (p + 1)) × PrintsFixed story i e.shape
+  -- I11: the text behind the opcode byte stays as it is, and so does each that is printed by its address, and each short name
+  Asks story p e i rules.Text = OnTrue (demands_at i e.shape).has_text (HasFixedText story (frozen_in claims) (p + 1)) × PrintsFixed story i e.shape × NamesFixed story i e.shape
   -- I12: what is called begins as is said
   Asks story p e i rules.Called = CallsBegin story i e.shape
   -- I13: what is returned lies in the set of the routine

@@ -17,14 +17,14 @@ ghost use Rattle.zrule.specs.Claims.{claims_of, entry_of, Entry, told_of};
 ghost use Rattle.zobj.specs.Values.{length_before};
 ghost use Rattle.zpairs.specs.Frozen.{frozen_by};
 ghost use Rattle.zruns.specs.Texts.{HasFixedText};
-ghost use Rattle.zrule.specs.Rules.{AreRead, AreWritten, Asks, Divides, KnowsAnswers, Reads, IsThere, Keeps, IsLowestBroken, Spares};
+ghost use Rattle.zrule.specs.Rules.{AreRead, AreWritten, Asks, Divides, FillsOpen, KnowsAnswers, Reads, IsThere, Keeps, IsLowestBroken};
 
 use crate::arrays::{reads_elements, takes_line, writes_open};
 use crate::blocks::Blocks;
 use crate::edges::{enters, goes_on, is_low, returns, stores};
 use crate::objects::{names_attribute, names_object};
 use crate::operands::{has_height, has_locals, is_known};
-use crate::properties::{finds_property, knows_answers, reads_length, spares_frozen};
+use crate::properties::{finds_property, knows_answers, puts_open, reads_length};
 use crate::rule::Rule;
 use crate::site::Site;
 use crate::texts::{has_line_object, prints_fixed};
@@ -93,11 +93,11 @@ fn divides<V: Spelled>(demands: &Demands<V>) -> bool
     }
 }
 
-/// Whether all that an instruction writes may be written: properties without a frozen byte, and open elements.
+/// Whether all that an instruction writes is open: data of properties, and elements.
 fn writes<V: Spelled>(tables: &Tables<'_>, demands: &Demands<V>) -> bool
-    ensures { IsTrue result ↔ IfSome demands.now.property (λ p. Spares V.operations tables.now.story (frozen_by tables.now.ranges) p.asked p.objects p.numbers) × IfSome demands.now.elements (λ x. AreWritten V.operations tables.now.story (frozen_by tables.now.ranges) x.access x.width x.arrays x.indices) }
+    ensures { IsTrue result ↔ IfSome demands.now.property (λ p. FillsOpen V.operations tables.now.story (frozen_by tables.now.ranges) p.asked p.objects p.numbers) × IfSome demands.now.elements (λ x. AreWritten V.operations tables.now.story (frozen_by tables.now.ranges) x.access x.width x.arrays x.indices) }
 {
-    spares_frozen(tables.properties(), demands) && writes_open(tables.runs(), demands)
+    puts_open(tables.properties(), demands) && writes_open(tables.runs(), demands)
 }
 
 /// Whether all that it reads can be read: lengths of properties, and elements.

@@ -5,7 +5,7 @@ ghost use Rattle.std.specs.Bool.{OnTrue};
 ghost use Rattle.zdomain.specs.Domain.{In};
 ghost use Rattle.zobj.specs.Values.{length_before};
 ghost use Rattle.zpairs.specs.Frozen.{frozen_by};
-ghost use Rattle.zrule.specs.Rules.{AreObjects, Finds, Spares, gives_by_property};
+ghost use Rattle.zrule.specs.Rules.{AreObjects, FillsOpen, Finds, gives_by_property};
 
 use crate::objects::names_object;
 use zcert::Spelled;
@@ -40,23 +40,23 @@ fn finds<V: Spelled>(properties: &Properties<'_>, pairs: Pairs<V>) -> bool
     }
 }
 
-/// Whether no property that is given a word has a frozen byte.
-pub(crate) fn spares_frozen<V: Spelled>(properties: &Properties<'_>, demands: &Demands<V>) -> bool
-    ensures { IsTrue result ↔ IfSome demands.now.property (λ p. Spares V.operations properties.now.story (frozen_by properties.now.ranges) p.asked p.objects p.numbers) }
+/// Whether all data of properties that are given a word are open.
+pub(crate) fn puts_open<V: Spelled>(properties: &Properties<'_>, demands: &Demands<V>) -> bool
+    ensures { IsTrue result ↔ IfSome demands.now.property (λ p. FillsOpen V.operations properties.now.story (frozen_by properties.now.ranges) p.asked p.objects p.numbers) }
 {
     match demands.property {
-        Some(pairs) => spares(properties, pairs),
+        Some(pairs) => fills_open(properties, pairs),
         None => true,
     }
 }
 
-/// Whether a property that any object and number make is left alone, or has no frozen byte.
-fn spares<V: Spelled>(properties: &Properties<'_>, pairs: Pairs<V>) -> bool
-    ensures { IsTrue result ↔ Spares V.operations properties.now.story (frozen_by properties.now.ranges) pairs.asked pairs.objects pairs.numbers }
+/// Whether a property that any object and number make is left alone, or its data are open.
+fn fills_open<V: Spelled>(properties: &Properties<'_>, pairs: Pairs<V>) -> bool
+    ensures { IsTrue result ↔ FillsOpen V.operations properties.now.story (frozen_by properties.now.ranges) pairs.asked pairs.objects pairs.numbers }
 {
     match pairs.asked {
         Asked::Answered(_) => true,
-        Asked::Filled => properties.are_unfrozen(pairs.objects, pairs.numbers),
+        Asked::Filled => properties.have_open_data(pairs.objects, pairs.numbers),
     }
 }
 

@@ -12,9 +12,9 @@ use Rattle.zword.specs.Addressing.{place_of}
 use Rattle.zdomain.specs.Domain.{SetOperations, In}
 use Rattle.zpairs.specs.Frozen.{FrozenStory, frozen_by}
 use Rattle.zplace.specs.Bytes.{IsWithin, IsFixed}
-use Rattle.zruns.specs.Fixed.{is_fixed}
+use Rattle.zpairs.specs.Fixed.{is_fixed}
 use Rattle.zruns.specs.Texts.{HasFixedText, begins_text, AreTextMarks, AreRuns, AreTextRuns, run_length, IsLeastFrom}
-use Rattle.zruns.proofs.Telling.{fixed_is}
+use Rattle.zpairs.proofs.Telling.{fixed_is}
 
 -- ---- a text, by its first word
 

@@ -7,11 +7,11 @@ use Rattle.zstory.specs.Bytes.{byte_at}
 use Rattle.zpairs.specs.Frozen.{FrozenStory, frozen_by}
 use Rattle.zplace.specs.Bytes.{IsWithin, IsOpen}
 use Rattle.zruns.specs.declared.cell.Cell.{Cell}
-use Rattle.zruns.specs.Fixed.{AreClosed, is_fixed}
+use Rattle.zpairs.specs.Fixed.{AreClosed, is_fixed}
 use Rattle.zruns.specs.Runs.{cell_at}
 use Rattle.zruns.specs.Blocks.{piece_cell}
 use Rattle.zruns.specs.Buffers.{IsBuffer}
-use Rattle.zruns.proofs.Telling.{closed_is, fixed_is}
+use Rattle.zpairs.proofs.Telling.{closed_is, fixed_is}
 use Rattle.zruns.proofs.Pieces.{each_open, one_open}
 
 module _ (told : FrozenStory) where

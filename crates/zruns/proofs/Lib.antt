@@ -1,8 +1,7 @@
 pub mod Reached
-pub mod Telling
 pub mod Lying
 mod Pieces
 mod Buffers
-mod Marking
 mod Beginnings
+pub mod Named
 mod Worked

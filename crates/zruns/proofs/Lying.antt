@@ -15,9 +15,9 @@ use Rattle.zpairs.proofs.Lying.{low_end, high_end, exact}
 use Rattle.zplace.specs.Bytes.{IsFixed}
 use Rattle.zruns.specs.declared.run.Run.{Run}
 use Rattle.zruns.specs.declared.cell.Cell.{Cell}
-use Rattle.zruns.specs.Fixed.{is_fixed}
+use Rattle.zpairs.specs.Fixed.{is_fixed}
 use Rattle.zruns.specs.Runs.{address, run_of, cell_at, merged, merged_below, run_cell, any_element, elements_in, elements}
-use Rattle.zruns.proofs.Telling.{fixed_is}
+use Rattle.zpairs.proofs.Telling.{fixed_is}
 use Rattle.zruns.proofs.Reached.{reached}
 
 -- ---- one of many

@@ -14,10 +14,10 @@ use Rattle.zpairs.specs.Frozen.{FrozenStory, frozen_by}
 use Rattle.zplace.specs.Bytes.{IsOpen}
 use Rattle.zruns.specs.declared.run.Run.{Run}
 use Rattle.zruns.specs.declared.cell.Cell.{Cell}
-use Rattle.zruns.specs.Fixed.{is_closed}
+use Rattle.zpairs.specs.Fixed.{is_closed}
 use Rattle.zruns.specs.Runs.{address, run_of, EachAddress, AreReadable, AreOpen, each_byte, cell_at, no_cell, merged, merged_below, run_cell}
 use Rattle.zruns.specs.Blocks.{piece_cell, step_length}
-use Rattle.zruns.proofs.Telling.{closed_is}
+use Rattle.zpairs.proofs.Telling.{closed_is}
 
 -- ---- cells side by side
 

@@ -1,5 +1,8 @@
 -- Values of the definitions, computed.
-use Rattle.std.proofs.Common.{◌≡◌, ◌⊎◌, inl, inr, ℕ, zero, suc, ◌+◌, ◌-◌, ◌%◌, ◌<◌, ◌≤◌, Bool, true, false, List, [], ◌∷◌, ◌++◌, replicate, Some, None, refl, sym, subst, ◌∙◌, arith, nat_le}
+use Rattle.std.proofs.Common.{◌≡◌, ◌⊎◌, inl, inr, ℕ, zero, suc, ◌+◌, ◌-◌, ◌%◌, ◌<◌, ◌≤◌, Bool, true, false, List, [], ◌∷◌, ◌++◌, replicate, length, drop, Some, None, refl, sym, subst, ◌∙◌, arith, nat_le}
+use Rattle.std.proofs.lemmas.Option.{same_Some}
+use Rattle.ztext.specs.Words.{text_at}
+use Rattle.zdomain.specs.Domain.{In}
 use Rattle.zdomain.specs.Interval.{interval_operations}
 use Rattle.zdomain.specs.IntervalLaw.{interval_sound}
 use Rattle.zdomain.specs.declared.interval.Interval.{Interval}
@@ -10,13 +13,14 @@ use Rattle.zword.specs.declared.addressing.Addressing.TheVariants as addressings
 use Rattle.zword.specs.Addressing.{place_of}
 use Rattle.zpairs.specs.Frozen.{FrozenStory, frozen_by}
 use Rattle.zpairs.specs.Ends.{exactly}
-use Rattle.zplace.specs.Bytes.{IsFixed, IsOpen}
-use Rattle.zruns.specs.Fixed.{any_below, is_in_abbreviation, is_size_place, is_in_text, is_closed, is_changing, is_fixed}
+use Rattle.zplace.specs.Bytes.{IsChanging, IsFixed, IsOpen, static}
+use Rattle.zpairs.specs.Fixed.{any_below, is_in_abbreviation, is_size_place, is_in_text, is_closed, is_changing, is_fixed}
 use Rattle.zruns.specs.Runs.{AreOpen, AreReadable, run_of, address, cell_at, no_cell, merged, merged_below, any_element, elements}
 use Rattle.zruns.specs.Blocks.{step_length}
 use Rattle.zruns.specs.Texts.{HasFixedText, AreFixedTexts, begins_text, run_length}
+use Rattle.zruns.specs.Names.{AreFixedNames, HasFixedName}
 use Rattle.zruns.specs.Buffers.{IsTextBuffer, IsParseBuffer, AreBuffers}
-use Rattle.zruns.proofs.Telling.{fixed_is}
+use Rattle.zpairs.proofs.Telling.{fixed_is}
 use Rattle.zruns.proofs.Beginnings.{begins, none_is_some}
 use Rattle.zruns.proofs.Buffers.{piece_open}
 
@@ -214,6 +218,65 @@ sets_of_texts = (
   λ all. other_texts.0 (all 0x138 (interval_sound.between 0x137 0x138 0x138 (record { le = tt }) (record { le = tt }) (omega arith))),
   λ all. other_texts.1 (all 0x26D (interval_sound.between 0x26C 0x26E 0x26D (record { le = tt }) (record { le = tt }) (omega arith))),
 )
+
+-- ---- short names
+
+-- the story with its property table elsewhere. Static memory has four bytes, a name of one word at 0x284, and one without an end at 0x287
+named_at : ℕ → LoadedStory
+named_at low = record { memory = front ++ 0x02 ∷ low ∷ drop 2 tables ++ 0x01 ∷ 0x94 ∷ 0xA5 ∷ 0x01 ∷ 0x14 ∷ 0xA5 ∷ []; objects = 1 }
+
+abbrev Named : ℕ → Type 0
+Named low = HasFixedName (named_at low) (frozen_by []) 1
+
+static_byte : (p : ℕ) → 0x280 ≤ p → IsFixed (named_at 0x84) (frozen_by []) p
+unfolding named_at front tables
+static_byte p above = record { closed = static above; unchanging = still }
+  where
+    still : IsChanging (named_at 0x84) p → ⊥
+    still (inl flags) = omega (arith, flags.1, above)
+    still (inr (inl inside)) = omega (arith, inside.1, above)
+    still (inr (inr state)) = let inside = state.inside.1 in let first = state.first in let last = state.last in omega (arith, inside, first, last, above)
+
+-- a name of no words, one in static memory, one without an end, and one that begins behind the last byte
+static_names : Named 0x67 × Named 0x84 × (Named 0x87 → ⊥) × (Named 0x89 → ⊥)
+unfolding named_at front tables
+static_names = (
+  tt,
+  record { text = 0x94 ∷ 0xA5 ∷ []; found = refl; fixed = λ p within. (let above = within.0 in static_byte p (omega (arith, above))) },
+  λ has. none_is_some None has.text refl has.found,
+  λ outside. outside,
+)
+
+-- a text that goes on behind the two words that are stated, over bytes that stores may write; not where these are frozen
+open_name : (Named 0x73 → ⊥) × (is_fixed (record { story = named_at 0x73; ranges = [] }) 0x277 ≡ true) × (is_fixed (record { story = named_at 0x73; ranges = [] }) 0x279 ≡ false) × (is_fixed (record { story = named_at 0x73; ranges = record { first = 0x279; last = 0x279 } ∷ [] }) 0x279 ≡ true)
+unfolding named_at front tables any_below is_size_place
+open_name = (
+  λ has. none_yes (is_fixed (record { story = named_at 0x73; ranges = [] }) 0x279) refl ((fixed_is (record { story = named_at 0x73; ranges = [] }) 0x279).1 (has.fixed 0x279 (omega arith, long has.text has.found))),
+  refl,
+  refl,
+  refl,
+)
+  where
+    none_yes : (b : Bool) → b ≡ false → b ≡ true → ⊥
+    none_yes b never always = let e = sym never ∙ always in cc
+
+    long : (text : List ℕ) → text_at (named_at 0x73).memory 0x274 ≡ Some text → 0x279 < 0x274 + length text
+    long text found = subst (λ (t : List ℕ). 0x279 < 0x274 + length t) (same_Some _ _ found) (omega arith)
+
+-- of a set: the story has object 1 alone
+named_sets : AreFixedNames interval_operations (named_at 0x84) (frozen_by []) (between 1 9) × AreFixedNames interval_operations (named_at 0x87) (frozen_by []) (between 2 9) × (AreFixedNames interval_operations (named_at 0x87) (frozen_by []) (between 1 1) → ⊥)
+unfolding between named_at
+named_sets = (
+  λ x first last inside. subst (HasFixedName (named_at 0x84) (frozen_by [])) (only x first last) static_names.1,
+  λ x first last inside. absurd (none_there x first last inside),
+  λ all. static_names.2 (all 1 (omega arith) (omega arith) (interval_sound.single 1 (omega arith))),
+)
+  where
+    only : (x : ℕ) → 1 ≤ x → x ≤ 1 → 1 ≡ x
+    only x first last = omega (arith, first, last)
+
+    none_there : (x : ℕ) → 1 ≤ x → x ≤ 1 → In interval_operations (interval_operations.between 2 9) x → ⊥
+    none_there x first last inside = subst (λ (y : ℕ). In interval_operations (interval_operations.between 2 9) y → ⊥) (only x first last) (λ one. one.member.0.le) inside
 
 -- no run is longer than the greatest word
 run_lengths : (run_length (λ x. true) 7 0 ≡ 1) × (run_length (λ x. true) 7 65534 ≡ 65535) × (run_length (λ x. true) 7 65535 ≡ 65535) × (run_length (λ x. false) 7 3 ≡ 0) × (run_length (nat_le 7) 7 3 ≡ 4)

@@ -1,5 +1,5 @@
-pub mod Fixed
 pub mod Runs
 pub mod Blocks
 pub mod Texts
+pub mod Names
 pub mod Buffers

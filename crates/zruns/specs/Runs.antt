@@ -12,7 +12,7 @@ use Rattle.zpairs.specs.Frozen.{FrozenStory}
 use Rattle.zplace.specs.Bytes.{IsOpen}
 use Rattle.zruns.specs.declared.run.Run.{Run}
 use Rattle.zruns.specs.declared.cell.Cell.{Cell}
-use Rattle.zruns.specs.Fixed.{is_closed, is_fixed}
+use Rattle.zpairs.specs.Fixed.{is_closed, is_fixed}
 
 -- ---- runs of addresses
 

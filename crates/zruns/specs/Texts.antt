@@ -8,7 +8,7 @@ use Rattle.zword.specs.Addressing.{place_of}
 use Rattle.zdomain.specs.Domain.{SetOperations, In}
 use Rattle.zpairs.specs.Frozen.{FrozenStory, frozen_by}
 use Rattle.zplace.specs.Bytes.{IsWithin, IsFixed}
-use Rattle.zruns.specs.Fixed.{is_fixed}
+use Rattle.zpairs.specs.Fixed.{is_fixed}
 
 -- a text is whole in memory, and no byte of it is ever changed
 pub record HasFixedText (story : LoadedStory) (is_frozen : ℕ → Bool) (at : ℕ) : Type 0 where

@@ -4,8 +4,9 @@ ghost use Rattle.std.specs.Prelude.{◌≡◌, ◌<◌};
 ghost use Rattle.zruns.specs.Blocks.{AreBlocks, block_cell};
 
 use crate::cell::Cell;
-use crate::marked::Marked;
+use crate::element::cell_at;
 use zarray::Width;
+use zpairs::Marked;
 
 /// How many addresses a block has.
 pub(crate) const BLOCK_LENGTH: usize = 256;
@@ -32,7 +33,7 @@ fn block_cell(marked: Marked<'_>, width: Width, block: usize) -> Cell
 {
     let mut cell = Cell::NONE;
     for place in 0..BLOCK_LENGTH {
-        cell = cell.merge(marked.cell(width, BLOCK_LENGTH * block + place));
+        cell = cell.merge(cell_at(marked, width, BLOCK_LENGTH * block + place));
     }
     cell
 }

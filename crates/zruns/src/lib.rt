@@ -3,10 +3,8 @@
 
 mod blocks;
 mod cell;
-mod closed;
-mod fixed;
+mod element;
 mod laws;
-mod marked;
 mod run;
 mod runs;
 mod tables;

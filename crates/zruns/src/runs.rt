@@ -6,13 +6,13 @@ ghost use Rattle.zruns.specs.Runs.{AreReadable, any_element};
 
 use crate::blocks::{BLOCK_LENGTH, BLOCKS, block_cells};
 use crate::cell::Cell;
-use crate::marked::{Marked, byte_at};
+use crate::element::{byte_at, cell_at};
 use crate::run::Run;
 use std::marker::Model;
 use zarray::Width;
 use zcert::Range;
 use zdomain::Domain;
-use zpairs::{PLACES, turned};
+use zpairs::{Marked, PLACES, turned};
 use zstory::Story;
 
 /// The least size of a text buffer: room for a letter, and for the zero behind it (own).
@@ -44,7 +44,7 @@ impl<'a> Model for Runs<'a> {
     ghost view = { λ p. record { story = p.story.now; ranges = p.ranges.now } };
 
     ghost use Rattle.zarray.specs.declared.width.Width.TheVariants.{Byte, Word};
-    ghost use Rattle.zruns.specs.Fixed.{AreClosed, AreFixed};
+    ghost use Rattle.zpairs.specs.Fixed.{AreClosed, AreFixed};
     ghost use Rattle.zruns.specs.Blocks.{AreBlocks};
 
     ghost invariant = { λ p. AreClosed (record { story = p.story.now; ranges = p.ranges.now }) p.closed × AreFixed (record { story = p.story.now; ranges = p.ranges.now }) p.fixed × AreBlocks (record { story = p.story.now; ranges = p.ranges.now }) Byte p.bytes × AreBlocks (record { story = p.story.now; ranges = p.ranges.now }) Word p.words };
@@ -54,7 +54,7 @@ impl<'a> Runs<'a> {
     ghost use Rattle.std.specs.Prelude.{◌≡◌, ◌↔◌, ◌≤◌, ◌<◌, ◌+◌, ◌-◌, IsTrue};
     ghost use Rattle.zpairs.specs.Frozen.{frozen_by};
     ghost use Rattle.zruns.specs.Blocks.{block_cell, piece_cell, step_length};
-    ghost use Rattle.zruns.specs.Fixed.{AreClosed, AreFixed, is_fixed};
+    ghost use Rattle.zpairs.specs.Fixed.{AreClosed, AreFixed, is_fixed};
     ghost use Rattle.zruns.specs.Runs.{AreOpen, cell_at, elements, run_cell};
     ghost use Rattle.std.specs.Prelude.{◌*◌, ℕ};
     ghost use Rattle.zstory.specs.Bytes.{byte_at};
@@ -235,7 +235,7 @@ impl<'a> Runs<'a> {
             closed: &self.closed,
             fixed: &self.fixed,
         };
-        marked.cell(width, place)
+        cell_at(marked, width, place)
     }
 }
 

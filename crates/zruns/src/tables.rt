@@ -1,13 +1,11 @@
 //! The tables of a story by which a checker answers questions about many objects and many addresses.
 
-use crate::closed::closed_marks;
-use crate::fixed::fixed_marks;
-use crate::marked::Marked;
 use crate::runs::Runs;
 use crate::texts::Texts;
 use std::marker::Model;
 use zcert::Range;
-use zpairs::Properties;
+use zdomain::Domain;
+use zpairs::{Marked, Properties, closed_marks, fixed_marks};
 use zstory::Story;
 
 /// What is known of a story's properties, of runs of its addresses, and of its texts.
@@ -16,6 +14,8 @@ pub struct Tables<'a> {
     properties: Properties<'a>,
     runs: Runs<'a>,
     texts: Texts<'a>,
+    /// The short name of each object is empty, or a text that no play changes.
+    names_fixed: bool,
 }
 
 impl<'a> Model for Tables<'a> {
@@ -26,11 +26,17 @@ impl<'a> Model for Tables<'a> {
 
     ghost view = { λ p. p.properties };
 
-    ghost invariant = { λ p. (p.runs ≡ p.properties) × (p.texts ≡ p.properties) };
+    ghost use Rattle.std.specs.Prelude.{IsTrue};
+    ghost use Rattle.zpairs.specs.Frozen.{frozen_by};
+    ghost use Rattle.zruns.specs.Names.{EachObject, HasFixedName};
+
+    ghost invariant = { λ p. (p.runs ≡ p.properties) × (p.texts ≡ p.properties) × (IsTrue p.names_fixed → EachObject p.properties.story (HasFixedName p.properties.story (frozen_by p.properties.ranges))) };
 }
 
 impl<'a> Tables<'a> {
-    ghost use Rattle.std.specs.Prelude.{◌≡◌};
+    ghost use Rattle.std.specs.Prelude.{◌≡◌, ◌↔◌, IsTrue};
+    ghost use Rattle.zpairs.specs.Frozen.{frozen_by};
+    ghost use Rattle.zruns.specs.Names.{AreFixedNames};
 
     /// Those of a story, of which the bytes in some ranges stay as they are. Each of its own tables is gone over once, each place of each
     /// range, and each place of memory. They take no memory beside their own, about 500 KB.
@@ -45,9 +51,12 @@ impl<'a> Tables<'a> {
             closed: &closed,
             fixed: &fixed,
         };
+        let properties = Properties::new(story, ranges, marked);
+        let texts = Texts::new(story, ranges, marked);
         Tables {
-            properties: Properties::new(story, ranges),
-            texts: Texts::new(story, ranges, marked),
+            properties,
+            names_fixed: texts.are_names_fixed(),
+            texts,
             runs: Runs::new(story, ranges, closed, fixed),
         }
     }
@@ -71,6 +80,14 @@ impl<'a> Tables<'a> {
         ensures { result.now ≡ self.now }
     {
         &self.texts
+    }
+
+    /// Whether the short name of each object of a set is empty, or a text that no play changes, if the story has the object. It is one
+    /// test where that is so of all objects, and else goes over them.
+    pub fn are_names_fixed<V: Domain>(&self, objects: V) -> bool
+        ensures { IsTrue result ↔ AreFixedNames V.operations self.now.story (frozen_by self.now.ranges) objects }
+    {
+        self.names_fixed || self.texts().are_named_fixed(objects)
     }
 
     /// The story.

@@ -3,7 +3,7 @@
 ghost use Rattle.std.specs.Prelude.{◌≡◌, ◌<◌, false, slice_index_or};
 ghost use Rattle.zruns.specs.Texts.{AreTextMarks, begins_text};
 
-use crate::marked::Marked;
+use zpairs::Marked;
 
 /// How many places memory has at most (Z 1.1.4).
 pub(crate) const MEMORY_LENGTH: usize = 131_072;

@@ -1,15 +1,15 @@
-//! Which words of a set name places of texts that no play changes.
+//! Which words of a set name places of texts that no play changes, and which objects have such short names.
 
 ghost use Rattle.std.specs.Prelude.{◌≡◌, ◌+◌, ◌<◌, ℕ, false, slice_index_or};
 ghost use Rattle.zword.specs.Addressing.{place_of};
 ghost use Rattle.zruns.specs.Texts.{AreRuns, IsLeastFrom, run_length};
 
-use crate::marked::Marked;
 use crate::text_marks::{MEMORY_LENGTH, text_marks};
 use std::marker::Model;
 use zcert::Range;
 use zdomain::Domain;
-use zpairs::PLACES;
+use zobj::{ShortName, short_name};
+use zpairs::{Marked, PLACES};
 use zstory::Story;
 use zword::Addressing;
 
@@ -37,9 +37,11 @@ impl<'a> Model for Texts<'a> {
 }
 
 impl<'a> Texts<'a> {
-    ghost use Rattle.std.specs.Prelude.{◌≡◌, ◌↔◌, ◌<◌, ◌+◌, IsTrue, ℕ};
+    ghost use Rattle.std.specs.Prelude.{◌≡◌, ◌↔◌, ◌≤◌, ◌<◌, ◌+◌, IsTrue, ℕ};
+    ghost use Rattle.zdomain.specs.Domain.{In};
     ghost use Rattle.zpairs.specs.Frozen.{frozen_by};
     ghost use Rattle.zword.specs.Addressing.{place_of};
+    ghost use Rattle.zruns.specs.Names.{AreFixedNames, EachObject, HasFixedName};
     ghost use Rattle.zruns.specs.Texts.{AreFixedTexts, HasFixedText};
 
     /// Those of a story, of which the bytes in some ranges stay as they are, by its marks. Memory is gone over once, and all words twice.
@@ -72,6 +74,64 @@ impl<'a> Texts<'a> {
             least = least_behind(places, word, run);
         }
         true
+    }
+
+    /// Whether such a text begins at a byte address.
+    pub(crate) fn is_fixed(&self, address: u16) -> bool
+        ensures { IsTrue result ↔ HasFixedText self.now.story (frozen_by self.now.ranges) address }
+    {
+        self.run(Addressing::Byte, address) > 0
+    }
+
+    /// Whether the short name of an object is empty, or such a text.
+    #[tactic(auto, using(crate::proofs::Named::entry_there))]
+    pub(crate) fn is_name_fixed(&self, object: u8) -> bool
+        requires least { 1 ≤ object }
+        requires most { object ≤ self.now.story.objects }
+        ensures { IsTrue result ↔ HasFixedName self.now.story (frozen_by self.now.ranges) object }
+    {
+        match short_name(self.story.memory(), object) {
+            ShortName::Empty => true,
+            ShortName::At(address) => self.is_fixed(address),
+            ShortName::Outside => false,
+        }
+    }
+
+    /// Whether that of each object of the story is.
+    pub(crate) fn are_names_fixed(&self) -> bool
+        ensures { IsTrue result ↔ EachObject self.now.story (HasFixedName self.now.story (frozen_by self.now.ranges)) }
+    {
+        for below in 0..self.story.objects() {
+            if !self.is_name_fixed(below + 1) {
+                return false;
+            }
+        }
+        true
+    }
+
+    /// Whether that of each object of a set is, if the story has it.
+    pub(crate) fn are_named_fixed<V: Domain>(&self, objects: V) -> bool
+        ensures { IsTrue result ↔ AreFixedNames V.operations self.now.story (frozen_by self.now.ranges) objects }
+    {
+        for below in 0..self.story.objects() {
+            if !self.is_named_fixed(below + 1, objects) {
+                return false;
+            }
+        }
+        true
+    }
+
+    /// Whether that of an object is, if a set has it.
+    fn is_named_fixed<V: Domain>(&self, object: u8, objects: V) -> bool
+        requires least { 1 ≤ object }
+        requires most { object ≤ self.now.story.objects }
+        ensures { IsTrue result ↔ (In V.operations objects object → HasFixedName self.now.story (frozen_by self.now.ranges) object) }
+    {
+        if objects.contains(u16::from(object)) {
+            self.is_name_fixed(object)
+        } else {
+            true
+        }
     }
 
     /// For how many words from one on such a text begins at the place that each names.

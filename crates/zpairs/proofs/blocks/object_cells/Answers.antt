@@ -15,6 +15,6 @@ loop-k-preserved c =
     let below = c.loop-k-test.true in
     record {
       long = length-set c.loop-k.cells c.loop-k.k c.object_cell.result ∙ i.long;
-      same = λ more. let row : c.loop-k.k / 33 ≡ (c.loop-k.k + 1) / 33 = within c.loop-k.k more in subst (λ (b : ℕ). IsObjectRow c.args.story.now b c.renew.new.row) row c.renew.ensures;
-      made = one_more_cell c.loop-k.cells (λ j. object_cell (record { story = c.args.story.now; ranges = c.args.frozen.ranges.now }) (j / 33) (j % 33)) c.loop-k.k c.object_cell.result (omega (arith, long, below)) c.object_cell.ensures i.made;
+      same = λ more. let row : c.loop-k.k / 33 ≡ (c.loop-k.k + 1) / 33 = within c.loop-k.k more in subst (λ (b : ℕ). IsObjectRow c.args.marked.story.now b c.renew.new.row) row c.renew.ensures;
+      made = one_more_cell c.loop-k.cells (λ j. object_cell (record { story = c.args.marked.story.now; ranges = c.args.marked.ranges.now }) (j / 33) (j % 33)) c.loop-k.k c.object_cell.result (omega (arith, long, below)) c.object_cell.ensures i.made;
     }

@@ -8,6 +8,6 @@ use Rattle.zpairs.proofs.blocks.object_cells.Given as goal
 abbrev pub invariant-loop-k : goal.invariant-loop-k
 invariant-loop-k l = record {
   long : length l.cells ≡ 8448;
-  same : (l.k % 33 ≡ 0 → ⊥) → IsObjectRow l.story (l.k / 33) l.row;
-  made : (j : ℕ) → j < l.k → slice_index_or l.cells j no_cell ≡ object_cell (record { story = l.story; ranges = l.frozen.ranges.now }) (j / 33) (j % 33);
+  same : (l.k % 33 ≡ 0 → ⊥) → IsObjectRow l.marked.story.now (l.k / 33) l.row;
+  made : (j : ℕ) → j < l.k → slice_index_or l.cells j no_cell ≡ object_cell (record { story = l.marked.story.now; ranges = l.marked.ranges.now }) (j / 33) (j % 33);
 }

@@ -1,6 +1,6 @@
 use Rattle.std.proofs.Common.{refl, subst, ◌+◌}
 use Rattle.zpairs.specs.Frozen.{FrozenStory}
-use Rattle.zruns.specs.Fixed.{AreClosed}
+use Rattle.zpairs.specs.Fixed.{AreClosed}
 use Rattle.zruns.proofs.Buffers.{free_of, no_end_free}
 use Rattle.zruns.proofs.runs.Runs.are_free.Goals as goal
 

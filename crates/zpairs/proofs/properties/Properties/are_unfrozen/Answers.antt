@@ -1,8 +1,0 @@
-use Rattle.zpairs.specs.declared.cell.Test.TheVariants.{Unfrozen}
-use Rattle.zpairs.proofs.Each.{pairs_meet}
-use Rattle.zpairs.proofs.properties.Properties.are_unfrozen.Goals as goal
-
-pub returns : goal.returns
-returns g c =
-    let same = pairs_meet g.V.Domain.operations c.args.self.now Unfrozen c.args.objects c.args.numbers in
-    (λ yes. same.0 (c.pass.ensures.0 yes), λ all. c.pass.ensures.1 (same.1 all))

@@ -1,0 +1,7 @@
+use Rattle.std.proofs.Common.{ℕ, ◌≤◌}
+use Rattle.zpairs.specs.Frozen.{frozen_by}
+use Rattle.zruns.specs.Names.{HasFixedName}
+use Rattle.zruns.proofs.texts.Texts.are_names_fixed.Given as goal
+
+abbrev pub invariant-loop-below : goal.invariant-loop-below
+invariant-loop-below l = (x : ℕ) → 1 ≤ x → x ≤ l.below → HasFixedName l.self.story (frozen_by l.self.ranges) x

@@ -1,0 +1,66 @@
+//! What is known of a single element.
+
+ghost use Rattle.std.specs.Prelude.{◌≡◌, ◌<◌, not};
+ghost use Rattle.zstory.specs.Bytes.{byte_at};
+ghost use Rattle.zarray.specs.Arrays.{value_at};
+ghost use Rattle.zpairs.specs.Fixed.{is_closed, is_fixed};
+ghost use Rattle.zruns.specs.Runs.{cell_at, each_byte};
+
+use crate::cell::Cell;
+use zarray::Width;
+use zpairs::{Ends, Marked};
+
+/// What is known of the element at an address.
+pub(crate) fn cell_at(marked: Marked<'_>, width: Width, place: usize) -> Cell
+    requires { place < 65536 }
+    ensures { result ≡ cell_at (record { story = marked.entry.story.now; ranges = marked.entry.ranges.now }) width place }
+{
+    Cell {
+        is_open: are_open(marked, width, place),
+        fixed: are_fixed(marked, width, place),
+        ends: Ends::exactly(value_at(width, marked.story.memory(), place)),
+    }
+}
+
+/// Whether each byte of an element is open.
+fn are_open(marked: Marked<'_>, width: Width, place: usize) -> bool
+    requires { place < 65536 }
+    ensures { result ≡ each_byte width (λ q. not (is_closed (record { story = marked.entry.story.now; ranges = marked.entry.ranges.now }) q)) place }
+{
+    match width {
+        Width::Byte => !marked.is_closed(place),
+        Width::Word => !marked.is_closed(place) && !marked.is_closed(place + 1),
+    }
+}
+
+/// Whether no play changes a byte of it.
+fn are_fixed(marked: Marked<'_>, width: Width, place: usize) -> bool
+    requires { place < 65536 }
+    ensures { result ≡ each_byte width (is_fixed (record { story = marked.entry.story.now; ranges = marked.entry.ranges.now })) place }
+{
+    match width {
+        Width::Byte => marked.is_fixed(place),
+        Width::Word => marked.is_fixed(place) && marked.is_fixed(place + 1),
+    }
+}
+
+/// The element at a place, where memory may have ended.
+fn value_at(width: Width, memory: &[u8], place: usize) -> u16
+    requires { place < 65536 }
+    ensures { result ≡ value_at width memory.now place }
+{
+    match width {
+        Width::Byte => u16::from(byte_at(memory, place)),
+        Width::Word => u16::from_be_bytes([byte_at(memory, place), byte_at(memory, place + 1)]),
+    }
+}
+
+/// The byte at a place, and 0 outside memory.
+pub(crate) fn byte_at(memory: &[u8], place: usize) -> u8
+    ensures { result ≡ byte_at memory.now place }
+{
+    match memory.get(place) {
+        Some(byte) => *byte,
+        None => 0,
+    }
+}
