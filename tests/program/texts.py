@@ -7,6 +7,7 @@ from properties import FIVE, LAST_OBJECT, THREE, bytes_at, files
 from samples import NOP, letter, text, word
 
 SHOW = b"\xbc"
+PRINT_OBJ = b"\x9a"
 FIRST = b"\x10"  # global 16
 
 
@@ -125,6 +126,19 @@ HIGH_REFUSED = [
     ("any, where the end of the last is gone", print_paddr(FIRST), I11, F13, first(-2, -32768, -2)),
 ]
 
+# ---- names at the last byte addresses, which no story that is accepted has: where the story ends, where object 2 has its table, what
+# stands there, and what is printed, if it can be decoded
+
+HIGH_NAMES = [
+    ("a name that no byte address reaches", LONGEST, 0xFFFF, b"\x02" + letters("aaaa"), b"aaaa"),
+    ("a name over the last byte address", LONGEST, 0xFFFD, b"\x02" + letters("aaaa"), b"aaaa"),
+    ("an empty name at the last byte address", LONGEST, 0xFFFF, b"\0", b""),
+    ("an empty name that ends memory", filled(0x10000), 0xFFFF, b"\0", b""),
+    ("a name that memory ends before", filled(0x10000), 0xFFFF, b"\x01", None),
+    ("a name of which memory has one word", filled(0x10002), 0xFFFF, b"\x01" + letters("a"), b"a"),
+    ("a name with no end, which no byte address reaches", LONGEST, 0xFFFF, b"\x01", None),
+]
+
 # ---- an abbreviation in an abbreviation, which no story that is accepted has
 
 NESTED = {**bytes_at(0x35A, b"\x84\x05"), **bytes_at(0x280, b"\x84\x05")}
@@ -175,6 +189,15 @@ class Texts(Plays):
             answer = self.program.run(["play", "--status", "story"] + words, given)
             self.count.is_answer(f"{name}, {machine}", answer, printed(b"y" + line + b"y"))
 
+    def named(self, name, making, table, piece, printed_text):
+        """Printed by print_obj, and shown in a status line."""
+        others = {**bytes_at(LAST_OBJECT, word(table)), **bytes_at(table, piece)}
+        given = holding(making, [PRINT_OBJ + b"\x02", QUIT], NONE, others, [])
+        self.checked(name, given, "S5", F13 if printed_text is None else printed(printed_text))
+        given = holding(making, [SHOW, QUIT], first(2, 0, 2), others, [])
+        line = F13 if printed_text is None else printed(b"[" + printed_text + b" | Score: 0 | Moves: 0]\n")
+        self.count.is_answer(f"{name}, shown", self.program.run(["play", "--status", "story"], given), line)
+
     def alone(self):
         """What no table has."""
         nested = files([print_addr(0x280), QUIT], others=NESTED, ranges=[(0x280, 0x281)])
@@ -205,5 +228,7 @@ def see_texts(program, count):
         texts.refused(LONGEST, *row)
     for row in LINES:
         texts.shown(*row)
+    for row in HIGH_NAMES:
+        texts.named(*row)
     texts.shown("a name of more than 16 letters", first(2, 0, 2), LONG_NAME, b"[a room with a view | Score: 0 | Moves: 0]\n")
     texts.alone()

@@ -15,7 +15,6 @@ pub mod Onward
 pub mod Families
 pub mod Operations
 pub mod Full
-pub mod Quiet
 pub mod Stepped
 pub mod Awaiting
 pub mod Inside

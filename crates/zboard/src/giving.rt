@@ -78,7 +78,7 @@ fn give_name(
 {
     match short_name(memory, object) {
         ShortName::Empty => Ok(()),
-        ShortName::At(place) => give_decoded(memory, usize::from(place), text, items),
+        ShortName::At(place) => give_decoded(memory, place, text, items),
         ShortName::Outside => unreachable!(),
     }
 }

@@ -47,7 +47,7 @@ fn decode_name(memory: &[u8], object: u16, text: &mut Vec<u8>) -> Result<(), All
     }
     match short_name(memory, object as u8) {
         ShortName::Empty => Ok(()),
-        ShortName::At(place) => decode_behind(memory, usize::from(place), text),
+        ShortName::At(place) => decode_behind(memory, place, text),
         ShortName::Outside => unreachable!(),
     }
 }

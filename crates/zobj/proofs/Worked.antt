@@ -310,6 +310,10 @@ size_bytes = (refl, refl, refl)
 no_names : (name_in (0x00 ∷ 0x05 ∷ []) 0 ≡ Empty) × (name_in (0x01 ∷ 0x94 ∷ 0xA5 ∷ []) 0 ≡ At 1) × (name_in (0x01 ∷ 0x94 ∷ []) 0 ≡ At 1) × (name_in (0x00 ∷ 0x01 ∷ []) 1 ≡ Outside) × (name_in (0x00 ∷ 0x00 ∷ []) 1 ≡ Empty) × (name_in (0x00 ∷ 0x00 ∷ []) 2 ≡ Outside)
 no_names = (refl, refl, refl, refl, refl, refl)
 
+-- a text begins at 65,536 as anywhere else, where memory goes on there
+far_names : (name_in (replicate 65535 0 ++ 0x01 ∷ 0x94 ∷ []) 65535 ≡ At 65536) × (name_in (replicate 65535 0 ++ 0x01 ∷ []) 65535 ≡ Outside) × (name_in (replicate 65536 0) 65535 ≡ Empty)
+far_names = (refl, refl, refl)
+
 -- ---- what is left as it is
 
 data_bytes : IsDataByte three 630 × IsDataByte three 631 × (IsDataByte three 629 → ⊥) × (IsDataByte three 632 → ⊥)

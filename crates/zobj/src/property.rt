@@ -9,7 +9,7 @@ ghost use Rattle.zobj.specs.Properties.{IsReadable, list_place, is_property, pro
 use crate::entry::property_table;
 
 /// Byte addresses are words, so that nothing is read from here on (Z 1.2.1).
-pub(crate) const READABLE_LENGTH: usize = 65_536;
+const READABLE_LENGTH: usize = 65_536;
 
 /// A property.
 #[derive(Clone, Copy)]

@@ -177,12 +177,8 @@ module _ (story : LoadedStory) (is_frozen : ℕ → Bool) (sound : IsSound story
       let table = property_table story.memory object in
       let below = list_inside story.memory (static_base story) 32 (list_place story.memory table) (tables.tables object first last).listed in
       let within = sound.static_base_within in
-      let small = static_small in
-      by table (nat_lt table (readable_end story.memory)) (nat_lt (table + 1) (readable_end story.memory)) (lt-ltb table (readable_end story.memory) (omega (arith, below, within, small))) (lt-ltb (table + 1) (readable_end story.memory) (omega (arith, below, within, small))) (byte_at story.memory table == 0) (subst (λ (b : Bool). (if b then Empty else name_in story.memory (property_table story.memory object)) ≡ Outside) (no_zero object first) e)
+      by table (nat_lt table (length story.memory)) (nat_lt (table + 1) (length story.memory)) (lt-ltb table (length story.memory) (omega (arith, below, within))) (lt-ltb (table + 1) (length story.memory) (omega (arith, below, within))) (byte_at story.memory table == 0) (subst (λ (b : Bool). (if b then Empty else name_in story.memory (property_table story.memory object)) ≡ Outside) (no_zero object first) e)
     where
-      static_small : static_base story < 65536
-      static_small = let high = sound.bytes 0x0e in let low = sound.bytes 0x0f in omega (arith, high, low)
-
       by : (table : ℕ) (inside more : Bool) → inside ≡ true → more ≡ true → (empty : Bool) → (if inside then (if empty then Empty else (if more then At (table + 1) else Outside)) else Outside) ≡ Outside → ⊥
       by table true true i m true is = absurd cc
       by table true true i m false is = absurd cc
@@ -199,7 +195,7 @@ module _ (story : LoadedStory) (is_frozen : ℕ → Bool) (sound : IsSound story
   pub name_text : (object at : ℕ) → 1 ≤ object → object ≤ story.objects → short_name story.memory object ≡ At at → (text : List ℕ) × (text_at now at ≡ Some text)
   name_text object at first last e =
       let table = property_table story.memory object in
-      let place = at_name table (nat_lt table (readable_end story.memory)) (byte_at story.memory table == 0) (nat_lt (table + 1) (readable_end story.memory)) (subst (λ (b : Bool). (if b then Empty else name_in story.memory (property_table story.memory object)) ≡ At at) (no_zero object first) e) in
+      let place = at_name table (nat_lt table (length story.memory)) (byte_at story.memory table == 0) (nat_lt (table + 1) (length story.memory)) (subst (λ (b : Bool). (if b then Empty else name_in story.memory (property_table story.memory object)) ≡ At at) (no_zero object first) e) in
       let text = named_text table (tables.tables object first last).named place.1 in (
         text.0,
         subst (λ (p : ℕ). text_at now p ≡ Some text.0) (sym place.0) (text_at-same story.memory now (table + 1) text.0 long text.1 (λ p from below.

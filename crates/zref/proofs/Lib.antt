@@ -4,6 +4,7 @@ mod Drawing
 mod Fixed
 mod Hearing
 mod Keeping
+mod Needing
 pub mod Running
 mod Plain
 mod Resuming

@@ -1,6 +1,7 @@
 -- Lines of the player that are read.
-use Rattle.std.specs.Prelude.{◌≡◌, ℕ, ◌+◌, ◌*◌, ◌≤◌, true, List, Some, Result, Ok}
+use Rattle.std.specs.Prelude.{◌≡◌, ℕ, ◌+◌, ◌*◌, ◌≤◌, true, List, Option, Some, None, Result, Ok, Err}
 use Rattle.zfault.specs.declared.item.Status.{Status as StatusLine}
+use Rattle.zfault.specs.declared.pause.Need.{Need}
 use Rattle.zfault.specs.declared.pause.Need.TheVariants as needs
 use Rattle.zline.specs.Storing.{HasBuffers, with_line}
 use Rattle.zstory.specs.Bytes.{byte_at}
@@ -31,6 +32,11 @@ at_hand effect = waits effect.needs >>= λ _. Ok effect
 -- what is done of a line in these buffers, once nothing is wrong with them and what it needs is there
 abbrev pub line_done : LoadedStory → Buffers → State → Result Effect Halt
 line_done story buffers s = line_read story buffers.text buffers.parse s >>= at_hand
+
+-- what an effect needs, where nothing is wrong with it
+abbrev pub needs_in : Result Effect Halt → Option Need
+needs_in (Ok e) = e.needs
+needs_in (Err h) = None
 
 -- both buffers are in dynamic memory, and the text buffer has room for the zero
 pub record AreInside (story : LoadedStory) (memory : List ℕ) (buffers : Buffers) : Type 0 where

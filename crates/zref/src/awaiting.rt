@@ -9,20 +9,23 @@ ghost use Rattle.zstate.specs.Run.{need_in};
 ghost use Rattle.zstate.specs.State as spec;
 ghost use Rattle.zstate.specs.Step.{Done, fetch, step};
 ghost use Rattle.zref.specs.Machine.{Judges, scope_of, setting_of};
-ghost use Rattle.zref.specs.Row.{IsAsLoaded, IsFetched};
+ghost use Rattle.zref.specs.Row.{IsAsLoaded, IsFetched, IsFit, within};
 
 use crate::cache::row_at;
+use crate::lines::need_of_line;
 use crate::plan::StepError;
+use crate::random::halt_random;
 use crate::row::Row;
+use crate::saves::{halt_restore, halt_save};
 use crate::scope::Scope;
 use crate::step::halt_at;
-use std::alloc::Global;
+use zcode::Operation;
 use zfault::{Fault, Need};
 use zstate::{Halt, State};
 use zstory::Story;
 
-/// What the next step needs, if that keeps it from being made.
-pub(crate) fn need_of(alloc: Global, story: &Story, scope: &Scope, state: &State) -> Option<Need>
+/// What the next step needs, if that keeps it from being made. No memory is taken.
+pub(crate) fn need_of(story: &Story, scope: &Scope, state: &State) -> Option<Need>
     requires memory { length state.now.memory ≡ length story.now.memory }
     requires objects { HasTable state.now.memory story.now.objects }
     requires tables { header.object_table state.now.memory ≡ object_table story.now }
@@ -30,8 +33,24 @@ pub(crate) fn need_of(alloc: Global, story: &Story, scope: &Scope, state: &State
     requires loaded { IsAsLoaded story.now state.now.memory }
     ensures { result ≡ need_in (step (setting_of story.now scope.now) state.now) }
 {
-    let mut text = Vec::new(alloc);
-    need_in(halt_next(story, scope, state, &mut text))
+    match row_of_next(story, scope, state) {
+        Ok(row) => need_at(story, &row, state),
+        Err(halt) => need_in(Err(StepError::Halt(halt))),
+    }
+}
+
+/// The same, by the row of the instruction at the place. Few need anything: a random number, a line, what came of a save, or one.
+fn need_at(story: &Story, row: &Row, state: &State) -> Option<Need>
+    requires { IsFit story.now row.now state.now }
+    ensures { (scope : spec.Scope) → IsFetched scope state.now.place state.now.memory row.now → result ≡ need_in (step (within story.now scope) state.now) }
+{
+    match row.operation {
+        Operation::Random => need_in(halt_random(story, row, state)),
+        Operation::ReadLine => need_of_line(story, row, state),
+        Operation::Save => need_in(halt_save(story, row, state)),
+        Operation::Restore => need_in(halt_restore(story, row, state)),
+        _ => None,
+    }
 }
 
 /// The need in what keeps a step from being made.

@@ -7,6 +7,7 @@ pub mod Keeps
 mod Piles
 pub mod Locals
 pub mod Opens
+pub mod Quiet
 mod Packing
 mod Reading
 pub mod Saves

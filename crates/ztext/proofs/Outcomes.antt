@@ -1,6 +1,6 @@
 -- What the outcome of decoding says of a text's output.
 use Rattle.std.proofs.Common.{◌≡◌, ℕ, ◌+◌, ◌<◌, ◌↔◌, Bool, true, false, List, ◌++◌, length, take, Option, Some, None, option_map, if◌then◌else◌, Result, Ok, Err, refl, sym, ◌∙◌}
-use Rattle.std.specs.Prelude.{IsErrOf, IsOkAnd}
+use Rattle.std.specs.Prelude.{IsErrOf, IsOk, IsOkAnd}
 use Rattle.std.specs.Option.{ok_or}
 use Rattle.std.proofs.Math.Seq.{take-append_seam}
 use Rattle.ztext.specs.declared.error.TextError.{TextError}
@@ -87,3 +87,12 @@ IsWritten-at memory at text capacity old new answer e written = rw (output_at-so
 
 pub error_of-at : (memory : List ℕ) (at : ℕ) (text : List ℕ) (pieces : List Piece) (e : TextError) → Some text ≡ text_at memory at → pieces ≡ pieces_of (characters_in text) → e ≡ error_of (all_joined (piece_output memory) pieces) → e ≡ error_of (output_at memory at)
 error_of-at memory at text pieces e is p error = rw (output_at-some memory at text (sym is), ← p) error
+
+-- what is judged of a text, with nothing written
+pub judged_ok : (e : TextError) (output : Result (List ℕ) TextError) → (output ≡ Err OutOfMemory → ⊥) → e ≡ OutOfMemory → e ≡ error_of output → IsOk output
+judged_ok e (Ok out) never whole is = refl
+judged_ok e (Err d) never whole is = absurd (never (rw (sym is ∙ whole) refl))
+
+pub judged_err : (e : TextError) (output : Result (List ℕ) TextError) → (e ≡ OutOfMemory → ⊥) → e ≡ error_of output → output ≡ Err e
+judged_err e (Ok out) other is = absurd (other is)
+judged_err e (Err d) other is = rw is refl

@@ -1,6 +1,6 @@
 //! Decoding.
 
-ghost use Rattle.std.specs.Prelude.{◌≡◌, ◌+◌, ◌<◌, ◌≤◌, ◌↔◌, ◌++◌, length, Some, Ok, IfOk, OnOk, OnErr, IsOkAnd, IsErrOf, vec_len, vec_capacity};
+ghost use Rattle.std.specs.Prelude.{◌≡◌, ◌+◌, ◌<◌, ◌≤◌, ◌↔◌, ◌++◌, length, Some, Ok, Err, IfOk, IfErr, IsOk, OnOk, OnErr, IsOkAnd, IsErrOf, vec_len, vec_capacity};
 ghost use Rattle.ztext.specs.Words.{length_at};
 ghost use Rattle.ztext.specs.Output.{output_at};
 ghost use Rattle.ztext.specs.Progress.{first_error, error_of, all_joined, memory_use, piece_output};
@@ -41,6 +41,23 @@ pub fn decode_into(memory: &[u8], at: usize, text: &mut Vec<u8>) -> Result<usize
         return Err(error_of_text(memory, Pieces::new(bytes)));
     };
     Ok(bytes.len())
+}
+
+/// Whether the text at a place of memory can be decoded; where it can't, the error that `decode_into` has for it (Z 3). No memory is
+/// taken, and none is wanted: the error is never `OutOfMemory`.
+///
+/// It costs what decoding costs: the text's own length and that of each abbreviation that it uses, as often as it uses it.
+pub fn judge_text(memory: &[u8], at: usize) -> Result<(), TextError>
+    ensures ok { OnOk result (IsOk (output_at memory.now at)) }
+    ensures err { IfErr result (λ e. output_at memory.now at ≡ Err e) }
+{
+    let Some(bytes) = text_bytes(memory, at) else {
+        return Err(TextError::Outside);
+    };
+    match error_of_text(memory, Pieces::new(bytes)) {
+        TextError::OutOfMemory => Ok(()),
+        error => Err(error),
+    }
 }
 
 // The error that stands where the pieces of a text can't be written: of those of its abbreviations the one that is declared

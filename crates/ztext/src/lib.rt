@@ -15,7 +15,7 @@ mod typed;
 mod writing;
 
 pub use abbreviations::{TextSpan, plain_abbreviation};
-pub use decode::decode_into;
+pub use decode::{decode_into, judge_text};
 pub use ends::TextEnds;
 pub use error::TextError;
 pub use laws::{reading_is_local, text_is_at_front};

@@ -1,6 +1,6 @@
 -- What keeps a step from being made, and is no fault, is of its effect.
 use Rattle.std.proofs.Common.{◌≡◌, ℕ, Bool, true, false, List, [], ◌∷◌, Result, Ok, Err, Option, Some, None, refl, sym, ap, subst, ◌∙◌, if◌then◌else◌}
-use Rattle.std.specs.Prelude.{ℤ, pos, negsuc, not, is_some, ◌&&◌, ◌||◌, ◌==◌, nat_lt, ◌+ℤ◌}
+use Rattle.std.specs.Prelude.{IfOk, ℤ, pos, negsuc, not, is_some, ◌&&◌, ◌||◌, ◌==◌, nat_lt, ◌+ℤ◌}
 use Rattle.zfault.specs.declared.fault.Fault.{Fault}
 use Rattle.zfault.specs.declared.fault.Fault.TheVariants.{AbsentLocal, ReadOutside, ReturnFromMain, SmallBuffer, WriteOutside}
 use Rattle.zfault.specs.declared.pause.Need.{Need}
@@ -24,7 +24,8 @@ use Rattle.zstate.specs.declared.halt.Halt.{Halt}
 use Rattle.zstate.specs.declared.halt.Halt.TheVariants as halts
 use Rattle.zstate.specs.InTurn.{◌>>=◌, in_turn}
 use Rattle.zstate.specs.State.{State, Setting, has_head, pop, found, read_named, read_variable, read_operand, read_operands, read_in_place, exists, has_room}
-use Rattle.zstate.specs.Step.{Effect, Move, arg, are_large, are_open, are_sized, buffered, is_object, printed, print_at, marking, rearranging, answering, reading, filling, are_writable, of_object, naming, global_word, status_of, effect_of, course, expects, has_caller, is_taken, is_roomy, asked, waits, admits, pauses, settle, fetch, unpacked, plan, step}
+use Rattle.zstate.specs.Run.{need_in}
+use Rattle.zstate.specs.Step.{Done, Effect, Move, arg, closing, are_large, are_open, are_sized, buffered, is_object, printed, print_at, marking, rearranging, answering, reading, filling, are_writable, of_object, of_attribute, naming, global_word, status_of, effect_of, course, expects, has_caller, is_taken, is_roomy, asked, waits, admits, pauses, settle, fetch, unpacked, plan, step}
 
 abbrev done : {A : Type 0} → A → Result A Halt
 done x = Ok x
@@ -72,7 +73,7 @@ unfolding read_operand
 of_operand story (Constant n) s = tt
 of_operand story (Variable v) s = of_variable story v s
 
-of_operands : (story : LoadedStory) (os : List Operand) (s : State) → IsOrFaults (read_operands story os s)
+pub of_operands : (story : LoadedStory) (os : List Operand) (s : State) → IsOrFaults (read_operands story os s)
 unfolding in_turn
 of_operands story [] s = tt
 of_operands story (o ∷ os) s = bind (read_operand story o s) _ (of_operand story o s) (λ x e. bind (read_operands story os x.1) _ (of_operands story os x.1) (λ y f. tt))
@@ -244,3 +245,121 @@ module _ (limit v : ℕ) (effect : Effect) (move : Move) (s : State) where
   pub needs_so : (n : Need) → pauses limit v effect move s ≡ Err (halts.Need n) → effect.needs ≡ Some n
   unfolding pauses
   needs_so n e = needs_if effect.needs effect.quits (not (is_some effect.gives) || has_room v s.frame) (is_roomy limit move s.frame.result s.callers) n e
+
+-- ---- what needs nothing
+
+abbrev NeedsNone : Result Effect Halt → Type 0
+NeedsNone r = IfOk r (λ e. e.needs ≡ None)
+
+whether : (b : Bool) (r t : Result Effect Halt) → NeedsNone r → NeedsNone t → NeedsNone (if b then r else t)
+whether true r t h k = h
+whether false r t h k = k
+
+onward : {A : Type 0} (r : Result A Halt) (f : A → Result Effect Halt) → ((x : A) → NeedsNone (f x)) → NeedsNone (r >>= f)
+onward (Ok x) f h = h x
+onward (Err h) f g = tt
+
+none_printed : (r : Result (List ℕ) TextError) → NeedsNone (printed r)
+none_printed (Ok bytes) = refl
+none_printed (Err e) = tt
+
+none_print : (z : ℤ) (memory : List ℕ) → NeedsNone (print_at z memory)
+none_print (pos p) memory = none_printed (output_at memory p)
+none_print (negsuc n) memory = tt
+
+none_closed : (r : Result Effect Halt) → NeedsNone r → NeedsNone (r >>= λ e. done (closing e))
+none_closed (Ok e) h = h
+none_closed (Err f) h = tt
+
+none_object : (story : LoadedStory) (x : ℕ) (r : Result Effect Halt) → NeedsNone r → NeedsNone (of_object story x r)
+none_object story x r h = whether (is_object story x) r _ h tt
+
+none_attribute : (a : ℕ) (r : Result Effect Halt) → NeedsNone r → NeedsNone (of_attribute a r)
+none_attribute a r h = whether (nat_lt a 32) r _ h tt
+
+none_moved : (r : Result (List ℕ) ObjectError) → NeedsNone (rearranging r)
+none_moved (Ok memory) = refl
+none_moved (Err e) = tt
+
+none_answered : (r : Result ℕ ObjectError) → NeedsNone (answering r)
+none_answered (Ok x) = refl
+none_answered (Err e) = tt
+
+none_read : (o : Option ℕ) → NeedsNone (reading o)
+none_read (Some x) = refl
+none_read None = tt
+
+none_filled : (r : Result (List ℕ) ObjectError) (writable : Bool) → NeedsNone (filling r writable)
+none_filled (Ok memory) writable = whether writable _ _ refl tt
+none_filled (Err e) writable = tt
+
+none_named : (name : ShortName) (memory : List ℕ) → NeedsNone (naming name memory)
+none_named Empty memory = refl
+none_named (At p) memory = none_printed (output_at memory p)
+none_named Outside memory = tt
+
+-- the operation waits for nothing from outside (Z 2.4, 15 random, sread, save, restore)
+pub record IsUnaided (o : Operation) : Type 0 where
+  pub random : o ≡ operations.Random → ⊥
+  pub line : o ≡ operations.ReadLine → ⊥
+  pub saved : o ≡ operations.Save → ⊥
+  pub restore : o ≡ operations.Restore → ⊥
+
+-- its effect needs nothing
+pub needs_none : (m : Setting) (o : Operation) (values : List ℕ) (s : State) → IsUnaided o → NeedsNone (effect_of m o values s)
+unfolding effect_of
+needs_none m operations.Random values s unaided = absurd (unaided.random refl)
+needs_none m operations.ReadLine values s unaided = absurd (unaided.line refl)
+needs_none m operations.Save values s unaided = absurd (unaided.saved refl)
+needs_none m operations.Restore values s unaided = absurd (unaided.restore refl)
+needs_none m (operations.Unary op) values s unaided = refl
+needs_none m (operations.Binary op) values s unaided = whether (is_defined op (arg values 1)) _ _ refl tt
+needs_none m (operations.Compare q) values s unaided = refl
+needs_none m operations.Inside values s unaided = none_object m.story (arg values 0) _ refl
+needs_none m operations.TestAttribute values s unaided = none_object m.story (arg values 0) _ (none_attribute (arg values 1) _ refl)
+needs_none m (operations.Follow link) values s unaided = none_object m.story (arg values 0) _ refl
+needs_none m operations.SetAttribute values s unaided = none_object m.story (arg values 0) _ (none_attribute (arg values 1) _ refl)
+needs_none m operations.ClearAttribute values s unaided = none_object m.story (arg values 0) _ (none_attribute (arg values 1) _ refl)
+needs_none m operations.Insert values s unaided = none_object m.story (arg values 0) _ (none_object m.story (arg values 1) _ (none_moved _))
+needs_none m operations.Remove values s unaided = none_object m.story (arg values 0) _ (none_moved _)
+needs_none m (operations.Property question) values s unaided = none_object m.story (arg values 0) _ (none_answered _)
+needs_none m operations.PropertyLength values s unaided = none_read _
+needs_none m operations.SetProperty values s unaided = none_object m.story (arg values 0) _ (none_filled _ _)
+needs_none m (operations.LoadArray width) values s unaided = none_read _
+needs_none m (operations.StoreArray width) values s unaided = none_filled (Ok (with_element width (element_place width (arg values 0) (arg values 1)) (arg values 2) s.memory)) (are_writable m.story (element_place width (arg values 0) (arg values 1)) (span width))
+needs_none m operations.PrintObject values s unaided = none_object m.story (arg values 0) _ (none_named (short_name s.memory (arg values 0)) s.memory)
+needs_none m (operations.PrintAt addressing) values s unaided = none_printed (output_at s.memory (text_place addressing (arg values 0)))
+needs_none m operations.ShowStatus values s unaided = let x = global_word m.story 16 s.memory in whether (x == 0) _ _ refl (onward (of_object m.story x (naming (short_name s.memory x) s.memory)) _ (λ named. refl))
+needs_none m (operations.Count op q) values s unaided = onward (read_in_place m.story (arg values 0) s) _ (λ old. refl)
+needs_none m operations.Store values s unaided = onward (read_in_place m.story (arg values 0) s) _ (λ old. refl)
+needs_none m operations.Load values s unaided = onward (read_in_place m.story (arg values 0) s) _ (λ x. refl)
+needs_none m operations.Jump values s unaided = refl
+needs_none m operations.Verify values s unaided = refl
+needs_none m operations.PrintChar values s unaided = refl
+needs_none m operations.PrintNumber values s unaided = refl
+needs_none m operations.Print values s unaided = none_print _ s.memory
+needs_none m operations.NewLine values s unaided = refl
+needs_none m operations.Nop values s unaided = refl
+needs_none m operations.Quit values s unaided = refl
+needs_none m operations.Return values s unaided = refl
+needs_none m operations.PrintReturn values s unaided = none_closed (print_at (s.place +ℤ pos 1) s.memory) (none_print _ s.memory)
+needs_none m operations.Call values s unaided = whether (arg values 0 == 0) _ _ refl (whether (m.scope.routines (unpacked (arg values 0)) && has_head s.memory (unpacked (arg values 0))) _ _ refl tt)
+needs_none m operations.Restart values s unaided = refl
+
+-- so its step doesn't wait either
+pub waits_for_none : (m : Setting) (i : Instruction) (s : State) → fetch m.scope s.place s.memory ≡ Ok i → IsUnaided (operation_of i.opcode) → need_in (step m s) ≡ None
+waits_for_none m i s fetched unaided = by (step m s) refl
+  where
+    needed : (n : Need) → step m s ≡ Err (halts.Need n) → ⊥
+    needed n is =
+        let k = kept m i s (halts.Need n) fetched tt is in
+        let some = needs_so m.limit (target i) k.effect (course k.effect i.branch) k.after n k.stands in
+        let none : k.effect.needs ≡ None = subst NeedsNone k.does (needs_none m (operation_of i.opcode) k.values k.after unaided) in
+        absurd (let never : Some n ≡ None = sym some ∙ none in cc)
+
+    by : (made : Result Done Halt) → step m s ≡ made → need_in made ≡ None
+    by (Ok d) is = refl
+    by (Err (halts.Need n)) is = absurd (needed n is)
+    by (Err (halts.Fault f)) is = refl
+    by (Err halts.Quit) is = refl
+    by (Err halts.FrameLimit) is = refl
