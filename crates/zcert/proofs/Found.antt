@@ -28,7 +28,7 @@ pub each_below : (bytes : List ℕ) → IsBytes bytes → AllByRecursion (λ b. 
 each_below [] fits = tt
 each_below (b ∷ bytes) fits = (fits 0, each_below bytes (λ i. fits (suc i)))
 
-magic_takes : (bytes rest : List ℕ) → IsBytes bytes → magic_at bytes ≡ Ok rest → Takes bytes (number numbers.Magic MAGIC) rest
+pub magic_takes : (bytes rest : List ℕ) → IsBytes bytes → magic_at bytes ≡ Ok rest → Takes bytes (number numbers.Magic MAGIC) rest
 unfolding magic_at
 magic_takes bytes rest fits e =
     let a = bind_ok (number_at numbers.Magic bytes) _ _ e in
@@ -36,7 +36,7 @@ magic_takes bytes rest fits e =
     let t = number_takes numbers.Magic bytes a.0.0 a.0.1 fits a.1 in
     subst (λ (r : List ℕ). Takes bytes (number numbers.Magic MAGIC) r) (ok_is _ _ o.1) (subst (λ (n : ℕ). Takes bytes (number numbers.Magic n) a.0.1) (eqb-true _ _ o.0) t.0)
 
-version_takes : (version : ℕ) (bytes rest : List ℕ) → IsBytes bytes → version_at version bytes ≡ Ok rest → Takes bytes (number numbers.Version version) rest
+pub version_takes : (version : ℕ) (bytes rest : List ℕ) → IsBytes bytes → version_at version bytes ≡ Ok rest → Takes bytes (number numbers.Version version) rest
 unfolding version_at
 version_takes version bytes rest fits e =
     let a = bind_ok (number_at numbers.Version bytes) _ _ e in

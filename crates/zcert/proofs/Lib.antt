@@ -10,7 +10,10 @@ pub mod FieldBytes
 pub mod Makes
 pub mod Rising
 pub mod Lookup
-pub mod ReadLoop
+pub mod Follows
+pub mod Pieces
 pub mod Longest
+pub mod Fixed
+pub mod Uncut
 pub mod Room
 pub mod Refused

@@ -28,7 +28,7 @@ three a b c rest = simp append_assoc
 four : (a b c d rest : List ℕ) → (a ++ b ++ c ++ d) ++ rest ≡ a ++ (b ++ (c ++ (d ++ rest)))
 four a b c d rest = simp append_assoc
 
-magic_again : (rest : List ℕ) → magic_at (number numbers.Magic MAGIC ++ rest) ≡ Ok rest
+pub magic_again : (rest : List ℕ) → magic_at (number numbers.Magic MAGIC ++ rest) ≡ Ok rest
 unfolding magic_at
 magic_again rest = rw (number_again numbers.Magic MAGIC rest (omega arith)) refl
 

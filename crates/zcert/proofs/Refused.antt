@@ -40,10 +40,13 @@ module _ {V : Type 0} (format : Format V) (law : IsFormat format) where
   more_due turns.Complete due = due refl
   more_due _ due = tt
 
+  no_set : format.value_at [] ≡ Err errors.Truncated
+  no_set = law.fixed.short [] law.some
+
   cut_at : (t : Turn) → t ≢ turns.Complete → field_at format t [] ≡ Err errors.Truncated
-  cut_at (turns.Global more) due = rw law.cut refl
-  cut_at (turns.RoutineResult more address locals) due = rw law.cut refl
-  cut_at (turns.Value more h left) due = rw law.cut refl
+  cut_at (turns.Global more) due = rw no_set refl
+  cut_at (turns.RoutineResult more address locals) due = rw no_set refl
+  cut_at (turns.Value more h left) due = rw no_set refl
   cut_at turns.Complete due = absurd (due refl)
   cut_at _ due = refl
 

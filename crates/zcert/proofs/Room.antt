@@ -1,7 +1,7 @@
 -- Memory is wanted only for a part that the bytes have.
 use Rattle.std.proofs.Common.{◌≡◌, ◌≢◌, ℕ, List, [], ◌∷◌, ◌++◌, Result, Ok, Err, refl, sym, ap, subst, ◌∙◌, append_assoc}
 use Rattle.std.specs.Prelude.{IsOk, ◌==◌}
-use Rattle.std.specs.List.{flat_map, AllByRecursion}
+use Rattle.std.specs.List.{flat_map}
 use Rattle.std.proofs.lemmas.List.{append-nil}
 use Rattle.zcert.specs.declared.error.CertError.{CertError}
 use Rattle.zcert.specs.declared.error.CertError.TheVariants as errors
@@ -14,30 +14,27 @@ use Rattle.zcert.specs.Numbers as numbers
 use Rattle.zcert.specs.Steps.{◌>>=◌, need, number_at}
 use Rattle.zcert.specs.Format.{Format}
 use Rattle.zcert.specs.Spelling.{heading}
-use Rattle.zcert.specs.Reading.{magic_at, version_at, heading_at, reading}
+use Rattle.zcert.specs.Numbers.{number}
+use Rattle.zcert.specs.Reading.{magic_at, version_at}
 use Rattle.zcert.specs.Building.{Progress, opening, taken, all_taken, Adds}
-use Rattle.zcert.specs.Fields.{field_bytes, IsField, as_field, field_at, next_at, NextAdds, LeadsToPart}
+use Rattle.zcert.specs.Fields.{field_bytes, as_field, field_at, next_at, NextAdds, LeadsToPart}
 use Rattle.zcert.specs.View.{RefusesField}
 use Rattle.zcert.specs.FormatLaw.Stepping.{bind_ok, ok_is, plain_then, plain_ok, plain_need, plain_sized, plain_serial}
 use Rattle.zcert.specs.FormatLaw.{IsBytes, IsPlain, IsFormat}
-use Rattle.zcert.proofs.Found.{heading_takes}
+use Rattle.zcert.specs.Streaming.{FieldsLead}
+use Rattle.zcert.proofs.Found.{version_takes}
 use Rattle.zcert.proofs.Calls.{one_more, each_more}
-use Rattle.zcert.proofs.Rest.{rest_of}
 use Rattle.zcert.proofs.FieldBytes.{field_takes}
 
 -- ---- no step of reading wants memory
 
-plain_magic : (bytes : List ℕ) → IsPlain (magic_at bytes)
+pub plain_magic : (bytes : List ℕ) → IsPlain (magic_at bytes)
 unfolding magic_at
 plain_magic bytes = plain_then (number_at numbers.Magic bytes) _ (plain_sized 4 bytes) (λ x. plain_then (need (x.0 == MAGIC) errors.Magic) _ (plain_need (x.0 == MAGIC) errors.Magic (λ e. absurd cc)) (λ u. plain_ok x.1))
 
-plain_version : (version : ℕ) (bytes : List ℕ) → IsPlain (version_at version bytes)
+pub plain_version : (version : ℕ) (bytes : List ℕ) → IsPlain (version_at version bytes)
 unfolding version_at
 plain_version version bytes = plain_then (number_at numbers.Version bytes) _ (plain_sized 1 bytes) (λ x. plain_then (need (x.0 == version) errors.Version) _ (plain_need (x.0 == version) errors.Version (λ e. absurd cc)) (λ u. plain_ok x.1))
-
-plain_heading : (version : ℕ) (bytes : List ℕ) → IsPlain (heading_at version bytes)
-unfolding heading_at
-plain_heading version bytes = plain_then (magic_at bytes) _ (plain_magic bytes) (λ rest. plain_version version rest)
 
 module _ {V : Type 0} (format : Format V) (law : IsFormat format) where
   plain_field : {X : Type 0} (make : X → Field V) (read : Result (X × List ℕ) CertError) → IsPlain read → IsPlain (as_field format make read)
@@ -69,41 +66,30 @@ module _ {V : Type 0} (format : Format V) (law : IsFormat format) where
 
 -- ---- what has been read
 
--- the bytes are the heading, the fields that led here, and the rest, which would be read as the whole is
-pub record IsRead {V : Type 0} (format : Format V) (bytes : List ℕ) (p : Progress V) (rest : List ℕ) : Type 0 where
-  pub so_far : rest_of format p rest ≡ reading format bytes
-  pub fits : IsBytes rest
-  pub fields : List (Field V)
-  pub each : AllByRecursion (IsField format) fields
-  pub led : all_taken opening fields ≡ Ok p
-  pub spelled : bytes ≡ heading format ++ (flat_map (field_bytes format) fields ++ rest)
-
 pub one_text_more : {A : Type 0} (f : A → List ℕ) (xs : List A) (x : A) (rest : List ℕ) → flat_map f (xs ++ x ∷ []) ++ rest ≡ flat_map f xs ++ (f x ++ rest)
 one_text_more f [] x rest = ap (λ t. t ++ rest) (append-nil (f x))
 one_text_more f (y ∷ xs) x rest = append_assoc (f y) (flat_map f (xs ++ x ∷ [])) rest ∙ ap (λ t. f y ++ t) (one_text_more f xs x rest) ∙ sym (append_assoc (f y) (flat_map f xs) (f x ++ rest))
 
 module _ {V : Type 0} (format : Format V) (law : IsFormat format) where
-  pub read_first : (bytes rest : List ℕ) → IsBytes bytes → heading_at format.version bytes ≡ Ok rest → rest_of format opening rest ≡ reading format bytes → IsRead format bytes opening rest
-  read_first bytes rest fits e so_far =
-      let t = heading_takes format bytes rest fits e in
-      record { so_far = so_far; fits = t.rest_fits; fields = []; each = tt; led = refl; spelled = t.parts }
+  pub version_leads : (bytes rest after : List ℕ) → IsBytes rest → bytes ≡ number numbers.Magic MAGIC ++ rest → version_at format.version rest ≡ Ok after → FieldsLead format opening bytes after
+  version_leads bytes rest after fits e v =
+      let t = version_takes format.version rest after fits v in
+      record { fields = []; each = tt; led = refl; spelled = e ∙ ap (λ (r : List ℕ). number numbers.Magic MAGIC ++ r) t.parts ∙ sym (append_assoc (number numbers.Magic MAGIC) (number numbers.Version format.version) after) }
 
   one_spelled : (f : Field V) (fs : List (Field V)) (bytes rest after : List ℕ) → bytes ≡ heading format ++ (flat_map (field_bytes format) fs ++ rest) → rest ≡ field_bytes format f ++ after → bytes ≡ heading format ++ (flat_map (field_bytes format) (fs ++ f ∷ []) ++ after)
   one_spelled f fs bytes rest after e d =
       e ∙ ap (λ (t : List ℕ). heading format ++ (flat_map (field_bytes format) fs ++ t)) d ∙ ap (λ (t : List ℕ). heading format ++ t) (sym (one_text_more (field_bytes format) fs f after))
 
-  pub read_next : (bytes : List ℕ) (p q : Progress V) (rest after : List ℕ) → IsRead format bytes p rest → next_at format p rest ≡ Ok (q, after) → rest_of format q after ≡ reading format bytes → IsRead format bytes q after
-  read_next bytes p q rest after r e so_far =
+  pub read_next : (bytes : List ℕ) (p q : Progress V) (rest after : List ℕ) → IsBytes rest → FieldsLead format p bytes rest → next_at format p rest ≡ Ok (q, after) → FieldsLead format q bytes after
+  read_next bytes p q rest after fits r e =
       let a = bind_ok (field_at format p.turn rest) (λ f. taken p f.0 >>= λ x. Ok (x, f.1)) (q, after) e in
       let b = bind_ok (taken p a.0.0) (λ x. Ok (x, a.0.1)) (q, after) a.2 in
-      let t = field_takes format law p.turn rest a.0.0 a.0.1 r.fits a.1 in
+      let t = field_takes format law p.turn rest a.0.0 a.0.1 fits a.1 in
       let made : Progress V × List ℕ = (b.0, a.0.1) in
       let same = ok_is made (q, after) b.2 in
       let led : taken p a.0.0 ≡ Ok q = b.1 ∙ ap (λ (x : Progress V × List ℕ). Ok x.0) same in
       let left : a.0.1 ≡ after = ap (λ (x : Progress V × List ℕ). x.1) same in
       record {
-        so_far = so_far;
-        fits = subst IsBytes left t.takes.rest_fits;
         fields = r.fields ++ a.0.0 ∷ [];
         each = each_more format r.fields a.0.0 r.each t.is;
         led = one_more r.fields a.0.0 opening p q r.led led;
@@ -114,9 +100,9 @@ module _ {V : Type 0} (format : Format V) (law : IsFormat format) where
   taken_too fs f p (Ok q) led e ok = rw (one_more fs f opening p q led e) refl
   taken_too fs f p (Err d) led e ok = absurd cc
 
-  pub leads_to_part : (bytes : List ℕ) (p : Progress V) (rest : List ℕ) → IsRead format bytes p rest → NextAdds format p rest → LeadsToPart format bytes
-  leads_to_part bytes p rest r n =
-      let t = field_takes format law p.turn rest n.field n.rest r.fits n.read in
+  pub leads_to_part : (bytes : List ℕ) (p : Progress V) (rest : List ℕ) → IsBytes rest → FieldsLead format p bytes rest → NextAdds format p rest → LeadsToPart format bytes
+  leads_to_part bytes p rest fits r n =
+      let t = field_takes format law p.turn rest n.field n.rest fits n.read in
       record {
         fields = r.fields;
         last = n.field;
@@ -128,10 +114,6 @@ module _ {V : Type 0} (format : Format V) (law : IsFormat format) where
         adds = n.adds;
         spelled = one_spelled n.field r.fields bytes rest n.rest r.spelled t.takes.parts;
       }
-
-  -- a heading that is refused wants no memory
-  pub heading_wants_none : (e : CertError) (bytes : List ℕ) → heading_at format.version bytes ≡ Err e → e ≢ errors.OutOfMemory
-  heading_wants_none e bytes h d = plain_heading format.version bytes (h ∙ ap (λ (x : CertError). Err x) d)
 
 -- a field that memory was wanting for
 pub next_adds : {V : Type 0} (format : Format V) (p : Progress V) (bytes : List ℕ) (e : CertError) (f : Field V) (rest : List ℕ) → field_at format p.turn bytes ≡ Ok (f, rest) → RefusesField e (taken p f) → Adds p f → e ≡ errors.OutOfMemory → NextAdds format p bytes

@@ -1,5 +1,5 @@
 -- Values of the definitions, computed.
-use Rattle.std.proofs.Common.{◌≡◌, true, false, ℕ, List, [], ◌∷◌, ◌++◌, length, replicate, zero, suc, Some, None, Ok, Err, pos, negsuc, refl, arith}
+use Rattle.std.proofs.Common.{◌≡◌, true, false, ℕ, List, [], ◌∷◌, ◌++◌, length, replicate, zero, suc, Some, None, Ok, Err, pos, negsuc, refl, ap, arith}
 use Rattle.std.specs.List.{AllByRecursion}
 use Rattle.zdomain.specs.declared.interval.Interval.{Interval}
 use Rattle.zdomain.specs.Interval.{point, all_words, interval_of, in_order}
@@ -19,13 +19,16 @@ use Rattle.zcert.specs.Certificate.{Instruction, locals_of}
 use Rattle.zcert.specs.Steps.{◌>>=◌, need, sized_at, number_at, serial_at}
 use Rattle.zcert.specs.Format.{interval_format, nonempty}
 use Rattle.zcert.specs.Spelling.{identity_bytes, range_bytes, counted, routine_bytes, instruction_bytes, heading, IsIdentity, IsRange, AreApart, InstructionsRise, IsRoutine, IsInstruction}
-use Rattle.zcert.specs.Reading.{magic_at, version_at, heading_at, identity_at, range_at, ranges_at, all_ranges_at, address_fits, values_at, routine_at, routines_at, all_routines_at, instruction_at, instructions_at, all_instructions_at}
+use Rattle.zcert.specs.Reading.{magic_at, version_at, heading_at, identity_at, range_at, ranges_at, all_ranges_at, address_fits, values_at, routine_at, routines_at, all_routines_at, instruction_at, instructions_at, all_instructions_at, reading}
 use Rattle.zcert.specs.Building.{Progress, opening, before_globals, before_ranges, before_routines, before_instructions, instruction_of, with_routine, InTurn, taken, all_taken, Adds, IsDue}
 use Rattle.zcert.specs.Fields.{field_bytes, IsField, field_at, next_at, IsReached, LeadsToPart}
 use Rattle.zcert.specs.Contents.{values_of, stored_instruction, LiesIn}
 use Rattle.zcert.specs.Listed.{listed_at, Finds}
 use Rattle.zcert.specs.Listed as listing
 use Rattle.zcert.specs.Refusal.{number_of}
+use Rattle.zcert.specs.declared.stage.Stage.TheVariants as stages
+use Rattle.zcert.specs.Streaming.{field_width, next_width, unfed, Leads, IsRefusal, IsUnread, IsFed, IsOpen}
+use Rattle.zcert.proofs.Follows.{magic_refused}
 use Rattle.zcert.specs.View.{Answers, Refuses, RefusesField, Takes}
 
 -- ---- limits
@@ -479,3 +482,33 @@ routine_found = (refl, refl, refl)
 
 refusals : (number_of errors.Magic ≡ 1) × (number_of errors.Version ≡ 2) × (number_of errors.Truncated ≡ 3) × (number_of errors.Trailing ≡ 4) × (number_of errors.Order ≡ 5) × (number_of errors.EmptyInterval ≡ 6) × (number_of errors.Limit ≡ 7) × (number_of errors.OutOfMemory ≡ 8)
 refusals = (refl, refl, refl, refl, refl, refl, refl, refl)
+
+-- ---- pieces
+
+-- the turns of parts that are begun don't differ from others
+turn_widths : (field_width interval_format turns.Serial ≡ 6) × (field_width interval_format turns.Checksum ≡ 2) × (field_width interval_format (turns.RangeLast 1 2) ≡ 2) × (field_width interval_format (turns.Global 3) ≡ 4) × (field_width interval_format (turns.RoutineAddress 3) ≡ 4) × (field_width interval_format (turns.LocalCount 3 5) ≡ 1) × (field_width interval_format (turns.Height 1 2 3) ≡ 1) × (field_width interval_format turns.Complete ≡ 1)
+turn_widths = (refl, refl, refl, refl, refl, refl, refl, refl)
+
+next_widths : (next_width interval_format stages.Magic turns.Serial ≡ 4) × (next_width interval_format stages.Version turns.Serial ≡ 1) × (next_width interval_format stages.Field turns.Serial ≡ 6)
+next_widths = (refl, refl, refl)
+
+-- a wrong magic that is cut short is cut off; whole, it is wrong
+magic_in_pieces : (reading interval_format (0x5A ∷ 0x50 ∷ []) ≡ Err errors.Truncated) × (reading interval_format (0x5A ∷ 0x50 ∷ 0x43 ∷ 0x44 ∷ []) ≡ Err errors.Magic) × (reading interval_format (0x5B ∷ []) ≡ Err errors.Truncated)
+unfolding reading heading_at magic_at
+magic_in_pieces = (refl, refl, refl)
+
+-- what is a certificate, or cut off, is open
+opens : IsOpen {A = ℕ} (Ok 3) × IsOpen {A = ℕ} (Err errors.Truncated) × (IsOpen {A = ℕ} (Err errors.Trailing) → ⊥)
+opens = (tt, refl, λ e. absurd cc)
+
+-- the bytes before the first field are the heading
+leads_so_far : Leads interval_format stages.Magic opening (0x5A ∷ []) (0x5A ∷ []) × Leads interval_format stages.Version opening (0x5A ∷ 0x50 ∷ 0x43 ∷ 0x43 ∷ 7 ∷ []) (7 ∷ []) × Leads interval_format stages.Field opening (0x5A ∷ 0x50 ∷ 0x43 ∷ 0x43 ∷ 1 ∷ 9 ∷ []) (9 ∷ []) × (Leads interval_format stages.Version opening (0x5A ∷ 0x50 ∷ []) [] → ⊥)
+leads_so_far = ((refl, refl), (refl, refl), record { fields = []; each = tt; led = refl; spelled = refl }, λ led. omega (arith, ap length led.0))
+
+-- a stream keeps what came of the magic, and all of it; what it refuses so, no more bytes mend
+streams : IsFed interval_format unfed [] × IsFed interval_format (record unfed { kept = 0x5A ∷ 0x50 ∷ [] }) (0x5A ∷ 0x50 ∷ []) × (IsFed interval_format unfed (0x5A ∷ []) → ⊥) × (IsFed interval_format (record unfed { kept = 0x5A ∷ 0x50 ∷ 0x43 ∷ 0x43 ∷ [] }) (0x5A ∷ 0x50 ∷ 0x43 ∷ 0x43 ∷ []) → ⊥) × (IsFed interval_format (record unfed { refused = Some errors.Truncated }) (0x5A ∷ []) → ⊥)
+streams = (((refl, refl), omega arith), ((refl, refl), omega arith), (λ come. omega (arith, ap length come.0.0)), (λ come. omega (arith, come.1)), λ none. none)
+
+stream_refusals : IsRefusal interval_format (0x5A ∷ 0x50 ∷ 0x43 ∷ 0x44 ∷ []) errors.Magic × IsUnread interval_format (0x5B ∷ []) errors.Truncated × (IsRefusal interval_format (0x5B ∷ []) errors.Truncated → ⊥)
+unfolding reading heading_at magic_at
+stream_refusals = (magic_refused interval_format opening (0x5A ∷ 0x50 ∷ 0x43 ∷ 0x44 ∷ []) (0x5A ∷ 0x50 ∷ 0x43 ∷ 0x44 ∷ []) errors.Magic (λ e. absurd cc) refl (refl, refl), refl, λ none. none)

@@ -12,3 +12,4 @@ pub mod View
 pub mod Listed
 pub mod Refusal
 pub mod Longest
+pub mod Streaming

@@ -19,7 +19,7 @@ impl Spelled for Interval {
         VERSION
     }
 
-    fn most_bytes() -> usize {
+    fn size() -> usize {
         VALUE_BYTES
     }
 

@@ -33,7 +33,7 @@ pub const FIXED_BYTES: usize = 27;
 /// The bytes of a range.
 pub const RANGE_BYTES: usize = 4;
 
-/// The bytes of a set of values.
+/// The bytes of an interval.
 pub const VALUE_BYTES: usize = 4;
 
 /// The bytes of a routine.

@@ -1,6 +1,6 @@
 //! What a kind of sets has to offer, so that certificates can hold them.
 
-ghost use Rattle.std.specs.Prelude.{◌≡◌, ◌≤◌, ◌++◌, OnOk, length};
+ghost use Rattle.std.specs.Prelude.{◌≡◌, ◌++◌, OnOk};
 ghost use Rattle.zcert.specs.Format.{Format};
 ghost use Rattle.zcert.specs.FormatLaw.{IsFormat};
 ghost use Rattle.zcert.specs.View.{Gives};
@@ -20,9 +20,9 @@ pub trait Spelled: Domain {
     fn version() -> u8
         ensures { result ≡ format.version };
 
-    /// How many bytes a set takes at most.
-    fn most_bytes() -> usize
-        ensures { (set : Self) → length (format.spelled set) ≤ result };
+    /// How many bytes each set takes.
+    fn size() -> usize
+        ensures { result ≡ format.size };
 
     /// The set at the front of the bytes, and what follows it.
     fn read_from(bytes: &[u8]) -> Result<(Self, &[u8]), CertError>

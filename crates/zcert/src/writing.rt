@@ -107,10 +107,10 @@ fn put_instructions<V: Spelled>(out: &mut Vec<u8>, contents: &Contents<V>) -> Re
 fn room_for<V: Spelled>(contents: &Contents<V>) -> usize {
     FIXED_BYTES
         .saturating_add(contents.ranges.len().saturating_mul(RANGE_BYTES))
-        .saturating_add(contents.globals.len().saturating_mul(V::most_bytes()))
+        .saturating_add(contents.globals.len().saturating_mul(V::size()))
         .saturating_add(contents.routines.len().saturating_mul(ROUTINE_BYTES))
         .saturating_add(contents.stored.len().saturating_mul(HEADER_BYTES))
-        .saturating_add(contents.values.len().saturating_mul(V::most_bytes()))
+        .saturating_add(contents.values.len().saturating_mul(V::size()))
 }
 
 // All that a certificate says, apart from the vector, which would be dropped where any of these is refused.

@@ -1,14 +1,16 @@
 -- A proof of the law: intervals meet it.
-use Rattle.std.proofs.Common.{◌≡◌, ℕ, List, ◌++◌, Option, Some, None, Ok, ℤ, FitsSigned, refl, sym, ap, subst, ◌∙◌, append_assoc, arith}
+use Rattle.std.proofs.Common.{◌≡◌, ◌≢◌, ℕ, List, ◌++◌, Option, Some, None, Ok, Err, ℤ, FitsSigned, refl, sym, ap, subst, ◌∙◌, append_assoc, arith}
 use Rattle.std.specs.Int.{w16, cast_signed, cast_unsigned}
 use Rattle.std.proofs.lemmas.Int.{ints, to_z-of_z, of_z-to_z}
 use Rattle.zdomain.specs.declared.interval.Interval.{Interval}
 use Rattle.zdomain.specs.Interval.{interval_of}
 use Rattle.zdomain.proofs.Ends.{from_ends, ends_of}
+use Rattle.zcert.specs.declared.error.CertError.TheVariants.{Truncated}
 use Rattle.zcert.specs.Numbers.{End, number, HasRoom}
 use Rattle.zcert.specs.Steps.{◌>>=◌, number_at}
 use Rattle.zcert.specs.Format.{nonempty, interval_format}
-use Rattle.zcert.specs.FormatLaw.{IsBytes, Takes, IsPlain, IsFormat}
+use Rattle.zcert.specs.FormatLaw.{IsBytes, Takes, IsPlain, IsOfWidth, IsFormat}
+use Rattle.zcert.specs.FormatLaw.Widths.{sized_then, of_none}
 use Rattle.zcert.specs.FormatLaw.Stepping.{IsBytes-append, IsBytes-number, Takes-then, bind_ok, ok_is, number_takes, number_again, plain_then, plain_ok, plain_sized}
 
 nonempty_is : (o : Option Interval) (i : Interval) → nonempty o ≡ Ok i → o ≡ Some i
@@ -73,5 +75,15 @@ interval_is_plain bytes =
     plain_then (number_at End lo.1) _ (plain_sized 2 lo.1) (λ hi.
     plain_then (nonempty (interval_of (cast_signed w16 lo.0) (cast_signed w16 hi.0))) _ (plain_nonempty (interval_of (cast_signed w16 lo.0) (cast_signed w16 hi.0))) (λ i. plain_ok (i, hi.1))))
 
+nonempty_is_whole : (o : Option Interval) → nonempty o ≢ Err Truncated
+nonempty_is_whole (Some i) e = absurd cc
+nonempty_is_whole None e = absurd cc
+
+-- two words
+interval_width : IsOfWidth 4 interval_format.value_at
+interval_width = sized_then 2 2 (λ lo bytes. number_at End bytes >>= λ hi. nonempty (interval_of (cast_signed w16 lo) (cast_signed w16 hi.0)) >>= λ i. Ok (i, hi.1)) (λ lo.
+    sized_then 2 0 (λ hi bytes. nonempty (interval_of (cast_signed w16 lo) (cast_signed w16 hi)) >>= λ i. Ok (i, bytes)) (λ hi.
+    of_none (nonempty (interval_of (cast_signed w16 lo) (cast_signed w16 hi))) (nonempty_is_whole (interval_of (cast_signed w16 lo) (cast_signed w16 hi)))))
+
 pub interval_is_format : IsFormat interval_format
-interval_is_format = record { version = omega arith; takes = interval_takes; bytes = λ i has. IsBytes-append (number End (cast_unsigned w16 i.lo)) (number End (cast_unsigned w16 i.hi)) (IsBytes-number End (cast_unsigned w16 i.lo)) (IsBytes-number End (cast_unsigned w16 i.hi)); long = λ i. omega arith; again = interval_again; cut = refl; plain = interval_is_plain }
+interval_is_format = record { version = omega arith; takes = interval_takes; bytes = λ i has. IsBytes-append (number End (cast_unsigned w16 i.lo)) (number End (cast_unsigned w16 i.hi)) (IsBytes-number End (cast_unsigned w16 i.lo)) (IsBytes-number End (cast_unsigned w16 i.hi)); long = λ i. omega arith; again = interval_again; fixed = interval_width; some = omega arith; few = omega arith; plain = interval_is_plain }

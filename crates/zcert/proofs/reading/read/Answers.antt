@@ -1,5 +1,5 @@
 use Rattle.std.proofs.Common.{rules}
-use Rattle.zcert.proofs.ReadLoop.{is_found, is_only}
+use Rattle.zcert.proofs.Follows.{is_found, is_only}
 use Rattle.zcert.proofs.reading.read.Goals as goal
 
 pub returns-clause-found : goal.returns-clause-found

@@ -6,7 +6,7 @@ use Rattle.zcert.specs.declared.field.Turn.{Turn}
 use Rattle.zcert.specs.Fields.{field_at}
 use Rattle.zcert.proofs.FieldBytes.{field_takes}
 use Rattle.zcert.proofs.Room.{next_adds, field_wants_none}
-use Rattle.zcert.proofs.reading.next_of.Goals as goal
+use Rattle.zcert.proofs.next.next_of.Goals as goal
 
 pub returns-in_err-field-clause-memory : goal.returns-in_err-field-clause-memory
 returns-in_err-field-clause-memory g c =

@@ -1,0 +1,343 @@
+-- How far a file has come by the bytes that were fed: each step further is a step of reading, wherever the file is cut.
+use Rattle.std.proofs.Common.{◌≡◌, ◌≢◌, ℕ, ◌+◌, ◌<◌, List, [], ◌∷◌, ◌++◌, length, Result, Ok, Err, Option, Some, None, refl, sym, ap, subst, ◌∙◌, append_assoc, length-append, arith, ◌⊎◌, inl, inr}
+use Rattle.std.specs.Prelude.{IfOk, IfErr, ◌==◌}
+use Rattle.std.specs.List.{flat_map}
+use Rattle.std.proofs.lemmas.Bool.{cases_lt}
+use Rattle.std.proofs.lemmas.List.{append-nil, nil_from_length}
+use Rattle.zcert.specs.declared.error.CertError.{CertError}
+use Rattle.zcert.specs.declared.error.CertError.TheVariants as errors
+use Rattle.zcert.specs.declared.field.Field.{Field}
+use Rattle.zcert.specs.declared.field.Turn.{Turn}
+use Rattle.zcert.specs.declared.field.Turn.TheVariants as turns
+use Rattle.zcert.specs.declared.stage.Stage.{Stage}
+use Rattle.zcert.specs.declared.stage.Stage.TheVariants as stages
+use Rattle.zcert.specs.declared.limits.TheConstants.{MAGIC}
+use Rattle.zcert.specs.Numbers.{number}
+use Rattle.zcert.specs.Numbers as numbers
+use Rattle.zcert.specs.Certificate.{Certificate}
+use Rattle.zcert.specs.Steps.{◌>>=◌, need, sized_at}
+use Rattle.zcert.specs.Format.{Format}
+use Rattle.zcert.specs.Spelling.{heading, spelling, HasSpelling}
+use Rattle.zcert.specs.Reading.{magic_at, version_at, heading_at, reading}
+use Rattle.zcert.specs.Building.{Progress, opening, taken}
+use Rattle.zcert.specs.Fields.{field_bytes, field_at, next_at, NextAdds}
+use Rattle.zcert.specs.Streaming.{Stream, field_width, next_width, FieldsLead, Leads, IsFinal, IsRefusal, IsUnread, HasCome, IsFed, IsOpen}
+use Rattle.zcert.specs.View.{Refuses, Answers}
+use Rattle.zcert.specs.FormatLaw.Stepping.{bind_ok, ok_is}
+use Rattle.zcert.specs.FormatLaw.Widths.{sized_short, sized_width}
+use Rattle.zcert.specs.FormatLaw.{IsBytes, IsFormat}
+use Rattle.zcert.proofs.Found.{found, magic_takes}
+use Rattle.zcert.proofs.Only.{magic_again, only}
+use Rattle.zcert.proofs.Rest.{rest_of, HasMore, reads_on, completes, opens}
+use Rattle.zcert.proofs.FieldBytes.{fields_again}
+use Rattle.zcert.proofs.Fixed.{field_fixed, field_left, field_stays}
+use Rattle.zcert.proofs.Uncut.{uncut_need}
+use Rattle.zcert.proofs.Makes.{after_heading}
+use Rattle.zcert.proofs.Room.{plain_magic, plain_version, version_leads, read_next, leads_to_part}
+
+-- with an error of both steps the rest ends in it
+ends_too : {A B P C : Type 0} (first : Result A CertError) (second : A → Result P CertError) (pair : A → P → B) (k : A → P → Result C CertError) (e : CertError) → (first >>= λ x. second x >>= λ p. Ok (pair x p)) ≡ Err e → (first >>= λ x. second x >>= λ p. k x p) ≡ Err e
+ends_too (Err d) second pair k e h = let same : d ≡ e = cc in ap (λ (x : CertError). Err x) same
+ends_too (Ok x) second pair k e h = ends_then (second x) (pair x) (k x) e h
+  where
+    ends_then : {P B C : Type 0} (read : Result P CertError) (pair : P → B) (k : P → Result C CertError) (e : CertError) → (read >>= λ p. Ok (pair p)) ≡ Err e → (read >>= k) ≡ Err e
+    ends_then (Err d) pair k e h = let same : d ≡ e = cc in ap (λ (x : CertError). Err x) same
+    ends_then (Ok p) pair k e h = absurd cc
+
+more_unless : {V : Type 0} (format : Format V) (t : Turn) (bytes : List ℕ) → 0 < length bytes → HasMore format t bytes
+more_unless format turns.Complete [] h = absurd (omega (arith, h))
+more_unless format turns.Complete (b ∷ bytes) h = tt
+more_unless format _ bytes h = tt
+
+-- ---- the magic and the version: a number of so many bytes, with a test
+
+abbrev tested : {A : Type 0} → (A → Result (Unit {0}) CertError) → Result (A × List ℕ) CertError → Result (List ℕ) CertError
+tested test read = read >>= λ x. test x.0 >>= λ _. Ok x.1
+
+test_ends : {B C : Type 0} (u : Result (Unit {0}) CertError) (x : B) (y : C) (e : CertError) → (u >>= λ _. Ok x) ≡ Err e → (u >>= λ _. Ok y) ≡ Err e
+test_ends (Ok t) x y e h = absurd cc
+test_ends (Err d) x y e h = let same : d ≡ e = cc in ap (λ (x : CertError). Err x) same
+
+test_left : {B : Type 0} (u : Result (Unit {0}) CertError) (x y : B) → (u >>= λ _. Ok x) ≡ Ok y → x ≡ y
+test_left (Ok t) x y h = ok_is x y h
+test_left (Err d) x y h = absurd cc
+
+test_uncut : {B : Type 0} (u : Result (Unit {0}) CertError) (x : B) → u ≢ Err errors.Truncated → (u >>= λ _. Ok x) ≢ Err errors.Truncated
+test_uncut (Ok t) x uncut e = absurd cc
+test_uncut (Err d) x uncut e = uncut (let same : d ≡ errors.Truncated = cc in ap (λ (x : CertError). Err x) same)
+
+module _ (n : ℕ) (test : ℕ → Result (Unit {0}) CertError) where
+  cut_read : ((m : ℕ) → test m ≢ Err errors.Truncated) → (r : Result (ℕ × List ℕ) CertError) → tested test r ≡ Err errors.Truncated → r ≡ Err errors.Truncated
+  cut_read uncut (Ok x) e = absurd (test_uncut (test x.0) x.1 (uncut x.0) e)
+  cut_read uncut (Err d) e = let same : d ≡ errors.Truncated = cc in ap (λ (x : CertError). Err x) same
+
+  tested_cut : ((m : ℕ) → test m ≢ Err errors.Truncated) → (bytes : List ℕ) → tested test (sized_at n bytes) ≡ Err errors.Truncated → length bytes < n
+  tested_cut uncut bytes e = (sized_width n).whole bytes (cut_read uncut (sized_at n bytes) e)
+
+  tested_short : (bytes : List ℕ) → length bytes < n → tested test (sized_at n bytes) ≡ Err errors.Truncated
+  tested_short bytes lt = rw (sized_short n bytes lt) refl
+
+  left_read : (r : Result (ℕ × List ℕ) CertError) (rest : List ℕ) → tested test r ≡ Ok rest → (x : ℕ) × (r ≡ Ok (x, rest))
+  left_read (Ok x) rest e = (x.0, ap (λ (l : List ℕ). Ok (x.0, l)) (test_left (test x.0) x.1 rest e))
+  left_read (Err d) rest e = absurd cc
+
+  tested_left : (bytes rest : List ℕ) → tested test (sized_at n bytes) ≡ Ok rest → length rest + n ≡ length bytes
+  tested_left bytes rest e = let a = left_read (sized_at n bytes) rest e in (sized_width n).left bytes a.0 rest a.1
+
+  final_read : (r : Result (ℕ × List ℕ) CertError) (more : List ℕ) (e : CertError) → tested test r ≡ Err e → tested test (r >>= λ x. Ok (x.0, x.1 ++ more)) ≡ Err e
+  final_read (Ok x) more e h = test_ends (test x.0) x.1 (x.1 ++ more) e h
+  final_read (Err d) more e h = let same : d ≡ e = cc in ap (λ (x : CertError). Err x) same
+
+  tested_final : (bytes more : List ℕ) (e : CertError) → e ≢ errors.Truncated → tested test (sized_at n bytes) ≡ Err e → tested test (sized_at n (bytes ++ more)) ≡ Err e
+  tested_final bytes more e whole h =
+      elim (cases_lt (length bytes) n) [
+        | inl lt ↦ absurd (whole (let both = sym (tested_short bytes lt) ∙ h in let same : e ≡ errors.Truncated = cc in same))
+        | inr le ↦ ap (tested test) ((sized_width n).stays bytes more le) ∙ final_read (sized_at n bytes) more e h
+      ]
+
+uncut_magic : (m : ℕ) → need (m == MAGIC) errors.Magic ≢ Err errors.Truncated
+uncut_magic m = uncut_need (m == MAGIC) errors.Magic (λ e. absurd cc)
+
+uncut_version : (version m : ℕ) → need (m == version) errors.Version ≢ Err errors.Truncated
+uncut_version version m = uncut_need (m == version) errors.Version (λ e. absurd cc)
+
+pub magic_cut : (bytes : List ℕ) → magic_at bytes ≡ Err errors.Truncated → length bytes < 4
+unfolding magic_at
+magic_cut bytes e = tested_cut 4 (λ m. need (m == MAGIC) errors.Magic) uncut_magic bytes e
+
+pub magic_short : (bytes : List ℕ) → length bytes < 4 → magic_at bytes ≡ Err errors.Truncated
+unfolding magic_at
+magic_short bytes lt = tested_short 4 (λ m. need (m == MAGIC) errors.Magic) bytes lt
+
+pub magic_left : (bytes rest : List ℕ) → magic_at bytes ≡ Ok rest → length rest + 4 ≡ length bytes
+unfolding magic_at
+magic_left bytes rest e = tested_left 4 (λ m. need (m == MAGIC) errors.Magic) bytes rest e
+
+magic_final : (bytes more : List ℕ) (e : CertError) → e ≢ errors.Truncated → magic_at bytes ≡ Err e → magic_at (bytes ++ more) ≡ Err e
+unfolding magic_at
+magic_final bytes more e whole h = tested_final 4 (λ m. need (m == MAGIC) errors.Magic) bytes more e whole h
+
+pub version_cut : (version : ℕ) (bytes : List ℕ) → version_at version bytes ≡ Err errors.Truncated → length bytes < 1
+unfolding version_at
+version_cut version bytes e = tested_cut 1 (λ m. need (m == version) errors.Version) (uncut_version version) bytes e
+
+pub version_short : (version : ℕ) (bytes : List ℕ) → length bytes < 1 → version_at version bytes ≡ Err errors.Truncated
+unfolding version_at
+version_short version bytes lt = tested_short 1 (λ m. need (m == version) errors.Version) bytes lt
+
+pub version_left : (version : ℕ) (bytes rest : List ℕ) → version_at version bytes ≡ Ok rest → length rest + 1 ≡ length bytes
+unfolding version_at
+version_left version bytes rest e = tested_left 1 (λ m. need (m == version) errors.Version) bytes rest e
+
+version_final : (version : ℕ) (bytes more : List ℕ) (e : CertError) → e ≢ errors.Truncated → version_at version bytes ≡ Err e → version_at version (bytes ++ more) ≡ Err e
+unfolding version_at
+version_final version bytes more e whole h = tested_final 1 (λ m. need (m == version) errors.Version) bytes more e whole h
+
+-- a refusal that is final, and isn't for want of bytes or memory
+refusal_of : {V : Type 0} (format : Format V) (bytes : List ℕ) (e : CertError) → e ≢ errors.OutOfMemory → e ≢ errors.Truncated → IsFinal format bytes e → IsRefusal format bytes e
+refusal_of format bytes errors.OutOfMemory plain whole final = absurd (plain refl)
+refusal_of format bytes errors.Truncated plain whole final = absurd (whole refl)
+refusal_of format bytes _ plain whole final = final
+
+-- more bytes don't mend it
+pub refusal_stays : {V : Type 0} (format : Format V) (bytes more : List ℕ) (e : CertError) → IsRefusal format bytes e → IsRefusal format (bytes ++ more) e
+refusal_stays format bytes more errors.OutOfMemory r =
+    record {
+      fields = r.fields;
+      last = r.last;
+      rest = r.rest ++ more;
+      each = r.each;
+      before = r.before;
+      reached = r.reached;
+      led = r.led;
+      adds = r.adds;
+      spelled = ap (λ (l : List ℕ). l ++ more) r.spelled ∙ append_assoc (heading format) (flat_map (field_bytes format) (r.fields ++ r.last ∷ []) ++ r.rest) more ∙ ap (λ (l : List ℕ). heading format ++ l) (append_assoc (flat_map (field_bytes format) (r.fields ++ r.last ∷ [])) r.rest more);
+    }
+refusal_stays format bytes more errors.Truncated r = absurd r
+refusal_stays format bytes more _ r = λ after. ap (reading format) (append_assoc bytes more after) ∙ r (more ++ after)
+
+pub refusal_unread : {V : Type 0} (format : Format V) (bytes : List ℕ) (e : CertError) → IsRefusal format bytes e → IsUnread format bytes e
+refusal_unread format bytes errors.OutOfMemory r = r
+refusal_unread format bytes errors.Truncated r = absurd r
+refusal_unread format bytes _ r = ap (reading format) (sym (append-nil bytes)) ∙ r []
+
+-- a stream that refused its bytes
+pub stream_refused : {V : Type 0} (format : Format V) (s : Stream V) (e : CertError) (fed : List ℕ) → s.refused ≡ Some e → IsFed format s fed → IsRefusal format fed e
+stream_refused format s e fed same come = subst (λ (o : Option CertError). HasCome format o s fed) same come
+
+-- one that didn't
+pub stream_came : {V : Type 0} (format : Format V) (s : Stream V) (fed : List ℕ) → s.refused ≡ None → IsFed format s fed → Leads format s.stage s.progress fed s.kept × (length s.kept < next_width format s.stage s.progress.turn)
+stream_came format s fed same come = subst (λ (o : Option CertError). HasCome format o s fed) same come
+
+-- what it says of the bytes
+pub refusal_is : {V : Type 0} (format : Format V) (bytes : List ℕ) (e : CertError) → IsRefusal format bytes e → Refuses e (reading format bytes)
+refusal_is format bytes errors.OutOfMemory r = tt
+refusal_is format bytes errors.Truncated r = absurd r
+refusal_is format bytes _ r = ap (reading format) (sym (append-nil bytes)) ∙ r []
+
+module _ {V : Type 0} (format : Format V) where
+  -- what leads here leads here with more bytes
+  pub leads_more : (stage : Stage) (p : Progress V) (fed rest more : List ℕ) → Leads format stage p fed rest → Leads format stage p (fed ++ more) (rest ++ more)
+  leads_more stages.Magic p fed rest more led = (ap (λ (l : List ℕ). l ++ more) led.0, led.1)
+  leads_more stages.Version p fed rest more led = (ap (λ (l : List ℕ). l ++ more) led.0 ∙ append_assoc (number numbers.Magic MAGIC) rest more, led.1)
+  leads_more stages.Field p fed rest more led =
+      record {
+        fields = led.fields;
+        each = led.each;
+        led = led.led;
+        spelled = ap (λ (l : List ℕ). l ++ more) led.spelled ∙ append_assoc (heading format) (flat_map (field_bytes format) led.fields ++ rest) more ∙ ap (λ (l : List ℕ). heading format ++ l) (append_assoc (flat_map (field_bytes format) led.fields) rest more);
+      }
+
+  -- one step further
+  pub magic_leads : (p : Progress V) (fed bytes rest : List ℕ) → IsBytes bytes → magic_at bytes ≡ Ok rest → Leads format stages.Magic p fed bytes → Leads format stages.Version p fed rest
+  magic_leads p fed bytes rest fits e led = (led.0 ∙ (magic_takes bytes rest fits e).parts, led.1)
+
+  -- ---- refusals
+
+  magic_ends : (bytes : List ℕ) (e : CertError) → magic_at bytes ≡ Err e → reading format bytes ≡ Err e
+  unfolding heading_at
+  magic_ends bytes e h = opens format bytes ∙ rw h refl
+
+  pub magic_refused : (p : Progress V) (fed bytes : List ℕ) (e : CertError) → e ≢ errors.Truncated → magic_at bytes ≡ Err e → Leads format stages.Magic p fed bytes → IsRefusal format fed e
+  magic_refused p fed bytes e whole h led =
+      refusal_of format fed e (λ m. plain_magic bytes (h ∙ ap (λ (x : CertError). Err x) m)) whole (λ more. ap (λ (l : List ℕ). reading format (l ++ more)) led.0 ∙ magic_ends (bytes ++ more) e (magic_final bytes more e whole h))
+
+module _ {V : Type 0} (format : Format V) (law : IsFormat format) where
+  pub version_step : (p : Progress V) (fed bytes rest : List ℕ) → IsBytes bytes → version_at format.version bytes ≡ Ok rest → Leads format stages.Version p fed bytes → Leads format stages.Field p fed rest
+  version_step p fed bytes rest fits e led = subst (λ (q : Progress V). FieldsLead format q fed rest) (sym led.1) (version_leads format law fed bytes rest fits led.0 e)
+
+  version_ends : (bytes : List ℕ) (e : CertError) → version_at format.version bytes ≡ Err e → reading format (number numbers.Magic MAGIC ++ bytes) ≡ Err e
+  unfolding heading_at
+  version_ends bytes e h = opens format (number numbers.Magic MAGIC ++ bytes) ∙ rw (magic_again bytes, h) refl
+
+  pub version_refused : (p : Progress V) (fed bytes : List ℕ) (e : CertError) → e ≢ errors.Truncated → version_at format.version bytes ≡ Err e → Leads format stages.Version p fed bytes → IsRefusal format fed e
+  version_refused p fed bytes e whole h led =
+      refusal_of format fed e (λ m. plain_version format.version bytes (h ∙ ap (λ (x : CertError). Err x) m)) whole (λ more.
+      ap (λ (l : List ℕ). reading format (l ++ more)) led.0
+      ∙ ap (reading format) (append_assoc (number numbers.Magic MAGIC) bytes more)
+      ∙ version_ends (bytes ++ more) e (version_final format.version bytes more e whole h))
+
+  -- what was led here is read as its rest is
+  led_is_read : (p : Progress V) (fed rest : List ℕ) → FieldsLead format p fed rest → reading format fed ≡ rest_of format p rest
+  led_is_read p fed rest led = ap (reading format) led.spelled ∙ after_heading format law (flat_map (field_bytes format) led.fields ++ rest) ∙ fields_again format law led.fields opening p rest led.each led.led
+
+  -- the field that was read is taken, and the rest follows
+  abbrev taken_from : Progress V → Result (Field V × List ℕ) CertError → Result (Progress V × List ℕ) CertError
+  taken_from p read = read >>= λ f. taken p f.0 >>= λ q. Ok (q, f.1)
+
+  abbrev with_more : List ℕ → Result (Field V × List ℕ) CertError → Result (Field V × List ℕ) CertError
+  with_more more read = read >>= λ f. Ok (f.0, f.1 ++ more)
+
+  abbrev done_with : Progress V → List ℕ → Result (Progress V × List ℕ) CertError
+  done_with q rest = Ok (q, rest)
+
+  taken_ends : (u : Result (Progress V) CertError) (x y : List ℕ) (e : CertError) → (u >>= λ q. done_with q x) ≡ Err e → (u >>= λ q. done_with q y) ≡ Err e
+  taken_ends (Ok q) x y e h = absurd cc
+  taken_ends (Err d) x y e h = let same : d ≡ e = cc in ap (λ (x : CertError). Err x) same
+
+  cut_ends : (p : Progress V) (e : CertError) (r : Result (Field V × List ℕ) CertError) → r ≡ Err errors.Truncated → taken_from p r ≡ Err e → e ≡ errors.Truncated
+  cut_ends p e (Ok f) cut h = absurd cc
+  cut_ends p e (Err d) cut h = cc
+
+  final_next : (p : Progress V) (e : CertError) (more : List ℕ) (r : Result (Field V × List ℕ) CertError) → taken_from p r ≡ Err e → taken_from p (with_more more r) ≡ Err e
+  final_next p e more (Ok f) h = taken_ends (taken p f.0) f.1 (f.1 ++ more) e h
+  final_next p e more (Err d) h = let same : d ≡ e = cc in ap (λ (x : CertError). Err x) same
+
+  next_final : (p : Progress V) (bytes more : List ℕ) (e : CertError) → e ≢ errors.Truncated → next_at format p bytes ≡ Err e → next_at format p (bytes ++ more) ≡ Err e
+  next_final p bytes more e whole h =
+      ap (taken_from p) (field_stays format law p.turn bytes more (λ cut. whole (cut_ends p e (field_at format p.turn bytes) cut h)))
+      ∙ final_next p e more (field_at format p.turn bytes) h
+
+  field_ends : (p : Progress V) (bytes : List ℕ) (e : CertError) → 0 < length bytes → next_at format p bytes ≡ Err e → rest_of format p bytes ≡ Err e
+  field_ends p bytes e some h = reads_on format p bytes (more_unless format p.turn bytes some) ∙ ends_too (field_at format p.turn bytes) (λ f. taken p f.0) (λ f q. (q, f.1)) (λ f q. rest_of format q f.1) e h
+
+  field_final : (p : Progress V) (fed bytes : List ℕ) (e : CertError) → 0 < length bytes → e ≢ errors.Truncated → next_at format p bytes ≡ Err e → FieldsLead format p fed bytes → IsFinal format fed e
+  field_final p fed bytes e some whole h led =
+      λ more. led_is_read p (fed ++ more) (bytes ++ more) (leads_more format stages.Field p fed bytes more led) ∙ field_ends p (bytes ++ more) e (omega (arith, some, length-append bytes more)) (next_final p bytes more e whole h)
+
+  pub field_refused : (p : Progress V) (fed bytes : List ℕ) (e : CertError) → IsBytes bytes → 0 < length bytes → e ≢ errors.Truncated → Refuses e (next_at format p bytes) → (e ≡ errors.OutOfMemory → NextAdds format p bytes) → FieldsLead format p fed bytes → IsRefusal format fed e
+  field_refused p fed bytes errors.OutOfMemory fits some whole h adds led = leads_to_part format law fed p bytes fits led (adds refl)
+  field_refused p fed bytes errors.Truncated fits some whole h adds led = absurd (whole refl)
+  field_refused p fed bytes _ fits some whole h adds led = field_final p fed bytes _ some whole h led
+
+  pub field_leads : (p q : Progress V) (fed bytes rest : List ℕ) → IsBytes bytes → next_at format p bytes ≡ Ok (q, rest) → FieldsLead format p fed bytes → FieldsLead format q fed rest
+  field_leads p q fed bytes rest fits e led = read_next format law fed p q bytes rest fits led e
+
+  pub next_left : (p q : Progress V) (bytes rest : List ℕ) → next_at format p bytes ≡ Ok (q, rest) → length rest + field_width format p.turn ≡ length bytes
+  next_left p q bytes rest e =
+      let a = bind_ok (field_at format p.turn bytes) (λ f. taken p f.0 >>= λ x. Ok (x, f.1)) (q, rest) e in
+      let b = bind_ok (taken p a.0.0) (λ x. Ok (x, a.0.1)) (q, rest) a.2 in
+      let made : Progress V × List ℕ = (b.0, a.0.1) in
+      let same = ok_is made (q, rest) b.2 in
+      omega (arith, field_left format law p.turn bytes a.0.0 a.0.1 a.1, ap (λ (x : Progress V × List ℕ). length x.1) same)
+
+  -- ---- the end
+
+  -- a stream that keeps what came of the next field was fed a certificate, or what is cut off
+  pub record Ends (stage : Stage) (p : Progress V) (fed : List ℕ) : Type 0 where
+    pub whole : stage ≡ stages.Field → p.turn ≡ turns.Complete → reading format fed ≡ Ok p.content
+    pub cut : (stage ≡ stages.Field → p.turn ≢ turns.Complete) → reading format fed ≡ Err errors.Truncated
+
+  field_cuts : (p : Progress V) (kept : List ℕ) → p.turn ≢ turns.Complete → length kept < field_width format p.turn → rest_of format p kept ≡ Err errors.Truncated
+  field_cuts p kept due short = reads_on format p kept (due_has_more p.turn kept due) ∙ rw ((field_fixed format law p.turn due).short kept short) refl
+    where
+      due_has_more : (t : Turn) (bytes : List ℕ) → t ≢ turns.Complete → HasMore format t bytes
+      due_has_more turns.Complete bytes due = absurd (due refl)
+      due_has_more _ bytes due = tt
+
+  complete_ends : (p : Progress V) (kept : List ℕ) → p.turn ≡ turns.Complete → length kept < field_width format p.turn → rest_of format p kept ≡ Ok p.content
+  complete_ends p kept same short =
+      let none : length kept < 1 = subst (λ (t : Turn). length kept < field_width format t) same short in
+      ap (rest_of format p) (nil_from_length kept (omega (arith, none))) ∙ completes format p same
+
+  pub come_ends : (stage : Stage) (p : Progress V) (fed kept : List ℕ) → Leads format stage p fed kept → length kept < next_width format stage p.turn → Ends stage p fed
+  come_ends stages.Magic p fed kept led short = record {
+    whole = λ e. absurd cc;
+    cut = λ _. ap (reading format) led.0 ∙ magic_ends format kept errors.Truncated (magic_short kept short);
+  }
+  come_ends stages.Version p fed kept led short = record {
+    whole = λ e. absurd cc;
+    cut = λ _. ap (reading format) led.0 ∙ version_ends kept errors.Truncated (version_short format.version kept short);
+  }
+  come_ends stages.Field p fed kept led short = record {
+    whole = λ _ same. led_is_read p fed kept led ∙ complete_ends p kept same short;
+    cut = λ due. led_is_read p fed kept led ∙ field_cuts p kept (due refl) short;
+  }
+
+  is_open : (due : Result (Certificate V) CertError) (stage : Stage) (p : Progress V) → (stage ≡ stages.Field → p.turn ≡ turns.Complete → due ≡ Ok p.content) → ((stage ≡ stages.Field → p.turn ≢ turns.Complete) → due ≡ Err errors.Truncated) → IsOpen due
+  is_open (Ok c) stage p whole cut = tt
+  is_open (Err d) stages.Field p whole cut = elim (complete_or p.turn) [ inl same ↦ absurd (let is = whole refl same in cc) | inr due ↦ let is = cut (λ _. due) in cc ]
+    where
+      complete_or : (t : Turn) → (t ≡ turns.Complete) ⊎ (t ≢ turns.Complete)
+      complete_or turns.Complete = inl refl
+      complete_or _ = inr (λ e. absurd cc)
+  is_open (Err d) stages.Magic p whole cut = let is = cut (λ e. absurd cc) in cc
+  is_open (Err d) stages.Version p whole cut = let is = cut (λ e. absurd cc) in cc
+
+  pub come_is_open : (stage : Stage) (p : Progress V) (fed kept : List ℕ) → Leads format stage p fed kept → length kept < next_width format stage p.turn → IsOpen (reading format fed)
+  come_is_open stage p fed kept led short = let ends = come_ends stage p fed kept led short in is_open (reading format fed) stage p ends.whole ends.cut
+
+  -- what a stream answers at its end
+  pub finished : (r : Result (Certificate V) CertError) (stage : Stage) (p : Progress V) (fed kept : List ℕ) → IfOk r (λ c. (stage ≡ stages.Field) × (p.turn ≡ turns.Complete) × (c ≡ p.content)) → IfErr r (λ e. (e ≡ errors.Truncated) × (stage ≡ stages.Field → p.turn ≢ turns.Complete)) → Leads format stage p fed kept → length kept < next_width format stage p.turn → r ≡ reading format fed
+  finished (Ok c) stage p fed kept whole cut led short = sym ((come_ends stage p fed kept led short).whole whole.0 whole.1 ∙ ap (λ (x : Certificate V). Ok x) (sym whole.2))
+  finished (Err d) stage p fed kept whole cut led short = sym ((come_ends stage p fed kept led short).cut cut.1 ∙ ap (λ (x : CertError). Err x) (sym cut.0))
+
+  -- ---- what is answered is found, and is the only answer
+
+  pub is_found : (bytes : List ℕ) (r : Result (Certificate V) CertError) → IsBytes bytes → Answers r (reading format bytes) → IfOk r (λ c. (bytes ≡ spelling format c) × HasSpelling format c)
+  is_found bytes (Ok c) fits e = found format law bytes c fits e
+  is_found bytes (Err d) fits e = tt
+
+  pub is_only : (bytes : List ℕ) (r : Result (Certificate V) CertError) → Answers r (reading format bytes) → (c : Certificate V) → HasSpelling format c → bytes ≡ spelling format c → Answers r (Ok c)
+  is_only bytes r answer c has e = subst (λ (due : Result (Certificate V) CertError). Answers r due) (ap (reading format) e ∙ only format law c has) answer
+
+  pub stream_reads : (s : Stream V) (r : Result (Certificate V) CertError) → s.refused ≡ None → IfOk r (λ c. (s.stage ≡ stages.Field) × (s.progress.turn ≡ turns.Complete) × (c ≡ s.progress.content)) → IfErr r (λ e. (e ≡ errors.Truncated) × (s.stage ≡ stages.Field → s.progress.turn ≢ turns.Complete)) → IfOk r (λ c. (fed : List ℕ) → IsFed format s fed → reading format fed ≡ Ok c)
+  stream_reads s (Ok c) none whole cut = λ fed come. let came = stream_came format s fed none come in sym (finished (Ok c) s.stage s.progress fed s.kept whole cut came.0 came.1)
+  stream_reads s (Err d) none whole cut = tt
+
+  pub stream_cut : (s : Stream V) (r : Result (Certificate V) CertError) → s.refused ≡ None → IfOk r (λ c. (s.stage ≡ stages.Field) × (s.progress.turn ≡ turns.Complete) × (c ≡ s.progress.content)) → IfErr r (λ e. (e ≡ errors.Truncated) × (s.stage ≡ stages.Field → s.progress.turn ≢ turns.Complete)) → IfErr r (λ e. (fed : List ℕ) → IsFed format s fed → IsUnread format fed e)
+  stream_cut s (Ok c) none whole cut = tt
+  stream_cut s (Err d) none whole cut = λ fed come.
+      let came = stream_came format s fed none come in
+      let is : reading format fed ≡ Err errors.Truncated = sym (finished (Err d) s.stage s.progress fed s.kept whole cut came.0 came.1) ∙ ap (λ (x : CertError). Err x) cut.0 in
+      subst (λ (x : CertError). IsUnread format fed x) (sym cut.0) is
