@@ -11,7 +11,8 @@ import itertools
 import sys
 
 from program import Answer, Count, Program, side_by_side
-from samples import GLOBALS, NEW_LINE, QUIT, certificate, changed, interval, story, with_objects, word
+from samples import GLOBALS, NEW_LINE, QUIT, RELEASE, SERIAL, STATIC, certificate, changed, interval, story, with_objects, word
+from saves import RESTORES, RESTORES_LISTED, chunk
 
 LIST, CHECK, PLAY = ["list", "story"], ["check", "story", "certificate"], ["play", "story"]
 WIDE = (-32768, 32767)
@@ -522,13 +523,50 @@ def faulting():
     return orders
 
 
-# ---- what keeps a save from being restored: the story is told only that it is, so the values are those of zquetzal's proofs
+# ---- what keeps a save from being restored, which the errors say with `--tell`; play goes on as before
+
+SOUND_SAVE = {
+    "kind": b"IFZS", "more": b"", "release": RELEASE, "place": 0x326, "memory": RESTORES[:STATIC], "frames": bytes(8), "late": False, "behind": b"",
+}
+
+
+def save_of(parts):
+    """The bytes of a save of these parts, of which those that aren't given are sound."""
+    it = {**SOUND_SAVE, **parts}
+    head = chunk(b"IFhd", word(it["release"]) + SERIAL + RESTORES[0x1C:0x1E] + (it["place"] + 1).to_bytes(3, "big"))
+    memory, frames = chunk(b"UMem", it["memory"]), chunk(b"Stks", it["frames"])
+    chunks = b"".join([memory, head, frames] if it["late"] else [head, memory, frames]) + it["behind"]
+    return b"FORM" + (len(chunks) + 4).to_bytes(4, "big") + it["kind"] + chunks + it["more"]
+
+
+TWICE, COMPRESSED = chunk(b"UMem", RESTORES[:STATIC]), chunk(b"CMem", b"")
+OTHER_GLOBAL = changed(RESTORES[:STATIC], GLOBALS, 1)  # the certificate says that it is 0
+
+WRONG_SAVES = {
+    1: {"kind": b"IFXX"},
+    2: {"more": b"\0"},  # a byte that the form's length doesn't count
+    3: {"late": True},
+    4: {"behind": TWICE},
+    5: {"behind": COMPRESSED},
+    6: {"release": RELEASE + 1},
+    7: {"memory": RESTORES[:STATIC] + bytes(2)},
+    8: {"frames": bytes(7) + b"\1"},  # a word that isn't there
+    9: {"place": 0x324},  # a `restore`
+    10: {"memory": OTHER_GLOBAL},
+}
+BOTH_WRONG = {(4, 5): {"behind": TWICE + COMPRESSED}, (7, 10): {"memory": OTHER_GLOBAL + bytes(2)}}
+
 
 def restoring():
     orders = Orders("Q", 11)
-    orders.none_has(itertools.combinations(range(1, 9), 2), "no run tells which; each two are of one save in WorkedCauses of zquetzal's proofs")
-    orders.none_has(itertools.product(range(1, 9), (9, 10)), "of what isn't read no place is known, and no state")
-    orders.none_has([(9, 10)], "whether a state is described is asked only where a `save` stands before the place")
+    words = ["play", "--tell", "--save", "kept", "story", "certificate"]
+    files = lambda parts: {"story": RESTORES, "certificate": RESTORES_LISTED, "kept": save_of(parts)}
+    told = lambda number: Answer(0, b"0", f"save refused: Q{number}\n".encode())
+    orders.has((), Answer(0, b"y0", b""), words, files({}))
+    for number, parts in WRONG_SAVES.items():
+        orders.has((number,), told(number), words, files(parts))
+    for pair in itertools.combinations(WRONG_SAVES, 2):
+        orders.has(pair, told(pair[0]), words, files(BOTH_WRONG.get(pair, {**WRONG_SAVES[pair[0]], **WRONG_SAVES[pair[1]]})))
     orders.none_has([(it, 11) for it in range(1, 11)], "want of memory stands outside the order; tests/refusals has it")
     return orders
 

@@ -195,6 +195,36 @@ def see_plays(program, count):
             count.see(answer == done(output, errors) and left == wanted and not others, f"{name}, {machine}: {answer}; kept {left and left[:60]}")
 
 
+def see_told(program, count):
+    """With `--tell` the errors say of each save that is refused why, each time, and before the line of the end; where no file can be read,
+    or saves are kept nowhere, they say nothing of it. Without it all is the same but for those lines."""
+    once = b"save refused: Q5\n"
+    compressed = ITS_SAVE.replace(b"UMem", b"CMem")
+    twice = story((RESTORE + SAY_NO) * 2 + QUIT)
+    twice_listed = certificate(twice, [0x324, 0x326, 0x329, 0x32B, 0x32E])
+    for name, made, listed, options, kept, output, told, end in [
+        ("a refusal", RESTORES, RESTORES_LISTED, ["--save", "kept"], compressed, b"0", once, b""),
+        ("a refusal and an end that is said", RESTORES, RESTORES_LISTED, ["--save", "kept", "--budget", "1"], compressed, b"", once, b"end: budget\n"),
+        ("two refusals", twice, twice_listed, ["--save", "kept"], compressed, b"nn", 2 * once, b""),
+        ("no file", RESTORES, RESTORES_LISTED, ["--save", "kept"], None, b"0", b"", b""),
+        ("a folder", RESTORES, RESTORES_LISTED, ["--save", "."], None, b"0", b"", b""),
+        ("no place for saves", RESTORES, RESTORES_LISTED, [], compressed, b"0", b"", b""),
+        ("a save that is restored", RESTORES, RESTORES_LISTED, ["--save", "kept"], ITS_SAVE, b"y0", b"", b""),
+    ]:
+        for errors, more in ((end, []), (told + end, ["--tell"])):
+            for machine, answer, left, others in on_both(program, made, listed, [*options, *more], kept):
+                well = answer == done(output, errors) and left == kept and not others
+                count.see(well, f"{name}, {more}, {machine}: {answer}, wanted was {output} and {errors}")
+    # where the errors take no byte, play goes on
+    with tempfile.TemporaryDirectory(prefix="saves-") as room:
+        for file_name, contents in (("story", RESTORES), ("kept", compressed)):
+            with open(os.path.join(room, file_name), "wb") as file:
+                file.write(contents)
+        with open("/dev/full", "wb") as full:
+            ran = subprocess.run([program.path, "play", "--tell", "--save", "kept", "story"], cwd=room, stdin=subprocess.DEVNULL, stdout=subprocess.PIPE, stderr=full, timeout=60)
+        count.see((ran.returncode, ran.stdout) == (0, b"0"), f"errors that take no byte: {ran}")
+
+
 def see_again(program, count):
     """A save is restored that was kept since the file was last read: at first it is empty, and can't be restored from."""
     for machine, answer, left, others in on_both(program, AGAIN, AGAIN_LISTED, ["--save", "kept", "--budget", "9"], b""):
@@ -214,32 +244,83 @@ def see_long(program, count):
             count.see(size > 1001 * 1108, f"a long save: {size} bytes were kept")
 
 
-def what_is_printed(at):
-    """What the story that restores prints where this byte of its save is altered: nothing is restored by the machine that tests
-    everything unless the byte is one of dynamic memory; nor by the certificate, by which each global is 0 and property defaults stay,
-    unless it is one of the header, which a restore leaves but for Flags 2."""
-    checked = IN_SAVE <= at < IN_SAVE + STATIC
-    listed = IN_SAVE <= at < IN_SAVE + 64
-    return checked, listed
+def chunks_of(file):
+    """The chunks of a form, by their names and data, if it is made of chunks alone, each of which has its length and a zero behind odd data
+    (Q 5, 8)."""
+    found, at = [], 12
+    while at < len(file):
+        size = int.from_bytes(file[at + 4 : at + 8], "big")
+        end = at + 8 + size + size % 2
+        if end > len(file) or file[at + 8 + size : end].strip(b"\0"):
+            return None
+        found.append((file[at : at + 4], file[at + 8 : at + 8 + size]))
+        at = end
+    return None if any(name == b"IFhd" and len(data) != 13 for name, data in found) else found
+
+
+def are_frames(data):
+    """Whether these are frames that a story can have, of which all but the stack of the first is zero (Q 4)."""
+    count = 0
+    while data:
+        flags, supplied, slots = data[3], data[5] if len(data) > 5 else 255, int.from_bytes(data[6:8], "big")
+        size = 8 + 2 * flags + 2 * slots
+        if len(data) < size or flags > 15 or supplied not in (0, 1, 3, 7) or count == 0 and data[:6].strip(b"\0"):
+            return False
+        data, count = data[size:], count + 1
+    return 1 <= count <= 1025
+
+
+def refusal_of(file):
+    """The number of the lowest Q that stands in the way of reading a file as a save of the story that restores, or of going on at its
+    place, where that `save` is the only one."""
+    if len(file) < 12 or file[:4] != b"FORM" or file[8:12] != b"IFZS":
+        return 1
+    chunks = chunks_of(file) if int.from_bytes(file[4:8], "big") + 8 == len(file) else None
+    if chunks is None:
+        return 2
+    names = [name for name, _ in chunks if name in (b"IFhd", b"UMem", b"CMem", b"Stks")]
+    if names[:1] != [b"IFhd"] or b"Stks" not in names or not {b"UMem", b"CMem"} & set(names):
+        return 3
+    if any(names.count(it) > 1 for it in (b"IFhd", b"UMem", b"Stks")):
+        return 4
+    if b"CMem" in names:
+        return 5
+    data = dict(chunks)
+    if data[b"IFhd"][:10] != ITS_SAVE[20:30]:
+        return 6
+    if len(data[b"UMem"]) != STATIC:
+        return 7
+    if not are_frames(data[b"Stks"]):
+        return 8
+    return None if data[b"IFhd"][10:] == ITS_SAVE[30:33] else 9
 
 
 def see_altered(program, count):
-    """Each byte of a save altered, and each beginning."""
+    """Each byte of a save altered, and each beginning. Each machine restores what nothing stands in the way of, but for the certificate, by
+    which each global is 0 and property defaults stay: of memory it leaves the header open alone. What isn't restored is told by its number,
+    and play goes on."""
+    def restored(file):
+        return done(b"y%d" % struct.unpack(">h", file[IN_SAVE + 64 : IN_SAVE + 66]))
+
     def wanted(file):
-        if len(file) < len(ITS_SAVE):
-            return b"0", b"0"
-        at = next(index for index, byte in enumerate(file) if byte != ITS_SAVE[index])
-        checked, listed = what_is_printed(at)
-        first = struct.unpack(">h", file[IN_SAVE + 64 : IN_SAVE + 66])[0]
-        return b"y%d" % first if checked else b"0", b"y0" if listed else b"0"
+        number = refusal_of(file)
+        if number:
+            return 2 * [done(b"0", b"save refused: Q%d\n" % number)]
+        listed = file[IN_SAVE + 64 : IN_SAVE + STATIC] == ITS_SAVE[IN_SAVE + 64 : IN_SAVE + STATIC]
+        return [restored(file), restored(file) if listed else done(b"0", b"save refused: Q10\n")]
 
     def answers(case):
-        return [(answer, left == case[1], others) for _, answer, left, others in on_both(program, RESTORES, RESTORES_LISTED, ["--save", "kept"], case[1])]
+        told = ["--save", "kept", "--tell"]
+        return [(answer, left == case[1], others) for _, answer, left, others in on_both(program, RESTORES, RESTORES_LISTED, told, case[1])]
 
     cases = list(changes(ITS_SAVE))
+    seen = set()
     for (name, file), both in zip(cases, side_by_side(answers, cases)):
-        for (answer, same, others), output in zip(both, wanted(file)):
-            count.see(answer == done(output) and same and not others, f"save, {name}: {answer}, wanted was {output}")
+        for (answer, same, others), by_hand in zip(both, wanted(file)):
+            seen.add(by_hand.errors)
+            count.see(answer == by_hand and same and not others, f"save, {name}: {answer}, wanted was {by_hand}")
+    # by one byte no chunk comes to be there twice, or compressed
+    count.see(seen == {b"", *(b"save refused: Q%d\n" % number for number in (1, 2, 3, 6, 7, 8, 9, 10))}, f"of altered saves was told: {sorted(seen)}")
 
 
 def see_processes(program, count):
@@ -280,6 +361,7 @@ def main():
     count = Count("saves")
     assert len(QUITS_SAVE) == len(ITS_SAVE) == 664
     see_plays(program, count)
+    see_told(program, count)
     see_again(program, count)
     see_long(program, count)
     see_processes(program, count)

@@ -5,6 +5,7 @@ ghost use Rattle.std.specs.Prelude.{Some, zero, ⊤};
 use arrayvec::ArrayVec;
 use zfault::{Failed, Items, Sink};
 use zplayer::SaveStore;
+use zquetzal::SaveError;
 
 /// How many bytes a page has room for.
 const ROOM: usize = 256;
@@ -85,7 +86,7 @@ pub struct Nothing;
 impl SaveStore for Nothing {
     ghost failures = { λ _. zero };
 
-    ghost Spares = { λ _ _. ⊤ };
+    ghost Follows = { λ _ _ _. ⊤ };
 
     fn put(&mut self, _save: &[u8]) -> bool {
         true
@@ -95,7 +96,9 @@ impl SaveStore for Nothing {
         true
     }
 
+    fn refused(&mut self, _error: SaveError) {}
+
     ghost itself = { λ _. tt };
 
-    ghost through = { λ _ _ _ _ _. tt };
+    ghost through = { λ _ _ _ _ _ _ _. tt };
 }

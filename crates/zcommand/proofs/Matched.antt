@@ -17,7 +17,7 @@ use Rattle.clap.specs.Words.{ReadsOne, Row, Text, first_of, first_value, one_tex
 use Rattle.clap.specs.declared.parser.matches.ArgMatches.{ArgMatches}
 use Rattle.clap.specs.declared.parser.matches.ArgMatches.TheViews.{out-ArgMatches, out-SubCommand}
 use Rattle.clap.specs.Simple.{subcommand_rows}
-use Rattle.zcommand.specs.CommandLine.{certificate_of, code_of, is_status_asked, number_in, number_of, save_of, story_of}
+use Rattle.zcommand.specs.CommandLine.{certificate_of, code_of, is_asked, number_in, number_of, save_of, story_of}
 
 digits_pass : (ds : List ℕ) → AllDigits 10 ds → list_all (λ d. nat_lt (digit_value d) 10) ds ≡ true
 digits_pass [] h = refl
@@ -97,11 +97,11 @@ number_given {E} bits name G found o r none given parses is =
     go (Some t) e o none given = read t o (given t e)
 
 -- what the getter of flags gives, or else false
-pub status_read : (E : Type 0) (found : Found) (o : Option Bool) (r : Bool)
-    → (one_text found (codes "status") ≡ None → o ≡ None) → ((t : Text) → one_text found (codes "status") ≡ Some t → ReadsOne (ParsesBool {E = E}) t o)
-    → r ≡ unwrap_or o false → r ≡ is_status_asked (rows_of found)
-status_read E found o r none given is =
-    is ∙ go (one_text found (codes "status")) refl o none given ∙ ap (λ (x : Option Text). option_map_or (λ t. bytes_eq t (codes "true")) x false) (one_text-rows found (codes "status"))
+pub flag_read : (name : Text) (E : Type 0) (found : Found) (o : Option Bool) (r : Bool)
+    → (one_text found name ≡ None → o ≡ None) → ((t : Text) → one_text found name ≡ Some t → ReadsOne (ParsesBool {E = E}) t o)
+    → r ≡ unwrap_or o false → r ≡ is_asked name (rows_of found)
+flag_read name E found o r none given is =
+    is ∙ go (one_text found name) refl o none given ∙ ap (λ (x : Option Text). option_map_or (λ t. bytes_eq t (codes "true")) x false) (one_text-rows found name)
   where
     unread : (t : Text) (b : Bool) → bytes_eq t (codes "true") ≡ b → (t ≡ codes "true" → ⊥) → false ≡ b
     unread t true e other = absurd (other ((bytes_eq-Decides t (codes "true")).0 e))
@@ -112,8 +112,8 @@ status_read E found o r none given is =
     read t (Some false) h = sym (ap (λ (x : Text). bytes_eq x (codes "true")) h)
     read t None h = unread t (bytes_eq t (codes "true")) refl h.1.0
 
-    go : (x : Option Text) → one_text found (codes "status") ≡ x → (o : Option Bool)
-        → (one_text found (codes "status") ≡ None → o ≡ None) → ((t : Text) → one_text found (codes "status") ≡ Some t → ReadsOne (ParsesBool {E = E}) t o)
+    go : (x : Option Text) → one_text found name ≡ x → (o : Option Bool)
+        → (one_text found name ≡ None → o ≡ None) → ((t : Text) → one_text found name ≡ Some t → ReadsOne (ParsesBool {E = E}) t o)
         → unwrap_or o false ≡ option_map_or (λ t. bytes_eq t (codes "true")) x false
     go None e o none given = ap (λ (y : Option Bool). unwrap_or y false) (none e)
     go (Some t) e o none given = read t o (given t e)

@@ -42,6 +42,10 @@ budget_rule = record (new_rule (codes "budget")) {
 abbrev pub status_rule : Rule
 status_rule = record (new_rule (codes "status")) { long = Some (codes "status"); action = Some SetTrue }
 
+-- `--tell`, a flag
+abbrev pub tell_rule : Rule
+tell_rule = record (new_rule (codes "tell")) { long = Some (codes "tell"); action = Some SetTrue }
+
 -- `--save FILE`, where FILE isn't empty
 abbrev pub save_rule : Rule
 save_rule = record (new_rule (codes "save")) { long = Some (codes "save"); value_names = 1; parser = Some parsers.NonEmptyString }
@@ -70,9 +74,13 @@ find_app = files_app (codes "find") true
 abbrev pub check_app : App
 check_app = files_app (codes "check") true
 
--- `play STORY [CERT] --seed N --budget N --status --save FILE`
+-- `play STORY [CERT] --seed N --budget N --status`
+abbrev pub saveless_app : App
+saveless_app = with_rule (with_rule (with_rule (files_app (codes "play") false) seed_rule) budget_rule) status_rule
+
+-- the same with `--save FILE --tell`
 abbrev pub play_app : App
-play_app = with_rule (with_rule (with_rule (with_rule (files_app (codes "play") false) seed_rule) budget_rule) status_rule) save_rule
+play_app = with_rule (with_rule saveless_app save_rule) tell_rule
 
 -- `explain CODE`
 abbrev pub explain_app : App
@@ -117,9 +125,17 @@ seed_of rows = number_of 64 (codes "seed") rows
 abbrev pub budget_of : List Row → ℕ
 budget_of rows = number_of 32 (codes "budget") rows
 
--- whether status lines are asked for among the matches of `play`: clap has `true` there where the flag is given, and else `false`
+-- whether a flag is given among the matches of `play`: clap has `true` there where it is, and else `false`
+abbrev pub is_asked : Text → List Row → Bool
+is_asked name rows = option_map_or (λ text. bytes_eq text (codes "true")) (one_of name rows) false
+
+-- so whether status lines are asked for
 abbrev pub is_status_asked : List Row → Bool
-is_status_asked rows = option_map_or (λ text. bytes_eq text (codes "true")) (one_of (codes "status") rows) false
+is_status_asked rows = is_asked (codes "status") rows
+
+-- and whether each save that is refused is to be told
+abbrev pub is_tell_asked : List Row → Bool
+is_tell_asked rows = is_asked (codes "tell") rows
 
 -- the name of the certificate among the matches of a command, if there is one
 abbrev pub certificate_of : List Row → Option Text
@@ -138,7 +154,7 @@ pub data Request : Type 0 where
   ListStory : (story : Text) (certificate : Option Text) → Request
   Find : (story certificate : Text) → Request
   Check : (story certificate : Text) → Request
-  Play : (story : Text) (certificate : Option Text) (seed budget : ℕ) (status : Bool) (save : Option Text) → Request
+  Play : (story : Text) (certificate : Option Text) (seed budget : ℕ) (status : Bool) (save : Option Text) (tell : Bool) → Request
   Explain : (code : Text) → Request
 
 -- the request is the one that clap's matches name, with the values among them
@@ -148,9 +164,9 @@ Asks matches (Find story certificate) =
     (matches.0 ≡ codes "find") × (story ≡ story_of matches.1) × (certificate ≡ unwrap_or (certificate_of matches.1) [])
 Asks matches (Check story certificate) =
     (matches.0 ≡ codes "check") × (story ≡ story_of matches.1) × (certificate ≡ unwrap_or (certificate_of matches.1) [])
-Asks matches (Play story certificate seed budget status save) =
+Asks matches (Play story certificate seed budget status save tell) =
     (matches.0 ≡ codes "play") × (story ≡ story_of matches.1) × (certificate ≡ certificate_of matches.1) × (seed ≡ seed_of matches.1) × (budget ≡ budget_of matches.1)
-    × (status ≡ is_status_asked matches.1) × (save ≡ save_of matches.1)
+    × (status ≡ is_status_asked matches.1) × (save ≡ save_of matches.1) × (tell ≡ is_tell_asked matches.1)
 Asks matches (Explain code) = (matches.0 ≡ codes "explain") × (code ≡ code_of matches.1)
 
 -- what a command asks for
@@ -158,7 +174,7 @@ abbrev pub request_of : Command → Request
 request_of (commands.List story certificate) = ListStory story.now (option_map (λ c. c.now) certificate)
 request_of (commands.Find story certificate) = Find story.now certificate.now
 request_of (commands.Check story certificate) = Check story.now certificate.now
-request_of (commands.Play story certificate seed budget status save) = Play story.now (option_map (λ c. c.now) certificate) seed budget status (option_map (λ f. f.now) save)
+request_of (commands.Play story certificate seed budget status save tell) = Play story.now (option_map (λ c. c.now) certificate) seed budget status (option_map (λ f. f.now) save) tell
 request_of (commands.Explain code) = Explain code.now
 
 -- the command is the one that clap's matches name

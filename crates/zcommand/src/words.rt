@@ -4,7 +4,7 @@ ghost use Rattle.std.specs.Prelude.{◌≡◌, IfOk, IsSomeAnd, codes, false};
 ghost use Rattle.clap.specs.Walk.{texts};
 ghost use Rattle.clap.specs.Words.{FailsBy, app_of, fault_of, found_of, rows_of, rule_of, subcommand_name_of, subcommand_of, subcommand_rows_of};
 ghost use Rattle.clap.specs.declared.builder.command.Command.TheViews.{out-Command as fields_of};
-ghost use Rattle.zcommand.specs.CommandLine.{IsCommand, IsReadFrom, bare_app, budget_rule, certificate_rule, certifying_app, check_app, code_rule, explain_app, files_app, find_app, list_app, play_app, save_rule, seed_rule, status_rule, story_rule, word_rule, zpc_app};
+ghost use Rattle.zcommand.specs.CommandLine.{IsCommand, IsReadFrom, bare_app, budget_rule, certificate_rule, certifying_app, check_app, code_rule, explain_app, files_app, find_app, list_app, play_app, save_rule, saveless_app, seed_rule, status_rule, story_rule, tell_rule, word_rule, zpc_app};
 
 use clap::builder::ValueParser;
 use clap::{Arg, ArgAction, ArgMatches, Error, value_parser};
@@ -57,6 +57,8 @@ pub enum Command<'a> {
         status: bool,
         /// The name of the file that saves are kept in, if there is one.
         save: Option<&'a str>,
+        /// Whether each save that is refused is told on the errors.
+        tell: bool,
     },
     /// Says what a code means.
     Explain {
@@ -135,6 +137,7 @@ fn play_of<'a>(matches: &ArgMatches<'a>) -> Command<'a>
     let budget = matches.get_one("budget").unwrap_or(0);
     let status = matches.get_one("status").unwrap_or(false);
     let save = matches.get_str("save");
+    let tell = matches.get_one("tell").unwrap_or(false);
     Command::Play {
         story,
         certificate,
@@ -142,6 +145,7 @@ fn play_of<'a>(matches: &ArgMatches<'a>) -> Command<'a>
         budget,
         status,
         save,
+        tell,
     }
 }
 
@@ -213,6 +217,14 @@ fn play<'a>(alloc: Global) -> Result<clap::Command<'a>, AllocError>
     ensures app { IfOk result (λ play. app_of play ≡ play_app) }
     ensures local { IfOk result (λ play. (fields_of play).has_globals ≡ false) }
 {
+    saveless(alloc)?.arg(save(alloc))?.arg(tell(alloc))
+}
+
+/// `play` without what is said of saves.
+fn saveless<'a>(alloc: Global) -> Result<clap::Command<'a>, AllocError>
+    ensures app { IfOk result (λ play. app_of play ≡ saveless_app) }
+    ensures local { IfOk result (λ play. (fields_of play).has_globals ≡ false) }
+{
     let play = on_files(
         alloc,
         "play",
@@ -220,7 +232,7 @@ fn play<'a>(alloc: Global) -> Result<clap::Command<'a>, AllocError>
         false,
     )?;
     let play = play.arg(seed(alloc))?.arg(budget(alloc))?;
-    play.arg(status(alloc))?.arg(save(alloc))
+    play.arg(status(alloc))
 }
 
 fn explain<'a>(alloc: Global) -> Result<clap::Command<'a>, AllocError>
@@ -322,4 +334,14 @@ fn save<'a>(alloc: Global) -> Arg<'a>
         .help("The file that saves are kept in")
         .value_name("FILE")
         .value_parser(ValueParser::NonEmptyString)
+}
+
+fn tell<'a>(alloc: Global) -> Arg<'a>
+    ensures rule { rule_of result ≡ tell_rule }
+    ensures local { result.global ≡ false }
+{
+    Arg::new(alloc, "tell")
+        .long("tell")
+        .help("Tells of each save that is refused why it is")
+        .action(ArgAction::SetTrue)
 }

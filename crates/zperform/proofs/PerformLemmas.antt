@@ -4,9 +4,11 @@ use Rattle.clap.specs.Kinds.{IsAmong}
 use Rattle.clap.specs.Words.{Row, Text, fault_of, subcommand_of}
 use Rattle.zplayer.specs.declared.end.End.{End}
 use Rattle.zplayer.specs.Outside.{Blames}
+use Rattle.zquetzal.specs.declared.error.SaveError.{SaveError}
 use Rattle.zcommand.specs.CommandLine.{Asks, Request, zpc_app}
 use Rattle.zperform.specs.Devices.{Devices, FlushesUnless, Held, Seen, UsesUnless, seen, told}
-use Rattle.zperform.specs.Performing.{Comes, Explains, IsBlamed, Performs, Reports, is_quiet, save_in, written_by}
+use Rattle.zperform.specs.Performing.{Comes, Explains, IsBlamed, Performs, Reports, is_quiet, said_by, save_in, written_by}
+use Rattle.zperform.specs.Telling.{SaysEach}
 use Rattle.zperform.specs.declared.outcome.Failure.TheVariants.{File, Read, Write}
 use Rattle.zperform.specs.Report.{outcome_of}
 use Rattle.zperform.specs.declared.outcome.Problem.{Problem}
@@ -56,16 +58,16 @@ writer_as_seen contents failures waits old new fails writer = record { blamed = 
 module _ (words : List Text) (status : ℕ) (old new : Devices) (outcome : Outcome)
     (writer : FlushesUnless (λ (s : Seen). s.failures) (λ (s : Seen). s.waits) old.writer new.writer (outcome ≡ Stopped (Failed Write)))
     (reader : Blames (outcome ≡ Stopped (Failed Read)) old.reader.failures new.reader.failures)
-    (reported : Reports outcome status old.errors new.errors) where
-  pub performs_request : (request : Request) → UsesUnless (λ (f : Held). f.known) (λ (f : Held). f.failures) old.files new.files (save_in request) (written_by request) (outcome ≡ Stopped (Failed File)) → (outcome ≡ Stopped (Failed File) → IsBlamed request old.files)
-      → (is_quiet request ≡ true → new.reader ≡ old.reader) → Comes request old.files.known new.files.known old.reader.remaining old.writer.contents new.writer.contents outcome → IsSomeAnd (subcommand_of zpc_app words) (λ matches. Asks matches request)
+    (between : Seen) (reported : Reports outcome status between new.errors) where
+  pub performs_request : (request : Request) (refusals : List SaveError) → SaysEach (said_by request refusals) old.errors between → UsesUnless (λ (f : Held). f.known) (λ (f : Held). f.failures) old.files new.files (save_in request) (written_by request) (outcome ≡ Stopped (Failed File)) → (outcome ≡ Stopped (Failed File) → IsBlamed request old.files)
+      → (is_quiet request ≡ true → new.reader ≡ old.reader) → Comes request old.files.known new.files.known old.reader.remaining refusals old.writer.contents new.writer.contents outcome → IsSomeAnd (subcommand_of zpc_app words) (λ matches. Asks matches request)
       → Performs words status old new
-  performs_request request files could unasked comes read = go (subcommand_of zpc_app words) refl read
+  performs_request request refusals told files could unasked comes read = go (subcommand_of zpc_app words) refl read
     where
       go : (o : Option (Text × List Row)) → subcommand_of zpc_app words ≡ o → IsSomeAnd o (λ matches. Asks matches request) → Performs words status old new
       go None e h = absurd h
       go (Some matches) e asks =
-          inl (record { matches = matches; named = e; request = request; asks = asks; outcome = outcome; comes = comes; writer = writer; files = files; could = could; reader = reader; unasked = unasked; reported = reported })
+          inl (record { matches = matches; named = e; request = request; asks = asks; outcome = outcome; comes = comes; writer = writer; files = files; could = could; reader = reader; unasked = unasked; refusals = refusals; between = between; told = told; reported = reported })
 
 -- what is told of a source that wasn't asked
 pub told_same : {R : Type 0} (remaining : R → Option (List ℕ)) (failures : R → ℕ) (old new : R) → new ≡ old → told remaining failures new ≡ told remaining failures old

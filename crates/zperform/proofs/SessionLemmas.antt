@@ -1,7 +1,8 @@
 -- What comes of playing by a certificate.
-use Rattle.std.proofs.Common.{◌≡◌, ◌≢◌, inl, inr, ◌∙◌, ℕ, List, refl, sym, ap, subst, true≢false}
+use Rattle.std.proofs.Common.{◌≡◌, ◌≢◌, inl, inr, ◌∙◌, ℕ, List, [], refl, sym, ap, subst, true≢false}
 use Rattle.std.specs.Prelude.{ℤ, Bool, Option, Result, Ok, Err, IfOk, IsErr, IsErrAnd, IsErrOf}
 use Rattle.zfault.specs.declared.fault.Fault.{Fault}
+use Rattle.zquetzal.specs.declared.error.SaveError.{SaveError}
 use Rattle.zstate.specs.State.{State, opening}
 use Rattle.zdomain.specs.Interval.{interval_operations}
 use Rattle.zcheck.specs.Acceptance.{Acceptance}
@@ -93,27 +94,41 @@ module _ (story certificate : Option (List ℕ)) where
   unblamed (Failed Read) h = absurd h
   unblamed (Failed Write) h = absurd h
 
-module _ (story certificate : Option (List ℕ)) (options : Options) (given : World) (before : Option (List ℕ)) where
+-- what isn't accepted isn't played, and no save is refused
+pub unplayed : (story certificate : Option (List ℕ)) (options : Options) (given : World) (before : Option (List ℕ)) (problem : Problem) → IsUnaccepted story certificate problem
+    → PlayComesTo story certificate options given [] before before (Stopped problem)
+unplayed story certificate options given before (Refused error) h = (h, refl, refl)
+unplayed story certificate options given before (Unreadable error) h = (h, refl, refl)
+unplayed story certificate options given before (BreaksStory rule) h = (h, refl, refl)
+unplayed story certificate options given before (BreaksInstruction address rule) h = (h, refl, refl)
+unplayed story certificate options given before (Unlisted error) h = absurd h
+unplayed story certificate options given before (Unfound error broken) h = absurd h
+unplayed story certificate options given before (Failed File) h = (h, refl, refl)
+unplayed story certificate options given before (Failed Memory) h = inl (refl, refl, h)
+unplayed story certificate options given before (Failed Read) h = absurd h
+unplayed story certificate options given before (Failed Write) h = absurd h
+
+module _ (story certificate : Option (List ℕ)) (options : Options) (given : World) (refusals : List SaveError) (before : Option (List ℕ)) where
   pub handed_on : (now : Option (List ℕ)) (r : Result End Problem) (problem : Problem) → IsErr r × IsErrAnd r (λ q. q ≡ problem)
-      → PlayComesTo story certificate options given before now (Stopped problem) → PlayComesTo story certificate options given before now (outcome_of r)
+      → PlayComesTo story certificate options given refusals before now (Stopped problem) → PlayComesTo story certificate options given refusals before now (outcome_of r)
   handed_on now (Ok end) problem (is, same) h = absurd (true≢false (sym is))
-  handed_on now (Err q) problem (is, same) h = subst (λ (x : Problem). PlayComesTo story certificate options given before now (Stopped x)) (sym same) h
+  handed_on now (Err q) problem (is, same) h = subst (λ (x : Problem). PlayComesTo story certificate options given refusals before now (Stopped x)) (sym same) h
 
   -- memory for the session was refused
   pub unopened : (a : Acceptance) → IsAccepted story certificate a → HasBytes story
   unopened a accepted = story_bytes story a.story accepted.story
 
   -- a session that opened
-  module _ (a : Acceptance) (accepted : IsAccepted story certificate a) (p : Playing) (opened : p ≡ record { accepted = a; state = opening a.story }) (now : Option (List ℕ)) (state : State) (words : Option Coming) (store : Store) (unsaved : StaysEmpty given.store store) where
+  module _ (a : Acceptance) (accepted : IsAccepted story certificate a) (p : Playing) (opened : p ≡ record { accepted = a; state = opening a.story }) (now : Option (List ℕ)) (state : State) (words : Option Coming) (store : Store) (unsaved : StaysEmpty given.store store) (refused : store.refusals ≡ refusals) where
     by : (result : Result End PlayError) → PlayComes (setting_of p.accepted) (Describes interval_operations p.accepted) (GivesOrSaves (setting_of p.accepted)) options given p.state state words store before now result → IfOk result (λ end. (fault : Fault) (place : ℤ) → end ≢ ends.Fault fault place)
-        → Accepts story certificate (λ a. IsPlayedBy a options given before now result)
+        → Accepts story certificate (λ a. IsPlayedBy a options given refusals before now result)
     by result comes safe =
-        (a, accepted, record { state = state; words = words; store = store; comes = subst (λ (q : Playing). PlayComes (setting_of q.accepted) (Describes interval_operations q.accepted) (GivesOrSaves (setting_of q.accepted)) options given q.state state words store before now result) opened comes; unsaved = unsaved; safe = safe })
+        (a, accepted, record { state = state; words = words; store = store; comes = subst (λ (q : Playing). PlayComes (setting_of q.accepted) (Describes interval_operations q.accepted) (GivesOrSaves (setting_of q.accepted)) options given q.state state words store before now result) opened comes; unsaved = unsaved; refused = refused; safe = safe })
 
-    pub played : (end : End) → PlayComes (setting_of p.accepted) (Describes interval_operations p.accepted) (GivesOrSaves (setting_of p.accepted)) options given p.state state words store before now (Ok end) → ((fault : Fault) (place : ℤ) → end ≢ ends.Fault fault place) → PlayComesTo story certificate options given before now (Played end)
+    pub played : (end : End) → PlayComes (setting_of p.accepted) (Describes interval_operations p.accepted) (GivesOrSaves (setting_of p.accepted)) options given p.state state words store before now (Ok end) → ((fault : Fault) (place : ℤ) → end ≢ ends.Fault fault place) → PlayComesTo story certificate options given refusals before now (Played end)
     played end comes safe = by (Ok end) comes safe
 
-    pub broken : (error : PlayError) → PlayComes (setting_of p.accepted) (Describes interval_operations p.accepted) (GivesOrSaves (setting_of p.accepted)) options given p.state state words store before now (Err error) → PlayComesTo story certificate options given before now (Stopped (problem_of_play error))
+    pub broken : (error : PlayError) → PlayComes (setting_of p.accepted) (Describes interval_operations p.accepted) (GivesOrSaves (setting_of p.accepted)) options given p.state state words store before now (Err error) → PlayComesTo story certificate options given refusals before now (Stopped (problem_of_play error))
     broken errors.Read comes = by (Err errors.Read) comes tt
     broken errors.Write comes = by (Err errors.Write) comes tt
     broken errors.OutOfMemory comes = inr (by (Err errors.OutOfMemory) comes tt)

@@ -164,11 +164,11 @@ unfolding reading heading_at magic_at
 empty_certificate = refl
 
 -- for an empty story's file memory is never wanted, and it is too short
-empty_story : (options : Options) (given : World) (before now : Option (List ℕ)) → (ComesTo (Some []) options given before now (Stopped (Failed Memory)) → ⊥) × (IsRefused [] loads.TooShort)
+empty_story : (options : Options) (given : World) (before now : Option (List ℕ)) → (ComesTo (Some []) options given [] before now (Stopped (Failed Memory)) → ⊥) × (IsRefused [] loads.TooShort)
 empty_story options given before now = (unwanted, record { lowest = (omega arith, λ lower below. absurd (none lower below)); of_file = λ e. cc })
   where
-    unwanted : ComesTo (Some []) options given before now (Stopped (Failed Memory)) → ⊥
-    unwanted (inl (same, some)) = omega (arith, some)
+    unwanted : ComesTo (Some []) options given [] before now (Stopped (Failed Memory)) → ⊥
+    unwanted (inl (same, none, some)) = omega (arith, some)
     unwanted (inr (file, same, cut)) = cut.holds.no_cause loads.TooShort (omega arith) (omega (arith, ap length same))
 
     none : (lower : LoadError) → number_of lower < 1 → ⊥
@@ -200,7 +200,7 @@ problems :
 problems = (refl, refl, refl, refl, refl, refl, refl, refl, refl, refl, refl, refl)
 
 -- nothing is kept at first where saves go nowhere, nothing is known of a file, and no call failed
-stores : (store_of None ≡ record { kept = Some None; failures = 0 }) × (store_of (Some (codes "a.qzl")) ≡ record { kept = None; failures = 0 })
+stores : (store_of None ≡ record { kept = Some None; failures = 0; refusals = [] }) × (store_of (Some (codes "a.qzl")) ≡ record { kept = None; failures = 0; refusals = [] })
 stores = (refl, refl)
 
 -- a certificate's file may fail, is cut off where it is empty, and wants memory only where it has bytes
@@ -297,9 +297,9 @@ blamed :
     IsBlamed (ListStory (5 ∷ []) None) (drawer 0 [] [] (5 ∷ [])) × (IsBlamed (ListStory (5 ∷ []) None) (drawer 0 [] [] (6 ∷ [])) → ⊥)
     × IsBlamed (ListStory (5 ∷ []) (Some (6 ∷ []))) (drawer 0 [] [] (5 ∷ [])) × (IsBlamed (ListStory (5 ∷ []) (Some (6 ∷ []))) (drawer 0 (5 ∷ []) [] (6 ∷ [])) → ⊥)
     × (IsBlamed (ListStory (5 ∷ []) (Some (6 ∷ []))) (drawer 0 [] [] (7 ∷ [])) → ⊥)
-    × IsBlamed (Play (5 ∷ []) None 1 100 false (Some (6 ∷ []))) (drawer 0 [] [] (5 ∷ [])) × (IsBlamed (Play (5 ∷ []) None 1 100 false (Some (6 ∷ []))) (drawer 0 [] [] (6 ∷ [])) → ⊥)
+    × IsBlamed (Play (5 ∷ []) None 1 100 false (Some (6 ∷ [])) false) (drawer 0 [] [] (5 ∷ [])) × (IsBlamed (Play (5 ∷ []) None 1 100 false (Some (6 ∷ [])) false) (drawer 0 [] [] (6 ∷ [])) → ⊥)
     × IsBlamed (Check (5 ∷ []) (6 ∷ [])) (drawer 0 [] [] (5 ∷ [])) × (IsBlamed (Check (5 ∷ []) (6 ∷ [])) (drawer 0 (5 ∷ []) [] (6 ∷ [])) → ⊥) × (IsBlamed (Check (5 ∷ []) (6 ∷ [])) (drawer 0 [] [] (7 ∷ [])) → ⊥)
-    × IsBlamed (Play (5 ∷ []) (Some (6 ∷ [])) 1 100 false None) (drawer 0 [] [] (5 ∷ [])) × (IsBlamed (Play (5 ∷ []) (Some (6 ∷ [])) 1 100 false None) (drawer 0 (5 ∷ []) [] (6 ∷ [])) → ⊥)
+    × IsBlamed (Play (5 ∷ []) (Some (6 ∷ [])) 1 100 false None false) (drawer 0 [] [] (5 ∷ [])) × (IsBlamed (Play (5 ∷ []) (Some (6 ∷ [])) 1 100 false None false) (drawer 0 (5 ∷ []) [] (6 ∷ [])) → ⊥)
     × IsBlamed (Find (5 ∷ []) (6 ∷ [])) (drawer 0 [] [] (5 ∷ [])) × (IsBlamed (Find (5 ∷ []) (6 ∷ [])) (drawer 0 (5 ∷ []) [] (6 ∷ [])) → ⊥) × (IsBlamed (Explain (5 ∷ [])) (drawer 0 [] [] (5 ∷ [])) → ⊥)
 unfolding drawer
 blamed = (
@@ -342,18 +342,18 @@ unlisted_empty (inr (story, holds, why)) = omega (arith, story_bytes (Some []) s
 
 -- playing never comes to an acceptance, nor checking to the end of a play or to a failed read
 never : (story certificate before now : Option (List ℕ)) (options : Options) (outside : World) →
-    (ComesTo story options outside before now Accepted → ⊥) × (PlayComesTo story certificate options outside before now Accepted → ⊥)
+    (ComesTo story options outside [] before now Accepted → ⊥) × (PlayComesTo story certificate options outside [] before now Accepted → ⊥)
     × (CheckComesTo story certificate before now (Played ends.Quit) → ⊥) × (CheckComesTo story certificate before now (Stopped (Failed Read)) → ⊥)
 never story certificate before now options outside = (λ no. no, λ no. no, λ no. no, λ no. no.0)
 
 -- input is read for a play alone
-input_read : (is_quiet (ListStory (codes "hello.z3") None) ≡ true) × (is_quiet (ListStory (codes "hello.z3") (Some (codes "hello.cert"))) ≡ true) × (is_quiet (Find (codes "hello.z3") (codes "hello.cert")) ≡ true) × (is_quiet (Explain (codes "I5")) ≡ true) × (is_quiet (Check (codes "hello.z3") (codes "hello.cert")) ≡ true) × (is_quiet (Play (codes "hello.z3") None 1 100 false None) ≡ false)
+input_read : (is_quiet (ListStory (codes "hello.z3") None) ≡ true) × (is_quiet (ListStory (codes "hello.z3") (Some (codes "hello.cert"))) ≡ true) × (is_quiet (Find (codes "hello.z3") (codes "hello.cert")) ≡ true) × (is_quiet (Explain (codes "I5")) ≡ true) × (is_quiet (Check (codes "hello.z3") (codes "hello.cert")) ≡ true) × (is_quiet (Play (codes "hello.z3") None 1 100 false None false) ≡ false)
 input_read = (refl, refl, refl, refl, refl, refl)
 
 -- a file may be written for a certificate and for saves
 files_written :
     (written_by (ListStory (codes "hello.z3") None) ≡ None) × (written_by (ListStory (codes "hello.z3") (Some (codes "hello.cert"))) ≡ None) × (written_by (Find (codes "hello.z3") (codes "hello.cert")) ≡ Some (codes "hello.cert")) × (written_by (Check (codes "hello.z3") (codes "hello.cert")) ≡ None)
-    × (written_by (Play (codes "hello.z3") None 1 100 false (Some (codes "a.qzl"))) ≡ Some (codes "a.qzl")) × (written_by (Explain (codes "I5")) ≡ None)
+    × (written_by (Play (codes "hello.z3") None 1 100 false (Some (codes "a.qzl")) false) ≡ Some (codes "a.qzl")) × (written_by (Explain (codes "I5")) ≡ None)
 files_written = (refl, refl, refl, refl, refl, refl)
 
 -- a text that was found isn't kept by a file of other bytes
@@ -363,6 +363,6 @@ kept_whole = (refl, λ e. omega (arith, ap length e))
 -- where saves are kept nowhere, none is kept by a play of either machine, whatever comes of it
 kept_nowhere :
     (input before now : Option (List ℕ)) (seed : ℕ) (options : Options) (result : Result End PlayError)
-    → ((file : List ℕ) (p : IsPlayed file options (given input seed (store_of None)) before now result) → p.store.kept ≡ Some None)
-    × ((a : Acceptance) (p : IsPlayedBy a options (given input seed (store_of None)) before now result) → p.store.kept ≡ Some None)
+    → ((file : List ℕ) (p : IsPlayed file options (given input seed (store_of None)) [] before now result) → p.store.kept ≡ Some None)
+    × ((a : Acceptance) (p : IsPlayedBy a options (given input seed (store_of None)) [] before now result) → p.store.kept ≡ Some None)
 kept_nowhere input before now seed options result = (λ file p. p.unsaved refl, λ a p. p.unsaved refl)

@@ -1,6 +1,6 @@
 -- What devices and outcomes are told to be, before and after: which of the two each claim is of.
 use Rattle.std.proofs.Common.{◌≡◌, ◌≢◌, ◌⊎◌, inl, inr, ℕ, List, [], ◌∷◌, ◌++◌, Bool, true, false, codes, ap, refl, subst, arith, length}
-use Rattle.std.specs.Prelude.{⊤, Option, None, Some, IfSome, Result, Ok, Err}
+use Rattle.std.specs.Prelude.{⊤, Option, None, Some, IfSome, Result, Ok, Err, decimal}
 use Rattle.std.specs.Io.KnownBytes.{Appends}
 use Rattle.std.proofs.KnownBytes.{Appends-trans}
 use Rattle.clap.specs.declared.error.kind.ErrorKind.TheVariants.{DisplayHelp, UnknownArgument}
@@ -24,6 +24,7 @@ use Rattle.zplayer.specs.declared.end.Options.{Options}
 use Rattle.zplayer.specs.declared.end.PlayError.{PlayError}
 use Rattle.zplayer.specs.declared.end.PlayError.TheVariants as errors
 use Rattle.zplayer.specs.Outside.{Blames, Coming}
+use Rattle.zquetzal.specs.declared.error.SaveError.TheVariants.{Compressed, Length, NotDescribed, NotForm}
 use Rattle.zplayer.specs.Playing.{GivesOrSaves, WantsOrSaves, ComesTo as PlayComes}
 use Rattle.zplayer.specs.World.{Store, World}
 use Rattle.zperform.specs.declared.outcome.Failure.TheVariants.{File, Read, Write, Memory}
@@ -35,7 +36,9 @@ use Rattle.zperform.specs.Contents.{CountsNone, ReadsPart, SparesOthers}
 use Rattle.zperform.specs.Devices.{Breaks, Devices, Ends, FlushesUnless, Held, ReadsUnless, Says, Seen, Takes, Told, UsesUnless, Writes, devices}
 use Rattle.zperform.specs.Finding.{ExplainComesTo, FindComesTo, FindEnds, HasAlone, IsFound, IsNotFound, found_line}
 use Rattle.zperform.specs.Listing.{HoldsListed, HoldsListedBy, IsNoListing, ListByComesTo, ListComesTo, listing_text}
-use Rattle.zperform.specs.Performing.{Comes, Does, Explains, IsBlamed, Lacks, Performs, Reports, Shows, Tells, given, is_quiet, save_in, store_of, written_by}
+use Rattle.zperform.specs.Performing.{Comes, Does, Explains, IsBlamed, Lacks, Performs, Reports, Shows, Tells, given, is_quiet, said_by, save_in, store_of, written_by}
+use Rattle.zperform.specs.Report.{line_of}
+use Rattle.zperform.specs.Telling.{SaysEach, refusal_text, said_of}
 use Rattle.zperform.specs.Playing.{ComesTo, IsPlayed, IsRefused}
 use Rattle.zperform.proofs.AcceptLemmas.{story_bytes}
 
@@ -141,6 +144,31 @@ shown = (
 told : Tells (5 ∷ []) 2 (with_errors 3 (4 ∷ [])) (with_errors 3 (4 ∷ 5 ∷ [])) × (Tells (5 ∷ []) 2 (with_errors 3 (4 ∷ [])) (with_errors 6 (4 ∷ 5 ∷ [])) → ⊥)
 told = ((inl (record { whole = refl; quiet = refl; flushed = refl }), refl, refl), λ tells. absurd (let e = ap (λ (s : Seen). s.contents) tells.2 in cc))
 
+-- Of saves that are refused it is told why, in their order, each in a line of its own; where one couldn't be written the next one is tried.
+refusal_texts : (refusal_text Compressed ≡ codes "save refused: Q" ++ decimal 5) × (refusal_text NotDescribed ≡ codes "save refused: Q" ++ decimal 10)
+refusal_texts = (refl, refl)
+
+each_told :
+    SaysEach (NotDescribed ∷ Compressed ∷ []) (sink (1 ∷ []) 0 true) (sink (1 ∷ line_of (refusal_text Compressed) ++ line_of (refusal_text NotDescribed)) 0 false)
+    × SaysEach (NotForm ∷ Compressed ∷ []) (sink [] 0 false) (sink (line_of (refusal_text NotForm)) 1 false)
+    × (SaysEach (Compressed ∷ []) (sink [] 0 false) (sink [] 0 false) → ⊥) × (SaysEach [] (sink [] 0 false) (sink (1 ∷ []) 0 false) → ⊥)
+each_told = (
+  (sink (1 ∷ line_of (refusal_text Compressed)) 0 false, (_, refl, inl (record { whole = refl; quiet = refl; flushed = refl })), inl (record { whole = refl; quiet = refl; flushed = refl })),
+  (sink [] 1 false, (_, refl, inr (record { begun = record { taken = 0; grown = refl }; blamed = refl })), inl (record { whole = refl; quiet = refl; flushed = refl })),
+  silent,
+  λ same. absurd (let e = ap (λ (s : Seen). s.contents) same in cc),
+)
+  where
+    silent : SaysEach (Compressed ∷ []) (sink [] 0 false) (sink [] 0 false) → ⊥
+    silent (between, same, inl takes) = absurd (let e = subst (λ (s : Seen). Appends s.contents (Some []) (line_of (refusal_text Compressed))) same takes.whole in cc)
+    silent (between, same, inr breaks) = let f = ap (λ (s : Seen). s.failures) same in omega (arith, breaks.blamed, f)
+
+-- they are told where that is asked for and saves are in a file, and by plays alone
+told_where :
+    (said_of true (Some (7 ∷ [])) (Length ∷ NotForm ∷ []) ≡ Length ∷ NotForm ∷ []) × (said_of false (Some (7 ∷ [])) (Length ∷ []) ≡ []) × (said_of true None (Length ∷ []) ≡ [])
+    × (said_by (Play (1 ∷ []) None 1 2 false (Some (7 ∷ [])) true) (Length ∷ []) ≡ Length ∷ []) × (said_by (Play (1 ∷ []) None 1 2 true (Some (7 ∷ [])) false) (Length ∷ []) ≡ []) × (said_by (Find (1 ∷ []) (2 ∷ [])) (Length ∷ []) ≡ [])
+told_where = (refl, refl, refl, refl, refl, refl)
+
 -- want of memory is told, and nothing else is done
 lacking :
     Lacks 4 (with_errors 3 (4 ∷ [])) (with_errors 3 (4 ∷ memory_line)) × (Lacks 4 (all 1 2 3 4) (all 1 2 5 4) → ⊥) × (Lacks 4 (all 1 2 3 4) (all 5 2 3 4) → ⊥) × (Lacks 4 (all 1 2 3 4) (all 1 5 3 4) → ⊥)
@@ -156,16 +184,16 @@ lacking = (
 -- each is of the file that its request names, as it was, and of what was written before and is now
 module _ (story certificate : List ℕ) (held holds : List ℕ → Option (List ℕ)) (input before now : Option (List ℕ)) (outcome : Outcome) where
   comes_of_files :
-      (Comes (ListStory story None) held holds input before now outcome → ListComesTo (held story) before now outcome)
-      × (Comes (ListStory story (Some certificate)) held holds input before now outcome → ListByComesTo (held story) (held certificate) before now outcome) × (Comes (Find story certificate) held holds input before now outcome → FindComesTo story certificate held holds before now outcome)
-      × (Comes (Check story certificate) held holds input before now outcome → CheckComesTo (held story) (held certificate) before now outcome) × (Comes (Explain story) held holds input before now outcome → ExplainComesTo story before now outcome)
+      (Comes (ListStory story None) held holds input [] before now outcome → ListComesTo (held story) before now outcome)
+      × (Comes (ListStory story (Some certificate)) held holds input [] before now outcome → ListByComesTo (held story) (held certificate) before now outcome) × (Comes (Find story certificate) held holds input [] before now outcome → FindComesTo story certificate held holds before now outcome)
+      × (Comes (Check story certificate) held holds input [] before now outcome → CheckComesTo (held story) (held certificate) before now outcome) × (Comes (Explain story) held holds input [] before now outcome → ExplainComesTo story before now outcome)
   comes_of_files = (λ comes. comes, λ comes. comes, λ comes. comes, λ comes. comes, λ comes. comes)
 
   comes_of_plays :
-      (seed budget : ℕ) (status : Bool) (save : Option (List ℕ))
-      → (Comes (Play story None seed budget status save) held holds input before now outcome → ComesTo (held story) (record { budget = budget; status = status }) (given input seed (store_of save)) before now outcome)
-      × (Comes (Play story (Some certificate) seed budget status save) held holds input before now outcome → PlayComesTo (held story) (held certificate) (record { budget = budget; status = status }) (given input seed (store_of save)) before now outcome)
-  comes_of_plays seed budget status save = (λ comes. comes, λ comes. comes)
+      (seed budget : ℕ) (status : Bool) (save : Option (List ℕ)) (tell : Bool)
+      → (Comes (Play story None seed budget status save tell) held holds input [] before now outcome → ComesTo (held story) (record { budget = budget; status = status }) (given input seed (store_of save)) [] before now outcome)
+      × (Comes (Play story (Some certificate) seed budget status save tell) held holds input [] before now outcome → PlayComesTo (held story) (held certificate) (record { budget = budget; status = status }) (given input seed (store_of save)) [] before now outcome)
+  comes_of_plays seed budget status save tell = (λ comes. comes, λ comes. comes)
 
 -- nothing is written where a file isn't read, is no story, or wants memory
 abbrev IsUnwritten : (Option (List ℕ) → Option (List ℕ) → Outcome → Type 0) → Outcome → Type 0
@@ -176,11 +204,11 @@ longer e = absurd cc
 
 unwritten :
     (options : Options) (outside : World) (error : LoadError)
-    → IsUnwritten (ComesTo (Some []) options outside) (Stopped (Failed File)) × IsUnwritten (ComesTo (Some []) options outside) (Stopped (Refused error)) × IsUnwritten (ComesTo (Some []) options outside) (Stopped (Failed Memory))
-    × IsUnwritten (PlayComesTo (Some []) (Some []) options outside) (Stopped (Failed File)) × IsUnwritten (PlayComesTo (Some []) (Some []) options outside) (Stopped (Refused error)) × IsUnwritten (PlayComesTo (Some []) (Some []) options outside) (Stopped (Failed Memory))
+    → IsUnwritten (ComesTo (Some []) options outside []) (Stopped (Failed File)) × IsUnwritten (ComesTo (Some []) options outside []) (Stopped (Refused error)) × IsUnwritten (ComesTo (Some []) options outside []) (Stopped (Failed Memory))
+    × IsUnwritten (PlayComesTo (Some []) (Some []) options outside []) (Stopped (Failed File)) × IsUnwritten (PlayComesTo (Some []) (Some []) options outside []) (Stopped (Refused error)) × IsUnwritten (PlayComesTo (Some []) (Some []) options outside []) (Stopped (Failed Memory))
     × IsUnwritten (ListComesTo (Some [])) (Stopped (Failed File)) × IsUnwritten (ListComesTo (Some [])) (Stopped (Failed Memory)) × IsUnwritten (ListByComesTo (Some []) (Some [])) (Stopped (Failed File)) × IsUnwritten (CheckComesTo (Some []) (Some [])) (Stopped (Failed File)) × IsUnwritten (ExplainComesTo (codes "X9")) NoSuchCode
 unwritten options outside error = (
-  longer,
+  λ comes. longer comes.0,
   λ comes. longer comes.1,
   no_memory,
   λ comes. longer comes.1,
@@ -193,12 +221,12 @@ unwritten options outside error = (
   λ comes. longer comes.1,
 )
   where
-    no_memory : IsUnwritten (ComesTo (Some []) options outside) (Stopped (Failed Memory))
-    no_memory (inl (same, some)) = longer same
+    no_memory : IsUnwritten (ComesTo (Some []) options outside []) (Stopped (Failed Memory))
+    no_memory (inl (same, none, some)) = longer same
     no_memory (inr (file, same, played)) = omega (arith, story_bytes (Some []) played.story (file, same, played.holds))
 
-    no_memory_to_accept : IsUnwritten (PlayComesTo (Some []) (Some []) options outside) (Stopped (Failed Memory))
-    no_memory_to_accept (inl (same, some)) = longer same
+    no_memory_to_accept : IsUnwritten (PlayComesTo (Some []) (Some []) options outside []) (Stopped (Failed Memory))
+    no_memory_to_accept (inl (same, none, some)) = longer same
     no_memory_to_accept (inr (a, accepted, played)) = omega (arith, story_bytes (Some []) a.story accepted.story)
 
 -- what was written before is never taken back, in one part or in two
@@ -212,10 +240,10 @@ loses m T W options given s t words store (Err errors.Read) (left, input, (plays
 loses m T W options given s t words store (Err errors.Write) (left, input, part) = never_less part.between _ _ part.plays.written part.turn.written.grown
 loses m T W options given s t words store (Err errors.OutOfMemory) (left, input, (plays, wants)) = absurd (let e = plays.written in cc)
 
-of_play : (options : Options) (outside : World) (file : List ℕ) (result : Result End PlayError) → IsPlayed file options outside (Some (1 ∷ [])) (Some []) result → ⊥
+of_play : (options : Options) (outside : World) (file : List ℕ) (result : Result End PlayError) → IsPlayed file options outside [] (Some (1 ∷ [])) (Some []) result → ⊥
 of_play options outside file result played = loses _ _ (WantsOrSaves (setting_of played.story All)) _ _ _ _ _ _ result played.comes
 
-of_accepted : (options : Options) (outside : World) (a : Acceptance) (result : Result End PlayError) → IsPlayedBy a options outside (Some (1 ∷ [])) (Some []) result → ⊥
+of_accepted : (options : Options) (outside : World) (a : Acceptance) (result : Result End PlayError) → IsPlayedBy a options outside [] (Some (1 ∷ [])) (Some []) result → ⊥
 of_accepted options outside a result played = loses _ _ (GivesOrSaves (session_of a)) _ _ _ _ _ _ result played.comes
 
 abbrev Loses : (Option (List ℕ) → Option (List ℕ) → Outcome → Type 0) → Outcome → Type 0
@@ -223,8 +251,8 @@ Loses ComesSo outcome = ComesSo (Some (1 ∷ [])) (Some []) outcome → ⊥
 
 played_on :
     (options : Options) (outside : World) (end : End)
-    → Loses (ComesTo None options outside) (Played end) × Loses (ComesTo None options outside) (Stopped (Failed Read)) × Loses (ComesTo None options outside) (Stopped (Failed Write)) × Loses (ComesTo None options outside) (Stopped (Failed Memory))
-    × Loses (PlayComesTo None None options outside) (Played end) × Loses (PlayComesTo None None options outside) (Stopped (Failed Read)) × Loses (PlayComesTo None None options outside) (Stopped (Failed Write)) × Loses (PlayComesTo None None options outside) (Stopped (Failed Memory))
+    → Loses (ComesTo None options outside []) (Played end) × Loses (ComesTo None options outside []) (Stopped (Failed Read)) × Loses (ComesTo None options outside []) (Stopped (Failed Write)) × Loses (ComesTo None options outside []) (Stopped (Failed Memory))
+    × Loses (PlayComesTo None None options outside []) (Played end) × Loses (PlayComesTo None None options outside []) (Stopped (Failed Read)) × Loses (PlayComesTo None None options outside []) (Stopped (Failed Write)) × Loses (PlayComesTo None None options outside []) (Stopped (Failed Memory))
 played_on options outside end = (
   λ comes. of_play options outside comes.0 (Ok end) comes.2,
   λ comes. of_play options outside comes.0 (Err errors.Read) comes.2,
@@ -239,12 +267,12 @@ played_on options outside end = (
     empty : ◌≡◌ {A = Option (List ℕ)} (Some []) (Some (1 ∷ [])) → ⊥
     empty e = absurd cc
 
-    no_memory : Loses (ComesTo None options outside) (Stopped (Failed Memory))
-    no_memory (inl (same, some)) = empty same
+    no_memory : Loses (ComesTo None options outside []) (Stopped (Failed Memory))
+    no_memory (inl (same, none, some)) = empty same
     no_memory (inr (file, same, played)) = of_play options outside file (Err errors.OutOfMemory) played
 
-    no_memory_to_accept : Loses (PlayComesTo None None options outside) (Stopped (Failed Memory))
-    no_memory_to_accept (inl (same, some)) = empty same
+    no_memory_to_accept : Loses (PlayComesTo None None options outside []) (Stopped (Failed Memory))
+    no_memory_to_accept (inl (same, none, some)) = empty same
     no_memory_to_accept (inr (a, accepted, played)) = of_accepted options outside a (Err errors.OutOfMemory) played
 
 -- nothing comes of an empty file, whatever the other one is
@@ -266,9 +294,9 @@ ComesOfNone ComesSo outcome = ComesSo None None outcome → ⊥
 -- (of the story's file first, then of the certificate's)
 accepted_of_files :
     (options : Options) (outside : World) (end : End)
-    → ComesOfNone (CheckComesTo (Some []) None) Accepted × ComesOfNone (CheckComesTo (Some []) None) (Stopped (Failed Write)) × ComesOfNone (PlayComesTo (Some []) None options outside) (Played end)
-    × ComesOfNone (PlayComesTo (Some []) None options outside) (Stopped (Failed Read)) × ComesOfNone (PlayComesTo (Some []) None options outside) (Stopped (Failed Write)) × ComesOfNone (PlayComesTo (Some []) (Some (1 ∷ [])) options outside) (Stopped (Failed Memory))
-    × ComesOfNone (CheckComesTo None (Some [])) Accepted × ComesOfNone (CheckComesTo None (Some [])) (Stopped (Failed Write)) × ComesOfNone (PlayComesTo None (Some []) options outside) (Played end)
+    → ComesOfNone (CheckComesTo (Some []) None) Accepted × ComesOfNone (CheckComesTo (Some []) None) (Stopped (Failed Write)) × ComesOfNone (PlayComesTo (Some []) None options outside []) (Played end)
+    × ComesOfNone (PlayComesTo (Some []) None options outside []) (Stopped (Failed Read)) × ComesOfNone (PlayComesTo (Some []) None options outside []) (Stopped (Failed Write)) × ComesOfNone (PlayComesTo (Some []) (Some (1 ∷ [])) options outside []) (Stopped (Failed Memory))
+    × ComesOfNone (CheckComesTo None (Some [])) Accepted × ComesOfNone (CheckComesTo None (Some [])) (Stopped (Failed Write)) × ComesOfNone (PlayComesTo None (Some []) options outside []) (Played end)
     × ComesOfNone (ListByComesTo (Some []) None) Listed × ComesOfNone (ListByComesTo None (Some [])) Listed × ComesOfNone (ListByComesTo None (Some [])) (Stopped (Failed Write))
 accepted_of_files options outside end = (
   λ comes. no_story comes.0.0 _ comes.0.1,
@@ -285,8 +313,8 @@ accepted_of_files options outside end = (
   λ comes. no_certificate _ comes.1.0 comes.1.1,
 )
   where
-    no_memory : ComesOfNone (PlayComesTo (Some []) (Some (1 ∷ [])) options outside) (Stopped (Failed Memory))
-    no_memory (inl (same, some)) = omega (arith, some)
+    no_memory : ComesOfNone (PlayComesTo (Some []) (Some (1 ∷ [])) options outside []) (Stopped (Failed Memory))
+    no_memory (inl (same, none, some)) = omega (arith, some)
     no_memory (inr (a, accepted, played)) = no_story a _ accepted
 
 -- an acceptance that was begun to be written isn't taken back either
@@ -314,7 +342,7 @@ module _ (story certificate : Option (List ℕ)) (rule : StoryRule) (address : �
   broken_of_files :
       (IsUnaccepted story certificate (BreaksStory rule) → (s : LoadedStory) × (c : Certificate Interval) × HoldsStory story s × HoldsCertificate certificate c)
       × (IsUnaccepted story certificate (BreaksInstruction address broken) → (s : LoadedStory) × (c : Certificate Interval) × HoldsStory story s × HoldsCertificate certificate c)
-      × ((options : Options) (outside : World) (before now : Option (List ℕ)) → PlayComesTo story certificate options outside before now (Stopped (BreaksStory rule)) → (s : LoadedStory) × (c : Certificate Interval) × HoldsStory story s × HoldsCertificate certificate c)
+      × ((options : Options) (outside : World) (before now : Option (List ℕ)) → PlayComesTo story certificate options outside [] before now (Stopped (BreaksStory rule)) → (s : LoadedStory) × (c : Certificate Interval) × HoldsStory story s × HoldsCertificate certificate c)
   broken_of_files = (λ b. (b.story, b.certificate, b.held, b.read), λ b. (b.story, b.certificate, b.held, b.read), λ options outside before now comes. (comes.0.story, comes.0.certificate, comes.0.held, comes.0.read))
 
 -- `check` tells of no rule where the certificate's file holds no certificate, whatever was written before
@@ -379,8 +407,8 @@ module _ (words : List (List ℕ)) (status : ℕ) (old new : Devices) where
 
   -- what is done is of the devices as they were and as they are
   done :
-      (did : Does words status old new) → Comes did.request old.files.known new.files.known old.reader.remaining old.writer.contents new.writer.contents did.outcome
+      (did : Does words status old new) → Comes did.request old.files.known new.files.known old.reader.remaining did.refusals old.writer.contents new.writer.contents did.outcome
       × (did.outcome ≡ Stopped (Failed File) → IsBlamed did.request old.files) × Blames (did.outcome ≡ Stopped (Failed Read)) old.reader.failures new.reader.failures × (is_quiet did.request ≡ true → new.reader ≡ old.reader)
-      × Reports did.outcome status old.errors new.errors × FlushesUnless (λ (s : Seen). s.failures) (λ (s : Seen). s.waits) old.writer new.writer (did.outcome ≡ Stopped (Failed Write))
+      × SaysEach (said_by did.request did.refusals) old.errors did.between × Reports did.outcome status did.between new.errors × FlushesUnless (λ (s : Seen). s.failures) (λ (s : Seen). s.waits) old.writer new.writer (did.outcome ≡ Stopped (Failed Write))
       × UsesUnless (λ (f : Held). f.known) (λ (f : Held). f.failures) old.files new.files (save_in did.request) (written_by did.request) (did.outcome ≡ Stopped (Failed File))
-  done did = (did.comes, did.could, did.reader, did.unasked, did.reported, did.writer, did.files)
+  done did = (did.comes, did.could, did.reader, did.unasked, did.told, did.reported, did.writer, did.files)

@@ -3,6 +3,7 @@ use Rattle.std.specs.Prelude.{◌≡◌, ◌≢◌, ◌⊎◌, ⊤, ℕ, ℤ, tr
 use Rattle.std.specs.Io.KnownBytes.{Appends}
 use Rattle.zfault.specs.Devices.{AppendsBeginning}
 use Rattle.zfault.specs.declared.fault.Fault.{Fault}
+use Rattle.zquetzal.specs.declared.error.SaveError.{SaveError}
 use Rattle.zstory.specs.LoadedStory.{LoadedStory}
 use Rattle.zstate.specs.State.{State, opening}
 use Rattle.zplay.specs.Session.{setting_of}
@@ -125,28 +126,30 @@ CheckComesTo story_known certificate_known before now (Played end) = ⊥
 CheckComesTo story_known certificate_known before now (Stopped problem) =
     Stops (((a : Acceptance) × IsAccepted story_known certificate_known a) × AppendsBeginning before now accepted_line) (IsUnaccepted story_known certificate_known) before now problem
 
--- what was accepted was played from its opening, of which the certificate's listing bounds the scope, and came to this, with no fault
-pub record IsPlayedBy (a : Acceptance) (options : Options) (given : World) (before now : Option (List ℕ)) (result : Result End PlayError) : Type 0 where
+-- what was accepted was played from its opening, of which the certificate's listing bounds the scope, and came to this, with no
+-- fault; the saves that were refused were so for these causes, the newest first
+pub record IsPlayedBy (a : Acceptance) (options : Options) (given : World) (refusals : List SaveError) (before now : Option (List ℕ)) (result : Result End PlayError) : Type 0 where
   pub state : State
   pub words : Option Coming
   pub store : Store
   pub comes : PlayComes (setting_of a) (Describes interval_operations a) (GivesOrSaves (setting_of a)) options given (opening a.story) state words store before now result
   pub unsaved : StaysEmpty given.store store
+  pub refused : store.refusals ≡ refusals
   pub safe : IfOk result (λ end. (fault : Fault) (place : ℤ) → end ≢ ends.Fault fault place)
 
 abbrev pub Accepts : Option (List ℕ) → Option (List ℕ) → (Acceptance → Type 0) → Type 0
 Accepts story_known certificate_known property = (a : Acceptance) × IsAccepted story_known certificate_known a × property a
 
--- What playing by a certificate comes to.
-abbrev pub PlayComesTo : Option (List ℕ) → Option (List ℕ) → Options → World → Option (List ℕ) → Option (List ℕ) → Outcome → Type 0
-PlayComesTo story_known certificate_known options given before now Listed = ⊥
-PlayComesTo story_known certificate_known options given before now Found = ⊥
-PlayComesTo story_known certificate_known options given before now Explained = ⊥
-PlayComesTo story_known certificate_known options given before now NoSuchCode = ⊥
-PlayComesTo story_known certificate_known options given before now Accepted = ⊥
-PlayComesTo story_known certificate_known options given before now (Played end) = Accepts story_known certificate_known (λ a. IsPlayedBy a options given before now (Ok end))
-PlayComesTo story_known certificate_known options given before now (Stopped (Failed Read)) = Accepts story_known certificate_known (λ a. IsPlayedBy a options given before now (Err errors.Read))
-PlayComesTo story_known certificate_known options given before now (Stopped (Failed Write)) = Accepts story_known certificate_known (λ a. IsPlayedBy a options given before now (Err errors.Write))
-PlayComesTo story_known certificate_known options given before now (Stopped (Failed Memory)) =
-    ((now ≡ before) × HasBytes story_known) ⊎ Accepts story_known certificate_known (λ a. IsPlayedBy a options given before now (Err errors.OutOfMemory))
-PlayComesTo story_known certificate_known options given before now (Stopped problem) = IsUnaccepted story_known certificate_known problem × (now ≡ before)
+-- What playing by a certificate comes to, with why saves were refused, the newest first.
+abbrev pub PlayComesTo : Option (List ℕ) → Option (List ℕ) → Options → World → List SaveError → Option (List ℕ) → Option (List ℕ) → Outcome → Type 0
+PlayComesTo story_known certificate_known options given refusals before now Listed = ⊥
+PlayComesTo story_known certificate_known options given refusals before now Found = ⊥
+PlayComesTo story_known certificate_known options given refusals before now Explained = ⊥
+PlayComesTo story_known certificate_known options given refusals before now NoSuchCode = ⊥
+PlayComesTo story_known certificate_known options given refusals before now Accepted = ⊥
+PlayComesTo story_known certificate_known options given refusals before now (Played end) = Accepts story_known certificate_known (λ a. IsPlayedBy a options given refusals before now (Ok end))
+PlayComesTo story_known certificate_known options given refusals before now (Stopped (Failed Read)) = Accepts story_known certificate_known (λ a. IsPlayedBy a options given refusals before now (Err errors.Read))
+PlayComesTo story_known certificate_known options given refusals before now (Stopped (Failed Write)) = Accepts story_known certificate_known (λ a. IsPlayedBy a options given refusals before now (Err errors.Write))
+PlayComesTo story_known certificate_known options given refusals before now (Stopped (Failed Memory)) =
+    ((now ≡ before) × (refusals ≡ []) × HasBytes story_known) ⊎ Accepts story_known certificate_known (λ a. IsPlayedBy a options given refusals before now (Err errors.OutOfMemory))
+PlayComesTo story_known certificate_known options given refusals before now (Stopped problem) = IsUnaccepted story_known certificate_known problem × (now ≡ before) × (refusals ≡ [])

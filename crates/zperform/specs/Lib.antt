@@ -1,6 +1,8 @@
 pub mod Contents
 pub mod Devices
 pub mod Report
+pub mod Telling
+pub mod TellingLaw
 pub mod Playing
 pub mod Accepting
 pub mod Listing

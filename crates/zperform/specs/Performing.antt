@@ -1,10 +1,11 @@
 -- What the words of a command line come to: what is done, what is said of it, and the exit status (own).
-use Rattle.std.specs.Prelude.{◌≡◌, ◌⊎◌, ℕ, Bool, true, false, List, Option, None, Some, MatchBool}
+use Rattle.std.specs.Prelude.{◌≡◌, ◌⊎◌, ℕ, Bool, true, false, List, [], Option, None, Some, MatchBool}
 use Rattle.clap.specs.Kinds.{IsAmong, Kinds}
 use Rattle.clap.specs.Words.{Row, Text, subcommand_of}
 use Rattle.clap.specs.declared.error.kind.ErrorKind.{ErrorKind}
 use Rattle.clap.specs.declared.error.kind.ErrorKind.TheVariants.{DisplayHelp, DisplayVersion}
 use Rattle.zcommand.specs.CommandLine.{Asks, Request, ListStory, Find, Check, Play, Explain, zpc_app}
+use Rattle.zquetzal.specs.declared.error.SaveError.{SaveError}
 use Rattle.zplayer.specs.Outside.{Blames, words_of}
 use Rattle.zplayer.specs.World.{Store, World, world}
 use Rattle.zperform.specs.Devices.{Breaks, Devices, FlushesUnless, Held, Says, Seen, Takes, UsesUnless}
@@ -13,6 +14,7 @@ use Rattle.zperform.specs.Accepting.{CheckComesTo, IsOfEither, PlayComesTo}
 use Rattle.zperform.specs.Finding.{ExplainComesTo, FindComesTo, IsOfStoryOrFound}
 use Rattle.zperform.specs.Listing.{ListByComesTo, ListComesTo}
 use Rattle.zperform.specs.Report.{line_of, status_of, text_of}
+use Rattle.zperform.specs.Telling.{SaysEach, said_of}
 use Rattle.zperform.specs.declared.outcome.Failure.TheVariants.{File, Read, Write, Memory}
 use Rattle.zperform.specs.declared.outcome.Problem.TheVariants.{Failed}
 use Rattle.zperform.specs.declared.outcome.Outcome.{Outcome}
@@ -58,33 +60,34 @@ Explains kinds status old new =
 
 -- where saves are kept at first: in a file, of which nothing is told, or nowhere
 abbrev pub store_of : Option Text → Store
-store_of None = record { kept = Some None; failures = 0 }
-store_of (Some name) = record { kept = None; failures = 0 }
+store_of None = record { kept = Some None; failures = 0; refusals = [] }
+store_of (Some name) = record { kept = None; failures = 0; refusals = [] }
 
 -- what a play is given: the input, the words of a seed, and a store
 abbrev pub given : Option (List ℕ) → ℕ → Store → World
 given input seed store = world input (Some (words_of seed)) store
 
--- what comes of a request, with the bytes of files before and now, with the input, and with what the writer took before and has taken now
-abbrev pub Comes : Request → (List ℕ → Option (List ℕ)) → (List ℕ → Option (List ℕ)) → Option (List ℕ) → Option (List ℕ) → Option (List ℕ) → Outcome → Type 0
-Comes (ListStory story None) held holds input before now outcome = ListComesTo (held story) before now outcome
-Comes (ListStory story (Some certificate)) held holds input before now outcome = ListByComesTo (held story) (held certificate) before now outcome
-Comes (Find story certificate) held holds input before now outcome = FindComesTo story certificate held holds before now outcome
-Comes (Check story certificate) held holds input before now outcome = CheckComesTo (held story) (held certificate) before now outcome
-Comes (Play story None seed budget status save) held holds input before now outcome =
-    ComesTo (held story) (record { budget = budget; status = status }) (given input seed (store_of save)) before now outcome
-Comes (Play story (Some certificate) seed budget status save) held holds input before now outcome =
-    PlayComesTo (held story) (held certificate) (record { budget = budget; status = status }) (given input seed (store_of save)) before now outcome
-Comes (Explain code) held holds input before now outcome = ExplainComesTo code before now outcome
+-- what comes of a request, with the bytes of files before and now, with the input, with why saves were refused, the newest first, and with
+-- what the writer took before and has taken now
+abbrev pub Comes : Request → (List ℕ → Option (List ℕ)) → (List ℕ → Option (List ℕ)) → Option (List ℕ) → List SaveError → Option (List ℕ) → Option (List ℕ) → Outcome → Type 0
+Comes (ListStory story None) held holds input refusals before now outcome = ListComesTo (held story) before now outcome
+Comes (ListStory story (Some certificate)) held holds input refusals before now outcome = ListByComesTo (held story) (held certificate) before now outcome
+Comes (Find story certificate) held holds input refusals before now outcome = FindComesTo story certificate held holds before now outcome
+Comes (Check story certificate) held holds input refusals before now outcome = CheckComesTo (held story) (held certificate) before now outcome
+Comes (Play story None seed budget status save tell) held holds input refusals before now outcome =
+    ComesTo (held story) (record { budget = budget; status = status }) (given input seed (store_of save)) refusals before now outcome
+Comes (Play story (Some certificate) seed budget status save tell) held holds input refusals before now outcome =
+    PlayComesTo (held story) (held certificate) (record { budget = budget; status = status }) (given input seed (store_of save)) refusals before now outcome
+Comes (Explain code) held holds input refusals before now outcome = ExplainComesTo code before now outcome
 
 -- a request whose answer needs no input
 abbrev pub is_quiet : Request → Bool
-is_quiet (Play story certificate seed budget status save) = false
+is_quiet (Play story certificate seed budget status save tell) = false
 is_quiet _ = true
 
 -- the name of the file that saves are kept in, if a request has one
 abbrev pub save_in : Request → Option Text
-save_in (Play story certificate seed budget status save) = save
+save_in (Play story certificate seed budget status save tell) = save
 save_in _ = None
 
 -- the name of the file that a request may write
@@ -92,17 +95,23 @@ abbrev pub written_by : Request → Option Text
 written_by (Find story certificate) = Some certificate
 written_by request = save_in request
 
+-- the refusals that are said of those that a request met, the newest first
+abbrev pub said_by : Request → List SaveError → List SaveError
+said_by (Play story certificate seed budget status save tell) refusals = said_of tell save refusals
+said_by _ refusals = []
+
 -- which file a failure of files is of, by what is asked for
 abbrev pub IsBlamed : Request → Held → Type 0
 IsBlamed (ListStory story None) files = files.can_fail story ≡ true
 IsBlamed (ListStory story (Some certificate)) files = IsOfEither files story certificate
 IsBlamed (Find story certificate) files = IsOfStoryOrFound files story certificate
 IsBlamed (Check story certificate) files = IsOfEither files story certificate
-IsBlamed (Play story None seed budget status save) files = files.can_fail story ≡ true
-IsBlamed (Play story (Some certificate) seed budget status save) files = IsOfEither files story certificate
+IsBlamed (Play story None seed budget status save tell) files = files.can_fail story ≡ true
+IsBlamed (Play story (Some certificate) seed budget status save tell) files = IsOfEither files story certificate
 IsBlamed (Explain code) files = ⊥
 
--- A request, with the values among clap's matches: what it comes to is reported. The writer is blamed just where it failed, and
+-- A request, with the values among clap's matches: what it comes to is reported, behind a line of each save that was refused, where
+-- those are asked for. The writer is blamed just where it failed, and
 -- so are the reader, which isn't asked but for a play, and the files, unless saves are kept in one: then they may fail, and the play goes
 -- on. A failure of files is one of a file that the request names. No file is written but the one for saves or for a certificate that is
 -- found. What was written is flushed unless the writer failed.
@@ -112,13 +121,16 @@ pub record Does (words : List Text) (status : ℕ) (old new : Devices) : Type 0 
   pub request : Request
   pub asks : Asks matches request
   pub outcome : Outcome
-  pub comes : Comes request old.files.known new.files.known old.reader.remaining old.writer.contents new.writer.contents outcome
+  pub refusals : List SaveError
+  pub comes : Comes request old.files.known new.files.known old.reader.remaining refusals old.writer.contents new.writer.contents outcome
   pub writer : FlushesUnless (λ (s : Seen). s.failures) (λ (s : Seen). s.waits) old.writer new.writer (outcome ≡ Stopped (Failed Write))
   pub files : UsesUnless (λ (f : Held). f.known) (λ (f : Held). f.failures) old.files new.files (save_in request) (written_by request) (outcome ≡ Stopped (Failed File))
   pub could : outcome ≡ Stopped (Failed File) → IsBlamed request old.files
   pub reader : Blames (outcome ≡ Stopped (Failed Read)) old.reader.failures new.reader.failures
   pub unasked : is_quiet request ≡ true → new.reader ≡ old.reader
-  pub reported : Reports outcome status old.errors new.errors
+  pub between : Seen
+  pub told : SaysEach (said_by request refusals) old.errors between
+  pub reported : Reports outcome status between new.errors
 
 -- the request of the words was done, as far as there was memory to read them
 abbrev pub Performs : List Text → ℕ → Devices → Devices → Type 0

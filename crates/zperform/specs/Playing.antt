@@ -1,5 +1,6 @@
 -- What playing a story file comes to (own).
-use Rattle.std.specs.Prelude.{◌≡◌, ◌≢◌, ℕ, List, Option, None, Some, IfSome, Result, Ok, Err, ◌⊎◌, ⊤}
+use Rattle.std.specs.Prelude.{◌≡◌, ◌≢◌, ℕ, List, [], Option, None, Some, IfSome, Result, Ok, Err, ◌⊎◌, ⊤}
+use Rattle.zquetzal.specs.declared.error.SaveError.{SaveError}
 use Rattle.zstory.specs.LoadedStory.{LoadedStory}
 use Rattle.zstory.specs.Loading.{IsLoaded}
 use Rattle.zstory.specs.Refusal.{HasNone, IsCause, IsLowest}
@@ -31,8 +32,9 @@ pub record Holds (file : List ℕ) (story : LoadedStory) : Type 0 where
 abbrev pub StaysEmpty : Store → Store → Type 0
 StaysEmpty old new = old.kept ≡ Some None → new.kept ≡ Some None
 
--- the story that a file holds was played from its opening, with every place of it in scope, and came to this
-pub record IsPlayed (file : List ℕ) (options : Options) (given : World) (before now : Option (List ℕ)) (result : Result End PlayError) : Type 0 where
+-- the story that a file holds was played from its opening, with every place of it in scope, and came to this; the saves that were refused
+-- were so for these causes, the newest first
+pub record IsPlayed (file : List ℕ) (options : Options) (given : World) (refusals : List SaveError) (before now : Option (List ℕ)) (result : Result End PlayError) : Type 0 where
   pub story : LoadedStory
   pub holds : Holds file story
   pub state : State
@@ -40,6 +42,7 @@ pub record IsPlayed (file : List ℕ) (options : Options) (given : World) (befor
   pub store : Store
   pub comes : PlayComes (setting_of story All) (λ _. ⊤) (WantsOrSaves (setting_of story All)) options given (opening story) state words store before now result
   pub unsaved : StaysEmpty given.store store
+  pub refused : store.refusals ≡ refusals
 
 -- a file is no story, for its cause with the lowest number; want of memory is none
 pub record IsRefused (file : List ℕ) (error : LoadError) : Type 0 where
@@ -56,14 +59,14 @@ IsUnloaded file problem = ⊥
 abbrev pub Reads : Option (List ℕ) → (List ℕ → Type 0) → Type 0
 Reads known property = (file : List ℕ) × IfSome known (λ bytes. file ≡ bytes) × property file
 
--- What playing a file comes to, where its bytes are known, with what the world gives for it, and with what the writer took before
--- and has taken now. Memory is wanted only for a file that has bytes.
-abbrev pub ComesTo : Option (List ℕ) → Options → World → Option (List ℕ) → Option (List ℕ) → Outcome → Type 0
-ComesTo known options given before now (Played end) = Reads known (λ file. IsPlayed file options given before now (Ok end))
-ComesTo known options given before now (Stopped (Refused error)) = Reads known (λ file. IsRefused file error) × (now ≡ before)
-ComesTo known options given before now (Stopped (Failed File)) = now ≡ before
-ComesTo known options given before now (Stopped (Failed Read)) = Reads known (λ file. IsPlayed file options given before now (Err errors.Read))
-ComesTo known options given before now (Stopped (Failed Write)) = Reads known (λ file. IsPlayed file options given before now (Err errors.Write))
-ComesTo known options given before now (Stopped (Failed Memory)) =
-    ((now ≡ before) × HasBytes known) ⊎ Reads known (λ file. IsPlayed file options given before now (Err errors.OutOfMemory))
-ComesTo known options given before now outcome = ⊥
+-- What playing a file comes to, where its bytes are known, with what the world gives for it, with why saves were refused,
+-- the newest first, and with what the writer took before and has taken now. Memory is wanted only for a file that has bytes.
+abbrev pub ComesTo : Option (List ℕ) → Options → World → List SaveError → Option (List ℕ) → Option (List ℕ) → Outcome → Type 0
+ComesTo known options given refusals before now (Played end) = Reads known (λ file. IsPlayed file options given refusals before now (Ok end))
+ComesTo known options given refusals before now (Stopped (Refused error)) = Reads known (λ file. IsRefused file error) × (now ≡ before) × (refusals ≡ [])
+ComesTo known options given refusals before now (Stopped (Failed File)) = (now ≡ before) × (refusals ≡ [])
+ComesTo known options given refusals before now (Stopped (Failed Read)) = Reads known (λ file. IsPlayed file options given refusals before now (Err errors.Read))
+ComesTo known options given refusals before now (Stopped (Failed Write)) = Reads known (λ file. IsPlayed file options given refusals before now (Err errors.Write))
+ComesTo known options given refusals before now (Stopped (Failed Memory)) =
+    ((now ≡ before) × (refusals ≡ []) × HasBytes known) ⊎ Reads known (λ file. IsPlayed file options given refusals before now (Err errors.OutOfMemory))
+ComesTo known options given refusals before now outcome = ⊥

@@ -3,6 +3,7 @@
 ghost use Rattle.std.specs.Prelude.{◌≡◌, ◌<◌, ◌≤◌, ◌+◌, ◌++◌, [], ◌∷◌, codes, length, decimal, pos};
 ghost use Rattle.zfind.specs.Finding.{number_of as find_number};
 ghost use Rattle.zlist.specs.Listed.{number_of, place_of};
+ghost use Rattle.zperform.specs.Telling.{refusal_text};
 ghost use Rattle.zperform.specs.Report.{address_text, broken_text, end_text, failure_text, hex_digit, line_of, place_text, stopped_text, text_of};
 
 use crate::outcome::{Failure, Outcome, Problem};
@@ -13,6 +14,7 @@ use zfault::Fault;
 use zfind::{FindError, Obstacle};
 use zlist::ListError;
 use zplayer::End;
+use zquetzal::SaveError;
 
 /// The most bytes that a text has room for.
 const ROOM: usize = 256;
@@ -51,6 +53,17 @@ impl Message {
             Outcome::Played(end) => message.push_end(end),
             Outcome::Stopped(problem) => message.push_problem(problem),
         }
+        message.finish();
+        message
+    }
+
+    /// The line of a save that is refused, with its end.
+    pub fn of_refusal(error: SaveError) -> Message
+        ensures { result ≡ line_of (refusal_text error) }
+    {
+        let mut message = Message::new();
+        message.push(b"save refused: Q");
+        message.push_number(error.number());
         message.finish();
         message
     }

@@ -9,9 +9,11 @@ ghost use Rattle.zplayer.specs.Outside.{Blames};
 ghost use Rattle.zplayer.specs.World.{told as told_store};
 ghost use Rattle.zperform.specs.Accepting.{CheckComesTo, IsAccepted, IsOfEither, PlayComesTo};
 ghost use Rattle.zperform.specs.Devices.{Ends, FlushesUnless, Held, ReadsUnless, Says, Told, UsesUnless, Writes, devices, held, seen, told};
-ghost use Rattle.zperform.specs.Performing.{Comes, Explains, IsBlamed, Performs, given, is_quiet, save_in, store_of, written_by};
+ghost use Rattle.zperform.specs.Performing.{Comes, Explains, IsBlamed, Performs, given, is_quiet, said_by, save_in, store_of, written_by};
 ghost use Rattle.zperform.specs.Playing.{ComesTo, Holds};
 ghost use Rattle.zperform.specs.Report.{failure_text, line_of, no_text, outcome_of, status_of, text_of};
+ghost use Rattle.zperform.specs.Telling.{SaysEach, said_of};
+ghost use Rattle.zquetzal.specs.declared.error.SaveError.{SaveError as ARefusal};
 
 use crate::accepting::{STORY_LIMIT, accept, load};
 use crate::files::{Files, read_file};
@@ -46,7 +48,8 @@ For more information, try '--help'.
 ";
 
 /// Does what the words after the program's name ask for, and answers the exit status. What a story shows, and help
-/// that was asked for, go to the writer; a line on anything else goes to `errors`, where a failure is ignored. Both are flushed.
+/// that was asked for, go to the writer; a line on anything else goes to `errors`, where a failure is ignored. Both are flushed. Where a
+/// play is to tell of saves that are refused, their lines come before that of its end.
 /// The reader gives a story its lines, and isn't touched but for a play.
 ///
 /// What is wrong is found in this order: the words, the story, its certificate, the work.
@@ -62,20 +65,24 @@ pub fn perform<F: Files, R: Source, W: Sink, E: Sink>(
     ensures explains { fault_of zpc_app (texts words.entry.now) ≢ [] → Explains (fault_of zpc_app (texts words.entry.now)) result (devices (held F.known F.failures F.can_fail files.old) (told R.remaining R.failures reader.old) (seen W.contents W.failures W.waits writer.old) (seen E.contents E.failures E.waits errors.old)) (devices (held F.known F.failures F.can_fail files.new) (told R.remaining R.failures reader.new) (seen W.contents W.failures W.waits writer.new) (seen E.contents E.failures E.waits errors.new)) }
 {
     match read_words(alloc, words) {
-        Ok(command) => report(&carry_out(alloc, command, files, reader, writer), errors),
+        Ok(command) => {
+            let outcome = carry_out(alloc, command, files, reader, writer, errors);
+            report(&outcome, errors)
+        }
         Err(error) => explain(alloc, &error, writer, errors),
     }
 }
 
 /// Does what a command asks for.
-fn carry_out<F: Files, R: Source, W: Sink>(
+fn carry_out<F: Files, R: Source, W: Sink, E: Sink>(
     alloc: Global,
     command: Command<'_>,
     files: &mut F,
     reader: &mut R,
     writer: &mut W,
+    errors: &mut E,
 ) -> Outcome
-    ensures comes { Comes (request_of command.entry) (F.known files.old) (F.known files.new) (R.remaining reader.old) (W.contents writer.old) (W.contents writer.new) result }
+    ensures comes { (refusals : List ARefusal) × Comes (request_of command.entry) (F.known files.old) (F.known files.new) (R.remaining reader.old) refusals (W.contents writer.old) (W.contents writer.new) result × SaysEach (said_by (request_of command.entry) refusals) (seen E.contents E.failures E.waits errors.old) (seen E.contents E.failures E.waits errors.new) }
     ensures writer { FlushesUnless W.failures W.waits writer.old writer.new (result ≡ Outcome.Stopped (Problem.Failed Failure.Write)) }
     ensures files { UsesUnless F.known F.failures files.old files.new (save_in (request_of command.entry)) (written_by (request_of command.entry)) (result ≡ Outcome.Stopped (Problem.Failed Failure.File)) }
     ensures could { result ≡ Outcome.Stopped (Problem.Failed Failure.File) → IsBlamed (request_of command.entry) (held F.known F.failures F.can_fail files.old) }
@@ -104,15 +111,18 @@ fn carry_out<F: Files, R: Source, W: Sink>(
             budget,
             status,
             save,
+            tell,
         } => outcome_of(play(
             alloc,
             story,
             seed,
             Options { budget, status },
             save,
+            tell,
             files,
             reader,
             writer,
+            errors,
         )),
         Command::Play {
             story,
@@ -121,6 +131,7 @@ fn carry_out<F: Files, R: Source, W: Sink>(
             budget,
             status,
             save,
+            tell,
         } => outcome_of(play_by_certificate(
             alloc,
             story,
@@ -128,9 +139,11 @@ fn carry_out<F: Files, R: Source, W: Sink>(
             seed,
             Options { budget, status },
             save,
+            tell,
             files,
             reader,
             writer,
+            errors,
         )),
         Command::Explain { code } => explain_code(code, writer),
     }
@@ -177,17 +190,19 @@ pub fn write_and_flush<W: Sink>(writer: &mut W, text: &[u8]) -> Result<(), Faile
 }
 
 /// Plays a story from its file.
-fn play<F: Files, R: Source, W: Sink>(
+fn play<F: Files, R: Source, W: Sink, E: Sink>(
     alloc: Global,
     name: &str,
     seed: u64,
     options: Options,
     save: Option<&str>,
+    tell: bool,
     files: &mut F,
     reader: &mut R,
     writer: &mut W,
+    errors: &mut E,
 ) -> Result<End, Problem>
-    ensures comes { ComesTo (F.known files.old name.now) options (given (R.remaining reader.old) seed (store_of (option_map (λ n. n.now) save.entry))) (W.contents writer.old) (W.contents writer.new) (outcome_of result) }
+    ensures comes { (refusals : List ARefusal) × ComesTo (F.known files.old name.now) options (given (R.remaining reader.old) seed (store_of (option_map (λ n. n.now) save.entry))) refusals (W.contents writer.old) (W.contents writer.new) (outcome_of result) × SaysEach (said_of tell (option_map (λ n. n.now) save.entry) refusals) (seen E.contents E.failures E.waits errors.old) (seen E.contents E.failures E.waits errors.new) }
     ensures writer { FlushesUnless W.failures W.waits writer.old writer.new (IsErrOf result (Problem.Failed Failure.Write)) }
     ensures files { UsesUnless F.known F.failures files.old files.new (option_map (λ n. n.now) save.entry) (option_map (λ n. n.now) save.entry) (IsErrOf result (Problem.Failed Failure.File)) }
     ensures could { IsErrOf result (Problem.Failed Failure.File) → F.can_fail files.old name.now ≡ true }
@@ -195,21 +210,25 @@ fn play<F: Files, R: Source, W: Sink>(
 {
     let file = read_file(alloc, files, name, STORY_LIMIT)?;
     let story = load(alloc, file)?;
-    play_story(alloc, &story, seed, options, save, files, reader, writer)
+    play_story(
+        alloc, &story, seed, options, save, tell, files, reader, writer, errors,
+    )
 }
 
 /// Plays a story from its opening, with its saves in the file of a name, or nowhere.
-fn play_story<F: Files, R: Source, W: Sink>(
+fn play_story<F: Files, R: Source, W: Sink, E: Sink>(
     alloc: Global,
     story: &Story,
     seed: u64,
     options: Options,
     save: Option<&str>,
+    tell: bool,
     files: &mut F,
     reader: &mut R,
     writer: &mut W,
+    errors: &mut E,
 ) -> Result<End, Problem>
-    ensures comes { (file : List ℕ) → Holds file story.now → ComesTo (Some file) options (given (R.remaining reader.old) seed (store_of (option_map (λ n. n.now) save.entry))) (W.contents writer.old) (W.contents writer.new) (outcome_of result) }
+    ensures comes { (refusals : List ARefusal) × ((file : List ℕ) → Holds file story.now → ComesTo (Some file) options (given (R.remaining reader.old) seed (store_of (option_map (λ n. n.now) save.entry))) refusals (W.contents writer.old) (W.contents writer.new) (outcome_of result)) × SaysEach (said_of tell (option_map (λ n. n.now) save.entry) refusals) (seen E.contents E.failures E.waits errors.old) (seen E.contents E.failures E.waits errors.new) }
     ensures writer { FlushesUnless W.failures W.waits writer.old writer.new (IsErrOf result (Problem.Failed Failure.Write)) }
     ensures no_file { ¬ IsErrOf result (Problem.Failed Failure.File) }
     ensures reader { Blames (IsErrOf result (Problem.Failed Failure.Read)) (R.failures reader.old) (R.failures reader.new) }
@@ -218,7 +237,7 @@ fn play_story<F: Files, R: Source, W: Sink>(
 {
     match save {
         Some(name) => {
-            let mut store = FileSaves::new(alloc, files, name);
+            let mut store = FileSaves::new(alloc, files, name, tell, errors);
             play_keeping(alloc, story, seed, options, &mut store, reader, writer)
         }
         None => play_keeping(
@@ -243,11 +262,10 @@ fn play_keeping<S: SaveStore, R: Source, W: Sink>(
     reader: &mut R,
     writer: &mut W,
 ) -> Result<End, Problem>
-    ensures comes { (file : List ℕ) → Holds file story.now → (S.kept store.old ≡ Some None → S.kept store.new ≡ Some None) → ComesTo (Some file) options (given (R.remaining reader.old) seed (told_store S.kept S.failures store.old)) (W.contents writer.old) (W.contents writer.new) (outcome_of result) }
+    ensures comes { (refusals : List ARefusal) × ((file : List ℕ) → Holds file story.now → (S.kept store.old ≡ Some None → S.kept store.new ≡ Some None) → ComesTo (Some file) options (given (R.remaining reader.old) seed (told_store S.kept S.failures store.old [])) refusals (W.contents writer.old) (W.contents writer.new) (outcome_of result)) × S.Follows store.old store.new refusals }
     ensures writer { FlushesUnless W.failures W.waits writer.old writer.new (IsErrOf result (Problem.Failed Failure.Write)) }
     ensures no_file { ¬ IsErrOf result (Problem.Failed Failure.File) }
     ensures reader { Blames (IsErrOf result (Problem.Failed Failure.Read)) (R.failures reader.old) (R.failures reader.new) }
-    ensures spared { S.Spares store.old store.new }
 {
     let mut machine = CheckedMachine::new(alloc, story, Scope::All)?;
     Ok(play_checked(
@@ -262,39 +280,45 @@ fn play_keeping<S: SaveStore, R: Source, W: Sink>(
 }
 
 /// Plays a story that is accepted with a certificate, each in its file.
-fn play_by_certificate<F: Files, R: Source, W: Sink>(
+fn play_by_certificate<F: Files, R: Source, W: Sink, E: Sink>(
     alloc: Global,
     story: &str,
     certificate: &str,
     seed: u64,
     options: Options,
     save: Option<&str>,
+    tell: bool,
     files: &mut F,
     reader: &mut R,
     writer: &mut W,
+    errors: &mut E,
 ) -> Result<End, Problem>
-    ensures comes { PlayComesTo (F.known files.old story.now) (F.known files.old certificate.now) options (given (R.remaining reader.old) seed (store_of (option_map (λ n. n.now) save.entry))) (W.contents writer.old) (W.contents writer.new) (outcome_of result) }
+    ensures comes { (refusals : List ARefusal) × PlayComesTo (F.known files.old story.now) (F.known files.old certificate.now) options (given (R.remaining reader.old) seed (store_of (option_map (λ n. n.now) save.entry))) refusals (W.contents writer.old) (W.contents writer.new) (outcome_of result) × SaysEach (said_of tell (option_map (λ n. n.now) save.entry) refusals) (seen E.contents E.failures E.waits errors.old) (seen E.contents E.failures E.waits errors.new) }
     ensures writer { FlushesUnless W.failures W.waits writer.old writer.new (IsErrOf result (Problem.Failed Failure.Write)) }
     ensures files { UsesUnless F.known F.failures files.old files.new (option_map (λ n. n.now) save.entry) (option_map (λ n. n.now) save.entry) (IsErrOf result (Problem.Failed Failure.File)) }
     ensures could { IsErrOf result (Problem.Failed Failure.File) → IsOfEither (held F.known F.failures F.can_fail files.old) story.now certificate.now }
     ensures reader { Blames (IsErrOf result (Problem.Failed Failure.Read)) (R.failures reader.old) (R.failures reader.new) }
 {
     let accepted = accept(alloc, story, certificate, files)?;
-    play_accepted(alloc, &accepted, seed, options, save, files, reader, writer)
+    play_accepted(
+        alloc, &accepted, seed, options, save, tell, files, reader, writer, errors,
+    )
 }
 
 /// Plays an accepted story from its opening, with its saves in the file of a name, or nowhere.
-fn play_accepted<F: Files, R: Source, W: Sink>(
+fn play_accepted<F: Files, R: Source, W: Sink, E: Sink>(
     alloc: Global,
     accepted: &Accepted,
     seed: u64,
     options: Options,
     save: Option<&str>,
+    tell: bool,
     files: &mut F,
     reader: &mut R,
     writer: &mut W,
+    errors: &mut E,
 ) -> Result<End, Problem>
-    ensures comes { (story certificate : Option (List ℕ)) → IsAccepted story certificate accepted.now → PlayComesTo story certificate options (given (R.remaining reader.old) seed (store_of (option_map (λ n. n.now) save.entry))) (W.contents writer.old) (W.contents writer.new) (outcome_of result) }
+    ensures comes { (refusals : List ARefusal) × ((story certificate : Option (List ℕ)) → IsAccepted story certificate accepted.now → PlayComesTo story certificate options (given (R.remaining reader.old) seed (store_of (option_map (λ n. n.now) save.entry))) refusals (W.contents writer.old) (W.contents writer.new) (outcome_of result)) × SaysEach (said_of tell (option_map (λ n. n.now) save.entry) refusals) (seen E.contents E.failures E.waits errors.old) (seen E.contents E.failures E.waits errors.new) }
     ensures writer { FlushesUnless W.failures W.waits writer.old writer.new (IsErrOf result (Problem.Failed Failure.Write)) }
     ensures no_file { ¬ IsErrOf result (Problem.Failed Failure.File) }
     ensures reader { Blames (IsErrOf result (Problem.Failed Failure.Read)) (R.failures reader.old) (R.failures reader.new) }
@@ -303,7 +327,7 @@ fn play_accepted<F: Files, R: Source, W: Sink>(
 {
     match save {
         Some(name) => {
-            let mut store = FileSaves::new(alloc, files, name);
+            let mut store = FileSaves::new(alloc, files, name, tell, errors);
             play_accepted_keeping(alloc, accepted, seed, options, &mut store, reader, writer)
         }
         None => play_accepted_keeping(
@@ -328,11 +352,10 @@ fn play_accepted_keeping<S: SaveStore, R: Source, W: Sink>(
     reader: &mut R,
     writer: &mut W,
 ) -> Result<End, Problem>
-    ensures comes { (story certificate : Option (List ℕ)) → IsAccepted story certificate accepted.now → (S.kept store.old ≡ Some None → S.kept store.new ≡ Some None) → PlayComesTo story certificate options (given (R.remaining reader.old) seed (told_store S.kept S.failures store.old)) (W.contents writer.old) (W.contents writer.new) (outcome_of result) }
+    ensures comes { (refusals : List ARefusal) × ((story certificate : Option (List ℕ)) → IsAccepted story certificate accepted.now → (S.kept store.old ≡ Some None → S.kept store.new ≡ Some None) → PlayComesTo story certificate options (given (R.remaining reader.old) seed (told_store S.kept S.failures store.old [])) refusals (W.contents writer.old) (W.contents writer.new) (outcome_of result)) × S.Follows store.old store.new refusals }
     ensures writer { FlushesUnless W.failures W.waits writer.old writer.new (IsErrOf result (Problem.Failed Failure.Write)) }
     ensures no_file { ¬ IsErrOf result (Problem.Failed Failure.File) }
     ensures reader { Blames (IsErrOf result (Problem.Failed Failure.Read)) (R.failures reader.old) (R.failures reader.new) }
-    ensures spared { S.Spares store.old store.new }
 {
     let mut session = Session::start(alloc, accepted)?;
     let end = zplayer::play_story(
@@ -366,7 +389,7 @@ pub fn report<E: Sink>(outcome: &Outcome, errors: &mut E) -> u8
 }
 
 /// Writes a text and flushes it, where a failure is ignored. With no text nothing is called.
-fn say<E: Sink>(text: &[u8], errors: &mut E)
+pub fn say<E: Sink>(text: &[u8], errors: &mut E)
     ensures { Says (seen E.contents E.failures E.waits errors.old) (seen E.contents E.failures E.waits errors.new) text.now }
 {
     if !text.is_empty() {

@@ -5,8 +5,12 @@ ghost use Rattle.zplayer.specs.Outside.{CountsRefusal};
 ghost use Rattle.zplayer.specs.World.{Gets, Puts};
 
 use crate::files::{Files, read_file};
+use crate::message::Message;
+use crate::performing::say;
 use std::alloc::Global;
+use zfault::Sink;
 use zplayer::SaveStore;
+use zquetzal::SaveError;
 
 /// The most bytes that are read of a save. The longest that can be written has 134,451,256: of the first frame and 1,024 with 15
 /// locals, each with 65,535 words. Others may have chunks beside those.
@@ -32,7 +36,7 @@ impl SaveStore for NoSaves {
 
     ghost failures = { λ store. store.failures };
 
-    ghost Spares = { λ _ _. ⊤ };
+    ghost Follows = { λ _ _ _. ⊤ };
 
     fn put(&mut self, _save: &[u8]) -> bool
         ensures none { result ≡ false }
@@ -52,32 +56,48 @@ impl SaveStore for NoSaves {
         false
     }
 
+    fn refused(&mut self, _error: SaveError) {}
+
     ghost itself = { λ _. tt };
 
-    ghost through = { λ _ _ _ _ _. tt };
+    ghost through = { λ _ _ _ _ _ _ _. tt };
 }
 
-/// A store whose save is what a file has. What a file has that others may write isn't known.
+/// A store whose save is what a file has. What a file has that others may write isn't known. Of saves that are refused it says why,
+/// where it is to, in lines on the errors, of which a failure is ignored.
 #[derive(Drop)]
-pub struct FileSaves<'a, F: Files> {
+pub struct FileSaves<'a, F: Files, E: Sink> {
     alloc: Global,
     files: &'a mut F,
     name: &'a str,
+    tell: bool,
+    errors: &'a mut E,
     failures: u64,
 }
 
-impl<'a, F: Files> FileSaves<'a, F> {
-    /// The store of the file of a name, with no failure yet.
-    pub fn new(alloc: Global, files: &'a mut F, name: &'a str) -> FileSaves<'a, F>
+impl<'a, F: Files, E: Sink> FileSaves<'a, F, E> {
+    /// The store of the file of a name, with no failure yet, and whether it says why saves are refused.
+    pub fn new(
+        alloc: Global,
+        files: &'a mut F,
+        name: &'a str,
+        tell: bool,
+        errors: &'a mut E,
+    ) -> FileSaves<'a, F, E>
         ensures fresh { result.failures ≡ 0 }
         ensures named { result.name.now ≡ name.now }
         ensures files { result.files.now ≡ files.old }
         ensures same_reference { result.files.ghost_name ≡ files.entry.ghost_name }
+        ensures told { result.tell ≡ tell }
+        ensures errors { result.errors.now ≡ errors.old }
+        ensures same_errors { result.errors.ghost_name ≡ errors.entry.ghost_name }
     {
         FileSaves {
             alloc,
             files,
             name,
+            tell,
+            errors,
             failures: 0,
         }
     }
@@ -87,6 +107,7 @@ impl<'a, F: Files> FileSaves<'a, F> {
         ensures answer { result ≡ done }
         ensures counts { CountsRefusal self.old.failures self.new.failures done }
         ensures same { (self.new.files ≡ self.old.files) × (self.new.name ≡ self.old.name) }
+        ensures silent { (self.new.tell ≡ self.old.tell) × (self.new.errors ≡ self.old.errors) }
     {
         if !done {
             self.failures = self.failures.saturating_add(1);
@@ -95,14 +116,17 @@ impl<'a, F: Files> FileSaves<'a, F> {
     }
 }
 
-impl<'a, F: Files> SaveStore for FileSaves<'a, F> {
-    ghost use Rattle.std.specs.Prelude.{◌≡◌, ◌≢◌, ℕ, List, refl};
-    ghost use Rattle.std.proofs.Common.{◌∙◌, subst, sym};
+impl<'a, F: Files, E: Sink> SaveStore for FileSaves<'a, F, E> {
+    ghost use Rattle.std.specs.Prelude.{◌≡◌, refl};
     ghost use Rattle.zperform.specs.Contents.{SparesOthers};
+    ghost use Rattle.zperform.specs.Devices.{seen};
+    ghost use Rattle.zperform.specs.Telling.{SaysEach, heard};
+    ghost use Rattle.zperform.specs.TellingLaw.{heard_through, spared_through};
+    ghost use Rattle.std.proofs.Common.{◌∙◌};
 
     ghost failures = { λ store. store.failures };
 
-    ghost Spares = { λ old new. (new.files.ghost_name ≡ old.files.ghost_name) × (new.name.now ≡ old.name.now) × SparesOthers old.name.now (F.known old.files.now) (F.known new.files.now) };
+    ghost Follows = { λ old new refusals. (new.files.ghost_name ≡ old.files.ghost_name) × (new.name.now ≡ old.name.now) × SparesOthers old.name.now (F.known old.files.now) (F.known new.files.now) × (new.errors.ghost_name ≡ old.errors.ghost_name) × (new.tell ≡ old.tell) × SaysEach (heard old.tell refusals) (seen E.contents E.failures E.waits old.errors.now) (seen E.contents E.failures E.waits new.errors.now) };
 
     fn put(&mut self, save: &[u8]) -> bool {
         let done = self.files.put(self.name, save);
@@ -119,7 +143,13 @@ impl<'a, F: Files> SaveStore for FileSaves<'a, F> {
         }
     }
 
-    ghost itself = { λ store. (refl, refl, λ other another. refl) };
+    fn refused(&mut self, error: SaveError) {
+        if self.tell {
+            say(Message::of_refusal(error).as_slice(), self.errors);
+        }
+    }
 
-    ghost through = { λ old now new first then. (then.0 ∙ first.0, then.1 ∙ first.1, λ other another. then.2 other (subst (λ (name : List ℕ). other ≢ name) (sym first.1) another) ∙ first.2 other another) };
+    ghost itself = { λ store. (refl, refl, λ other another. refl, refl, refl, refl) };
+
+    ghost through = { λ old now new first then had has. (has.0 ∙ had.0, has.1 ∙ had.1, spared_through _ _ _ _ _ had.1 had.2 has.2, has.3 ∙ had.3, has.4 ∙ had.4, heard_through _ _ first then _ _ _ had.4 had.5 has.5) };
 }

@@ -3,5 +3,4 @@ mod Stages
 mod Writes
 mod Ends
 mod Needs
-mod Sessions
 mod Worked

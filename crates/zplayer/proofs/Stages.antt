@@ -34,7 +34,7 @@ use Rattle.zplayer.specs.declared.end.PlayError.{PlayError}
 use Rattle.zplayer.specs.declared.end.PlayError.TheVariants as errors
 use Rattle.zplayer.specs.Lines.{Ahead, unused}
 use Rattle.zplayer.specs.Outside.{Coming}
-use Rattle.zplayer.specs.World.{Answers, Refuses, Store, World, world}
+use Rattle.zplayer.specs.World.{Answers, Asks, IsRefused, Refuses, Store, World, world}
 use Rattle.zplayer.specs.Playing.{Breaks, Finishes, Leads, Meets, Plays, PlaysInPart, Restores, Stage, Supplies, Walks, Writes, WritesInPart, end_of, stage}
 
 -- ---- what the world's answers are to a state that needs them
@@ -63,6 +63,15 @@ module _ (m : Setting) (Takes : State → Type 0) (s : State) (old new : World) 
   given_in : (need : Need) (event : Event) → Answers m Takes s need old (Given event) new → handed m (halts.Need need) (Given event) s ≡ Some (give event s)
   given_in need event h = ap (λ (b : Bool). if b then Some (give event s) else None) (answer_fits need event h)
 
+-- an event that the world answers with is supplied, and where it has none it refuses what is awaited
+module _ (m : Setting) (Takes : State → Type 0) (s t : State) (need : Need) (event : Event) (old new : World) where
+  pub event_supplies : awaited m s ≡ Some need → t ≡ give event s → Answers m Takes s need old (Given event) new → Supplies m Takes s old true t new
+  event_supplies awaits moved answer = (Given event, need, awaits, answer, given_in m Takes s old new need event answer ∙ ap Some (sym moved))
+
+module _ (m : Setting) (Takes : State → Type 0) (s : State) (need : Need) (old new : World) where
+  pub none_supplies : awaited m s ≡ Some need → Asks m Takes s need old None new → Supplies m Takes s old false s new
+  none_supplies awaits asks = ((λ other is. let same : need ≡ other = cc in subst (λ (n : Need). Refuses n old) same asks.0), refl, asks.1, asks.2)
+
 -- at a restore, either one is an answer
 module _ (m : Setting) (Takes : State → Type 0) (s t : State) (input : Option (List ℕ)) (words : Option Coming) (old new : Store) where
   pub restores_supply : awaited m s ≡ Some needs.Restore → Restores m Takes s old t new → Supplies m Takes s (world input words old) true t (world input words new)
@@ -71,6 +80,10 @@ module _ (m : Setting) (Takes : State → Type 0) (s t : State) (input : Option 
 
 -- machines that take the same saves get the same answers
 module _ (m : Setting) (Taken Takes : State → Type 0) (same : (u : State) → (Taken u → Takes u) × (Takes u → Taken u)) (s : State) (old new : World) where
+  refused_as : (bytes : List ℕ) (error : SaveError) → IsRefused m Taken bytes s error → IsRefused m Takes bytes s error
+  refused_as bytes error (inl is) = inl is
+  refused_as bytes error (inr (why, u, is, none)) = inr (why, u, is, λ taken. none ((same u).1 taken))
+
   answer_as : (need : Need) (input : Input) → Answers m Taken s need old input new → Answers m Takes s need old input new
   answer_as needs.Line (Given (events.Line line)) h = h
   answer_as needs.Line (Given (events.Random word)) h = absurd h
@@ -91,7 +104,7 @@ module _ (m : Setting) (Taken Takes : State → Type 0) (same : (u : State) → 
   answer_as needs.Restore (Given (events.Random word)) h = absurd h
   answer_as needs.Restore (Given (events.Saved kept)) h = absurd h
   answer_as needs.Restore (Given events.NotRestored) ((kept, inl risen), unread, undrawn) = ((kept, inl risen), unread, undrawn)
-  answer_as needs.Restore (Given events.NotRestored) ((kept, inr (quiet, bytes, gets, refused)), unread, undrawn) = ((kept, inr (quiet, bytes, gets, λ u h. refused u (h.0, (same u).1 h.1))), unread, undrawn)
+  answer_as needs.Restore (Given events.NotRestored) ((kept, inr (quiet, bytes, error, gets, refused, told)), unread, undrawn) = ((kept, inr (quiet, bytes, error, gets, refused_as bytes error refused, told)), unread, undrawn)
   answer_as needs.Restore (Restored bytes) (gets, (u, (reads, taken)), untouched) = (gets, (u, (reads, (same u).0 taken)), untouched)
 
 module _ (m : Setting) (t : State) (need : Need) where

@@ -1,5 +1,5 @@
 -- Values of the definitions, computed.
-use Rattle.std.proofs.Common.{◌≡◌, ◌≢◌, ◌⊎◌, ◌<◌, ◌≤◌, ◌^◌, ◌-◌, inl, inr, ℕ, zero, suc, Bool, true, false, List, [], ◌∷◌, ◌++◌, length, replicate, Option, Some, None, Ok, refl, ap, subst, true≢false, arith}
+use Rattle.std.proofs.Common.{◌≡◌, ◌≢◌, ◌⊎◌, ◌<◌, ◌≤◌, ◌^◌, ◌-◌, inl, inr, ℕ, zero, suc, Bool, true, false, List, [], ◌∷◌, ◌++◌, length, replicate, Option, Some, None, Ok, Err, refl, sym, ap, subst, ◌∙◌, true≢false, arith}
 use Rattle.std.specs.Prelude.{pos, ⊤}
 use Rattle.std.specs.List.{All}
 use Rattle.std.proofs.lemmas.List.Elements.{All-cons, All-nil}
@@ -10,6 +10,8 @@ use Rattle.zfault.specs.declared.fault.Fault.TheVariants.{IllegalOpcode}
 use Rattle.zfault.specs.declared.item.Item.{Item}
 use Rattle.zfault.specs.declared.pause.Need.TheVariants as needs
 use Rattle.zfault.specs.declared.pause.Pause.TheVariants as pauses
+use Rattle.zquetzal.specs.declared.error.SaveError.{SaveError}
+use Rattle.zquetzal.specs.declared.error.SaveError.TheVariants.{Compressed, NotDescribed}
 use Rattle.zstate.specs.declared.halt.Stop.TheVariants as stops
 use Rattle.zstate.specs.State.{State, Setting}
 use Rattle.zstate.specs.Saves.{restoring}
@@ -24,7 +26,7 @@ use Rattle.zplayer.specs.declared.turns.TheConstants.{TURN}
 use Rattle.zplayer.specs.Lines.{BlamesReader, IsEnded, IsLast, ReadsLine, Hears, Takes, line_of, without_return}
 use Rattle.zplayer.specs.Outside.{Blames, BlamesWriter, Coming, CountsRefusal, words_of}
 use Rattle.zplayer.specs.Playing.{Breaks, GivesOrSaves, Leads, Meets, Plays, PlaysInPart, Stage, Walks, WantsOrSaves, Writes, WritesInPart, end_of, stage}
-use Rattle.zplayer.specs.World.{Answers, Asks, Draws, Gets, HasNone, Puts, Refuses, Resumes, Store, Stores, World, world}
+use Rattle.zplayer.specs.World.{Answers, Asks, Draws, Gets, HasNone, IsRefused, Puts, Refuses, Resumes, Store, Stores, World, world}
 
 -- ---- how playing ends
 
@@ -129,8 +131,12 @@ kept : Puts (Some None) (1 ∷ []) true (Some (Some (1 ∷ []))) × Puts (Some (
 kept = (refl, refl, (λ e. cc), λ e. cc)
 
 -- and it fails just where it doesn't keep it
-stored : Stores (record { kept = None; failures = 3 }) [] false (record { kept = None; failures = 4 }) × (Stores (record { kept = None; failures = 3 }) [] true (record { kept = None; failures = 4 }) → ⊥) × Stores (record { kept = Some None; failures = 3 }) (1 ∷ []) true (record { kept = Some (Some (1 ∷ [])); failures = 3 })
-stored = ((tt, refl), (λ s. omega (arith, s.1)), (refl, refl))
+stored : Stores (record { kept = None; failures = 3; refusals = [] }) [] false (record { kept = None; failures = 4; refusals = [] }) × (Stores (record { kept = None; failures = 3; refusals = [] }) [] true (record { kept = None; failures = 4; refusals = [] }) → ⊥) × Stores (record { kept = Some None; failures = 3; refusals = [] }) (1 ∷ []) true (record { kept = Some (Some (1 ∷ [])); failures = 3; refusals = [] })
+stored = ((tt, refl, refl), (λ s. omega (arith, s.1)), (refl, refl, refl))
+
+-- it isn't told of any refusal there
+not_refused_then : Stores (record { kept = None; failures = 3; refusals = Compressed ∷ [] }) [] true (record { kept = None; failures = 3; refusals = [] }) → ⊥
+not_refused_then stores = let e : [] ≡ Compressed ∷ [] = stores.2 in absurd cc
 
 gets : Gets (Some (Some (1 ∷ []))) (1 ∷ []) × (Gets (Some (Some (1 ∷ []))) (2 ∷ []) → ⊥) × (Gets (Some None) (1 ∷ []) → ⊥)
 gets = (refl, (λ e. cc), λ e. cc)
@@ -160,8 +166,8 @@ module _ (m : Setting) (s : State) (store : Store) where
   unanswered = (refl, (λ e. cc), (λ h. h), (λ h. h), λ h. h)
 
   -- a store that keeps nothing fails, and then there is no save
-  empty : Answers m any s needs.Restore (world None None (record { kept = Some None; failures = 3 })) (Given events.NotRestored) (world None None (record { kept = Some None; failures = 4 }))
-  empty = ((refl, inl refl), refl, refl)
+  empty : Answers m any s needs.Restore (world None None (record { kept = Some None; failures = 3; refusals = [] })) (Given events.NotRestored) (world None None (record { kept = Some None; failures = 4; refusals = [] }))
+  empty = ((refl, inl (refl, refl)), refl, refl)
 
   -- a player asks for an answer, or has none at the end of the input
   asked : Asks m any s needs.Line (world (Some []) None store) None (world (Some []) None store) × Asks m any s needs.Line silent (Some (events.Line (110 ∷ []))) silent × (Asks m any s needs.Line (world (Some (10 ∷ [])) None store) None silent → ⊥) × (Asks m any s needs.Random silent (Some (events.Line [])) silent → ⊥)
@@ -177,19 +183,56 @@ module _ (m : Setting) (s : State) (store : Store) where
   -- where there is no answer, no word is drawn and no save is put away
   untouched :
       (Asks m any s needs.Line (world (Some []) None store) None (world (Some []) (Some (λ k. 7)) store) → ⊥)
-      × (Asks m any s needs.Line (world (Some []) None (record { kept = None; failures = 3 })) None (world (Some []) None (record { kept = None; failures = 4 })) → ⊥)
+      × (Asks m any s needs.Line (world (Some []) None (record { kept = None; failures = 3; refusals = [] })) None (world (Some []) None (record { kept = None; failures = 4; refusals = [] })) → ⊥)
   untouched = ((λ a. let e = a.1 in cc), λ a. let e = ap (λ (x : Store). x.failures) a.2 in omega (arith, e))
 
+-- bytes that are refused lead to no state in which play goes on
+never_resumes : (m : Setting) (Takes : State → Type 0) (bytes : List ℕ) (s t : State) (error : SaveError) → IsRefused m Takes bytes s error → Resumes m Takes bytes s t → ⊥
+never_resumes m Takes bytes s t error (inl is) (goes_on, taken) = absurd cc
+never_resumes m Takes bytes s t error (inr (why, u, is, none)) (goes_on, taken) = let same : t ≡ u = cc in none (subst Takes same taken)
+
 -- of a store that keeps a save and doesn't fail, the machine is told that there is none only where it doesn't go on from it
-not_told : (m : Setting) (Takes : State → Type 0) (s t : State) (save : List ℕ) → Resumes m Takes save s t → HasNone m Takes s (record { kept = Some (Some save); failures = 3 }) (record { kept = Some (Some save); failures = 3 }) → ⊥
-not_told m Takes s t save goes_on (same, inl risen) = omega (arith, risen)
-not_told m Takes s t save goes_on (same, inr (quiet, bytes, given, refused)) = let is : save ≡ bytes = cc in refused t (subst (λ (b : List ℕ). Resumes m Takes b s t) is goes_on)
+not_told : (m : Setting) (Takes : State → Type 0) (s t : State) (save : List ℕ) (before now : List SaveError) → Resumes m Takes save s t
+    → HasNone m Takes s (record { kept = Some (Some save); failures = 3; refusals = before }) (record { kept = Some (Some save); failures = 3; refusals = now }) → ⊥
+not_told m Takes s t save before now goes_on (same, inl (risen, untold)) = omega (arith, risen)
+not_told m Takes s t save before now goes_on (same, inr (quiet, bytes, error, given, refused, is)) =
+    let whole : save ≡ bytes = cc in never_resumes m Takes bytes s t error refused (subst (λ (b : List ℕ). Resumes m Takes b s t) whole goes_on)
+
+-- such a store is told once, and of the refusal that is the machine's
+module _ (m : Setting) (Takes : State → Type 0) (s : State) (save : List ℕ) (before now : List SaveError) where
+  abbrev kept_one : List SaveError → Store
+  kept_one refusals = record { kept = Some (Some save); failures = 3; refusals = refusals }
+
+  told_once : restoring m save s ≡ Err Compressed → HasNone m Takes s (kept_one before) (kept_one now) → now ≡ Compressed ∷ before
+  told_once why (same, inl (risen, untold)) = absurd (omega (arith, risen))
+  told_once why (same, inr (quiet, bytes, error, given, inl refused, is)) =
+      let whole : save ≡ bytes = cc in
+      let there : restoring m save s ≡ Err error = subst (λ (b : List ℕ). restoring m b s ≡ Err error) (sym whole) refused in
+      let one : error ≡ Compressed = cc in
+      is ∙ ap (λ (e : SaveError). e ∷ before) one
+  told_once why (same, inr (quiet, bytes, error, given, inr (other, t, goes_on, untaken), is)) =
+      let whole : save ≡ bytes = cc in
+      let there : restoring m save s ≡ Ok t = subst (λ (b : List ℕ). restoring m b s ≡ Ok t) (sym whole) goes_on in
+      absurd cc
+
+  -- a save that leads to a state which the machine doesn't take is refused for that alone
+  untaken : (t : State) → restoring m save s ≡ Ok t → (Takes t → ⊥) → IsRefused m Takes save s NotDescribed × ((error : SaveError) → IsRefused m Takes save s error → error ≡ NotDescribed)
+  untaken t goes_on none = (inr (refl, t, goes_on, none), by)
+    where
+      by : (error : SaveError) → IsRefused m Takes save s error → error ≡ NotDescribed
+      by error (inl is) = absurd cc
+      by error (inr (why, u, is, out)) = why
+
+  -- a store that fails isn't told of a refusal
+  untold : HasNone m Takes s (record { kept = None; failures = 3; refusals = before }) (record { kept = None; failures = 4; refusals = now }) → now ≡ before
+  untold (same, inl (risen, is)) = is
+  untold (same, inr (quiet, bytes, error, gets, refused, is)) = absurd (omega (arith, quiet))
 
 -- the save that is handed in at a restore is the one that the store keeps, and the world stays as it is
 kept_alone :
     (m : Setting) (Takes : State → Type 0) (s : State) (save bytes : List ℕ) (new : World)
-    → Answers m Takes s needs.Restore (world None None (record { kept = Some (Some save); failures = 3 })) (Restored bytes) new
-    → (Some save ≡ Some bytes) × (new ≡ world None None (record { kept = Some (Some save); failures = 3 }))
+    → Answers m Takes s needs.Restore (world None None (record { kept = Some (Some save); failures = 3; refusals = [] })) (Restored bytes) new
+    → (Some save ≡ Some bytes) × (new ≡ world None None (record { kept = Some (Some save); failures = 3; refusals = [] }))
 kept_alone m Takes s save bytes new (kept, resumes, same) = (kept, same)
 
 -- a play that breaks off has written all that it gave out, but where a write failed

@@ -1,5 +1,5 @@
 -- What a player asks of the world, and what the world answers.
-use Rattle.std.specs.Prelude.{◌≡◌, ◌⊎◌, ℕ, suc, Bool, true, false, List, Option, Some, None, Ok, ⊤}
+use Rattle.std.specs.Prelude.{◌≡◌, ◌⊎◌, ℕ, suc, Bool, true, false, List, ◌∷◌, Option, Some, None, Ok, Err, ⊤}
 use Rattle.std.specs.Io.KnownBytes.{IsAtEnd}
 use Rattle.zfault.specs.Devices.{RisesByOne}
 use Rattle.zfault.specs.declared.event.Event.{Event}
@@ -8,6 +8,8 @@ use Rattle.zfault.specs.declared.pause.Need.{Need}
 use Rattle.zfault.specs.declared.pause.Need.TheVariants as needs
 use Rattle.zquetzal.specs.Grammar.{save_text}
 use Rattle.zquetzal.specs.Saved.{origin_of}
+use Rattle.zquetzal.specs.declared.error.SaveError.{SaveError}
+use Rattle.zquetzal.specs.declared.error.SaveError.TheVariants.{NotDescribed}
 use Rattle.zstate.specs.State.{State, Setting}
 use Rattle.zstate.specs.Saves.{restoring, saved_of}
 use Rattle.zstate.specs.Run.{Input, Given, Restored}
@@ -38,17 +40,19 @@ abbrev pub Gets : Option Kept → List ℕ → Type 0
 Gets None save = ⊤
 Gets (Some kept) save = kept ≡ Some save
 
--- what is told of a store: what it keeps, where that is known, and its count of failures
+-- what is told of a store: what it keeps, where that is known, its count of failures, and why saves were refused, as it was told, the
+-- newest first
 pub record Store : Type 0 where
   pub kept : Option Kept
   pub failures : ℕ
+  pub refusals : List SaveError
 
-abbrev pub told : {S : Type 0} → (S → Option Kept) → (S → ℕ) → S → Store
-told kept failures store = record { kept = kept store; failures = failures store }
+abbrev pub told : {S : Type 0} → (S → Option Kept) → (S → ℕ) → S → List SaveError → Store
+told kept failures store refusals = record { kept = kept store; failures = failures store; refusals = refusals }
 
 -- a store was given a save, and fails just where it doesn't keep it
 abbrev pub Stores : Store → List ℕ → Bool → Store → Type 0
-Stores old save done new = Puts old.kept save done new.kept × CountsRefusal old.failures new.failures done
+Stores old save done new = Puts old.kept save done new.kept × CountsRefusal old.failures new.failures done × (new.refusals ≡ old.refusals)
 
 -- play goes on from these bytes of a save, in a state that the machine takes
 abbrev pub Resumes : Setting → (State → Type 0) → List ℕ → State → State → Type 0
@@ -58,12 +62,17 @@ Resumes m Takes bytes old new = (restoring m bytes old ≡ Ok new) × Takes new
 abbrev pub TakesUp : Setting → (State → Type 0) → State → Store → State → Store → Type 0
 TakesUp m Takes s old t new = (bytes : List ℕ) × Gets old.kept bytes × Resumes m Takes bytes s t × (new ≡ old)
 
--- the store has no save for the machine: it fails, or gives bytes from which the machine doesn't go on
+-- why a machine doesn't go on from these bytes: the lowest cause for which play can't, or that it doesn't take the state that they lead to
+abbrev pub IsRefused : Setting → (State → Type 0) → List ℕ → State → SaveError → Type 0
+IsRefused m Takes bytes s error =
+    (restoring m bytes s ≡ Err error) ⊎ ((error ≡ NotDescribed) × (t : State) × (restoring m bytes s ≡ Ok t) × (Takes t → ⊥))
+
+-- the store has no save for the machine: it fails, or gives bytes that the machine refuses, and is told why
 abbrev pub HasNone : Setting → (State → Type 0) → State → Store → Store → Type 0
 HasNone m Takes s old new =
     (new.kept ≡ old.kept)
-    × (RisesByOne old.failures new.failures
-    ⊎ ((new.failures ≡ old.failures) × (bytes : List ℕ) × Gets old.kept bytes × ((t : State) → Resumes m Takes bytes s t → ⊥)))
+    × ((RisesByOne old.failures new.failures × (new.refusals ≡ old.refusals))
+    ⊎ ((new.failures ≡ old.failures) × (bytes : List ℕ) × (error : SaveError) × Gets old.kept bytes × IsRefused m Takes bytes s error × (new.refusals ≡ error ∷ old.refusals)))
 
 -- ---- the world
 

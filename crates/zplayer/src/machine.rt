@@ -1,6 +1,6 @@
 //! What a player asks of a machine.
 
-ghost use Rattle.std.specs.Prelude.{◌≡◌, ◌≢◌, ◌+◌, ℕ, [], Ok, Some, IfOk, IsTrue, OnErr, false, true};
+ghost use Rattle.std.specs.Prelude.{◌≡◌, ◌≢◌, ◌+◌, ℕ, [], None, Ok, Some, IfOk, IsTrue, OnErr};
 ghost use Rattle.zfault.specs.Answers.{answers};
 ghost use Rattle.zquetzal.specs.Grammar.{save_text};
 ghost use Rattle.zquetzal.specs.Saved.{origin_of};
@@ -10,7 +10,8 @@ ghost use Rattle.zstate.specs.Run.{awaited, need_in, run, Ends, Makes, Stands};
 ghost use Rattle.zstate.specs.Step.{step};
 ghost use Rattle.zref.specs.Machine.{setting as setting_of_checked};
 ghost use Rattle.zplayer.specs.Playing.{GivesOrSaves, WantsOrSaves};
-ghost use Rattle.zplayer.specs.World.{Resumes};
+ghost use Rattle.zplayer.specs.World.{IsRefused, Resumes};
+ghost use Rattle.zquetzal.specs.declared.error.SaveError.{SaveError as ARefusal};
 
 use std::alloc::{AllocError, Global};
 use zcert::Spelled;
@@ -67,14 +68,14 @@ pub(crate) trait Machine {
         ensures ok { IfOk result (λ save. save.items ≡ save_text (origin_of (setting self.now).story) (saved_of (setting self.now).story (state self.now))) }
         ensures err { OnErr result (Wants (setting self.now) (state self.now)) };
 
-    /// Goes on from the bytes of a save, where the state awaits one. Answers whether it does: else nothing changes, and neither
-    /// does it where memory is refused.
-    fn restore(&mut self, alloc: Global, save: &[u8]) -> Result<bool, AllocError>
+    /// Goes on from the bytes of a save, where the state awaits one. Answers why it doesn't, if it doesn't: then nothing changes, and
+    /// neither does it where memory is refused.
+    fn restore(&mut self, alloc: Global, save: &[u8]) -> Result<Option<SaveError>, AllocError>
         requires { awaited (setting self.old) (state self.old) ≡ Some Need.Restore }
         ensures play { IsSamePlay self.old self.new }
-        ensures taken { result ≡ Ok true → Resumes (setting self.old) (Takes self.old) save.now (state self.old) (state self.new) }
-        ensures refused { result ≡ Ok false → (t : State) → ¬ Resumes (setting self.old) (Takes self.old) save.now (state self.old) t }
-        ensures same { result ≢ Ok true → state self.new ≡ state self.old }
+        ensures taken { result ≡ Ok None → Resumes (setting self.old) (Takes self.old) save.now (state self.old) (state self.new) }
+        ensures refused { (error : ARefusal) → result ≡ Ok (Some error) → IsRefused (setting self.old) (Takes self.old) save.now (state self.old) error }
+        ensures same { result ≢ Ok None → state self.new ≡ state self.old }
         ensures err { OnErr result (Wants (setting self.old) (state self.old)) };
 
     /// A machine that didn't move.
@@ -122,11 +123,11 @@ impl<'a> Machine for CheckedMachine<'a> {
         CheckedMachine::save_bytes(self, alloc)
     }
 
-    fn restore(&mut self, alloc: Global, save: &[u8]) -> Result<bool, AllocError> {
+    fn restore(&mut self, alloc: Global, save: &[u8]) -> Result<Option<SaveError>, AllocError> {
         match CheckedMachine::restore(self, alloc, save) {
-            Ok(()) => Ok(true),
+            Ok(()) => Ok(None),
             Err(SaveError::OutOfMemory) => Err(AllocError),
-            Err(_) => Ok(false),
+            Err(error) => Ok(Some(error)),
         }
     }
 
@@ -171,8 +172,8 @@ impl<'a, V: Spelled> Machine for Session<'a, V> {
         Session::save_bytes(self, alloc)
     }
 
-    fn restore(&mut self, _alloc: Global, save: &[u8]) -> Result<bool, AllocError> {
-        Ok(Session::restore(self, save).is_ok())
+    fn restore(&mut self, _alloc: Global, save: &[u8]) -> Result<Option<SaveError>, AllocError> {
+        Ok(Session::restore(self, save).err())
     }
 
     ghost itself = { λ p. refl };

@@ -1,8 +1,11 @@
 //! What a player asks of the world beside its reader and its writer.
 
-ghost use Rattle.std.specs.Prelude.{◌≡◌, ℕ, None, Option, true};
+ghost use Rattle.std.specs.Prelude.{◌≡◌, ℕ, [], ◌∷◌, ◌++◌, List, None, Option, true};
 ghost use Rattle.zplayer.specs.Outside.{Coming, CountsRefusal};
 ghost use Rattle.zplayer.specs.World.{Draws, Gets, Kept, Puts};
+ghost use Rattle.zquetzal.specs.declared.error.SaveError.{SaveError as ARefusal};
+
+use zquetzal::SaveError;
 
 /// Where saves are kept.
 pub trait SaveStore {
@@ -12,15 +15,16 @@ pub trait SaveStore {
     /// How often a call failed so far, a `u64` that stays at its last value.
     ghost failures: { Self → ℕ };
 
-    /// The second is the first with other saves: what isn't the store's own is as it was.
-    ghost Spares: { Self → Self → Type 0 };
+    /// The second comes of the first by calls, among which it was told of these refusals, the newest first. What is neither the store's
+    /// own nor said of them is as it was.
+    ghost Follows: { Self → Self → List ARefusal → Type 0 };
 
     /// Keeps a save in place of the one before. False where it failed: then the one before is still kept, and only then the
     /// count of failures rises.
     fn put(&mut self, save: &[u8]) -> bool
         ensures stores { Puts (kept self.old) save.now result (kept self.new) }
         ensures counts { CountsRefusal (failures self.old) (failures self.new) result }
-        ensures spared { Spares self.old self.new };
+        ensures follows { Follows self.old self.new [] };
 
     /// Puts the save that is kept into `save`, in the place of what is there. False where it failed, as where none is kept, and
     /// only then the count of failures rises.
@@ -28,13 +32,18 @@ pub trait SaveStore {
         ensures gives { result ≡ true → Gets (kept self.old) save.new.items }
         ensures same { kept self.new ≡ kept self.old }
         ensures counts { CountsRefusal (failures self.old) (failures self.new) result }
-        ensures spared { Spares self.old self.new };
+        ensures follows { Follows self.old self.new [] };
+
+    /// Is told why the bytes that it gave last were refused.
+    fn refused(&mut self, error: SaveError)
+        ensures same { (kept self.new ≡ kept self.old) × (failures self.new ≡ failures self.old) }
+        ensures follows { Follows self.old self.new (error ∷ []) };
 
     /// A store that wasn't called.
-    ghost itself: { (store : Self) → Spares store store };
+    ghost itself: { (store : Self) → Follows store store [] };
 
     /// Calls one after another.
-    ghost through: { (old now new : Self) → Spares old now → Spares now new → Spares old new };
+    ghost through: { (old now new : Self) (first then : List ARefusal) → Follows old now first → Follows now new then → Follows old new (then ++ first) };
 }
 
 /// Random words, one after another.

@@ -1,9 +1,10 @@
 //! The player of a machine.
 
-ghost use Rattle.std.specs.Prelude.{◌≡◌, ◌≢◌, ℤ, false, Some, IsErrOf, IfErr, IfOk, OnErr, ⊤};
+ghost use Rattle.std.specs.Prelude.{◌≡◌, ◌≢◌, ℤ, false, [], ◌++◌, List, Some, IsErrOf, IfErr, IfOk, OnErr, ⊤};
 ghost use Rattle.std.specs.Io.KnownBytes.{Keeps};
 ghost use Rattle.zfault.specs.declared.fault.Fault.{Fault as AFault};
 ghost use Rattle.zstate.specs.Run.{Stands, awaited};
+ghost use Rattle.zquetzal.specs.declared.error.SaveError.{SaveError as ARefusal};
 ghost use Rattle.zref.specs.Machine.{setting, SamePlay};
 ghost use Rattle.zplay.specs.Session.{setting_of};
 ghost use Rattle.zplayer.specs.Lines.{BlamesReader, Hears, KnowsEnd, unused};
@@ -28,7 +29,8 @@ use zstate::Stop;
 /// Plays the machine from the state that it is in: makes at most the budget's steps, writes what they give out, with status
 /// lines where the options ask for them, and hands in what they need. A line comes from the reader, of which more may be read
 /// than was used, and before it is read all that was given out is written and flushed. A random word comes from `words`. A save goes
-/// to the store, and comes from it: what doesn't go there, or from where the machine doesn't go on, the story is told, and plays on.
+/// to the store, and comes from it: what doesn't go there, or from where the machine doesn't go on, the story is told, and plays on; of bytes that
+/// the machine refuses the store is told why.
 ///
 /// What a turn of at most 1,024 steps gives out is written before the next turn's first step. So after P2 the machine stands where a turn
 /// ended, all that was given out before that turn was written, and a beginning of what the turn gave out, and the writer isn't called again;
@@ -44,10 +46,9 @@ pub fn play_checked<R: Source, W: Sink, S: SaveStore, G: Words>(
     options: Options,
 ) -> Result<End, PlayError>
     ensures play { SamePlay machine.old machine.new }
-    ensures comes { ComesTo (setting machine.old) (λ _. ⊤) (WantsOrSaves (setting machine.old)) options (world (R.remaining reader.old) (G.coming words.old) (told S.kept S.failures store.old)) machine.old.state machine.new.state (G.coming words.new) (told S.kept S.failures store.new) (W.contents writer.old) (W.contents writer.new) result }
+    ensures comes { (refusals : List ARefusal) × ComesTo (setting machine.old) (λ _. ⊤) (WantsOrSaves (setting machine.old)) options (world (R.remaining reader.old) (G.coming words.old) (told S.kept S.failures store.old [])) machine.old.state machine.new.state (G.coming words.new) (told S.kept S.failures store.new refusals) (W.contents writer.old) (W.contents writer.new) result × S.Follows store.old store.new refusals }
     ensures reads { Blames (IsErrOf result PlayError.Read) (R.failures reader.old) (R.failures reader.new) }
     ensures writes { BlamesWriter W.failures W.waits writer.old writer.new (IsErrOf result PlayError.Write) (¬ IsErrOf result PlayError.Write) }
-    ensures spared { S.Spares store.old store.new }
 {
     play_machine(alloc, machine, reader, writer, store, words, options)
 }
@@ -64,11 +65,10 @@ pub fn play_story<V: Spelled, R: Source, W: Sink, S: SaveStore, G: Words>(
     options: Options,
 ) -> Result<End, PlayError>
     ensures play { session.new.accepted ≡ session.old.accepted }
-    ensures comes { ComesTo (setting_of session.old.accepted) (Describes V.operations session.old.accepted) (GivesOrSaves (setting_of session.old.accepted)) options (world (R.remaining reader.old) (G.coming words.old) (told S.kept S.failures store.old)) session.old.state session.new.state (G.coming words.new) (told S.kept S.failures store.new) (W.contents writer.old) (W.contents writer.new) result }
+    ensures comes { (refusals : List ARefusal) × ComesTo (setting_of session.old.accepted) (Describes V.operations session.old.accepted) (GivesOrSaves (setting_of session.old.accepted)) options (world (R.remaining reader.old) (G.coming words.old) (told S.kept S.failures store.old [])) session.old.state session.new.state (G.coming words.new) (told S.kept S.failures store.new refusals) (W.contents writer.old) (W.contents writer.new) result × S.Follows store.old store.new refusals }
     ensures no_fault { IfOk result (λ end. (fault : AFault) (place : ℤ) → end ≢ End.Fault fault place) }
     ensures reads { Blames (IsErrOf result PlayError.Read) (R.failures reader.old) (R.failures reader.new) }
     ensures writes { BlamesWriter W.failures W.waits writer.old writer.new (IsErrOf result PlayError.Write) (¬ IsErrOf result PlayError.Write) }
-    ensures spared { S.Spares store.old store.new }
 {
     let played = play_machine(alloc, session, reader, writer, store, words, options);
     session.never_faults();
@@ -86,10 +86,9 @@ fn play_machine<M: Machine, R: Source, W: Sink, S: SaveStore, G: Words>(
     options: Options,
 ) -> Result<End, PlayError>
     ensures play { M.IsSamePlay machine.old machine.new }
-    ensures comes { ComesTo (M.setting machine.old) (M.Takes machine.old) (M.Wants (M.setting machine.old)) options (world (R.remaining reader.old) (G.coming words.old) (told S.kept S.failures store.old)) (M.state machine.old) (M.state machine.new) (G.coming words.new) (told S.kept S.failures store.new) (W.contents writer.old) (W.contents writer.new) result }
+    ensures comes { (refusals : List ARefusal) × ComesTo (M.setting machine.old) (M.Takes machine.old) (M.Wants (M.setting machine.old)) options (world (R.remaining reader.old) (G.coming words.old) (told S.kept S.failures store.old [])) (M.state machine.old) (M.state machine.new) (G.coming words.new) (told S.kept S.failures store.new refusals) (W.contents writer.old) (W.contents writer.new) result × S.Follows store.old store.new refusals }
     ensures reads { Blames (IsErrOf result PlayError.Read) (R.failures reader.old) (R.failures reader.new) }
     ensures writes { BlamesWriter W.failures W.waits writer.old writer.new (IsErrOf result PlayError.Write) (¬ IsErrOf result PlayError.Write) }
-    ensures spared { S.Spares store.old store.new }
 {
     match play_turns(alloc, machine, reader, writer, store, words, options) {
         // At a failed read all was flushed before it.
@@ -112,10 +111,9 @@ fn play_turns<M: Machine, R: Source, W: Sink, S: SaveStore, G: Words>(
     options: Options,
 ) -> Result<End, PlayError>
     ensures play { M.IsSamePlay machine.old machine.new }
-    ensures comes { ComesTo (M.setting machine.old) (M.Takes machine.old) (M.Wants (M.setting machine.old)) options (world (R.remaining reader.old) (G.coming words.old) (told S.kept S.failures store.old)) (M.state machine.old) (M.state machine.new) (G.coming words.new) (told S.kept S.failures store.new) (W.contents writer.old) (W.contents writer.new) result }
+    ensures comes { (refusals : List ARefusal) × ComesTo (M.setting machine.old) (M.Takes machine.old) (M.Wants (M.setting machine.old)) options (world (R.remaining reader.old) (G.coming words.old) (told S.kept S.failures store.old [])) (M.state machine.old) (M.state machine.new) (G.coming words.new) (told S.kept S.failures store.new refusals) (W.contents writer.old) (W.contents writer.new) result × S.Follows store.old store.new refusals }
     ensures reads { Blames (IsErrOf result PlayError.Read) (R.failures reader.old) (R.failures reader.new) }
     ensures writes { BlamesWriter W.failures W.waits writer.old writer.new (IsErrOf result PlayError.Write) (IsErrOf result PlayError.Read) }
-    ensures spared { S.Spares store.old store.new }
 {
     let mut items = Items::new(alloc);
     let mut lines = Lines::new();
@@ -145,14 +143,13 @@ fn supply<M: Machine, R: Source, W: Sink, S: SaveStore, G: Words>(
     requires stands { Stands (M.setting machine.old) stop (M.state machine.old) }
     requires ended { KnowsEnd lines.old (R.remaining reader.old) }
     ensures play { M.IsSamePlay machine.old machine.new }
-    ensures supplied { IfOk result (λ some. Supplies (M.setting machine.old) (M.Takes machine.old) (M.state machine.old) (world (unused lines.old (R.remaining reader.old)) (G.coming words.old) (told S.kept S.failures store.old)) some (M.state machine.new) (world (unused lines.new (R.remaining reader.new)) (G.coming words.new) (told S.kept S.failures store.new))) }
-    ensures same { OnErr result ((M.state machine.new ≡ M.state machine.old) × (G.coming words.new ≡ G.coming words.old) × (told S.kept S.failures store.new ≡ told S.kept S.failures store.old)) }
+    ensures supplied { IfOk result (λ some. (refusals : List ARefusal) × S.Follows store.old store.new refusals × ((before : List ARefusal) → Supplies (M.setting machine.old) (M.Takes machine.old) (M.state machine.old) (world (unused lines.old (R.remaining reader.old)) (G.coming words.old) (told S.kept S.failures store.old before)) some (M.state machine.new) (world (unused lines.new (R.remaining reader.new)) (G.coming words.new) (told S.kept S.failures store.new (refusals ++ before))))) }
+    ensures same { OnErr result ((M.state machine.new ≡ M.state machine.old) × (G.coming words.new ≡ G.coming words.old) × S.Follows store.old store.new [] × ((before : List ARefusal) → told S.kept S.failures store.new before ≡ told S.kept S.failures store.old before)) }
     ensures kept { Keeps (W.contents writer.old) (W.contents writer.new) }
     ensures at_line { IsErrOf result PlayError.Read → awaited (M.setting machine.old) (M.state machine.old) ≡ Some Need.Line }
     ensures wanted { IsErrOf result PlayError.OutOfMemory → M.Wants (M.setting machine.old) (M.state machine.old) }
     ensures reads { BlamesReader R.remaining R.failures reader.old reader.new lines.new (IsErrOf result PlayError.Read) }
     ensures writes { BlamesWriter W.failures W.waits writer.old writer.new (IsErrOf result PlayError.Write) (IsErrOf result PlayError.Read) }
-    ensures spared { S.Spares store.old store.new }
 {
     let Some(need) = machine.awaits(stop) else {
         return Ok(false);
@@ -184,14 +181,14 @@ fn ask<M: Machine, R: Source, W: Sink, S: SaveStore, G: Words>(
     requires awaits { awaited (M.setting machine.now) (M.state machine.now) ≡ Some need }
     requires event { need ≢ Need.Restore }
     requires ended { KnowsEnd lines.old (R.remaining reader.old) }
-    ensures asked { IfOk result (λ event. Asks (M.setting machine.now) (M.Takes machine.now) (M.state machine.now) need (world (unused lines.old (R.remaining reader.old)) (G.coming words.old) (told S.kept S.failures store.old)) event (world (unused lines.new (R.remaining reader.new)) (G.coming words.new) (told S.kept S.failures store.new))) }
+    ensures asked { IfOk result (λ event. (before : List ARefusal) → Asks (M.setting machine.now) (M.Takes machine.now) (M.state machine.now) need (world (unused lines.old (R.remaining reader.old)) (G.coming words.old) (told S.kept S.failures store.old before)) event (world (unused lines.new (R.remaining reader.new)) (G.coming words.new) (told S.kept S.failures store.new before))) }
     ensures same { OnErr result ((G.coming words.new ≡ G.coming words.old) × (store.new ≡ store.old)) }
     ensures kept { Keeps (W.contents writer.old) (W.contents writer.new) }
     ensures at_line { IsErrOf result PlayError.Read → need ≡ Need.Line }
     ensures wanted { IsErrOf result PlayError.OutOfMemory → M.Wants (M.setting machine.now) (M.state machine.now) }
     ensures reads { BlamesReader R.remaining R.failures reader.old reader.new lines.new (IsErrOf result PlayError.Read) }
     ensures writes { BlamesWriter W.failures W.waits writer.old writer.new (IsErrOf result PlayError.Write) (IsErrOf result PlayError.Read) }
-    ensures spared { S.Spares store.old store.new }
+    ensures follows { S.Follows store.old store.new [] }
 {
     match need {
         Need::Line => {

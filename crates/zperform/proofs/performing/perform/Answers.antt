@@ -10,6 +10,6 @@ returns-in-Err-clause-explains g c = λ some. c.explain.ensures _ _ _ c.in-Err.e
 
 pub returns-in-Ok-clause-performs : goal.returns-in-Ok-clause-performs
 returns-in-Ok-clause-performs g c = λ none.
-    let did = c.carry_out.ensures in
-    performs_request _ _ _ _ c.carry_out.result (writer_as_seen g.W.Sink.contents g.W.Sink.failures g.W.Sink.waits c.args.writer.now c.carry_out.new.writer _ did.writer) did.reader (record { status_is = c.report.ensures.status; said = c.report.ensures.said })
-    (request_of c.in-Ok.command) (record { unread = did.files.unread; unfailed = did.files.unfailed; kept = did.files.kept; spared = did.files.spared }) did.could (λ idle. told_same g.R.Source.remaining g.R.Source.failures c.args.reader.now c.carry_out.new.reader (did.unasked idle)) did.comes c.in-Ok.ensures.read
+    let did = c.carry_out-outcome.ensures in
+    performs_request _ _ _ _ c.carry_out-outcome.result (writer_as_seen g.W.Sink.contents g.W.Sink.failures g.W.Sink.waits c.args.writer.now c.carry_out-outcome.new.writer _ did.writer) did.reader _ (record { status_is = c.report.ensures.status; said = c.report.ensures.said })
+    (request_of c.in-Ok.command) did.comes.0 did.comes.2 (record { unread = did.files.unread; unfailed = did.files.unfailed; kept = did.files.kept; spared = did.files.spared }) did.could (λ idle. told_same g.R.Source.remaining g.R.Source.failures c.args.reader.now c.carry_out-outcome.new.reader (did.unasked idle)) did.comes.1 c.in-Ok.ensures.read

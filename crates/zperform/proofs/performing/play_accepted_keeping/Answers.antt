@@ -1,4 +1,4 @@
-use Rattle.std.proofs.Common.{Some, inl, refl}
+use Rattle.std.proofs.Common.{Some, [], inl, refl}
 use Rattle.zplayer.specs.Outside.{words_from}
 use Rattle.zplayer.specs.World.{told, world}
 use Rattle.zperform.specs.declared.outcome.Outcome.TheVariants.{Played, Stopped}
@@ -10,15 +10,19 @@ use Rattle.zperform.proofs.SessionLemmas.{broken, handed_on, played, reader_hand
 use Rattle.zperform.proofs.performing.play_accepted_keeping.Goals as goal
 
 pub returns-in_err-end-clause-comes : goal.returns-in_err-end-clause-comes
-returns-in_err-end-clause-comes g c = λ story certificate accepted unsaved.
+returns-in_err-end-clause-comes g c =
     let error = c.in_err-end.field-0.0 in
     let input = g.R.Source.remaining c.args.reader.now in
-    let store = told g.S.SaveStore.kept g.S.SaveStore.failures c.args.store.now in
+    let store = told g.S.SaveStore.kept g.S.SaveStore.failures c.args.store.now [] in
     let before = g.W.Sink.contents c.args.writer.now in
     let now = g.W.Sink.contents c.play_story.new.writer in
-    handed_on story certificate c.args.options (given input c.args.seed store) before now c.from_residual-in_err-end.result (problem_of_play error) c.from_residual-in_err-end.ensures
-    (with_words (λ w. PlayComesTo story certificate c.args.options w before now (Stopped (problem_of_play error))) input store c.new.result _ c.new.ensures
-    (broken story certificate c.args.options (world input (Some (words_from c.new.result)) store) before c.args.accepted.now accepted _ c.in_ok-session.ensures now _ _ _ unsaved error c.in_err-end.ensures.comes))
+    let came = c.in_err-end.ensures.comes in (
+      came.0,
+      λ story certificate accepted unsaved. handed_on story certificate c.args.options (given input c.args.seed store) came.0 before now c.from_residual-in_err-end.result (problem_of_play error) c.from_residual-in_err-end.ensures
+          (with_words (λ w. PlayComesTo story certificate c.args.options w came.0 before now (Stopped (problem_of_play error))) input store c.new.result _ c.new.ensures
+          (broken story certificate c.args.options (world input (Some (words_from c.new.result)) store) came.0 before c.args.accepted.now accepted _ c.in_ok-session.ensures now _ _ _ unsaved refl error came.1)),
+      came.2,
+    )
 
 pub returns-in_err-end-clause-writer : goal.returns-in_err-end-clause-writer
 returns-in_err-end-clause-writer g c = writer_handed_on c.in_err-end.field-0.0 c.from_residual-in_err-end.result c.from_residual-in_err-end.ensures _ _ _ _ c.in_err-end.ensures.writes
@@ -30,17 +34,24 @@ pub returns-in_err-end-clause-reader : goal.returns-in_err-end-clause-reader
 returns-in_err-end-clause-reader g c = reader_handed_on c.in_err-end.field-0.0 c.from_residual-in_err-end.result c.from_residual-in_err-end.ensures _ _ c.in_err-end.ensures.reads
 
 pub returns-in_err-session-clause-comes : goal.returns-in_err-session-clause-comes
-returns-in_err-session-clause-comes g c = λ story certificate accepted unsaved.
+returns-in_err-session-clause-comes g c =
     let before = g.W.Sink.contents c.args.writer.now in
-    let begun = given (g.R.Source.remaining c.args.reader.now) c.args.seed (told g.S.SaveStore.kept g.S.SaveStore.failures c.args.store.now) in
-    handed_on story certificate c.args.options begun before before c.from_residual.result _ c.from_residual.ensures (inl (refl, unopened story certificate c.args.options begun before c.args.accepted.now accepted))
+    let begun = given (g.R.Source.remaining c.args.reader.now) c.args.seed (told g.S.SaveStore.kept g.S.SaveStore.failures c.args.store.now []) in (
+      [],
+      λ story certificate accepted unsaved. handed_on story certificate c.args.options begun [] before before c.from_residual.result _ c.from_residual.ensures (inl (refl, refl, unopened story certificate c.args.options begun [] before c.args.accepted.now accepted)),
+      g.met.S.SaveStore.itself _,
+    )
 
 pub returns-clause-comes : goal.returns-clause-comes
-returns-clause-comes g c = λ story certificate accepted unsaved.
+returns-clause-comes g c =
     let known = c.in_ok-end.ensures in
     let input = g.R.Source.remaining c.args.reader.now in
-    let store = told g.S.SaveStore.kept g.S.SaveStore.failures c.args.store.now in
+    let store = told g.S.SaveStore.kept g.S.SaveStore.failures c.args.store.now [] in
     let before = g.W.Sink.contents c.args.writer.now in
     let now = g.W.Sink.contents c.play_story.new.writer in
-    with_words (λ w. PlayComesTo story certificate c.args.options w before now (Played c.in_ok-end.end)) input store c.new.result _ c.new.ensures
-    (played story certificate c.args.options (world input (Some (words_from c.new.result)) store) before c.args.accepted.now accepted _ c.in_ok-session.ensures now _ _ _ unsaved c.in_ok-end.end known.comes known.no_fault)
+    let came = known.comes in (
+      came.0,
+      λ story certificate accepted unsaved. with_words (λ w. PlayComesTo story certificate c.args.options w came.0 before now (Played c.in_ok-end.end)) input store c.new.result _ c.new.ensures
+          (played story certificate c.args.options (world input (Some (words_from c.new.result)) store) came.0 before c.args.accepted.now accepted _ c.in_ok-session.ensures now _ _ _ unsaved refl c.in_ok-end.end came.1 known.no_fault),
+      came.2,
+    )

@@ -1,4 +1,4 @@
-use Rattle.std.proofs.Common.{refl, rules}
+use Rattle.std.proofs.Common.{[], ◌++◌, refl, rules}
 use Rattle.zplayer.specs.Lines.{unused}
 use Rattle.zplayer.specs.World.{told, world}
 use Rattle.zplayer.proofs.Stages.{given_to_come, handed_on, starts, stood, supplied, supply_broke, turn_broke, turn_made}
@@ -7,11 +7,10 @@ use Rattle.zplayer.proofs.player.play_turns.Goals as goal
 pub turns-init : goal.turns-init
 turns-init g c = record {
   play = g.met.M.Machine.itself _;
-  so_far = starts _ _ _ _ _ _ _ _ _ _ c.new-lines.ensures;
+  so_far = ([], starts _ _ _ _ _ _ _ _ _ _ c.new-lines.ensures, g.met.S.SaveStore.itself _);
   ended = search rules;
   unread = refl;
   quiet = refl;
-  spared = g.met.S.SaveStore.itself _;
 }
 
 pub turns-preserved : goal.turns-preserved
@@ -20,11 +19,10 @@ turns-preserved g c =
     let same = g.met.M.Machine.same_setting _ _ so_far.play in
     record {
       play = g.met.M.Machine.through _ _ _ so_far.play c.in_ok-stop.ensures.play;
-      so_far = turn_made _ _ g.M.Machine.Wants _ _ _ _ _ _ _ so_far.so_far _ same _ _ _ c.in_ok-stop.ensures.ok;
+      so_far = (so_far.so_far.0, turn_made _ _ g.M.Machine.Wants _ _ _ _ _ _ _ so_far.so_far.1 _ same _ _ _ c.in_ok-stop.ensures.ok, so_far.so_far.2);
       ended = so_far.ended;
       unread = so_far.unread;
       quiet = search rules;
-      spared = so_far.spared;
     }
 
 pub turns-preserved-else-not-branch : goal.turns-preserved-else-not-branch
@@ -34,14 +32,14 @@ turns-preserved-else-not-branch g c =
     let turned = g.met.M.Machine.through _ _ _ so_far.play c.in_ok-stop.ensures.play in
     let now = g.met.M.Machine.same_setting _ _ turned in
     let takes = g.met.M.Machine.same_takes _ _ turned in
-    let made = turn_made _ _ g.M.Machine.Wants _ _ _ _ _ _ _ so_far.so_far _ same _ _ _ c.in_ok-stop.ensures.ok in
+    let made = turn_made _ _ g.M.Machine.Wants _ _ _ _ _ _ _ so_far.so_far.1 _ same _ _ _ c.in_ok-stop.ensures.ok in
+    let had = rw c.if-not-branch.false at c.in_ok-supply.ensures.supplied in
     record {
       play = g.met.M.Machine.through _ _ _ turned c.in_ok-supply.ensures.play;
-      so_far = supplied _ _ g.M.Machine.Wants _ _ _ _ _ _ _ _ _ made _ now _ takes _ _ c.in_ok-supply.ensures.kept _ (rw c.if-not-branch.false at c.in_ok-supply.ensures.supplied);
+      so_far = (had.0 ++ so_far.so_far.0, supplied _ _ g.M.Machine.Wants _ _ _ _ _ _ _ _ _ made _ now _ takes _ _ c.in_ok-supply.ensures.kept _ (had.2 so_far.so_far.0), g.met.S.SaveStore.through _ _ _ _ _ so_far.so_far.2 had.1);
       ended = c.in_ok-supply.ensures.reads.ended;
       unread = search rules;
       quiet = search rules;
-      spared = g.met.S.SaveStore.through _ _ _ so_far.spared c.in_ok-supply.ensures.spared;
     }
 
 pub returns-in_err-stop-clause-comes : goal.returns-in_err-stop-clause-comes
@@ -49,9 +47,13 @@ returns-in_err-stop-clause-comes g c =
     let so_far = c.turns.invariant in
     let same = g.met.M.Machine.same_setting _ _ so_far.play in
     let e = c.in_err-stop.ensures in (
-      c.turn.new.left,
-      unused c.turns.lines (g.R.Source.remaining c.turns.reader),
-      handed_on _ _ _ _ c.from_residual.ensures (turn_broke _ _ g.M.Machine.Wants _ _ _ _ _ _ _ so_far.so_far _ same _ _ _ _ _ refl e.no_read e.finished e.wanted e.in_part),
+      so_far.so_far.0,
+      (
+        c.turn.new.left,
+        unused c.turns.lines (g.R.Source.remaining c.turns.reader),
+        handed_on _ _ _ _ c.from_residual.ensures (turn_broke _ _ g.M.Machine.Wants _ _ _ _ _ _ _ so_far.so_far.1 _ same _ _ _ _ _ refl e.no_read e.finished e.wanted e.in_part),
+      ),
+      so_far.so_far.2,
     )
 
 pub returns-in_err-supply-clause-comes : goal.returns-in_err-supply-clause-comes
@@ -61,11 +63,16 @@ returns-in_err-supply-clause-comes g c =
     let turned = g.met.M.Machine.through _ _ _ so_far.play c.in_ok-stop.ensures.play in
     let now = g.met.M.Machine.same_setting _ _ turned in
     let takes = g.met.M.Machine.same_takes _ _ turned in
-    let made = turn_made _ _ g.M.Machine.Wants _ _ _ _ _ _ _ so_far.so_far _ same _ _ _ c.in_ok-stop.ensures.ok in
-    let e = c.in_err-supply.ensures in (
-      c.turn.new.left,
-      unused c.turns.lines (g.R.Source.remaining c.turns.reader),
-      handed_on _ _ _ _ c.from_residual-in_err-supply.ensures (supply_broke _ _ g.M.Machine.Wants _ _ _ _ _ _ _ _ _ made _ now _ takes _ _ e.kept _ _ _ _ refl e.same e.at_line e.wanted),
+    let made = turn_made _ _ g.M.Machine.Wants _ _ _ _ _ _ _ so_far.so_far.1 _ same _ _ _ c.in_ok-stop.ensures.ok in
+    let e = c.in_err-supply.ensures in
+    let r = so_far.so_far.0 in (
+      r,
+      (
+        c.turn.new.left,
+        unused c.turns.lines (g.R.Source.remaining c.turns.reader),
+        handed_on _ _ _ _ c.from_residual-in_err-supply.ensures (supply_broke _ _ g.M.Machine.Wants _ _ _ _ _ _ _ _ _ made _ now _ takes _ _ e.kept _ _ _ _ refl (e.same.0, e.same.1, e.same.3 r) e.at_line e.wanted),
+      ),
+      g.met.S.SaveStore.through _ _ _ _ _ so_far.so_far.2 e.same.2,
     )
 
 pub returns-then-not-branch-clause-comes : goal.returns-then-not-branch-clause-comes
@@ -75,13 +82,19 @@ returns-then-not-branch-clause-comes g c =
     let turned = g.met.M.Machine.through _ _ _ so_far.play c.in_ok-stop.ensures.play in
     let now = g.met.M.Machine.same_setting _ _ turned in
     let takes = g.met.M.Machine.same_takes _ _ turned in
-    let made = turn_made _ _ g.M.Machine.Wants _ _ _ _ _ _ _ so_far.so_far _ same _ _ _ c.in_ok-stop.ensures.ok in
-    let still = rw c.in-Some.is at c.in_ok-stop.ensures.stands in (
-      c.turn.new.left,
-      unused c.turns.lines (g.R.Source.remaining c.turns.reader),
-      rw c.from.ensures
-          (stood _ _ g.M.Machine.Wants _ _ _ _ _ _ _ _ _ made _ now _ takes _ _ c.in_ok-supply.ensures.kept _ _ c.in-Some.stop _ same still.0 still.1 (world (unused c.supply.new.lines (g.R.Source.remaining c.supply.new.reader)) (g.G.Words.coming c.supply.new.words) (told g.S.SaveStore.kept g.S.SaveStore.failures c.supply.new.store)) refl refl (rw c.if-not-branch.true at c.in_ok-supply.ensures.supplied)),
+    let made = turn_made _ _ g.M.Machine.Wants _ _ _ _ _ _ _ so_far.so_far.1 _ same _ _ _ c.in_ok-stop.ensures.ok in
+    let still = rw c.in-Some.is at c.in_ok-stop.ensures.stands in
+    let had = rw c.if-not-branch.true at c.in_ok-supply.ensures.supplied in
+    let r = had.0 ++ so_far.so_far.0 in (
+      r,
+      (
+        c.turn.new.left,
+        unused c.turns.lines (g.R.Source.remaining c.turns.reader),
+        rw c.from.ensures
+            (stood _ _ g.M.Machine.Wants _ _ _ _ _ _ _ _ _ made _ now _ takes _ _ c.in_ok-supply.ensures.kept _ _ c.in-Some.stop _ same still.0 still.1 (world (unused c.supply.new.lines (g.R.Source.remaining c.supply.new.reader)) (g.G.Words.coming c.supply.new.words) (told g.S.SaveStore.kept g.S.SaveStore.failures c.supply.new.store r)) refl refl (had.2 so_far.so_far.0)),
+      ),
+      g.met.S.SaveStore.through _ _ _ _ _ so_far.so_far.2 had.1,
     )
 
 pub turns-smaller-else-not-branch : goal.turns-smaller-else-not-branch
-turns-smaller-else-not-branch g c = given_to_come _ _ _ _ _ _ _ _ _ _ _ _ _ c.in_ok-stop.ensures.ok (rw c.if-not-branch.false at c.in_ok-supply.ensures.supplied)
+turns-smaller-else-not-branch g c = given_to_come _ _ _ _ _ _ _ _ _ _ _ _ _ c.in_ok-stop.ensures.ok ((rw c.if-not-branch.false at c.in_ok-supply.ensures.supplied).2 [])
