@@ -11,8 +11,8 @@ import sys
 import tempfile
 
 from program import Answer, Count, Program
-from samples import HELLO, QUIT, certificate, printed, story, with_objects
-from saves import SAVES, SAVES_LISTED
+from samples import HELLO, QUIT, certificate, changed, printed, story, with_objects
+from saves import SAVES, SAVES_LISTED, THAT_SAVE
 
 HERE = os.path.dirname(os.path.abspath(__file__))
 
@@ -76,6 +76,59 @@ def see_lines(devices, count):
             count.is_answer(f"{words} on {lines} lines", ample, Answer(0, b"hello" * 3, errors))
 
 
+def failing(devices, words, files, settings, typed, wanted):
+    """What a run comes to of which the first call of this kind, to this device, fails; and the calls that were made."""
+    _, calls = devices.run(words, files, settings, typed)
+    number = 1 + next(index for index, call in enumerate(calls) if call[:2] == wanted)
+    return devices.run(words, files, {**settings, "FAIL": number, "ERROR": errno.EIO}, typed)
+
+
+def see_prompt(devices, count):
+    """Has each call fail of a play that shows a status line and reads one line. What was shown is out before the line is read."""
+    made = with_objects(b"\xe4\x0f\x02\x80\x02\x90" + QUIT)
+    files = {"story": made, "certificate": certificate(made, [0x370, 0x376], ranges=[(0x280, 0x280), (0x290, 0x290)])}
+    shown = b"[ | Score: 0 | Moves: 0]\n"
+    for words in (["play", "--status", "story"], ["play", "--status", "story", "certificate"]):
+        for short in ({}, {"SHORT": 300}, {"SHORT": 1}):
+            if short != {"SHORT": 1}:
+                ample = see_each(devices, count, words, files, short, b"look,at\n")
+                count.is_answer(f"{words}, {short}", ample, Answer(0, shown, b""))
+            answer, calls = failing(devices, words, files, short, b"look,at\n", ("read", "0"))
+            count.is_answer(f"{words}, {short}, no line can be read", answer, Answer(4, shown, b"failed: read\n"))
+        # the last byte of what is shown is written, with a flush or without, before the first byte is read
+        kinds = [call[:2] for call in calls]
+        count.see(("write", "1") not in kinds[kinds.index(("read", "0")) :], f"{words}: the calls were {calls}")
+
+
+def see_writers(devices, count):
+    """A writer that takes two bytes and then fails, one that takes none, and one that takes a byte a call."""
+    made = story(HELLO + QUIT)
+    files = {"story": made, "certificate": certificate(made, [0x324, 0x329])}
+    for words in (["play", "story"], ["play", "story", "certificate"]):
+        _, calls = devices.run(words, files, {"SHORT": 2})
+        second = [index for index, call in enumerate(calls, 1) if call[:2] == ("write", "1")][1]
+        answer, _ = devices.run(words, files, {"SHORT": 2, "FAIL": second, "ERROR": errno.EIO})
+        count.is_answer(f"{words}, two bytes and no more", answer, Answer(4, b"he", b"failed: write\n"))
+        answer, calls = devices.run(words, files, {"NONE": 1})
+        count.is_answer(f"{words}, no byte", answer, Answer(4, b"", b"failed: write\n"))
+        count.see([call[:2] for call in calls].count(("write", "1")) == 1, f"{words}, no byte: the calls were {calls}")
+        answer, _ = devices.run(words, files, {"SHORT": 1})
+        count.is_answer(f"{words}, a byte a call", answer, Answer(0, b"hello", b""))
+
+
+def see_loose(devices, count):
+    """A store that says that it keeps each save, and gives another one of which a default of a property isn't that of the story. By the
+    certificate play doesn't go on from that; the machine that tests everything does, again and again."""
+    files = {"story": SAVES, "certificate": SAVES_LISTED, "kept": changed(THAT_SAVE, 586, 1)}
+    play = ["play", "--budget", "100", "--save", "kept"]
+    for words, wanted in ((["story"], Answer(0, b"", b"end: budget\n")), (["story", "certificate"], Answer(0, b"", b""))):
+        answer, calls = devices.run([*play, *words], files, {"STAY": 1})
+        count.is_answer(f"another save is kept, {words}", answer, wanted)
+        count.see([call[0] for call in calls].count("rename") == 1, f"another save is kept, {words}: the calls were {calls}")
+        answer, _ = devices.run(["play", "--save", ".", *words], files, {})
+        count.is_answer(f"neither saves nor restores, {words}", answer, Answer(0, b"", b""))
+
+
 def is_through(calls):
     """Whether what was written last to a file was seen to be on the disk, and only then was the file given its name."""
     kinds = [call[0] for call in calls if call[0] in ("write", "fsync", "rename") and call[1] == "3"]
@@ -128,6 +181,9 @@ def main():
             for words in (["--help"], ["--version"], ["play"], ["list"], ["explain", "I5"], ["explain", "I19"], ["check", "story", "story"]):
                 see_each(devices, count, words, files, settings)
         see_lines(devices, count)
+        see_prompt(devices, count)
+        see_writers(devices, count)
+        see_loose(devices, count)
         see_found(devices, count, made)
         see_saves(devices, count, ["story"])
         see_saves(devices, count, ["story", "certificate"])

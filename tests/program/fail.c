@@ -1,6 +1,7 @@
 /* Has one call of a device fail, or each write and read move one byte: a shim that is preloaded. FAIL is the number, counted from
    1, of the call of open, lseek, read or write that fails, alone; the calls after it go on. ERROR is its errno. Where SHORT is set,
-   a read or write moves at most so many bytes. The file that CALLS names gets a line for each call: its kind, its device (0 to 2
+   a read or write moves at most so many bytes; where NONE is, no write to the standard output takes a byte; where STAY is, a file
+   that gets another name is told so and keeps its own. The file that CALLS names gets a line for each call: its kind, its device (0 to 2
    for the standard streams, else 3), and `failed` or `done`. */
 #include <errno.h>
 #include <fcntl.h>
@@ -69,6 +70,8 @@ ssize_t read(int file, void *into, size_t count)
 
 ssize_t write(int file, const void *from, size_t count)
 {
+    if (file == 1 && getenv("NONE"))
+        count = 0;
     return fails("write", file) ? -1 : (ssize_t)syscall(SYS_write, file, from, cut(count));
 }
 
@@ -79,5 +82,7 @@ int fsync(int file)
 
 int rename(const char *from, const char *to)
 {
-    return fails("rename", 3) ? -1 : (int)syscall(SYS_renameat, AT_FDCWD, from, AT_FDCWD, to);
+    if (fails("rename", 3))
+        return -1;
+    return getenv("STAY") ? 0 : (int)syscall(SYS_renameat, AT_FDCWD, from, AT_FDCWD, to);
 }

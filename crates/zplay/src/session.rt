@@ -204,9 +204,22 @@ impl<'a, V: Spelled> Session<'a, V> {
         requires { awaited (setting self.now) self.now.state ≡ Some ASave }
         ensures { IfOk result (λ save. save.items ≡ save_text (origin_of self.now.accepted.story) (saved_of self.now.accepted.story self.now.state)) }
     {
+        write(alloc, &self.parts())
+    }
+
+    /// What a save of the state would tell, whatever the session stands at: memory, the frames and the place.
+    pub fn parts(&self) -> SavedBoard<'_>
+        ensures { result ≡ record { story = self.now.accepted.story; state = self.now.state } }
+    {
         saves_are_states();
-        let parts = SavedBoard::new(self.accepted.story(), self.accepted.listing(), self.board());
-        write(alloc, &parts)
+        SavedBoard::new(self.accepted.story(), self.accepted.listing(), self.board())
+    }
+
+    /// Where random numbers come from.
+    pub fn random(&self) -> RandomMode
+        ensures { result ≡ self.now.state.random }
+    {
+        self.board().outside.random
     }
 
     /// Goes on from the bytes of a save, where one is awaited (Z 15 restore). All of the save is judged before any of it is taken over,

@@ -36,6 +36,10 @@ use zstate::Stop;
 /// ended, all that was given out before that turn was written, and a beginning of what the turn gave out, and the writer isn't called again;
 /// after P1 and P3 all of it was. After P1 the machine awaits a line, and after P3 the next step gives something out or makes a stack longer, or it is a
 /// save or a restore. At any other end than P2 what was written is flushed.
+///
+/// A later call goes on from there, with the next words and saves. What a call read behind the last line that it used, at most 255 bytes,
+/// is lost when the call ends; so is the beginning of a line whose reading fails. A reader that gives no more than a line at once, as a
+/// terminal does, loses no more than that.
 pub fn play_checked<R: Source, W: Sink, S: SaveStore, G: Words>(
     alloc: Global,
     machine: &mut CheckedMachine,
