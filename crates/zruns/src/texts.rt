@@ -13,6 +13,9 @@ use zpairs::{Marked, PLACES};
 use zstory::Story;
 use zword::Addressing;
 
+/// The packed address of the first place behind all byte addresses.
+const BEHIND_ADDRESSES: u16 = 32_768;
+
 /// The texts of a story that no play changes, where the bytes in some ranges stay as they are. For how many words from each on such a
 /// text begins at the place that the word names is kept, so that a question about many goes from the last of them on.
 #[derive(Drop)]
@@ -76,15 +79,27 @@ impl<'a> Texts<'a> {
         true
     }
 
-    /// Whether such a text begins at a byte address.
-    pub(crate) fn is_fixed(&self, address: u16) -> bool
-        ensures { IsTrue result ↔ HasFixedText self.now.story (frozen_by self.now.ranges) address }
+    /// Whether such a text begins at a place, which is a byte address or the first behind them.
+    fn is_fixed(&self, place: usize) -> bool
+        requires { place ≤ 65536 }
+        ensures { IsTrue result ↔ HasFixedText self.now.story (frozen_by self.now.ranges) place }
     {
-        self.run(Addressing::Byte, address) > 0
+        if place < PLACES {
+            self.begins_at(Addressing::Byte, place as u16)
+        } else {
+            self.begins_at(Addressing::Packed, BEHIND_ADDRESSES)
+        }
+    }
+
+    /// Whether such a text begins at the place that a word names.
+    fn begins_at(&self, addressing: Addressing, word: u16) -> bool
+        ensures { IsTrue result ↔ HasFixedText self.now.story (frozen_by self.now.ranges) (place_of addressing word) }
+    {
+        self.run(addressing, word) > 0
     }
 
     /// Whether the short name of an object is empty, or such a text.
-    #[tactic(auto, using(crate::proofs::Named::entry_there))]
+    #[tactic(auto, using(crate::proofs::Named::entry_there, crate::proofs::Named::name_near))]
     pub(crate) fn is_name_fixed(&self, object: u8) -> bool
         requires least { 1 ≤ object }
         requires most { object ≤ self.now.story.objects }
@@ -92,7 +107,7 @@ impl<'a> Texts<'a> {
     {
         match short_name(self.story.memory(), object) {
             ShortName::Empty => true,
-            ShortName::At(address) => self.is_fixed(address),
+            ShortName::At(place) => self.is_fixed(place),
             ShortName::Outside => false,
         }
     }
