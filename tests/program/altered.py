@@ -1,19 +1,98 @@
 #!/usr/bin/env python3
-"""Every byte of the sample and of its certificate altered, and every beginning of both: each is refused by name, or is accepted
-and then plays by its certificate as it does on the checked machine.
+"""Every byte of two stories and of their certificates altered, and every beginning of both: each is refused by name, or is accepted
+and then plays by its certificate as it does on the checked machine. Of what is accepted both machines make 1,000 steps side by side:
+behind each step they gave out the same and are in the same state, up to the same pause.
 
-    altered.py PROGRAM
+    altered.py PROGRAM CALLS
+
+CALLS is the program that makes the libraries' calls one by one.
 """
 import re
 import sys
 
-from program import Count, Program, side_by_side
+from program import Answer, Count, Program, side_by_side
 from calls import PRINT_FIRST, RET_POPPED, call
-from samples import HELLO, NOP, QUIT, certificate, interval, story
+from samples import CODE, HELLO, NOP, QUIT, certificate, changed, interval, story
 
 REFUSED = re.compile(rb"refused: [LKSI][0-9]{1,2}( at [0-9a-f]{5})?\n")
 PLAYED = re.compile(rb"(end: budget\n)?")
 FAULT = re.compile(rb"fault: F[0-9]{1,2} at (-?[0-9]+|[0-9a-f]{5})\n")
+ALIKE = re.compile(rb"alike: [A-Z][A-Za-z]+ at [0-9]+, memory [0-9]+\n")
+
+# It prints a text and quits.
+PLAIN = story(HELLO + QUIT)
+PLAIN_LISTED = certificate(PLAIN, [0x324, 0x329])
+
+# Its main code calls a routine of one local, which gives what it pushes.
+CALLING = story(HELLO + call(0x334, 16, 3) + PRINT_FIRST + QUIT + b"\0" + b"\x01\0\0" + b"\xe8\xbf\x01" + NOP + RET_POPPED)
+INSIDE, SLOT = (1, interval(1, 4)), interval(0, 5)
+CALLING_LISTED = certificate(
+    CALLING, [0x324, 0x329, 0x32F, 0x332, 0x337, 0x33A, 0x33B], stacks={0x33A: SLOT, 0x33B: SLOT}, ranges=[(0x230, 0x231), (0x240, 0x240)],
+    routines=[(0x334, 1, (0, 5))], inside=dict.fromkeys([0x337, 0x33A, 0x33B], INSIDE), own={16: (0, 5)},
+)
+
+# ---- single bytes of the plain story and of its certificate: place, what is there then, what is said of both, and how the story plays
+# on the machine that tests everything, where that is worked out
+
+HELLO_IS_PRINTED, NOTHING = Answer(0, b"hello", b""), Answer(0, b"", b"")
+
+
+def fault(code):
+    return Answer(3, b"", f"fault: {code} at 00324\n".encode())
+
+
+STORY_BYTES = [
+    ("globals from 63 on", 0x0D, 0x3F, "L6", None),
+    ("static memory from behind the story on", 0x0E, 0x03, "L5", None),
+    ("entries of three bytes", 0x321, 0x03, "L9", None),
+    ("65,280 entries", 0x322, 0xFF, "L8", None),
+    ("play that begins at quit", 7, 0x29, None, NOTHING),
+    ("a text that is returned from", 0x324, 0xB3, "I13 at 00324", fault("F15")),
+    ("a text without an end", 0x327, 0x46, "I1 at 00324", fault("F2")),
+    ("no quit", 0x329, 0xBB, "I4 at 00329", None),
+]
+CERTIFICATE_BYTES = [
+    ("another version", 4, [9], "K2"),
+    ("an address twice", 990, [0x29], "K5"),
+    ("another first address", 990, [0x25], "S2"),
+    ("one instruction", 986, [1], "K4"),
+    ("three instructions", 986, [3], "K3"),
+    ("131,073 instructions", 983, [0, 2, 0, 1], "K7"),
+    ("a routine that isn't there", 992, [1], "K7"),
+    ("a height of 1", 993, [1], "K3"),
+]
+
+
+def see_refused(program, count, name, files, code):
+    for words in (["check"], ["play"]):
+        answer = program.run([*words, "story", "certificate"], files)
+        count.is_answer(f"{name}, {words}", answer, Answer(1, b"", f"refused: {code}\n".encode()))
+
+
+def see_bytes(program, count):
+    for name, at, new, code, played in STORY_BYTES:
+        made = changed(PLAIN, at, new)
+        files = {"story": made, "certificate": PLAIN_LISTED}
+        if code is None:
+            count.is_answer(name, program.run(["check", "story", "certificate"], files), Answer(0, b"accepted\n", b""))
+            count.is_answer(name, program.run(["play", "story", "certificate"], files), played)
+        else:
+            see_refused(program, count, name, files, code)
+        if played is not None:
+            count.is_answer(f"{name}, checked", program.run(["play", "story"], files), played)
+    for name, at, new, code in CERTIFICATE_BYTES:
+        see_refused(program, count, name, {"story": PLAIN, "certificate": changed(PLAIN_LISTED, at, *new)}, code)
+
+
+def see_lengths(program, count):
+    """A story of other lengths, and each beginning of a certificate."""
+    cases = [(f"{length} bytes of a story", {"story": PLAIN[:length], "certificate": PLAIN_LISTED}, "L1" if length < 64 else "L4") for length in range(len(PLAIN))]
+    cases += [(f"{length} bytes of a certificate", {"story": PLAIN, "certificate": PLAIN_LISTED[:length]}, "K3") for length in range(len(PLAIN_LISTED))]
+    for (name, _, code), answer in zip(cases, side_by_side(lambda case: program.run(["check", "story", "certificate"], case[1]), cases)):
+        count.is_answer(name, answer, Answer(1, b"", f"refused: {code}\n".encode()))
+    for words in (["play", "story"], ["play", "story", "certificate"]):
+        longer = {"story": PLAIN + b"\0", "certificate": PLAIN_LISTED}
+        count.is_answer(f"a byte more, {words}", program.run(words, longer), HELLO_IS_PRINTED)
 
 
 def changes(file):
@@ -25,35 +104,48 @@ def changes(file):
         yield f"the first {length} bytes", file[:length]
 
 
-def what_is_wrong(program, files):
-    """What is wrong with the answers for these files, if anything."""
-    accepted = program.run(["check", "story", "certificate"], files)
-    plain = program.run(["play", "--budget", "1000", "story"], files)
-    by_certificate = program.run(["play", "--budget", "1000", "story", "certificate"], files)
-    if accepted.status == 0:
-        if accepted.output != b"accepted\n" or plain != by_certificate or plain.status != 0 or not PLAYED.fullmatch(plain.errors):
-            return f"{accepted}; played: {plain}; by the certificate: {by_certificate}"
-        return None
-    if accepted.status != 1 or accepted.output or not REFUSED.fullmatch(accepted.errors) or by_certificate != accepted:
-        return f"{accepted}; by the certificate: {by_certificate}"
-    named = {0: PLAYED, 1: REFUSED, 3: FAULT}.get(plain.status)
-    return None if named and named.fullmatch(plain.errors) else f"played: {plain}"
+class Altered:
+    """The two programs, and what the story plays like that isn't altered."""
+
+    def __init__(self, program, calls, story):
+        self.program, self.calls = program, calls
+        self.story, self.plain = story, self.plays({"story": story})
+
+    def plays(self, files):
+        return self.program.run(["play", "--budget", "1000", "story"], files)
+
+    def what_is_wrong(self, files):
+        """What is wrong with the answers for these files, if anything."""
+        accepted = self.program.run(["check", "story", "certificate"], files)
+        plain = self.plain if files["story"] == self.story else self.plays(files)
+        by_certificate = self.program.run(["play", "--budget", "1000", "story", "certificate"], files)
+        if accepted.status == 0:
+            both = self.calls.run(["story", "certificate"], files)
+            well = accepted.output == b"accepted\n" and plain == by_certificate and plain.status == 0 and PLAYED.fullmatch(plain.errors)
+            well = well and both.status == 0 and ALIKE.fullmatch(both.output)
+            return None if well else f"{accepted}; played: {plain}; by the certificate: {by_certificate}; side by side: {both}"
+        if accepted.status != 1 or accepted.output or not REFUSED.fullmatch(accepted.errors) or by_certificate != accepted:
+            return f"{accepted}; by the certificate: {by_certificate}"
+        named = {0: PLAYED, 1: REFUSED, 3: FAULT}.get(plain.status)
+        return None if named and named.fullmatch(plain.errors) else f"played: {plain}"
+
+
+def see_each(program, calls, count, name, made, listed):
+    altered = Altered(program, calls, made)
+    cases = [(f"{name}, story, {what}", {"story": file, "certificate": listed}) for what, file in changes(made)]
+    cases += [(f"{name}, certificate, {what}", {"story": made, "certificate": file}) for what, file in changes(listed)]
+    for (what, _), wrong in zip(cases, side_by_side(lambda case: altered.what_is_wrong(case[1]), cases)):
+        count.see(not wrong, f"{what}: {wrong}")
 
 
 def main():
-    program = Program(sys.argv[1])
+    program, calls = Program(sys.argv[1]), Program(sys.argv[2])
     count = Count("altered")
-    # the main code calls a routine of one local, which gives what it pushes
-    made = story(HELLO + call(0x334, 16, 3) + PRINT_FIRST + QUIT + b"\0" + b"\x01\0\0" + b"\xe8\xbf\x01" + NOP + RET_POPPED)
-    inside, slot = (1, interval(1, 4)), interval(0, 5)
-    listed = certificate(
-        made, [0x324, 0x329, 0x32F, 0x332, 0x337, 0x33A, 0x33B], stacks={0x33A: slot, 0x33B: slot}, ranges=[(0x230, 0x231), (0x240, 0x240)],
-        routines=[(0x334, 1, (0, 5))], inside=dict.fromkeys([0x337, 0x33A, 0x33B], inside), own={16: (0, 5)},
-    )
-    cases = [(f"story, {name}", {"story": file, "certificate": listed}) for name, file in changes(made)]
-    cases += [(f"certificate, {name}", {"story": made, "certificate": file}) for name, file in changes(listed)]
-    for (name, _), wrong in zip(cases, side_by_side(lambda case: what_is_wrong(program, case[1]), cases)):
-        count.see(not wrong, f"{name}: {wrong}")
+    assert (len(PLAIN), len(PLAIN_LISTED), PLAIN[0x1C:0x1E].hex(), PLAIN[CODE:].hex()) == (810, 1001, "3a7a", "b23551c685ba")
+    see_bytes(program, count)
+    see_lengths(program, count)
+    see_each(program, calls, count, "plain", PLAIN, PLAIN_LISTED)
+    see_each(program, calls, count, "calling", CALLING, CALLING_LISTED)
     count.end()
 
 

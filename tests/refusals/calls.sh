@@ -2,44 +2,75 @@
 # Runs the program that makes the public calls one by one, with its Nth allocation refused, for N = 1, 2, .. until a run
 # meets no refusal. But for the lines that begin with `refused`, a run has to print what the undisturbed one does: a refused
 # call changed nothing, and both writings together are the undisturbed one. Where such a line says where the machine stands,
-# with its memory and what it gave out, the undisturbed run stood there too.
+# with its memory and what it gave out, the undisturbed run stood there too. What the undisturbed run prints has lines that
+# were worked out by hand.
 # Usage: calls.sh PROGRAM FOLDER, which has the story and the certificate.
 set -u
-. "$(dirname "$0")/prepare.sh" "$@"
-timeout 20 "$program" >"$work/ample" </dev/null || exit 1
+here=$(cd "$(dirname "$0")" && pwd)
+. "$here/prepare.sh" "$@"
+python3 "$here/stories.py" "$work/stories" || exit 1
 : >"$work/kinds"
-# Where the undisturbed run stood, without the word for what was done there.
-grep ' at ' "$work/ample" | sed 's/^[a-z]* //' >"$work/places"
 
-# Whether each place that a refused call names is one of the undisturbed run.
+fails() {
+    failed=$((failed + 1))
+    echo "calls: $*"
+}
+
+# Whether the lines of a file are among those of another, in their order.
+are_in_order() {
+    python3 -c '
+import sys
+wanted, told = (open(name).read().splitlines() for name in sys.argv[1:])
+left = iter(told)
+sys.exit(not all(line in left for line in wanted))
+' "$1" "$2"
+}
+
+# Whether each place that a refused call names is one of the undisturbed run, and each of its other lines is one of that.
 are_places_known() {
     grep '^refused: .* at ' "$1" | sed 's/^refused: [a-z]* //' | while IFS= read -r place; do
         grep -qxF -- "$place" "$work/places" || exit 1
     done
 }
 
-n=0
-while [ "$n" -lt 5000 ]; do
-    n=$((n + 1))
-    rm -f "$work/refused"
-    timeout 20 env "LD_PRELOAD=$work/refuse.so" "REFUSE=$n" "REFUSED=$work/refused" "$program" >"$work/out" </dev/null
-    status=$?
-    if [ "$status" -eq 0 ] && grep -v '^refused' "$work/out" | cmp -s - "$work/ample" && are_places_known "$work/out"; then
+# The story of the current folder, for each N.
+refuse_each() {
+    timeout 20 "$program" >"$work/ample" </dev/null || exit 1
+    if [ ! -e lines ] || are_in_order lines "$work/ample"; then
         passed=$((passed + 1))
     else
-        failed=$((failed + 1))
-        echo "calls: with allocation $n refused: status $status, $(grep '^refused' "$work/out")"
+        fails "$1: the undisturbed run printed $(cat "$work/ample")"
     fi
-    grep -oE '^refused: [a-z]+' "$work/out" >>"$work/kinds"
-    [ -e "$work/refused" ] || break
+    # Where the undisturbed run stood, without the word for what was done there.
+    grep ' at ' "$work/ample" | sed 's/^[a-z]* //' >"$work/places"
+    local n=0
+    while [ "$n" -lt 5000 ]; do
+        n=$((n + 1))
+        rm -f "$work/refused"
+        timeout 20 env "LD_PRELOAD=$work/refuse.so" "REFUSE=$n" "REFUSED=$work/refused" "$program" >"$work/out" </dev/null
+        local status=$?
+        if [ "$status" -eq 0 ] && grep -v '^refused' "$work/out" | cmp -s - "$work/ample" && are_places_known "$work/out"; then
+            passed=$((passed + 1))
+        else
+            fails "$1: with allocation $n refused: status $status, $(grep '^refused' "$work/out")"
+        fi
+        grep -oE '^refused: [a-z]+' "$work/out" >>"$work/kinds"
+        [ -e "$work/refused" ] || break
+    done
+    echo "calls: $1: $n runs"
+}
+
+refuse_each repeated
+for folder in "$work"/stories/*; do
+    cd "$folder" || exit 1
+    refuse_each "$(basename "$folder")"
 done
 # Each call that takes memory was refused in some run.
-if [ "$(sort -u "$work/kinds" | tr '\n' ' ')" = "$(printf 'refused: %s\n' check file load new play read render run start step | tr '\n' ' ')" ]; then
+wanted='check decode file find list load new parts play read render restore run save start step words write'
+if [ "$(sort -u "$work/kinds" | tr '\n' ' ')" = "$(printf 'refused: %s\n' $wanted | tr '\n' ' ')" ]; then
     passed=$((passed + 1))
 else
-    failed=$((failed + 1))
-    echo "calls: refused were $(sort -u "$work/kinds" | tr '\n' ' ')"
+    fails "refused were $(sort -u "$work/kinds" | tr '\n' ' ')"
 fi
-echo "calls: $n runs"
 echo "calls: $passed passed, $failed failed"
 [ "$failed" -eq 0 ]

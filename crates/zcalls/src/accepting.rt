@@ -6,10 +6,10 @@ use zcert::{CertError, Certificate};
 use zcheck::{Accepted, Refusal, check};
 use zstory::{LoadError, Story};
 
-/// Accepts the story of the current folder with its certificate.
-pub fn accept(rt: &HostRuntime) -> io::Result<Accepted> {
-    let story = file(rt, "story.z3")?;
-    let certificate = file(rt, "story.cert")?;
+/// Accepts the story of a file with the certificate of another.
+pub fn accept(rt: &HostRuntime, story: &str, certificate: &str) -> io::Result<Accepted> {
+    let story = file(rt, story)?;
+    let certificate = file(rt, certificate)?;
     checked(rt, &story, &certificate)
 }
 
@@ -36,7 +36,7 @@ fn attempt(
 }
 
 /// The value of a call whose answer is to be one.
-fn wanted<T: Drop, E: Drop>(answer: Result<T, E>) -> io::Result<T> {
+pub fn wanted<T: Drop, E: Drop>(answer: Result<T, E>) -> io::Result<T> {
     match answer {
         Ok(value) => Ok(value),
         Err(_) => Err(io::Error::from(ErrorKind::InvalidData)),

@@ -1,10 +1,11 @@
 //! What both machines do, under the same names.
 
-use crate::outside::{Nothing, Page};
+use crate::outside::{Page, World};
 use std::alloc::{AllocError, Global};
-use zfault::{FromRead, Items};
+use zfault::{Event, Items, Need};
 use zplay::Session;
-use zplayer::{End, Options, PlayError, Seeded, play_checked, play_story};
+use zplayer::{End, Options, PlayError, play_checked, play_story};
+use zquetzal::SaveError;
 use zref::CheckedMachine;
 use zstate::Stop;
 
@@ -23,7 +24,22 @@ pub trait Machine {
     fn run_down(&mut self, left: &mut u32, items: &mut Items) -> Result<Stop, AllocError>;
 
     /// Makes at most so many steps, and writes what they give out.
-    fn play(&mut self, alloc: Global, page: &mut Page, budget: u32) -> Result<End, PlayError>;
+    fn play(
+        &mut self,
+        alloc: Global,
+        world: &mut World,
+        page: &mut Page,
+        budget: u32,
+    ) -> Result<End, PlayError>;
+
+    /// The bytes of a save, where it awaits whether one was kept.
+    fn save(&self, alloc: Global) -> Result<Option<Vec<u8>>, AllocError>;
+
+    /// Tells it that a save was kept, where it awaits that.
+    fn tell_kept(&mut self);
+
+    /// Goes on from a save, where it awaits one.
+    fn restore(&mut self, alloc: Global, save: &[u8]) -> Option<Result<(), SaveError>>;
 }
 
 /// Playing with this budget.
@@ -51,18 +67,42 @@ impl<'a> Machine for Session<'a> {
         Ok(Stop::Paused(Session::run_down(self, left, items)?))
     }
 
-    fn play(&mut self, alloc: Global, page: &mut Page, budget: u32) -> Result<End, PlayError> {
-        let mut reader = FromRead::new(b"".as_slice());
-        let (mut store, mut words) = (Nothing, Seeded::new(1));
+    fn play(
+        &mut self,
+        alloc: Global,
+        world: &mut World,
+        page: &mut Page,
+        budget: u32,
+    ) -> Result<End, PlayError> {
         play_story(
             alloc,
             self,
-            &mut reader,
+            &mut world.reader,
             page,
-            &mut store,
-            &mut words,
+            &mut world.store,
+            &mut world.words,
             options(budget),
         )
+    }
+
+    fn save(&self, alloc: Global) -> Result<Option<Vec<u8>>, AllocError> {
+        match self.awaits() {
+            Some(Need::Saved) => Ok(Some(self.save_bytes(alloc)?)),
+            _ => Ok(None),
+        }
+    }
+
+    fn tell_kept(&mut self) {
+        if let Some(Need::Saved) = self.awaits() {
+            self.give(Event::Saved(true));
+        }
+    }
+
+    fn restore(&mut self, _alloc: Global, save: &[u8]) -> Option<Result<(), SaveError>> {
+        match self.awaits() {
+            Some(Need::Restore) => Some(Session::restore(self, save)),
+            _ => None,
+        }
     }
 }
 
@@ -83,17 +123,41 @@ impl<'a> Machine for CheckedMachine<'a> {
         CheckedMachine::run_down(self, left, items)
     }
 
-    fn play(&mut self, alloc: Global, page: &mut Page, budget: u32) -> Result<End, PlayError> {
-        let mut reader = FromRead::new(b"".as_slice());
-        let (mut store, mut words) = (Nothing, Seeded::new(1));
+    fn play(
+        &mut self,
+        alloc: Global,
+        world: &mut World,
+        page: &mut Page,
+        budget: u32,
+    ) -> Result<End, PlayError> {
         play_checked(
             alloc,
             self,
-            &mut reader,
+            &mut world.reader,
             page,
-            &mut store,
-            &mut words,
+            &mut world.store,
+            &mut world.words,
             options(budget),
         )
+    }
+
+    fn save(&self, alloc: Global) -> Result<Option<Vec<u8>>, AllocError> {
+        match self.awaits() {
+            Some(Need::Saved) => Ok(Some(self.save_bytes(alloc)?)),
+            _ => Ok(None),
+        }
+    }
+
+    fn tell_kept(&mut self) {
+        if let Some(Need::Saved) = self.awaits() {
+            self.give(Event::Saved(true));
+        }
+    }
+
+    fn restore(&mut self, alloc: Global, save: &[u8]) -> Option<Result<(), SaveError>> {
+        match self.awaits() {
+            Some(Need::Restore) => Some(CheckedMachine::restore(self, alloc, save)),
+            _ => None,
+        }
     }
 }

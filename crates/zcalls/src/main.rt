@@ -1,25 +1,66 @@
 //! Makes the public calls of the libraries one after another, and prints what each came to. A call that is refused memory is
 //! made once more. So a run of which one allocation is refused prints what an undisturbed run does, and one line more, which
 //! begins with `refused` and says where the refused call left its machine.
+//!
+//! With the names of a story, of its certificate and of saves as its words it compares both machines instead, step by step: from the
+//! opening, or from each save.
 #![tactic(auto)]
 
 mod accepting;
 mod machine;
 mod outside;
+mod pair;
 mod pieces;
+mod saving;
+mod single;
 
 use crate::accepting::accept;
-use crate::pieces::{Way, flush, go};
+use crate::pair::compare;
+use crate::pieces::{Way, go};
+use crate::saving::{save_and_restore, write_parts};
+use crate::single::call_each;
 use std::alloc::AllocError;
-use std::io;
+use std::{env, io};
 use zcheck::Accepted;
 use zplay::Session;
 use zref::{CheckedMachine, Scope};
 use zstory::Story;
 
+/// Each way of calling a machine.
+const WAYS: [Way; 7] = [
+    Way::Steps,
+    Way::Whole,
+    Way::Pieces,
+    Way::Play,
+    Way::Ahead,
+    Way::Blocked(0),
+    Way::Blocked(1),
+];
+
 fn main(rt: HostRuntime) -> io::Result<()> {
-    let accepted = accept(&rt)?;
+    let words = words_again(&rt)?;
+    if let [story, certificate, saves @ ..] = words.as_slice() {
+        return compare(&rt, &accept(&rt, story, certificate)?, saves);
+    }
+    let accepted = accept(&rt, "story.z3", "story.cert")?;
+    call_each(&rt, &accepted)?;
     on_both(&rt, &accepted)
+}
+
+/// The words behind the program's name, asked for once more where that is refused memory.
+fn words_again(rt: &HostRuntime) -> io::Result<Vec<String>> {
+    match words(rt) {
+        Err(_) => {
+            println!(rt; "refused: words")?;
+            words(rt)
+        }
+        words => words,
+    }
+}
+
+/// The words behind the program's name.
+fn words(rt: &HostRuntime) -> io::Result<Vec<String>> {
+    Ok(env::args(rt)?.skip(1).collect::<Vec<String>>(rt.alloc())?)
 }
 
 /// Plays the accepted story on a session, and on the checked machine under both scopes.
@@ -32,33 +73,22 @@ fn on_both(rt: &HostRuntime, accepted: &Accepted) -> io::Result<()> {
     on_checked(rt, accepted.story(), Scope::Only(accepted.listing()))
 }
 
-/// Plays the accepted story on a session for each way of calling it.
+/// Plays the accepted story on a session for each way of calling it, and saves it.
 fn on_session(rt: &HostRuntime, accepted: &Accepted) -> io::Result<()> {
     println!(rt; "session")?;
-    start_and_go(rt, accepted, Way::Steps)?;
-    start_and_go(rt, accepted, Way::Whole)?;
-    start_and_go(rt, accepted, Way::Pieces)?;
-    flush(rt, &mut started(rt, accepted)?)
+    write_parts(rt, &started(rt, accepted)?)?;
+    for way in WAYS {
+        go(rt, &mut started(rt, accepted)?, way)?;
+    }
+    save_and_restore(rt, &mut started(rt, accepted)?)
 }
 
 /// Plays the story on the checked machine in the same ways.
 fn on_checked(rt: &HostRuntime, story: &Story, scope: Scope<'_>) -> io::Result<()> {
-    make_and_go(rt, story, scope, Way::Steps)?;
-    make_and_go(rt, story, scope, Way::Whole)?;
-    make_and_go(rt, story, scope, Way::Pieces)?;
-    flush(rt, &mut made(rt, story, scope)?)
-}
-
-/// Plays on a session of its own.
-fn start_and_go(rt: &HostRuntime, accepted: &Accepted, way: Way) -> io::Result<()> {
-    let mut session = started(rt, accepted)?;
-    go(rt, &mut session, way)
-}
-
-/// Plays on a checked machine of its own.
-fn make_and_go(rt: &HostRuntime, story: &Story, scope: Scope<'_>, way: Way) -> io::Result<()> {
-    let mut machine = made(rt, story, scope)?;
-    go(rt, &mut machine, way)
+    for way in WAYS {
+        go(rt, &mut made(rt, story, scope)?, way)?;
+    }
+    save_and_restore(rt, &mut made(rt, story, scope)?)
 }
 
 /// A session at the story's opening.

@@ -1,14 +1,15 @@
 //! What a player is handed, with no memory taken.
 
-ghost use Rattle.std.specs.Prelude.{Some, zero, ⊤};
+ghost use Rattle.std.specs.Prelude.{Some, ⊤};
+ghost use Rattle.zfault.specs.Adapters.{read_failures};
 
 use arrayvec::ArrayVec;
-use zfault::{Failed, Items, Sink};
-use zplayer::SaveStore;
+use zfault::{Failed, FromRead, Items, Sink, Source};
+use zplayer::{SaveStore, Words};
 use zquetzal::SaveError;
 
 /// How many bytes a page has room for.
-const ROOM: usize = 256;
+pub const ROOM: usize = 256;
 
 /// What was written, or given out, so far.
 #[derive(Drop)]
@@ -16,7 +17,8 @@ pub struct Page {
     bytes: ArrayVec<u8, ROOM>,
     failures: u64,
     waits: bool,
-    is_blocked: bool,
+    /// How many flushes come before the one that fails.
+    flushes: u8,
 }
 
 impl Page {
@@ -26,14 +28,14 @@ impl Page {
             bytes: ArrayVec::new(),
             failures: 0,
             waits: false,
-            is_blocked: false,
+            flushes: u8::MAX,
         }
     }
 
-    /// A page that hands nothing on: each flush fails.
-    pub fn blocked() -> Page {
+    /// A page of which one flush fails, after so many that don't.
+    pub fn blocked_after(flushes: u8) -> Page {
         Page {
-            is_blocked: true,
+            flushes,
             ..Page::new()
         }
     }
@@ -70,7 +72,9 @@ impl Sink for Page {
     }
 
     fn flush(&mut self) -> Result<(), Failed> {
-        if self.is_blocked {
+        let left = self.flushes;
+        self.flushes = left.wrapping_sub(1);
+        if left == 0 {
             self.failures = self.failures.saturating_add(1);
             return Err(Failed);
         }
@@ -79,21 +83,84 @@ impl Sink for Page {
     }
 }
 
-/// A store that says of each save that it keeps it, and gives an empty one.
+/// What a player takes from outside, over all calls of a play.
 #[derive(Drop)]
-pub struct Nothing;
+pub struct World {
+    pub reader: Typed,
+    pub store: Shelf,
+    pub words: Rising,
+}
 
-impl SaveStore for Nothing {
-    ghost failures = { λ _. zero };
+impl World {
+    /// One whose reader gives at most so many bytes at once.
+    pub fn new(most: usize) -> World {
+        World {
+            reader: Typed {
+                lines: FromRead::new(LINES),
+                most,
+            },
+            store: Shelf {
+                save: ArrayVec::new(),
+                left: 2,
+                failures: 0,
+            },
+            words: Rising { next: 5 },
+        }
+    }
+}
+
+/// What is typed.
+const LINES: &[u8] = b"look,at\nlook,at\nlook,at\n";
+
+/// How many bytes a line of it has.
+pub const LINE: usize = 8;
+
+/// A reader of lines that gives at most so many bytes at once.
+#[derive(Drop)]
+pub struct Typed {
+    lines: FromRead<&'static [u8]>,
+    most: usize,
+}
+
+impl Source for Typed {
+    ghost failures = { λ typed. read_failures typed.lines };
+
+    fn read(&mut self, buffer: &mut [u8]) -> Result<usize, Failed> {
+        let room = buffer.len().min(self.most);
+        self.lines.read(&mut buffer[..room])
+    }
+}
+
+/// A store that keeps one save, and gives it so often.
+#[derive(Drop)]
+pub struct Shelf {
+    save: ArrayVec<u8, 700>,
+    left: u8,
+    failures: u64,
+}
+
+impl SaveStore for Shelf {
+    ghost failures = { λ shelf. shelf.failures };
 
     ghost Follows = { λ _ _ _. ⊤ };
 
-    fn put(&mut self, _save: &[u8]) -> bool {
-        true
+    fn put(&mut self, save: &[u8]) -> bool {
+        self.save.clear();
+        if self.save.try_extend_from_slice(save).is_ok() {
+            return true;
+        }
+        self.failures = self.failures.saturating_add(1);
+        false
     }
 
-    fn get(&mut self, _save: &mut Vec<u8>) -> bool {
-        true
+    fn get(&mut self, save: &mut Vec<u8>) -> bool {
+        save.clear();
+        if self.left > 0 && save.extend_from_slice(self.save.as_slice()).is_ok() {
+            self.left -= 1;
+            return true;
+        }
+        self.failures = self.failures.saturating_add(1);
+        false
     }
 
     fn refused(&mut self, _error: SaveError) {}
@@ -101,4 +168,18 @@ impl SaveStore for Nothing {
     ghost itself = { λ _. tt };
 
     ghost through = { λ _ _ _ _ _ _ _. tt };
+}
+
+/// Words that rise by one.
+#[derive(Drop)]
+pub struct Rising {
+    next: u16,
+}
+
+impl Words for Rising {
+    fn next(&mut self) -> u16 {
+        let word = self.next;
+        self.next = word.wrapping_add(1);
+        word
+    }
 }

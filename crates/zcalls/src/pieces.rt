@@ -2,7 +2,7 @@
 //! machine, and the next goes on from there.
 
 use crate::machine::Machine;
-use crate::outside::Page;
+use crate::outside::{LINE, Page, ROOM, World};
 use std::alloc::AllocError;
 use std::{io, str};
 use zfault::{Items, Pause};
@@ -11,7 +11,10 @@ use zscreen::render;
 use zstate::Stop;
 
 /// More pieces than any of these plays needs, with one that is refused.
-const MOST: u32 = 50;
+pub const MOST: u32 = 50;
+
+/// More steps than any of these stories makes.
+const ALL: u32 = 5000;
 
 /// A way of calling a machine.
 #[derive(Clone, Copy)]
@@ -20,8 +23,14 @@ pub enum Way {
     Steps,
     /// One call for all steps.
     Whole,
-    /// Two steps at a time, to the same page.
+    /// Two steps at a time, with the same devices.
     Pieces,
+    /// As many steps as there are.
+    Play,
+    /// Two steps at a time, with a reader that gives more than a line: what was read ahead is lost.
+    Ahead,
+    /// As many steps as there are, and a flush that fails behind so many others.
+    Blocked(u8),
 }
 
 /// Plays in this way.
@@ -29,7 +38,16 @@ pub fn go<M: Machine>(rt: &HostRuntime, machine: &mut M, way: Way) -> io::Result
     match way {
         Way::Steps => step(rt, machine),
         Way::Whole => run(rt, machine),
-        Way::Pieces => play(rt, machine),
+        Way::Pieces => play(rt, machine, 2, World::new(LINE), Page::new()),
+        Way::Play => play(rt, machine, ALL, World::new(LINE), Page::new()),
+        Way::Ahead => play(rt, machine, 2, World::new(ROOM), Page::new()),
+        Way::Blocked(after) => play(
+            rt,
+            machine,
+            ALL,
+            World::new(LINE),
+            Page::blocked_after(after),
+        ),
     }
 }
 
@@ -68,11 +86,16 @@ fn run<M: Machine>(rt: &HostRuntime, machine: &mut M) -> io::Result<()> {
     Ok(())
 }
 
-/// Plays two steps at a time to the same page.
-fn play<M: Machine>(rt: &HostRuntime, machine: &mut M) -> io::Result<()> {
-    let mut page = Page::new();
+/// Plays so many steps at a time, again and again with the same devices.
+fn play<M: Machine>(
+    rt: &HostRuntime,
+    machine: &mut M,
+    budget: u32,
+    mut world: World,
+    mut page: Page,
+) -> io::Result<()> {
     for _ in 0..MOST {
-        match machine.play(rt.alloc(), &mut page, 2) {
+        match machine.play(rt.alloc(), &mut world, &mut page, budget) {
             Ok(End::Budget) => {}
             Ok(stop) => return end(rt, "play", machine, &page, stop),
             Err(PlayError::OutOfMemory) => say(rt, "refused: play", machine, &page)?,
@@ -95,16 +118,8 @@ fn show(rt: &HostRuntime, items: &Items) -> io::Result<()> {
     println!(rt; "rendered {text}")
 }
 
-/// Plays no step, to a page that fails where it is flushed.
-pub fn flush<M: Machine>(rt: &HostRuntime, machine: &mut M) -> io::Result<()> {
-    match machine.play(rt.alloc(), &mut Page::blocked(), 0) {
-        Ok(end) => println!(rt; "flushed: {end:?}"),
-        Err(error) => println!(rt; "flush: {error}"),
-    }
-}
-
 /// Says where the machine stands, and what it has given out.
-fn say<M: Machine>(rt: &HostRuntime, what: &str, machine: &M, page: &Page) -> io::Result<()> {
+pub fn say<M: Machine>(rt: &HostRuntime, what: &str, machine: &M, page: &Page) -> io::Result<()> {
     let place = machine.place();
     let sum = sum(machine.memory());
     let text = str::from_utf8(page.bytes()).unwrap_or("no text");
@@ -124,7 +139,7 @@ fn end<M: Machine>(
 }
 
 /// The sum of the bytes, modulo 65,536.
-fn sum(bytes: &[u8]) -> u16 {
+pub fn sum(bytes: &[u8]) -> u16 {
     bytes
         .iter()
         .fold(0, |sum: u16, byte| sum.wrapping_add(u16::from(*byte)))

@@ -1,0 +1,162 @@
+//! Both machines over the same steps, with all that can be told of their states compared behind each.
+
+use crate::pieces::sum;
+use std::alloc::{AllocError, Global};
+use std::{fs, io};
+use zcheck::Accepted;
+use zfault::{Event, Items, Need, Pause};
+use zplay::Session;
+use zquetzal::{FrameParts, SaveError, SaveParts};
+use zref::{CheckedMachine, Scope};
+use zstate::{Frame, State, Stop};
+
+/// How many steps are compared.
+const STEPS: u32 = 1000;
+
+/// Plays a story on both, from its opening, or from each of the saves.
+pub fn compare(rt: &HostRuntime, accepted: &Accepted, saves: &[String]) -> io::Result<()> {
+    if saves.is_empty() {
+        return tell(rt, &mut Pair::open(rt.alloc(), accepted)?);
+    }
+    for name in saves {
+        let save = fs::read(rt, name)?;
+        restore(rt, Pair::open(rt.alloc(), accepted)?, &save)?;
+    }
+    Ok(())
+}
+
+/// Says how a save is answered by each, 0 where play goes on from it, and where it does so on both, how.
+fn restore(rt: &HostRuntime, mut pair: Pair<'_>, save: &[u8]) -> io::Result<()> {
+    pair.go_to_restore(rt.alloc())?;
+    let session = pair.session_restores(save);
+    let checked = pair.machine_restores(rt.alloc(), save);
+    println!(rt; "{session} {checked}")?;
+    if session == 0 && checked == 0 {
+        tell(rt, &mut pair)?;
+    }
+    Ok(())
+}
+
+/// Says how both go on.
+fn tell(rt: &HostRuntime, pair: &mut Pair<'_>) -> io::Result<()> {
+    let stop = pair.play(rt.alloc())?;
+    let (place, sum) = (pair.session.place(), sum(pair.session.memory()));
+    match stop {
+        Some(pause) => println!(rt; "alike: {pause:?} at {place}, memory {sum}"),
+        None => println!(rt; "not alike at {place}, memory {sum}"),
+    }
+}
+
+/// A session, and a checked machine that may play anywhere, of the same story.
+#[derive(Drop)]
+struct Pair<'a> {
+    session: Session<'a>,
+    machine: CheckedMachine<'a>,
+}
+
+impl<'a> Pair<'a> {
+    /// Both at the opening.
+    fn open(alloc: Global, accepted: &'a Accepted) -> Result<Pair<'a>, AllocError> {
+        Ok(Pair {
+            session: Session::start(alloc, accepted)?,
+            machine: CheckedMachine::new(alloc, accepted.story(), Scope::All)?,
+        })
+    }
+
+    /// Plays to the first pause, and where a save is awaited to the next, as if it was kept.
+    fn go_to_restore(&mut self, alloc: Global) -> Result<(), AllocError> {
+        self.play(alloc)?;
+        if let Some(Need::Saved) = self.session.awaits() {
+            self.session.give(Event::Saved(true));
+            self.machine.give(Event::Saved(true));
+        }
+        self.play(alloc)?;
+        Ok(())
+    }
+
+    /// The number of the session's answer.
+    fn session_restores(&mut self, save: &[u8]) -> u8 {
+        match self.session.awaits() {
+            Some(Need::Restore) => number(self.session.restore(save)),
+            _ => u8::MAX,
+        }
+    }
+
+    /// The number of the checked machine's answer.
+    fn machine_restores(&mut self, alloc: Global, save: &[u8]) -> u8 {
+        match self.machine.awaits() {
+            Some(Need::Restore) => number(self.machine.restore(alloc, save)),
+            _ => u8::MAX,
+        }
+    }
+
+    /// Makes steps on both, one by one, to the first pause. Answers nothing where they differ.
+    fn play(&mut self, alloc: Global) -> Result<Option<Pause>, AllocError> {
+        let (mut here, mut there) = (Items::new(alloc), Items::new(alloc));
+        for _ in 0..STEPS {
+            here.clear();
+            there.clear();
+            let pause = self.session.run(1, &mut here)?;
+            let stop = self.machine.run(1, &mut there)?;
+            if stop != Stop::Paused(pause) || !are_alike(&here, &there) || !self.is_alike() {
+                return Ok(None);
+            }
+            if pause != Pause::Budget {
+                return Ok(Some(pause));
+            }
+        }
+        Ok(Some(Pause::Budget))
+    }
+
+    /// Whether both are in the same state. The frames below the newest two were compared when they were these, and so they are when
+    /// play comes back to them.
+    fn is_alike(&self) -> bool {
+        let state = self.machine.state();
+        self.session.place() == state.place()
+            && self.session.memory() == state.memory()
+            && self.session.awaits() == self.machine.awaits()
+            && self.session.random() == state.random()
+            && are_frames_alike(&self.session, state)
+    }
+}
+
+/// The number behind the `Q` of a refusal, 0 where there is none.
+fn number(answer: Result<(), SaveError>) -> u8 {
+    match answer {
+        Ok(()) => 0,
+        Err(error) => error.number(),
+    }
+}
+
+/// Whether the same was given out.
+fn are_alike(here: &Items, there: &Items) -> bool {
+    here.text() == there.text()
+        && here.marks().len() == there.marks().len()
+        && here.marks().iter().zip(there.marks()).all(|(one, other)| one.place == other.place
+            && one.status == other.status)
+}
+
+/// Whether there are as many frames, and the newest two are the same.
+fn are_frames_alike(session: &Session<'_>, state: &State) -> bool {
+    let parts = session.parts();
+    let count = parts.frame_count();
+    if count == 0
+        || count - 1 != state.depth()
+        || !is_frame(parts.frame(count - 1), state.frame())
+    {
+        return false;
+    }
+    match state.caller() {
+        Some(caller) => count > 1 && is_frame(parts.frame(count - 2), caller),
+        None => true,
+    }
+}
+
+/// Whether they are the same frame.
+fn is_frame(one: FrameParts<'_>, other: Frame<'_>) -> bool {
+    one.return_place == other.return_place()
+        && one.result == other.result()
+        && one.supplied == other.supplied()
+        && one.locals == other.locals()
+        && one.stack == other.stack()
+}
