@@ -339,9 +339,15 @@ def see_files(program, count):
     """What happens to the file of an old save."""
     for name, script, output, wanted in [
         ("a disk that has no room", 'printf old >kept; trap "" XFSZ; ulimit -f 0; "$1" play --save kept story certificate', b"", b"old"),
-        ("a link", 'printf old >other; ln -s other kept; "$1" play --save kept story certificate; test -L kept && cat other >&2', b"hello", None),
-        ("a link where the file beside it would be", 'printf old >kept; ln -s story kept.part; "$1" play --save kept story certificate; test -L kept.part && rm kept.part', b"", b"old"),
-        ("a file that was left beside it", 'printf old >kept.part; "$1" play --save kept story certificate', b"hello", None),
+        ("a link", 'printf old >other; ln -s other kept; "$1" play --save kept story certificate; test -L kept || echo no link', b"hello", None),
+        ("a link to a file in another folder", 'mkdir far; printf old >far/other; ln -s far/other kept; "$1" play --save kept story certificate; test -L kept || echo no link; ls far | grep -v other', b"hello", None),
+        ("a link to a link", 'printf old >other; ln -s other middle; ln -s middle kept; "$1" play --save kept story certificate; test -L kept -a -L middle || echo no link', b"hello", None),
+        ("a link that leads nowhere", 'ln -s other kept; "$1" play --save kept story certificate; test -L kept || echo no link', b"hello", None),
+        ("a link on a disk that has no room", 'printf old >other; ln -s other kept; trap "" XFSZ; ulimit -f 0; "$1" play --save kept story certificate', b"", b"old"),
+        ("the mode of a file", 'printf old >kept; chmod 640 kept; "$1" play --save kept story certificate; stat -c %a kept', b"hello640\n", None),
+        ("the mode of a file that a link leads to", 'printf old >other; chmod 600 other; ln -s other kept; "$1" play --save kept story certificate; stat -c %a other', b"hello600\n", None),
+        ("a link where the file beside it would be", 'printf old >kept; ln -s story kept.part; "$1" play --save kept story certificate; test -L kept.part && rm kept.part', b"hello", None),
+        ("files that were left beside it", 'printf old >kept.part; cp kept.part kept.1.part; "$1" play --save kept story certificate; cmp kept.part kept.1.part; grep -q old kept.part && rm kept.part kept.1.part', b"hello", None),
         ("a name as long as may be", '"$1" play --save "$(printf "%0250d" 0)" story certificate; cp "$(printf "%0250d" 0)" kept', b"hello", saved(TELLS, 0x324)),
     ]:
         with tempfile.TemporaryDirectory(prefix="saves-") as room:

@@ -9,9 +9,11 @@ ghost use Rattle.zperform.specs.Finding.{HasAlone};
 
 use crate::outcome::{Failure, Problem};
 use arrayvec::{ArrayString, ArrayVec};
+use itoa::Buffer;
 use std::alloc::Global;
 use std::fs;
 use std::fs::OpenFile;
+use std::fs::unix::MetadataExt;
 use std::io::{self, ErrorKind, Read, Seek, SeekFrom, Write};
 use std::rt::Runtime;
 
@@ -137,44 +139,108 @@ impl<'a, R: Runtime> Files for Disk<'a, R> {
     }
 }
 
-/// What is added to the name of a file that is written beside another.
-const BESIDE: &str = ".part";
+/// How many names are tried for a file beside another.
+const PARTS: u32 = 1000;
 
-/// The longest name of a file beside another.
-const BESIDE_LIMIT: usize = NAME_LIMIT + BESIDE.len();
+/// The longest name of a file beside another: behind the other's name come a point and three digits, and `.part`.
+const BESIDE_LIMIT: usize = NAME_LIMIT + 9;
 
-/// Writes a file whole in the place of the one of its name. A plain file is written beside it first, and takes its name once it is
-/// through, so that a full disk leaves the old one; anything else, as a pipe or a link, is written to.
+/// The name of a file beside another.
+type Beside = ArrayString<BESIDE_LIMIT>;
+
+/// Writes a file whole in the place of the one of its name, or of the one that a link of that name leads to. A plain file is written beside
+/// that first, and takes its name once it is through, so that a full disk, or an end of the program, leaves the old one; anything else, as a
+/// pipe or a link that leads nowhere, is written to.
 fn replace<R: Runtime>(rt: &R, name: &str, bytes: &[u8]) -> io::Result<()> {
     match fs::symlink_metadata(rt, name) {
-        Ok(there) if !there.is_file() => fs::write(rt, name, bytes),
-        _ => replace_plain(rt, name, bytes),
+        Ok(there) if there.is_symlink() => replace_linked(rt, name, bytes),
+        Ok(there) if there.is_file() => replace_plain(rt, name, Some(&there), bytes),
+        Ok(_) => fs::write(rt, name, bytes),
+        Err(_) => replace_plain(rt, name, None, bytes),
     }
 }
 
-/// Writes a plain file beside the one of its name, and gives it that name. There may be one that was left behind; anything else of the name
-/// beside isn't touched.
-fn replace_plain<R: Runtime>(rt: &R, name: &str, bytes: &[u8]) -> io::Result<()> {
-    let mut beside = ArrayString::<BESIDE_LIMIT>::new();
-    if beside.try_push_str(name).is_err() || beside.try_push_str(BESIDE).is_err() {
-        return Err(io::Error::from(ErrorKind::InvalidFilename));
+/// Replaces the file that a link leads to, and leaves the link.
+fn replace_linked<R: Runtime>(rt: &R, link: &str, bytes: &[u8]) -> io::Result<()> {
+    let Ok(target) = rt.canonicalize(rt.alloc(), link) else {
+        return fs::write(rt, link, bytes);
+    };
+    let there = fs::metadata(rt, target.as_str())?;
+    if !there.is_file() {
+        return fs::write(rt, link, bytes);
     }
-    if let Ok(there) = fs::symlink_metadata(rt, beside.as_str())
-        && !there.is_file()
-    {
-        return Err(io::Error::from(ErrorKind::AlreadyExists));
-    }
-    let mut file = fs::File::create(rt, beside.as_str())?;
-    let written = write_through(&mut file, bytes);
-    let done = written.and_then(|()| fs::rename(rt, beside.as_str(), name));
-    if done.is_err() {
-        let _ = fs::remove_file(rt, beside.as_str());
-    }
-    done
+    replace_plain(rt, target.as_str(), Some(&there), bytes)
 }
 
-/// Writes a new file, and sees that it is on its device.
-fn write_through<F: OpenFile + Write>(file: &mut F, bytes: &[u8]) -> io::Result<()> {
+/// Writes a plain file beside the one of its name, with the mode and the owner of the one that is there, and gives it that name. Where none may
+/// be made there, as in a folder that isn't the player's, the one that is there is written to.
+fn replace_plain<R: Runtime>(
+    rt: &R,
+    name: &str,
+    there: Option<&fs::Metadata>,
+    bytes: &[u8],
+) -> io::Result<()> {
+    match create_beside(rt, name) {
+        Ok((beside, mut file)) => {
+            let written = write_through(rt, &beside, &mut file, there, bytes);
+            let done = written.and_then(|()| fs::rename(rt, beside.as_str(), name));
+            if done.is_err() {
+                let _ = fs::remove_file(rt, beside.as_str());
+            }
+            done
+        }
+        Err(error) if error.kind() == ErrorKind::PermissionDenied && there.is_some() => {
+            fs::write(rt, name, bytes)
+        }
+        Err(error) => Err(error),
+    }
+}
+
+/// Makes a file beside another, of a name that none has: what another program is writing, or has left, isn't touched.
+fn create_beside<R: Runtime>(rt: &R, name: &str) -> io::Result<(Beside, R::File)> {
+    'names: for number in 0..PARTS {
+        let beside = beside(name, number)?;
+        match fs::File::create_new(rt, beside.as_str()) {
+            Ok(file) => return Ok((beside, file)),
+            Err(error) if error.kind() == ErrorKind::AlreadyExists => {}
+            Err(error) => return Err(error),
+        }
+    }
+    Err(io::Error::from(ErrorKind::AlreadyExists))
+}
+
+/// A name beside another: `NAME.part` is the first, and then come `NAME.1.part`, `NAME.2.part` and so on.
+fn beside(name: &str, number: u32) -> io::Result<Beside> {
+    let mut beside = Beside::new();
+    push(&mut beside, name)?;
+    if number > 0 {
+        push(&mut beside, ".")?;
+        push(&mut beside, Buffer::new().format(number))?;
+    }
+    push(&mut beside, ".part")?;
+    Ok(beside)
+}
+
+fn push(name: &mut Beside, more: &str) -> io::Result<()> {
+    match name.try_push_str(more) {
+        Ok(()) => Ok(()),
+        Err(_) => Err(io::Error::from(ErrorKind::InvalidFilename)),
+    }
+}
+
+/// Writes a new file, with the mode and the owner of another, and sees that it is on its device. An owner that the system doesn't let be is
+/// left.
+fn write_through<R: Runtime>(
+    rt: &R,
+    name: &Beside,
+    file: &mut R::File,
+    like: Option<&fs::Metadata>,
+    bytes: &[u8],
+) -> io::Result<()> {
+    if let Some(like) = like {
+        let _ = rt.chown(name.as_str(), Some(like.uid()), Some(like.gid()));
+        file.set_permissions(like.permissions())?;
+    }
     file.write_all(bytes)?;
     file.sync_all()
 }
