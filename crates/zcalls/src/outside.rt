@@ -1,10 +1,10 @@
 //! What a player is handed, with no memory taken.
 
 ghost use Rattle.std.specs.Prelude.{Some, ⊤};
-ghost use Rattle.zfault.specs.Adapters.{read_failures};
 
 use arrayvec::ArrayVec;
-use zfault::{Failed, FromRead, Items, Sink, Source};
+use std::io::{self, Read};
+use zfault::{Failed, FromRead, Items, Sink};
 use zplayer::{SaveStore, Words};
 use zquetzal::SaveError;
 
@@ -86,7 +86,7 @@ impl Sink for Page {
 /// What a player takes from outside, over all calls of a play.
 #[derive(Drop)]
 pub struct World {
-    pub reader: Typed,
+    pub reader: FromRead<Typed>,
     pub store: Shelf,
     pub words: Rising,
 }
@@ -95,10 +95,7 @@ impl World {
     /// One whose reader gives at most so many bytes at once.
     pub fn new(most: usize) -> World {
         World {
-            reader: Typed {
-                lines: FromRead::new(LINES),
-                most,
-            },
+            reader: FromRead::new(Typed { left: LINES, most }),
             store: Shelf {
                 save: ArrayVec::new(),
                 left: 2,
@@ -118,16 +115,14 @@ pub const LINE: usize = 8;
 /// A reader of lines that gives at most so many bytes at once.
 #[derive(Drop)]
 pub struct Typed {
-    lines: FromRead<&'static [u8]>,
+    left: &'static [u8],
     most: usize,
 }
 
-impl Source for Typed {
-    ghost failures = { λ typed. read_failures typed.lines };
-
-    fn read(&mut self, buffer: &mut [u8]) -> Result<usize, Failed> {
+impl Read for Typed {
+    fn read(&mut self, buffer: &mut [u8]) -> io::Result<usize> {
         let room = buffer.len().min(self.most);
-        self.lines.read(&mut buffer[..room])
+        self.left.read(&mut buffer[..room])
     }
 }
 

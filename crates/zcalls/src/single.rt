@@ -34,7 +34,7 @@ fn decode(rt: &HostRuntime, story: &Story) -> io::Result<()> {
 
 /// Decodes it behind what is there.
 fn append(rt: &HostRuntime, story: &Story, text: &mut Vec<u8>) -> io::Result<()> {
-    let at = story.first_instruction() + 1;
+    let at = story.first_instruction().saturating_add(1);
     if let Err(TextError::OutOfMemory) = decode_into(story.memory(), at, text) {
         let kept = text.len();
         println!(rt; "refused: decode, with {kept} bytes kept")?;

@@ -13,7 +13,7 @@ use itoa::Buffer;
 use std::alloc::Global;
 use std::fs;
 use std::fs::OpenFile;
-use std::fs::unix::MetadataExt;
+use std::os::unix::fs::MetadataExt;
 use std::io::{self, ErrorKind, Read, Seek, SeekFrom, Write};
 use std::rt::Runtime;
 
