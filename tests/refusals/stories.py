@@ -46,13 +46,24 @@ def tells(name, contents):
     return f"{name} {len(contents)} bytes, sum {sum(contents) % 65536}"
 
 
+def stood(place, memory, text):
+    return f"at {place}, memory {sum(memory) % 65536}, gave {text}"
+
+
 def stands(what, place, memory, text):
-    return f"{what} at {place}, memory {sum(memory) % 65536}, gave {text}"
+    return f"{what} {stood(place, memory, text)}"
 
 
 def plays(place, memory, text, end):
     """The lines of a play that ends there."""
     return [stands("play", place, memory, text), f"play ends: {end}"]
+
+
+def between():
+    """Where plays stand that single steps don't come to, since they end where something is awaited: behind the word that is drawn, and
+    behind each line that is read and what is printed before the next."""
+    yield "draws", [stood(0x328, DRAWS, "")]
+    yield "reads_on", [stood(place, typed(READS_ON), text) for place, text in ((0x37B, "hello"), (0x386, "hello" * 2), (0x38B, "hello" * 3))]
 
 
 def stories():
@@ -98,6 +109,9 @@ def main():
         for file_name, contents in (("story.z3", made), ("story.cert", listed), ("lines", "".join(f"{it}\n" for it in lines).encode())):
             with open(os.path.join(folder, file_name), "wb") as file:
                 file.write(contents)
+    for name, lines in between():
+        with open(os.path.join(sys.argv[1], name, "places"), "w", encoding="ascii") as file:
+            file.writelines(f"{it}\n" for it in lines)
 
 
 if __name__ == "__main__":

@@ -55,11 +55,19 @@ pub fn go<M: Machine>(rt: &HostRuntime, machine: &mut M, way: Way) -> io::Result
 fn step<M: Machine>(rt: &HostRuntime, machine: &mut M) -> io::Result<()> {
     let mut items = Items::new(rt.alloc());
     say(rt, "opening", machine, &Page::new())?;
-    for _ in 0..MOST {
+    let mut left = MOST;
+    // One that is refused is no step.
+    for _ in 0..=MOST {
+        if left == 0 {
+            return Ok(());
+        }
         let ran = machine.run(1, &mut items);
         let page = Page::of(&items);
         match ran {
-            Ok(Stop::Paused(Pause::Budget)) => say(rt, "step", machine, &page)?,
+            Ok(Stop::Paused(Pause::Budget)) => {
+                say(rt, "step", machine, &page)?;
+                left = left.saturating_sub(1);
+            }
             Ok(stop) => return end(rt, "step", machine, &page, End::from(stop)),
             Err(_) => say(rt, "refused: step", machine, &page)?,
         }

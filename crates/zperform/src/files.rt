@@ -13,8 +13,8 @@ use itoa::Buffer;
 use std::alloc::Global;
 use std::fs;
 use std::fs::OpenFile;
-use std::os::unix::fs::MetadataExt;
 use std::io::{self, ErrorKind, Read, Seek, SeekFrom, Write};
+use std::os::unix::fs::MetadataExt;
 use std::rt::Runtime;
 
 /// The most bytes that are read of a file in one call.
