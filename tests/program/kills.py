@@ -28,7 +28,7 @@ SEED = 1
 
 
 def left_after(program, rng, room, linked, plays, end):
-    """Ends one of so many plays, and then the others. What is in the file then, and what is wrong with the folder, if anything."""
+    """Ends one of so many plays, and then the others. What was in the file behind each, and what is wrong, if anything."""
     file = os.path.join(room, "other" if linked else "kept")
     with open(os.path.join(room, "story"), "wb") as made:
         made.write(SAVES)
@@ -48,12 +48,12 @@ def left_after(program, rng, room, linked, plays, end):
             contents.add(made.read())
     wrong = [it for it in contents if it not in (OLD, WHOLE)]
     if wrong:
-        return f"{len(wrong[0])} bytes were left, {wrong[0][:30]!r} .."
+        return contents, f"{len(wrong[0])} bytes were left, {wrong[0][:30]!r} .."
     if linked != os.path.islink(os.path.join(room, "kept")):
-        return "the link is gone"
+        return contents, "the link is gone"
     if os.stat(file).st_mode & 0o777 != 0o600:
-        return f"the mode is {os.stat(file).st_mode:o}"
-    return None
+        return contents, f"the mode is {os.stat(file).st_mode:o}"
+    return contents, None
 
 
 def main():
@@ -61,13 +61,16 @@ def main():
     moments = int(sys.argv[2]) if len(sys.argv) > 2 else 3
     count = Count("kills")
     rng = random.Random(SEED)
+    seen = set()
     for moment in range(moments):
         for end in SIGNALS:
             for linked in (False, True):
                 for plays in (1, 3):
                     with tempfile.TemporaryDirectory(prefix="kills-") as room:
-                        wrong = left_after(program, rng, room, linked, plays, end)
+                        contents, wrong = left_after(program, rng, room, linked, plays, end)
+                        seen |= contents
                         count.see(wrong is None, f"{end.name}, {plays} plays, {'a link' if linked else 'a plain file'}, moment {moment}: {wrong}")
+    count.see(WHOLE in seen, "no play had saved before it was ended")
     count.end()
 
 

@@ -3,7 +3,8 @@
 # meets no refusal. But for the lines that begin with `refused`, a run has to print what the undisturbed one does: a refused
 # call changed nothing, and both writings together are the undisturbed one. Where such a line says where the machine stands,
 # with its memory and what it gave out, the undisturbed run stood there too. A call that is refused makes a flush of its own,
-# so that the flush that is to fail comes sooner, or comes where there is none else: lines that tell of it aren't compared.
+# so that the flush that is to fail comes sooner, or comes where there is none else: lines that tell of it may stand elsewhere,
+# and there may be one more.
 # What the undisturbed run prints has lines that were worked out by hand, those among them.
 # Usage: calls.sh PROGRAM FOLDER, which has the story and the certificate.
 set -u
@@ -34,6 +35,17 @@ are_places_known() {
     done
 }
 
+# How many writes of a run failed.
+failures() {
+    grep -c '^writing failed$' "$1"
+}
+
+# Whether as many failed as in the undisturbed run, or one more.
+are_failures_known() {
+    local extra=$(($(failures "$1") - $(failures "$work/ample")))
+    [ "$extra" -eq 0 ] || [ "$extra" -eq 1 ]
+}
+
 # The story of the current folder, for each N.
 refuse_each() {
     timeout 20 "$program" >"$work/ample" </dev/null || exit 1
@@ -53,7 +65,7 @@ refuse_each() {
         rm -f "$work/refused"
         timeout 20 env "LD_PRELOAD=$work/refuse.so" "REFUSE=$n" "REFUSED=$work/refused" "$program" >"$work/out" </dev/null
         local status=$?
-        if [ "$status" -eq 0 ] && grep -v -e '^refused' -e '^writing failed$' "$work/out" | cmp -s - "$work/kept" && are_places_known "$work/out"; then
+        if [ "$status" -eq 0 ] && grep -v -e '^refused' -e '^writing failed$' "$work/out" | cmp -s - "$work/kept" && are_failures_known "$work/out" && are_places_known "$work/out"; then
             passed=$((passed + 1))
         else
             fails "$1: with allocation $n refused: status $status, $(grep '^refused' "$work/out")"
