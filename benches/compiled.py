@@ -4,7 +4,7 @@ import struct
 import subprocess
 
 FOLDER = os.path.join(os.path.dirname(os.path.abspath(__file__)), "stories")
-NAMES = ["count", "call", "sieve", "sort", "walk", "tell"]
+NAMES = ["count", "call", "sieve", "sort", "life", "dict", "walk", "props", "tell"]
 AS_COMPILED = struct.pack(">H", 31337)
 
 

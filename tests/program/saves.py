@@ -167,8 +167,14 @@ ENDS = [
 ]
 
 
+def is_other(kept):
+    """Whether a file of these bytes is written over only where that is asked for: it begins neither as a save does, nor as a part of that."""
+    return not (kept or b"").startswith(b"FORM"[: len(kept or b"")])
+
+
 def on_both(program, made, listed, options, kept):
     """What each machine answers, what it keeps, and whether there is any other file then."""
+    options = [*options, *(["--force"] if is_other(kept) else [])]
     for machine, words in (("checked", ["story"]), ("by its certificate", ["story", "certificate"])):
         with tempfile.TemporaryDirectory(prefix="saves-") as room:
             files = {"story": made, "certificate": listed, **({} if kept is None else {"kept": kept})}
@@ -193,6 +199,43 @@ def see_plays(program, count):
         for machine, answer, left, others in on_both(program, made, listed, ["--save", "kept", *options], kept):
             wanted = THAT_SAVE if made is SAVES else kept
             count.see(answer == done(output, errors) and left == wanted and not others, f"{name}, {machine}: {answer}; kept {left and left[:60]}")
+
+
+def see_occupied(program, count):
+    """Files that hold something else, and are left as they are unless that is asked for."""
+    files = {"story": TELLS, "certificate": TELLS_LISTED}
+    refused = {"play": Answer(1, b"", b"refused: N2\n"), "find": Answer(1, b"", b"refused: N1\n")}
+    others = [b"a", b"FO", b"FORN", b"FOR ", b"ZP", b"ZPCD", b"ZPCC", b"FORM", b"", TELLS]
+    begins = {"play": b"FORM", "find": b"ZPCC"}
+    wanted = {"play": (b"hello", saved(TELLS, 0x324)), "find": (b"found\n", None)}
+    for command, magic in begins.items():
+        for held in others:
+            for forced in ([], ["--force"]):
+                with tempfile.TemporaryDirectory(prefix="saves-") as room:
+                    for name, contents in {**files, "kept": held}.items():
+                        with open(os.path.join(room, name), "wb") as file:
+                            file.write(contents)
+                    named = ["story", "kept"] if command == "find" else ["--save", "kept", "story"]
+                    answer = program.run_in(room, [command, *forced, *named])
+                    with open(os.path.join(room, "kept"), "rb") as file:
+                        left = file.read()
+                may = bool(forced) or held[:4] == magic[: len(held)]
+                output, bytes_ = wanted[command]
+                well = answer == done(output) and left[:4] == magic and left in (bytes_ or left,) if may else answer == refused[command] and left == held
+                count.see(well, f"{command} {forced} to a file of {held[:9]}: {answer}; left {left[:9]}")
+    for name, script, errors, left in [
+        ("the story itself", 'cp story kept; "$1" find kept kept; cmp story kept', b"refused: N1\n", b""),
+        ("a link to the story", 'ln -s story kept; "$1" play --save kept story; cmp story kept', b"refused: N2\n", b""),
+        ("a file that can't be read as a save", 'printf old >kept; "$1" play --save kept absent; cat kept', b"refused: N2\n", b"old"),
+        ("a pipe", 'mkfifo kept; "$1" find story kept & cat kept | head -c 4; wait', b"", b"ZPCCfound\n"),
+        ("a device", '"$1" find story /dev/null', b"", b"found\n"),
+    ]:
+        with tempfile.TemporaryDirectory(prefix="saves-") as room:
+            for file_name, contents in files.items():
+                with open(os.path.join(room, file_name), "wb") as file:
+                    file.write(contents)
+            ran = subprocess.run(["sh", "-c", script, "sh", program.path], cwd=room, stdin=subprocess.DEVNULL, stdout=subprocess.PIPE, stderr=subprocess.PIPE, timeout=60)
+            count.see((sorted(ran.stdout), ran.stderr) == (sorted(left), errors), f"{name}: {ran}")
 
 
 def see_told(program, count):
@@ -338,16 +381,18 @@ def see_processes(program, count):
 def see_files(program, count):
     """What happens to the file of an old save."""
     for name, script, output, wanted in [
-        ("a disk that has no room", 'printf old >kept; trap "" XFSZ; ulimit -f 0; "$1" play --save kept story certificate', b"", b"old"),
-        ("a link", 'printf old >other; ln -s other kept; "$1" play --save kept story certificate; test -L kept || echo no link', b"hello", None),
-        ("a link to a file in another folder", 'mkdir far; printf old >far/other; ln -s far/other kept; "$1" play --save kept story certificate; test -L kept || echo no link; ls far | grep -v other', b"hello", None),
-        ("a link to a link", 'printf old >other; ln -s other middle; ln -s middle kept; "$1" play --save kept story certificate; test -L kept -a -L middle || echo no link', b"hello", None),
+        ("a disk that has no room", 'printf FORM >kept; trap "" XFSZ; ulimit -f 0; "$1" play --save kept story certificate', b"", b"FORM"),
+        ("a link", 'printf FORM >other; ln -s other kept; "$1" play --save kept story certificate; test -L kept || echo no link', b"hello", None),
+        ("a link to a file in another folder", 'mkdir far; printf FORM >far/other; ln -s far/other kept; "$1" play --save kept story certificate; test -L kept || echo no link; ls far | grep -v other', b"hello", None),
+        ("a link to a link", 'printf FORM >other; ln -s other middle; ln -s middle kept; "$1" play --save kept story certificate; test -L kept -a -L middle || echo no link', b"hello", None),
         ("a link that leads nowhere", 'ln -s other kept; "$1" play --save kept story certificate; test -L kept || echo no link', b"hello", None),
-        ("a link on a disk that has no room", 'printf old >other; ln -s other kept; trap "" XFSZ; ulimit -f 0; "$1" play --save kept story certificate', b"", b"old"),
-        ("the mode of a file", 'printf old >kept; chmod 640 kept; "$1" play --save kept story certificate; stat -c %a kept', b"hello640\n", None),
-        ("the mode of a file that a link leads to", 'printf old >other; chmod 600 other; ln -s other kept; "$1" play --save kept story certificate; stat -c %a other', b"hello600\n", None),
-        ("a link where the file beside it would be", 'printf old >kept; ln -s story kept.part; "$1" play --save kept story certificate; test -L kept.part && rm kept.part', b"hello", None),
-        ("files that were left beside it", 'printf old >kept.part; cp kept.part kept.1.part; "$1" play --save kept story certificate; cmp kept.part kept.1.part; grep -q old kept.part && rm kept.part kept.1.part', b"hello", None),
+        ("a link that leads nowhere, to another folder", 'mkdir far; ln -s far/other kept; "$1" play --save kept story certificate; test -L kept || echo no link; ls far', b"helloother\n", None),
+        ("a link to a folder that isn't there", 'ln -s absent/other kept; "$1" play --save kept story certificate; rm kept; printf none >kept', b"", b"none"),
+        ("a link on a disk that has no room", 'printf FORM >other; ln -s other kept; trap "" XFSZ; ulimit -f 0; "$1" play --save kept story certificate', b"", b"FORM"),
+        ("the mode of a file", 'printf FORM >kept; chmod 640 kept; "$1" play --save kept story certificate; stat -c %a kept', b"hello640\n", None),
+        ("the mode of a file that a link leads to", 'printf FORM >other; chmod 600 other; ln -s other kept; "$1" play --save kept story certificate; stat -c %a other', b"hello600\n", None),
+        ("a link where the file beside it would be", 'printf FORM >kept; ln -s story kept.part; "$1" play --save kept story certificate; test -L kept.part && rm kept.part', b"hello", None),
+        ("files that were left beside it", 'printf FORM >kept.part; cp kept.part kept.1.part; "$1" play --save kept story certificate; cmp kept.part kept.1.part; grep -q FORM kept.part && rm kept.part kept.1.part', b"hello", None),
         ("a name as long as may be", '"$1" play --save "$(printf "%0250d" 0)" story certificate; cp "$(printf "%0250d" 0)" kept', b"hello", saved(TELLS, 0x324)),
     ]:
         with tempfile.TemporaryDirectory(prefix="saves-") as room:
@@ -367,6 +412,7 @@ def main():
     count = Count("saves")
     assert len(QUITS_SAVE) == len(ITS_SAVE) == 664
     see_plays(program, count)
+    see_occupied(program, count)
     see_told(program, count)
     see_again(program, count)
     see_long(program, count)

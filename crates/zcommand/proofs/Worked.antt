@@ -20,14 +20,17 @@ Ask words request = (fault_of zpc_app words ≡ []) × IsSomeAnd (subcommand_of 
 asked :
     Ask (codes "list" ∷ codes "hello.z3" ∷ []) (ListStory (codes "hello.z3") None)
     × Ask (codes "list" ∷ codes "hello.z3" ∷ codes "hello.cert" ∷ []) (ListStory (codes "hello.z3") (Some (codes "hello.cert")))
-    × Ask (codes "play" ∷ codes "hello.z3" ∷ []) (Play (codes "hello.z3") None 1 1000000000 false None false)
-    × Ask (codes "play" ∷ codes "--budget" ∷ codes "4294967295" ∷ codes "hello.z3" ∷ codes "hello.cert" ∷ codes "--status" ∷ codes "--seed" ∷ codes "18446744073709551615" ∷ []) (Play (codes "hello.z3") (Some (codes "hello.cert")) 18446744073709551615 4294967295 true None false)
-    × Ask (codes "play" ∷ codes "--save" ∷ codes "a.qzl" ∷ codes "--tell" ∷ codes "--seed" ∷ codes "0" ∷ codes "--budget" ∷ codes "0" ∷ codes "hello.z3" ∷ []) (Play (codes "hello.z3") None 0 0 false (Some (codes "a.qzl")) true)
+    × Ask (codes "play" ∷ codes "hello.z3" ∷ []) (Play (codes "hello.z3") None 1 1000000000 false None false false)
+    × Ask (codes "play" ∷ codes "--budget" ∷ codes "4294967295" ∷ codes "hello.z3" ∷ codes "hello.cert" ∷ codes "--status" ∷ codes "--seed" ∷ codes "18446744073709551615" ∷ []) (Play (codes "hello.z3") (Some (codes "hello.cert")) 18446744073709551615 4294967295 true None false false)
+    × Ask (codes "play" ∷ codes "--save" ∷ codes "a.qzl" ∷ codes "--tell" ∷ codes "--seed" ∷ codes "0" ∷ codes "--budget" ∷ codes "0" ∷ codes "hello.z3" ∷ []) (Play (codes "hello.z3") None 0 0 false (Some (codes "a.qzl")) true false)
+    × Ask (codes "play" ∷ codes "--force" ∷ codes "--save" ∷ codes "a.qzl" ∷ codes "hello.z3" ∷ []) (Play (codes "hello.z3") None 1 1000000000 false (Some (codes "a.qzl")) false true)
     × Ask (codes "check" ∷ codes "hello.z3" ∷ codes "hello.cert" ∷ []) (Check (codes "hello.z3") (codes "hello.cert"))
-    × Ask (codes "find" ∷ codes "hello.z3" ∷ codes "hello.cert" ∷ []) (Find (codes "hello.z3") (codes "hello.cert"))
+    × Ask (codes "find" ∷ codes "hello.z3" ∷ codes "hello.cert" ∷ []) (Find (codes "hello.z3") (codes "hello.cert") false)
+    × Ask (codes "find" ∷ codes "hello.z3" ∷ codes "hello.cert" ∷ codes "--force" ∷ []) (Find (codes "hello.z3") (codes "hello.cert") true)
     × Ask (codes "explain" ∷ codes "I5" ∷ []) (Explain (codes "I5"))
 unfolding defaults_fault walk_fault walked
-asked = ((refl, (refl, refl, refl)), (refl, (refl, refl, refl)), (refl, (refl, refl, refl, refl, refl, refl, refl, refl)), (refl, (refl, refl, refl, refl, refl, refl, refl, refl)), (refl, (refl, refl, refl, refl, refl, refl, refl, refl)), (refl, (refl, refl, refl)), (refl, (refl, refl, refl)), (refl, (refl, refl)))
+asked =
+    ((refl, (refl, refl, refl)), (refl, (refl, refl, refl)), (refl, (refl, refl, refl, refl, refl, refl, refl, refl, refl)), (refl, (refl, refl, refl, refl, refl, refl, refl, refl, refl)), (refl, (refl, refl, refl, refl, refl, refl, refl, refl, refl)), (refl, (refl, refl, refl, refl, refl, refl, refl, refl, refl)), (refl, (refl, refl, refl)), (refl, (refl, refl, refl, refl)), (refl, (refl, refl, refl, refl)), (refl, (refl, refl)))
 
 -- a command lacks a file or has too many, or there is none of the name, or none at all, or the budget is 2 to the 32nd or the
 -- seed 2 to the 64th, or the flag has a value, or the option has none or an empty one

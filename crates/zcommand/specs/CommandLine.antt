@@ -46,6 +46,10 @@ status_rule = record (new_rule (codes "status")) { long = Some (codes "status");
 abbrev pub tell_rule : Rule
 tell_rule = record (new_rule (codes "tell")) { long = Some (codes "tell"); action = Some SetTrue }
 
+-- `--force`, a flag
+abbrev pub force_rule : Rule
+force_rule = record (new_rule (codes "force")) { long = Some (codes "force"); action = Some SetTrue }
+
 -- `--save FILE`, where FILE isn't empty
 abbrev pub save_rule : Rule
 save_rule = record (new_rule (codes "save")) { long = Some (codes "save"); value_names = 1; parser = Some parsers.NonEmptyString }
@@ -66,9 +70,9 @@ files_app name required = with_rule (with_rule (new_app name) story_rule) (certi
 abbrev pub list_app : App
 list_app = files_app (codes "list") false
 
--- `find STORY CERT`
+-- `find STORY CERT --force`
 abbrev pub find_app : App
-find_app = files_app (codes "find") true
+find_app = with_rule (files_app (codes "find") true) force_rule
 
 -- `check STORY CERT`
 abbrev pub check_app : App
@@ -78,9 +82,9 @@ check_app = files_app (codes "check") true
 abbrev pub saveless_app : App
 saveless_app = with_rule (with_rule (with_rule (files_app (codes "play") false) seed_rule) budget_rule) status_rule
 
--- the same with `--save FILE --tell`
+-- the same with `--save FILE --tell --force`
 abbrev pub play_app : App
-play_app = with_rule (with_rule saveless_app save_rule) tell_rule
+play_app = with_rule (with_rule (with_rule saveless_app save_rule) tell_rule) force_rule
 
 -- `explain CODE`
 abbrev pub explain_app : App
@@ -125,7 +129,7 @@ seed_of rows = number_of 64 (codes "seed") rows
 abbrev pub budget_of : List Row → ℕ
 budget_of rows = number_of 32 (codes "budget") rows
 
--- whether a flag is given among the matches of `play`: clap has `true` there where it is, and else `false`
+-- whether a flag is given among the matches: clap has `true` there where it is, and else `false`
 abbrev pub is_asked : Text → List Row → Bool
 is_asked name rows = option_map_or (λ text. bytes_eq text (codes "true")) (one_of name rows) false
 
@@ -136,6 +140,10 @@ is_status_asked rows = is_asked (codes "status") rows
 -- and whether each save that is refused is to be told
 abbrev pub is_tell_asked : List Row → Bool
 is_tell_asked rows = is_asked (codes "tell") rows
+
+-- and whether a file may be written over that holds something else
+abbrev pub is_force_asked : List Row → Bool
+is_force_asked rows = is_asked (codes "force") rows
 
 -- the name of the certificate among the matches of a command, if there is one
 abbrev pub certificate_of : List Row → Option Text
@@ -152,29 +160,29 @@ code_of rows = unwrap_or (first_of (codes "CODE") rows) []
 -- what is asked for, by the names of files
 pub data Request : Type 0 where
   ListStory : (story : Text) (certificate : Option Text) → Request
-  Find : (story certificate : Text) → Request
+  Find : (story certificate : Text) (force : Bool) → Request
   Check : (story certificate : Text) → Request
-  Play : (story : Text) (certificate : Option Text) (seed budget : ℕ) (status : Bool) (save : Option Text) (tell : Bool) → Request
+  Play : (story : Text) (certificate : Option Text) (seed budget : ℕ) (status : Bool) (save : Option Text) (tell force : Bool) → Request
   Explain : (code : Text) → Request
 
 -- the request is the one that clap's matches name, with the values among them
 abbrev pub Asks : Text × List Row → Request → Type 0
 Asks matches (ListStory story certificate) = (matches.0 ≡ codes "list") × (story ≡ story_of matches.1) × (certificate ≡ certificate_of matches.1)
-Asks matches (Find story certificate) =
-    (matches.0 ≡ codes "find") × (story ≡ story_of matches.1) × (certificate ≡ unwrap_or (certificate_of matches.1) [])
+Asks matches (Find story certificate force) =
+    (matches.0 ≡ codes "find") × (story ≡ story_of matches.1) × (certificate ≡ unwrap_or (certificate_of matches.1) []) × (force ≡ is_force_asked matches.1)
 Asks matches (Check story certificate) =
     (matches.0 ≡ codes "check") × (story ≡ story_of matches.1) × (certificate ≡ unwrap_or (certificate_of matches.1) [])
-Asks matches (Play story certificate seed budget status save tell) =
+Asks matches (Play story certificate seed budget status save tell force) =
     (matches.0 ≡ codes "play") × (story ≡ story_of matches.1) × (certificate ≡ certificate_of matches.1) × (seed ≡ seed_of matches.1) × (budget ≡ budget_of matches.1)
-    × (status ≡ is_status_asked matches.1) × (save ≡ save_of matches.1) × (tell ≡ is_tell_asked matches.1)
+    × (status ≡ is_status_asked matches.1) × (save ≡ save_of matches.1) × (tell ≡ is_tell_asked matches.1) × (force ≡ is_force_asked matches.1)
 Asks matches (Explain code) = (matches.0 ≡ codes "explain") × (code ≡ code_of matches.1)
 
 -- what a command asks for
 abbrev pub request_of : Command → Request
 request_of (commands.List story certificate) = ListStory story.now (option_map (λ c. c.now) certificate)
-request_of (commands.Find story certificate) = Find story.now certificate.now
+request_of (commands.Find story certificate force) = Find story.now certificate.now force
 request_of (commands.Check story certificate) = Check story.now certificate.now
-request_of (commands.Play story certificate seed budget status save tell) = Play story.now (option_map (λ c. c.now) certificate) seed budget status (option_map (λ f. f.now) save) tell
+request_of (commands.Play story certificate seed budget status save tell force) = Play story.now (option_map (λ c. c.now) certificate) seed budget status (option_map (λ f. f.now) save) tell force
 request_of (commands.Explain code) = Explain code.now
 
 -- the command is the one that clap's matches name

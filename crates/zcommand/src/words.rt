@@ -4,7 +4,7 @@ ghost use Rattle.std.specs.Prelude.{◌≡◌, IfOk, IsSomeAnd, codes, false};
 ghost use Rattle.clap.specs.Walk.{texts};
 ghost use Rattle.clap.specs.Words.{FailsBy, app_of, fault_of, found_of, rows_of, rule_of, subcommand_name_of, subcommand_of, subcommand_rows_of};
 ghost use Rattle.clap.specs.declared.builder.command.Command.TheViews.{out-Command as fields_of};
-ghost use Rattle.zcommand.specs.CommandLine.{IsCommand, IsReadFrom, bare_app, budget_rule, certificate_rule, certifying_app, check_app, code_rule, explain_app, files_app, find_app, list_app, play_app, save_rule, saveless_app, seed_rule, status_rule, story_rule, tell_rule, word_rule, zpc_app};
+ghost use Rattle.zcommand.specs.CommandLine.{IsCommand, IsReadFrom, bare_app, budget_rule, certificate_rule, certifying_app, check_app, code_rule, explain_app, files_app, find_app, force_rule, list_app, play_app, save_rule, saveless_app, seed_rule, status_rule, story_rule, tell_rule, word_rule, zpc_app};
 
 use clap::builder::ValueParser;
 use clap::{Arg, ArgAction, ArgMatches, Error, value_parser};
@@ -35,6 +35,8 @@ pub enum Command<'a> {
         story: &'a str,
         /// The name of the file that the certificate is kept in.
         certificate: &'a str,
+        /// Whether that file may hold something else now.
+        force: bool,
     },
     /// Checks a certificate.
     Check {
@@ -59,6 +61,8 @@ pub enum Command<'a> {
         save: Option<&'a str>,
         /// Whether each save that is refused is told on the errors.
         tell: bool,
+        /// Whether the file for saves may hold something else now.
+        force: bool,
     },
     /// Says what a code means.
     Explain {
@@ -114,7 +118,12 @@ fn find_of<'a>(matches: &ArgMatches<'a>) -> Command<'a>
 {
     let story = matches.get_str("STORY").unwrap_or("");
     let certificate = matches.get_str("CERT").unwrap_or("");
-    Command::Find { story, certificate }
+    let force = matches.get_one("force").unwrap_or(false);
+    Command::Find {
+        story,
+        certificate,
+        force,
+    }
 }
 
 /// `check`, with the values that are among its matches.
@@ -138,6 +147,7 @@ fn play_of<'a>(matches: &ArgMatches<'a>) -> Command<'a>
     let status = matches.get_one("status").unwrap_or(false);
     let save = matches.get_str("save");
     let tell = matches.get_one("tell").unwrap_or(false);
+    let force = matches.get_one("force").unwrap_or(false);
     Command::Play {
         story,
         certificate,
@@ -146,6 +156,7 @@ fn play_of<'a>(matches: &ArgMatches<'a>) -> Command<'a>
         status,
         save,
         tell,
+        force,
     }
 }
 
@@ -203,7 +214,8 @@ fn find<'a>(alloc: Global) -> Result<clap::Command<'a>, AllocError>
     ensures app { IfOk result (λ find. app_of find ≡ find_app) }
     ensures local { IfOk result (λ find. (fields_of find).has_globals ≡ false) }
 {
-    on_files(alloc, "find", "Finds a certificate of a story", true)
+    let find = on_files(alloc, "find", "Finds a certificate of a story", true)?;
+    find.arg(force(alloc))
 }
 
 fn check<'a>(alloc: Global) -> Result<clap::Command<'a>, AllocError>
@@ -217,7 +229,8 @@ fn play<'a>(alloc: Global) -> Result<clap::Command<'a>, AllocError>
     ensures app { IfOk result (λ play. app_of play ≡ play_app) }
     ensures local { IfOk result (λ play. (fields_of play).has_globals ≡ false) }
 {
-    saveless(alloc)?.arg(save(alloc))?.arg(tell(alloc))
+    let play = saveless(alloc)?.arg(save(alloc))?;
+    play.arg(tell(alloc))?.arg(force(alloc))
 }
 
 /// `play` without what is said of saves.
@@ -343,5 +356,15 @@ fn tell<'a>(alloc: Global) -> Arg<'a>
     Arg::new(alloc, "tell")
         .long("tell")
         .help("Tells of each save that is refused why it is")
+        .action(ArgAction::SetTrue)
+}
+
+fn force<'a>(alloc: Global) -> Arg<'a>
+    ensures rule { rule_of result ≡ force_rule }
+    ensures local { result.global ≡ false }
+{
+    Arg::new(alloc, "force")
+        .long("force")
+        .help("Writes over a file that holds something else")
         .action(ArgAction::SetTrue)
 }

@@ -3,7 +3,7 @@ use Rattle.std.specs.Prelude.{List, ℕ, Option, Some, None, find, map, option_m
 use Rattle.std.specs.Str.{bytes_eq}
 use Rattle.zexplain.specs.declared.certificates.TheConstants.{FINDING, FITTING, READING}
 use Rattle.zexplain.specs.declared.faults.TheConstants.{FAULTS}
-use Rattle.zexplain.specs.declared.playing.TheConstants.{PLAYING, SAVING}
+use Rattle.zexplain.specs.declared.playing.TheConstants.{KEEPING, PLAYING, SAVING}
 use Rattle.zexplain.specs.declared.rules.TheConstants.{RULES}
 use Rattle.zexplain.specs.declared.stories.TheConstants.{DECODING, LISTING, LOADING, TEXTS}
 
@@ -55,6 +55,10 @@ saving_text code = text_among (map (λ entry. (entry.0.now, entry.1.now)) SAVING
 abbrev pub playing_text : List ℕ → Option (List ℕ)
 playing_text code = text_among (map (λ entry. (entry.0.now, entry.1.now)) PLAYING) code
 
+-- a file that isn't written over
+abbrev pub keeping_text : List ℕ → Option (List ℕ)
+keeping_text code = text_among (map (λ entry. (entry.0.now, entry.1.now)) KEEPING) code
+
 -- the first that is there
 abbrev pub or_else : Option (List ℕ) → Option (List ℕ) → Option (List ℕ)
 or_else None other = other
@@ -67,7 +71,7 @@ abbrev pub of_certificates : List ℕ → Option (List ℕ)
 of_certificates code = or_else (or_else (or_else (reading_text code) (fitting_text code)) (finding_text code)) (rule_text code)
 
 abbrev pub of_play : List ℕ → Option (List ℕ)
-of_play code = or_else (or_else (fault_text code) (saving_text code)) (playing_text code)
+of_play code = or_else (or_else (or_else (fault_text code) (saving_text code)) (playing_text code)) (keeping_text code)
 
 -- the text of a code, if it is one
 abbrev pub explanation_of : List ℕ → Option (List ℕ)

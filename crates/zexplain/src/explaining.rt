@@ -2,11 +2,11 @@
 
 ghost use Rattle.std.specs.Prelude.{◌≡◌, find, map, option_map};
 ghost use Rattle.std.specs.Str.{bytes_eq};
-ghost use Rattle.zexplain.specs.Texts.{explanation_of, of_certificates, of_play, of_stories, text_among, loading_text, decoding_text, decoded_text, listing_text, reading_text, fitting_text, finding_text, rule_text, fault_text, saving_text, playing_text};
+ghost use Rattle.zexplain.specs.Texts.{explanation_of, of_certificates, of_play, of_stories, text_among, loading_text, decoding_text, decoded_text, listing_text, reading_text, fitting_text, finding_text, rule_text, fault_text, saving_text, playing_text, keeping_text};
 
 use crate::certificates::{FINDING, FITTING, READING};
 use crate::faults::FAULTS;
-use crate::playing::{PLAYING, SAVING};
+use crate::playing::{KEEPING, PLAYING, SAVING};
 use crate::rules::RULES;
 use crate::stories::{DECODING, LISTING, LOADING, TEXTS};
 
@@ -39,7 +39,10 @@ fn of_certificates(code: &str) -> Option<&'static str>
 fn of_play(code: &str) -> Option<&'static str>
     ensures { option_map (λ text. text.now) result ≡ of_play code.now }
 {
-    fault(code).or(saving(code)).or(playing(code))
+    fault(code)
+        .or(saving(code))
+        .or(playing(code))
+        .or(keeping(code))
 }
 
 fn loading(code: &str) -> Option<&'static str>
@@ -106,6 +109,12 @@ fn playing(code: &str) -> Option<&'static str>
     ensures { option_map (λ text. text.now) result ≡ playing_text code.now }
 {
     text_among(&PLAYING, code)
+}
+
+fn keeping(code: &str) -> Option<&'static str>
+    ensures { option_map (λ text. text.now) result ≡ keeping_text code.now }
+{
+    text_among(&KEEPING, code)
 }
 
 /// The text of a code among entries.

@@ -105,3 +105,21 @@ Do: give the program more memory, and try again.
 ",
     ),
 ];
+
+/// A file that isn't written over.
+pub const KEEPING: [(&str, &str); 2] = [
+    (
+        "N1",
+        "N1: the file that a certificate is to be kept in holds something else.
+Rule: a file is written over only where it is empty, or begins as a certificate does, with ZPCC (own).
+Do: name another file, or say --force where what it holds isn't needed.
+",
+    ),
+    (
+        "N2",
+        "N2: the file that saves are to be kept in holds something else.
+Rule: a file is written over only where it is empty, or begins as a save does, with FORM (own).
+Do: name another file, or say --force where what it holds isn't needed.
+",
+    ),
+];

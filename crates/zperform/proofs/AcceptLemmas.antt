@@ -4,7 +4,7 @@ use Rattle.std.specs.Prelude.{IfOk, IfErr, IsErr, IsErrAnd, Result, Ok, Err}
 use Rattle.zstory.specs.LoadedStory.{LoadedStory}
 use Rattle.zperform.specs.declared.outcome.Failure.TheVariants.{File, Read, Write, Memory}
 use Rattle.zperform.specs.declared.outcome.Problem.{Problem}
-use Rattle.zperform.specs.declared.outcome.Problem.TheVariants.{Refused, Unreadable, BreaksStory, BreaksInstruction, Unlisted, Unfound, Failed}
+use Rattle.zperform.specs.declared.outcome.Problem.TheVariants.{Refused, Unreadable, BreaksStory, BreaksInstruction, Unlisted, Unfound, Occupied, Failed}
 use Rattle.zstory.specs.Refusal.{HasNone, IsCause}
 use Rattle.zstory.specs.declared.load_error.LoadError.TheVariants.{TooShort}
 use Rattle.zdomain.specs.declared.interval.Interval.{Interval}
@@ -57,6 +57,7 @@ no_story_refuses story_known certificate_known (BreaksStory rule) h = absurd h
 no_story_refuses story_known certificate_known (BreaksInstruction address rule) h = absurd h
 no_story_refuses story_known certificate_known (Unlisted error) h = absurd h
 no_story_refuses story_known certificate_known (Unfound error broken) h = absurd h
+no_story_refuses story_known certificate_known (Occupied purpose) h = absurd h
 no_story_refuses story_known certificate_known (Failed File) h = tt
 no_story_refuses story_known certificate_known (Failed Read) h = absurd h
 no_story_refuses story_known certificate_known (Failed Write) h = absurd h
@@ -70,6 +71,7 @@ no_certificate_refuses story_known certificate_known story held (BreaksStory rul
 no_certificate_refuses story_known certificate_known story held (BreaksInstruction address rule) h = absurd h
 no_certificate_refuses story_known certificate_known story held (Unlisted error) h = absurd h
 no_certificate_refuses story_known certificate_known story held (Unfound error broken) h = absurd h
+no_certificate_refuses story_known certificate_known story held (Occupied purpose) h = absurd h
 no_certificate_refuses story_known certificate_known story held (Failed File) h = tt
 no_certificate_refuses story_known certificate_known story held (Failed Read) h = absurd h
 no_certificate_refuses story_known certificate_known story held (Failed Write) h = absurd h
@@ -128,6 +130,7 @@ module _ (known : Option (List ℕ)) (taken : List ℕ) (part : (file : List ℕ
   no_certificate (BreaksInstruction address rule) h = absurd h
   no_certificate (Unlisted error) h = absurd h
   no_certificate (Unfound error broken) h = absurd h
+  no_certificate (Occupied purpose) h = absurd h
   no_certificate (Failed File) h = absurd h
   no_certificate (Failed Read) h = absurd h
   no_certificate (Failed Write) h = absurd h
@@ -150,6 +153,7 @@ module _ (known : Option (List ℕ)) (taken : List ℕ) (part : (file : List ℕ
   no_story (BreaksInstruction address rule) h = absurd h
   no_story (Unlisted error) h = absurd h
   no_story (Unfound error broken) h = absurd h
+  no_story (Occupied purpose) h = absurd h
   no_story (Failed File) h = absurd h
   no_story (Failed Read) h = absurd h
   no_story (Failed Write) h = absurd h

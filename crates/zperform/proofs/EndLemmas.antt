@@ -10,7 +10,7 @@ use Rattle.zperform.specs.Devices.{Ends, Seen, Writes}
 use Rattle.zperform.specs.Finding.{FindEnds, IsNotFound}
 use Rattle.zperform.specs.declared.outcome.Failure.TheVariants.{File, Read, Write, Memory}
 use Rattle.zperform.specs.declared.outcome.Problem.{Problem}
-use Rattle.zperform.specs.declared.outcome.Problem.TheVariants.{Refused, Unreadable, BreaksStory, BreaksInstruction, Unlisted, Unfound, Failed}
+use Rattle.zperform.specs.declared.outcome.Problem.TheVariants.{Refused, Unreadable, BreaksStory, BreaksInstruction, Unlisted, Unfound, Occupied, Failed}
 use Rattle.zperform.specs.declared.outcome.Outcome.{Outcome}
 use Rattle.zperform.specs.declared.outcome.Outcome.TheVariants.{Stopped}
 
@@ -34,6 +34,7 @@ stops begun IsWhy before (BreaksStory rule) other why = (why, refl)
 stops begun IsWhy before (BreaksInstruction address rule) other why = (why, refl)
 stops begun IsWhy before (Unlisted error) other why = (why, refl)
 stops begun IsWhy before (Unfound error broken) other why = (why, refl)
+stops begun IsWhy before (Occupied purpose) other why = (why, refl)
 stops begun IsWhy before (Failed File) other why = (why, refl)
 stops begun IsWhy before (Failed Read) other why = (why, refl)
 stops begun IsWhy before (Failed Write) other why = absurd (other refl)

@@ -18,7 +18,7 @@ use Rattle.zplayer.specs.Outside.{Coming, words_from}
 use Rattle.zplayer.specs.World.{Kept, Store, World, world}
 use Rattle.zperform.specs.declared.outcome.Failure.TheVariants.{File, Read, Write, Memory}
 use Rattle.zperform.specs.declared.outcome.Problem.{Problem}
-use Rattle.zperform.specs.declared.outcome.Problem.TheVariants.{Refused, Unreadable, BreaksStory, BreaksInstruction, Unlisted, Unfound, Failed}
+use Rattle.zperform.specs.declared.outcome.Problem.TheVariants.{Refused, Unreadable, BreaksStory, BreaksInstruction, Unlisted, Unfound, Occupied, Failed}
 use Rattle.zperform.specs.declared.outcome.Outcome.{Outcome}
 use Rattle.zperform.specs.declared.outcome.Outcome.TheVariants.{Listed, Found, Accepted, Explained, NoSuchCode, Played, Stopped}
 use Rattle.zperform.specs.Playing.{ComesTo, Holds, IsPlayed, IsRefused, IsUnloaded, Reads, StaysEmpty}
@@ -58,6 +58,7 @@ module _ (known : Option (List ℕ)) (taken : List ℕ) (options : Options) (giv
   of_part (Stopped (BreaksInstruction address rule)) h = h
   of_part (Stopped (Unlisted error)) h = h
   of_part (Stopped (Unfound error broken)) h = h
+  of_part (Stopped (Occupied purpose)) h = h
   of_part (Stopped (Failed File)) h = h
   of_part (Stopped (Failed Read)) h = played_along (Err errors.Read) h
   of_part (Stopped (Failed Write)) h = played_along (Err errors.Write) h
@@ -92,6 +93,7 @@ unloaded_comes file options given before (BreaksStory rule) h = absurd h
 unloaded_comes file options given before (BreaksInstruction address rule) h = absurd h
 unloaded_comes file options given before (Unlisted error) h = absurd h
 unloaded_comes file options given before (Unfound error broken) h = absurd h
+unloaded_comes file options given before (Occupied purpose) h = absurd h
 unloaded_comes file options given before (Failed File) h = absurd h
 unloaded_comes file options given before (Failed Read) h = absurd h
 unloaded_comes file options given before (Failed Write) h = absurd h

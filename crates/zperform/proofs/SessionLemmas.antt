@@ -19,7 +19,7 @@ use Rattle.zplayer.specs.World.{Store, World}
 use Rattle.zperform.specs.declared.outcome.Failure.{Failure}
 use Rattle.zperform.specs.declared.outcome.Failure.TheVariants.{File, Read, Write, Memory}
 use Rattle.zperform.specs.declared.outcome.Problem.{Problem}
-use Rattle.zperform.specs.declared.outcome.Problem.TheVariants.{Refused, Unreadable, BreaksStory, BreaksInstruction, Unlisted, Unfound, Failed}
+use Rattle.zperform.specs.declared.outcome.Problem.TheVariants.{Refused, Unreadable, BreaksStory, BreaksInstruction, Unlisted, Unfound, Occupied, Failed}
 use Rattle.zperform.specs.declared.outcome.Outcome.TheVariants.{Played, Stopped}
 use Rattle.zperform.specs.Accepting.{Accepts, IsAccepted, IsPlayedBy, IsUnaccepted, PlayComesTo}
 use Rattle.zperform.specs.Playing.{StaysEmpty}
@@ -89,6 +89,7 @@ module _ (story certificate : Option (List ℕ)) where
   unblamed (BreaksInstruction address rule) h = (λ e. cc, λ e. cc)
   unblamed (Unlisted error) h = absurd h
   unblamed (Unfound error broken) h = absurd h
+  unblamed (Occupied purpose) h = absurd h
   unblamed (Failed File) h = (λ e. cc, λ e. cc)
   unblamed (Failed Memory) h = (λ e. cc, λ e. cc)
   unblamed (Failed Read) h = absurd h
@@ -103,6 +104,7 @@ unplayed story certificate options given before (BreaksStory rule) h = (h, refl,
 unplayed story certificate options given before (BreaksInstruction address rule) h = (h, refl, refl)
 unplayed story certificate options given before (Unlisted error) h = absurd h
 unplayed story certificate options given before (Unfound error broken) h = absurd h
+unplayed story certificate options given before (Occupied purpose) h = absurd h
 unplayed story certificate options given before (Failed File) h = (h, refl, refl)
 unplayed story certificate options given before (Failed Memory) h = inl (refl, refl, h)
 unplayed story certificate options given before (Failed Read) h = absurd h

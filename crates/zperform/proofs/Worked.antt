@@ -22,7 +22,9 @@ use Rattle.zplayer.specs.declared.end.PlayError.{PlayError}
 use Rattle.zplayer.specs.declared.end.PlayError.TheVariants as errors
 use Rattle.zperform.specs.declared.outcome.Failure.{Failure}
 use Rattle.zperform.specs.declared.outcome.Failure.TheVariants.{File, Read, Write, Memory}
-use Rattle.zperform.specs.declared.outcome.Problem.TheVariants.{Refused, Unreadable, BreaksStory, BreaksInstruction, Unlisted, Unfound, Failed}
+use Rattle.zperform.specs.declared.outcome.Problem.TheVariants.{Refused, Unreadable, BreaksStory, BreaksInstruction, Unlisted, Unfound, Occupied, Failed}
+use Rattle.zperform.specs.declared.outcome.Purpose.TheVariants as purposes
+use Rattle.zperform.specs.Keeping.{BeginsSo, IsOccupied, MayWrite, kept_in}
 use Rattle.zperform.specs.declared.outcome.Outcome.{Outcome}
 use Rattle.zperform.specs.declared.outcome.Outcome.TheVariants.{Listed, Found, Accepted, Explained, NoSuchCode, Played, Stopped}
 use Rattle.std.specs.Prelude.{◌≢◌, ◌⊎◌, ⊤, ℤ, negsuc, Option, None, Some, Result, if◌then◌else◌}
@@ -297,10 +299,10 @@ blamed :
     IsBlamed (ListStory (5 ∷ []) None) (drawer 0 [] [] (5 ∷ [])) × (IsBlamed (ListStory (5 ∷ []) None) (drawer 0 [] [] (6 ∷ [])) → ⊥)
     × IsBlamed (ListStory (5 ∷ []) (Some (6 ∷ []))) (drawer 0 [] [] (5 ∷ [])) × (IsBlamed (ListStory (5 ∷ []) (Some (6 ∷ []))) (drawer 0 (5 ∷ []) [] (6 ∷ [])) → ⊥)
     × (IsBlamed (ListStory (5 ∷ []) (Some (6 ∷ []))) (drawer 0 [] [] (7 ∷ [])) → ⊥)
-    × IsBlamed (Play (5 ∷ []) None 1 100 false (Some (6 ∷ [])) false) (drawer 0 [] [] (5 ∷ [])) × (IsBlamed (Play (5 ∷ []) None 1 100 false (Some (6 ∷ [])) false) (drawer 0 [] [] (6 ∷ [])) → ⊥)
+    × IsBlamed (Play (5 ∷ []) None 1 100 false (Some (6 ∷ [])) false false) (drawer 0 [] [] (5 ∷ [])) × (IsBlamed (Play (5 ∷ []) None 1 100 false (Some (6 ∷ [])) false false) (drawer 0 [] [] (6 ∷ [])) → ⊥)
     × IsBlamed (Check (5 ∷ []) (6 ∷ [])) (drawer 0 [] [] (5 ∷ [])) × (IsBlamed (Check (5 ∷ []) (6 ∷ [])) (drawer 0 (5 ∷ []) [] (6 ∷ [])) → ⊥) × (IsBlamed (Check (5 ∷ []) (6 ∷ [])) (drawer 0 [] [] (7 ∷ [])) → ⊥)
-    × IsBlamed (Play (5 ∷ []) (Some (6 ∷ [])) 1 100 false None false) (drawer 0 [] [] (5 ∷ [])) × (IsBlamed (Play (5 ∷ []) (Some (6 ∷ [])) 1 100 false None false) (drawer 0 (5 ∷ []) [] (6 ∷ [])) → ⊥)
-    × IsBlamed (Find (5 ∷ []) (6 ∷ [])) (drawer 0 [] [] (5 ∷ [])) × (IsBlamed (Find (5 ∷ []) (6 ∷ [])) (drawer 0 (5 ∷ []) [] (6 ∷ [])) → ⊥) × (IsBlamed (Explain (5 ∷ [])) (drawer 0 [] [] (5 ∷ [])) → ⊥)
+    × IsBlamed (Play (5 ∷ []) (Some (6 ∷ [])) 1 100 false None false false) (drawer 0 [] [] (5 ∷ [])) × (IsBlamed (Play (5 ∷ []) (Some (6 ∷ [])) 1 100 false None false false) (drawer 0 (5 ∷ []) [] (6 ∷ [])) → ⊥)
+    × IsBlamed (Find (5 ∷ []) (6 ∷ []) false) (drawer 0 [] [] (5 ∷ [])) × (IsBlamed (Find (5 ∷ []) (6 ∷ []) false) (drawer 0 (5 ∷ []) [] (6 ∷ [])) → ⊥) × (IsBlamed (Explain (5 ∷ [])) (drawer 0 [] [] (5 ∷ [])) → ⊥)
 unfolding drawer
 blamed = (
   refl,
@@ -331,7 +333,7 @@ blamed = (
     of_another (inl e) = true≢false (sym e)
     of_another (inr (held, e)) = true≢false (sym e)
 
-    of_none_found : IsBlamed (Find (5 ∷ []) (6 ∷ [])) (drawer 0 (5 ∷ []) [] (6 ∷ [])) → ⊥
+    of_none_found : IsBlamed (Find (5 ∷ []) (6 ∷ []) false) (drawer 0 (5 ∷ []) [] (6 ∷ [])) → ⊥
     of_none_found (inl e) = true≢false (sym e)
     of_none_found (inr ((bytes, (story, held, found)), e)) = empty_holds_none story held
 
@@ -347,13 +349,13 @@ never : (story certificate before now : Option (List ℕ)) (options : Options) (
 never story certificate before now options outside = (λ no. no, λ no. no, λ no. no, λ no. no.0)
 
 -- input is read for a play alone
-input_read : (is_quiet (ListStory (codes "hello.z3") None) ≡ true) × (is_quiet (ListStory (codes "hello.z3") (Some (codes "hello.cert"))) ≡ true) × (is_quiet (Find (codes "hello.z3") (codes "hello.cert")) ≡ true) × (is_quiet (Explain (codes "I5")) ≡ true) × (is_quiet (Check (codes "hello.z3") (codes "hello.cert")) ≡ true) × (is_quiet (Play (codes "hello.z3") None 1 100 false None false) ≡ false)
+input_read : (is_quiet (ListStory (codes "hello.z3") None) ≡ true) × (is_quiet (ListStory (codes "hello.z3") (Some (codes "hello.cert"))) ≡ true) × (is_quiet (Find (codes "hello.z3") (codes "hello.cert") false) ≡ true) × (is_quiet (Explain (codes "I5")) ≡ true) × (is_quiet (Check (codes "hello.z3") (codes "hello.cert")) ≡ true) × (is_quiet (Play (codes "hello.z3") None 1 100 false None false false) ≡ false)
 input_read = (refl, refl, refl, refl, refl, refl)
 
 -- a file may be written for a certificate and for saves
 files_written :
-    (written_by (ListStory (codes "hello.z3") None) ≡ None) × (written_by (ListStory (codes "hello.z3") (Some (codes "hello.cert"))) ≡ None) × (written_by (Find (codes "hello.z3") (codes "hello.cert")) ≡ Some (codes "hello.cert")) × (written_by (Check (codes "hello.z3") (codes "hello.cert")) ≡ None)
-    × (written_by (Play (codes "hello.z3") None 1 100 false (Some (codes "a.qzl")) false) ≡ Some (codes "a.qzl")) × (written_by (Explain (codes "I5")) ≡ None)
+    (written_by (ListStory (codes "hello.z3") None) ≡ None) × (written_by (ListStory (codes "hello.z3") (Some (codes "hello.cert"))) ≡ None) × (written_by (Find (codes "hello.z3") (codes "hello.cert") false) ≡ Some (codes "hello.cert")) × (written_by (Check (codes "hello.z3") (codes "hello.cert")) ≡ None)
+    × (written_by (Play (codes "hello.z3") None 1 100 false (Some (codes "a.qzl")) false false) ≡ Some (codes "a.qzl")) × (written_by (Explain (codes "I5")) ≡ None)
 files_written = (refl, refl, refl, refl, refl, refl)
 
 -- a text that was found isn't kept by a file of other bytes
@@ -366,3 +368,36 @@ kept_nowhere :
     → ((file : List ℕ) (p : IsPlayed file options (given input seed (store_of None)) [] before now result) → p.store.kept ≡ Some None)
     × ((a : Acceptance) (p : IsPlayedBy a options (given input seed (store_of None)) [] before now result) → p.store.kept ≡ Some None)
 kept_nowhere input before now seed options result = (λ file p. p.unsaved refl, λ a p. p.unsaved refl)
+
+-- ---- files that are to be written over
+
+-- a file is what it is to be where it begins so, or is shorter and as far as it goes
+begun_so :
+    BeginsSo (codes "ZPCC") [] × BeginsSo (codes "ZPCC") (codes "ZPC") × BeginsSo (codes "ZPCC") (codes "ZPCC") × BeginsSo (codes "FORM") (codes "FORM" ++ 0 ∷ [])
+    × (BeginsSo (codes "ZPCC") (3 ∷ []) → ⊥) × (BeginsSo (codes "ZPCC") (codes "ZPCD") → ⊥) × (BeginsSo (codes "FORM") (codes "FORN" ++ 0 ∷ []) → ⊥)
+begun_so = (refl, refl, refl, refl, λ e. absurd cc, λ e. absurd cc, λ e. absurd cc)
+
+-- a certificate that is found and saves are kept so, unless any file may be written over
+kept_so :
+    (kept_in (Find (1 ∷ []) (2 ∷ []) false) ≡ Some (2 ∷ [], purposes.Certificate)) × (kept_in (Find (1 ∷ []) (2 ∷ []) true) ≡ None)
+    × (kept_in (Play (1 ∷ []) None 1 2 false (Some (7 ∷ [])) true false) ≡ Some (7 ∷ [], purposes.Save)) × (kept_in (Play (1 ∷ []) (Some (2 ∷ [])) 1 2 false (Some (7 ∷ [])) false true) ≡ None)
+    × (kept_in (Play (1 ∷ []) None 1 2 true None true false) ≡ None) × (kept_in (Check (1 ∷ []) (2 ∷ [])) ≡ None)
+kept_so = (refl, refl, refl, refl, refl, refl)
+
+-- a story's file isn't written over by saves, and a file of saves is, or by anything where that is asked for
+module _ (story saves : List ℕ → Option (List ℕ)) (is : story (7 ∷ []) ≡ Some (3 ∷ 0 ∷ [])) (are : saves (7 ∷ []) ≡ Some (codes "FORM")) where
+  occupied :
+      IsOccupied (Play (7 ∷ []) None 1 2 false (Some (7 ∷ [])) false false) story (Occupied purposes.Save) × (MayWrite (Play (7 ∷ []) None 1 2 false (Some (7 ∷ [])) false false) story → ⊥)
+      × MayWrite (Play (1 ∷ []) None 1 2 false (Some (7 ∷ [])) false false) saves × MayWrite (Play (7 ∷ []) None 1 2 false (Some (7 ∷ [])) false true) story
+      × (IsOccupied (Find (1 ∷ []) (7 ∷ []) false) story (Occupied purposes.Save) → ⊥)
+  occupied = (((7 ∷ [], purposes.Save), refl, refl, rw is (λ e. absurd cc)), rw is (λ e. absurd cc), rw are refl, tt, another)
+    where
+      another : IsOccupied (Find (1 ∷ []) (7 ∷ []) false) story (Occupied purposes.Save) → ⊥
+      another ((name, purposes.Certificate), e, told, other) = cc
+      another ((name, purposes.Save), e, told, other) = cc
+
+-- and that is told, as a refusal
+occupied_told :
+    (text_of (Stopped (Occupied purposes.Certificate)) ≡ codes "refused: N1") × (text_of (Stopped (Occupied purposes.Save)) ≡ codes "refused: N2") × (status_of (Stopped (Occupied purposes.Save)) ≡ 1)
+unfolding digits
+occupied_told = (refl, refl, refl)

@@ -36,7 +36,7 @@ use Rattle.zperform.specs.Contents.{CountsNone, ReadsPart, SparesOthers}
 use Rattle.zperform.specs.Devices.{Breaks, Devices, Ends, FlushesUnless, Held, ReadsUnless, Says, Seen, Takes, Told, UsesUnless, Writes, devices}
 use Rattle.zperform.specs.Finding.{ExplainComesTo, FindComesTo, FindEnds, HasAlone, IsFound, IsNotFound, found_line}
 use Rattle.zperform.specs.Listing.{HoldsListed, HoldsListedBy, IsNoListing, ListByComesTo, ListComesTo, listing_text}
-use Rattle.zperform.specs.Performing.{Comes, Does, Explains, IsBlamed, Lacks, Performs, Reports, Shows, Tells, given, is_quiet, said_by, save_in, store_of, written_by}
+use Rattle.zperform.specs.Performing.{Begins, Comes, Does, Explains, IsBlamed, Lacks, Performs, Reports, Shows, Tells, given, is_quiet, said_by, save_in, store_of, written_by}
 use Rattle.zperform.specs.Report.{line_of}
 use Rattle.zperform.specs.Telling.{SaysEach, refusal_text, said_of}
 use Rattle.zperform.specs.Playing.{ComesTo, IsPlayed, IsRefused}
@@ -166,7 +166,7 @@ each_told = (
 -- they are told where that is asked for and saves are in a file, and by plays alone
 told_where :
     (said_of true (Some (7 ∷ [])) (Length ∷ NotForm ∷ []) ≡ Length ∷ NotForm ∷ []) × (said_of false (Some (7 ∷ [])) (Length ∷ []) ≡ []) × (said_of true None (Length ∷ []) ≡ [])
-    × (said_by (Play (1 ∷ []) None 1 2 false (Some (7 ∷ [])) true) (Length ∷ []) ≡ Length ∷ []) × (said_by (Play (1 ∷ []) None 1 2 true (Some (7 ∷ [])) false) (Length ∷ []) ≡ []) × (said_by (Find (1 ∷ []) (2 ∷ [])) (Length ∷ []) ≡ [])
+    × (said_by (Play (1 ∷ []) None 1 2 false (Some (7 ∷ [])) true false) (Length ∷ []) ≡ Length ∷ []) × (said_by (Play (1 ∷ []) None 1 2 true (Some (7 ∷ [])) false false) (Length ∷ []) ≡ []) × (said_by (Find (1 ∷ []) (2 ∷ []) false) (Length ∷ []) ≡ [])
 told_where = (refl, refl, refl, refl, refl, refl)
 
 -- want of memory is told, and nothing else is done
@@ -184,16 +184,16 @@ lacking = (
 -- each is of the file that its request names, as it was, and of what was written before and is now
 module _ (story certificate : List ℕ) (held holds : List ℕ → Option (List ℕ)) (input before now : Option (List ℕ)) (outcome : Outcome) where
   comes_of_files :
-      (Comes (ListStory story None) held holds input [] before now outcome → ListComesTo (held story) before now outcome)
-      × (Comes (ListStory story (Some certificate)) held holds input [] before now outcome → ListByComesTo (held story) (held certificate) before now outcome) × (Comes (Find story certificate) held holds input [] before now outcome → FindComesTo story certificate held holds before now outcome)
+      (force : Bool) → (Comes (ListStory story None) held holds input [] before now outcome → ListComesTo (held story) before now outcome)
+      × (Comes (ListStory story (Some certificate)) held holds input [] before now outcome → ListByComesTo (held story) (held certificate) before now outcome) × (Comes (Find story certificate force) held holds input [] before now outcome → FindComesTo story certificate held holds before now outcome)
       × (Comes (Check story certificate) held holds input [] before now outcome → CheckComesTo (held story) (held certificate) before now outcome) × (Comes (Explain story) held holds input [] before now outcome → ExplainComesTo story before now outcome)
-  comes_of_files = (λ comes. comes, λ comes. comes, λ comes. comes, λ comes. comes, λ comes. comes)
+  comes_of_files force = (λ comes. comes, λ comes. comes, λ comes. comes, λ comes. comes, λ comes. comes)
 
   comes_of_plays :
-      (seed budget : ℕ) (status : Bool) (save : Option (List ℕ)) (tell : Bool)
-      → (Comes (Play story None seed budget status save tell) held holds input [] before now outcome → ComesTo (held story) (record { budget = budget; status = status }) (given input seed (store_of save)) [] before now outcome)
-      × (Comes (Play story (Some certificate) seed budget status save tell) held holds input [] before now outcome → PlayComesTo (held story) (held certificate) (record { budget = budget; status = status }) (given input seed (store_of save)) [] before now outcome)
-  comes_of_plays seed budget status save tell = (λ comes. comes, λ comes. comes)
+      (seed budget : ℕ) (status : Bool) (save : Option (List ℕ)) (tell force : Bool)
+      → (Comes (Play story None seed budget status save tell force) held holds input [] before now outcome → ComesTo (held story) (record { budget = budget; status = status }) (given input seed (store_of save)) [] before now outcome)
+      × (Comes (Play story (Some certificate) seed budget status save tell force) held holds input [] before now outcome → PlayComesTo (held story) (held certificate) (record { budget = budget; status = status }) (given input seed (store_of save)) [] before now outcome)
+  comes_of_plays seed budget status save tell force = (λ comes. comes, λ comes. comes)
 
 -- nothing is written where a file isn't read, is no story, or wants memory
 abbrev IsUnwritten : (Option (List ℕ) → Option (List ℕ) → Outcome → Type 0) → Outcome → Type 0
@@ -407,7 +407,7 @@ module _ (words : List (List ℕ)) (status : ℕ) (old new : Devices) where
 
   -- what is done is of the devices as they were and as they are
   done :
-      (did : Does words status old new) → Comes did.request old.files.known new.files.known old.reader.remaining did.refusals old.writer.contents new.writer.contents did.outcome
+      (did : Does words status old new) → Begins did.request old.files.known new.files.known old.reader.remaining did.refusals old.writer.contents new.writer.contents did.outcome
       × (did.outcome ≡ Stopped (Failed File) → IsBlamed did.request old.files) × Blames (did.outcome ≡ Stopped (Failed Read)) old.reader.failures new.reader.failures × (is_quiet did.request ≡ true → new.reader ≡ old.reader)
       × SaysEach (said_by did.request did.refusals) old.errors did.between × Reports did.outcome status did.between new.errors × FlushesUnless (λ (s : Seen). s.failures) (λ (s : Seen). s.waits) old.writer new.writer (did.outcome ≡ Stopped (Failed Write))
       × UsesUnless (λ (f : Held). f.known) (λ (f : Held). f.failures) old.files new.files (save_in did.request) (written_by did.request) (did.outcome ≡ Stopped (Failed File))

@@ -29,7 +29,7 @@ use Rattle.zperform.specs.Contents.{HasBytes}
 use Rattle.zperform.specs.Devices.{Held}
 use Rattle.zperform.specs.declared.outcome.Failure.TheVariants.{File, Read, Write, Memory}
 use Rattle.zperform.specs.declared.outcome.Problem.{Problem}
-use Rattle.zperform.specs.declared.outcome.Problem.TheVariants.{Refused, Unreadable, BreaksStory, BreaksInstruction, Unlisted, Unfound, Failed}
+use Rattle.zperform.specs.declared.outcome.Problem.TheVariants.{Refused, Unreadable, BreaksStory, BreaksInstruction, Unlisted, Unfound, Occupied, Failed}
 use Rattle.zperform.specs.declared.outcome.Outcome.{Outcome}
 use Rattle.zperform.specs.declared.outcome.Outcome.TheVariants.{Listed, Found, Accepted, Explained, NoSuchCode, Played, Stopped}
 use Rattle.zperform.specs.Playing.{Holds, IsRefused, Reads, StaysEmpty}
@@ -96,6 +96,7 @@ IsUnaccepted story_known certificate_known (BreaksInstruction address rule) =
     Breaks story_known certificate_known (λ story c. IsCause interval_operations story c (Instruction address rule))
 IsUnaccepted story_known certificate_known (Unlisted error) = ⊥
 IsUnaccepted story_known certificate_known (Unfound error broken) = ⊥
+IsUnaccepted story_known certificate_known (Occupied purpose) = ⊥
 IsUnaccepted story_known certificate_known (Failed File) = ⊤
 IsUnaccepted story_known certificate_known (Failed Memory) = HasBytes story_known
 IsUnaccepted story_known certificate_known (Failed Read) = ⊥

@@ -5,6 +5,7 @@ pub mod Telling
 pub mod TellingLaw
 pub mod Playing
 pub mod Accepting
+pub mod Keeping
 pub mod Listing
 pub mod Finding
 pub mod Performing

@@ -12,10 +12,12 @@ use Rattle.zperform.specs.Devices.{Breaks, Devices, FlushesUnless, Held, Says, S
 use Rattle.zperform.specs.Playing.{ComesTo}
 use Rattle.zperform.specs.Accepting.{CheckComesTo, IsOfEither, PlayComesTo}
 use Rattle.zperform.specs.Finding.{ExplainComesTo, FindComesTo, IsOfStoryOrFound}
+use Rattle.zperform.specs.Keeping.{IsOccupied, MayWrite}
 use Rattle.zperform.specs.Listing.{ListByComesTo, ListComesTo}
 use Rattle.zperform.specs.Report.{line_of, status_of, text_of}
 use Rattle.zperform.specs.Telling.{SaysEach, said_of}
 use Rattle.zperform.specs.declared.outcome.Failure.TheVariants.{File, Read, Write, Memory}
+use Rattle.zperform.specs.declared.outcome.Problem.{Problem}
 use Rattle.zperform.specs.declared.outcome.Problem.TheVariants.{Failed}
 use Rattle.zperform.specs.declared.outcome.Outcome.{Outcome}
 use Rattle.zperform.specs.declared.outcome.Outcome.TheVariants.{Stopped}
@@ -72,45 +74,51 @@ given input seed store = world input (Some (words_of seed)) store
 abbrev pub Comes : Request → (List ℕ → Option (List ℕ)) → (List ℕ → Option (List ℕ)) → Option (List ℕ) → List SaveError → Option (List ℕ) → Option (List ℕ) → Outcome → Type 0
 Comes (ListStory story None) held holds input refusals before now outcome = ListComesTo (held story) before now outcome
 Comes (ListStory story (Some certificate)) held holds input refusals before now outcome = ListByComesTo (held story) (held certificate) before now outcome
-Comes (Find story certificate) held holds input refusals before now outcome = FindComesTo story certificate held holds before now outcome
+Comes (Find story certificate force) held holds input refusals before now outcome = FindComesTo story certificate held holds before now outcome
 Comes (Check story certificate) held holds input refusals before now outcome = CheckComesTo (held story) (held certificate) before now outcome
-Comes (Play story None seed budget status save tell) held holds input refusals before now outcome =
+Comes (Play story None seed budget status save tell force) held holds input refusals before now outcome =
     ComesTo (held story) (record { budget = budget; status = status }) (given input seed (store_of save)) refusals before now outcome
-Comes (Play story (Some certificate) seed budget status save tell) held holds input refusals before now outcome =
+Comes (Play story (Some certificate) seed budget status save tell force) held holds input refusals before now outcome =
     PlayComesTo (held story) (held certificate) (record { budget = budget; status = status }) (given input seed (store_of save)) refusals before now outcome
 Comes (Explain code) held holds input refusals before now outcome = ExplainComesTo code before now outcome
 
+-- A request is done where its file may be written over. Else that is told, and nothing is done.
+abbrev pub Begins : Request → (List ℕ → Option (List ℕ)) → (List ℕ → Option (List ℕ)) → Option (List ℕ) → List SaveError → Option (List ℕ) → Option (List ℕ) → Outcome → Type 0
+Begins request held holds input refusals before now outcome =
+    (MayWrite request held × Comes request held holds input refusals before now outcome)
+    ⊎ ((problem : Problem) × (outcome ≡ Stopped problem) × IsOccupied request held problem × (holds ≡ held) × (now ≡ before))
+
 -- a request whose answer needs no input
 abbrev pub is_quiet : Request → Bool
-is_quiet (Play story certificate seed budget status save tell) = false
+is_quiet (Play story certificate seed budget status save tell force) = false
 is_quiet _ = true
 
 -- the name of the file that saves are kept in, if a request has one
 abbrev pub save_in : Request → Option Text
-save_in (Play story certificate seed budget status save tell) = save
+save_in (Play story certificate seed budget status save tell force) = save
 save_in _ = None
 
 -- the name of the file that a request may write
 abbrev pub written_by : Request → Option Text
-written_by (Find story certificate) = Some certificate
+written_by (Find story certificate force) = Some certificate
 written_by request = save_in request
 
 -- the refusals that are said of those that a request met, the newest first
 abbrev pub said_by : Request → List SaveError → List SaveError
-said_by (Play story certificate seed budget status save tell) refusals = said_of tell save refusals
+said_by (Play story certificate seed budget status save tell force) refusals = said_of tell save refusals
 said_by _ refusals = []
 
 -- which file a failure of files is of, by what is asked for
 abbrev pub IsBlamed : Request → Held → Type 0
 IsBlamed (ListStory story None) files = files.can_fail story ≡ true
 IsBlamed (ListStory story (Some certificate)) files = IsOfEither files story certificate
-IsBlamed (Find story certificate) files = IsOfStoryOrFound files story certificate
+IsBlamed (Find story certificate force) files = IsOfStoryOrFound files story certificate
 IsBlamed (Check story certificate) files = IsOfEither files story certificate
-IsBlamed (Play story None seed budget status save tell) files = files.can_fail story ≡ true
-IsBlamed (Play story (Some certificate) seed budget status save tell) files = IsOfEither files story certificate
+IsBlamed (Play story None seed budget status save tell force) files = files.can_fail story ≡ true
+IsBlamed (Play story (Some certificate) seed budget status save tell force) files = IsOfEither files story certificate
 IsBlamed (Explain code) files = ⊥
 
--- A request, with the values among clap's matches: what it comes to is reported, behind a line of each save that was refused, where
+-- A request, with the values among clap's matches: what it comes to is reported, if its file may be written over, behind a line of each save that was refused, where
 -- those are asked for. The writer is blamed just where it failed, and
 -- so are the reader, which isn't asked but for a play, and the files, unless saves are kept in one: then they may fail, and the play goes
 -- on. A failure of files is one of a file that the request names. No file is written but the one for saves or for a certificate that is
@@ -122,7 +130,7 @@ pub record Does (words : List Text) (status : ℕ) (old new : Devices) : Type 0 
   pub asks : Asks matches request
   pub outcome : Outcome
   pub refusals : List SaveError
-  pub comes : Comes request old.files.known new.files.known old.reader.remaining refusals old.writer.contents new.writer.contents outcome
+  pub comes : Begins request old.files.known new.files.known old.reader.remaining refusals old.writer.contents new.writer.contents outcome
   pub writer : FlushesUnless (λ (s : Seen). s.failures) (λ (s : Seen). s.waits) old.writer new.writer (outcome ≡ Stopped (Failed Write))
   pub files : UsesUnless (λ (f : Held). f.known) (λ (f : Held). f.failures) old.files new.files (save_in request) (written_by request) (outcome ≡ Stopped (Failed File))
   pub could : outcome ≡ Stopped (Failed File) → IsBlamed request old.files

@@ -24,10 +24,11 @@ use Rattle.zplayer.specs.declared.end.End.{End}
 use Rattle.zplayer.specs.declared.end.End.TheVariants as ends
 use Rattle.zplayer.specs.declared.end.PlayError.{PlayError}
 use Rattle.zplayer.specs.declared.end.PlayError.TheVariants as errors
+use Rattle.zperform.specs.Keeping.{purpose_number}
 use Rattle.zperform.specs.declared.outcome.Failure.{Failure}
 use Rattle.zperform.specs.declared.outcome.Failure.TheVariants.{File, Read, Write, Memory}
 use Rattle.zperform.specs.declared.outcome.Problem.{Problem}
-use Rattle.zperform.specs.declared.outcome.Problem.TheVariants.{Refused, Unreadable, BreaksStory, BreaksInstruction, Unlisted, Unfound, Failed}
+use Rattle.zperform.specs.declared.outcome.Problem.TheVariants.{Refused, Unreadable, BreaksStory, BreaksInstruction, Unlisted, Unfound, Occupied, Failed}
 use Rattle.zperform.specs.declared.outcome.Outcome.{Outcome}
 use Rattle.zperform.specs.declared.outcome.Outcome.TheVariants.{Listed, Found, Accepted, Explained, NoSuchCode, Played, Stopped}
 
@@ -112,7 +113,7 @@ broken_text (Some (obstacles.Place place rule)) = codes "no certificate: I" ++ d
 -- what is said of a code that there isn't, as clap says it of words: three lines with empty ones between
 abbrev pub no_code : List ℕ
 no_code =
-    codes "error: there is no such code; there are L1 to L12, K1 to K8, S1 to S8, I1 to I18, U1 to U4, G1 to G3, F1 to F16, J1 to J5, E1 to E3, Q1 to Q11 and P1 to P3"
+    codes "error: there is no such code; there are L1 to L12, K1 to K8, S1 to S8, I1 to I18, U1 to U4, G1 to G3, F1 to F16, J1 to J5, E1 to E3, Q1 to Q11, P1 to P3 and N1 to N2"
     ++ 10 ∷ 10 ∷ codes "Usage: zpc explain <CODE>" ++ 10 ∷ 10 ∷ codes "For more information, try '--help'."
 
 abbrev pub text_of : Outcome → List ℕ
@@ -128,6 +129,7 @@ text_of (Stopped (BreaksStory rule)) = codes "refused: S" ++ decimal (story_rule
 text_of (Stopped (BreaksInstruction address rule)) = codes "refused: I" ++ decimal (rule_number rule) ++ codes " at " ++ place_text (pos address)
 text_of (Stopped (Unlisted error)) = codes "refused: U" ++ decimal (list_number error) ++ codes " at " ++ place_text (list_place error)
 text_of (Stopped (Unfound error broken)) = codes "refused: G" ++ decimal (find_number error) ++ stopped_text error ++ 10 ∷ broken_text broken
+text_of (Stopped (Occupied purpose)) = codes "refused: N" ++ decimal (purpose_number purpose)
 text_of (Stopped (Failed failure)) = failure_text failure
 
 -- what comes of playing, or of what kept it from being done

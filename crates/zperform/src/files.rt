@@ -1,11 +1,12 @@
 //! The files that commands name.
 
-ghost use Rattle.std.specs.Prelude.{◌≡◌, ◌<◌, ◌≤◌, ◌+◌, ℕ, Bool, true, false, List, None, Option, ◌⊎◌, Ok, Err, IfErr, IfOk, IfSome, IsErrOf, OnOk, Some, length, take, vec_len};
+ghost use Rattle.std.specs.Prelude.{◌≡◌, ◌<◌, ◌≤◌, ◌+◌, ℕ, Bool, true, false, List, None, Option, ◌⊎◌, Ok, Err, IfErr, IfOk, IfSome, IsErrOf, IsTrue, OnOk, ◌↔◌, Some, length, take, vec_len};
 ghost use Rattle.zfault.specs.Devices.{RisesByOne};
 ghost use Rattle.zplayer.specs.Outside.{CountsRefusal};
 ghost use Rattle.zperform.specs.Contents.{CountsNone, HasBytes, IsBeginning, ReadsPart, SparesOthers};
 ghost use Rattle.zperform.specs.Devices.{ReadsUnless};
 ghost use Rattle.zperform.specs.Finding.{HasAlone};
+ghost use Rattle.zperform.specs.Keeping.{BeginsSo};
 
 use crate::outcome::{Failure, Problem};
 use arrayvec::{ArrayString, ArrayVec};
@@ -15,6 +16,7 @@ use std::fs;
 use std::fs::OpenFile;
 use std::io::{self, ErrorKind, Read, Seek, SeekFrom, Write};
 use std::os::unix::fs::MetadataExt;
+use std::path::Path;
 use std::rt::Runtime;
 
 /// The most bytes that are read of a file in one call.
@@ -43,6 +45,11 @@ pub trait Files {
         ensures counts { CountsNone (failures self.old) (failures self.new) result }
         ensures could { result ≡ None → can_fail self.old name.now ≡ true }
         ensures alike { can_fail self.new ≡ can_fail self.old };
+
+    /// Whether the file of a name may be written over by one that begins with these four bytes: unless it is a plain file that holds others.
+    /// One that isn't there or can't be read may.
+    fn may_replace(&self, name: &str, magic: [u8; 4]) -> bool
+        ensures { IfSome (known self.now name.now) (λ bytes. IsTrue result ↔ BeginsSo magic bytes) };
 
     /// Makes a file that has these bytes alone. False where it failed, and only then the count of failures rises, by one.
     fn put(&mut self, name: &str, bytes: &[u8]) -> bool
@@ -129,6 +136,10 @@ impl<'a, R: Runtime> Files for Disk<'a, R> {
         count
     }
 
+    fn may_replace(&self, name: &str, magic: [u8; 4]) -> bool {
+        !holds_others(self.rt, name, magic).unwrap_or(false)
+    }
+
     fn put(&mut self, name: &str, bytes: &[u8]) -> bool {
         self.last = None;
         let done = replace(self.rt, name, bytes).is_ok();
@@ -137,6 +148,16 @@ impl<'a, R: Runtime> Files for Disk<'a, R> {
         }
         done
     }
+}
+
+/// Whether a name leads to a plain file that doesn't begin with these four bytes, nor with a part of them where it is shorter.
+fn holds_others<R: Runtime>(rt: &R, name: &str, magic: [u8; 4]) -> io::Result<bool> {
+    if !fs::metadata(rt, name)?.is_file() {
+        return Ok(false);
+    }
+    let mut first = [0; 4];
+    let count = fs::open(rt, name)?.read(&mut first)?;
+    Ok(first[..count] != magic[..count])
 }
 
 /// How many names are tried for a file beside another.
@@ -150,7 +171,7 @@ type Beside = ArrayString<BESIDE_LIMIT>;
 
 /// Writes a file whole in the place of the one of its name, or of the one that a link of that name leads to. A plain file is written beside
 /// that first, and takes its name once it is through, so that a full disk, or an end of the program, leaves the old one; anything else, as a
-/// pipe or a link that leads nowhere, is written to.
+/// pipe, is written to.
 fn replace<R: Runtime>(rt: &R, name: &str, bytes: &[u8]) -> io::Result<()> {
     match fs::symlink_metadata(rt, name) {
         Ok(there) if there.is_symlink() => replace_linked(rt, name, bytes),
@@ -163,13 +184,24 @@ fn replace<R: Runtime>(rt: &R, name: &str, bytes: &[u8]) -> io::Result<()> {
 /// Replaces the file that a link leads to, and leaves the link.
 fn replace_linked<R: Runtime>(rt: &R, link: &str, bytes: &[u8]) -> io::Result<()> {
     let Ok(target) = rt.canonicalize(rt.alloc(), link) else {
-        return fs::write(rt, link, bytes);
+        return replace_missing(rt, link, bytes);
     };
     let there = fs::metadata(rt, target.as_str())?;
     if !there.is_file() {
         return fs::write(rt, link, bytes);
     }
     replace_plain(rt, target.as_str(), Some(&there), bytes)
+}
+
+/// Makes the file that a link leads to where there is none. Where that is one more link, it is written through.
+fn replace_missing<R: Runtime>(rt: &R, link: &str, bytes: &[u8]) -> io::Result<()> {
+    let mut target = Path::new(link).to_path_buf(rt.alloc())?;
+    let _ = target.pop();
+    target.push(rt.read_link(rt.alloc(), link)?.as_str())?;
+    match fs::symlink_metadata(rt, target.as_str()) {
+        Ok(_) => fs::write(rt, link, bytes),
+        Err(_) => replace_plain(rt, target.as_str(), None, bytes),
+    }
 }
 
 /// Writes a plain file beside the one of its name, with the mode and the owner of the one that is there, and gives it that name. Where none may

@@ -1,6 +1,7 @@
 //! What a command comes to.
 
 ghost use Rattle.std.specs.Prelude.{◌≡◌};
+ghost use Rattle.zperform.specs.Keeping.{magic_of, purpose_number};
 ghost use Rattle.zperform.specs.Report.{problem_of_checking, problem_of_listing, problem_of_load, problem_of_play, problem_of_reading, status_of};
 
 use std::alloc::AllocError;
@@ -25,6 +26,37 @@ pub enum Failure {
     Memory,
 }
 
+/// What a file is for that a command may write.
+#[derive(Clone, Copy)]
+pub enum Purpose {
+    /// To keep a certificate.
+    Certificate,
+    /// To keep saves.
+    Save,
+}
+
+impl Purpose {
+    /// The four bytes by which such a file begins.
+    pub fn magic(self) -> [u8; 4]
+        ensures { result ≡ magic_of self }
+    {
+        match self {
+            Purpose::Certificate => *b"ZPCC",
+            Purpose::Save => *b"FORM",
+        }
+    }
+
+    /// The number of the refusal of a file that holds something else.
+    pub fn number(self) -> u8
+        ensures { result ≡ purpose_number self }
+    {
+        match self {
+            Purpose::Certificate => 1,
+            Purpose::Save => 2,
+        }
+    }
+}
+
 /// Why a command wasn't done, or not to its end.
 #[derive(Clone, Copy)]
 pub enum Problem {
@@ -40,6 +72,8 @@ pub enum Problem {
     Unlisted(ListError),
     /// No certificate was found; and what is broken in every one, if that is known. Never for want of memory.
     Unfound(FindError, Option<Obstacle>),
+    /// The file that was to be written holds something else.
+    Occupied(Purpose),
     /// Something failed that isn't the story's fault.
     Failed(Failure),
 }

@@ -1,6 +1,6 @@
 //! Doing what the words ask for.
 
-ghost use Rattle.std.specs.Prelude.{◌≡◌, ◌≢◌, [], ℕ, true, IsErrOf, List, None, Option, Some, option_map};
+ghost use Rattle.std.specs.Prelude.{◌≡◌, ◌≢◌, [], ℕ, true, IfSome, IsErrOf, List, None, Option, Some, option_map};
 ghost use Rattle.clap.specs.Kinds.{HasKind, Kinds};
 ghost use Rattle.clap.specs.Walk.{texts};
 ghost use Rattle.clap.specs.Words.{fault_of};
@@ -9,7 +9,8 @@ ghost use Rattle.zplayer.specs.Outside.{Blames};
 ghost use Rattle.zplayer.specs.World.{told as told_store};
 ghost use Rattle.zperform.specs.Accepting.{CheckComesTo, IsAccepted, IsOfEither, PlayComesTo};
 ghost use Rattle.zperform.specs.Devices.{Ends, FlushesUnless, Held, ReadsUnless, Says, Told, UsesUnless, Writes, devices, held, seen, told};
-ghost use Rattle.zperform.specs.Performing.{Comes, Explains, IsBlamed, Performs, given, is_quiet, said_by, save_in, store_of, written_by};
+ghost use Rattle.zperform.specs.Keeping.{IsOccupied, MayWrite, kept_in};
+ghost use Rattle.zperform.specs.Performing.{Begins, Comes, Explains, IsBlamed, Performs, given, is_quiet, said_by, save_in, store_of, written_by};
 ghost use Rattle.zperform.specs.Playing.{ComesTo, Holds};
 ghost use Rattle.zperform.specs.Report.{failure_text, line_of, no_text, outcome_of, status_of, text_of};
 ghost use Rattle.zperform.specs.Telling.{SaysEach, said_of};
@@ -20,7 +21,7 @@ use crate::files::{Files, read_file};
 use crate::finding::{explain_code, find_file};
 use crate::listing::{list_certificate, list_file};
 use crate::message::Message;
-use crate::outcome::{Failure, Outcome, Problem};
+use crate::outcome::{Failure, Outcome, Problem, Purpose};
 use crate::saves::{FileSaves, NoSaves};
 use clap::Error;
 use clap::error::ErrorKind;
@@ -52,7 +53,7 @@ For more information, try '--help'.
 /// play is to tell of saves that are refused, their lines come before that of its end.
 /// The reader gives a story its lines, and isn't touched but for a play.
 ///
-/// What is wrong is found in this order: the words, the story, its certificate, the work.
+/// What is wrong is found in this order: the words, a file that isn't to be written over, the story, its certificate, the work.
 pub fn perform<F: Files, R: Source, W: Sink, E: Sink>(
     alloc: Global,
     words: &[&str],
@@ -73,8 +74,62 @@ pub fn perform<F: Files, R: Source, W: Sink, E: Sink>(
     }
 }
 
-/// Does what a command asks for.
+/// Does what a command asks for, unless its file isn't to be written over.
 fn carry_out<F: Files, R: Source, W: Sink, E: Sink>(
+    alloc: Global,
+    command: Command<'_>,
+    files: &mut F,
+    reader: &mut R,
+    writer: &mut W,
+    errors: &mut E,
+) -> Outcome
+    ensures comes { (refusals : List ARefusal) × Begins (request_of command.entry) (F.known files.old) (F.known files.new) (R.remaining reader.old) refusals (W.contents writer.old) (W.contents writer.new) result × SaysEach (said_by (request_of command.entry) refusals) (seen E.contents E.failures E.waits errors.old) (seen E.contents E.failures E.waits errors.new) }
+    ensures writer { FlushesUnless W.failures W.waits writer.old writer.new (result ≡ Outcome.Stopped (Problem.Failed Failure.Write)) }
+    ensures files { UsesUnless F.known F.failures files.old files.new (save_in (request_of command.entry)) (written_by (request_of command.entry)) (result ≡ Outcome.Stopped (Problem.Failed Failure.File)) }
+    ensures could { result ≡ Outcome.Stopped (Problem.Failed Failure.File) → IsBlamed (request_of command.entry) (held F.known F.failures F.can_fail files.old) }
+    ensures reader { Blames (result ≡ Outcome.Stopped (Problem.Failed Failure.Read)) (R.failures reader.old) (R.failures reader.new) }
+    ensures unasked { is_quiet (request_of command.entry) ≡ true → reader.new ≡ reader.old }
+{
+    match occupied(command, files) {
+        Some(purpose) => Outcome::Stopped(Problem::Occupied(purpose)),
+        None => fulfil(alloc, command, files, reader, writer, errors),
+    }
+}
+
+/// What the file is for that a command may write, where it holds something else.
+fn occupied<F: Files>(command: Command<'_>, files: &F) -> Option<Purpose>
+    ensures occupied { IfSome result (λ purpose. IsOccupied (request_of command.entry) (F.known files.now) (Problem.Occupied purpose)) }
+    ensures free { result ≡ None → MayWrite (request_of command.entry) (F.known files.now) }
+{
+    let (name, purpose) = kept_by(command)?;
+    if files.may_replace(name, purpose.magic()) {
+        None
+    } else {
+        Some(purpose)
+    }
+}
+
+/// The file that a command may write and what it is for, unless it may be written over whatever it holds.
+fn kept_by<'a>(command: Command<'a>) -> Option<(&'a str, Purpose)>
+    ensures { option_map (λ file. (file.0.now, file.1)) result ≡ kept_in (request_of command.entry) }
+{
+    match command {
+        Command::Find {
+            certificate,
+            force: false,
+            ..
+        } => Some((certificate, Purpose::Certificate)),
+        Command::Play {
+            save: Some(save),
+            force: false,
+            ..
+        } => Some((save, Purpose::Save)),
+        _ => None,
+    }
+}
+
+/// Does what a command asks for.
+fn fulfil<F: Files, R: Source, W: Sink, E: Sink>(
     alloc: Global,
     command: Command<'_>,
     files: &mut F,
@@ -98,9 +153,9 @@ fn carry_out<F: Files, R: Source, W: Sink, E: Sink>(
             story,
             certificate: Some(certificate),
         } => list_certificate(alloc, story, certificate, files, writer),
-        Command::Find { story, certificate } => {
-            find_file(alloc, story, certificate, files, writer)
-        }
+        Command::Find {
+            story, certificate, ..
+        } => find_file(alloc, story, certificate, files, writer),
         Command::Check { story, certificate } => {
             check_files(alloc, story, certificate, files, writer)
         }
@@ -112,6 +167,7 @@ fn carry_out<F: Files, R: Source, W: Sink, E: Sink>(
             status,
             save,
             tell,
+            ..
         } => outcome_of(play(
             alloc,
             story,
@@ -132,6 +188,7 @@ fn carry_out<F: Files, R: Source, W: Sink, E: Sink>(
             status,
             save,
             tell,
+            ..
         } => outcome_of(play_by_certificate(
             alloc,
             story,

@@ -1,9 +1,9 @@
-use Rattle.std.proofs.Common.{refl}
+use Rattle.std.proofs.Common.{codes, refl}
 use Rattle.clap.specs.Words.{found_of}
-use Rattle.zcommand.proofs.Matched.{certificate_read, story_read}
+use Rattle.zcommand.proofs.Matched.{certificate_read, flag_read, story_read}
 use Rattle.zcommand.proofs.words.find_of.Goals as goal
 
 pub returns : goal.returns
 returns c =
     let found = found_of c.args.matches.now in
-    (refl, story_read found _ _ _ c.get_str.ensures refl c.unwrap_or-story.ensures, certificate_read found _ _ _ c.get_str-2.ensures refl c.unwrap_or-certificate.ensures)
+    (refl, story_read found _ _ _ c.get_str.ensures refl c.unwrap_or-story.ensures, certificate_read found _ _ _ c.get_str-2.ensures refl c.unwrap_or-certificate.ensures, flag_read (codes "force") _ found _ _ c.get_one.ensures.none c.get_one.ensures.value c.unwrap_or-force.ensures)

@@ -1,6 +1,6 @@
 use Rattle.std.proofs.Common.{[], refl, rules}
 use Rattle.zperform.proofs.PerformLemmas.{as_outcome, files_as_outcome, writer_as_outcome}
-use Rattle.zperform.proofs.performing.carry_out.Goals as goal
+use Rattle.zperform.proofs.performing.fulfil.Goals as goal
 
 pub returns-in-Play-default-None-default-default-default-default-default-clause-writer : goal.returns-in-Play-default-None-default-default-default-default-default-clause-writer
 returns-in-Play-default-None-default-default-default-default-default-clause-writer g c = writer_as_outcome _ _ _ _ c.play.result _ _ c.outcome_of.ensures c.play.ensures.writer
