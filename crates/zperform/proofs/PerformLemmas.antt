@@ -5,7 +5,7 @@ use Rattle.clap.specs.Words.{Row, Text, fault_of, subcommand_of}
 use Rattle.zplayer.specs.declared.end.End.{End}
 use Rattle.zplayer.specs.Outside.{Blames}
 use Rattle.zquetzal.specs.declared.error.SaveError.{SaveError}
-use Rattle.zcommand.specs.CommandLine.{Asks, Request, zpc_app}
+use Rattle.zcommand.specs.CommandLine.{Asks, Check, Explain, Find, ListStory, Play, Request, zpc_app}
 use Rattle.zperform.specs.Devices.{Devices, FlushesUnless, Held, Seen, UsesUnless, seen, told}
 use Rattle.zperform.specs.Performing.{Begins, Explains, IsBlamed, Performs, Reports, is_quiet, said_by, save_in, written_by}
 use Rattle.zperform.specs.Telling.{SaysEach}
@@ -68,6 +68,14 @@ module _ (words : List Text) (status : ℕ) (old new : Devices) (outcome : Outco
       go None e h = absurd h
       go (Some matches) e asks =
           inl (record { matches = matches; named = e; request = request; asks = asks; outcome = outcome; comes = comes; writer = writer; files = files; could = could; reader = reader; unasked = unasked; refusals = refusals; between = between; told = told; reported = reported })
+
+-- where no save was refused, nothing is said of one
+pub says_none : (request : Request) (errors : Seen) → SaysEach (said_by request []) errors errors
+says_none (Play story certificate seed budget status save tell force) errors = refl
+says_none (ListStory story certificate) errors = refl
+says_none (Find story certificate force) errors = refl
+says_none (Check story certificate) errors = refl
+says_none (Explain code) errors = refl
 
 -- what is told of a source that wasn't asked
 pub told_same : {R : Type 0} (remaining : R → Option (List ℕ)) (failures : R → ℕ) (old new : R) → new ≡ old → told remaining failures new ≡ told remaining failures old

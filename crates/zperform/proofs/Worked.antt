@@ -24,10 +24,12 @@ use Rattle.zperform.specs.declared.outcome.Failure.{Failure}
 use Rattle.zperform.specs.declared.outcome.Failure.TheVariants.{File, Read, Write, Memory}
 use Rattle.zperform.specs.declared.outcome.Problem.TheVariants.{Refused, Unreadable, BreaksStory, BreaksInstruction, Unlisted, Unfound, Occupied, Failed}
 use Rattle.zperform.specs.declared.outcome.Purpose.TheVariants as purposes
-use Rattle.zperform.specs.Keeping.{BeginsSo, IsOccupied, MayWrite, kept_in}
+use Rattle.zperform.specs.declared.outcome.Purpose.{Purpose}
+use Rattle.zperform.specs.declared.outcome.Problem.{Problem}
+use Rattle.zperform.specs.Keeping.{BeginsSo, IsOccupied, MayWrite, kept_in, purpose_number}
 use Rattle.zperform.specs.declared.outcome.Outcome.{Outcome}
 use Rattle.zperform.specs.declared.outcome.Outcome.TheVariants.{Listed, Found, Accepted, Explained, NoSuchCode, Played, Stopped}
-use Rattle.std.specs.Prelude.{◌≢◌, ◌⊎◌, ⊤, ℤ, negsuc, Option, None, Some, Result, if◌then◌else◌}
+use Rattle.std.specs.Prelude.{◌≢◌, ◌⊎◌, ⊤, ℤ, negsuc, Option, None, Some, Result, if◌then◌else◌, slice_index}
 use Rattle.std.specs.Str.{bytes_eq}
 use Rattle.zcode.specs.declared.error.DecodeError.TheVariants.{NoSuchOpcode, Truncated}
 use Rattle.zcode.specs.declared.opcode.Opcode.{Opcode}
@@ -375,7 +377,7 @@ kept_nowhere input before now seed options result = (λ file p. p.unsaved refl, 
 begun_so :
     BeginsSo (codes "ZPCC") [] × BeginsSo (codes "ZPCC") (codes "ZPC") × BeginsSo (codes "ZPCC") (codes "ZPCC") × BeginsSo (codes "FORM") (codes "FORM" ++ 0 ∷ [])
     × (BeginsSo (codes "ZPCC") (3 ∷ []) → ⊥) × (BeginsSo (codes "ZPCC") (codes "ZPCD") → ⊥) × (BeginsSo (codes "FORM") (codes "FORN" ++ 0 ∷ []) → ⊥)
-begun_so = (refl, refl, refl, refl, λ e. absurd cc, λ e. absurd cc, λ e. absurd cc)
+begun_so = (refl, refl, refl, refl, λ e. absurd cc, λ e. omega (arith, ap (λ (bytes : List ℕ). slice_index bytes 3) e), λ e. omega (arith, ap (λ (bytes : List ℕ). slice_index bytes 3) e))
 
 -- a certificate that is found and saves are kept so, unless any file may be written over
 kept_so :
@@ -390,11 +392,21 @@ module _ (story saves : List ℕ → Option (List ℕ)) (is : story (7 ∷ []) �
       IsOccupied (Play (7 ∷ []) None 1 2 false (Some (7 ∷ [])) false false) story (Occupied purposes.Save) × (MayWrite (Play (7 ∷ []) None 1 2 false (Some (7 ∷ [])) false false) story → ⊥)
       × MayWrite (Play (1 ∷ []) None 1 2 false (Some (7 ∷ [])) false false) saves × MayWrite (Play (7 ∷ []) None 1 2 false (Some (7 ∷ [])) false true) story
       × (IsOccupied (Find (1 ∷ []) (7 ∷ []) false) story (Occupied purposes.Save) → ⊥)
-  occupied = (((7 ∷ [], purposes.Save), refl, refl, rw is (λ e. absurd cc)), rw is (λ e. absurd cc), rw are refl, tt, another)
+  occupied = (((7 ∷ [], purposes.Save), refl, refl, rw is other), rw is other, rw are refl, tt, another)
     where
+      number_in : Option (List ℕ × Purpose) → ℕ
+      number_in None = 0
+      number_in (Some file) = purpose_number file.1
+
+      number_told : Problem → ℕ
+      number_told (Occupied purpose) = purpose_number purpose
+      number_told problem = 0
+
+      other : BeginsSo (codes "FORM") (3 ∷ 0 ∷ []) → ⊥
+      other e = omega (arith, ap (λ (bytes : List ℕ). slice_index bytes 0) e)
+
       another : IsOccupied (Find (1 ∷ []) (7 ∷ []) false) story (Occupied purposes.Save) → ⊥
-      another ((name, purposes.Certificate), e, told, other) = cc
-      another ((name, purposes.Save), e, told, other) = cc
+      another (file, e, told, held) = omega (arith, ap (λ (o : Option (List ℕ × Purpose)). number_in o) e, ap number_told told)
 
 -- and that is told, as a refusal
 occupied_told :
