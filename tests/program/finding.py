@@ -185,7 +185,7 @@ names an object. Of a table: o = things-->k; if (o >= First && o <= Last) print 
 """
 
 
-CODES = [f"{letter}{number}" for letter, last in zip("LUJEKSIGFQP", (12, 4, 5, 3, 8, 8, 18, 3, 16, 11, 3)) for number in range(1, last + 1)]
+CODES = [f"{letter}{number}" for letter, last in zip("LUJEKSIGFQPN", (12, 4, 5, 3, 8, 8, 18, 3, 16, 11, 3, 2)) for number in range(1, last + 1)]
 
 
 def explained():
@@ -263,8 +263,8 @@ def see_files(program, count):
             file.write(SAMPLE)
         run = lambda script: subprocess.run(["bash", "-c", script, "run", program.path], cwd=room, stdin=subprocess.DEVNULL, capture_output=True, timeout=60)
         for name, script, wanted in [
-            ("a certificate over a file", 'echo old > old; "$1" find story old && "$1" check story old', Answer(0, b"found\naccepted\n", b"")),
-            ("a certificate through a link", 'echo old > there; ln -s there link; "$1" find story link && "$1" check story there && test -L link', Answer(0, b"found\naccepted\n", b"")),
+            ("a certificate over a file", 'printf "ZPCC old" > old; "$1" find story old && "$1" check story old', Answer(0, b"found\naccepted\n", b"")),
+            ("a certificate through a link", 'printf "ZPCC old" > there; ln -s there link; "$1" find story link && "$1" check story there && test -L link', Answer(0, b"found\naccepted\n", b"")),
             ("a certificate to a folder that isn't there", '"$1" find story absent/certificate', Answer(4, b"", b"failed: file\n")),
             ("a certificate over a folder", 'mkdir folder; "$1" find story folder', Answer(4, b"", b"failed: file\n")),
             ("a certificate to a full device", '"$1" find story /dev/full', Answer(4, b"", b"failed: file\n")),
@@ -272,7 +272,7 @@ def see_files(program, count):
             ("found, to a closed output", '"$1" find story second >&-; "$1" check story second', Answer(0, b"accepted\n", b"failed: write\n")),
             ("no part left", 'ls *.part 2>/dev/null; true', Answer(0, b"", b"")),
             ("a story from a pipe", '"$1" find <(cat story) third && "$1" check story third', Answer(0, b"found\naccepted\n", b"")),
-            ("none found, and an old one", 'printf "\\276" | cat > bad; echo old > kept; "$1" find bad kept; cat kept', Answer(0, b"old\n", b"refused: L1\n")),
+            ("none found, and an old one", 'printf "\\276" | cat > bad; printf ZPCCold > kept; "$1" find bad kept; cat kept', Answer(0, b"ZPCCold", b"refused: L1\n")),
         ]:
             ran = run(script)
             count.is_answer(name, Answer(ran.returncode, ran.stdout, ran.stderr), wanted)
