@@ -25,9 +25,20 @@ pub(crate) fn block_cells(marked: Marked<'_>, width: Width) -> [Cell; BLOCKS]
     cells
 }
 
-/// What is known of those of one block.
-#[tactic(auto, unfolding(crate::specs::Runs::merged_below))]
+/// What is known of those of one block. Behind memory it is the same of all, and none is gone over.
 fn block_cell(marked: Marked<'_>, width: Width, block: usize) -> Cell
+    requires { block < 256 }
+    ensures { result ≡ block_cell (record { story = marked.entry.story.now; ranges = marked.entry.ranges.now }) width block }
+{
+    if marked.story.length() <= BLOCK_LENGTH * block {
+        return Cell::BEHIND;
+    }
+    merged_in(marked, width, block)
+}
+
+/// What is known of those of one block, one by one.
+#[tactic(auto, unfolding(crate::specs::Runs::merged_below))]
+fn merged_in(marked: Marked<'_>, width: Width, block: usize) -> Cell
     requires { block < 256 }
     ensures { result ≡ block_cell (record { story = marked.entry.story.now; ranges = marked.entry.ranges.now }) width block }
 {

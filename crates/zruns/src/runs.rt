@@ -12,7 +12,7 @@ use std::marker::Model;
 use zarray::Width;
 use zcert::Range;
 use zdomain::Domain;
-use zpairs::{Marked, PLACES, turned};
+use zpairs::{Marked, Marks, PLACES, turned};
 use zstory::Story;
 
 /// The least size of a text buffer: room for a letter, and for the zero behind it (own).
@@ -30,8 +30,7 @@ const WORD_LENGTH: usize = 4;
 pub struct Runs<'a> {
     story: &'a Story,
     ranges: &'a [Range],
-    closed: [bool; PLACES],
-    fixed: [bool; PLACES],
+    closed: Marks,
     bytes: [Cell; BLOCKS],
     words: [Cell; BLOCKS],
 }
@@ -44,40 +43,33 @@ impl<'a> Model for Runs<'a> {
     ghost view = { λ p. record { story = p.story.now; ranges = p.ranges.now } };
 
     ghost use Rattle.zarray.specs.declared.width.Width.TheVariants.{Byte, Word};
-    ghost use Rattle.zpairs.specs.Fixed.{AreClosed, AreFixed};
+    ghost use Rattle.zpairs.specs.Fixed.{AreClosed};
     ghost use Rattle.zruns.specs.Blocks.{AreBlocks};
 
-    ghost invariant = { λ p. AreClosed (record { story = p.story.now; ranges = p.ranges.now }) p.closed × AreFixed (record { story = p.story.now; ranges = p.ranges.now }) p.fixed × AreBlocks (record { story = p.story.now; ranges = p.ranges.now }) Byte p.bytes × AreBlocks (record { story = p.story.now; ranges = p.ranges.now }) Word p.words };
+    ghost invariant = { λ p. AreClosed (record { story = p.story.now; ranges = p.ranges.now }) p.closed × AreBlocks (record { story = p.story.now; ranges = p.ranges.now }) Byte p.bytes × AreBlocks (record { story = p.story.now; ranges = p.ranges.now }) Word p.words };
 }
 
 impl<'a> Runs<'a> {
     ghost use Rattle.std.specs.Prelude.{◌≡◌, ◌↔◌, ◌≤◌, ◌<◌, ◌+◌, ◌-◌, IsTrue};
     ghost use Rattle.zpairs.specs.Frozen.{frozen_by};
     ghost use Rattle.zruns.specs.Blocks.{block_cell, piece_cell, step_length};
-    ghost use Rattle.zpairs.specs.Fixed.{AreClosed, AreFixed, is_fixed};
+    ghost use Rattle.zpairs.specs.Fixed.{AreClosed, is_fixed};
     ghost use Rattle.zruns.specs.Runs.{AreOpen, cell_at, elements, run_cell};
     ghost use Rattle.std.specs.Prelude.{◌*◌, ℕ};
     ghost use Rattle.zstory.specs.Bytes.{byte_at};
     ghost use Rattle.zplace.specs.Bytes.{IsOpen, IsWithin};
     ghost use Rattle.zruns.specs.Buffers.{AreBuffers, IsBuffer, IsParseBuffer, IsTextBuffer};
 
-    /// Those of a story, of which the bytes in some ranges stay as they are, by the marks of closed bytes and of fixed ones. They take no
-    /// memory beside their own, about 140 KB.
-    pub(crate) fn new(
-        story: &'a Story,
-        ranges: &'a [Range],
-        closed: [bool; PLACES],
-        fixed: [bool; PLACES],
-    ) -> Runs<'a>
-        requires closed { AreClosed (record { story = story.now; ranges = ranges.now }) closed }
-        requires fixed { AreFixed (record { story = story.now; ranges = ranges.now }) fixed }
+    /// Those of a story, of which the bytes in some ranges stay as they are, by the marks of closed bytes. Memory is gone over once
+    /// for each width. They take no memory beside their own, about 20 KB.
+    pub(crate) fn new(story: &'a Story, ranges: &'a [Range], closed: Marks) -> Runs<'a>
+        requires { AreClosed (record { story = story.now; ranges = ranges.now }) closed }
         ensures { result ≡ record { story = story.now; ranges = ranges.now } }
     {
         let marked = Marked {
             story,
             ranges,
             closed: &closed,
-            fixed: &fixed,
         };
         let bytes = block_cells(marked, Width::Byte);
         let words = block_cells(marked, Width::Word);
@@ -85,7 +77,6 @@ impl<'a> Runs<'a> {
             story,
             ranges,
             closed,
-            fixed,
             bytes,
             words,
         }
@@ -154,7 +145,7 @@ impl<'a> Runs<'a> {
     fn is_fixed(&self, address: u16) -> bool
         ensures { result ≡ is_fixed self.now address }
     {
-        self.fixed[usize::from(address)]
+        self.marked().is_fixed(usize::from(address))
     }
 
     /// Whether so many bytes from a place on are open. Behind the last byte address none is.
@@ -229,13 +220,19 @@ impl<'a> Runs<'a> {
         requires { place < 65536 }
         ensures { result ≡ cell_at self.now width place }
     {
-        let marked = Marked {
+        cell_at(self.marked(), width, place)
+    }
+
+    /// The marks of bytes, with the story and the ranges.
+    fn marked(&self) -> Marked<'_>
+        ensures story { result.story.now ≡ self.now.story }
+        ensures ranges { result.ranges.now ≡ self.now.ranges }
+    {
+        Marked {
             story: self.story,
             ranges: self.ranges,
             closed: &self.closed,
-            fixed: &self.fixed,
-        };
-        cell_at(marked, width, place)
+        }
     }
 }
 

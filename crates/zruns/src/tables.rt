@@ -5,7 +5,7 @@ use crate::texts::Texts;
 use std::marker::Model;
 use zcert::Range;
 use zdomain::Domain;
-use zpairs::{Marked, Properties, closed_marks, fixed_marks};
+use zpairs::{Marked, Properties, closed_marks};
 use zstory::Story;
 
 /// What is known of a story's properties, of runs of its addresses, and of its texts.
@@ -39,17 +39,15 @@ impl<'a> Tables<'a> {
     ghost use Rattle.zruns.specs.Names.{AreFixedNames};
 
     /// Those of a story, of which the bytes in some ranges stay as they are. Each of its own tables is gone over once, each place of each
-    /// range, and each place of memory. They take no memory beside their own, about 500 KB.
+    /// range, and each place of memory. They take no memory beside their own, about 75 KB.
     pub fn new(story: &'a Story, ranges: &'a [Range]) -> Tables<'a>
         ensures { result ≡ record { story = story.now; ranges = ranges.now } }
     {
         let closed = closed_marks(story, ranges);
-        let fixed = fixed_marks(story, ranges, &closed);
         let marked = Marked {
             story,
             ranges,
             closed: &closed,
-            fixed: &fixed,
         };
         let properties = Properties::new(story, ranges, marked);
         let texts = Texts::new(story, ranges, marked);
@@ -57,7 +55,7 @@ impl<'a> Tables<'a> {
             properties,
             names_fixed: texts.are_names_fixed(),
             texts,
-            runs: Runs::new(story, ranges, closed, fixed),
+            runs: Runs::new(story, ranges, closed),
         }
     }
 

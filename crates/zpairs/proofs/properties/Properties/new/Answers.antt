@@ -1,9 +1,9 @@
-use Rattle.std.proofs.Common.{◌≡◌, List, subst}
+use Rattle.std.proofs.Common.{◌≡◌, ℕ, List, sym, subst}
 use Rattle.zstory.specs.LoadedStory.{LoadedStory}
 use Rattle.zcert.specs.declared.parts.Range.{Range}
 use Rattle.zpairs.specs.Frozen.{FrozenStory}
-use Rattle.zpairs.specs.Blocks.{AreCells, AreBlocks}
-use Rattle.zpairs.proofs.Regrouped.{merged_blocks}
+use Rattle.zpairs.specs.Fixed.{AreClosed}
+use Rattle.zpairs.specs.Blocks.{AreBlocks}
 use Rattle.zpairs.proofs.properties.Properties.new.Goals as goal
 
 -- what holds of the marks' story and ranges holds of the same ones
@@ -12,5 +12,8 @@ of_same P a b r s stories ranges it = subst (λ (x : LoadedStory). P (record { s
 
 pub invariant_of-result : goal.invariant_of-result
 invariant_of-result c =
-    of_same (λ told. AreCells told c.object_cells-objects.result × AreBlocks told c.block_cells.result) c.args.marked.story.now c.args.story.now c.args.marked.ranges.now c.args.ranges.now c.requires.story c.requires.ranges
-    (c.object_cells-objects.ensures, merged_blocks (record { story = c.args.marked.story.now; ranges = c.args.marked.ranges.now }) c.object_cells-objects.result c.block_cells.result c.object_cells-objects.ensures c.block_cells.ensures)
+    (
+      of_same (λ told. AreClosed told c.copied.result) c.args.marked.story.now c.args.story.now c.args.marked.ranges.now c.args.ranges.now c.requires.story c.requires.ranges (subst (λ (marks : List ℕ). AreClosed (record { story = c.args.marked.story.now; ranges = c.args.marked.ranges.now }) marks) (sym c.copied.ensures) c.args.marked.marked),
+      c.object_places-places.ensures,
+      of_same (λ told. AreBlocks told c.block_cells.result) c.args.marked.story.now c.args.story.now c.args.marked.ranges.now c.args.ranges.now c.requires.story c.requires.ranges c.block_cells.ensures,
+    )

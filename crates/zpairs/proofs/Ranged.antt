@@ -1,10 +1,10 @@
--- Marks of places.
-use Rattle.std.proofs.Common.{◌≡◌, ◌⊎◌, inl, inr, ℕ, ◌+◌, ◌<◌, ◌≤◌, Bool, true, false, ◌&&◌, ◌||◌, List, length, replicate, refl, sym, subst, ap, ◌∙◌, arith}
-use Rattle.std.specs.Prelude.{nat_le, nat_lt, max, slice_index_or, slice_set}
+-- Marks of ranges.
+use Rattle.std.proofs.Common.{◌≡◌, ◌⊎◌, inl, inr, ℕ, ◌+◌, ◌<◌, ◌≤◌, Bool, true, false, ◌&&◌, ◌||◌, List, refl, sym, subst, ap, ◌∙◌, arith}
+use Rattle.std.specs.Prelude.{◌==◌, nat_le, nat_lt, max}
 use Rattle.std.proofs.lemmas.Bool.{cases_lt, le-leb}
 use Rattle.std.proofs.lemmas.Bool.Decides.{eqb_tells}
-use Rattle.std.proofs.lemmas.List.{get_or-set_same, get_or-set_other, get_or-replicate}
 use Rattle.zcert.specs.declared.parts.Range.{Range}
+use Rattle.zpairs.specs.Marks.{is_marked}
 use Rattle.zpairs.specs.Frozen.{frozen_by}
 
 or_true : (b : Bool) → (b || true) ≡ true
@@ -16,8 +16,8 @@ or_false true = refl
 or_false false = refl
 
 -- no place yet
-pub unmarked : (marks : List Bool) (first place p : ℕ) → place ≡ first → slice_index_or marks p false ≡ (slice_index_or marks p false || (nat_le first p && nat_lt p place))
-unmarked marks first place p same = or_false (slice_index_or marks p false) ∙ ap (λ (b : Bool). slice_index_or marks p false || b) (sym none)
+pub unmarked : (mark : Bool) (first place p : ℕ) → place ≡ first → mark ≡ (mark || (nat_le first p && nat_lt p place))
+unmarked mark first place p same = or_false mark ∙ ap (λ (b : Bool). mark || b) (sym none)
   where
     none : (nat_le first p && nat_lt p place) ≡ false
     none = elim (cases_lt p first) [
@@ -42,14 +42,17 @@ next_same p place other = grind (arith, other)
 next_true : (place : ℕ) → nat_lt place (place + 1) ≡ true
 next_true place = grind (arith)
 
-pub mark_more : (marks before : List Bool) (first place p : ℕ) → place < length marks → first ≤ place → slice_index_or marks p false ≡ (slice_index_or before p false || (nat_le first p && nat_lt p place)) → slice_index_or (slice_set marks place true) p false ≡ (slice_index_or before p false || (nat_le first p && nat_lt p (place + 1)))
-mark_more marks before first place p inside above so_far = elim (eqb_tells p place) [
-  | inl same ↦ subst (λ (q : ℕ). slice_index_or (slice_set marks place true) q false ≡ (slice_index_or before q false || (nat_le first q && nat_lt q (place + 1)))) (sym same.1) here
-  | inr other ↦ get_or-set_other marks place p true false other.1 ∙ so_far ∙ ap (λ (b : Bool). slice_index_or before p false || (nat_le first p && b)) (next_same p place other.1)
-]
+pub mark_more : (before now after : Bool) (first place p : ℕ) → first ≤ place → after ≡ (now || (p == place)) → now ≡ (before || (nat_le first p && nat_lt p place)) → after ≡ (before || (nat_le first p && nat_lt p (place + 1)))
+mark_more before now after first place p above is so_far = is ∙ by_place (eqb_tells p place)
   where
-    here : slice_index_or (slice_set marks place true) place false ≡ (slice_index_or before place false || (nat_le first place && nat_lt place (place + 1)))
-    here = let high = le-leb first place above in let next = next_true place in get_or-set_same marks place true false inside ∙ sym (rw (high, next) (or_true (slice_index_or before place false)))
+    here : (before || (nat_le first place && nat_lt place (place + 1))) ≡ true
+    here = let high = le-leb first place above in let next = next_true place in rw (high, next) (or_true before)
+
+    by_place : ((p == place) ≡ true) × (p ≡ place) ⊎ ((p == place) ≡ false) × (p ≡ place → ⊥) → (now || (p == place)) ≡ (before || (nat_le first p && nat_lt p (place + 1)))
+    by_place (inl same) =
+        let e = same.0 in
+        rw e (or_true now) ∙ sym (subst (λ (q : ℕ). (before || (nat_le first q && nat_lt q (place + 1))) ≡ true) (sym same.1) here)
+    by_place (inr other) = let e = other.0 in rw e (sym (or_false now)) ∙ so_far ∙ ap (λ (b : Bool). before || (nat_le first p && b)) (next_same p place other.1)
 
 -- all of them
 pub marked_whole : (first last place p : ℕ) → last + 1 ≤ place → place ≤ max first (last + 1) → (nat_le first p && nat_lt p place) ≡ (nat_le first p && nat_le p last)
@@ -75,5 +78,5 @@ marked_whole first last place p behind before = by_order (cases_lt p first)
     by_order (inr above) = ap (λ (b : Bool). nat_le first p && b) (same above)
 
 -- before the first range
-pub none_marked : (ranges : List Range) (p : ℕ) → p < 65536 → (slice_index_or (replicate 65536 false) p false || frozen_by ranges p) ≡ frozen_by ranges p
-none_marked ranges p below = let e = get_or-replicate 65536 p false false below in rw e refl
+pub none_marked : (ranges : List Range) (marks : List ℕ) (p : ℕ) → is_marked marks p ≡ false → (is_marked marks p || frozen_by ranges p) ≡ frozen_by ranges p
+none_marked ranges marks p none = rw none refl
