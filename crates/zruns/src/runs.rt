@@ -4,7 +4,7 @@ ghost use Rattle.std.specs.Prelude.{◌≡◌, ◌<◌, ◌↔◌, IsTrue};
 ghost use Rattle.zruns.specs.Blocks.{step_length};
 ghost use Rattle.zruns.specs.Runs.{AreReadable, any_element};
 
-use crate::blocks::{BLOCK_LENGTH, BLOCKS, block_cells};
+use crate::blocks::{BLOCK_LENGTH, BLOCKS, block_cells, cell_in};
 use crate::cell::Cell;
 use crate::element::{byte_at, cell_at};
 use crate::run::Run;
@@ -145,7 +145,12 @@ impl<'a> Runs<'a> {
     fn is_fixed(&self, address: u16) -> bool
         ensures { result ≡ is_fixed self.now address }
     {
-        self.marked().is_fixed(usize::from(address))
+        let marked = Marked {
+            story: self.story,
+            ranges: self.ranges,
+            closed: &self.closed,
+        };
+        marked.is_fixed(usize::from(address))
     }
 
     /// Whether so many bytes from a place on are open. Behind the last byte address none is.
@@ -154,7 +159,7 @@ impl<'a> Runs<'a> {
         requires size { size ≤ 1021 }
         ensures { IsTrue result ↔ ((p : ℕ) → IsWithin from size p → IsOpen self.now.story (frozen_by self.now.ranges) p) }
     {
-        let _closed = &self.closed; // and all bytes behind them
+        let _memory = self.story.memory(); // a word says where static memory begins
         let end = from + size;
         end <= PLACES && self.piece_cell(Width::Byte, from, end).is_open
     }
@@ -210,8 +215,8 @@ impl<'a> Runs<'a> {
         ensures { result ≡ block_cell self.now width block }
     {
         match width {
-            Width::Byte => self.bytes[block],
-            Width::Word => self.words[block],
+            Width::Byte => cell_in(&self.bytes, block),
+            Width::Word => cell_in(&self.words, block),
         }
     }
 
@@ -220,19 +225,12 @@ impl<'a> Runs<'a> {
         requires { place < 65536 }
         ensures { result ≡ cell_at self.now width place }
     {
-        cell_at(self.marked(), width, place)
-    }
-
-    /// The marks of bytes, with the story and the ranges.
-    fn marked(&self) -> Marked<'_>
-        ensures story { result.story.now ≡ self.now.story }
-        ensures ranges { result.ranges.now ≡ self.now.ranges }
-    {
-        Marked {
+        let marked = Marked {
             story: self.story,
             ranges: self.ranges,
             closed: &self.closed,
-        }
+        };
+        cell_at(marked, width, place)
     }
 }
 

@@ -1,6 +1,7 @@
 //! Where texts begin that no play changes.
 
-ghost use Rattle.std.specs.Prelude.{◌≡◌, ◌<◌};
+ghost use Rattle.std.specs.Prelude.{◌≡◌, ◌<◌, ◌&&◌, ◌||◌, ◌==◌, ℕ};
+ghost use Rattle.zpairs.specs.Marks.{is_marked};
 ghost use Rattle.zruns.specs.Texts.{AreTextMarks, begins_text};
 
 use zpairs::{Marked, Marks};
@@ -16,11 +17,20 @@ pub(crate) fn text_marks(marked: Marked<'_>) -> Marks
     let mut at = marked.story.memory().len();
     while at > 0 {
         at -= 1;
-        if begins_text(marked, at, marks.has(at + 2)) {
-            marks.add(at);
-        }
+        let begins = begins_text(marked, at, marks.has(at + 2));
+        mark_if(&mut marks, at, begins);
     }
     marks
+}
+
+/// Marks a place, if something holds there.
+fn mark_if(marks: &mut Marks, place: usize, holds: bool)
+    requires { place < 131072 }
+    ensures { (p : ℕ) → is_marked marks.new p ≡ (is_marked marks.old p || (holds && p == place)) }
+{
+    if holds {
+        marks.add(place);
+    }
 }
 
 /// Whether such a text begins at a place, by whether one begins behind its first word.

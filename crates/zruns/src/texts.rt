@@ -9,12 +9,9 @@ use std::marker::Model;
 use zcert::Range;
 use zdomain::Domain;
 use zobj::{ShortName, short_name};
-use zpairs::{Marked, Marks, PLACES};
+use zpairs::{Marked, Marks};
 use zstory::Story;
 use zword::Addressing;
-
-/// The packed address of the first place behind all byte addresses.
-const BEHIND_ADDRESSES: u16 = 32_768;
 
 /// The texts of a story that no play changes, where the bytes in some ranges stay as they are. A mark for each place whether such a text
 /// begins there is kept, and for 256 words side by side whether one begins at each place that they name, so that a question about many is
@@ -82,23 +79,11 @@ impl<'a> Texts<'a> {
         true
     }
 
-    /// Whether such a text begins at a place, which is a byte address or the first behind them.
+    /// Whether such a text begins at a place.
     fn is_fixed(&self, place: usize) -> bool
-        requires { place ≤ 65536 }
         ensures { IsTrue result ↔ HasFixedText self.now.story (frozen_by self.now.ranges) place }
     {
-        if place < PLACES {
-            self.begins_at(Addressing::Byte, place as u16)
-        } else {
-            self.begins_at(Addressing::Packed, BEHIND_ADDRESSES)
-        }
-    }
-
-    /// Whether such a text begins at the place that a word names.
-    fn begins_at(&self, addressing: Addressing, word: u16) -> bool
-        ensures { IsTrue result ↔ HasFixedText self.now.story (frozen_by self.now.ranges) (place_of addressing word) }
-    {
-        self.run(addressing, word) > 0
+        self.marks.has(place)
     }
 
     /// Whether the short name of an object is empty, or such a text.
@@ -160,7 +145,11 @@ impl<'a> Texts<'a> {
         if usize::from(word) % BLOCK_LENGTH == 0 && self.names_texts(addressing, word) {
             return BLOCK_LENGTH as u16;
         }
-        u16::from(self.marks.has(addressing.place(word)))
+        if self.is_fixed(addressing.place(word)) {
+            1
+        } else {
+            0
+        }
     }
 
     /// Whether such a text begins at each place that a word of its block names.
