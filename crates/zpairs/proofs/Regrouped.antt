@@ -60,7 +60,7 @@ module _ (told : FrozenStory) where
       let column : k % 33 ≡ number = omega (arith, at, small) in
       let there : nat_lt below told.story.objects ≡ true = lt-ltb below told.story.objects inside in
       let place : slice_index_or places k 0 ≡ address_of (property_of told.story.memory (below + 1) number) =
-          are k (omega (arith, at, inside, small)) ∙ ap (λ (b : ℕ). address_of (property_of told.story.memory (b + 1) (k % 33))) row ∙ ap (λ (n : ℕ). address_of (property_of told.story.memory (below + 1) n)) column in
+      are k (omega (arith, at, inside, small)) ∙ ap (λ (b : ℕ). address_of (property_of told.story.memory (b + 1) (k % 33))) row ∙ ap (λ (n : ℕ). address_of (property_of told.story.memory (below + 1) n)) column in
       e ∙ ap (cell_of (is_closed told) (is_fixed told) told.story.memory number) (is ∙ in_again told.story.memory (below + 1) number (slice_index_or places k 0) place) ∙ sym (rw there refl)
 
   -- an object is read

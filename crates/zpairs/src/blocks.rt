@@ -65,12 +65,7 @@ pub(crate) fn cell_in(cells: &[Cell; BLOCK_CELLS], index: usize) -> Cell
 }
 
 /// What is known of a block and a number.
-fn block_cell(
-    marked: Marked<'_>,
-    places: &[u16; OBJECT_CELLS],
-    block: usize,
-    number: u16,
-) -> Cell
+fn block_cell(marked: Marked<'_>, places: &[u16; OBJECT_CELLS], block: usize, number: u16) -> Cell
     requires few { block < 16 }
     requires small { number < 33 }
     requires there { ArePlaces marked.story.now places.now }
@@ -85,12 +80,7 @@ fn block_cell(
 
 /// What is known of the objects of a block and a number, one by one.
 #[tactic(auto, unfolding(crate::specs::Blocks::merged_below))]
-fn merged_in(
-    marked: Marked<'_>,
-    places: &[u16; OBJECT_CELLS],
-    block: usize,
-    number: u16,
-) -> Cell
+fn merged_in(marked: Marked<'_>, places: &[u16; OBJECT_CELLS], block: usize, number: u16) -> Cell
     requires few { block < 16 }
     requires small { number < 33 }
     requires there { ArePlaces marked.story.now places.now }

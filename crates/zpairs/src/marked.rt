@@ -32,7 +32,6 @@ impl<'a> Marked<'a> {
     pub fn is_fixed(self, place: usize) -> bool
         ensures { result ≡ is_fixed (record { story = self.entry.story.now; ranges = self.entry.ranges.now }) place }
     {
-        place >= self.story.static_base()
-            || (self.closed.has(place) && is_still(self.story, place))
+        place >= self.story.static_base() || (self.closed.has(place) && is_still(self.story, place))
     }
 }

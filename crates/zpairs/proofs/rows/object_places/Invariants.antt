@@ -1,4 +1,4 @@
-use Rattle.std.proofs.Common.{◌≡◌, ◌+◌, ℕ, ◌<◌, ◌≤◌, ◌*◌, ◌/◌, ◌%◌, length}
+use Rattle.std.proofs.Common.{◌≡◌, ◌+◌, ℕ, ◌<◌, ◌/◌, ◌%◌, length}
 use Rattle.std.specs.Prelude.{slice_index_or}
 use Rattle.zobj.specs.Answers.{address_of}
 use Rattle.zobj.specs.Properties.{property_of}

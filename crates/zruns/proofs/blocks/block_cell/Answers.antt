@@ -1,4 +1,4 @@
-use Rattle.std.proofs.Common.{◌*◌, length, refl, subst, arith, List, ℕ, ◌≤◌}
+use Rattle.std.proofs.Common.{◌*◌, length, refl, subst, List, ℕ, ◌≤◌}
 use Rattle.zruns.proofs.Pieces.{block_behind}
 use Rattle.zruns.proofs.blocks.block_cell.Goals as goal
 

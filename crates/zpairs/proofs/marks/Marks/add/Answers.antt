@@ -1,4 +1,4 @@
-use Rattle.std.proofs.Common.{◌<◌, ◌≡◌, ◌/◌, ℕ, List, length, rules, arith, sym, subst}
+use Rattle.std.proofs.Common.{◌<◌, ◌≡◌, ◌/◌, ℕ, List, length, rules, arith, subst}
 use Rattle.std.specs.Prelude.{◌||◌, ◌==◌}
 use Rattle.zpairs.specs.Marks.{is_marked}
 use Rattle.zpairs.proofs.Bits.{with_mark, one_more}

@@ -1,4 +1,4 @@
-use Rattle.std.proofs.Common.{◌≡◌, ◌/◌, ◌<◌, ℕ, ap, subst, rules, arith}
+use Rattle.std.proofs.Common.{◌/◌, ◌<◌, ℕ, ap, subst, rules, arith}
 use Rattle.zword.specs.declared.addressing.Addressing.TheVariants.{Byte, Packed}
 use Rattle.zpairs.specs.Frozen.{FrozenStory}
 use Rattle.zruns.specs.Texts.{AreTextMarks}
