@@ -35,13 +35,6 @@ impl Marks {
         }
     }
 
-    /// The same marks.
-    pub fn copied(&self) -> Marks
-        ensures { result ≡ self.now }
-    {
-        Marks { bytes: self.bytes }
-    }
-
     /// Whether a place is marked. None behind the last is.
     #[inline(always)]
     pub fn has(&self, place: usize) -> bool

@@ -55,23 +55,41 @@ impl<'a> Properties<'a> {
     ghost use Rattle.zpairs.specs.Blocks.{EachInBlock, block_cell, block_ends, row_end};
     ghost use Rattle.zpairs.specs.Cells.{cell_at, passes};
     ghost use Rattle.zpairs.specs.Ends.{no_word};
+    ghost use Rattle.zpairs.specs.Fixed.{AreClosed};
     ghost use Rattle.zpairs.specs.Frozen.{frozen_by};
     ghost use Rattle.zpairs.specs.Pairs.{AreAnswered, HaveOpenData, CanBePut, EachPair, all_ends, answers, ends_below, number_ends, object_ends, pair_ends};
 
-    /// Those of a story, of which the bytes in some ranges stay as they are, by its marks. Each object's list is gone over once. They take
-    /// no memory beside their own, about 40 KB.
-    pub fn new(story: &'a Story, ranges: &'a [Range], marked: Marked<'_>) -> Properties<'a>
-        requires story { marked.story.now ≡ story.now }
-        requires ranges { marked.ranges.now ≡ ranges.now }
+    /// Those of a story, of which the bytes in some ranges stay as they are, by the marks of closed bytes. Each object's list is gone over
+    /// once. They take no memory beside their own, about 40 KB.
+    pub fn new(story: &'a Story, ranges: &'a [Range], closed: Marks) -> Properties<'a>
+        requires { AreClosed (record { story = story.now; ranges = ranges.now }) closed }
         ensures { result ≡ record { story = story.now; ranges = ranges.now } }
     {
         let places = object_places(story);
+        let marked = Marked {
+            story,
+            ranges,
+            closed: &closed,
+        };
+        let blocks = block_cells(marked, &places);
         Properties {
             story,
             ranges,
-            closed: marked.closed.copied(),
-            blocks: block_cells(marked, &places),
+            closed,
             places,
+            blocks,
+        }
+    }
+
+    /// The story and the ranges, with the marks of closed bytes.
+    pub fn marked(&self) -> Marked<'_>
+        ensures story { result.story.now ≡ self.now.story }
+        ensures ranges { result.ranges.now ≡ self.now.ranges }
+    {
+        Marked {
+            story: self.story,
+            ranges: self.ranges,
+            closed: &self.closed,
         }
     }
 

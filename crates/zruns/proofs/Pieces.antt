@@ -6,6 +6,7 @@ use Rattle.std.proofs.lemmas.List.{get_or-set_same, get_or-set_other, get_or_pas
 use Rattle.zstory.specs.Bytes.{byte_at, readable_end}
 use Rattle.zstory.specs.LoadedStory.{LoadedStory, IsSound}
 use Rattle.zstory.specs.Objects.{IsObjectCount}
+use Rattle.zcert.specs.declared.parts.Range.{Range}
 use Rattle.zdomain.specs.Domain.{SetOperations}
 use Rattle.zarray.specs.declared.width.Width.{Width}
 use Rattle.zarray.specs.declared.width.Width.TheVariants.{Byte, Word}
@@ -19,6 +20,10 @@ use Rattle.zpairs.specs.Fixed.{is_closed, is_fixed}
 use Rattle.zruns.specs.Runs.{address, run_of, EachAddress, AreReadable, AreOpen, each_byte, cell_at, no_cell, merged, merged_below, run_cell}
 use Rattle.zruns.specs.Blocks.{AreBlocks, block_cell, piece_cell, step_length}
 use Rattle.zpairs.proofs.Telling.{closed_is, fixed_is, static_unchanging}
+
+-- a story and ranges are all that marks are told of
+pub same_told : (told : FrozenStory) (story : LoadedStory) (ranges : List Range) → story ≡ told.story → ranges ≡ told.ranges → record { story = story; ranges = ranges } ≡ told
+same_told told story ranges stories all = ap (λ (s : LoadedStory). record { story = s; ranges = ranges }) stories ∙ ap (λ (r : List Range). record { story = told.story; ranges = r }) all
 
 -- ---- cells side by side
 
