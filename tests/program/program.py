@@ -1,6 +1,7 @@
 """Runs of the built program, counted."""
 import concurrent.futures
 import os
+import resource
 import subprocess
 import sys
 import tempfile
@@ -25,22 +26,26 @@ def shown(piece):
 
 class Program:
     """A built program, run in a folder of its own with files of these names, on what is typed. A run that doesn't end within the time
-    fails."""
+    fails. Limits are of the system's resources, each a name of `resource` and how much of it there is."""
 
     def __init__(self, path):
         self.path = os.path.realpath(path)
 
-    def run(self, words, files=None, stdout=subprocess.PIPE, environment=None, seconds=60, typed=b""):
+    def run(self, words, files=None, stdout=subprocess.PIPE, environment=None, seconds=60, typed=b"", limits=()):
         with tempfile.TemporaryDirectory(prefix="zpc-") as room:
             for name, contents in (files or {}).items():
                 with open(os.path.join(room, name), "wb") as file:
                     file.write(contents)
-            return self.run_in(room, words, stdout, environment, seconds, typed)
+            return self.run_in(room, words, stdout, environment, seconds, typed, limits)
 
-    def run_in(self, folder, words, stdout=subprocess.PIPE, environment=None, seconds=60, typed=b""):
+    def run_in(self, folder, words, stdout=subprocess.PIPE, environment=None, seconds=60, typed=b"", limits=()):
+        def limited():
+            for kind, most in limits:
+                resource.setrlimit(kind, (most, most))
+
         done = subprocess.run(
             [self.path, *words], cwd=folder, input=typed, stdout=stdout, stderr=subprocess.PIPE,
-            env={**os.environ, **(environment or {})}, timeout=seconds,
+            env={**os.environ, **(environment or {})}, timeout=seconds, preexec_fn=limited if limits else None,
         )
         return Answer(done.returncode, done.stdout or b"", done.stderr)
 

@@ -1,4 +1,5 @@
 mod Tables
+mod Bits
 pub mod Telling
 mod Marking
 mod Found
@@ -6,7 +7,7 @@ mod Tests
 mod Each
 pub mod Hulls
 pub mod Lying
-pub mod Marks
+pub mod Ranged
 mod Regrouped
 mod ByNumber
 mod Worked

@@ -1,15 +1,15 @@
 -- Marks of closed bytes.
 use Rattle.std.proofs.Common.{◌≡◌, ◌↔◌, ◌⊎◌, inl, inr, ℕ, suc, ◌+◌, ◌*◌, ◌<◌, ◌≤◌, Bool, true, false, ◌&&◌, ◌||◌, not, ◌==◌, min, List, length, refl, sym, subst, ap, ◌∙◌, arith}
-use Rattle.std.specs.Prelude.{IsTrue, nat_le, nat_lt, max, slice_index_or, slice_set}
-use Rattle.std.proofs.lemmas.List.{get_or-set_same, get_or-set_other}
+use Rattle.std.specs.Prelude.{IsTrue, nat_le, nat_lt, max}
 use Rattle.std.proofs.lemmas.Bool.{cases_lt, le-leb, or_right}
 use Rattle.zstory.specs.Bytes.{byte_at}
 use Rattle.zstory.specs.LoadedStory.{LoadedStory, globals, object_table, static_base, abbreviations, IsSound}
 use Rattle.zstory.specs.Objects.{IsObjectCount, property_table}
 use Rattle.zobj.specs.Properties.{data_end}
+use Rattle.zpairs.specs.Marks.{is_marked}
 use Rattle.zpairs.specs.Frozen.{AreMarked, FrozenStory, frozen_by}
 use Rattle.zplace.specs.Bytes.{IsChanging}
-use Rattle.zpairs.specs.Fixed.{AreClosed, AreFixed, AreMarkedToo, any_below, is_changing, is_closed, is_fixed, is_flags, is_in_abbreviation, is_in_frame, is_size_place, is_within}
+use Rattle.zpairs.specs.Fixed.{AreClosed, AreMarkedToo, any_below, is_changing, is_closed, is_flags, is_in_abbreviation, is_in_frame, is_size_place, is_within}
 use Rattle.zpairs.proofs.Telling.{size_is, changing_is, static_unchanging}
 
 -- two questions that are answered alike
@@ -57,14 +57,14 @@ marked_whole from size place p behind before word = by_order (cases_lt p from)
 
 -- ---- one after the other
 
-pub then_marked : (before middle after : List Bool) (f g : ℕ → Bool) → AreMarkedToo before middle f → AreMarkedToo middle after g → AreMarkedToo before after (λ p. f p || g p)
-then_marked before middle after f g first second p word = second p word ∙ ap (λ (b : Bool). b || g p) (first p word) ∙ or_again (slice_index_or before p false) (f p) (g p)
+pub then_marked : (before middle after : List ℕ) (f g : ℕ → Bool) → AreMarkedToo before middle f → AreMarkedToo middle after g → AreMarkedToo before after (λ p. f p || g p)
+then_marked before middle after f g first second p word = second p word ∙ ap (λ (b : Bool). b || g p) (first p word) ∙ or_again (is_marked before p) (f p) (g p)
 
-pub none_more : (marks : List Bool) (n : ℕ) (f : ℕ → ℕ → Bool) → n ≡ 0 → AreMarkedToo marks marks (λ p. any_below n (f p))
+pub none_more : (marks : List ℕ) (n : ℕ) (f : ℕ → ℕ → Bool) → n ≡ 0 → AreMarkedToo marks marks (λ p. any_below n (f p))
 unfolding any_below
-none_more marks n f none = subst (λ (k : ℕ). AreMarkedToo marks marks (λ p. any_below k (f p))) (sym none) (λ p word. or_false (slice_index_or marks p false))
+none_more marks n f none = subst (λ (k : ℕ). AreMarkedToo marks marks (λ p. any_below k (f p))) (sym none) (λ p word. or_false (is_marked marks p))
 
-pub one_more_marked : (before middle after : List Bool) (n : ℕ) (f : ℕ → ℕ → Bool) → AreMarkedToo before middle (λ p. any_below n (f p)) → AreMarkedToo middle after (λ p. f p n) → AreMarkedToo before after (λ p. any_below (n + 1) (f p))
+pub one_more_marked : (before middle after : List ℕ) (n : ℕ) (f : ℕ → ℕ → Bool) → AreMarkedToo before middle (λ p. any_below n (f p)) → AreMarkedToo middle after (λ p. f p n) → AreMarkedToo before after (λ p. any_below (n + 1) (f p))
 unfolding any_below
 one_more_marked before middle after n f so_far next = let one : suc n ≡ n + 1 = omega arith in subst (λ (k : ℕ). AreMarkedToo before after (λ p. any_below k (f p))) one (then_marked before middle after (λ p. any_below n (f p)) (λ p. f p n) so_far next)
 
@@ -113,37 +113,29 @@ or_true : (b : Bool) → (b || true) ≡ true
 or_true true = refl
 or_true false = refl
 
-pub same_piece : (before after : List Bool) (from size first long : ℕ) → from ≡ first → size ≡ long → AreMarkedToo before after (is_within from size) → AreMarkedToo before after (is_within first long)
+pub same_piece : (before after : List ℕ) (from size first long : ℕ) → from ≡ first → size ≡ long → AreMarkedToo before after (is_within from size) → AreMarkedToo before after (is_within first long)
 same_piece before after from size first long at wide marked = subst (λ (k : ℕ). AreMarkedToo before after (is_within k long)) at (subst (λ (k : ℕ). AreMarkedToo before after (is_within from k)) wide marked)
 
-pub same_table : (before after : List Bool) (read memory : List ℕ) (table first : ℕ) → read ≡ memory → table ≡ first → AreMarkedToo before after (λ p. any_below 96 (λ n. is_in_abbreviation read table n p)) → AreMarkedToo before after (λ p. any_below 96 (λ n. is_in_abbreviation memory first n p))
+pub same_table : (before after : List ℕ) (read memory : List ℕ) (table first : ℕ) → read ≡ memory → table ≡ first → AreMarkedToo before after (λ p. any_below 96 (λ n. is_in_abbreviation read table n p)) → AreMarkedToo before after (λ p. any_below 96 (λ n. is_in_abbreviation memory first n p))
 same_table before after read memory table first same at marked = subst (λ (k : ℕ). AreMarkedToo before after (λ p. any_below 96 (λ n. is_in_abbreviation memory k n p))) at (subst (λ (m : List ℕ). AreMarkedToo before after (λ p. any_below 96 (λ n. is_in_abbreviation m table n p))) same marked)
 
+-- the ranges are marked first, and nothing here is static
+ranges_last : (of_ranges others is_static : Bool) → is_static ≡ false → (of_ranges || others) ≡ ((others || of_ranges) || is_static)
+ranges_last true true is_static none = refl
+ranges_last true false is_static none = refl
+ranges_last false true is_static none = refl
+ranges_last false false is_static none = sym none
+
 module _ (told : FrozenStory) where
-  from_static : (base p : ℕ) → p < 65536 → is_within base 65536 p ≡ nat_le base p
-  from_static base p word = let e = below_all in rw e (and_true (nat_le base p))
-    where
-      below_all : nat_lt p (base + 65536) ≡ true
-      below_all = grind (arith, word)
-
-      and_true : (b : Bool) → (b && true) ≡ b
-      and_true true = refl
-      and_true false = refl
-
-  -- the ranges are marked first, and all that is static last
-  ranges_last : (of_ranges others is_static : Bool) → ((of_ranges || others) || is_static) ≡ ((others || of_ranges) || is_static)
-  ranges_last true others is_static = ap (λ (b : Bool). b || is_static) (sym (or_true others))
-  ranges_last false others is_static = ap (λ (b : Bool). b || is_static) (or_false others)
-
   base_small : IsSound told.story.memory → static_base told.story ≤ 65536
   base_small sound = let high = sound.bytes 14 in let low = sound.bytes 15 in omega (arith, high, low)
 
-  pub all_marked : (of_ranges with_header with_globals with_objects with_frames with_abbreviations all : List Bool) → IsSound told.story.memory → IsObjectCount told.story.memory told.story.objects → AreMarked told.ranges of_ranges → AreMarkedToo of_ranges with_header (λ p. nat_lt p 64 && not (is_flags p)) → AreMarkedToo with_header with_globals (is_within (globals told.story) 480) → AreMarkedToo with_globals with_objects (is_within (object_table told.story) (62 + 9 * told.story.objects))
-      → AreMarkedToo with_objects with_frames (λ p. any_below told.story.objects (λ below. is_in_frame told.story.memory (property_table told.story.memory (below + 1)) p)) → AreMarkedToo with_frames with_abbreviations (λ p. any_below 96 (λ n. is_in_abbreviation told.story.memory (abbreviations told.story) n p)) → AreMarkedToo with_abbreviations all (is_within (static_base told.story) 65536) → AreClosed told all
-  all_marked of_ranges with_header with_globals with_objects with_frames with_abbreviations all sound counted ranges header variables objects frames abbreviated static = record {
+  pub all_marked : (of_ranges with_header with_globals with_objects with_frames all : List ℕ) → IsSound told.story.memory → IsObjectCount told.story.memory told.story.objects → AreMarked told.ranges of_ranges → AreMarkedToo of_ranges with_header (λ p. nat_lt p 64 && not (is_flags p)) → AreMarkedToo with_header with_globals (is_within (globals told.story) 480) → AreMarkedToo with_globals with_objects (is_within (object_table told.story) (62 + 9 * told.story.objects))
+      → AreMarkedToo with_objects with_frames (λ p. any_below told.story.objects (λ below. is_in_frame told.story.memory (property_table told.story.memory (below + 1)) p)) → AreMarkedToo with_frames all (λ p. any_below 96 (λ n. is_in_abbreviation told.story.memory (abbreviations told.story) n p)) → AreClosed told all
+  all_marked of_ranges with_header with_globals with_objects with_frames all sound counted ranges header variables objects frames abbreviated = record {
     each = each;
-    behind = λ p above. or_right _ (nat_le (static_base told.story) p) (le-leb (static_base told.story) p (let small = base_small sound in omega (arith, small, above)));
-    still = λ p above. not_true (is_changing told.story p) (λ e. static_unchanging told.story sound counted p (let small = base_small sound in omega (arith, small, above)) ((changing_is told.story p).0 e));
+    behind = λ p above. or_right _ (nat_le (static_base told.story) p) (le-leb (static_base told.story) p above);
+    still = λ p above. not_true (is_changing told.story p) (λ e. static_unchanging told.story sound counted p above ((changing_is told.story p).0 e));
   }
     where
       first_two : AreMarkedToo of_ranges with_globals (λ p. (nat_lt p 64 && not (is_flags p)) || is_within (globals told.story) 480 p)
@@ -155,27 +147,14 @@ module _ (told : FrozenStory) where
       first_four : AreMarkedToo of_ranges with_frames (λ p. (nat_lt p 64 && not (is_flags p)) || is_within (globals told.story) 480 p || is_within (object_table told.story) (62 + 9 * told.story.objects) p || any_below told.story.objects (λ below. is_in_frame told.story.memory (property_table told.story.memory (below + 1)) p))
       first_four = then_marked of_ranges with_objects with_frames (λ p. (nat_lt p 64 && not (is_flags p)) || is_within (globals told.story) 480 p || is_within (object_table told.story) (62 + 9 * told.story.objects) p) (λ p. any_below told.story.objects (λ below. is_in_frame told.story.memory (property_table told.story.memory (below + 1)) p)) first_three frames
 
-      first_five : AreMarkedToo of_ranges with_abbreviations (λ p. (nat_lt p 64 && not (is_flags p)) || is_within (globals told.story) 480 p || is_within (object_table told.story) (62 + 9 * told.story.objects) p || any_below told.story.objects (λ below. is_in_frame told.story.memory (property_table told.story.memory (below + 1)) p) || any_below 96 (λ n. is_in_abbreviation told.story.memory (abbreviations told.story) n p))
-      first_five = then_marked of_ranges with_frames with_abbreviations (λ p. (nat_lt p 64 && not (is_flags p)) || is_within (globals told.story) 480 p || is_within (object_table told.story) (62 + 9 * told.story.objects) p || any_below told.story.objects (λ below. is_in_frame told.story.memory (property_table told.story.memory (below + 1)) p)) (λ p. any_below 96 (λ n. is_in_abbreviation told.story.memory (abbreviations told.story) n p)) first_four abbreviated
+      first_five : AreMarkedToo of_ranges all (λ p. (nat_lt p 64 && not (is_flags p)) || is_within (globals told.story) 480 p || is_within (object_table told.story) (62 + 9 * told.story.objects) p || any_below told.story.objects (λ below. is_in_frame told.story.memory (property_table told.story.memory (below + 1)) p) || any_below 96 (λ n. is_in_abbreviation told.story.memory (abbreviations told.story) n p))
+      first_five = then_marked of_ranges with_frames all (λ p. (nat_lt p 64 && not (is_flags p)) || is_within (globals told.story) 480 p || is_within (object_table told.story) (62 + 9 * told.story.objects) p || any_below told.story.objects (λ below. is_in_frame told.story.memory (property_table told.story.memory (below + 1)) p)) (λ p. any_below 96 (λ n. is_in_abbreviation told.story.memory (abbreviations told.story) n p)) first_four abbreviated
 
       others : ℕ → Bool
       others p = (nat_lt p 64 && not (is_flags p)) || is_within (globals told.story) 480 p || is_within (object_table told.story) (62 + 9 * told.story.objects) p || any_below told.story.objects (λ below. is_in_frame told.story.memory (property_table told.story.memory (below + 1)) p) || any_below 96 (λ n. is_in_abbreviation told.story.memory (abbreviations told.story) n p)
 
-      each : (p : ℕ) → p < 65536 → slice_index_or all p false ≡ is_closed told p
-      each p word =
-          static p word ∙ ap (λ (b : Bool). b || is_within (static_base told.story) 65536 p) (first_five p word ∙ ap (λ (b : Bool). b || others p) (ranges.each p word)) ∙ ap (λ (b : Bool). (frozen_by told.ranges p || others p) || b) (from_static (static_base told.story) p word) ∙ ranges_last (frozen_by told.ranges p) (others p) (nat_le (static_base told.story) p)
-
--- ---- fixed bytes
-
-pub one_more_fixed : (told : FrozenStory) (marks : List Bool) (place : ℕ) (mark : Bool) → place < length marks → mark ≡ is_fixed told place → ((p : ℕ) → p < place → slice_index_or marks p false ≡ is_fixed told p) → (p : ℕ) → p < place + 1 → slice_index_or (slice_set marks place mark) p false ≡ is_fixed told p
-one_more_fixed told marks place mark inside is before p last = by_order (cases_lt p place)
-  where
-    by_order : (p < place) ⊎ (place ≤ p) → slice_index_or (slice_set marks place mark) p false ≡ is_fixed told p
-    by_order (inl low) = get_or-set_other marks place p mark false (λ e. omega (arith, e, low)) ∙ before p low
-    by_order (inr high) = let same : place ≡ p = omega (arith, high, last) in subst (λ (q : ℕ). slice_index_or (slice_set marks place mark) q false ≡ is_fixed told q) same (get_or-set_same marks place mark false inside ∙ is)
-
-pub all_fixed : (told : FrozenStory) (closed marks : List Bool) (place : ℕ) → 65536 ≤ place → AreClosed told closed → ((p : ℕ) → p < place → slice_index_or marks p false ≡ is_fixed told p) → AreFixed told marks
-all_fixed told closed marks place whole of_closed made = record {
-  each = λ p below. made p (omega (arith, below, whole));
-  behind = λ p above. (let shut = of_closed.behind p above in let still = of_closed.still p above in rw (shut, still) refl);
-}
+      each : (p : ℕ) → p < static_base told.story → is_marked all p ≡ is_closed told p
+      each p below =
+          let small = base_small sound in
+          let word : p < 65536 = omega (arith, below, small) in
+          first_five p word ∙ ap (λ (b : Bool). b || others p) (ranges.each p word) ∙ ranges_last (frozen_by told.ranges p) (others p) (nat_le (static_base told.story) p) (low (static_base told.story) p 0 below)

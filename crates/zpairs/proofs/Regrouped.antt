@@ -1,22 +1,27 @@
 -- Blocks of objects in the place of objects.
-use Rattle.std.proofs.Common.{◌≡◌, ◌↔◌, ◌⊎◌, inl, inr, ℕ, zero, suc, ◌+◌, ◌-◌, ◌*◌, ◌/◌, ◌%◌, ◌<◌, ◌≤◌, Bool, true, false, ◌==◌, ◌&&◌, ◌||◌, if◌then◌else◌, List, length, refl, sym, subst, ap, ◌∙◌, arith}
+use Rattle.std.proofs.Common.{◌≡◌, ◌↔◌, ◌⊎◌, inl, inr, ℕ, zero, suc, ◌+◌, ◌-◌, ◌*◌, ◌/◌, ◌%◌, ◌<◌, ◌≤◌, Bool, true, false, ◌==◌, ◌&&◌, ◌||◌, if◌then◌else◌, List, length, Option, refl, sym, subst, ap, ◌∙◌, arith}
 use Rattle.std.specs.Prelude.{IsTrue, nat_lt, slice_index_or, slice_set}
 use Rattle.std.proofs.lemmas.Bool.{cases_lt, lt-ltb, ltb-true}
-use Rattle.std.proofs.lemmas.List.{get_or_default, get_or-set_same, get_or-set_other}
+use Rattle.std.proofs.lemmas.List.{get_or-set_same, get_or-set_other}
 use Rattle.zdomain.specs.Domain.{SetOperations, AreSound, In}
 use Rattle.zobj.specs.declared.answers.PropertyQuestion.{PropertyQuestion}
 use Rattle.zobj.specs.declared.answers.PropertyQuestion.TheVariants.{Value, Address, Next}
-use Rattle.zobj.specs.Answers.{is_property_number}
+use Rattle.zobj.specs.declared.property.Property.{Property}
+use Rattle.zobj.specs.Properties.{property_of}
+use Rattle.zobj.specs.Answers.{address_of, is_property_number}
 use Rattle.zpairs.specs.declared.ends.Ends.{Ends}
 use Rattle.zpairs.specs.declared.cell.Cell.{Cell}
 use Rattle.zpairs.specs.declared.cell.Test.{Test}
 use Rattle.zpairs.specs.declared.cell.Test.TheVariants.{Answered, Put, Open}
 use Rattle.zpairs.specs.Frozen.{FrozenStory}
+use Rattle.zpairs.specs.Fixed.{is_closed, is_fixed}
+use Rattle.zpairs.specs.Rows.{ArePlaces, property_in}
 use Rattle.zpairs.specs.Ends.{joined, no_word}
-use Rattle.zpairs.specs.Cells.{cell_at, no_cell, merged, passes}
+use Rattle.zpairs.specs.Cells.{cell_at, cell_of, no_cell, merged, passes}
 use Rattle.zpairs.specs.Pairs.{ends_below, may_have, is_asked, answer_ends, pair_ends, number_ends, object_ends, all_ends}
-use Rattle.zpairs.specs.Blocks.{AreCells, AreBlocks, merged_below, merged_in, cell_in, object_in, object_cell, place_cell, block_cell, EachInBlock, place_ends, block_ends, row_end}
+use Rattle.zpairs.specs.Blocks.{AreBlocks, merged_below, object_in, object_cell, place_cell, block_cell, EachInBlock, place_ends, block_ends, row_end}
 use Rattle.zpairs.proofs.Each.{one_more_below}
+use Rattle.zpairs.proofs.Found.{in_again}
 use Rattle.zpairs.proofs.Lying.{may}
 
 -- ---- the table
@@ -27,32 +32,52 @@ all_merged k m f cell same is = subst (λ (n : ℕ). cell ≡ merged_below n f) 
 pub one_more_cell : (cells : List Cell) (f : ℕ → Cell) (k : ℕ) (cell : Cell) → k < length cells → cell ≡ f k → ((j : ℕ) → j < k → slice_index_or cells j no_cell ≡ f j) → (j : ℕ) → j < k + 1 → slice_index_or (slice_set cells k cell) j no_cell ≡ f j
 one_more_cell cells f k cell inside is before = one_more_below (λ j. slice_index_or (slice_set cells k cell) j no_cell ≡ f j) k (λ j below. get_or-set_other cells k j cell no_cell (λ e. omega (arith, e, below)) ∙ before j below) (get_or-set_same cells k cell no_cell inside ∙ is)
 
--- what stands at the place of a row and a column
-module _ (f : ℕ → ℕ → Cell) (cells : List Cell) (rows : ℕ) (are : (k : ℕ) → k < 33 * rows → slice_index_or cells k no_cell ≡ f (k / 33) (k % 33)) where
-  pub in_table : (row column k : ℕ) → row < rows → column < 33 → k ≡ 33 * row + column → slice_index_or cells k no_cell ≡ f row column
-  in_table row column k few small at =
-      let r : k / 33 ≡ row = omega (arith, at, small) in
-      let c : k % 33 ≡ column = omega (arith, at, small) in
-      are k (omega (arith, at, few, small)) ∙ ap (λ (b : ℕ). f b (k % 33)) r ∙ ap (f row) c
+pub one_more_place : (places : List ℕ) (f : ℕ → ℕ) (k place : ℕ) → k < length places → place ≡ f k → ((j : ℕ) → j < k → slice_index_or places j 0 ≡ f j) → (j : ℕ) → j < k + 1 → slice_index_or (slice_set places k place) j 0 ≡ f j
+one_more_place places f k place inside is before = one_more_below (λ j. slice_index_or (slice_set places k place) j 0 ≡ f j) k (λ j below. get_or-set_other places k j place 0 (λ e. omega (arith, e, below)) ∙ before j below) (get_or-set_same places k place 0 inside ∙ is)
 
--- an object is read
-pub cell_read : (told : FrozenStory) (cells : List Cell) (object number k : ℕ) (otherwise : Cell) → AreCells told cells → length cells ≡ 8448 → 1 ≤ object → object ≤ told.story.objects → object ≤ 256 → number ≤ 32 → k ≡ 33 * (object - 1) + number → slice_index_or cells k otherwise ≡ cell_at told object number
-cell_read told cells object number k otherwise are long first last few small at =
-    let there : nat_lt (object - 1) told.story.objects ≡ true = lt-ltb (object - 1) told.story.objects (omega (arith, first, last)) in
-    let same : object - 1 + 1 ≡ object = omega (arith, first) in
-    get_or_default cells k otherwise no_cell (omega (arith, long, first, few, small, at))
-    ∙ in_table (object_cell told) cells 256 are (object - 1) number k (omega (arith, first, few)) (omega (arith, small)) at
-    ∙ rw there (ap (λ (x : ℕ). cell_at told x number) same)
-
-same_merged : (k : ℕ) (f g : ℕ → Cell) → ((i : ℕ) → i < k → f i ≡ g i) → merged_below k f ≡ merged_below k g
+pub one_merged : (k : ℕ) (f : ℕ → Cell) (cell next all : Cell) → cell ≡ merged_below k f → next ≡ f k → all ≡ merged cell next → all ≡ merged_below (k + 1) f
 unfolding merged_below
-same_merged zero f g same = refl
-same_merged (suc k) f g same = let before = same_merged k f g (λ i below. same i (omega (arith, below))) in let last = same k (omega arith) in rw (before, last) refl
+one_merged k f cell next all is here e = let one : suc k ≡ k + 1 = omega arith in subst (λ (n : ℕ). all ≡ merged_below n f) one (rw (e, is, here) refl)
 
--- a table of blocks that is made of one of objects
-pub merged_blocks : (told : FrozenStory) (objects blocks : List Cell) → AreCells told objects → ((k : ℕ) → k < 528 → slice_index_or blocks k no_cell ≡ merged_in objects (k / 33) (k % 33)) → AreBlocks told blocks
-merged_blocks told objects blocks are made k few =
-    made k few ∙ same_merged 16 (cell_in objects (k / 33) (k % 33)) (place_cell told (k / 33) (k % 33)) (λ place near. in_table (object_cell told) objects 256 are (16 * (k / 33) + place) (k % 33) (33 * (16 * (k / 33) + place) + k % 33) (omega (arith, few, near)) (omega arith) refl)
+-- of no object there is nothing to know
+none_there : (k : ℕ) (f : ℕ → Cell) → ((i : ℕ) → i < k → f i ≡ no_cell) → merged_below k f ≡ no_cell
+unfolding merged_below
+none_there zero f none = refl
+none_there (suc k) f none = let before = none_there k f (λ i below. none i (omega (arith, below))) in let last = none k (omega arith) in rw (before, last) refl
+
+module _ (told : FrozenStory) where
+  pub no_block : (block number : ℕ) → told.story.objects ≤ 16 * block → no_cell ≡ block_cell told block number
+  no_block block number few = sym (none_there 16 (place_cell told block number) (λ place near. by place (nat_lt (16 * block + place) told.story.objects) refl))
+    where
+      by : (place : ℕ) (b : Bool) → nat_lt (16 * block + place) told.story.objects ≡ b → (if b then cell_at told (16 * block + place + 1) number else no_cell) ≡ no_cell
+      by place true e = absurd (let there = ltb-true (16 * block + place) told.story.objects e in omega (arith, there, few))
+      by place false e = refl
+
+  -- by where its property is
+  pub cell_here : (places : List ℕ) (below number k : ℕ) (found : Option Property) (cell : Cell) → ArePlaces told.story places → below < told.story.objects → number < 33 → k ≡ 33 * below + number → found ≡ property_in told.story.memory (slice_index_or places k 0) → cell ≡ cell_of (is_closed told) (is_fixed told) told.story.memory number found → cell ≡ object_cell told below number
+  cell_here places below number k found cell are inside small at is e =
+      let row : k / 33 ≡ below = omega (arith, at, small) in
+      let column : k % 33 ≡ number = omega (arith, at, small) in
+      let there : nat_lt below told.story.objects ≡ true = lt-ltb below told.story.objects inside in
+      let place : slice_index_or places k 0 ≡ address_of (property_of told.story.memory (below + 1) number) =
+      are k (omega (arith, at, inside, small)) ∙ ap (λ (b : ℕ). address_of (property_of told.story.memory (b + 1) (k % 33))) row ∙ ap (λ (n : ℕ). address_of (property_of told.story.memory (below + 1) n)) column in
+      e ∙ ap (cell_of (is_closed told) (is_fixed told) told.story.memory number) (is ∙ in_again told.story.memory (below + 1) number (slice_index_or places k 0) place) ∙ sym (rw there refl)
+
+  -- an object is read
+  pub object_read : (object number : ℕ) → 1 ≤ object → object ≤ told.story.objects → object_cell told (object - 1) number ≡ cell_at told object number
+  object_read object number first last =
+      let there : nat_lt (object - 1) told.story.objects ≡ true = lt-ltb (object - 1) told.story.objects (omega (arith, first, last)) in
+      let same : object - 1 + 1 ≡ object = omega (arith, first) in
+      rw there (ap (λ (x : ℕ). cell_at told x number) same)
+
+-- a block is read
+pub block_read : (told : FrozenStory) (cells : List Cell) (block number k : ℕ) → AreBlocks told cells → block < 16 → number ≤ 32 → k ≡ 33 * block + number → slice_index_or cells k no_cell ≡ block_cell told block number
+block_read told cells block number k are few small at =
+    let row : k / 33 ≡ block = omega (arith, at, small) in
+    let column : k % 33 ≡ number = omega (arith, at, small) in
+    are k (omega (arith, few, small, at))
+    ∙ ap (λ (b : ℕ). block_cell told b (k % 33)) row
+    ∙ ap (block_cell told block) column
 
 -- ---- tests of merged cells
 

@@ -10,7 +10,9 @@ use Rattle.zobj.specs.declared.property.Property.{Property}
 use Rattle.zobj.specs.declared.answers.PropertyQuestion.TheVariants.{Value, Address, Next}
 use Rattle.zobj.specs.Properties.{first_properties, property_of}
 use Rattle.zpairs.specs.declared.cell.Test.TheVariants.{Answered, Put, Open}
+use Rattle.zpairs.specs.Marks.{is_marked}
 use Rattle.zpairs.specs.Frozen.{FrozenStory, frozen_by}
+use Rattle.zpairs.specs.Rows.{property_in}
 use Rattle.zpairs.specs.Ends.{turned, exactly, a_byte, any_word, no_word, joined, value_ends, address_ends}
 use Rattle.zpairs.specs.Blocks.{object_cell, object_in, place_cell}
 use Rattle.zpairs.specs.Fixed.{any_below, is_closed, is_size_place}
@@ -40,6 +42,11 @@ frozen_places = (refl, refl, refl, refl, refl, refl)
 runs_of_none : (has_none (frozen_by ranges) 6 3 ≡ true) × (has_none (frozen_by ranges) 6 4 ≡ false) × (has_none (frozen_by ranges) 5 1 ≡ false) × (has_none (frozen_by ranges) 5 0 ≡ true)
 unfolding has_none ranges
 runs_of_none = (refl, refl, refl, refl)
+
+-- ---- marks, eight to a byte from the lowest bit on
+
+marked : (is_marked (0x81 ∷ 0x02 ∷ []) 0 ≡ true) × (is_marked (0x81 ∷ 0x02 ∷ []) 1 ≡ false) × (is_marked (0x81 ∷ 0x02 ∷ []) 7 ≡ true) × (is_marked (0x81 ∷ 0x02 ∷ []) 8 ≡ false) × (is_marked (0x81 ∷ 0x02 ∷ []) 9 ≡ true) × (is_marked (0x81 ∷ 0x02 ∷ []) 16 ≡ false)
+marked = (refl, refl, refl, refl, refl, refl)
 
 -- ---- values of data
 
@@ -90,6 +97,11 @@ numbered = (refl, refl, refl, refl, refl)
 found : (property_of story.memory 1 5 ≡ Some (record { number = 5; place = 0x274; length = 1 })) × (property_of story.memory 1 3 ≡ Some (record { number = 3; place = 0x276; length = 2 })) × (property_of story.memory 1 2 ≡ Some (record { number = 2; place = 0x279; length = 3 })) × (property_of story.memory 2 5 ≡ Some (record { number = 5; place = 0x281; length = 1 })) × (property_of story.memory 2 3 ≡ None)
 unfolding story story_above front tables first_properties
 found = (refl, refl, refl, refl, refl)
+
+-- by where their data are
+placed : (property_in story.memory 0x276 ≡ property_of story.memory 1 3) × (property_in story.memory 0x281 ≡ property_of story.memory 2 5) × (property_in story.memory 0 ≡ None) × (property_in story.memory 0x27D ≡ None)
+unfolding story story_above front tables first_properties
+placed = (refl, refl, refl, refl)
 
 -- what is known of a pair, and of both objects with a number
 cells : (cell_at told 1 3 ≡ record { has = true; short = true; is_open = false; values = exactly 0x1234; addresses = exactly 0x276 }) × (cell_at told 2 3 ≡ record { has = false; short = true; is_open = true; values = exactly 0xFFFE; addresses = exactly 0 }) × (cell_at told 1 2 ≡ record { has = true; short = false; is_open = true; values = any_word; addresses = exactly 0x279 }) × (cell_at told 1 0 ≡ record { has = false; short = true; is_open = true; values = no_word; addresses = exactly 0 }) × (cell_at told 1 32 ≡ cell_at told 1 0)

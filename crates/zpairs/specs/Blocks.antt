@@ -25,10 +25,6 @@ object_cell told below number = if nat_lt below told.story.objects then cell_at 
 abbrev pub place_cell : FrozenStory → ℕ → ℕ → ℕ → Cell
 place_cell told block number place = object_cell told (16 * block + place) number
 
--- a table of as many objects as there can be, each with the numbers up to 32 in their order
-abbrev pub AreCells : FrozenStory → List Cell → Type 0
-AreCells told cells = (k : ℕ) → k < 8448 → slice_index_or cells k no_cell ≡ object_cell told (k / 33) (k % 33)
-
 -- of the 16 objects of a block, as far as they are there
 abbrev pub block_cell : FrozenStory → ℕ → ℕ → Cell
 block_cell told block number = merged_below 16 (place_cell told block number)
@@ -36,13 +32,6 @@ block_cell told block number = merged_below 16 (place_cell told block number)
 -- a table of all blocks, with the same numbers
 abbrev pub AreBlocks : FrozenStory → List Cell → Type 0
 AreBlocks told cells = (k : ℕ) → k < 528 → slice_index_or cells k no_cell ≡ block_cell told (k / 33) (k % 33)
-
--- what stands in a table of objects at a place of a block, and what that makes of the block
-abbrev pub cell_in : List Cell → ℕ → ℕ → ℕ → Cell
-cell_in cells block number place = slice_index_or cells (33 * (16 * block + place) + number) no_cell
-
-abbrev pub merged_in : List Cell → ℕ → ℕ → Cell
-merged_in cells block number = merged_below 16 (cell_in cells block number)
 
 -- something holds of each object of a block
 abbrev pub EachInBlock : FrozenStory → ℕ → (ℕ → Type 0) → Type 0

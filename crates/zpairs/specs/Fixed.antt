@@ -1,11 +1,12 @@
 -- Which bytes are closed, and which stay as they are, as questions that can be answered (own). What they mean are the sets of zplace.
-use Rattle.std.specs.Prelude.{◌≡◌, ◌<◌, ◌≤◌, true, slice_index_or, ℕ, zero, suc, ◌+◌, ◌*◌, Bool, false, ◌&&◌, ◌||◌, not, ◌==◌, nat_le, nat_lt, List, length, Option, Some, None}
+use Rattle.std.specs.Prelude.{◌≡◌, ◌<◌, ◌≤◌, true, ℕ, zero, suc, ◌+◌, ◌*◌, Bool, false, ◌&&◌, ◌||◌, not, ◌==◌, nat_le, nat_lt, List, length, Option, Some, None}
 use Rattle.zstory.specs.Bytes.{byte_at}
 use Rattle.zstory.specs.LoadedStory.{LoadedStory, globals, object_table, static_base, abbreviations}
 use Rattle.zstory.specs.Objects.{object_place, property_table}
 use Rattle.ztext.specs.Abbreviations.{readable_word}
 use Rattle.ztext.specs.Local.{read_length}
 use Rattle.zobj.specs.Properties.{list_place, data_end}
+use Rattle.zpairs.specs.Marks.{is_marked}
 use Rattle.zpairs.specs.Frozen.{FrozenStory, frozen_by}
 
 -- a place is one of so many from another on
@@ -59,17 +60,12 @@ is_changing story p =
 abbrev pub is_fixed : FrozenStory → ℕ → Bool
 is_fixed told p = is_closed told p && not (is_changing told.story p)
 
--- marks tell of each byte address whether its byte is closed; all bytes behind them are, and never change
-pub record AreClosed (told : FrozenStory) (marks : List Bool) : Type 0 where
-  pub each : (p : ℕ) → p < 65536 → slice_index_or marks p false ≡ is_closed told p
-  pub behind : (p : ℕ) → 65536 ≤ p → is_closed told p ≡ true
-  pub still : (p : ℕ) → 65536 ≤ p → is_changing told.story p ≡ false
-
--- marks tell of each whether its byte is fixed; all bytes behind them are
-pub record AreFixed (told : FrozenStory) (marks : List Bool) : Type 0 where
-  pub each : (p : ℕ) → p < 65536 → slice_index_or marks p false ≡ is_fixed told p
-  pub behind : (p : ℕ) → 65536 ≤ p → is_fixed told p ≡ true
+-- marks tell of each byte of dynamic memory whether it is closed; all behind it are, and never change
+pub record AreClosed (told : FrozenStory) (marks : List ℕ) : Type 0 where
+  pub each : (p : ℕ) → p < static_base told.story → is_marked marks p ≡ is_closed told p
+  pub behind : (p : ℕ) → static_base told.story ≤ p → is_closed told p ≡ true
+  pub still : (p : ℕ) → static_base told.story ≤ p → is_changing told.story p ≡ false
 
 -- marks with those of more places
-abbrev pub AreMarkedToo : List Bool → List Bool → (ℕ → Bool) → Type 0
-AreMarkedToo before after holds = (p : ℕ) → p < 65536 → slice_index_or after p false ≡ (slice_index_or before p false || holds p)
+abbrev pub AreMarkedToo : List ℕ → List ℕ → (ℕ → Bool) → Type 0
+AreMarkedToo before after holds = (p : ℕ) → p < 65536 → is_marked after p ≡ (is_marked before p || holds p)

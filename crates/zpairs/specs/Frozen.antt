@@ -1,8 +1,9 @@
 -- Places that a certificate says stay as they are (own).
-use Rattle.std.specs.Prelude.{◌≡◌, ℕ, ◌<◌, ◌&&◌, Bool, false, List, nat_le, slice_index_or}
+use Rattle.std.specs.Prelude.{◌≡◌, ℕ, ◌<◌, ◌&&◌, Bool, List, nat_le}
 use Rattle.std.specs.List.{list_any}
 use Rattle.zstory.specs.LoadedStory.{LoadedStory}
 use Rattle.zcert.specs.declared.parts.Range.{Range}
+use Rattle.zpairs.specs.Marks.{is_marked}
 
 -- the place lies in the range, both ends included
 abbrev pub is_inside : ℕ → Range → Bool
@@ -13,8 +14,8 @@ abbrev pub frozen_by : List Range → ℕ → Bool
 frozen_by ranges p = list_any (is_inside p) ranges
 
 -- marks tell of each place that ranges reach whether it lies in one
-pub record AreMarked (ranges : List Range) (marks : List Bool) : Type 0 where
-  pub each : (p : ℕ) → p < 65536 → slice_index_or marks p false ≡ frozen_by ranges p
+pub record AreMarked (ranges : List Range) (marks : List ℕ) : Type 0 where
+  pub each : (p : ℕ) → p < 65536 → is_marked marks p ≡ frozen_by ranges p
 
 -- a story as it was loaded, and the ranges of places that stay so
 pub record FrozenStory : Type 0 where

@@ -1,3 +1,4 @@
+pub mod Marks
 pub mod Frozen
 pub mod Fixed
 pub mod Ends

@@ -6,6 +6,7 @@ ghost use Rattle.ztext.specs.Abbreviations.{readable_word};
 ghost use Rattle.zpairs.specs.Fixed.{AreClosed, AreMarkedToo, any_below, is_flags, is_in_abbreviation, is_in_frame, is_in_text, is_size_place, is_within};
 
 use crate::frozen::{PLACES, marks_of};
+use crate::marks::Marks;
 use zcert::Range;
 use zplace::{data_end, list_place, name_words, read_length, table_of};
 use zstory::{DEFAULTS_LENGTH, GLOBALS_LENGTH, OBJECT_ENTRY_LENGTH, Story};
@@ -19,9 +20,9 @@ const FLAGS_2: usize = 0x10;
 /// How many abbreviations there are (Z 3.3).
 const ABBREVIATIONS: u8 = 96;
 
-/// A mark for each byte address whether its byte is closed: what the story's own tables take up, what lies in a range, and all from
-/// static memory on. Each table is gone over once, and each place of each range.
-pub fn closed_marks(story: &Story, ranges: &[Range]) -> [bool; PLACES]
+/// A mark for each byte of dynamic memory whether it is closed: what the story's own tables take up, and what lies in a range. Each table is
+/// gone over once, and each place of each range; static memory, all of which is closed, isn't.
+pub fn closed_marks(story: &Story, ranges: &[Range]) -> Marks
     ensures { AreClosed (record { story = story.now; ranges = ranges.now }) result }
 {
     let memory = story.memory();
@@ -32,21 +33,20 @@ pub fn closed_marks(story: &Story, ranges: &[Range]) -> [bool; PLACES]
     mark(&mut marks, story.object_table(), DEFAULTS_LENGTH + entries);
     mark_frames(&mut marks, story);
     mark_abbreviations(&mut marks, memory, story.abbreviations());
-    mark(&mut marks, story.static_base(), PLACES);
     marks
 }
 
 /// Marks so many places from one on.
-fn mark(marks: &mut [bool; PLACES], from: usize, size: usize)
+fn mark(marks: &mut Marks, from: usize, size: usize)
     ensures { AreMarkedToo marks.old marks.new (is_within from size) }
 {
     for place in from..from.saturating_add(size).min(PLACES) {
-        marks[place] = true;
+        marks.add(place);
     }
 }
 
 /// Marks the header without Flags 2.
-fn mark_header(marks: &mut [bool; PLACES])
+fn mark_header(marks: &mut Marks)
     ensures { AreMarkedToo marks.old marks.new (λ p. nat_lt p 64 && not (is_flags p)) }
 {
     mark(marks, 0, FLAGS_2);
@@ -54,7 +54,7 @@ fn mark_header(marks: &mut [bool; PLACES])
 }
 
 /// Marks what the property tables of all objects are beside their data.
-fn mark_frames(marks: &mut [bool; PLACES], story: &Story)
+fn mark_frames(marks: &mut Marks, story: &Story)
     ensures { AreMarkedToo marks.old marks.new (λ p. any_below story.now.objects (λ below. is_in_frame story.now.memory (property_table story.now.memory (below + 1)) p)) }
 {
     for below in 0..story.objects() {
@@ -63,7 +63,7 @@ fn mark_frames(marks: &mut [bool; PLACES], story: &Story)
 }
 
 /// Marks what one property table is beside its data.
-fn mark_frame(marks: &mut [bool; PLACES], story: &Story, table: usize)
+fn mark_frame(marks: &mut Marks, story: &Story, table: usize)
     requires { table ≤ 65535 }
     ensures { AreMarkedToo marks.old marks.new (is_in_frame story.now.memory table) }
 {
@@ -74,7 +74,7 @@ fn mark_frame(marks: &mut [bool; PLACES], story: &Story, table: usize)
 }
 
 /// Marks the size bytes of a list of properties, with the zero byte at its end.
-fn mark_sizes(marks: &mut [bool; PLACES], memory: &[u8], first: usize)
+fn mark_sizes(marks: &mut Marks, memory: &[u8], first: usize)
     ensures { AreMarkedToo marks.old marks.new (is_size_place (length memory.now) memory.now first) }
 {
     let mut at = first;
@@ -88,7 +88,7 @@ fn mark_sizes(marks: &mut [bool; PLACES], memory: &[u8], first: usize)
 }
 
 /// Marks all abbreviations of a table.
-fn mark_abbreviations(marks: &mut [bool; PLACES], memory: &[u8], table: usize)
+fn mark_abbreviations(marks: &mut Marks, memory: &[u8], table: usize)
     requires { table < 65536 }
     ensures { AreMarkedToo marks.old marks.new (λ p. any_below 96 (λ n. is_in_abbreviation memory.now table n p)) }
 {
@@ -98,7 +98,7 @@ fn mark_abbreviations(marks: &mut [bool; PLACES], memory: &[u8], table: usize)
 }
 
 /// Marks a word of the table, which leads to an abbreviation, and what a reading of its text goes over.
-fn mark_abbreviation(marks: &mut [bool; PLACES], memory: &[u8], entry: usize)
+fn mark_abbreviation(marks: &mut Marks, memory: &[u8], entry: usize)
     ensures { AreMarkedToo marks.old marks.new (λ p. is_within entry 2 p || is_in_text memory.now (readable_word memory.now entry) p) }
 {
     mark(marks, entry, 2);
@@ -106,7 +106,7 @@ fn mark_abbreviation(marks: &mut [bool; PLACES], memory: &[u8], entry: usize)
 }
 
 /// Marks what a reading goes over of the text that a word leads to.
-fn mark_text(marks: &mut [bool; PLACES], memory: &[u8], found: Option<u16>)
+fn mark_text(marks: &mut Marks, memory: &[u8], found: Option<u16>)
     ensures { AreMarkedToo marks.old marks.new (is_in_text memory.now found) }
 {
     if let Some(word) = found {

@@ -37,7 +37,7 @@ fn is_short(found: Option<Property>) -> bool
 }
 
 /// The address of a property's data, 0 where there is none.
-fn address_of(found: Option<Property>) -> u16
+pub(crate) fn address_of(found: Option<Property>) -> u16
     ensures { result ≡ address_of found }
 {
     match found {

@@ -7,10 +7,14 @@ ghost use Rattle.zpairs.specs.Ends.{no_word};
 ghost use Rattle.zpairs.specs.Frozen.{FrozenStory, frozen_by};
 ghost use Rattle.zpairs.specs.Pairs.{EachPair, all_ends, is_asked, may_exceed, may_have, object_ends, pair_ends};
 
-use crate::blocks::{BLOCK_CELLS, BLOCK_LENGTH, COLUMNS, OBJECT_CELLS, block_cells, object_cells};
+use crate::blocks::{
+    BLOCK_CELLS, BLOCK_LENGTH, COLUMNS, OBJECT_CELLS, block_cells, cell_in, object_cell,
+};
 use crate::cell::{Cell, Test};
 use crate::ends::{Ends, turned};
 use crate::marked::Marked;
+use crate::marks::Marks;
+use crate::rows::object_places;
 use std::marker::Model;
 use zcert::Range;
 use zdomain::Domain;
@@ -20,13 +24,14 @@ use zstory::Story;
 /// How many numbers a size byte can have (Z 12.4.1).
 const NUMBERS: u16 = 32;
 
-/// The properties of a story's objects, with the ranges of bytes that stay as they are. What is known of each object and each number is
-/// kept, and what is known of 16 objects side by side, so that a question about many is answered by blocks.
+/// The properties of a story's objects, with the ranges of bytes that stay as they are. Where each object has each number is kept, and what
+/// is known of 16 objects side by side, so that a question about many is answered by blocks.
 #[derive(Drop)]
 pub struct Properties<'a> {
     story: &'a Story,
     ranges: &'a [Range],
-    objects: [Cell; OBJECT_CELLS],
+    closed: Marks,
+    places: [u16; OBJECT_CELLS],
     blocks: [Cell; BLOCK_CELLS],
 }
 
@@ -37,9 +42,11 @@ impl<'a> Model for Properties<'a> {
 
     ghost view = { λ p. record { story = p.story.now; ranges = p.ranges.now } };
 
-    ghost use Rattle.zpairs.specs.Blocks.{AreBlocks, AreCells};
+    ghost use Rattle.zpairs.specs.Blocks.{AreBlocks};
+    ghost use Rattle.zpairs.specs.Fixed.{AreClosed};
+    ghost use Rattle.zpairs.specs.Rows.{ArePlaces};
 
-    ghost invariant = { λ p. AreCells (record { story = p.story.now; ranges = p.ranges.now }) p.objects × AreBlocks (record { story = p.story.now; ranges = p.ranges.now }) p.blocks };
+    ghost invariant = { λ p. AreClosed (record { story = p.story.now; ranges = p.ranges.now }) p.closed × ArePlaces p.story.now p.places × AreBlocks (record { story = p.story.now; ranges = p.ranges.now }) p.blocks };
 }
 
 impl<'a> Properties<'a> {
@@ -48,22 +55,41 @@ impl<'a> Properties<'a> {
     ghost use Rattle.zpairs.specs.Blocks.{EachInBlock, block_cell, block_ends, row_end};
     ghost use Rattle.zpairs.specs.Cells.{cell_at, passes};
     ghost use Rattle.zpairs.specs.Ends.{no_word};
+    ghost use Rattle.zpairs.specs.Fixed.{AreClosed};
     ghost use Rattle.zpairs.specs.Frozen.{frozen_by};
     ghost use Rattle.zpairs.specs.Pairs.{AreAnswered, HaveOpenData, CanBePut, EachPair, all_ends, answers, ends_below, number_ends, object_ends, pair_ends};
 
-    /// Those of a story, of which the bytes in some ranges stay as they are, by its marks. Each object's list is gone over once. They take
-    /// no memory beside their own, about 100 KB.
-    pub fn new(story: &'a Story, ranges: &'a [Range], marked: Marked<'_>) -> Properties<'a>
-        requires story { marked.story.now ≡ story.now }
-        requires ranges { marked.ranges.now ≡ ranges.now }
+    /// Those of a story, of which the bytes in some ranges stay as they are, by the marks of closed bytes. Each object's list is gone over
+    /// once. They take no memory beside their own, about 40 KB.
+    pub fn new(story: &'a Story, ranges: &'a [Range], closed: Marks) -> Properties<'a>
+        requires { AreClosed (record { story = story.now; ranges = ranges.now }) closed }
         ensures { result ≡ record { story = story.now; ranges = ranges.now } }
     {
-        let objects = object_cells(marked);
+        let places = object_places(story);
+        let marked = Marked {
+            story,
+            ranges,
+            closed: &closed,
+        };
+        let blocks = block_cells(marked, &places);
         Properties {
             story,
             ranges,
-            blocks: block_cells(&objects),
-            objects,
+            closed,
+            places,
+            blocks,
+        }
+    }
+
+    /// The story and the ranges, with the marks of closed bytes.
+    pub fn marked(&self) -> Marked<'_>
+        ensures story { result.story.now ≡ self.now.story }
+        ensures ranges { result.ranges.now ≡ self.now.ranges }
+    {
+        Marked {
+            story: self.story,
+            ranges: self.ranges,
+            closed: &self.closed,
         }
     }
 
@@ -195,7 +221,10 @@ impl<'a> Properties<'a> {
         requires small { number ≤ 32 }
         ensures { result ≡ block_cell self.now block number }
     {
-        self.blocks[COLUMNS * usize::from(block) + usize::from(number)]
+        cell_in(
+            &self.blocks,
+            COLUMNS * usize::from(block) + usize::from(number),
+        )
     }
 
     /// Whether each object of a block that a set has passes a test with each number of a set, object by object.
@@ -270,7 +299,12 @@ impl<'a> Properties<'a> {
         requires small { number ≤ 32 }
         ensures { result ≡ cell_at self.now object number }
     {
-        self.objects[COLUMNS * (usize::from(object) - 1) + usize::from(number)]
+        let marked = Marked {
+            story: self.story,
+            ranges: self.ranges,
+            closed: &self.closed,
+        };
+        object_cell(marked, &self.places, usize::from(object) - 1, number)
     }
 
     /// The ends of what may be answered of objects and numbers of two sets.

@@ -2,9 +2,10 @@
 
 ghost use Rattle.std.specs.Prelude.{◌≡◌, ◌+◌, ◌/◌, ◌%◌, ◌<◌, ℕ, Some, None, slice_index_or};
 ghost use Rattle.zobj.specs.Properties.{list_place};
-ghost use Rattle.zpairs.specs.Rows.{IsObjectRow, IsRow, first_of, if_number};
+ghost use Rattle.zpairs.specs.Rows.{ArePlaces, IsObjectRow, IsRow, first_of, if_number, property_in};
 
-use crate::blocks::COLUMNS;
+use crate::blocks::{COLUMNS, OBJECT_CELLS};
+use crate::finding::address_of;
 use zobj::{Property, list_place, property_at};
 use zstory::Story;
 
@@ -34,7 +35,7 @@ fn keep_first(row: &mut [Option<Property>; COLUMNS], property: Property)
 
 /// The properties of an object, less 1, by their numbers, if the story has it.
 #[tactic(auto, using(crate::proofs::ByNumber::of_object, crate::proofs::Tables::entry_there))]
-pub(crate) fn object_row(story: &Story, below: u8) -> [Option<Property>; COLUMNS]
+fn object_row(story: &Story, below: u8) -> [Option<Property>; COLUMNS]
     ensures { IsObjectRow story.now below result }
 {
     if below < story.objects() {
@@ -45,8 +46,8 @@ pub(crate) fn object_row(story: &Story, below: u8) -> [Option<Property>; COLUMNS
     }
 }
 
-/// Makes a row that of a cell: it is that of the cell before, or else of the next object.
-pub(crate) fn renew(story: &Story, row: &mut [Option<Property>; COLUMNS], k: usize)
+/// Makes a row that of a place of the table: it is that of the place before, or else of the next object.
+fn renew(story: &Story, row: &mut [Option<Property>; COLUMNS], k: usize)
     requires few { k < 8448 }
     requires same { (k % 33 ≡ 0 → ⊥) → IsObjectRow story.now (k / 33) row.old }
     ensures { IsObjectRow story.now (k / 33) row.new }
@@ -54,4 +55,27 @@ pub(crate) fn renew(story: &Story, row: &mut [Option<Property>; COLUMNS], k: usi
     if k % COLUMNS == 0 {
         *row = object_row(story, (k / COLUMNS) as u8);
     }
+}
+
+/// Where the data of each object's property of each number are, 0 where it has none.
+pub(crate) fn object_places(story: &Story) -> [u16; OBJECT_CELLS]
+    ensures { ArePlaces story.now result }
+{
+    let mut places = [0; OBJECT_CELLS];
+    let mut row = [None; COLUMNS];
+    for k in 0..COLUMNS * usize::from(story.objects()) {
+        renew(story, &mut row, k);
+        places[k] = address_of(row[k % COLUMNS]);
+    }
+    places
+}
+
+/// The property whose data are at a place, and none at 0.
+pub(crate) fn property_in(memory: &[u8], place: u16) -> Option<Property>
+    ensures { result ≡ property_in memory.now place }
+{
+    if place == 0 {
+        return None;
+    }
+    property_at(memory, usize::from(place) - 1)
 }

@@ -1,8 +1,8 @@
 -- Where texts begin that no play changes, and which words of a set name such places.
-use Rattle.std.proofs.Common.{◌≡◌, ◌↔◌, ◌⊎◌, inl, inr, ℕ, zero, suc, ◌+◌, ◌-◌, ◌<◌, ◌≤◌, min, Bool, true, false, ◌&&◌, ◌||◌, if◌then◌else◌, List, [], ◌∷◌, length, drop, replicate, Option, Some, None, option_map, refl, sym, subst, ap, ◌∙◌, arith}
-use Rattle.std.specs.Prelude.{IsTrue, IfSome, nat_le, nat_lt, slice_index_or, slice_set}
-use Rattle.std.proofs.lemmas.Bool.{cases_lt, lt-ltb, le-ltb, ltb-true, le-leb, leb-true, and_parts, and_from, or_cases, or_left, or_right}
-use Rattle.std.proofs.lemmas.List.{drop_more, length-drop, get_or-set_same, get_or-set_other, get_or-replicate, get_or_past, length-replicate}
+use Rattle.std.proofs.Common.{◌≡◌, ◌↔◌, ◌⊎◌, inl, inr, ℕ, zero, suc, ◌+◌, ◌-◌, ◌*◌, ◌/◌, ◌<◌, ◌≤◌, Bool, true, false, ◌&&◌, ◌||◌, ◌==◌, List, [], ◌∷◌, length, drop, Option, Some, None, option_map, refl, sym, subst, ap, ◌∙◌, arith}
+use Rattle.std.specs.Prelude.{IsTrue, IfSome, nat_le, nat_lt, slice_index_or}
+use Rattle.std.proofs.lemmas.Bool.{cases_lt, ne_eqb, eq-eqb, lt-ltb, le-ltb, ltb-true, le-leb, leb-true, and_parts, and_from, or_cases, or_left, or_right}
+use Rattle.std.proofs.lemmas.List.{drop_more, length-drop}
 use Rattle.std.proofs.lemmas.Option.{same_Some}
 use Rattle.zstory.specs.Bytes.{byte_at}
 use Rattle.zstory.specs.LoadedStory.{LoadedStory}
@@ -10,10 +10,11 @@ use Rattle.ztext.specs.Words.{front_text, text_at}
 use Rattle.zword.specs.declared.addressing.Addressing.{Addressing}
 use Rattle.zword.specs.Addressing.{place_of}
 use Rattle.zdomain.specs.Domain.{SetOperations, In}
+use Rattle.zpairs.specs.Marks.{is_marked}
 use Rattle.zpairs.specs.Frozen.{FrozenStory, frozen_by}
 use Rattle.zplace.specs.Bytes.{IsWithin, IsFixed}
 use Rattle.zpairs.specs.Fixed.{is_fixed}
-use Rattle.zruns.specs.Texts.{HasFixedText, begins_text, AreTextMarks, AreRuns, AreTextRuns, run_length, IsLeastFrom}
+use Rattle.zruns.specs.Texts.{HasFixedText, begins_text, AreTextMarks, AreMarkedBlocks, IsLeastFrom}
 use Rattle.zpairs.proofs.Telling.{fixed_is}
 
 -- ---- a text, by its first word
@@ -149,83 +150,69 @@ module _ (told : FrozenStory) where
       back : Begins told.story (frozen_by told.ranges) p → IsTrue (begins_text told p behind)
       back parts = and_from inside_test rest_test (lt-ltb (p + 1) (length told.story.memory) parts.inside) (and_from fixed_test word_test (and_from (is_fixed told p) (is_fixed told (p + 1)) ((fixed_is told p).1 parts.high) ((fixed_is told (p + 1)).1 parts.low)) (of_word parts.rest))
 
-  -- marks tell of each place from one on
-  pub record AreMarkedFrom (from : ℕ) (marks : List Bool) : Type 0 where
-    pub each : (p : ℕ) → from ≤ p → IsTrue (slice_index_or marks p false) ↔ Has p
+  -- marks tell of each place from one on, and there is none before it
+  pub record AreMarkedFrom (from : ℕ) (marks : List ℕ) : Type 0 where
+    pub each : (p : ℕ) → from ≤ p → IsTrue (is_marked marks p) ↔ Has p
+    pub none : (p : ℕ) → p < from → is_marked marks p ≡ false
 
-  pub none_marked : (at long : ℕ) → at ≡ length told.story.memory → AreMarkedFrom at (replicate long false)
-  none_marked at long end = record { each = λ p above. (λ e. absurd (let no = unmarked p in cc), λ has. absurd (let inside = (begins told.story (frozen_by told.ranges) p has).inside in omega (arith, above, end, inside))) }
-    where
-      unmarked : (p : ℕ) → slice_index_or (replicate long false) p false ≡ false
-      unmarked p = by_order (cases_lt p long)
-        where
-          by_order : (p < long) ⊎ (long ≤ p) → slice_index_or (replicate long false) p false ≡ false
-          by_order (inl inside) = get_or-replicate long p false false inside
-          by_order (inr outside) = get_or_past (replicate long false) p false (let size = length-replicate long false in omega (arith, size, outside))
+  not_marked : (marks : List ℕ) (p : ℕ) → is_marked marks p ≡ false → IsTrue (is_marked marks p) → ⊥
+  not_marked marks p off on = let e = sym off ∙ on in cc
 
-  pub one_more_mark : (marks : List Bool) (at before : ℕ) (behind mark : Bool) → before ≡ at + 1 → at < length marks → behind ≡ slice_index_or marks (at + 2) false → mark ≡ begins_text told at behind → AreMarkedFrom before marks → AreMarkedFrom at (slice_set marks at mark)
-  one_more_mark marks at before behind mark next inside is_behind is so_far = record { each = λ p above. by_order p above (cases_lt at p) }
+  pub none_marked : (marks : List ℕ) (at : ℕ) → at ≡ length told.story.memory → ((p : ℕ) → is_marked marks p ≡ false) → AreMarkedFrom at marks
+  none_marked marks at end unmarked = record {
+    each = λ p above. (λ e. absurd (not_marked marks p (unmarked p) e), λ has. absurd (let inside = (begins told.story (frozen_by told.ranges) p has).inside in omega (arith, above, end, inside)));
+    none = λ p below. unmarked p;
+  }
+
+  pub one_more_mark : (marks next : List ℕ) (at before : ℕ) (behind mark : Bool) → before ≡ at + 1 → ((p : ℕ) → is_marked next p ≡ (is_marked marks p || (mark && (p == at)))) → behind ≡ is_marked marks (at + 2) → mark ≡ begins_text told at behind → AreMarkedFrom before marks → AreMarkedFrom at next
+  one_more_mark marks next at before behind mark one more is_behind is so_far = record {
+    each = λ p above. by_order p above (cases_lt at p);
+    none = λ p below. elsewhere p (λ e. omega (arith, e, below)) ∙ so_far.none p (omega (arith, one, below));
+  }
     where
+      and_false : (b : Bool) → (b && false) ≡ false
+      and_false true = refl
+      and_false false = refl
+
+      or_false : (b : Bool) → (b || false) ≡ b
+      or_false true = refl
+      or_false false = refl
+
+      and_true : (b : Bool) → (b && true) ≡ b
+      and_true true = refl
+      and_true false = refl
+
+      elsewhere : (p : ℕ) → (p ≡ at → ⊥) → is_marked next p ≡ is_marked marks p
+      elsewhere p other = more p ∙ (let apart = ne_eqb p at other in let off = and_false mark in rw apart (rw off (or_false (is_marked marks p))))
+
+      there : is_marked next at ≡ mark
+      there = more at ∙ (let own = eq-eqb at at refl in let old = so_far.none at (omega (arith, one)) in rw (own, old) (and_true mark))
+
       here : IsTrue mark ↔ Has at
-      here = subst (λ (b : Bool). IsTrue b ↔ Has at) (sym is) (begins_where at behind (subst (λ (b : Bool). IsTrue b ↔ Has (at + 2)) (sym is_behind) (so_far.each (at + 2) (omega (arith, next)))))
+      here = subst (λ (b : Bool). IsTrue b ↔ Has at) (sym is) (begins_where at behind (subst (λ (b : Bool). IsTrue b ↔ Has (at + 2)) (sym is_behind) (so_far.each (at + 2) (omega (arith, one)))))
 
-      by_order : (p : ℕ) → at ≤ p → (at < p) ⊎ (p ≤ at) → IsTrue (slice_index_or (slice_set marks at mark) p false) ↔ Has p
-      by_order p above (inl higher) = subst (λ (b : Bool). IsTrue b ↔ Has p) (sym (get_or-set_other marks at p mark false (λ e. omega (arith, e, higher)))) (so_far.each p (omega (arith, next, higher)))
+      by_order : (p : ℕ) → at ≤ p → (at < p) ⊎ (p ≤ at) → IsTrue (is_marked next p) ↔ Has p
+      by_order p above (inl higher) = subst (λ (b : Bool). IsTrue b ↔ Has p) (sym (elsewhere p (λ e. omega (arith, e, higher)))) (so_far.each p (omega (arith, one, higher)))
       by_order p above (inr lower) =
           let same : at ≡ p = omega (arith, above, lower) in
-          subst (λ (q : ℕ). IsTrue (slice_index_or (slice_set marks at mark) q false) ↔ Has q) same (subst (λ (b : Bool). IsTrue b ↔ Has at) (sym (get_or-set_same marks at mark false inside)) here)
+          subst (λ (q : ℕ). IsTrue (is_marked next q) ↔ Has q) same (subst (λ (b : Bool). IsTrue b ↔ Has at) (sym there) here)
 
-  pub all_marked : (marks : List Bool) (at : ℕ) → at ≡ 0 → AreMarkedFrom at marks → AreTextMarks told marks
+  pub all_marked : (marks : List ℕ) (at : ℕ) → at ≡ 0 → AreMarkedFrom at marks → AreTextMarks told marks
   all_marked marks at end so_far = record { each = λ p. so_far.each p (omega (arith, end)) }
 
-  -- runs of marks are runs of texts
-  pub runs_of_texts : (marks : List Bool) (addressing : Addressing) (runs : List ℕ) → AreTextMarks told marks → AreRuns (λ x. slice_index_or marks (place_of addressing x) false) 0 runs → AreTextRuns told addressing runs
-  runs_of_texts marks addressing runs marked are = record {
-    each = λ x k few. (marked.each (place_of addressing (x + k))).0 (are.each x k (omega arith) few);
-    none = λ x word none has. (let yes = (marked.each (place_of addressing x)).1 has in let no = are.none x (omega arith) word none in cc);
-  }
+  -- a block of marks is one of texts
+  pub block_of_texts : (marks : List ℕ) (addressing : Addressing) (blocks : List Bool) (block : ℕ) → AreTextMarks told marks → AreMarkedBlocks marks addressing blocks → block < 256 → IsTrue (slice_index_or blocks block false) ↔ ((k : ℕ) → k < 256 → Has (place_of addressing (256 * block + k)))
+  block_of_texts marks addressing blocks block marked are few = (
+    λ yes k near. (marked.each (place_of addressing (256 * block + k))).0 ((are block few).0 yes k near),
+    λ all. (are block few).1 (λ k near. (marked.each (place_of addressing (256 * block + k))).1 (all k near)),
+  )
 
--- ---- runs
-
-module _ (holds : ℕ → Bool) where
-  pub no_runs : (long at : ℕ) → at ≡ 65536 → long ≡ 65536 → AreRuns holds at (replicate long 0)
-  no_runs long at end all = record {
-    each = λ x k above few. absurd (let past = get_or_past {X = ℕ} (replicate long 0) x 0 (let size = length-replicate {A = ℕ} long 0 in omega (arith, size, all, end, above)) in omega (arith, past, few));
-    none = λ x above word e. absurd (omega (arith, end, above, word));
-  }
-
-  pub one_more_run : (runs : List ℕ) (at before behind run : ℕ) → before ≡ at + 1 → at < length runs → behind ≡ slice_index_or runs before 0 → run ≡ run_length holds at behind → AreRuns holds before runs → AreRuns holds at (slice_set runs at run)
-  one_more_run runs at before behind run next inside is_behind is so_far = record {
-    each = λ x k above few. each x k above few (cases_lt at x);
-    none = λ x above word e. none x above word e (cases_lt at x);
-  }
-    where
-      long : (b : Bool) → holds at ≡ b → (k : ℕ) → k < (if b then min 65535 (behind + 1) else 0) → IsTrue (holds (at + k))
-      long false e k few = absurd (omega (arith, few))
-      long true e zero few = let same : at ≡ at + 0 = omega arith in subst (λ (x : ℕ). IsTrue (holds x)) same e
-      long true e (suc k) few = let same : before + k ≡ at + suc k = omega (arith, next) in subst (λ (x : ℕ). IsTrue (holds x)) same (so_far.each before k (omega arith) (omega (arith, few, is_behind)))
-
-      stays : (x : ℕ) → at < x → slice_index_or (slice_set runs at run) x 0 ≡ slice_index_or runs x 0
-      stays x higher = get_or-set_other runs at x run 0 (λ e. omega (arith, e, higher))
-
-      here : slice_index_or (slice_set runs at run) at 0 ≡ run_length holds at behind
-      here = get_or-set_same runs at run 0 inside ∙ is
-
-      each : (x k : ℕ) → at ≤ x → k < slice_index_or (slice_set runs at run) x 0 → (at < x) ⊎ (x ≤ at) → IsTrue (holds (x + k))
-      each x k above few (inl higher) = let same = stays x higher in so_far.each x k (omega (arith, next, higher)) (omega (arith, few, same))
-      each x k above few (inr lower) =
-          let same : at ≡ x = omega (arith, above, lower) in
-          subst (λ (y : ℕ). k < slice_index_or (slice_set runs at run) y 0 → IsTrue (holds (y + k))) same (λ less. long (holds at) refl k (subst (λ (n : ℕ). k < n) here less)) few
-
-      ended : (b : Bool) → (if b then min 65535 (behind + 1) else 0) ≡ 0 → b ≡ false
-      ended true e = absurd (omega (arith, e))
-      ended false e = refl
-
-      none : (x : ℕ) → at ≤ x → x < 65536 → slice_index_or (slice_set runs at run) x 0 ≡ 0 → (at < x) ⊎ (x ≤ at) → holds x ≡ false
-      none x above word e (inl higher) = so_far.none x (omega (arith, next, higher)) word (sym (stays x higher) ∙ e)
-      none x above word e (inr lower) =
-          let same : at ≡ x = omega (arith, above, lower) in
-          subst (λ (y : ℕ). slice_index_or (slice_set runs at run) y 0 ≡ 0 → holds y ≡ false) same (λ f. ended (holds at) (sym here ∙ f)) e
+  -- the block of a word
+  pub names_texts : (marks : List ℕ) (addressing here : Addressing) (blocks : List Bool) (word index : ℕ) → AreTextMarks told marks → AreMarkedBlocks marks here blocks → addressing ≡ here → index ≡ word / 256 → word < 65536 → IsTrue (slice_index_or blocks index false) ↔ ((k : ℕ) → k < 256 → Has (place_of addressing (256 * (word / 256) + k)))
+  names_texts marks addressing here blocks word index marked are is at low =
+      let few : word / 256 < 256 = omega (arith, low) in
+      subst (λ (i : ℕ). IsTrue (slice_index_or blocks i false) ↔ ((k : ℕ) → k < 256 → Has (place_of addressing (256 * (word / 256) + k)))) (sym at)
+      (subst (λ (a : Addressing). IsTrue (slice_index_or blocks (word / 256) false) ↔ ((k : ℕ) → k < 256 → Has (place_of a (256 * (word / 256) + k)))) (sym is) (block_of_texts marks here blocks (word / 256) marked are few))
 
 -- ---- each word of a set
 

@@ -1,17 +1,18 @@
 -- Buffers, by the marks of bytes.
-use Rattle.std.proofs.Common.{◌≡◌, ◌↔◌, ℕ, ◌+◌, ◌-◌, ◌<◌, ◌≤◌, Bool, true, false, List, sym, subst, ap, ◌∙◌, arith}
+use Rattle.std.proofs.Common.{◌≡◌, ◌↔◌, ℕ, ◌+◌, ◌-◌, ◌<◌, ◌≤◌, Bool, true, false, sym, subst, ap, ◌∙◌, arith}
 use Rattle.std.specs.Prelude.{IsTrue, nat_le}
 use Rattle.std.proofs.lemmas.Bool.{leb-true}
 use Rattle.zarray.specs.declared.width.Width.TheVariants.{Byte}
 use Rattle.zstory.specs.Bytes.{byte_at}
+use Rattle.zstory.specs.LoadedStory.{IsSound}
 use Rattle.zpairs.specs.Frozen.{FrozenStory, frozen_by}
-use Rattle.zplace.specs.Bytes.{IsWithin, IsOpen}
+use Rattle.zplace.specs.Bytes.{IsWithin, IsOpen, static}
 use Rattle.zruns.specs.declared.cell.Cell.{Cell}
-use Rattle.zpairs.specs.Fixed.{AreClosed, is_fixed}
+use Rattle.zpairs.specs.Fixed.{is_fixed}
 use Rattle.zruns.specs.Runs.{cell_at}
 use Rattle.zruns.specs.Blocks.{piece_cell}
 use Rattle.zruns.specs.Buffers.{IsBuffer}
-use Rattle.zpairs.proofs.Telling.{closed_is, fixed_is}
+use Rattle.zpairs.proofs.Telling.{fixed_is}
 use Rattle.zruns.proofs.Pieces.{each_open, one_open}
 
 module _ (told : FrozenStory) where
@@ -33,10 +34,10 @@ module _ (told : FrozenStory) where
       let all = piece_open from size in (λ e. all.0 (sym same ∙ e), λ free. same ∙ all.1 free)
 
   -- and none that passes it is
-  pub no_end_free : (from size : ℕ) {marks : List Bool} → from ≤ 65536 → 65536 < from + size → AreClosed told marks → IsTrue (nat_le (from + size) 65536) ↔ AreFree from size
-  no_end_free from size {marks} low past closed = (
+  pub no_end_free : (from size : ℕ) → from ≤ 65536 → 65536 < from + size → IsSound told.story.memory → IsTrue (nat_le (from + size) 65536) ↔ AreFree from size
+  no_end_free from size low past sound = (
     λ e. absurd (let below = leb-true (from + size) 65536 e in omega (arith, below, past)),
-    λ free. absurd (free 65536 (low, past) ((closed_is told 65536).0 (closed.behind 65536 (omega arith)))),
+    λ free. absurd (free 65536 (low, past) (static (let first = sound.bytes 14 in let second = sound.bytes 15 in omega (arith, first, second)))),
   )
 
   -- one whose first byte no play changes, and is large enough

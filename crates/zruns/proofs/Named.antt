@@ -4,7 +4,6 @@ use Rattle.std.proofs.lemmas.Bool.{cases_lt}
 use Rattle.zstory.specs.Bytes.{byte_at, AreBytes}
 use Rattle.zstory.specs.LoadedStory.{IsSound}
 use Rattle.zstory.specs.Objects.{IsObjectCount, object_place, property_table}
-use Rattle.zobj.specs.declared.name.ShortName.{ShortName}
 use Rattle.zobj.specs.declared.name.ShortName.TheVariants.{Empty, At, Outside}
 use Rattle.zobj.specs.Names.{name_in, short_name}
 use Rattle.zobj.specs.Entries.{HasEntry}

@@ -1,23 +1,29 @@
 -- What is known of runs, piece by piece.
-use Rattle.std.proofs.Common.{◌≡◌, ◌↔◌, ◌⊎◌, inl, inr, ℕ, zero, suc, ◌+◌, ◌-◌, ◌%◌, ◌<◌, ◌≤◌, min, Bool, true, false, ◌&&◌, not, ◌==◌, if◌then◌else◌, List, length, refl, sym, subst, ap, ◌∙◌, arith}
+use Rattle.std.proofs.Common.{◌≡◌, ◌↔◌, ◌⊎◌, inl, inr, ℕ, zero, suc, ◌+◌, ◌-◌, ◌*◌, ◌%◌, ◌<◌, ◌≤◌, min, Bool, true, false, ◌&&◌, not, ◌==◌, if◌then◌else◌, List, length, refl, sym, subst, ap, ◌∙◌, arith}
 use Rattle.std.specs.Prelude.{IsTrue, nat_le, slice_index_or, slice_set}
 use Rattle.std.proofs.lemmas.Bool.{cases_lt, and_parts, and_from, le-leb, leb-true}
-use Rattle.std.proofs.lemmas.List.{get_or-set_same, get_or-set_other}
-use Rattle.zstory.specs.Bytes.{readable_end}
-use Rattle.zstory.specs.LoadedStory.{LoadedStory}
+use Rattle.std.proofs.lemmas.List.{get_or-set_same, get_or-set_other, get_or_past}
+use Rattle.zstory.specs.Bytes.{byte_at, readable_end}
+use Rattle.zstory.specs.LoadedStory.{LoadedStory, IsSound}
+use Rattle.zstory.specs.Objects.{IsObjectCount}
+use Rattle.zcert.specs.declared.parts.Range.{Range}
 use Rattle.zdomain.specs.Domain.{SetOperations}
 use Rattle.zarray.specs.declared.width.Width.{Width}
 use Rattle.zarray.specs.declared.width.Width.TheVariants.{Byte, Word}
 use Rattle.zarray.specs.Arrays.{span}
 use Rattle.zpairs.specs.declared.ends.Ends.{Ends}
 use Rattle.zpairs.specs.Frozen.{FrozenStory, frozen_by}
-use Rattle.zplace.specs.Bytes.{IsOpen}
+use Rattle.zplace.specs.Bytes.{IsOpen, static}
 use Rattle.zruns.specs.declared.run.Run.{Run}
 use Rattle.zruns.specs.declared.cell.Cell.{Cell}
-use Rattle.zpairs.specs.Fixed.{is_closed}
+use Rattle.zpairs.specs.Fixed.{is_closed, is_fixed}
 use Rattle.zruns.specs.Runs.{address, run_of, EachAddress, AreReadable, AreOpen, each_byte, cell_at, no_cell, merged, merged_below, run_cell}
-use Rattle.zruns.specs.Blocks.{piece_cell, step_length}
-use Rattle.zpairs.proofs.Telling.{closed_is}
+use Rattle.zruns.specs.Blocks.{AreBlocks, block_cell, piece_cell, step_length}
+use Rattle.zpairs.proofs.Telling.{closed_is, fixed_is, static_unchanging}
+
+-- a story and ranges are all that marks are told of
+pub same_told : (told : FrozenStory) (story : LoadedStory) (ranges : List Range) → story ≡ told.story → ranges ≡ told.ranges → record { story = story; ranges = ranges } ≡ told
+same_told told story ranges stories all = ap (λ (s : LoadedStory). record { story = s; ranges = ranges }) stories ∙ ap (λ (r : List Range). record { story = told.story; ranges = r }) all
 
 -- ---- cells side by side
 
@@ -68,6 +74,47 @@ appended n (suc m) f =
     let one : suc (n + m) ≡ n + suc m = omega arith in
     let before = appended n m f in
     subst (λ (k : ℕ). merged_below k f ≡ merged (merged_below n f) (merged (merged_below m (λ k. f (n + k))) (f (n + m)))) one (rw before (regrouped (merged_below n f) (merged_below m (λ k. f (n + k))) (f (n + m))))
+
+-- ---- behind memory
+
+-- nothing changes there, and 0 is all that is said to stand there
+abbrev pub cell_behind : Cell
+cell_behind = record { is_open = false; fixed = true; ends = record { least = 32768; greatest = 32768 } }
+
+all_the_same : (n : ℕ) (f : ℕ → Cell) → ((k : ℕ) → k < suc n → f k ≡ cell_behind) → merged_below (suc n) f ≡ cell_behind
+unfolding merged_below
+all_the_same zero f same = let one = same 0 (omega arith) in rw one refl
+all_the_same (suc n) f same = let before = all_the_same n f (λ k below. same k (omega (arith, below))) in let last = same (suc n) (omega arith) in ap (λ (c : Cell). merged c (f (suc n))) before ∙ ap (λ (c : Cell). merged cell_behind c) last
+
+module _ (told : FrozenStory) (sound : IsSound told.story.memory) (counted : IsObjectCount told.story.memory told.story.objects) where
+  shut : (p : ℕ) → length told.story.memory ≤ p → is_closed told p ≡ true
+  shut p above = (closed_is told p).1 (static (let base = sound.static_base_within in omega (arith, base, above)))
+
+  stays : (p : ℕ) → length told.story.memory ≤ p → is_fixed told p ≡ true
+  stays p above = (fixed_is told p).1 (record {
+    closed = static (let base = sound.static_base_within in omega (arith, base, above));
+    unchanging = static_unchanging told.story sound counted p (let base = sound.static_base_within in omega (arith, base, above));
+  })
+
+  zero_there : (p : ℕ) → length told.story.memory ≤ p → byte_at told.story.memory p ≡ 0
+  zero_there p above = get_or_past told.story.memory p 0 above
+
+  one_behind : (width : Width) (p : ℕ) → length told.story.memory ≤ p → cell_at told width p ≡ cell_behind
+  one_behind Byte p above = let a = shut p above in let b = stays p above in let c = zero_there p above in rw (b, a, c) refl
+  one_behind Word p above =
+      let a = shut p above in
+      let b = stays p above in
+      let c = zero_there p above in
+      let e = stays (p + 1) (omega (arith, above)) in
+      let f = zero_there (p + 1) (omega (arith, above)) in
+      rw (b, e, a, c, f) refl
+
+  pub block_behind : (width : Width) (from block : ℕ) → from ≡ 256 * block → length told.story.memory ≤ from → cell_behind ≡ piece_cell told width (256 * block) 256
+  block_behind width from block at above = sym (all_the_same 255 (λ k. cell_at told width (256 * block + k)) (λ k below. one_behind width (256 * block + k) (omega (arith, at, above))))
+
+-- a block is read
+pub block_read : (told : FrozenStory) (width : Width) (cells : List Cell) (block : ℕ) → AreBlocks told width cells → block < 256 → slice_index_or cells block no_cell ≡ block_cell told width block
+block_read told width cells block are few = are block few
 
 module _ (told : FrozenStory) (width : Width) where
   -- a piece of one address

@@ -1,5 +1,5 @@
 -- Values of the definitions, computed.
-use Rattle.std.proofs.Common.{◌≡◌, ◌⊎◌, inl, inr, ℕ, zero, suc, ◌+◌, ◌-◌, ◌%◌, ◌<◌, ◌≤◌, Bool, true, false, List, [], ◌∷◌, ◌++◌, replicate, length, drop, Some, None, refl, sym, subst, ◌∙◌, arith, nat_le}
+use Rattle.std.proofs.Common.{◌≡◌, ◌⊎◌, inl, inr, ℕ, zero, suc, ◌+◌, ◌-◌, ◌%◌, ◌<◌, ◌≤◌, Bool, true, false, List, [], ◌∷◌, ◌++◌, replicate, length, drop, Some, None, refl, sym, subst, ◌∙◌, arith}
 use Rattle.std.proofs.lemmas.Option.{same_Some}
 use Rattle.ztext.specs.Words.{text_at}
 use Rattle.zdomain.specs.Domain.{In}
@@ -17,7 +17,7 @@ use Rattle.zplace.specs.Bytes.{IsChanging, IsFixed, IsOpen, static}
 use Rattle.zpairs.specs.Fixed.{any_below, is_in_abbreviation, is_size_place, is_in_text, is_closed, is_changing, is_fixed}
 use Rattle.zruns.specs.Runs.{AreOpen, AreReadable, run_of, address, cell_at, no_cell, merged, merged_below, any_element, elements}
 use Rattle.zruns.specs.Blocks.{step_length}
-use Rattle.zruns.specs.Texts.{HasFixedText, AreFixedTexts, begins_text, run_length}
+use Rattle.zruns.specs.Texts.{HasFixedText, AreFixedTexts, begins_text}
 use Rattle.zruns.specs.Names.{AreFixedNames, HasFixedName}
 use Rattle.zruns.specs.Buffers.{IsTextBuffer, IsParseBuffer, AreBuffers}
 use Rattle.zpairs.proofs.Telling.{fixed_is}
@@ -279,8 +279,6 @@ named_sets = (
     none_there x first last inside = subst (λ (y : ℕ). In interval_operations (interval_operations.between 2 9) y → ⊥) (only x first last) (λ one. one.member.0.le) inside
 
 -- no run is longer than the greatest word
-run_lengths : (run_length (λ x. true) 7 0 ≡ 1) × (run_length (λ x. true) 7 65534 ≡ 65535) × (run_length (λ x. true) 7 65535 ≡ 65535) × (run_length (λ x. false) 7 3 ≡ 0) × (run_length (nat_le 7) 7 3 ≡ 4)
-run_lengths = (refl, refl, refl, refl, refl)
 
 -- ---- buffers
 

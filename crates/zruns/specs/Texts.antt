@@ -1,11 +1,12 @@
 -- Texts that no play changes (own).
-use Rattle.std.specs.Prelude.{◌≡◌, ℕ, ◌+◌, ◌<◌, ◌≤◌, Bool, false, ◌&&◌, ◌||◌, min, if◌then◌else◌, nat_le, nat_lt, List, length, Option, Some, IsTrue, ◌↔◌, MatchOption, slice_index_or}
+use Rattle.std.specs.Prelude.{◌≡◌, ℕ, ◌+◌, ◌*◌, ◌<◌, ◌≤◌, Bool, false, ◌&&◌, ◌||◌, nat_le, nat_lt, List, length, Option, Some, IsTrue, ◌↔◌, MatchOption, slice_index_or}
 use Rattle.zstory.specs.Bytes.{byte_at}
 use Rattle.zstory.specs.LoadedStory.{LoadedStory}
 use Rattle.ztext.specs.Words.{text_at}
 use Rattle.zword.specs.declared.addressing.Addressing.{Addressing}
 use Rattle.zword.specs.Addressing.{place_of}
 use Rattle.zdomain.specs.Domain.{SetOperations, In}
+use Rattle.zpairs.specs.Marks.{is_marked}
 use Rattle.zpairs.specs.Frozen.{FrozenStory, frozen_by}
 use Rattle.zplace.specs.Bytes.{IsWithin, IsFixed}
 use Rattle.zpairs.specs.Fixed.{is_fixed}
@@ -27,22 +28,16 @@ abbrev pub begins_text : FrozenStory → ℕ → Bool → Bool
 begins_text told p behind = nat_lt (p + 1) (length told.story.memory) && ((is_fixed told p && is_fixed told (p + 1)) && (nat_le 128 (byte_at told.story.memory p) || behind))
 
 -- marks tell of each place whether there is one
-pub record AreTextMarks (told : FrozenStory) (marks : List Bool) : Type 0 where
-  pub each : (p : ℕ) → IsTrue (slice_index_or marks p false) ↔ HasFixedText told.story (frozen_by told.ranges) p
+pub record AreTextMarks (told : FrozenStory) (marks : List ℕ) : Type 0 where
+  pub each : (p : ℕ) → IsTrue (is_marked marks p) ↔ HasFixedText told.story (frozen_by told.ranges) p
 
--- for how many words from one on something holds, where that is known of the next: 65,535 for all that are more
-abbrev pub run_length : (ℕ → Bool) → ℕ → ℕ → ℕ
-run_length holds word next = if holds word then min 65535 (next + 1) else 0
+-- of 256 words side by side each names a place that is marked
+abbrev pub IsMarkedBlock : List ℕ → Addressing → ℕ → Type 0
+IsMarkedBlock marks addressing block = (k : ℕ) → k < 256 → IsTrue (is_marked marks (place_of addressing (256 * block + k)))
 
--- a table tells of each word from one on that something holds of so many, of none where it doesn't hold of the word
-pub record AreRuns (holds : ℕ → Bool) (from : ℕ) (runs : List ℕ) : Type 0 where
-  pub each : (x k : ℕ) → from ≤ x → k < slice_index_or runs x 0 → IsTrue (holds (x + k))
-  pub none : (x : ℕ) → from ≤ x → x < 65536 → slice_index_or runs x 0 ≡ 0 → holds x ≡ false
-
--- the same of words that name places where there is a text
-pub record AreTextRuns (told : FrozenStory) (addressing : Addressing) (runs : List ℕ) : Type 0 where
-  pub each : (x k : ℕ) → k < slice_index_or runs x 0 → HasFixedText told.story (frozen_by told.ranges) (place_of addressing (x + k))
-  pub none : (x : ℕ) → x < 65536 → slice_index_or runs x 0 ≡ 0 → HasFixedText told.story (frozen_by told.ranges) (place_of addressing x) → ⊥
+-- a table tells of all such words whether each does
+abbrev pub AreMarkedBlocks : List ℕ → Addressing → List Bool → Type 0
+AreMarkedBlocks marks addressing blocks = (block : ℕ) → block < 256 → IsTrue (slice_index_or blocks block false) ↔ IsMarkedBlock marks addressing block
 
 -- the least word of a set from a number on, if there is one
 abbrev pub IsLeastFrom : {V : Type 0} → SetOperations V → V → ℕ → Option ℕ → Type 0

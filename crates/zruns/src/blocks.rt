@@ -1,7 +1,8 @@
 //! What is known of blocks of addresses.
 
-ghost use Rattle.std.specs.Prelude.{◌≡◌, ◌<◌};
+ghost use Rattle.std.specs.Prelude.{◌≡◌, ◌<◌, slice_index_or};
 ghost use Rattle.zruns.specs.Blocks.{AreBlocks, block_cell};
+ghost use Rattle.zruns.specs.Runs.{no_cell};
 
 use crate::cell::Cell;
 use crate::element::cell_at;
@@ -25,9 +26,31 @@ pub(crate) fn block_cells(marked: Marked<'_>, width: Width) -> [Cell; BLOCKS]
     cells
 }
 
-/// What is known of those of one block.
-#[tactic(auto, unfolding(crate::specs::Runs::merged_below))]
+/// What stands in a table of blocks at an index, and nothing behind its last.
+pub(crate) fn cell_in(cells: &[Cell; BLOCKS], index: usize) -> Cell
+    ensures { result ≡ slice_index_or cells.now index no_cell }
+{
+    match cells.get(index) {
+        Some(cell) => *cell,
+        None => Cell::NONE,
+    }
+}
+
+/// What is known of those of one block. Behind memory it is the same of all, and none is gone over.
 fn block_cell(marked: Marked<'_>, width: Width, block: usize) -> Cell
+    requires { block < 256 }
+    ensures { result ≡ block_cell (record { story = marked.entry.story.now; ranges = marked.entry.ranges.now }) width block }
+{
+    let memory = marked.story.memory();
+    if memory.len() <= BLOCK_LENGTH * block {
+        return Cell::BEHIND;
+    }
+    merged_in(marked, width, block)
+}
+
+/// What is known of those of one block, one by one.
+#[tactic(auto, unfolding(crate::specs::Runs::merged_below))]
+fn merged_in(marked: Marked<'_>, width: Width, block: usize) -> Cell
     requires { block < 256 }
     ensures { result ≡ block_cell (record { story = marked.entry.story.now; ranges = marked.entry.ranges.now }) width block }
 {

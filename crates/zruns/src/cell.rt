@@ -24,6 +24,16 @@ impl Cell {
         ends: Ends::NONE,
     };
 
+    /// What is known of those behind memory: nothing changes there, and 0 is all that is said to stand there.
+    pub(crate) const BEHIND: Cell = Cell {
+        is_open: false,
+        fixed: true,
+        ends: Ends {
+            least: 0x8000,
+            greatest: 0x8000,
+        },
+    };
+
     /// What is known of those of either.
     pub(crate) fn merge(self, other: Cell) -> Cell
         ensures { result ≡ merged self other }

@@ -4,15 +4,14 @@ ghost use Rattle.std.specs.Prelude.{◌≡◌, ◌<◌, ◌↔◌, IsTrue};
 ghost use Rattle.zruns.specs.Blocks.{step_length};
 ghost use Rattle.zruns.specs.Runs.{AreReadable, any_element};
 
-use crate::blocks::{BLOCK_LENGTH, BLOCKS, block_cells};
+use crate::blocks::{BLOCK_LENGTH, BLOCKS, block_cells, cell_in};
 use crate::cell::Cell;
 use crate::element::{byte_at, cell_at};
 use crate::run::Run;
 use std::marker::Model;
 use zarray::Width;
-use zcert::Range;
 use zdomain::Domain;
-use zpairs::{Marked, PLACES, turned};
+use zpairs::{PLACES, Properties, turned};
 use zstory::Story;
 
 /// The least size of a text buffer: room for a letter, and for the zero behind it (own).
@@ -24,14 +23,11 @@ const LEAST_WORDS: u8 = 1;
 /// How many bytes a parse buffer has for a word (Z 15 sread).
 const WORD_LENGTH: usize = 4;
 
-/// The runs of addresses of a story, with the ranges of bytes that stay as they are. What is known of 256 addresses side by side is kept,
+/// The runs of addresses of a story, with the ranges of bytes that stay as they are, over its properties. What is known of 256 addresses side by side is kept,
 /// so that a question about many is answered by blocks.
 #[derive(Drop)]
 pub struct Runs<'a> {
-    story: &'a Story,
-    ranges: &'a [Range],
-    closed: [bool; PLACES],
-    fixed: [bool; PLACES],
+    properties: Properties<'a>,
     bytes: [Cell; BLOCKS],
     words: [Cell; BLOCKS],
 }
@@ -41,54 +37,45 @@ impl<'a> Model for Runs<'a> {
 
     ghost Value = { FrozenStory };
 
-    ghost view = { λ p. record { story = p.story.now; ranges = p.ranges.now } };
+    ghost view = { λ p. p.properties };
 
     ghost use Rattle.zarray.specs.declared.width.Width.TheVariants.{Byte, Word};
-    ghost use Rattle.zpairs.specs.Fixed.{AreClosed, AreFixed};
     ghost use Rattle.zruns.specs.Blocks.{AreBlocks};
 
-    ghost invariant = { λ p. AreClosed (record { story = p.story.now; ranges = p.ranges.now }) p.closed × AreFixed (record { story = p.story.now; ranges = p.ranges.now }) p.fixed × AreBlocks (record { story = p.story.now; ranges = p.ranges.now }) Byte p.bytes × AreBlocks (record { story = p.story.now; ranges = p.ranges.now }) Word p.words };
+    ghost invariant = { λ p. AreBlocks p.properties Byte p.bytes × AreBlocks p.properties Word p.words };
 }
 
 impl<'a> Runs<'a> {
     ghost use Rattle.std.specs.Prelude.{◌≡◌, ◌↔◌, ◌≤◌, ◌<◌, ◌+◌, ◌-◌, IsTrue};
     ghost use Rattle.zpairs.specs.Frozen.{frozen_by};
     ghost use Rattle.zruns.specs.Blocks.{block_cell, piece_cell, step_length};
-    ghost use Rattle.zpairs.specs.Fixed.{AreClosed, AreFixed, is_fixed};
+    ghost use Rattle.zpairs.specs.Fixed.{is_fixed};
     ghost use Rattle.zruns.specs.Runs.{AreOpen, cell_at, elements, run_cell};
     ghost use Rattle.std.specs.Prelude.{◌*◌, ℕ};
     ghost use Rattle.zstory.specs.Bytes.{byte_at};
     ghost use Rattle.zplace.specs.Bytes.{IsOpen, IsWithin};
     ghost use Rattle.zruns.specs.Buffers.{AreBuffers, IsBuffer, IsParseBuffer, IsTextBuffer};
 
-    /// Those of a story, of which the bytes in some ranges stay as they are, by the marks of closed bytes and of fixed ones. They take no
-    /// memory beside their own, about 140 KB.
-    pub(crate) fn new(
-        story: &'a Story,
-        ranges: &'a [Range],
-        closed: [bool; PLACES],
-        fixed: [bool; PLACES],
-    ) -> Runs<'a>
-        requires closed { AreClosed (record { story = story.now; ranges = ranges.now }) closed }
-        requires fixed { AreFixed (record { story = story.now; ranges = ranges.now }) fixed }
-        ensures { result ≡ record { story = story.now; ranges = ranges.now } }
+    /// Those of a story, of which the bytes in some ranges stay as they are, over its properties. Memory is gone over once for each width.
+    /// They take no memory beside their own, about 3 KB more than the properties.
+    pub(crate) fn new(properties: Properties<'a>) -> Runs<'a>
+        ensures { result ≡ properties.entry }
     {
-        let marked = Marked {
-            story,
-            ranges,
-            closed: &closed,
-            fixed: &fixed,
-        };
+        let marked = properties.marked();
         let bytes = block_cells(marked, Width::Byte);
         let words = block_cells(marked, Width::Word);
         Runs {
-            story,
-            ranges,
-            closed,
-            fixed,
+            properties,
             bytes,
             words,
         }
+    }
+
+    /// The properties of the story's objects.
+    pub(crate) fn properties(&self) -> &Properties<'a>
+        ensures { result.now ≡ self.now }
+    {
+        &self.properties
     }
 
     /// Whether each byte of each element at any array and any index of two sets is open, so that stores may write it.
@@ -154,7 +141,7 @@ impl<'a> Runs<'a> {
     fn is_fixed(&self, address: u16) -> bool
         ensures { result ≡ is_fixed self.now address }
     {
-        self.fixed[usize::from(address)]
+        self.properties.marked().is_fixed(usize::from(address))
     }
 
     /// Whether so many bytes from a place on are open. Behind the last byte address none is.
@@ -163,7 +150,7 @@ impl<'a> Runs<'a> {
         requires size { size ≤ 1021 }
         ensures { IsTrue result ↔ ((p : ℕ) → IsWithin from size p → IsOpen self.now.story (frozen_by self.now.ranges) p) }
     {
-        let _closed = &self.closed; // and all bytes behind them
+        let _memory = self.properties.story().memory(); // a word says where static memory begins
         let end = from + size;
         end <= PLACES && self.piece_cell(Width::Byte, from, end).is_open
     }
@@ -172,7 +159,7 @@ impl<'a> Runs<'a> {
     fn byte_at(&self, address: u16) -> u8
         ensures { result ≡ byte_at self.now.story.memory address }
     {
-        byte_at(self.story.memory(), usize::from(address))
+        byte_at(self.properties.story().memory(), usize::from(address))
     }
 
     /// What is known of the elements of a run: it is a piece up to the last byte address at most, and one from 0 on.
@@ -219,8 +206,8 @@ impl<'a> Runs<'a> {
         ensures { result ≡ block_cell self.now width block }
     {
         match width {
-            Width::Byte => self.bytes[block],
-            Width::Word => self.words[block],
+            Width::Byte => cell_in(&self.bytes, block),
+            Width::Word => cell_in(&self.words, block),
         }
     }
 
@@ -229,13 +216,7 @@ impl<'a> Runs<'a> {
         requires { place < 65536 }
         ensures { result ≡ cell_at self.now width place }
     {
-        let marked = Marked {
-            story: self.story,
-            ranges: self.ranges,
-            closed: &self.closed,
-            fixed: &self.fixed,
-        };
-        cell_at(marked, width, place)
+        cell_at(self.properties.marked(), width, place)
     }
 }
 

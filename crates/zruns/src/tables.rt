@@ -5,13 +5,12 @@ use crate::texts::Texts;
 use std::marker::Model;
 use zcert::Range;
 use zdomain::Domain;
-use zpairs::{Marked, Properties, closed_marks, fixed_marks};
+use zpairs::{Properties, closed_marks};
 use zstory::Story;
 
 /// What is known of a story's properties, of runs of its addresses, and of its texts.
 #[derive(Drop)]
 pub struct Tables<'a> {
-    properties: Properties<'a>,
     runs: Runs<'a>,
     texts: Texts<'a>,
     /// The short name of each object is empty, or a text that no play changes.
@@ -24,13 +23,13 @@ impl<'a> Model for Tables<'a> {
 
     ghost Value = { FrozenStory };
 
-    ghost view = { λ p. p.properties };
+    ghost view = { λ p. p.runs };
 
     ghost use Rattle.std.specs.Prelude.{IsTrue};
     ghost use Rattle.zpairs.specs.Frozen.{frozen_by};
     ghost use Rattle.zruns.specs.Names.{EachObject, HasFixedName};
 
-    ghost invariant = { λ p. (p.runs ≡ p.properties) × (p.texts ≡ p.properties) × (IsTrue p.names_fixed → EachObject p.properties.story (HasFixedName p.properties.story (frozen_by p.properties.ranges))) };
+    ghost invariant = { λ p. (p.texts ≡ p.runs) × (IsTrue p.names_fixed → EachObject p.runs.story (HasFixedName p.runs.story (frozen_by p.runs.ranges))) };
 }
 
 impl<'a> Tables<'a> {
@@ -39,25 +38,16 @@ impl<'a> Tables<'a> {
     ghost use Rattle.zruns.specs.Names.{AreFixedNames};
 
     /// Those of a story, of which the bytes in some ranges stay as they are. Each of its own tables is gone over once, each place of each
-    /// range, and each place of memory. They take no memory beside their own, about 500 KB.
+    /// range, and each place of memory. They take no memory beside their own, about 60 KB.
     pub fn new(story: &'a Story, ranges: &'a [Range]) -> Tables<'a>
         ensures { result ≡ record { story = story.now; ranges = ranges.now } }
     {
-        let closed = closed_marks(story, ranges);
-        let fixed = fixed_marks(story, ranges, &closed);
-        let marked = Marked {
-            story,
-            ranges,
-            closed: &closed,
-            fixed: &fixed,
-        };
-        let properties = Properties::new(story, ranges, marked);
-        let texts = Texts::new(story, ranges, marked);
+        let properties = Properties::new(story, ranges, closed_marks(story, ranges));
+        let texts = Texts::new(story, ranges, properties.marked());
         Tables {
-            properties,
             names_fixed: texts.are_names_fixed(),
             texts,
-            runs: Runs::new(story, ranges, closed, fixed),
+            runs: Runs::new(properties),
         }
     }
 
@@ -65,7 +55,7 @@ impl<'a> Tables<'a> {
     pub fn properties(&self) -> &Properties<'a>
         ensures { result.now ≡ self.now }
     {
-        &self.properties
+        self.runs.properties()
     }
 
     /// The runs of its addresses.
@@ -94,6 +84,6 @@ impl<'a> Tables<'a> {
     pub fn story(&self) -> &'a Story
         ensures { result.now ≡ self.now.story }
     {
-        self.properties.story()
+        self.properties().story()
     }
 }

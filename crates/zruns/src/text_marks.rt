@@ -1,37 +1,35 @@
 //! Where texts begin that no play changes.
 
-ghost use Rattle.std.specs.Prelude.{◌≡◌, ◌<◌, false, slice_index_or};
+ghost use Rattle.std.specs.Prelude.{◌≡◌, ◌<◌, ◌&&◌, ◌||◌, ◌==◌, ℕ};
+ghost use Rattle.zpairs.specs.Marks.{is_marked};
 ghost use Rattle.zruns.specs.Texts.{AreTextMarks, begins_text};
 
-use zpairs::Marked;
-
-/// How many places memory has at most (Z 1.1.4).
-pub(crate) const MEMORY_LENGTH: usize = 131_072;
+use zpairs::{Marked, Marks};
 
 /// The least high byte of a word that ends a text (Z 3.2).
 const END: u8 = 0x80;
 
 /// A mark for each place whether a text that no play changes begins there. Memory is gone over once, from its end on.
-pub(crate) fn text_marks(marked: Marked<'_>) -> [bool; MEMORY_LENGTH]
+pub(crate) fn text_marks(marked: Marked<'_>) -> Marks
     ensures { AreTextMarks (record { story = marked.entry.story.now; ranges = marked.entry.ranges.now }) result }
 {
-    let mut marks = [false; MEMORY_LENGTH];
+    let mut marks = Marks::none();
     let mut at = marked.story.memory().len();
     while at > 0 {
         at -= 1;
-        let behind = mark_at(&marks, at + 2);
-        marks[at] = begins_text(marked, at, behind);
+        let begins = begins_text(marked, at, marks.has(at + 2));
+        mark_if(&mut marks, at, begins);
     }
     marks
 }
 
-/// The mark at a place, and none behind them.
-fn mark_at(marks: &[bool; MEMORY_LENGTH], place: usize) -> bool
-    ensures { result ≡ slice_index_or marks.now place false }
+/// Marks a place, if something holds there.
+fn mark_if(marks: &mut Marks, place: usize, holds: bool)
+    requires { place < 131072 }
+    ensures { (p : ℕ) → is_marked marks.new p ≡ (is_marked marks.old p || (holds && p == place)) }
 {
-    match marks.get(place) {
-        Some(mark) => *mark,
-        None => false,
+    if holds {
+        marks.add(place);
     }
 }
 

@@ -1,29 +1,28 @@
 //! Which words of a set name places of texts that no play changes, and which objects have such short names.
 
-ghost use Rattle.std.specs.Prelude.{◌≡◌, ◌+◌, ◌<◌, ℕ, false, slice_index_or};
-ghost use Rattle.zword.specs.Addressing.{place_of};
-ghost use Rattle.zruns.specs.Texts.{AreRuns, IsLeastFrom, run_length};
+ghost use Rattle.std.specs.Prelude.{◌↔◌, ◌+◌, ◌<◌, IsTrue};
+ghost use Rattle.zruns.specs.Texts.{AreMarkedBlocks, IsLeastFrom, IsMarkedBlock};
 
-use crate::text_marks::{MEMORY_LENGTH, text_marks};
+use crate::blocks::{BLOCK_LENGTH, BLOCKS};
+use crate::text_marks::text_marks;
 use std::marker::Model;
 use zcert::Range;
 use zdomain::Domain;
 use zobj::{ShortName, short_name};
-use zpairs::{Marked, PLACES};
+use zpairs::{Marked, Marks};
 use zstory::Story;
 use zword::Addressing;
 
-/// The packed address of the first place behind all byte addresses.
-const BEHIND_ADDRESSES: u16 = 32_768;
-
-/// The texts of a story that no play changes, where the bytes in some ranges stay as they are. For how many words from each on such a
-/// text begins at the place that the word names is kept, so that a question about many goes from the last of them on.
+/// The texts of a story that no play changes, where the bytes in some ranges stay as they are. A mark for each place whether such a text
+/// begins there is kept, and for 256 words side by side whether one begins at each place that they name, so that a question about many is
+/// answered by blocks.
 #[derive(Drop)]
 pub struct Texts<'a> {
     story: &'a Story,
     ranges: &'a [Range],
-    bytes: [u16; PLACES],
-    packed: [u16; PLACES],
+    marks: Marks,
+    bytes: [bool; BLOCKS],
+    packed: [bool; BLOCKS],
 }
 
 impl<'a> Model for Texts<'a> {
@@ -34,21 +33,21 @@ impl<'a> Model for Texts<'a> {
     ghost view = { λ p. record { story = p.story.now; ranges = p.ranges.now } };
 
     ghost use Rattle.zword.specs.declared.addressing.Addressing.TheVariants.{Byte, Packed};
-    ghost use Rattle.zruns.specs.Texts.{AreTextRuns};
+    ghost use Rattle.zruns.specs.Texts.{AreMarkedBlocks, AreTextMarks};
 
-    ghost invariant = { λ p. AreTextRuns (record { story = p.story.now; ranges = p.ranges.now }) Byte p.bytes × AreTextRuns (record { story = p.story.now; ranges = p.ranges.now }) Packed p.packed };
+    ghost invariant = { λ p. AreTextMarks (record { story = p.story.now; ranges = p.ranges.now }) p.marks × AreMarkedBlocks p.marks Byte p.bytes × AreMarkedBlocks p.marks Packed p.packed };
 }
 
 impl<'a> Texts<'a> {
-    ghost use Rattle.std.specs.Prelude.{◌≡◌, ◌↔◌, ◌≤◌, ◌<◌, ◌+◌, IsTrue, ℕ};
+    ghost use Rattle.std.specs.Prelude.{◌≡◌, ◌↔◌, ◌≤◌, ◌<◌, ◌+◌, ◌*◌, ◌/◌, IsTrue, ℕ};
     ghost use Rattle.zdomain.specs.Domain.{In};
     ghost use Rattle.zpairs.specs.Frozen.{frozen_by};
     ghost use Rattle.zword.specs.Addressing.{place_of};
     ghost use Rattle.zruns.specs.Names.{AreFixedNames, EachObject, HasFixedName};
     ghost use Rattle.zruns.specs.Texts.{AreFixedTexts, HasFixedText};
 
-    /// Those of a story, of which the bytes in some ranges stay as they are, by its marks. Memory is gone over once, and all words twice.
-    /// They take no memory beside their own, 256 KB.
+    /// Those of a story, of which the bytes in some ranges stay as they are, by its marks. Memory is gone over once, and the words that name
+    /// its places twice. They take no memory beside their own, about 17 KB.
     pub(crate) fn new(story: &'a Story, ranges: &'a [Range], marked: Marked<'_>) -> Texts<'a>
         requires story { marked.story.now ≡ story.now }
         requires ranges { marked.ranges.now ≡ ranges.now }
@@ -58,8 +57,9 @@ impl<'a> Texts<'a> {
         Texts {
             story,
             ranges,
-            bytes: runs_of(&marks, Addressing::Byte),
-            packed: runs_of(&marks, Addressing::Packed),
+            bytes: marked_blocks(&marks, Addressing::Byte),
+            packed: marked_blocks(&marks, Addressing::Packed),
+            marks,
         }
     }
 
@@ -79,23 +79,11 @@ impl<'a> Texts<'a> {
         true
     }
 
-    /// Whether such a text begins at a place, which is a byte address or the first behind them.
+    /// Whether such a text begins at a place.
     fn is_fixed(&self, place: usize) -> bool
-        requires { place ≤ 65536 }
         ensures { IsTrue result ↔ HasFixedText self.now.story (frozen_by self.now.ranges) place }
     {
-        if place < PLACES {
-            self.begins_at(Addressing::Byte, place as u16)
-        } else {
-            self.begins_at(Addressing::Packed, BEHIND_ADDRESSES)
-        }
-    }
-
-    /// Whether such a text begins at the place that a word names.
-    fn begins_at(&self, addressing: Addressing, word: u16) -> bool
-        ensures { IsTrue result ↔ HasFixedText self.now.story (frozen_by self.now.ranges) (place_of addressing word) }
-    {
-        self.run(addressing, word) > 0
+        self.marks.has(place)
     }
 
     /// Whether the short name of an object is empty, or such a text.
@@ -149,14 +137,29 @@ impl<'a> Texts<'a> {
         }
     }
 
-    /// For how many words from one on such a text begins at the place that each names.
+    /// For how many words from one on such a text begins at the place that each names, by what is known: those of a block, or one.
     fn run(&self, addressing: Addressing, word: u16) -> u16
         ensures each { (k : ℕ) → k < result → HasFixedText self.now.story (frozen_by self.now.ranges) (place_of addressing (word + k)) }
         ensures none { result ≡ 0 → HasFixedText self.now.story (frozen_by self.now.ranges) (place_of addressing word) → ⊥ }
     {
+        if usize::from(word) % BLOCK_LENGTH == 0 && self.names_texts(addressing, word) {
+            return BLOCK_LENGTH as u16;
+        }
+        if self.is_fixed(addressing.place(word)) {
+            1
+        } else {
+            0
+        }
+    }
+
+    /// Whether such a text begins at each place that a word of its block names.
+    fn names_texts(&self, addressing: Addressing, word: u16) -> bool
+        ensures { IsTrue result ↔ ((k : ℕ) → k < 256 → HasFixedText self.now.story (frozen_by self.now.ranges) (place_of addressing (256 * (word / 256) + k))) }
+    {
+        let block = usize::from(word) / BLOCK_LENGTH;
         match addressing {
-            Addressing::Byte => self.bytes[usize::from(word)],
-            Addressing::Packed => self.packed[usize::from(word)],
+            Addressing::Byte => self.bytes[block],
+            Addressing::Packed => self.packed[block],
         }
     }
 }
@@ -168,28 +171,27 @@ fn least_behind<V: Domain>(set: V, word: u16, more: u16) -> Option<u16>
     set.least_from(word.checked_add(more)?)
 }
 
-/// For how many words from each on the place that it names is marked.
-fn runs_of(marks: &[bool; MEMORY_LENGTH], addressing: Addressing) -> [u16; PLACES]
-    ensures { AreRuns (λ x. slice_index_or marks.now (place_of addressing x) false) 0 result }
+/// Whether the place that each word of a block names is marked, of all blocks.
+fn marked_blocks(marks: &Marks, addressing: Addressing) -> [bool; BLOCKS]
+    ensures { AreMarkedBlocks marks.now addressing result }
 {
-    let mut runs = [0; PLACES];
-    let mut at = PLACES;
-    let mut run = 0;
-    while at > 0 {
-        at -= 1;
-        run = run_length(marks, addressing, at as u16, run);
-        runs[at] = run;
+    let mut blocks = [false; BLOCKS];
+    for block in 0..BLOCKS {
+        blocks[block] = is_marked_block(marks, addressing, block);
     }
-    runs
+    blocks
 }
 
-/// For how many from a word on, by how many there are behind it: 65,535 for all that are more.
-fn run_length(marks: &[bool; MEMORY_LENGTH], addressing: Addressing, word: u16, behind: u16) -> u16
-    ensures { result ≡ run_length (λ x. slice_index_or marks.now (place_of addressing x) false) word behind }
+/// Whether that of each word of one block is.
+fn is_marked_block(marks: &Marks, addressing: Addressing, block: usize) -> bool
+    requires { block < 256 }
+    ensures { IsTrue result ↔ IsMarkedBlock marks.now addressing block }
 {
-    if marks[addressing.place(word)] {
-        behind.saturating_add(1)
-    } else {
-        0
+    for place in 0..BLOCK_LENGTH {
+        let word = (BLOCK_LENGTH * block + place) as u16;
+        if !marks.has(addressing.place(word)) {
+            return false;
+        }
     }
+    true
 }

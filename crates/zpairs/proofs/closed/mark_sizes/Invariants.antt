@@ -1,10 +1,10 @@
-use Rattle.std.proofs.Common.{◌≡◌, ◌-◌, ◌<◌, ◌||◌, ℕ, false, length}
-use Rattle.std.specs.Prelude.{slice_index_or}
+use Rattle.std.proofs.Common.{◌≡◌, ◌-◌, ◌<◌, ◌||◌, ℕ, length}
+use Rattle.zpairs.specs.Marks.{is_marked}
 use Rattle.zpairs.specs.Fixed.{is_size_place}
 use Rattle.zpairs.proofs.closed.mark_sizes.Given as goal
 
 abbrev pub invariant-loop-end : goal.invariant-loop-end
-invariant-loop-end l = (p : ℕ) → p < 65536 → (slice_index_or l.marks p false || is_size_place (length l.memory) l.memory l.at p) ≡ (slice_index_or l.initial.marks p false || is_size_place (length l.memory) l.memory l.first p)
+invariant-loop-end l = (p : ℕ) → p < 65536 → (is_marked l.marks p || is_size_place (length l.memory) l.memory l.at p) ≡ (is_marked l.initial.marks p || is_size_place (length l.memory) l.memory l.first p)
 
 abbrev pub decreases-loop-end : goal.decreases-loop-end
 decreases-loop-end l = length l.memory - l.at

@@ -1,11 +1,11 @@
-use Rattle.std.proofs.Common.{◌≡◌, ◌<◌, ◌||◌, ℕ, false, length}
-use Rattle.std.specs.Prelude.{slice_index_or}
+use Rattle.std.proofs.Common.{◌≡◌, ◌<◌, ◌||◌, ℕ, length}
+use Rattle.zpairs.specs.Marks.{is_marked}
 use Rattle.zpairs.specs.Frozen.{frozen_by}
 use Rattle.zpairs.proofs.frozen.marks_of.Given as goal
 
 abbrev pub invariant-loop-left : goal.invariant-loop-left
 invariant-loop-left l = record {
-  so_far : (p : ℕ) → p < 65536 → (slice_index_or l.marks p false || frozen_by l.left p) ≡ frozen_by l.ranges p;
+  so_far : (p : ℕ) → p < 65536 → (is_marked l.marks p || frozen_by l.left p) ≡ frozen_by l.ranges p;
 }
 
 abbrev pub decreases-loop-left : goal.decreases-loop-left

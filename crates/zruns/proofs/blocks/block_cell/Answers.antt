@@ -1,10 +1,6 @@
-use Rattle.std.proofs.Common.{◌≡◌, ℕ, ◌*◌, ◌∙◌, ap, arith}
-use Rattle.zruns.specs.Blocks.{piece_cell}
+use Rattle.std.proofs.Common.{◌*◌, length, refl, subst, List, ℕ, ◌≤◌}
+use Rattle.zruns.proofs.Pieces.{block_behind}
 use Rattle.zruns.proofs.blocks.block_cell.Goals as goal
 
-pub returns : goal.returns
-returns c =
-    let last = c.loop-place-test.false in
-    let most = c.loop-place.auto.place-end in
-    let all : c.loop-place.place ≡ 256 = omega (arith, last, most) in
-    c.loop-place.invariant ∙ ap (λ (n : ℕ). piece_cell (record { story = c.args.marked.story.now; ranges = c.args.marked.ranges.now }) c.args.width (256 * c.args.block) n) all
+pub returns-then-memory-block : goal.returns-then-memory-block
+returns-then-memory-block c = block_behind (record { story = c.args.marked.story.now; ranges = c.args.marked.ranges.now }) c.memory-memory.ensures.sound c.memory-memory.ensures.counted c.args.width (256 * c.args.block) c.args.block refl (subst (λ (memory : List ℕ). length memory ≤ 256 * c.args.block) c.memory-memory.ensures.value c.if-memory-block.true)

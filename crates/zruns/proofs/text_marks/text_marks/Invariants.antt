@@ -1,10 +1,9 @@
-use Rattle.std.proofs.Common.{◌≡◌, ◌≤◌, length}
+use Rattle.std.proofs.Common.{◌≤◌, length}
 use Rattle.zruns.proofs.Beginnings.{AreMarkedFrom}
 use Rattle.zruns.proofs.text_marks.text_marks.Given as goal
 
 abbrev pub invariant-loop-at : goal.invariant-loop-at
 invariant-loop-at l = record {
-  long : length l.marks ≡ 131072;
   below : l.at ≤ length l.marked.story.now.memory;
   so_far : AreMarkedFrom (record { story = l.marked.story.now; ranges = l.marked.ranges.now }) l.at l.marks;
 }

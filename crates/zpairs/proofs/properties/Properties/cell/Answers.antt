@@ -1,13 +1,12 @@
-use Rattle.std.proofs.Common.{◌≡◌, ◌≤◌, length, rules, arith}
-use Rattle.zpairs.specs.Blocks.{AreCells}
-use Rattle.zpairs.proofs.Regrouped.{cell_read}
+use Rattle.std.proofs.Common.{◌-◌, ◌∙◌, ℕ, ap}
+use Rattle.zpairs.specs.Frozen.{FrozenStory}
+use Rattle.zpairs.specs.Blocks.{object_cell}
+use Rattle.zpairs.proofs.Regrouped.{object_read}
 use Rattle.zpairs.proofs.properties.Properties.cell.Goals as goal
 
 pub returns : goal.returns
 returns c =
-    let long : length c.self.inside.objects ≡ 8448 = search (rules, arith) in
-    let few : c.args.object ≤ 256 = search (rules, arith) in
-    let are : AreCells c.args.self.now c.self.inside.objects = search (rules) in
-    let object = c.from.ensures in
-    let number = c.from-2.ensures in
-    cell_read c.args.self.now c.self.inside.objects c.args.object c.args.number _ _ are long c.requires.least c.requires.most few c.requires.small (omega (arith, object, number))
+    c.object_cell.ensures
+    ∙ ap (λ (n : ℕ). object_cell (record { story = c.self.inside.story.now; ranges = c.self.inside.ranges.now }) (n - 1) c.args.number) c.from.ensures
+    ∙ ap (λ (told : FrozenStory). object_cell told (c.args.object - 1) c.args.number) c.self.view_is
+    ∙ object_read c.args.self.now c.args.object c.args.number c.requires.least c.requires.most
