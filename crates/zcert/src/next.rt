@@ -38,7 +38,7 @@ pub(crate) fn version_of<V: Spelled>(number: &[u8]) -> Result<(), CertError>
     Ok(())
 }
 
-// The field whose turn it is, where that isn't a set.
+// The field whose turn it is, where that isn't a set: then all of it is one number, whatever has come of a set.
 fn number_of<V: Spelled>(
     turn: Turn,
     number: &[u8],
