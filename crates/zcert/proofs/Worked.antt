@@ -12,7 +12,7 @@ use Rattle.zcert.specs.declared.field.Turn.TheVariants as turns
 use Rattle.zcert.specs.declared.parts.Range.{Range}
 use Rattle.zcert.specs.declared.parts.Routine.{Routine}
 use Rattle.zcert.specs.declared.contents.Stored.{Stored}
-use Rattle.zcert.specs.declared.limits.TheConstants.{MAGIC, VERSION, GLOBALS, ADDRESS_LIMIT, MAX_LOCALS, MAX_INSTRUCTIONS, MAX_RANGES, MAX_ROUTINES, MAX_HEIGHT, LARGEST}
+use Rattle.zcert.specs.declared.limits.TheConstants.{MAGIC, VERSION, GLOBALS, ADDRESS_LIMIT, MAX_LOCALS, MAX_INSTRUCTIONS, MAX_RANGES, MAX_ROUTINES, MAX_HEIGHT}
 use Rattle.zcert.specs.Numbers.{width, number, HasRoom}
 use Rattle.zcert.specs.Numbers as numbers
 use Rattle.zcert.specs.Certificate.{Instruction, locals_of}
@@ -36,10 +36,8 @@ use Rattle.zcert.specs.View.{Answers, Refuses, RefusesField, Takes}
 
 -- ---- limits
 
--- as long as a certificate can be: 27 bytes, 4 for each of 240 globals and 65,535 ranges, 9 for each of 65,535 routines, and 323
--- for each of 131,072 instructions
-limits : (MAGIC ≡ 0x5A504343) × (VERSION ≡ 1) × (GLOBALS ≡ 240) × (ADDRESS_LIMIT ≡ 131072) × (MAX_LOCALS ≡ 15) × (MAX_INSTRUCTIONS ≡ 131072) × (MAX_RANGES ≡ 65535) × (MAX_ROUTINES ≡ 65535) × (MAX_HEIGHT ≡ 64) × (LARGEST ≡ 43189198)
-limits = (refl, refl, refl, refl, refl, refl, refl, refl, refl, refl)
+limits : (MAGIC ≡ 0x5A504343) × (VERSION ≡ 1) × (GLOBALS ≡ 240) × (ADDRESS_LIMIT ≡ 131072) × (MAX_LOCALS ≡ 15) × (MAX_INSTRUCTIONS ≡ 131072) × (MAX_RANGES ≡ 65535) × (MAX_ROUTINES ≡ 65535) × (MAX_HEIGHT ≡ 64)
+limits = (refl, refl, refl, refl, refl, refl, refl, refl, refl)
 
 -- ---- numbers
 

@@ -13,5 +13,4 @@ pub mod Contents
 pub mod View
 pub mod Listed
 pub mod Refusal
-pub mod Longest
 pub mod Streaming

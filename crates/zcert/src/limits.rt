@@ -44,11 +44,3 @@ pub const ROUTINE_BYTES: usize = 5;
 
 /// The bytes of an instruction before its values.
 pub const HEADER_BYTES: usize = 7;
-
-/// No certificate has more bytes, by the limits above. So many and one more decide what is read of a file.
-pub const LARGEST: usize = FIXED_BYTES
-    + MAX_RANGES as usize * RANGE_BYTES
-    + GLOBALS as usize * VALUE_BYTES
-    + MAX_ROUTINES as usize * (ROUTINE_BYTES + VALUE_BYTES)
-    + MAX_INSTRUCTIONS as usize
-        * (HEADER_BYTES + (MAX_LOCALS as usize + MAX_HEIGHT as usize) * VALUE_BYTES);
