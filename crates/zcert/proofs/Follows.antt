@@ -1,9 +1,10 @@
 -- How far a file has come by the bytes that were fed: each step further is a step of reading, wherever the file is cut.
-use Rattle.std.proofs.Common.{◌≡◌, ◌≢◌, ℕ, ◌+◌, ◌<◌, List, [], ◌∷◌, ◌++◌, length, Result, Ok, Err, Option, Some, None, refl, sym, ap, subst, ◌∙◌, append_assoc, length-append, arith, ◌⊎◌, inl, inr}
+use Rattle.std.proofs.Common.{◌≡◌, ◌≢◌, ℕ, ◌<◌, List, [], ◌∷◌, ◌++◌, length, Result, Ok, Err, Option, Some, None, refl, sym, ap, subst, ◌∙◌, append_assoc, length-append, arith, ◌⊎◌, inl, inr}
 use Rattle.std.specs.Prelude.{IfOk, IfErr, ◌==◌}
 use Rattle.std.specs.List.{flat_map}
 use Rattle.std.proofs.lemmas.Bool.{cases_lt}
-use Rattle.std.proofs.lemmas.List.{append-nil, nil_from_length}
+use Rattle.std.proofs.lemmas.List.{append-nil}
+use Rattle.byteorder.specs.Endian.{big_number}
 use Rattle.zcert.specs.declared.error.CertError.{CertError}
 use Rattle.zcert.specs.declared.error.CertError.TheVariants as errors
 use Rattle.zcert.specs.declared.field.Field.{Field}
@@ -21,16 +22,15 @@ use Rattle.zcert.specs.Spelling.{heading, spelling, HasSpelling}
 use Rattle.zcert.specs.Reading.{magic_at, version_at, heading_at, reading}
 use Rattle.zcert.specs.Building.{Progress, opening, taken}
 use Rattle.zcert.specs.Fields.{field_bytes, field_at, next_at, NextAdds}
-use Rattle.zcert.specs.Streaming.{Stream, field_width, next_width, FieldsLead, Leads, IsFinal, IsRefusal, IsUnread, HasCome, IsFed, IsOpen}
+use Rattle.zcert.specs.Streaming.{Stream, FieldIsCut, IsCut, FieldsLead, Leads, IsFinal, IsRefusal, IsUnread, HasCome, IsFed, IsOpen}
 use Rattle.zcert.specs.View.{Refuses, Answers}
-use Rattle.zcert.specs.FormatLaw.Stepping.{bind_ok, ok_is}
-use Rattle.zcert.specs.FormatLaw.Widths.{sized_short, sized_width}
+use Rattle.zcert.specs.FormatLaw.Widths.{sized_short, sized_exact, sized_width}
 use Rattle.zcert.specs.FormatLaw.{IsBytes, IsFormat}
 use Rattle.zcert.proofs.Found.{found, magic_takes}
 use Rattle.zcert.proofs.Only.{magic_again, only}
 use Rattle.zcert.proofs.Rest.{rest_of, HasMore, reads_on, completes, opens}
 use Rattle.zcert.proofs.FieldBytes.{fields_again}
-use Rattle.zcert.proofs.Fixed.{field_fixed, field_left, field_stays}
+use Rattle.zcert.proofs.Fixed.{field_stays}
 use Rattle.zcert.proofs.Uncut.{uncut_need}
 use Rattle.zcert.proofs.Makes.{after_heading}
 use Rattle.zcert.proofs.Room.{plain_magic, plain_version, version_leads, read_next, leads_to_part}
@@ -58,31 +58,17 @@ test_ends : {B C : Type 0} (u : Result (Unit {0}) CertError) (x : B) (y : C) (e 
 test_ends (Ok t) x y e h = absurd cc
 test_ends (Err d) x y e h = let same : d ≡ e = cc in ap (λ (x : CertError). Err x) same
 
-test_left : {B : Type 0} (u : Result (Unit {0}) CertError) (x y : B) → (u >>= λ _. Ok x) ≡ Ok y → x ≡ y
-test_left (Ok t) x y h = ok_is x y h
-test_left (Err d) x y h = absurd cc
-
 test_uncut : {B : Type 0} (u : Result (Unit {0}) CertError) (x : B) → u ≢ Err errors.Truncated → (u >>= λ _. Ok x) ≢ Err errors.Truncated
 test_uncut (Ok t) x uncut e = absurd cc
 test_uncut (Err d) x uncut e = uncut (let same : d ≡ errors.Truncated = cc in ap (λ (x : CertError). Err x) same)
 
 module _ (n : ℕ) (test : ℕ → Result (Unit {0}) CertError) where
-  cut_read : ((m : ℕ) → test m ≢ Err errors.Truncated) → (r : Result (ℕ × List ℕ) CertError) → tested test r ≡ Err errors.Truncated → r ≡ Err errors.Truncated
-  cut_read uncut (Ok x) e = absurd (test_uncut (test x.0) x.1 (uncut x.0) e)
-  cut_read uncut (Err d) e = let same : d ≡ errors.Truncated = cc in ap (λ (x : CertError). Err x) same
-
-  tested_cut : ((m : ℕ) → test m ≢ Err errors.Truncated) → (bytes : List ℕ) → tested test (sized_at n bytes) ≡ Err errors.Truncated → length bytes < n
-  tested_cut uncut bytes e = (sized_width n).whole bytes (cut_read uncut (sized_at n bytes) e)
+  -- of exactly as many bytes it isn't cut off
+  tested_whole : ((m : ℕ) → test m ≢ Err errors.Truncated) → (bytes : List ℕ) → length bytes ≡ n → tested test (sized_at n bytes) ≢ Err errors.Truncated
+  tested_whole uncut bytes same e = test_uncut (test (big_number n bytes)) [] (uncut (big_number n bytes)) (sym (ap (tested test) (sized_exact n bytes same)) ∙ e)
 
   tested_short : (bytes : List ℕ) → length bytes < n → tested test (sized_at n bytes) ≡ Err errors.Truncated
   tested_short bytes lt = rw (sized_short n bytes lt) refl
-
-  left_read : (r : Result (ℕ × List ℕ) CertError) (rest : List ℕ) → tested test r ≡ Ok rest → (x : ℕ) × (r ≡ Ok (x, rest))
-  left_read (Ok x) rest e = (x.0, ap (λ (l : List ℕ). Ok (x.0, l)) (test_left (test x.0) x.1 rest e))
-  left_read (Err d) rest e = absurd cc
-
-  tested_left : (bytes rest : List ℕ) → tested test (sized_at n bytes) ≡ Ok rest → length rest + n ≡ length bytes
-  tested_left bytes rest e = let a = left_read (sized_at n bytes) rest e in (sized_width n).left bytes a.0 rest a.1
 
   final_read : (r : Result (ℕ × List ℕ) CertError) (more : List ℕ) (e : CertError) → tested test r ≡ Err e → tested test (r >>= λ x. Ok (x.0, x.1 ++ more)) ≡ Err e
   final_read (Ok x) more e h = test_ends (test x.0) x.1 (x.1 ++ more) e h
@@ -101,33 +87,25 @@ uncut_magic m = uncut_need (m == MAGIC) errors.Magic (λ e. absurd cc)
 uncut_version : (version m : ℕ) → need (m == version) errors.Version ≢ Err errors.Truncated
 uncut_version version m = uncut_need (m == version) errors.Version (λ e. absurd cc)
 
-pub magic_cut : (bytes : List ℕ) → magic_at bytes ≡ Err errors.Truncated → length bytes < 4
+pub magic_whole : (bytes : List ℕ) → length bytes ≡ 4 → magic_at bytes ≢ Err errors.Truncated
 unfolding magic_at
-magic_cut bytes e = tested_cut 4 (λ m. need (m == MAGIC) errors.Magic) uncut_magic bytes e
+magic_whole bytes same = tested_whole 4 (λ m. need (m == MAGIC) errors.Magic) uncut_magic bytes same
 
 pub magic_short : (bytes : List ℕ) → length bytes < 4 → magic_at bytes ≡ Err errors.Truncated
 unfolding magic_at
 magic_short bytes lt = tested_short 4 (λ m. need (m == MAGIC) errors.Magic) bytes lt
 
-pub magic_left : (bytes rest : List ℕ) → magic_at bytes ≡ Ok rest → length rest + 4 ≡ length bytes
-unfolding magic_at
-magic_left bytes rest e = tested_left 4 (λ m. need (m == MAGIC) errors.Magic) bytes rest e
-
 magic_final : (bytes more : List ℕ) (e : CertError) → e ≢ errors.Truncated → magic_at bytes ≡ Err e → magic_at (bytes ++ more) ≡ Err e
 unfolding magic_at
 magic_final bytes more e whole h = tested_final 4 (λ m. need (m == MAGIC) errors.Magic) bytes more e whole h
 
-pub version_cut : (version : ℕ) (bytes : List ℕ) → version_at version bytes ≡ Err errors.Truncated → length bytes < 1
+pub version_whole : (version : ℕ) (bytes : List ℕ) → length bytes ≡ 1 → version_at version bytes ≢ Err errors.Truncated
 unfolding version_at
-version_cut version bytes e = tested_cut 1 (λ m. need (m == version) errors.Version) (uncut_version version) bytes e
+version_whole version bytes same = tested_whole 1 (λ m. need (m == version) errors.Version) (uncut_version version) bytes same
 
 pub version_short : (version : ℕ) (bytes : List ℕ) → length bytes < 1 → version_at version bytes ≡ Err errors.Truncated
 unfolding version_at
 version_short version bytes lt = tested_short 1 (λ m. need (m == version) errors.Version) bytes lt
-
-pub version_left : (version : ℕ) (bytes rest : List ℕ) → version_at version bytes ≡ Ok rest → length rest + 1 ≡ length bytes
-unfolding version_at
-version_left version bytes rest e = tested_left 1 (λ m. need (m == version) errors.Version) bytes rest e
 
 version_final : (version : ℕ) (bytes more : List ℕ) (e : CertError) → e ≢ errors.Truncated → version_at version bytes ≡ Err e → version_at version (bytes ++ more) ≡ Err e
 unfolding version_at
@@ -166,7 +144,7 @@ pub stream_refused : {V : Type 0} (format : Format V) (s : Stream V) (e : CertEr
 stream_refused format s e fed same come = subst (λ (o : Option CertError). HasCome format o s fed) same come
 
 -- one that didn't
-pub stream_came : {V : Type 0} (format : Format V) (s : Stream V) (fed : List ℕ) → s.refused ≡ None → IsFed format s fed → Leads format s.stage s.progress fed s.kept × (length s.kept < next_width format s.stage s.progress.turn)
+pub stream_came : {V : Type 0} (format : Format V) (s : Stream V) (fed : List ℕ) → s.refused ≡ None → IsFed format s fed → Leads format s.stage s.progress fed s.kept × IsCut format s.stage s.progress.turn s.kept
 stream_came format s fed same come = subst (λ (o : Option CertError). HasCome format o s fed) same come
 
 -- what it says of the bytes
@@ -263,14 +241,6 @@ module _ {V : Type 0} (format : Format V) (law : IsFormat format) where
   pub field_leads : (p q : Progress V) (fed bytes rest : List ℕ) → IsBytes bytes → next_at format p bytes ≡ Ok (q, rest) → FieldsLead format p fed bytes → FieldsLead format q fed rest
   field_leads p q fed bytes rest fits e led = read_next format law fed p q bytes rest fits led e
 
-  pub next_left : (p q : Progress V) (bytes rest : List ℕ) → next_at format p bytes ≡ Ok (q, rest) → length rest + field_width format p.turn ≡ length bytes
-  next_left p q bytes rest e =
-      let a = bind_ok (field_at format p.turn bytes) (λ f. taken p f.0 >>= λ x. Ok (x, f.1)) (q, rest) e in
-      let b = bind_ok (taken p a.0.0) (λ x. Ok (x, a.0.1)) (q, rest) a.2 in
-      let made : Progress V × List ℕ = (b.0, a.0.1) in
-      let same = ok_is made (q, rest) b.2 in
-      omega (arith, field_left format law p.turn bytes a.0.0 a.0.1 a.1, ap (λ (x : Progress V × List ℕ). length x.1) same)
-
   -- ---- the end
 
   -- a stream that keeps what came of the next field was fed a certificate, or what is cut off
@@ -278,19 +248,23 @@ module _ {V : Type 0} (format : Format V) (law : IsFormat format) where
     pub whole : stage ≡ stages.Field → p.turn ≡ turns.Complete → reading format fed ≡ Ok p.content
     pub cut : (stage ≡ stages.Field → p.turn ≢ turns.Complete) → reading format fed ≡ Err errors.Truncated
 
-  field_cuts : (p : Progress V) (kept : List ℕ) → p.turn ≢ turns.Complete → length kept < field_width format p.turn → rest_of format p kept ≡ Err errors.Truncated
-  field_cuts p kept due short = reads_on format p kept (due_has_more p.turn kept due) ∙ rw ((field_fixed format law p.turn due).short kept short) refl
+  field_cuts : (p : Progress V) (kept : List ℕ) → p.turn ≢ turns.Complete → FieldIsCut format p.turn kept → rest_of format p kept ≡ Err errors.Truncated
+  field_cuts p kept due cut = reads_on format p kept (due_has_more p.turn kept due) ∙ rw (due_is_cut p.turn kept due cut) refl
     where
       due_has_more : (t : Turn) (bytes : List ℕ) → t ≢ turns.Complete → HasMore format t bytes
       due_has_more turns.Complete bytes due = absurd (due refl)
       due_has_more _ bytes due = tt
 
-  complete_ends : (p : Progress V) (kept : List ℕ) → p.turn ≡ turns.Complete → length kept < field_width format p.turn → rest_of format p kept ≡ Ok p.content
-  complete_ends p kept same short =
-      let none : length kept < 1 = subst (λ (t : Turn). length kept < field_width format t) same short in
-      ap (rest_of format p) (nil_from_length kept (omega (arith, none))) ∙ completes format p same
+      due_is_cut : (t : Turn) (bytes : List ℕ) → t ≢ turns.Complete → FieldIsCut format t bytes → field_at format t bytes ≡ Err errors.Truncated
+      due_is_cut turns.Complete bytes due cut = absurd (due refl)
+      due_is_cut _ bytes due cut = cut
 
-  pub come_ends : (stage : Stage) (p : Progress V) (fed kept : List ℕ) → Leads format stage p fed kept → length kept < next_width format stage p.turn → Ends stage p fed
+  complete_ends : (p : Progress V) (kept : List ℕ) → p.turn ≡ turns.Complete → FieldIsCut format p.turn kept → rest_of format p kept ≡ Ok p.content
+  complete_ends p kept same cut =
+      let none : kept ≡ [] = subst (λ (t : Turn). FieldIsCut format t kept) same cut in
+      ap (rest_of format p) none ∙ completes format p same
+
+  pub come_ends : (stage : Stage) (p : Progress V) (fed kept : List ℕ) → Leads format stage p fed kept → IsCut format stage p.turn kept → Ends stage p fed
   come_ends stages.Magic p fed kept led short = record {
     whole = λ e. absurd cc;
     cut = λ _. ap (reading format) led.0 ∙ magic_ends format kept errors.Truncated (magic_short kept short);
@@ -314,11 +288,11 @@ module _ {V : Type 0} (format : Format V) (law : IsFormat format) where
   is_open (Err d) stages.Magic p whole cut = let is = cut (λ e. absurd cc) in cc
   is_open (Err d) stages.Version p whole cut = let is = cut (λ e. absurd cc) in cc
 
-  pub come_is_open : (stage : Stage) (p : Progress V) (fed kept : List ℕ) → Leads format stage p fed kept → length kept < next_width format stage p.turn → IsOpen (reading format fed)
+  pub come_is_open : (stage : Stage) (p : Progress V) (fed kept : List ℕ) → Leads format stage p fed kept → IsCut format stage p.turn kept → IsOpen (reading format fed)
   come_is_open stage p fed kept led short = let ends = come_ends stage p fed kept led short in is_open (reading format fed) stage p ends.whole ends.cut
 
   -- what a stream answers at its end
-  pub finished : (r : Result (Certificate V) CertError) (stage : Stage) (p : Progress V) (fed kept : List ℕ) → IfOk r (λ c. (stage ≡ stages.Field) × (p.turn ≡ turns.Complete) × (c ≡ p.content)) → IfErr r (λ e. (e ≡ errors.Truncated) × (stage ≡ stages.Field → p.turn ≢ turns.Complete)) → Leads format stage p fed kept → length kept < next_width format stage p.turn → r ≡ reading format fed
+  pub finished : (r : Result (Certificate V) CertError) (stage : Stage) (p : Progress V) (fed kept : List ℕ) → IfOk r (λ c. (stage ≡ stages.Field) × (p.turn ≡ turns.Complete) × (c ≡ p.content)) → IfErr r (λ e. (e ≡ errors.Truncated) × (stage ≡ stages.Field → p.turn ≢ turns.Complete)) → Leads format stage p fed kept → IsCut format stage p.turn kept → r ≡ reading format fed
   finished (Ok c) stage p fed kept whole cut led short = sym ((come_ends stage p fed kept led short).whole whole.0 whole.1 ∙ ap (λ (x : Certificate V). Ok x) (sym whole.2))
   finished (Err d) stage p fed kept whole cut led short = sym ((come_ends stage p fed kept led short).cut cut.1 ∙ ap (λ (x : CertError). Err x) (sym cut.0))
 

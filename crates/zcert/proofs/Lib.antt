@@ -12,7 +12,6 @@ pub mod Rising
 pub mod Lookup
 pub mod Follows
 pub mod Pieces
-pub mod Longest
 pub mod Fixed
 pub mod Uncut
 pub mod Room

@@ -150,11 +150,6 @@ module _ {V : Type 0} (format : Format V) (law : IsFormat format) where
   parts_of : (c : Certificate V) → spelling format c ≡ heading format ++ body c
   parts_of c = in_two (heading format) (identity_bytes c.identity) (counted numbers.RangeCount range_bytes c.ranges) (values_bytes format c.globals) (counted numbers.RoutineCount (routine_bytes format) c.routines) (counted numbers.InstructionCount (instruction_bytes format) c.instructions)
 
-  pub IsBytes-spelling : (c : Certificate V) → HasSpelling format c → IsBytes (spelling format c)
-  IsBytes-spelling c has =
-      let front = IsBytes-append (number numbers.Magic MAGIC) (number numbers.Version format.version) (IsBytes-number numbers.Magic MAGIC) (IsBytes-number numbers.Version format.version) in
-      subst IsBytes (sym (parts_of c)) (IsBytes-append (heading format) (body c) front (IsBytes-body c has))
-
   -- each certificate that has a spelling is made by some fields
   pub each_is_made : (c : Certificate V) → HasSpelling format c → (fs : List (Field V)) × Makes format fs c
   each_is_made c has =

@@ -41,7 +41,7 @@ module _ {V : Type 0} (format : Format V) (law : IsFormat format) where
   more_due _ due = tt
 
   no_set : format.value_at [] ≡ Err errors.Truncated
-  no_set = law.fixed.short [] law.some
+  no_set = law.none
 
   cut_at : (t : Turn) → t ≢ turns.Complete → field_at format t [] ≡ Err errors.Truncated
   cut_at (turns.Global more) due = rw no_set refl

@@ -1,5 +1,5 @@
 -- Values of the definitions, computed.
-use Rattle.std.proofs.Common.{◌≡◌, true, false, ℕ, List, [], ◌∷◌, ◌++◌, length, replicate, zero, suc, Some, None, Ok, Err, pos, negsuc, refl, ap, arith}
+use Rattle.std.proofs.Common.{◌≡◌, true, false, ℕ, List, [], ◌∷◌, ◌++◌, length, replicate, zero, suc, Some, None, Ok, Err, pos, negsuc, inl, inr, refl, ap, arith}
 use Rattle.std.specs.List.{AllByRecursion}
 use Rattle.zdomain.specs.declared.interval.Interval.{Interval}
 use Rattle.zdomain.specs.Interval.{point, all_words, interval_of, in_order}
@@ -12,7 +12,7 @@ use Rattle.zcert.specs.declared.field.Turn.TheVariants as turns
 use Rattle.zcert.specs.declared.parts.Range.{Range}
 use Rattle.zcert.specs.declared.parts.Routine.{Routine}
 use Rattle.zcert.specs.declared.contents.Stored.{Stored}
-use Rattle.zcert.specs.declared.limits.TheConstants.{MAGIC, VERSION, GLOBALS, ADDRESS_LIMIT, MAX_LOCALS, MAX_INSTRUCTIONS, MAX_RANGES, MAX_ROUTINES, MAX_HEIGHT, LARGEST}
+use Rattle.zcert.specs.declared.limits.TheConstants.{MAGIC, VERSION, GLOBALS, ADDRESS_LIMIT, MAX_LOCALS, MAX_INSTRUCTIONS, MAX_RANGES, MAX_ROUTINES, MAX_HEIGHT}
 use Rattle.zcert.specs.Numbers.{width, number, HasRoom}
 use Rattle.zcert.specs.Numbers as numbers
 use Rattle.zcert.specs.Certificate.{Instruction, locals_of}
@@ -27,16 +27,17 @@ use Rattle.zcert.specs.Listed.{listed_at, Finds}
 use Rattle.zcert.specs.Listed as listing
 use Rattle.zcert.specs.Refusal.{number_of}
 use Rattle.zcert.specs.declared.stage.Stage.TheVariants as stages
-use Rattle.zcert.specs.Streaming.{field_width, next_width, unfed, Leads, IsRefusal, IsUnread, IsFed, IsOpen}
+use Rattle.zcert.specs.declared.interval_spelled.Begun.TheVariants.{Nothing, Lower}
+use Rattle.zcert.specs.Turns.{IsOfSet, IsSetNext, field_width, next_width, IsPartOf, IsAwaiting}
+use Rattle.zcert.specs.Begun.{end_bytes, ends_turns}
+use Rattle.zcert.specs.Streaming.{IsCut, GoesOn, unfed, Leads, IsRefusal, IsUnread, IsFed, IsOpen}
 use Rattle.zcert.proofs.Follows.{magic_refused}
 use Rattle.zcert.specs.View.{Answers, Refuses, RefusesField, Takes}
 
 -- ---- limits
 
--- as long as a certificate can be: 27 bytes, 4 for each of 240 globals and 65,535 ranges, 9 for each of 65,535 routines, and 323
--- for each of 131,072 instructions
-limits : (MAGIC ≡ 0x5A504343) × (VERSION ≡ 1) × (GLOBALS ≡ 240) × (ADDRESS_LIMIT ≡ 131072) × (MAX_LOCALS ≡ 15) × (MAX_INSTRUCTIONS ≡ 131072) × (MAX_RANGES ≡ 65535) × (MAX_ROUTINES ≡ 65535) × (MAX_HEIGHT ≡ 64) × (LARGEST ≡ 43189198)
-limits = (refl, refl, refl, refl, refl, refl, refl, refl, refl, refl)
+limits : (MAGIC ≡ 0x5A504343) × (VERSION ≡ 1) × (GLOBALS ≡ 240) × (ADDRESS_LIMIT ≡ 131072) × (MAX_LOCALS ≡ 15) × (MAX_INSTRUCTIONS ≡ 131072) × (MAX_RANGES ≡ 65535) × (MAX_ROUTINES ≡ 65535) × (MAX_HEIGHT ≡ 64)
+limits = (refl, refl, refl, refl, refl, refl, refl, refl, refl)
 
 -- ---- numbers
 
@@ -485,12 +486,32 @@ refusals = (refl, refl, refl, refl, refl, refl, refl, refl)
 
 -- ---- pieces
 
--- the turns of parts that are begun don't differ from others
-turn_widths : (field_width interval_format turns.Serial ≡ 6) × (field_width interval_format turns.Checksum ≡ 2) × (field_width interval_format (turns.RangeLast 1 2) ≡ 2) × (field_width interval_format (turns.Global 3) ≡ 4) × (field_width interval_format (turns.RoutineAddress 3) ≡ 4) × (field_width interval_format (turns.LocalCount 3 5) ≡ 1) × (field_width interval_format (turns.Height 1 2 3) ≡ 1) × (field_width interval_format turns.Complete ≡ 1)
-turn_widths = (refl, refl, refl, refl, refl, refl, refl, refl)
+-- the turns of parts that are begun don't differ from others; a set takes an end at a time
+turn_widths : (field_width ends_turns turns.Serial Nothing ≡ 6) × (field_width ends_turns turns.Checksum Nothing ≡ 2) × (field_width ends_turns (turns.RangeLast 1 2) Nothing ≡ 2) × (field_width ends_turns (turns.Global 3) Nothing ≡ 2) × (field_width ends_turns (turns.Global 3) (Lower 5) ≡ 2) × (field_width ends_turns (turns.RoutineAddress 3) Nothing ≡ 4) × (field_width ends_turns (turns.LocalCount 3 5) Nothing ≡ 1) × (field_width ends_turns (turns.Height 1 2 3) Nothing ≡ 1) × (field_width ends_turns turns.Complete Nothing ≡ 1)
+turn_widths = (refl, refl, refl, refl, refl, refl, refl, refl, refl)
 
-next_widths : (next_width interval_format stages.Magic turns.Serial ≡ 4) × (next_width interval_format stages.Version turns.Serial ≡ 1) × (next_width interval_format stages.Field turns.Serial ≡ 6)
+next_widths : (next_width ends_turns stages.Magic turns.Serial Nothing ≡ 4) × (next_width ends_turns stages.Version turns.Serial Nothing ≡ 1) × (next_width ends_turns stages.Field turns.Serial Nothing ≡ 6)
 next_widths = (refl, refl, refl)
+
+-- the bytes that have come of an interval
+came_so_far : (end_bytes Nothing ≡ []) × (end_bytes (Lower 0x1234) ≡ 0x12 ∷ 0x34 ∷ []) × (ends_turns.came (Lower 0x1234) ≡ 0x12 ∷ 0x34 ∷ []) × (ends_turns.awaited (Lower 3) ≡ 2)
+came_so_far = (refl, refl, refl, refl)
+
+-- sets come in three places, and nothing of one has come elsewhere
+part_places : IsOfSet (turns.Global 3) × IsOfSet (turns.RoutineResult 1 2 3) × IsOfSet (turns.Value 3 header 1) × (IsOfSet turns.Checksum → ⊥) × (IsOfSet turns.Complete → ⊥) × IsSetNext stages.Field (turns.Global 3) × (IsSetNext stages.Version (turns.Global 3) → ⊥) × (IsSetNext stages.Magic (turns.Global 3) → ⊥) × IsPartOf ends_turns stages.Field (turns.Global 3) (Lower 5) × IsPartOf ends_turns stages.Field turns.Checksum Nothing × (IsPartOf ends_turns stages.Field turns.Checksum (Lower 5) → ⊥)
+part_places = (tt, tt, tt, λ i. i, λ i. i, tt, λ i. i, λ i. i, λ out. absurd (out tt), λ out. refl, λ part. absurd (let e = part (λ i. i) in cc))
+
+awaited_bytes : IsAwaiting ends_turns stages.Magic turns.Release Nothing (1 ∷ 2 ∷ 3 ∷ []) × (IsAwaiting ends_turns stages.Magic turns.Release Nothing (1 ∷ 2 ∷ 3 ∷ 4 ∷ []) → ⊥) × IsAwaiting ends_turns stages.Field (turns.Global 3) (Lower 5) (1 ∷ []) × (IsAwaiting ends_turns stages.Field (turns.Global 3) (Lower 5) (1 ∷ 2 ∷ []) → ⊥) × (IsAwaiting ends_turns stages.Field turns.Checksum (Lower 5) [] → ⊥)
+awaited_bytes = ((λ out. refl, omega arith), (λ a. omega (arith, a.1)), (λ out. absurd (out tt), omega arith), (λ a. omega (arith, a.1)), (λ a. absurd (let e = a.0 (λ i. i) in cc)))
+
+-- cut off: magic, version, a set by one byte, and nothing behind the last field
+cut_so_far : IsCut interval_format stages.Magic turns.Release (1 ∷ 2 ∷ 3 ∷ []) × (IsCut interval_format stages.Magic turns.Release (1 ∷ 2 ∷ 3 ∷ 4 ∷ []) → ⊥) × IsCut interval_format stages.Version turns.Release [] × (IsCut interval_format stages.Version turns.Release (1 ∷ []) → ⊥) × IsCut interval_format stages.Field (turns.Global 3) (0 ∷ 5 ∷ 0 ∷ []) × (IsCut interval_format stages.Field (turns.Global 3) (0 ∷ 5 ∷ 0 ∷ 7 ∷ []) → ⊥) × (IsCut interval_format stages.Field (turns.Global 3) (0 ∷ 5 ∷ 0 ∷ 4 ∷ []) → ⊥) × IsCut interval_format stages.Field turns.Complete [] × (IsCut interval_format stages.Field turns.Complete (1 ∷ []) → ⊥)
+cut_so_far = (omega arith, (λ c. omega (arith, c)), omega arith, (λ c. omega (arith, c)), refl, (λ e. absurd cc), (λ e. absurd cc), refl, (λ e. absurd cc))
+
+-- the lower end, and then the upper one, with which the value is taken; what came isn't forgotten between them
+set_in_two : GoesOn interval_format ends_turns (at_turn (turns.Value 0 header 1) 0) Nothing (0 ∷ 0 ∷ []) (at_turn (turns.Value 0 header 1) 0) (Lower 0) × GoesOn interval_format ends_turns (at_turn (turns.Value 0 header 1) 0) (Lower 0) (0 ∷ 0 ∷ []) (record { content = start.content; values = point 0 ∷ []; floor = 0; turn = turns.Value 0 header 0 }) Nothing × (GoesOn interval_format ends_turns (at_turn (turns.Value 0 header 1) 0) Nothing (0 ∷ 7 ∷ []) (at_turn (turns.Value 0 header 1) 0) Nothing → ⊥) × (GoesOn interval_format ends_turns (at_turn turns.Checksum 0) Nothing (0 ∷ 7 ∷ []) (at_turn turns.Checksum 0) (Lower 7) → ⊥)
+unfolding at_turn start header
+set_in_two = (inr (refl, tt, refl), inl (refl, refl), elim [ inl both ↦ absurd (let e = both.0 in cc) | inr stays ↦ absurd (let e = stays.2 in cc) ], elim [ inl both ↦ absurd (let e = both.1 in cc) | inr stays ↦ stays.1 ])
 
 -- a wrong magic that is cut short is cut off; whole, it is wrong
 magic_in_pieces : (reading interval_format (0x5A ∷ 0x50 ∷ []) ≡ Err errors.Truncated) × (reading interval_format (0x5A ∷ 0x50 ∷ 0x43 ∷ 0x44 ∷ []) ≡ Err errors.Magic) × (reading interval_format (0x5B ∷ []) ≡ Err errors.Truncated)

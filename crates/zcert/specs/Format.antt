@@ -5,15 +5,13 @@ use Rattle.zdomain.specs.declared.interval.Interval.{Interval}
 use Rattle.zdomain.specs.Interval.{interval_of}
 use Rattle.zcert.specs.declared.error.CertError.{CertError}
 use Rattle.zcert.specs.declared.error.CertError.TheVariants.{EmptyInterval}
-use Rattle.zcert.specs.declared.limits.TheConstants.{VALUE_BYTES, VERSION}
+use Rattle.zcert.specs.declared.limits.TheConstants.{VERSION}
 use Rattle.zcert.specs.Numbers.{End, number}
 use Rattle.zcert.specs.Steps.{◌>>=◌, number_at}
 
 pub record Format (V : Type 0) : Type 1 where
   -- the version byte
   pub version : ℕ
-  -- how many bytes each set takes
-  pub size : ℕ
   -- the bytes of a set
   pub spelled : V → List ℕ
   -- the set at the front of the bytes
@@ -30,7 +28,6 @@ nonempty (Some i) = Ok i
 abbrev pub interval_format : Format Interval
 interval_format = record {
   version = VERSION;
-  size = VALUE_BYTES;
   spelled = λ i. number End (cast_unsigned w16 i.lo) ++ number End (cast_unsigned w16 i.hi);
   value_at = λ bytes. do
     lo ← number_at End bytes

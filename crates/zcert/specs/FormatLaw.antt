@@ -3,7 +3,7 @@
 pub mod Stepping
 pub mod Widths
 pub mod Intervals
-use Rattle.std.specs.Prelude.{◌≡◌, ◌≢◌, ℕ, ◌+◌, ◌<◌, ◌≤◌, List, ◌++◌, length, Result, Ok, Err}
+use Rattle.std.specs.Prelude.{◌≡◌, ◌≢◌, ℕ, ◌<◌, List, [], ◌++◌, length, Result, Ok, Err}
 use Rattle.std.proofs.Common.{get_or}
 use Rattle.zcert.specs.declared.error.CertError.{CertError}
 use Rattle.zcert.specs.declared.error.CertError.TheVariants.{Truncated, OutOfMemory}
@@ -23,13 +23,6 @@ pub record Takes (bytes text rest : List ℕ) : Type 0 where
 abbrev pub IsPlain : {A : Type 0} → Result A CertError → Type 0
 IsPlain r = r ≢ Err OutOfMemory
 
--- a step takes so many bytes, whatever follows them, and is cut off by fewer
-pub record IsOfWidth {A : Type 0} (n : ℕ) (read : List ℕ → Result (A × List ℕ) CertError) : Type 0 where
-  pub short : (bytes : List ℕ) → length bytes < n → read bytes ≡ Err Truncated
-  pub whole : (bytes : List ℕ) → read bytes ≡ Err Truncated → length bytes < n
-  pub left : (bytes : List ℕ) (x : A) (rest : List ℕ) → read bytes ≡ Ok (x, rest) → length rest + n ≡ length bytes
-  pub stays : (bytes more : List ℕ) → n ≤ length bytes → read (bytes ++ more) ≡ (read bytes >>= λ x. Ok (x.0, x.1 ++ more))
-
 pub record IsFormat {V : Type 0} (format : Format V) : Type 0 where
   pub version : HasRoom Version format.version
   -- a set that is read is spelled by the bytes that it took
@@ -39,9 +32,8 @@ pub record IsFormat {V : Type 0} (format : Format V) : Type 0 where
   pub long : (v : V) → 0 < length (format.spelled v)
   -- and is read again, whatever follows it
   pub again : (v : V) (rest : List ℕ) → format.Has v → format.value_at (format.spelled v ++ rest) ≡ Ok (v, rest)
-  -- each set takes as many bytes, which are few
-  pub fixed : IsOfWidth format.size format.value_at
-  pub some : 0 < format.size
-  pub few : format.size ≤ 8
+  -- a set is cut off where no byte is there, and one that isn't cut off is the same whatever follows
+  pub none : format.value_at [] ≡ Err Truncated
+  pub stays : (bytes more : List ℕ) → format.value_at bytes ≢ Err Truncated → format.value_at (bytes ++ more) ≡ (format.value_at bytes >>= λ x. Ok (x.0, x.1 ++ more))
   -- reading a set wants no memory
   pub plain : (bytes : List ℕ) → IsPlain (format.value_at bytes)

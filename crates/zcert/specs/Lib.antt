@@ -2,6 +2,8 @@ pub mod Numbers
 pub mod Certificate
 pub mod Steps
 pub mod Format
+pub mod Turns
+pub mod Begun
 pub mod FormatLaw
 pub mod Spelling
 pub mod Reading
@@ -11,5 +13,4 @@ pub mod Contents
 pub mod View
 pub mod Listed
 pub mod Refusal
-pub mod Longest
 pub mod Streaming

@@ -1,5 +1,5 @@
 -- A certificate that comes in pieces: how far it has come, by the bytes that were fed so far.
-use Rattle.std.specs.Prelude.{◌≡◌, ℕ, ◌<◌, List, [], ◌++◌, length, Option, None, Some, Result, Ok, Err, ⊤}
+use Rattle.std.specs.Prelude.{◌≡◌, ◌⊎◌, ℕ, ◌<◌, List, [], ◌++◌, length, Option, None, Some, Result, Ok, Err, ⊤}
 use Rattle.std.specs.List.{flat_map, AllByRecursion}
 use Rattle.zcert.specs.declared.error.CertError.{CertError}
 use Rattle.zcert.specs.declared.error.CertError.TheVariants as errors
@@ -15,7 +15,8 @@ use Rattle.zcert.specs.Format.{Format}
 use Rattle.zcert.specs.Spelling.{heading}
 use Rattle.zcert.specs.Reading.{reading}
 use Rattle.zcert.specs.Building.{Progress, opening, all_taken}
-use Rattle.zcert.specs.Fields.{field_bytes, IsField, LeadsToPart}
+use Rattle.zcert.specs.Fields.{field_bytes, IsField, field_at, next_at, LeadsToPart}
+use Rattle.zcert.specs.Turns.{Turns, IsOfSet}
 
 -- what is kept of the bytes that came
 pub record Stream (V : Type 0) : Type 0 where
@@ -23,7 +24,7 @@ pub record Stream (V : Type 0) : Type 0 where
   pub stage : Stage
   -- the fields before that, one after another taken
   pub progress : Progress V
-  -- the bytes that came of it, fewer than it has
+  -- all bytes that came of it: it is cut off
   pub kept : List ℕ
   -- why the bytes are refused, once they are
   pub refused : Option CertError
@@ -33,32 +34,16 @@ abbrev pub unfed : {V : Type 0} → Stream V
 unfed = record { stage = stages.Magic; progress = opening; kept = []; refused = None }
 
 module _ {V : Type 0} (format : Format V) where
-  -- how many bytes the field takes whose turn it is; where none comes, one byte is too many
-  abbrev pub field_width : Turn → ℕ
-  field_width turns.Release = width numbers.Release
-  field_width turns.Serial = 6
-  field_width turns.Checksum = width numbers.Checksum
-  field_width turns.LoadedLength = width numbers.LoadedLength
-  field_width turns.RangeCount = width numbers.RangeCount
-  field_width (turns.RangeFirst more) = width numbers.RangeFirst
-  field_width (turns.RangeLast more first) = width numbers.RangeLast
-  field_width (turns.Global more) = format.size
-  field_width turns.RoutineCount = width numbers.RoutineCount
-  field_width (turns.RoutineAddress more) = width numbers.RoutineAddress
-  field_width (turns.LocalCount more address) = width numbers.LocalCount
-  field_width (turns.RoutineResult more address locals) = format.size
-  field_width turns.InstructionCount = width numbers.InstructionCount
-  field_width (turns.InstructionAddress more) = width numbers.InstructionAddress
-  field_width (turns.RoutineNumber more address) = width numbers.RoutineNumber
-  field_width (turns.Height more address routine) = width numbers.Height
-  field_width (turns.Value more h left) = format.size
-  field_width turns.Complete = 1
+  -- the bytes of the field whose turn it is are cut off; where none comes, there are none
+  abbrev pub FieldIsCut : Turn → List ℕ → Type 0
+  FieldIsCut turns.Complete bytes = bytes ≡ []
+  FieldIsCut turn bytes = field_at format turn bytes ≡ Err errors.Truncated
 
-  -- how many bytes that takes which comes next
-  abbrev pub next_width : Stage → Turn → ℕ
-  next_width stages.Magic turn = width numbers.Magic
-  next_width stages.Version turn = width numbers.Version
-  next_width stages.Field turn = field_width turn
+  -- the bytes of what comes next are cut off
+  abbrev pub IsCut : Stage → Turn → List ℕ → Type 0
+  IsCut stages.Magic turn bytes = length bytes < width numbers.Magic
+  IsCut stages.Version turn bytes = length bytes < width numbers.Version
+  IsCut stages.Field turn bytes = FieldIsCut turn bytes
 
   -- the bytes are the heading, fields that could all be taken and led here, and the rest
   pub record FieldsLead (p : Progress V) (bytes rest : List ℕ) : Type 0 where
@@ -72,6 +57,12 @@ module _ {V : Type 0} (format : Format V) where
   Leads stages.Magic p bytes rest = (bytes ≡ rest) × (p ≡ opening)
   Leads stages.Version p bytes rest = (bytes ≡ number numbers.Magic MAGIC ++ rest) × (p ≡ opening)
   Leads stages.Field p bytes rest = FieldsLead p bytes rest
+
+  -- what the next number of a field led to: the field is whole and is taken, or it is a set that isn't whole yet
+  abbrev pub GoesOn : {P : Type 0} → Turns P → Progress V → P → List ℕ → Progress V → P → Type 0
+  GoesOn sets p part number q next =
+      ((next_at format p (sets.came part ++ number) ≡ Ok (q, [])) × (sets.came next ≡ []))
+      ⊎ ((q ≡ p) × IsOfSet p.turn × (sets.came next ≡ sets.came part ++ number))
 
   -- whatever follows the bytes, they are refused so
   abbrev pub IsFinal : List ℕ → CertError → Type 0
@@ -91,7 +82,7 @@ module _ {V : Type 0} (format : Format V) where
 
   -- a stream that refused its bytes, or that keeps of them what comes next as far as it came
   abbrev pub HasCome : Option CertError → Stream V → List ℕ → Type 0
-  HasCome None s fed = Leads s.stage s.progress fed s.kept × (length s.kept < next_width s.stage s.progress.turn)
+  HasCome None s fed = Leads s.stage s.progress fed s.kept × IsCut s.stage s.progress.turn s.kept
   HasCome (Some e) s fed = IsRefusal fed e
 
   -- the stream was fed these bytes

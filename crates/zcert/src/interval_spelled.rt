@@ -1,35 +1,76 @@
 //! Intervals in the format's version 1.
 
-ghost use Rattle.zcert.specs.Format.{interval_format};
-ghost use Rattle.zcert.specs.FormatLaw.Intervals.{interval_is_format};
+ghost use Rattle.std.specs.Prelude.{◌≡◌};
+ghost use Rattle.std.specs.Int.{w16, cast_signed};
+ghost use Rattle.zdomain.specs.Interval.{interval_of};
+ghost use Rattle.zcert.specs.Begun.{ends_turns};
+ghost use Rattle.zcert.specs.Format.{interval_format, nonempty};
+ghost use Rattle.zcert.specs.FormatLaw.Intervals.{interval_is_format, intervals_are_turns};
 
 use crate::error::CertError;
-use crate::limits::{VALUE_BYTES, VERSION};
+use crate::limits::{END_BYTES, VALUE_BYTES, VERSION};
 use crate::spelled::Spelled;
 use crate::steps::word_of;
 use std::alloc::AllocError;
 use zdomain::Interval;
 
+/// What has come of an interval.
+#[derive(Clone, Copy)]
+pub enum Begun {
+    Nothing,
+    /// Its lower end, as a word without sign.
+    Lower(u16),
+}
+
+// The interval between two ends, which are words without sign.
+fn interval_between(lo: u16, hi: u16) -> Result<Interval, CertError>
+    ensures { result ≡ nonempty (interval_of (cast_signed w16 lo) (cast_signed w16 hi)) }
+{
+    match Interval::new(lo.cast_signed(), hi.cast_signed()) {
+        Some(values) => Ok(values),
+        None => Err(CertError::EmptyInterval),
+    }
+}
+
 impl Spelled for Interval {
+    type Partial = Begun;
+
     ghost format = { interval_format };
 
+    ghost turns = { ends_turns };
+
     ghost is_format = { interval_is_format };
+
+    ghost are_turns = { intervals_are_turns };
 
     fn version() -> u8 {
         VERSION
     }
 
-    fn size() -> usize {
-        VALUE_BYTES
+    fn unbegun() -> Begun {
+        Begun::Nothing
     }
 
-    fn read_from(bytes: &[u8]) -> Result<(Interval, &[u8]), CertError> {
-        let (lo, rest) = word_of(bytes)?;
-        let (hi, rest) = word_of(rest)?;
-        match Interval::new(lo.cast_signed(), hi.cast_signed()) {
-            Some(values) => Ok((values, rest)),
-            None => Err(CertError::EmptyInterval),
+    fn awaited(_partial: &Begun) -> usize {
+        END_BYTES
+    }
+
+    fn read_next(partial: &mut Begun, number: &[u8]) -> Result<Option<Interval>, CertError> {
+        let end = word_of(number);
+        match *partial {
+            Begun::Nothing => {
+                *partial = Begun::Lower(end);
+                Ok(None)
+            }
+            Begun::Lower(lo) => {
+                *partial = Begun::Nothing;
+                Ok(Some(interval_between(lo, end)?))
+            }
         }
+    }
+
+    fn length(self) -> usize {
+        VALUE_BYTES
     }
 
     fn write_to(self, out: &mut Vec<u8>) -> Result<(), AllocError> {

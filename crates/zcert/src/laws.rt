@@ -1,17 +1,14 @@
 //! What holds of all certificates: each function here is empty, and its contract is a law.
 
-ghost use Rattle.std.specs.Prelude.{◌≡◌, ◌+◌, ◌++◌, List, Ok};
+ghost use Rattle.std.specs.Prelude.{◌≡◌, ◌++◌, List, Ok};
 ghost use Rattle.std.specs.List.{flat_map};
 ghost use Rattle.zcert.specs.declared.field.Field.{Field};
 ghost use Rattle.zcert.specs.Certificate.{Certificate};
-ghost use Rattle.zcert.specs.Format.{interval_format};
 ghost use Rattle.zcert.specs.Spelling.{heading, spelling, HasSpelling};
 ghost use Rattle.zcert.specs.Reading.{reading};
 ghost use Rattle.zcert.specs.Fields.{field_bytes, Makes};
 ghost use Rattle.zcert.specs.Refusal.{RefuseInTurn, RefuseAtEnd, RefuseOutOfTurn};
-ghost use Rattle.zcert.specs.Longest.{IsDecidedBy, NoneIsLonger};
 
-use crate::limits::LARGEST;
 use crate::spelled::Spelled;
 
 /// The spelling of a certificate is read as that certificate, and no other certificate has it.
@@ -35,11 +32,4 @@ pub fn builders_refuse_as_readers<V: Spelled>()
     ensures in_turn { RefuseInTurn V.format }
     ensures out_of_turn { RefuseOutOfTurn V }
     ensures at_end { RefuseAtEnd V.format }
-{}
-
-/// What is read of a file is decided by its first [`LARGEST`] bytes and one more: a reader of files needs no further ones, and
-/// answers of a longer file what its first bytes say, or that bytes follow the certificate. No certificate is longer.
-pub fn largest_decides()
-    ensures decided { IsDecidedBy interval_format (LARGEST + 1) }
-    ensures none_longer { NoneIsLonger interval_format LARGEST }
 {}

@@ -25,10 +25,7 @@ pub use builder::CertBuilder;
 pub use certificate::Certificate;
 pub use error::CertError;
 pub use field::{Field, Header, Turn};
-pub use laws::{
-    builders_refuse_as_readers, fields_make_certificates, largest_decides, spellings_are_read,
-};
-pub use limits::LARGEST;
+pub use laws::{builders_refuse_as_readers, fields_make_certificates, spellings_are_read};
 pub use parts::{Instruction, Range, Routine};
 pub use reading::read;
 pub use spelled::Spelled;

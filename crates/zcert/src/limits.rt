@@ -33,19 +33,14 @@ pub const FIXED_BYTES: usize = 27;
 /// The bytes of a range.
 pub const RANGE_BYTES: usize = 4;
 
-/// The bytes of an interval.
-pub const VALUE_BYTES: usize = 4;
+/// The bytes of an end of an interval.
+pub const END_BYTES: usize = 2;
 
-/// The bytes of a routine.
-pub const ROUTINE_BYTES: usize = 9;
+/// The bytes of an interval.
+pub const VALUE_BYTES: usize = 2 * END_BYTES;
+
+/// The bytes of a routine before its result.
+pub const ROUTINE_BYTES: usize = 5;
 
 /// The bytes of an instruction before its values.
 pub const HEADER_BYTES: usize = 7;
-
-/// No certificate has more bytes, by the limits above. So many and one more decide what is read of a file.
-pub const LARGEST: usize = FIXED_BYTES
-    + MAX_RANGES as usize * RANGE_BYTES
-    + GLOBALS as usize * VALUE_BYTES
-    + MAX_ROUTINES as usize * ROUTINE_BYTES
-    + MAX_INSTRUCTIONS as usize
-        * (HEADER_BYTES + (MAX_LOCALS as usize + MAX_HEIGHT as usize) * VALUE_BYTES);

@@ -1,9 +1,10 @@
-//! What comes next of a certificate's file, read at the front of its bytes.
+//! What comes next of a certificate's file, read from all of its bytes.
 
-ghost use Rattle.std.specs.Prelude.{◌≡◌, ◌<◌, length, IfOk, IfErr, OnErr, Ok, Err};
-ghost use Rattle.zcert.specs.Numbers.{Version, LocalCount, Height, Release, Magic};
+ghost use Rattle.std.specs.Prelude.{◌≡◌, ◌≢◌, ◌++◌, [], length, IfOk, IfErr, IfSome, OnOk, Ok, Err, None};
 ghost use Rattle.zcert.specs.Reading.{magic_at, version_at};
 ghost use Rattle.zcert.specs.Fields.{field_at, next_at, NextAdds};
+ghost use Rattle.zcert.specs.Turns.{IsOfSet, field_width};
+ghost use Rattle.zcert.specs.Streaming.{GoesOn};
 ghost use Rattle.zcert.specs.View.{Gives, Refuses};
 
 use crate::builder::CertBuilder;
@@ -13,77 +14,104 @@ use crate::limits::MAGIC;
 use crate::spelled::Spelled;
 use crate::steps::{byte_of, long_of, serial_of, word_of};
 
-// What follows the magic.
+// Whether it is the magic.
 #[tactic(auto, unfolding(crate::specs::Reading::magic_at))]
-pub(crate) fn magic_of(bytes: &[u8]) -> Result<&[u8], CertError>
-    ensures { Gives (λ rest. rest.now) result (magic_at bytes.now) }
+pub(crate) fn magic_of(number: &[u8]) -> Result<(), CertError>
+    requires { length number.now ≡ 4 }
+    ensures { Gives (λ u. []) result (magic_at number.now) }
 {
-    let (magic, rest) = long_of(bytes)?;
-    if magic != MAGIC {
+    if long_of(number) != MAGIC {
         return Err(CertError::Magic);
     }
-    Ok(rest)
+    Ok(())
 }
 
-// What follows the version.
+// Whether it is the version.
 #[tactic(auto, unfolding(crate::specs::Reading::version_at))]
-pub(crate) fn version_of<V: Spelled>(bytes: &[u8]) -> Result<&[u8], CertError>
-    ensures { Gives (λ rest. rest.now) result (version_at V.format.version bytes.now) }
+pub(crate) fn version_of<V: Spelled>(number: &[u8]) -> Result<(), CertError>
+    requires { length number.now ≡ 1 }
+    ensures { Gives (λ u. []) result (version_at V.format.version number.now) }
 {
-    let (version, rest) = byte_of(bytes)?;
-    if version != V::version() {
+    if byte_of(number) != V::version() {
         return Err(CertError::Version);
     }
-    Ok(rest)
+    Ok(())
 }
 
-// What was read, as a field of a kind.
-macro_rules! field {
+// The field whose turn it is, where that isn't a set: then all of it is one number, whatever has come of a set.
+fn number_of<V: Spelled>(
+    turn: Turn,
+    number: &[u8],
+    partial: &V::Partial,
+) -> Result<Field<V>, CertError>
+    requires other { IsOfSet turn → ⊥ }
+    requires fits { length number.now ≡ field_width V.turns turn partial.now }
+    ensures { Gives (λ field. (field, [])) result (field_at V.format turn number.now) }
+{
+    match turn {
+        Turn::Release => Ok(Field::Release(word_of(number))),
+        Turn::Serial => Ok(Field::Serial(serial_of(number))),
+        Turn::Checksum => Ok(Field::Checksum(word_of(number))),
+        Turn::LoadedLength => Ok(Field::LoadedLength(long_of(number))),
+        Turn::RangeCount => Ok(Field::RangeCount(word_of(number))),
+        Turn::RangeFirst { .. } => Ok(Field::RangeFirst(word_of(number))),
+        Turn::RangeLast { .. } => Ok(Field::RangeLast(word_of(number))),
+        Turn::RoutineCount => Ok(Field::RoutineCount(word_of(number))),
+        Turn::RoutineAddress { .. } => Ok(Field::RoutineAddress(long_of(number))),
+        Turn::LocalCount { .. } => Ok(Field::LocalCount(byte_of(number))),
+        Turn::InstructionCount => Ok(Field::InstructionCount(long_of(number))),
+        Turn::InstructionAddress { .. } => Ok(Field::InstructionAddress(long_of(number))),
+        Turn::RoutineNumber { .. } => Ok(Field::RoutineNumber(word_of(number))),
+        Turn::Height { .. } => Ok(Field::Height(byte_of(number))),
+        Turn::Complete => Err(CertError::Trailing),
+        Turn::Global { .. } | Turn::RoutineResult { .. } | Turn::Value { .. } => unreachable!(),
+    }
+}
+
+// A set of which the next number was read, as a field of a kind.
+macro_rules! set {
     ($kind:ident, $read:expr) => {{
-        let (value, rest) = $read?;
-        Ok((Field::$kind(value), rest))
+        match $read? {
+            Some(set) => Ok(Some(Field::$kind(set))),
+            None => Ok(None),
+        }
     }};
 }
 
-// The field whose turn it is.
-fn field_of<V: Spelled>(turn: Turn, bytes: &[u8]) -> Result<(Field<V>, &[u8]), CertError>
-    ensures { Gives (λ x. (x.0, x.1.now)) result (field_at V.format turn bytes.now) }
+// The field whose turn it is, by the next of its numbers: all of it, but for a set that needs more.
+fn field_of<V: Spelled>(
+    turn: Turn,
+    partial: &mut V::Partial,
+    number: &[u8],
+) -> Result<Option<Field<V>>, CertError>
+    requires part { (IsOfSet turn → ⊥) → V.turns.came partial.old ≡ [] }
+    requires fits { length number.now ≡ field_width V.turns turn partial.old }
+    ensures more { result ≡ Ok None → (V.turns.came partial.new ≡ V.turns.came partial.old ++ number.now) × IsOfSet turn }
+    ensures whole { IfOk result (λ found. IfSome found (λ field. (field_at V.format turn (V.turns.came partial.old ++ number.now) ≡ Ok (field, [])) × (V.turns.came partial.new ≡ []))) }
+    ensures refused { IfErr result (λ e. (field_at V.format turn (V.turns.came partial.old ++ number.now) ≡ Err e) × (e ≢ CertError.Truncated)) }
 {
     match turn {
-        Turn::Release => field!(Release, word_of(bytes)),
-        Turn::Serial => field!(Serial, serial_of(bytes)),
-        Turn::Checksum => field!(Checksum, word_of(bytes)),
-        Turn::LoadedLength => field!(LoadedLength, long_of(bytes)),
-        Turn::RangeCount => field!(RangeCount, word_of(bytes)),
-        Turn::RangeFirst { .. } => field!(RangeFirst, word_of(bytes)),
-        Turn::RangeLast { .. } => field!(RangeLast, word_of(bytes)),
-        Turn::Global { .. } => field!(Global, V::read_from(bytes)),
-        Turn::RoutineCount => field!(RoutineCount, word_of(bytes)),
-        Turn::RoutineAddress { .. } => field!(RoutineAddress, long_of(bytes)),
-        Turn::LocalCount { .. } => field!(LocalCount, byte_of(bytes)),
-        Turn::RoutineResult { .. } => field!(RoutineResult, V::read_from(bytes)),
-        Turn::InstructionCount => field!(InstructionCount, long_of(bytes)),
-        Turn::InstructionAddress { .. } => field!(InstructionAddress, long_of(bytes)),
-        Turn::RoutineNumber { .. } => field!(RoutineNumber, word_of(bytes)),
-        Turn::Height { .. } => field!(Height, byte_of(bytes)),
-        Turn::Value { .. } => field!(Value, V::read_from(bytes)),
-        Turn::Complete => Err(CertError::Trailing),
+        Turn::Global { .. } => set!(Global, V::read_next(partial, number)),
+        Turn::RoutineResult { .. } => set!(RoutineResult, V::read_next(partial, number)),
+        Turn::Value { .. } => set!(Value, V::read_next(partial, number)),
+        _ => Ok(Some(number_of(turn, number, partial)?)),
     }
 }
 
-// Reads the next field and takes it, and answers what follows it.
-pub(crate) fn next_of<'a, V: Spelled>(
+// Reads the next number of the field whose turn it is, and takes the field where it is whole.
+pub(crate) fn next_of<V: Spelled>(
     builder: &mut CertBuilder<V>,
-    bytes: &'a [u8],
-) -> Result<&'a [u8], CertError>
-    ensures ok { IfOk result (λ rest. next_at V.format builder.old bytes.now ≡ Ok (builder.new, rest.now)) }
-    ensures shorter { IfOk result (λ rest. length rest.now < length bytes.now) }
-    ensures refused { IfErr result (λ e. Refuses e (next_at V.format builder.old bytes.now)) }
-    ensures cut { result ≡ Err CertError.Truncated → field_at V.format builder.old.turn bytes.now ≡ Err CertError.Truncated }
-    ensures same { OnErr result (builder.new ≡ builder.old) }
-    ensures memory { result ≡ Err CertError.OutOfMemory → NextAdds V.format builder.old bytes.now }
+    partial: &mut V::Partial,
+    number: &[u8],
+) -> Result<(), CertError>
+    requires part { (IsOfSet builder.old.turn → ⊥) → V.turns.came partial.old ≡ [] }
+    requires fits { length number.now ≡ field_width V.turns builder.old.turn partial.old }
+    ensures on { OnOk result (GoesOn V.format V.turns builder.old partial.old number.now builder.new partial.new) }
+    ensures refused { IfErr result (λ e. Refuses e (next_at V.format builder.old (V.turns.came partial.old ++ number.now)) × (e ≢ CertError.Truncated)) }
+    ensures memory { result ≡ Err CertError.OutOfMemory → NextAdds V.format builder.old (V.turns.came partial.old ++ number.now) }
 {
-    let (field, rest) = field_of(builder.turn(), bytes)?;
-    builder.take(field)?;
-    Ok(rest)
+    if let Some(field) = field_of(builder.turn(), partial, number)? {
+        builder.take(field)?;
+    }
+    Ok(())
 }

@@ -1,8 +1,9 @@
 //! How far the file of a certificate has come.
 
-ghost use Rattle.std.specs.Prelude.{◌≡◌, ◌≢◌, ◌+◌, ◌<◌, ◌≤◌, ◌++◌, ℕ, List, [], Err, IfOk, IfErr, IfSome, OnErr, OnOk, Ok, None, length};
+ghost use Rattle.std.specs.Prelude.{◌≡◌, ◌≢◌, ◌+◌, ◌<◌, ◌≤◌, ◌++◌, ℕ, List, [], IfOk, IfErr, IfSome, OnOk, Ok, None, length};
 ghost use Rattle.zcert.specs.Building.{opening};
-ghost use Rattle.zcert.specs.Streaming.{Leads, IsRefusal, next_width, field_width};
+ghost use Rattle.zcert.specs.Streaming.{Leads, IsRefusal};
+ghost use Rattle.zcert.specs.Turns.{IsAwaiting, IsPartOf, next_width, field_width};
 ghost use Rattle.zcert.specs.declared.stage.Stage.{Stage as AStage};
 ghost use Rattle.zcert.specs.declared.stage.Stage.TheVariants as stages;
 
@@ -17,14 +18,15 @@ use arrayvec::ArrayVec;
 use std::alloc::Global;
 use std::mem;
 
-/// The most bytes that are kept of what comes next.
+/// The most bytes that are kept of a number.
 const KEPT: usize = 8;
 
-/// What comes next of a file, the fields before it, and the bytes of it that came.
+/// What comes next of a file, the fields before it, what has come of a set, and the bytes that came of its next number.
 #[derive(Drop)]
 pub struct Reader<V: Spelled> {
     pub stage: Stage,
     pub builder: CertBuilder<V>,
+    pub partial: V::Partial,
     pub kept: ArrayVec<u8, KEPT>,
 }
 
@@ -33,76 +35,81 @@ impl<V: Spelled> Reader<V> {
     pub fn new(alloc: Global) -> Reader<V>
         ensures stage { result.stage ≡ stages.Magic }
         ensures builder { result.builder ≡ opening }
+        ensures partial { V.turns.came result.partial ≡ [] }
         ensures kept { result.kept.items ≡ [] }
     {
         Reader {
             stage: Stage::Magic,
             builder: CertBuilder::new(alloc),
+            partial: V::unbegun(),
             kept: ArrayVec::new(),
         }
     }
 
-    /// How many bytes that takes which comes next.
+    /// How many bytes the number takes that comes next.
     fn width(&self) -> usize
-        ensures value { result ≡ next_width V.format self.now.stage self.now.builder.turn }
+        ensures value { result ≡ next_width V.turns self.now.stage self.now.builder.turn self.now.partial }
+        ensures some { 0 < result }
         ensures few { result ≤ 8 }
     {
         match self.stage {
             Stage::Magic => 4,
             Stage::Version => 1,
-            Stage::Field => width_of::<V>(self.builder.turn()),
+            Stage::Field => width_of::<V>(self.builder.turn(), &self.partial),
         }
     }
 
-    /// Reads what comes next at the front of the bytes, and answers what follows it. Where it is cut off, nothing changes.
-    fn next<'a>(&mut self, bytes: &'a [u8]) -> Result<&'a [u8], CertError>
-        requires some { 0 < length bytes.now }
-        ensures led { IfOk result (λ rest. (fed : List ℕ) → Leads V.format self.old.stage self.old.builder fed bytes.now → Leads V.format self.new.stage self.new.builder fed rest.now) }
-        ensures left { IfOk result (λ rest. length rest.now + next_width V.format self.old.stage self.old.builder.turn ≡ length bytes.now) }
-        ensures cut { result ≡ Err CertError.Truncated → length bytes.now < next_width V.format self.old.stage self.old.builder.turn }
-        ensures same { OnErr result ((self.new.stage ≡ self.old.stage) × (self.new.builder ≡ self.old.builder)) }
+    /// Reads the number that comes next from all of its bytes.
+    fn step(&mut self, number: &[u8]) -> Result<(), CertError>
+        requires some { 0 < length number.now }
+        requires fits { length number.now ≡ next_width V.turns self.old.stage self.old.builder.turn self.old.partial }
+        requires part { IsPartOf V.turns self.old.stage self.old.builder.turn self.old.partial }
+        ensures led { OnOk result ((fed : List ℕ) → Leads V.format self.old.stage self.old.builder fed (V.turns.came self.old.partial ++ number.now) → Leads V.format self.new.stage self.new.builder fed (V.turns.came self.new.partial)) }
+        ensures part { OnOk result (IsPartOf V.turns self.new.stage self.new.builder.turn self.new.partial) }
         ensures kept { self.new.kept ≡ self.old.kept }
-        ensures refused { IfErr result (λ e. e ≢ CertError.Truncated → (fed : List ℕ) → Leads V.format self.old.stage self.old.builder fed bytes.now → IsRefusal V.format fed e) }
+        ensures refused { IfErr result (λ e. (fed : List ℕ) → Leads V.format self.old.stage self.old.builder fed (V.turns.came self.old.partial ++ number.now) → IsRefusal V.format fed e) }
     {
         match self.stage {
             Stage::Magic => {
-                let rest = magic_of(bytes)?;
+                magic_of(number)?;
                 self.stage = Stage::Version;
-                Ok(rest)
+                Ok(())
             }
             Stage::Version => {
-                let rest = version_of::<V>(bytes)?;
+                version_of::<V>(number)?;
                 self.stage = Stage::Field;
-                Ok(rest)
+                Ok(())
             }
-            Stage::Field => next_of(&mut self.builder, bytes),
+            Stage::Field => next_of(&mut self.builder, &mut self.partial, number),
         }
     }
 
-    /// Reads what comes next, unless it is cut off.
+    /// Reads the number that comes next, unless it is cut off, and answers what follows it.
     fn next_whole<'a>(&mut self, bytes: &'a [u8]) -> Result<Option<&'a [u8]>, CertError>
-        ensures led { IfOk result (λ found. IfSome found (λ rest. (fed : List ℕ) → Leads V.format self.old.stage self.old.builder fed bytes.now → Leads V.format self.new.stage self.new.builder fed rest.now)) }
+        requires part { IsPartOf V.turns self.old.stage self.old.builder.turn self.old.partial }
+        ensures led { IfOk result (λ found. IfSome found (λ rest. (fed : List ℕ) → Leads V.format self.old.stage self.old.builder fed (V.turns.came self.old.partial ++ bytes.now) → Leads V.format self.new.stage self.new.builder fed (V.turns.came self.new.partial ++ rest.now))) }
+        ensures part { OnOk result (IsPartOf V.turns self.new.stage self.new.builder.turn self.new.partial) }
         ensures shorter { IfOk result (λ found. IfSome found (λ rest. length rest.now < length bytes.now)) }
-        ensures cut { result ≡ Ok None → (length bytes.now < next_width V.format self.new.stage self.new.builder.turn) × (self.new.stage ≡ self.old.stage) × (self.new.builder ≡ self.old.builder) }
+        ensures cut { result ≡ Ok None → (length bytes.now < next_width V.turns self.new.stage self.new.builder.turn self.new.partial) × (self.new ≡ self.old) }
         ensures kept { self.new.kept ≡ self.old.kept }
-        ensures refused { IfErr result (λ e. (fed : List ℕ) → Leads V.format self.old.stage self.old.builder fed bytes.now → IsRefusal V.format fed e) }
+        ensures refused { IfErr result (λ e. (fed : List ℕ) → Leads V.format self.old.stage self.old.builder fed (V.turns.came self.old.partial ++ bytes.now) → IsRefusal V.format fed e) }
     {
-        if bytes.is_empty() {
+        let width = self.width();
+        if bytes.len() < width {
             return Ok(None);
         }
-        match self.next(bytes) {
-            Ok(rest) => Ok(Some(rest)),
-            Err(CertError::Truncated) => Ok(None),
-            Err(error) => Err(error),
-        }
+        let (number, rest) = bytes.split_at(width);
+        self.step(number)?;
+        Ok(Some(rest))
     }
 
     /// Reads on as long as what comes next is whole, and answers what is left.
     fn read_on<'a>(&mut self, bytes: &'a [u8]) -> Result<&'a [u8], CertError>
-        ensures led { IfOk result (λ rest. (fed : List ℕ) → Leads V.format self.old.stage self.old.builder fed bytes.now → Leads V.format self.new.stage self.new.builder fed rest.now) }
-        ensures cut { IfOk result (λ rest. length rest.now < next_width V.format self.new.stage self.new.builder.turn) }
+        requires part { IsPartOf V.turns self.old.stage self.old.builder.turn self.old.partial }
+        ensures led { IfOk result (λ rest. (fed : List ℕ) → Leads V.format self.old.stage self.old.builder fed (V.turns.came self.old.partial ++ bytes.now) → Leads V.format self.new.stage self.new.builder fed (V.turns.came self.new.partial ++ rest.now)) }
+        ensures awaiting { IfOk result (λ rest. IsAwaiting V.turns self.new.stage self.new.builder.turn self.new.partial rest.now) }
         ensures kept { self.new.kept ≡ self.old.kept }
-        ensures refused { IfErr result (λ e. (fed : List ℕ) → Leads V.format self.old.stage self.old.builder fed bytes.now → IsRefusal V.format fed e) }
+        ensures refused { IfErr result (λ e. (fed : List ℕ) → Leads V.format self.old.stage self.old.builder fed (V.turns.came self.old.partial ++ bytes.now) → IsRefusal V.format fed e) }
     {
         let mut rest = bytes;
         while let Some(after) = self.next_whole(rest)? {
@@ -113,10 +120,11 @@ impl<V: Spelled> Reader<V> {
 
     /// Reads on where no bytes are kept, and keeps those that are left.
     fn read_rest(&mut self, bytes: &[u8]) -> Result<(), CertError>
-        requires { self.old.kept.items ≡ [] }
-        ensures led { OnOk result ((fed : List ℕ) → Leads V.format self.old.stage self.old.builder fed bytes.now → Leads V.format self.new.stage self.new.builder fed self.new.kept.items) }
-        ensures cut { OnOk result (length self.new.kept.items < next_width V.format self.new.stage self.new.builder.turn) }
-        ensures refused { IfErr result (λ e. (fed : List ℕ) → Leads V.format self.old.stage self.old.builder fed bytes.now → IsRefusal V.format fed e) }
+        requires none { self.old.kept.items ≡ [] }
+        requires part { IsPartOf V.turns self.old.stage self.old.builder.turn self.old.partial }
+        ensures led { OnOk result ((fed : List ℕ) → Leads V.format self.old.stage self.old.builder fed (V.turns.came self.old.partial ++ bytes.now) → Leads V.format self.new.stage self.new.builder fed (V.turns.came self.new.partial ++ self.new.kept.items)) }
+        ensures awaiting { OnOk result (IsAwaiting V.turns self.new.stage self.new.builder.turn self.new.partial self.new.kept.items) }
+        ensures refused { IfErr result (λ e. (fed : List ℕ) → Leads V.format self.old.stage self.old.builder fed (V.turns.came self.old.partial ++ bytes.now) → IsRefusal V.format fed e) }
     {
         let rest = self.read_on(bytes)?;
         let _width = self.width();
@@ -126,10 +134,10 @@ impl<V: Spelled> Reader<V> {
 
     /// Takes a piece of the file.
     pub fn take(&mut self, piece: &[u8]) -> Result<(), CertError>
-        requires { length self.old.kept.items < next_width V.format self.old.stage self.old.builder.turn }
-        ensures led { OnOk result ((fed : List ℕ) → Leads V.format self.old.stage self.old.builder fed self.old.kept.items → Leads V.format self.new.stage self.new.builder (fed ++ piece.now) self.new.kept.items) }
-        ensures cut { OnOk result (length self.new.kept.items < next_width V.format self.new.stage self.new.builder.turn) }
-        ensures refused { IfErr result (λ e. (fed : List ℕ) → Leads V.format self.old.stage self.old.builder fed self.old.kept.items → IsRefusal V.format (fed ++ piece.now) e) }
+        requires { IsAwaiting V.turns self.old.stage self.old.builder.turn self.old.partial self.old.kept.items }
+        ensures led { OnOk result ((fed : List ℕ) → Leads V.format self.old.stage self.old.builder fed (V.turns.came self.old.partial ++ self.old.kept.items) → Leads V.format self.new.stage self.new.builder (fed ++ piece.now) (V.turns.came self.new.partial ++ self.new.kept.items)) }
+        ensures awaiting { OnOk result (IsAwaiting V.turns self.new.stage self.new.builder.turn self.new.partial self.new.kept.items) }
+        ensures refused { IfErr result (λ e. (fed : List ℕ) → Leads V.format self.old.stage self.old.builder fed (V.turns.came self.old.partial ++ self.old.kept.items) → IsRefusal V.format (fed ++ piece.now) e) }
     {
         if self.kept.is_empty() {
             return self.read_rest(piece);
@@ -144,19 +152,20 @@ impl<V: Spelled> Reader<V> {
         self.read_rest(rest)
     }
 
-    /// Reads what comes next, of which these are the bytes that lack.
+    /// Reads the number that comes next, of which these are the bytes that lack.
     fn complete(&mut self, front: &[u8]) -> Result<(), CertError>
         requires some { 0 < length self.old.kept.items }
-        requires fits { length self.old.kept.items + length front.now ≡ next_width V.format self.old.stage self.old.builder.turn }
-        ensures led { OnOk result ((fed : List ℕ) → Leads V.format self.old.stage self.old.builder fed self.old.kept.items → Leads V.format self.new.stage self.new.builder (fed ++ front.now) []) }
-        ensures kept { OnOk result (self.new.kept.items ≡ []) }
-        ensures refused { IfErr result (λ e. (fed : List ℕ) → Leads V.format self.old.stage self.old.builder fed self.old.kept.items → IsRefusal V.format (fed ++ front.now) e) }
+        requires fits { length self.old.kept.items + length front.now ≡ next_width V.turns self.old.stage self.old.builder.turn self.old.partial }
+        requires part { IsPartOf V.turns self.old.stage self.old.builder.turn self.old.partial }
+        ensures led { OnOk result ((fed : List ℕ) → Leads V.format self.old.stage self.old.builder fed (V.turns.came self.old.partial ++ self.old.kept.items) → Leads V.format self.new.stage self.new.builder (fed ++ front.now) (V.turns.came self.new.partial)) }
+        ensures part { OnOk result (IsPartOf V.turns self.new.stage self.new.builder.turn self.new.partial) }
+        ensures kept { self.new.kept.items ≡ [] }
+        ensures refused { IfErr result (λ e. (fed : List ℕ) → Leads V.format self.old.stage self.old.builder fed (V.turns.came self.old.partial ++ self.old.kept.items) → IsRefusal V.format (fed ++ front.now) e) }
     {
         let _width = self.width();
         let mut whole = mem::replace(&mut self.kept, ArrayVec::new());
         let _kept = whole.try_extend_from_slice(front);
-        self.next(whole.as_slice())?;
-        Ok(())
+        self.step(whole.as_slice())
     }
 
     /// The certificate, where the file has come whole; else it is cut off.
@@ -171,9 +180,10 @@ impl<V: Spelled> Reader<V> {
     }
 }
 
-// How many bytes the field takes whose turn it is. Where none comes, one byte is too many.
-fn width_of<V: Spelled>(turn: Turn) -> usize
-    ensures value { result ≡ field_width V.format turn }
+// How many bytes the number takes that comes next of the field whose turn it is. Where none comes, one byte is too many.
+fn width_of<V: Spelled>(turn: Turn, partial: &V::Partial) -> usize
+    ensures value { result ≡ field_width V.turns turn partial.now }
+    ensures some { 0 < result }
     ensures few { result ≤ 8 }
 {
     match turn {
@@ -190,6 +200,8 @@ fn width_of<V: Spelled>(turn: Turn) -> usize
         | Turn::InstructionCount
         | Turn::InstructionAddress { .. } => 4,
         Turn::LocalCount { .. } | Turn::Height { .. } | Turn::Complete => 1,
-        Turn::Global { .. } | Turn::RoutineResult { .. } | Turn::Value { .. } => V::size(),
+        Turn::Global { .. } | Turn::RoutineResult { .. } | Turn::Value { .. } => V::awaited(
+            partial,
+        ),
     }
 }

@@ -1,9 +1,9 @@
 //! What a kind of sets has to offer, so that certificates can hold them.
 
-ghost use Rattle.std.specs.Prelude.{◌≡◌, ◌++◌, OnOk};
+ghost use Rattle.std.specs.Prelude.{◌≡◌, ◌≢◌, ◌<◌, ◌≤◌, ◌++◌, [], length, IfErr, IfOk, IfSome, None, Ok, Err, OnOk};
 ghost use Rattle.zcert.specs.Format.{Format};
 ghost use Rattle.zcert.specs.FormatLaw.{IsFormat};
-ghost use Rattle.zcert.specs.View.{Gives};
+ghost use Rattle.zcert.specs.Turns.{Turns, AreTurns};
 
 use crate::error::CertError;
 use std::alloc::AllocError;
@@ -11,22 +11,43 @@ use zdomain::Domain;
 
 /// Sets of words that a version of the format can write.
 ///
-/// Contracts see the format alone, so that what is proved of certificates holds for each kind of sets.
+/// Contracts see the format alone, so that what is proved of certificates holds for each kind of sets. A set is read number by number:
+/// what has come of it is kept as a value of the kind's own, so that a reader keeps few bytes wherever a file is cut.
 pub trait Spelled: Domain {
+    /// What has come of a set that isn't whole.
+    type Partial: Drop;
+
     /// How the version writes sets.
     ghost format: { Format Self };
+
+    /// The bytes by which an unfinished set came, and how many its next number takes.
+    ghost turns: { Turns Self.Partial };
 
     /// The version.
     fn version() -> u8
         ensures { result ≡ format.version };
 
-    /// How many bytes each set takes.
-    fn size() -> usize
-        ensures { result ≡ format.size };
+    /// A set of which nothing has come.
+    fn unbegun() -> Self::Partial
+        ensures { turns.came result ≡ [] };
 
-    /// The set at the front of the bytes, and what follows it.
-    fn read_from(bytes: &[u8]) -> Result<(Self, &[u8]), CertError>
-        ensures { Gives (λ x. (x.0, x.1.now)) result (format.value_at bytes.now) };
+    /// How many bytes the next number of a set takes: eight at most.
+    fn awaited(partial: &Self::Partial) -> usize
+        ensures value { result ≡ turns.awaited partial.now }
+        ensures some { 0 < result }
+        ensures few { result ≤ 8 };
+
+    /// Reads the next number of a set from all of its bytes. With its last number the set is whole, and nothing of another has come. A
+    /// set is refused for the first of its numbers that is wrong.
+    fn read_next(partial: &mut Self::Partial, number: &[u8]) -> Result<Option<Self>, CertError>
+        requires { length number.now ≡ turns.awaited partial.old }
+        ensures more { result ≡ Ok None → turns.came partial.new ≡ turns.came partial.old ++ number.now }
+        ensures whole { IfOk result (λ found. IfSome found (λ set. (format.value_at (turns.came partial.old ++ number.now) ≡ Ok (set, [])) × (turns.came partial.new ≡ []))) }
+        ensures refused { IfErr result (λ e. (format.value_at (turns.came partial.old ++ number.now) ≡ Err e) × (e ≢ CertError.Truncated)) };
+
+    /// How many bytes the set takes.
+    fn length(self) -> usize
+        ensures { result ≡ length (format.spelled self) };
 
     /// Writes the set behind the bytes that are there.
     fn write_to(self, out: &mut Vec<u8>) -> Result<(), AllocError>
@@ -38,4 +59,7 @@ pub trait Spelled: Domain {
 
     /// The law: what is read is spelled so, and what is spelled is read again.
     ghost is_format: { IsFormat format };
+
+    /// And without all bytes of its next number a set is cut off.
+    ghost are_turns: { AreTurns format turns };
 }

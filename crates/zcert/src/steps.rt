@@ -1,44 +1,38 @@
-//! Steps of reading: a number, and the serial number.
+//! Numbers and serial numbers, each from all of its bytes.
 
+ghost use Rattle.std.specs.Prelude.{◌≡◌, [], Ok, length};
 ghost use Rattle.zcert.specs.Steps.{serial_at, sized_at};
-ghost use Rattle.zcert.specs.View.{Gives};
 
-use crate::error::CertError;
 use byteorder::{BigEndian, ByteOrder};
 
 // A number of one byte, two and four.
-pub(crate) fn byte_of(bytes: &[u8]) -> Result<(u8, &[u8]), CertError>
-    ensures { Gives (λ x. (x.0, x.1.now)) result (sized_at 1 bytes.now) }
+#[tactic(auto, using(crate::specs::FormatLaw::Widths::sized_exact))]
+pub(crate) fn byte_of(bytes: &[u8]) -> u8
+    requires { length bytes.now ≡ 1 }
+    ensures { sized_at 1 bytes.now ≡ Ok (result, []) }
 {
-    match bytes {
-        [] => Err(CertError::Truncated),
-        [first, rest @ ..] => Ok((*first, rest)),
-    }
+    bytes[0]
 }
 
-pub(crate) fn word_of(bytes: &[u8]) -> Result<(u16, &[u8]), CertError>
-    ensures { Gives (λ x. (x.0, x.1.now)) result (sized_at 2 bytes.now) }
+#[tactic(auto, using(crate::specs::FormatLaw::Widths::sized_exact))]
+pub(crate) fn word_of(bytes: &[u8]) -> u16
+    requires { length bytes.now ≡ 2 }
+    ensures { sized_at 2 bytes.now ≡ Ok (result, []) }
 {
-    if bytes.len() < 2 {
-        return Err(CertError::Truncated);
-    }
-    Ok((BigEndian::read_u16(bytes), &bytes[2..]))
+    BigEndian::read_u16(bytes)
 }
 
-pub(crate) fn long_of(bytes: &[u8]) -> Result<(u32, &[u8]), CertError>
-    ensures { Gives (λ x. (x.0, x.1.now)) result (sized_at 4 bytes.now) }
+#[tactic(auto, using(crate::specs::FormatLaw::Widths::sized_exact))]
+pub(crate) fn long_of(bytes: &[u8]) -> u32
+    requires { length bytes.now ≡ 4 }
+    ensures { sized_at 4 bytes.now ≡ Ok (result, []) }
 {
-    if bytes.len() < 4 {
-        return Err(CertError::Truncated);
-    }
-    Ok((BigEndian::read_u32(bytes), &bytes[4..]))
+    BigEndian::read_u32(bytes)
 }
 
-pub(crate) fn serial_of(bytes: &[u8]) -> Result<([u8; 6], &[u8]), CertError>
-    ensures { Gives (λ x. (x.0, x.1.now)) result (serial_at bytes.now) }
+pub(crate) fn serial_of(bytes: &[u8]) -> [u8; 6]
+    requires { length bytes.now ≡ 6 }
+    ensures { serial_at bytes.now ≡ Ok (result, []) }
 {
-    match bytes {
-        [a, b, c, d, e, f, rest @ ..] => Ok(([*a, *b, *c, *d, *e, *f], rest)),
-        _ => Err(CertError::Truncated),
-    }
+    [bytes[0], bytes[1], bytes[2], bytes[3], bytes[4], bytes[5]]
 }

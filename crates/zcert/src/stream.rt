@@ -14,7 +14,7 @@ use std::marker::Model;
 use zdomain::Interval;
 
 /// Reads a certificate whose file comes in pieces, as `read` reads it whole, wherever it is cut. Of the bytes it keeps no more than
-/// eight. Once they are refused, it answers each call so. Clauses see what is kept of the bytes.
+/// eight, beside what has come of a set. Once they are refused, it answers each call so. Clauses see what is kept of the bytes.
 #[derive(Drop)]
 pub struct CertStream<V: Spelled = Interval> {
     reader: Reader<V>,
@@ -22,14 +22,15 @@ pub struct CertStream<V: Spelled = Interval> {
 }
 
 impl<V: Spelled> Model for CertStream<V> {
-    ghost use Rattle.std.specs.Prelude.{ℕ, List};
+    ghost use Rattle.std.specs.Prelude.{◌≡◌, ◌++◌, ℕ, List, None};
     ghost use Rattle.zcert.specs.Streaming.{Stream, IsFed};
+    ghost use Rattle.zcert.specs.Turns.{IsAwaiting};
 
     ghost Value = { Stream V };
 
-    ghost view = { λ s. record { stage = s.reader.stage; progress = s.reader.builder; kept = s.reader.kept.items; refused = s.refused } };
+    ghost view = { λ s. record { stage = s.reader.stage; progress = s.reader.builder; kept = V.turns.came s.reader.partial ++ s.reader.kept.items; refused = s.refused } };
 
-    ghost invariant = { λ s. (fed : List ℕ) × IsFed V.format (record { stage = s.reader.stage; progress = s.reader.builder; kept = s.reader.kept.items; refused = s.refused }) fed };
+    ghost invariant = { λ s. ((fed : List ℕ) × IsFed V.format (record { stage = s.reader.stage; progress = s.reader.builder; kept = V.turns.came s.reader.partial ++ s.reader.kept.items; refused = s.refused }) fed) × (s.refused ≡ None → IsAwaiting V.turns s.reader.stage s.reader.builder.turn s.reader.partial s.reader.kept.items) };
 }
 
 impl<V: Spelled> CertStream<V> {

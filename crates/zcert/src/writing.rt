@@ -103,14 +103,32 @@ fn put_instructions<V: Spelled>(out: &mut Vec<u8>, contents: &Contents<V>) -> Re
     Ok(())
 }
 
+// How many bytes sets take.
+fn room_of<V: Spelled>(values: &[V]) -> usize {
+    let mut room = 0_usize;
+    for value in values {
+        room = room.saturating_add(value.length());
+    }
+    room
+}
+
+// And routines.
+fn room_of_routines<V: Spelled>(routines: &[Routine<V>]) -> usize {
+    let mut room = routines.len().saturating_mul(ROUTINE_BYTES);
+    for routine in routines {
+        room = room.saturating_add(routine.result.length());
+    }
+    room
+}
+
 // How many bytes a certificate takes, so that they are taken at once.
 fn room_for<V: Spelled>(contents: &Contents<V>) -> usize {
     FIXED_BYTES
         .saturating_add(contents.ranges.len().saturating_mul(RANGE_BYTES))
-        .saturating_add(contents.globals.len().saturating_mul(V::size()))
-        .saturating_add(contents.routines.len().saturating_mul(ROUTINE_BYTES))
+        .saturating_add(room_of(&contents.globals))
+        .saturating_add(room_of_routines(&contents.routines))
         .saturating_add(contents.stored.len().saturating_mul(HEADER_BYTES))
-        .saturating_add(contents.values.len().saturating_mul(V::size()))
+        .saturating_add(room_of(&contents.values))
 }
 
 // All that a certificate says, apart from the vector, which would be dropped where any of these is refused.

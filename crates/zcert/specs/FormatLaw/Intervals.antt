@@ -1,17 +1,23 @@
 -- A proof of the law: intervals meet it.
-use Rattle.std.proofs.Common.{◌≡◌, ◌≢◌, ℕ, List, ◌++◌, Option, Some, None, Ok, Err, ℤ, FitsSigned, refl, sym, ap, subst, ◌∙◌, append_assoc, arith}
+use Rattle.std.proofs.Common.{◌≡◌, ℕ, List, [], ◌++◌, length, ◌<◌, Option, Some, None, Ok, Err, ℤ, FitsSigned, refl, sym, ap, subst, ◌∙◌, append_assoc, length-append, arith}
 use Rattle.std.specs.Int.{w16, cast_signed, cast_unsigned}
 use Rattle.std.proofs.lemmas.Int.{ints, to_z-of_z, of_z-to_z}
+use Rattle.byteorder.specs.Endian.{big_number}
+use Rattle.byteorder.specs.Numbers.{length-bytes_high_first}
 use Rattle.zdomain.specs.declared.interval.Interval.{Interval}
 use Rattle.zdomain.specs.Interval.{interval_of}
 use Rattle.zdomain.proofs.Ends.{from_ends, ends_of}
-use Rattle.zcert.specs.declared.error.CertError.TheVariants.{Truncated}
 use Rattle.zcert.specs.Numbers.{End, number, HasRoom}
-use Rattle.zcert.specs.Steps.{◌>>=◌, number_at}
+use Rattle.zcert.specs.Steps.{◌>>=◌, sized_at, number_at}
 use Rattle.zcert.specs.Format.{nonempty, interval_format}
-use Rattle.zcert.specs.FormatLaw.{IsBytes, Takes, IsPlain, IsOfWidth, IsFormat}
-use Rattle.zcert.specs.FormatLaw.Widths.{sized_then, of_none}
-use Rattle.zcert.specs.FormatLaw.Stepping.{IsBytes-append, IsBytes-number, Takes-then, bind_ok, ok_is, number_takes, number_again, plain_then, plain_ok, plain_sized}
+use Rattle.zcert.specs.Turns.{AreTurns}
+use Rattle.zcert.specs.Begun.{end_bytes, ends_turns}
+use Rattle.zcert.specs.declared.error.CertError.TheVariants.{Truncated}
+use Rattle.zcert.specs.declared.interval_spelled.Begun.{Begun}
+use Rattle.zcert.specs.declared.interval_spelled.Begun.TheVariants as begun
+use Rattle.zcert.specs.FormatLaw.{IsBytes, Takes, IsPlain, IsFormat}
+use Rattle.zcert.specs.FormatLaw.Widths.{IsOfWidth, same_whatever, sized_exact, sized_then, of_none}
+use Rattle.zcert.specs.FormatLaw.Stepping.{IsBytes-append, IsBytes-number, Takes-then, wide, bind_ok, ok_is, number_takes, number_again, plain_then, plain_ok, plain_sized}
 
 nonempty_is : (o : Option Interval) (i : Interval) → nonempty o ≡ Ok i → o ≡ Some i
 nonempty_is None i e = absurd cc
@@ -27,9 +33,15 @@ end_fits n room = omega (arith, ints)
 end_room : (z : ℤ) → FitsSigned w16 z → HasRoom End (cast_unsigned w16 z)
 end_room z fits = omega (arith, ints, fits.sfits)
 
--- two ends in order are read as the interval between them
-pub ends_read : (bytes after rest : List ℕ) (lo hi : ℕ) (i : Interval) → number_at End bytes ≡ Ok (lo, after) → number_at End after ≡ Ok (hi, rest) → Some i ≡ interval_of (cast_signed w16 lo) (cast_signed w16 hi) → interval_format.value_at bytes ≡ Ok (i, rest)
-ends_read bytes after rest lo hi i first second made = rw (first, second) (ap (λ o. nonempty o >>= λ x. Ok (x, rest)) (sym made))
+-- the bytes of a word are those that spell it
+pub word_bytes : (bytes : List ℕ) (n : ℕ) → IsBytes bytes → length bytes ≡ 2 → sized_at 2 bytes ≡ Ok (n, []) → number End n ≡ bytes
+word_bytes bytes n fits two e =
+    let same : big_number 2 bytes ≡ n = ap (λ (p : ℕ × List ℕ). p.0) (ok_is (big_number 2 bytes, []) (n, []) (sym (sized_exact 2 bytes two) ∙ e)) in
+    rw (← same) (wide End bytes two fits)
+
+-- behind its lower end a set is read by its upper end
+pub ends_read : (bytes : List ℕ) (lo hi : ℕ) → HasRoom End lo → sized_at 2 bytes ≡ Ok (hi, []) → interval_format.value_at (number End lo ++ bytes) ≡ (nonempty (interval_of (cast_signed w16 lo) (cast_signed w16 hi)) >>= λ i. Ok (i, []))
+ends_read bytes lo hi room e = rw (number_again End lo bytes room, e) refl
 
 -- an end that was passed on as a signed number
 pub passed_end : (z a : ℤ) (n : ℕ) → HasRoom End n → a ≡ cast_signed w16 n → z ≡ cast_signed w16 (cast_unsigned w16 a) → z ≡ cast_signed w16 n
@@ -75,15 +87,23 @@ interval_is_plain bytes =
     plain_then (number_at End lo.1) _ (plain_sized 2 lo.1) (λ hi.
     plain_then (nonempty (interval_of (cast_signed w16 lo.0) (cast_signed w16 hi.0))) _ (plain_nonempty (interval_of (cast_signed w16 lo.0) (cast_signed w16 hi.0))) (λ i. plain_ok (i, hi.1))))
 
-nonempty_is_whole : (o : Option Interval) → nonempty o ≢ Err Truncated
-nonempty_is_whole (Some i) e = absurd cc
-nonempty_is_whole None e = absurd cc
-
 -- two words
 interval_width : IsOfWidth 4 interval_format.value_at
 interval_width = sized_then 2 2 (λ lo bytes. number_at End bytes >>= λ hi. nonempty (interval_of (cast_signed w16 lo) (cast_signed w16 hi.0)) >>= λ i. Ok (i, hi.1)) (λ lo.
     sized_then 2 0 (λ hi bytes. nonempty (interval_of (cast_signed w16 lo) (cast_signed w16 hi)) >>= λ i. Ok (i, bytes)) (λ hi.
-    of_none (nonempty (interval_of (cast_signed w16 lo) (cast_signed w16 hi))) (nonempty_is_whole (interval_of (cast_signed w16 lo) (cast_signed w16 hi)))))
+    of_none (nonempty (interval_of (cast_signed w16 lo) (cast_signed w16 hi)))))
 
 pub interval_is_format : IsFormat interval_format
-interval_is_format = record { version = omega arith; takes = interval_takes; bytes = λ i has. IsBytes-append (number End (cast_unsigned w16 i.lo)) (number End (cast_unsigned w16 i.hi)) (IsBytes-number End (cast_unsigned w16 i.lo)) (IsBytes-number End (cast_unsigned w16 i.hi)); long = λ i. omega arith; again = interval_again; fixed = interval_width; some = omega arith; few = omega arith; plain = interval_is_plain }
+interval_is_format = record { version = omega arith; takes = interval_takes; bytes = λ i has. IsBytes-append (number End (cast_unsigned w16 i.lo)) (number End (cast_unsigned w16 i.hi)) (IsBytes-number End (cast_unsigned w16 i.lo)) (IsBytes-number End (cast_unsigned w16 i.hi)); long = λ i. omega arith; again = interval_again; none = refl; stays = same_whatever 4 interval_format.value_at interval_width; plain = interval_is_plain }
+
+-- without one of both ends an interval is cut off
+one_end_short : (b : Begun) (bytes : List ℕ) → length bytes < 2 → interval_format.value_at (end_bytes b ++ bytes) ≡ Err Truncated
+one_end_short begun.Nothing bytes short = interval_width.short bytes (omega (arith, short))
+one_end_short (begun.Lower lo) bytes short = interval_width.short (number End lo ++ bytes) (omega (arith, short, length-bytes_high_first 2 lo, length-append (number End lo) bytes))
+
+IsBytes-end : (b : Begun) → IsBytes (end_bytes b)
+IsBytes-end begun.Nothing = λ i. omega arith
+IsBytes-end (begun.Lower lo) = IsBytes-number End lo
+
+pub intervals_are_turns : AreTurns interval_format ends_turns
+intervals_are_turns = record { short = one_end_short; bytes = IsBytes-end }

@@ -67,7 +67,7 @@ IsBytes-high_first (suc k) n = by_place (λ i. get_or (big_bytes (suc k) n) i 0 
 pub IsBytes-number : (kind : Number) (n : ℕ) → IsBytes (number kind n)
 IsBytes-number kind n = IsBytes-high_first (width kind) n
 
-abbrev IsWide : ℕ → Type 0
+abbrev pub IsWide : ℕ → Type 0
 IsWide k = (bytes : List ℕ) → length bytes ≡ k → IsBytes bytes → big_bytes k (big_number k bytes) ≡ bytes
 
 wide_byte : IsWide 1
@@ -81,7 +81,7 @@ wide_word bytes e fits = be_bytes_2 bytes (big_number 2 bytes) e fits (omega ari
 wide_long : IsWide 4
 wide_long bytes e fits = be_bytes_4 bytes (big_number 4 bytes) e fits (omega arith)
 
-wide : (kind : Number) → IsWide (width kind)
+pub wide : (kind : Number) → IsWide (width kind)
 wide Magic = wide_long
 wide Version = wide_byte
 wide Release = wide_word
