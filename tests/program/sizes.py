@@ -362,6 +362,8 @@ GROWTH = [
     ("zcheck check", "routines that a call may enter", most_callees),
     ("zcheck check", "objects and properties", many_objects),
     ("zcheck check", "frozen ranges", most_ranges),
+    ("zcheck new", "what `read` of a certificate grows by", long_certificates),
+    ("zcheck finish", "what `check` grows by, which it calls", longest),
     ("zrule new", "objects and properties", many_objects),
     ("zfind find", "instructions", searched),
     ("zfind find", "routines", many_routines),

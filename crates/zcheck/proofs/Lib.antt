@@ -8,6 +8,8 @@ mod Heads
 mod Trees
 pub mod Headline
 pub mod Saves
+mod Streams
 mod Worked
 mod WorkedHeadline
+mod WorkedStreams
 pub mod Instances

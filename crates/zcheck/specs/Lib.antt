@@ -2,3 +2,4 @@ pub mod Numbers
 pub mod Tables
 pub mod Passes
 pub mod Acceptance
+pub mod Streaming

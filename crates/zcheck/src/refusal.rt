@@ -2,9 +2,11 @@
 
 ghost use Rattle.std.specs.Prelude.{◌≡◌};
 ghost use Rattle.zcheck.specs.declared.refusal.Refusal.TheVariants.{OutOfMemory};
+ghost use Rattle.zcheck.specs.declared.refusal.StreamRefusal.TheVariants.{Cert, Check};
 
 use std::alloc::AllocError;
 use thiserror::Error;
+use zcert::CertError;
 use zrule::Rule;
 
 /// A rule on the story and its tables (own). The first that is named here has the lowest number.
@@ -70,5 +72,32 @@ impl From<AllocError> for Refusal {
 
     fn from(_: AllocError) -> Refusal {
         Refusal::OutOfMemory
+    }
+}
+
+/// Why a story isn't accepted with a certificate that comes in pieces.
+#[derive(Clone, Copy, Debug, PartialEq, Eq, Error)]
+pub enum StreamRefusal {
+    /// The bytes aren't read as a certificate.
+    #[error("{0}")]
+    Cert(CertError),
+    /// The certificate that they spell isn't accepted.
+    #[error("{0}")]
+    Check(Refusal),
+}
+
+impl From<CertError> for StreamRefusal {
+    ghost from_gives = { λ error refusal. refusal ≡ Cert error };
+
+    fn from(error: CertError) -> StreamRefusal {
+        StreamRefusal::Cert(error)
+    }
+}
+
+impl From<Refusal> for StreamRefusal {
+    ghost from_gives = { λ refused refusal. refusal ≡ Check refused };
+
+    fn from(refused: Refusal) -> StreamRefusal {
+        StreamRefusal::Check(refused)
     }
 }
