@@ -1,12 +1,14 @@
 #!/usr/bin/env python3
 """Every byte of two stories and of their certificates altered, and every beginning of both: each is refused by name, or is accepted
 and then plays by its certificate as it does on the checked machine. Of what is accepted both machines make 1,000 steps side by side:
-behind each step they gave out the same and are in the same state, up to the same pause.
+behind each step they gave out the same and are in the same state, up to the same pause. Certificates come in pieces too: in
+pieces that are given, with what is answered of each, and cut in many ways, with the answer of the whole each time.
 
     altered.py PROGRAM CALLS
 
 CALLS is the program that makes the libraries' calls one by one.
 """
+import random
 import re
 import sys
 
@@ -61,6 +63,84 @@ CERTIFICATE_BYTES = [
     ("a routine that isn't there", 992, [1], "K7"),
     ("a height of 1", 993, [1], "K3"),
 ]
+
+# ---- certificates in pieces, with what is answered of each piece, and then at the end
+
+
+def by(size, file):
+    return [file[at : at + size] for at in range(0, len(file), size)]
+
+
+def with_empty(pieces):
+    return [part for piece in pieces for part in (b"", piece, b"")]
+
+
+TWICE, NO_ROUTINE = changed(PLAIN_LISTED, 990, 0x29), changed(PLAIN_LISTED, 992, 1)
+IN_PIECES = [
+    ("whole", [PLAIN_LISTED], None, "accepted"),
+    ("a byte at a time", by(1, PLAIN_LISTED), None, "accepted"),
+    ("by seven, with empty ones between", with_empty(by(7, PLAIN_LISTED)), None, "accepted"),
+    ("another magic, in two pieces", [b"ZP", b"CD"], (1, "K1"), "K1"),
+    ("the first half of the magic", [b"ZP"], None, "K3"),
+    ("another magic that is cut off", [b"Q"], None, "K3"),
+    ("no piece", [], None, "K3"),
+    ("an empty piece", [b""], None, "K3"),
+    ("all but the last byte", by(400, PLAIN_LISTED[:-1]), None, "K3"),
+    ("a byte behind it", [PLAIN_LISTED, b"", b"\0"], (2, "K4"), "K4"),
+    ("a byte behind it, in its last piece", [PLAIN_LISTED[:500], PLAIN_LISTED[500:] + b"\0"], (1, "K4"), "K4"),
+    ("another version, and then nothing", [PLAIN_LISTED[:4], b"\x09"], (1, "K2"), "K2"),
+    ("a certificate behind what is none", [b"ZPCD", *by(300, PLAIN_LISTED)], (0, "K1"), "K1"),
+    # behind the last byte of the second address, and of the number of a routine
+    ("an address twice", [TWICE[:997], TWICE[997:998], TWICE[998:]], (1, "K5"), "K5"),
+    ("a routine that isn't there", [NO_ROUTINE[:992], NO_ROUTINE[992:993], NO_ROUTINE[993:]], (1, "K7"), "K7"),
+    ("another first address", by(9, changed(PLAIN_LISTED, 990, 0x25)), None, "S2"),
+    ("no quit listed", by(9, certificate(PLAIN, [0x324])), None, "I4 at 00324"),
+]
+
+
+def see_pieces(calls, count):
+    for name, pieces, refused, end in IN_PIECES:
+        files = {f"piece {number}": piece for number, piece in enumerate(pieces)}
+        answer = calls.run(["pieces", "story", *files], {"story": PLAIN, **files})
+        at, code = refused or (len(pieces), "")
+        wanted = ["open"] * at + [code] * (len(pieces) - at) + [end]
+        count.is_answer(f"in pieces, {name}", answer, Answer(0, "".join(f"{line}\n" for line in wanted).encode(), b""))
+
+
+def at_random(file, chosen):
+    """The file with some bytes altered, bytes left out, put in, or cut off, or with parts of it twice."""
+    made = bytearray(file)
+    for _ in range(chosen.randint(1, 4)):
+        at, count = chosen.randrange(len(made) + 1), chosen.choice((1, 1, 2, 4, 7, 30))
+        piece = chosen.choice((bytes(chosen.randrange(256) for _ in range(count)), bytes(count), bytes(made[at : at + count]), b""))
+        made[at : at + chosen.choice((0, len(piece), count))] = piece
+    return bytes(made)
+
+
+def see_cuts(program, calls, count):
+    """Certificates whole and damaged, one of them longer than what the program reads of a file in one call. Each is answered in pieces of
+    one to nine bytes as it is whole, and by the program as by the calls of the library."""
+    chosen = random.Random(4096)
+    long = story(NOP * 700 + QUIT)
+    long_listed = certificate(long, range(CODE, CODE + 701))
+    assert len(long_listed) > 5000
+    at_edge = [listed for at in range(4093, 4100) for listed in (long_listed[:at], changed(long_listed, at, long_listed[at] ^ 128))]
+    for name, made, listed, others in [("plain", PLAIN, PLAIN_LISTED, []), ("calling", CALLING, CALLING_LISTED, []), ("long", long, long_listed, at_edge)]:
+        see_group(program, calls, count, f"cuts, {name}", made, [listed, *others])
+        for group in range(10):
+            see_group(program, calls, count, f"cuts, {name}, at random {group}", made, [at_random(listed, chosen) for _ in range(15)])
+
+
+def see_group(program, calls, count, name, made, listed):
+    """What is answered of these certificates: a line for each, and none that tells of another answer."""
+    files = {str(number): file for number, file in enumerate(listed)}
+    answer = calls.run(["cuts", "story", *files], {"story": made, **files})
+    told = answer.output.decode().splitlines()
+    count.see(answer.status == 0 and not answer.errors and len(told) == len(files), f"{name}: {answer}")
+    run = lambda file: program.run(["check", "story", "certificate"], {"story": made, "certificate": file})
+    for number, line, checked in zip(files, told, side_by_side(run, listed)):
+        wanted = Answer(0, b"accepted\n", b"") if line == "accepted" else Answer(1, b"", f"refused: {line}\n".encode())
+        count.is_answer(f"{name}, {number}", checked, wanted)
 
 
 def see_refused(program, count, name, files, code):
@@ -144,6 +224,8 @@ def main():
     assert (len(PLAIN), len(PLAIN_LISTED), PLAIN[0x1C:0x1E].hex(), PLAIN[CODE:].hex()) == (810, 1001, "3a7a", "b23551c685ba")
     see_bytes(program, count)
     see_lengths(program, count)
+    see_pieces(calls, count)
+    see_cuts(program, calls, count)
     see_each(program, calls, count, "plain", PLAIN, PLAIN_LISTED)
     see_each(program, calls, count, "calling", CALLING, CALLING_LISTED)
     count.end()

@@ -82,7 +82,7 @@ for folder in "$work"/stories/*; do
     refuse_each "$(basename "$folder")"
 done
 # Each call that takes memory was refused in some run.
-wanted='check decode file find list load new parts play read render restore run save start step words write'
+wanted='check decode feed file find finish list load new parts play read render restore run save start step stream words write'
 if [ "$(sort -u "$work/kinds" | tr '\n' ' ')" = "$(printf 'refused: %s\n' $wanted | tr '\n' ' ')" ]; then
     passed=$((passed + 1))
 else

@@ -46,6 +46,11 @@ def tells(name, contents):
     return f"{name} {len(contents)} bytes, sum {sum(contents) % 65536}"
 
 
+def fed(listed):
+    """A certificate that is read from its pieces, and one by which its story is accepted."""
+    return [tells("fed", listed), tells("fed and checked", listed)]
+
+
 def stood(place, memory, text):
     return f"at {place}, memory {sum(memory) % 65536}, gave {text}"
 
@@ -72,7 +77,7 @@ def stories():
     plain = plays(0x329, PLAIN, "hello", "Quit")
     yield (
         "plain", PLAIN, PLAIN_LISTED,
-        ["decoded hellohello", "listed 2", tells("found", certificate(PLAIN, [0x324, 0x329], ranges=[(0x220, 0x25D)])), tells("accepted", PLAIN_LISTED), tells("parts", saved(PLAIN, 0x324))],
+        ["decoded hellohello", "listed 2", tells("found", certificate(PLAIN, [0x324, 0x329], ranges=[(0x220, 0x25D)])), tells("accepted", PLAIN_LISTED), *fed(PLAIN_LISTED), tells("parts", saved(PLAIN, 0x324))],
         [
             stands("opening", 0x324, PLAIN, ""), stands("step", 0x329, PLAIN, "hello"), "step ends: Quit", "run, with 49 left", "rendered hello",
             stands("run", 0x329, PLAIN, "hello"), "run ends: Quit", *plain * 3, "writing failed", *plain * 2,
@@ -96,7 +101,7 @@ def stories():
     )
     kept = plays(0x328, SAVES, "", "Quit")
     yield (
-        "saves", SAVES, SAVES_LISTED, ["listed 3", tells("accepted", SAVES_LISTED), tells("parts", THAT_SAVE)],
+        "saves", SAVES, SAVES_LISTED, ["listed 3", tells("accepted", SAVES_LISTED), *fed(SAVES_LISTED), tells("parts", THAT_SAVE)],
         ["run ends: NoInput", *kept * 3, tells("saved", THAT_SAVE), stands("awaits", 0x326, SAVES, ""), stands("restored", 0x324, SAVES, "")],
     )
 

@@ -61,7 +61,7 @@ fn file_again(rt: &HostRuntime, name: &str) -> io::Result<Vec<u8>> {
 }
 
 /// Loads a story.
-fn load(rt: &HostRuntime, file: &[u8]) -> io::Result<Story> {
+pub fn load(rt: &HostRuntime, file: &[u8]) -> io::Result<Story> {
     match Story::load(rt.alloc(), file) {
         Err(LoadError::OutOfMemory) => {
             println!(rt; "refused: load")?;

@@ -3,18 +3,22 @@
 //! begins with `refused` and says where the refused call left its machine.
 //!
 //! With the names of a story, of its certificate and of saves as its words it compares both machines instead, step by step: from the
-//! opening, or from each save.
+//! opening, or from each save. With `pieces`, the name of a story and those of files it feeds these to a stream that checks the story,
+//! one after another, and with `cuts` it feeds each of them in pieces of many sizes.
 #![tactic(auto)]
 
 mod accepting;
+mod cutting;
 mod machine;
 mod outside;
 mod pair;
 mod pieces;
 mod saving;
 mod single;
+mod streams;
 
 use crate::accepting::accept;
+use crate::cutting::{compare_cuts, feed_files};
 use crate::pair::compare;
 use crate::pieces::{Way, go};
 use crate::saving::{save_and_restore, write_parts};
@@ -39,8 +43,17 @@ const WAYS: [Way; 7] = [
 
 fn main(rt: HostRuntime) -> io::Result<()> {
     let words = words_again(&rt)?;
-    if let [story, certificate, saves @ ..] = words.as_slice() {
-        return compare(&rt, &accept(&rt, story, certificate)?, saves);
+    match words.as_slice() {
+        [kind, story, pieces @ ..] if kind.as_str() == "pieces" => return feed_files(
+            &rt, story, pieces,
+        ),
+        [kind, story, files @ ..] if kind.as_str() == "cuts" => return compare_cuts(
+            &rt, story, files,
+        ),
+        [story, certificate, saves @ ..] => {
+            return compare(&rt, &accept(&rt, story, certificate)?, saves);
+        }
+        _ => {}
     }
     let accepted = accept(&rt, "story.z3", "story.cert")?;
     call_each(&rt, &accepted)?;

@@ -2,6 +2,7 @@
 
 use crate::accepting::wanted;
 use crate::pieces::sum;
+use crate::streams::{check_pieces, read_pieces};
 use std::alloc::AllocError;
 use std::{io, str};
 use zcert::{Certificate, write};
@@ -20,7 +21,16 @@ pub fn call_each(rt: &HostRuntime, accepted: &Accepted) -> io::Result<()> {
     println!(rt; "listed {listed}")?;
     let found = search(rt, story)?;
     tell(rt, "found", &written(rt, &found)?)?;
-    tell(rt, "accepted", &written(rt, accepted.certificate())?)
+    let certificate = written(rt, accepted.certificate())?;
+    tell(rt, "accepted", &certificate)?;
+    feed_each(rt, story.memory(), &certificate)
+}
+
+/// Reads a certificate from its pieces, and checks a story with it.
+fn feed_each(rt: &HostRuntime, story: &[u8], certificate: &[u8]) -> io::Result<()> {
+    tell(rt, "fed", &written(rt, &read_pieces(rt, certificate)?)?)?;
+    let accepted = check_pieces(rt, story, certificate)?;
+    tell(rt, "fed and checked", &written(rt, accepted.certificate())?)
 }
 
 /// Decodes what would be the text of the first instruction, once and behind that once more.

@@ -1,5 +1,5 @@
 -- What was read of files, as what is known of them.
-use Rattle.std.proofs.Common.{◌≡◌, ◌≢◌, ℕ, Bool, List, Option, Some, None, ◌+◌, ◌<◌, ◌∙◌, refl, sym, ap, subst, take, length, length-take, arith}
+use Rattle.std.proofs.Common.{◌≡◌, ◌≢◌, ℕ, Bool, List, Option, Some, None, ◌<◌, refl, sym, ap, subst, take, length, length-take, arith}
 use Rattle.std.specs.Prelude.{IfOk, IfErr, IsErr, IsErrAnd, Result, Ok, Err}
 use Rattle.zstory.specs.LoadedStory.{LoadedStory}
 use Rattle.zperform.specs.declared.outcome.Failure.TheVariants.{File, Read, Write, Memory}
@@ -9,12 +9,6 @@ use Rattle.zstory.specs.Refusal.{HasNone, IsCause}
 use Rattle.zstory.specs.declared.load_error.LoadError.TheVariants.{TooShort}
 use Rattle.zdomain.specs.declared.interval.Interval.{Interval}
 use Rattle.zcert.specs.Certificate.{Certificate}
-use Rattle.zcert.specs.Fields.{LeadsToPart}
-use Rattle.zcert.specs.Format.{interval_format}
-use Rattle.zcert.specs.Longest.{IsDecidedBy}
-use Rattle.zcert.specs.Reading.{reading}
-use Rattle.zcert.specs.declared.error.CertError.{CertError}
-use Rattle.zcert.specs.declared.limits.TheConstants.{LARGEST}
 use Rattle.zdomain.specs.Interval.{interval_operations}
 use Rattle.zcheck.specs.Passes.{IsRefused as IsRefusedBy}
 use Rattle.zcheck.specs.declared.refusal.Refusal.{Refusal}
@@ -22,8 +16,8 @@ use Rattle.zcheck.specs.declared.refusal.Refusal.TheVariants as refusals
 use Rattle.zperform.specs.Report.{problem_of_checking}
 use Rattle.zperform.specs.Contents.{HasBytes}
 use Rattle.zperform.specs.Devices.{ReadsUnless}
-use Rattle.zperform.specs.Playing.{Holds, IsRefused, IsUnloaded, Reads}
-use Rattle.zperform.specs.Accepting.{HoldsCertificate, HoldsStory, IsNoCertificate, IsNoStory, IsUnaccepted, IsUnreadable}
+use Rattle.zperform.specs.Playing.{Holds, IsRefused, IsUnloaded}
+use Rattle.zperform.specs.Accepting.{HoldsCertificate, HoldsStory, IsNoCertificate, IsNoStory, IsUnaccepted}
 use Rattle.zperform.proofs.StoryFiles.{holds_whole, reads, refused_whole}
 
 -- a story that nothing speaks against has bytes
@@ -77,16 +71,6 @@ no_certificate_refuses story_known certificate_known story held (Failed Read) h 
 no_certificate_refuses story_known certificate_known story held (Failed Write) h = absurd h
 no_certificate_refuses story_known certificate_known story held (Failed Memory) h = story_bytes story_known story held
 
--- what a check refuses is no failure of a file
-refusal_reads : (refusal : Refusal) → problem_of_checking refusal ≢ Failed File
-refusal_reads (refusals.Story rule) e = absurd cc
-refusal_reads (refusals.Instruction address rule) e = absurd cc
-refusal_reads refusals.OutOfMemory e = absurd cc
-
-pub refused_reads : {T : Type 0} (r : Result T Problem) (refusal : Refusal) → IsErr r × IsErrAnd r (λ q. q ≡ problem_of_checking refusal) → r ≢ Err (Failed File)
-refused_reads (Ok x) refusal (is, same) e = absurd cc
-refused_reads (Err q) refusal (is, same) e = refusal_reads refusal (sym same ∙ (let file : q ≡ Failed File = cc in file))
-
 -- an error that is handed on
 pub handed_on : {T : Type 0} (P : Problem → Type 0) (r : Result T Problem) (problem : Problem) → IsErr r × IsErrAnd r (λ q. q ≡ problem) → P problem → IfErr r P
 handed_on P (Ok x) problem (is, same) h = tt
@@ -105,40 +89,6 @@ no_reason P problem (Err other) none h e = none (subst P (let is : other ≡ pro
 -- files that were read, and then nothing more of them
 pub read_on : {F : Type 0} (known : F → List ℕ → Option (List ℕ)) (failures : F → ℕ) (can_fail : F → List ℕ → Bool) (old new : F) (failed fails : Type 0) → ReadsUnless known failures can_fail old new failed → ¬ failed → ¬ fails → ReadsUnless known failures can_fail old new fails
 read_on known failures can_fail old new failed fails files well still = record { blamed = ((λ is. absurd (still is)), λ other. files.blamed.1 well); kept = files.kept; alike = files.alike }
-
--- bytes of which memory is wanted for a part are some
-part_has_bytes : (taken : List ℕ) → LeadsToPart interval_format taken → 0 < length taken
-part_has_bytes taken led = omega (arith, ap length led.spelled)
-
--- what is read of the part of a certificate's file is read of the file
-module _ (known : Option (List ℕ)) (taken : List ℕ) (part : (file : List ℕ) → known ≡ Some file → taken ≡ take (LARGEST + 1) file) (decided : IsDecidedBy interval_format (LARGEST + 1)) where
-  whole : (due : Result (Certificate Interval) CertError) → reading interval_format taken ≡ due → Reads known (λ file. reading interval_format file ≡ due)
-  whole due read = go known part
-    where
-      go : (o : Option (List ℕ)) → ((file : List ℕ) → o ≡ Some file → taken ≡ take (LARGEST + 1) file) → Reads o (λ file. reading interval_format file ≡ due)
-      go None part = (taken, tt, read)
-      go (Some file) part = (file, refl, sym (decided file) ∙ ap (reading interval_format) (sym (part file refl)) ∙ read)
-
-  pub certificate_held : (r : Result (Certificate Interval) Problem) → IfOk r (λ c. reading interval_format taken ≡ Ok c) → IfOk r (HoldsCertificate known)
-  certificate_held (Ok c) read = whole (Ok c) read
-  certificate_held (Err problem) read = tt
-
-  no_certificate : (problem : Problem) → IsUnreadable taken problem → IsNoCertificate known problem
-  no_certificate (Unreadable error) read = whole (Err error) read
-  no_certificate (Refused error) h = absurd h
-  no_certificate (BreaksStory rule) h = absurd h
-  no_certificate (BreaksInstruction address rule) h = absurd h
-  no_certificate (Unlisted error) h = absurd h
-  no_certificate (Unfound error broken) h = absurd h
-  no_certificate (Occupied purpose) h = absurd h
-  no_certificate (Failed File) h = absurd h
-  no_certificate (Failed Read) h = absurd h
-  no_certificate (Failed Write) h = absurd h
-  no_certificate (Failed Memory) h = part_bytes known (LARGEST + 1) taken part (part_has_bytes taken h)
-
-  pub certificate_refused : (r : Result (Certificate Interval) Problem) → IfErr r (IsUnreadable taken) → IfErr r (IsNoCertificate known)
-  certificate_refused (Ok c) h = tt
-  certificate_refused (Err problem) h = no_certificate problem h
 
 module _ (known : Option (List ℕ)) (taken : List ℕ) (part : (file : List ℕ) → known ≡ Some file → taken ≡ take 131073 file) where
   -- the part that was read holds a story, and so does the file

@@ -3,6 +3,7 @@ mod StoryFiles
 mod PlayLemmas
 mod PerformLemmas
 mod AcceptLemmas
+mod FeedLemmas
 mod EndLemmas
 mod SessionLemmas
 mod Worked

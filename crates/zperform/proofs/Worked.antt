@@ -1,5 +1,5 @@
 -- Values of the definitions, computed.
-use Rattle.std.proofs.Common.{◌≡◌, ◌<◌, inl, inr, ℕ, List, length, ap, [], ◌∷◌, ◌++◌, Bool, true, false, true≢false, pos, codes, Err, refl, sym, arith}
+use Rattle.std.proofs.Common.{◌≡◌, ◌<◌, inl, inr, ℕ, List, length, ap, [], ◌∷◌, ◌++◌, Bool, true, false, true≢false, pos, codes, Err, refl, sym, subst, take, length-take, ◌∙◌, arith}
 use Rattle.std.specs.Fmt.{digits}
 use Rattle.clap.specs.declared.error.kind.ErrorKind.TheVariants.{DisplayHelp, DisplayVersion, UnknownArgument}
 use Rattle.zfault.specs.declared.fault.Fault.{Fault}
@@ -11,10 +11,13 @@ use Rattle.zstory.specs.declared.load_error.LoadError.TheVariants as loads
 use Rattle.zcert.specs.declared.error.CertError.TheVariants as readings
 use Rattle.zcert.specs.Format.{interval_format}
 use Rattle.zcert.specs.Reading.{heading_at, magic_at, reading}
+use Rattle.zcert.specs.Streaming.{Stream, IsFed}
+use Rattle.zdomain.specs.declared.interval.Interval.{Interval}
 use Rattle.zrule.specs.declared.rule.Rule.TheVariants as rules
 use Rattle.zcheck.specs.Acceptance.{Acceptance}
 use Rattle.zcheck.specs.declared.refusal.StoryRule.TheVariants as story_rules
 use Rattle.zcheck.specs.declared.refusal.Refusal.TheVariants as refusals
+use Rattle.zcheck.specs.declared.refusal.StreamRefusal.TheVariants as streams
 use Rattle.zplayer.specs.declared.end.End.{End}
 use Rattle.zplayer.specs.declared.end.End.TheVariants as ends
 use Rattle.zplayer.specs.declared.end.Options.{Options}
@@ -40,16 +43,16 @@ use Rattle.zlist.specs.declared.list_error.ListError.TheVariants as listings
 use Rattle.zlist.specs.declared.record.Record.{Record}
 use Rattle.zperform.specs.Listing.{IsNoListing, listing_text}
 use Rattle.zperform.specs.Contents.{GivesPart, IsBeginning}
-use Rattle.zperform.specs.Accepting.{CheckComesTo, HoldsStory, IsNoCertificate, IsPlayedBy, PlayComesTo, Stops}
+use Rattle.zperform.specs.Accepting.{CheckComesTo, HoldsStory, IsFedTo, IsNoCertificate, IsPlayedBy, PlayComesTo, Stops}
 use Rattle.zcommand.specs.CommandLine.{ListStory, Find, Check, Play, Explain}
 use Rattle.zplayer.specs.World.{World}
 use Rattle.zperform.specs.Devices.{Breaks, Ends, FlushesUnless, Held, ReadsUnless, Says, Seen, Takes, UsesUnless}
 use Rattle.zperform.specs.Performing.{IsBlamed, given, is_quiet, is_request, store_of, written_by}
 use Rattle.zperform.specs.Finding.{HasAlone}
 use Rattle.zperform.specs.Playing.{ComesTo, Holds, IsPlayed, IsRefused}
-use Rattle.zperform.specs.declared.accepting.TheConstants.{CERTIFICATE_LIMIT, STORY_LIMIT}
+use Rattle.zperform.specs.declared.accepting.TheConstants.{STORY_LIMIT}
 use Rattle.zperform.proofs.AcceptLemmas.{story_bytes}
-use Rattle.zperform.specs.Report.{line_of, place_text, problem_of_checking, problem_of_listing, problem_of_load, problem_of_play, problem_of_reading, status_of, text_of}
+use Rattle.zperform.specs.Report.{line_of, place_text, problem_of_checking, problem_of_listing, problem_of_load, problem_of_play, problem_of_reading, problem_of_stream, status_of, text_of}
 
 -- ---- what is said, and the exit statuses
 
@@ -141,8 +144,8 @@ failures_are_4 failure = refl
 
 -- ---- how far files are read
 
-limits : (STORY_LIMIT ≡ 131073) × (CERTIFICATE_LIMIT ≡ 43189199)
-limits = (refl, refl)
+limit : STORY_LIMIT ≡ 131073
+limit = refl
 
 -- A file of 131,073 bytes or more is refused as too long, or it isn't read at all. It holds no story.
 long_file : (file : List ℕ) → 131072 < length file → ((error : LoadError) → IsRefused file error → error ≡ loads.TooLong) × ((story : LoadedStory) → Holds file story → ⊥)
@@ -200,8 +203,10 @@ problems :
     × (problem_of_listing listings.OutOfMemory ≡ Failed Memory) × (problem_of_listing (listings.TwoRoutines 804) ≡ Unlisted (listings.TwoRoutines 804))
     × (problem_of_checking refusals.OutOfMemory ≡ Failed Memory) × (problem_of_checking (refusals.Story story_rules.Tables) ≡ BreaksStory story_rules.Tables)
     × (problem_of_checking (refusals.Instruction 804 rules.Write) ≡ BreaksInstruction 804 rules.Write)
+    × (problem_of_stream (streams.Cert readings.OutOfMemory) ≡ Failed Memory) × (problem_of_stream (streams.Cert readings.Magic) ≡ Unreadable readings.Magic)
+    × (problem_of_stream (streams.Check refusals.OutOfMemory) ≡ Failed Memory) × (problem_of_stream (streams.Check (refusals.Story story_rules.Tables)) ≡ BreaksStory story_rules.Tables)
     × (problem_of_play errors.Read ≡ Failed Read) × (problem_of_play errors.Write ≡ Failed Write) × (problem_of_play errors.OutOfMemory ≡ Failed Memory)
-problems = (refl, refl, refl, refl, refl, refl, refl, refl, refl, refl, refl, refl)
+problems = (refl, refl, refl, refl, refl, refl, refl, refl, refl, refl, refl, refl, refl, refl, refl, refl)
 
 -- nothing is kept at first where saves go nowhere, nothing is known of a file, and no call failed
 stores : (store_of None ≡ record { kept = Some None; failures = 0; refusals = [] }) × (store_of (Some (codes "a.qzl")) ≡ record { kept = None; failures = 0; refusals = [] })
@@ -222,6 +227,16 @@ no_gap it = omega (arith, it.ends refl (omega arith))
 -- the first two bytes of three, and two others
 begun : IsBeginning (10 ∷ 20 ∷ []) (10 ∷ 20 ∷ 30 ∷ []) × IsBeginning [] [] × (IsBeginning (10 ∷ 30 ∷ []) (10 ∷ 20 ∷ 30 ∷ []) → ⊥) × (IsBeginning (10 ∷ 20 ∷ []) (10 ∷ []) → ⊥)
 begun = (refl, refl, λ e. absurd cc, λ e. absurd cc)
+
+-- a stream was fed the first two bytes of three; not two bytes of one, nor two at the count of one
+fed_to : (s : Stream Interval) → IsFed interval_format s (90 ∷ 80 ∷ []) → IsFedTo (Some (90 ∷ 80 ∷ 67 ∷ [])) 2 s
+fed_to s came = record { fed = 90 ∷ 80 ∷ []; first = refl; counted = refl; came = came }
+
+not_fed_to : (s : Stream Interval) → (IsFedTo (Some (90 ∷ [])) 2 s → ⊥) × ((to : IsFedTo (Some (90 ∷ 80 ∷ [])) 1 s) → IsFed interval_format s (90 ∷ []))
+not_fed_to s = (
+  λ to. omega (arith, to.counted, ap length to.first, length-take {A = ℕ} (length to.fed) (90 ∷ [])),
+  λ to. subst (IsFed interval_format s) (to.first ∙ ap (λ (n : ℕ). take n (90 ∷ 80 ∷ [])) to.counted) to.came,
+)
 
 -- ---- what is said, and what commands come to
 

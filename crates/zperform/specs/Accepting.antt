@@ -1,5 +1,5 @@
 -- What the files of a story and of a certificate come to (own).
-use Rattle.std.specs.Prelude.{◌≡◌, ◌≢◌, ◌⊎◌, ⊤, ℕ, ℤ, true, ◌++◌, ◌∷◌, [], List, Option, Result, Ok, Err, IfOk, codes}
+use Rattle.std.specs.Prelude.{◌≡◌, ◌≢◌, ◌⊎◌, ⊤, ℕ, ℤ, true, ◌++◌, ◌∷◌, [], List, Option, Result, Ok, Err, IfOk, IfSome, codes, length}
 use Rattle.std.specs.Io.KnownBytes.{Appends}
 use Rattle.zfault.specs.Devices.{AppendsBeginning}
 use Rattle.zfault.specs.declared.fault.Fault.{Fault}
@@ -19,13 +19,13 @@ use Rattle.zplayer.specs.World.{Store, World}
 use Rattle.zdomain.specs.declared.interval.Interval.{Interval}
 use Rattle.zdomain.specs.Interval.{interval_operations}
 use Rattle.zcert.specs.Certificate.{Certificate}
-use Rattle.zcert.specs.Fields.{LeadsToPart}
 use Rattle.zcert.specs.Format.{interval_format}
 use Rattle.zcert.specs.Reading.{reading}
+use Rattle.zcert.specs.Streaming.{Stream, IsFed}
 use Rattle.zcheck.specs.Acceptance.{Acceptance, IsListingOf}
 use Rattle.zcheck.specs.Passes.{IsCause, Passes}
 use Rattle.zcheck.specs.declared.refusal.Refusal.TheVariants.{Story, Instruction}
-use Rattle.zperform.specs.Contents.{HasBytes}
+use Rattle.zperform.specs.Contents.{HasBytes, IsBeginning}
 use Rattle.zperform.specs.Devices.{Held}
 use Rattle.zperform.specs.declared.outcome.Failure.TheVariants.{File, Read, Write, Memory}
 use Rattle.zperform.specs.declared.outcome.Problem.{Problem}
@@ -41,6 +41,13 @@ HoldsStory known story = Reads known (λ file. Holds file story)
 -- the certificate that a file spells
 abbrev pub HoldsCertificate : Option (List ℕ) → Certificate Interval → Type 0
 HoldsCertificate known c = Reads known (λ file. reading interval_format file ≡ Ok c)
+
+-- a stream was fed so many bytes of a file, which are its first, where its bytes are known
+pub record IsFedTo (known : Option (List ℕ)) (count : ℕ) (stream : Stream Interval) : Type 0 where
+  pub fed : List ℕ
+  pub first : IfSome known (IsBeginning fed)
+  pub counted : length fed ≡ count
+  pub came : IsFed interval_format stream fed
 
 -- what two files hold, and the checker accepts
 pub record IsAccepted (story_known certificate_known : Option (List ℕ)) (a : Acceptance) : Type 0 where
@@ -71,12 +78,6 @@ IsNoStory known problem = ⊥
 -- why nothing comes of a story's file: it holds no story, or one of which this is why
 abbrev pub IsWhyNone : (LoadedStory → Problem → Type 0) → Option (List ℕ) → Problem → Type 0
 IsWhyNone IsWhy known problem = IsNoStory known problem ⊎ HoldsSuch known (λ story. IsWhy story problem)
-
--- why the bytes of a file aren't read as a certificate: memory is wanted only for a part that they have
-abbrev pub IsUnreadable : List ℕ → Problem → Type 0
-IsUnreadable file (Unreadable error) = reading interval_format file ≡ Err error
-IsUnreadable file (Failed Memory) = LeadsToPart interval_format file
-IsUnreadable file problem = ⊥
 
 -- why no certificate is read from a file: memory is wanted only for one that has bytes
 abbrev pub IsNoCertificate : Option (List ℕ) → Problem → Type 0

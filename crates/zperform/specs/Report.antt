@@ -12,6 +12,8 @@ use Rattle.zrule.specs.Numbers.{number_of as rule_number}
 use Rattle.zcheck.specs.Numbers.{number_of as story_rule_number}
 use Rattle.zcheck.specs.declared.refusal.Refusal.{Refusal}
 use Rattle.zcheck.specs.declared.refusal.Refusal.TheVariants as refusals
+use Rattle.zcheck.specs.declared.refusal.StreamRefusal.{StreamRefusal}
+use Rattle.zcheck.specs.declared.refusal.StreamRefusal.TheVariants.{Cert, Check}
 use Rattle.zlist.specs.Listed.{number_of as list_number, place_of as list_place}
 use Rattle.zlist.specs.declared.list_error.ListError.{ListError}
 use Rattle.zlist.specs.declared.list_error.ListError.TheVariants.{OutOfMemory as NoMemoryToList}
@@ -47,6 +49,11 @@ abbrev pub problem_of_checking : Refusal → Problem
 problem_of_checking (refusals.Story rule) = BreaksStory rule
 problem_of_checking (refusals.Instruction address rule) = BreaksInstruction address rule
 problem_of_checking refusals.OutOfMemory = Failed Memory
+
+-- nor is a story accepted with a certificate that isn't read, or that doesn't hold
+abbrev pub problem_of_stream : StreamRefusal → Problem
+problem_of_stream (Cert error) = problem_of_reading error
+problem_of_stream (Check refusal) = problem_of_checking refusal
 
 -- a story that isn't listed is refused, but for want of memory
 abbrev pub problem_of_listing : ListError → Problem

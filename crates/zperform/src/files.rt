@@ -20,7 +20,7 @@ use std::path::Path;
 use std::rt::Runtime;
 
 /// The most bytes that are read of a file in one call.
-const PIECE: usize = 4096;
+pub const PIECE: usize = 4096;
 
 /// The longest name of a file that the system opens.
 const NAME_LIMIT: usize = 4096;

@@ -2,6 +2,7 @@
 #![tactic(auto)]
 
 mod accepting;
+mod feeding;
 mod files;
 mod finding;
 mod listing;

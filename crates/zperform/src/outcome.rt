@@ -2,11 +2,11 @@
 
 ghost use Rattle.std.specs.Prelude.{◌≡◌};
 ghost use Rattle.zperform.specs.Keeping.{magic_of, purpose_number};
-ghost use Rattle.zperform.specs.Report.{problem_of_checking, problem_of_listing, problem_of_load, problem_of_play, problem_of_reading, status_of};
+ghost use Rattle.zperform.specs.Report.{problem_of_checking, problem_of_listing, problem_of_load, problem_of_play, problem_of_reading, problem_of_stream, status_of};
 
 use std::alloc::AllocError;
 use zcert::CertError;
-use zcheck::{Refusal, StoryRule};
+use zcheck::{Refusal, StoryRule, StreamRefusal};
 use zfind::{FindError, Obstacle};
 use zlist::ListError;
 use zplayer::{End, PlayError};
@@ -146,6 +146,17 @@ impl From<Refusal> for Problem {
             Refusal::Story(rule) => Problem::BreaksStory(rule),
             Refusal::Instruction(address, rule) => Problem::BreaksInstruction(address, rule),
             Refusal::OutOfMemory => Problem::Failed(Failure::Memory),
+        }
+    }
+}
+
+impl From<StreamRefusal> for Problem {
+    ghost from_gives = { λ refusal problem. problem ≡ problem_of_stream refusal };
+
+    fn from(refusal: StreamRefusal) -> Problem {
+        match refusal {
+            StreamRefusal::Cert(error) => Problem::from(error),
+            StreamRefusal::Check(refusal) => Problem::from(refusal),
         }
     }
 }
