@@ -30,16 +30,18 @@ class Program:
     def __init__(self, path):
         self.path = os.path.realpath(path)
 
-    def run(self, words, files=None, stdout=subprocess.PIPE, environment=None, seconds=60, typed=b""):
+    def run(self, words, files=None, stdout=subprocess.PIPE, environment=None, seconds=60, typed=b"", room_of=None):
         with tempfile.TemporaryDirectory(prefix="zpc-") as room:
             for name, contents in (files or {}).items():
                 with open(os.path.join(room, name), "wb") as file:
                     file.write(contents)
-            return self.run_in(room, words, stdout, environment, seconds, typed)
+            return self.run_in(room, words, stdout, environment, seconds, typed, room_of)
 
-    def run_in(self, folder, words, stdout=subprocess.PIPE, environment=None, seconds=60, typed=b""):
+    def run_in(self, folder, words, stdout=subprocess.PIPE, environment=None, seconds=60, typed=b"", room_of=None):
+        """`room_of` says how many KiB of address space there are, if not all that the run asks for."""
+        limited = ["sh", "-c", f'ulimit -v {room_of} && exec "$0" "$@"'] if room_of else []
         done = subprocess.run(
-            [self.path, *words], cwd=folder, input=typed, stdout=stdout, stderr=subprocess.PIPE,
+            [*limited, self.path, *words], cwd=folder, input=typed, stdout=stdout, stderr=subprocess.PIPE,
             env={**os.environ, **(environment or {})}, timeout=seconds,
         )
         return Answer(done.returncode, done.stdout or b"", done.stderr)
