@@ -179,6 +179,44 @@ def long_texts(program, count):
     see(program, count, "a step of 2,700,000 bytes", made, listed, line.encode() * uses)
 
 
+def in_little_room(program, count, name, made, listed, words, wanted):
+    """A story that is played on both machines in 16 MiB of address space, of which the program itself and a short play take six."""
+    for named in (["story"], ["story", "certificate"]):
+        answer = program.run(["play", *words, *named], {"story": made, "certificate": listed}, limits=[(resource.RLIMIT_AS, 16 * 1024 * 1024)])
+        count.is_answer(f"{name}, in little room, {len(named)} files", answer, wanted)
+
+
+def repeats(length, letters):
+    """A story that prints so many letters again and again, by an abbreviation of these: each use of it is two Z-characters. Also its
+    certificate, and what a step prints."""
+    uses, rest = divmod(length, len(letters))
+    code = b"\xb2" + text([1, 0] * uses + [letter(it) for it in letters[:rest]])
+    code += b"\x8c" + struct.pack(">h", -len(code) - 1)
+    place = CODE + len(code) + len(code) % 2
+    made = story(code.ljust(place - CODE, b"\0") + text([letter(it) for it in letters]), abbreviations=[place] * 96)
+    return made, certificate(made, [CODE, CODE + len(code) - 3]), (letters * uses + letters[:rest]).encode()
+
+
+def much_in_a_turn(program, count):
+    """Steps that each give out 400 times what the story takes: a turn holds no more than what one of them gives out. The same with names
+    in status lines, and with steps that give out as much as may be held, and a byte less and more, and half of that."""
+    letters = "abcdefghijklmnopqrstuvwxyz" * 60
+    for length, of, steps in (
+        (1185600, letters, 80), (32767, letters[:128], 1024), (32768, letters[:128], 1024), (32769, letters[:128], 1024),
+        (65535, letters[:128], 700), (65536, letters[:128], 700), (65537, letters[:128], 700),
+    ):
+        made, listed, each = repeats(length, of)
+        assert len(made) < 2900
+        wanted = Answer(0, each * (steps // 2), b"end: budget\n")
+        in_little_room(program, count, f"{length} bytes a step", made, listed, ["--budget", str(steps)], wanted)
+    shared = text([letter(it) for it in letters])
+    made, start = peopled([text([1, 0] * 380)], b"\xbc" * 40 + QUIT, behind=shared)
+    made = changed(made, 0x41, 1)
+    listed = certificate(made, range(start, start + 41), own={16: (1, 1)})
+    wanted = Answer(0, f"[{letters * 380} | Score: 0 | Moves: 0]\n".encode() * 40, b"")
+    in_little_room(program, count, "status lines of 592,800 letters", made, listed, ["--status"], wanted)
+
+
 def long_names(program, count):
     """Names of 65, 255 and 4,000 bytes, and five words."""
     made = story(NEW_LINE + QUIT)
@@ -229,16 +267,19 @@ def long_results(program, count):
         see(program, count, f"print_ret of {length} letters", given["story"], given["certificate"], string.encode() + b"\n1")
 
 
-def peopled(names, code, properties=b""):
-    """A story of objects with these names and these properties, and where its code begins."""
-    texts = [text([letter(it) for it in name]) for name in names]
+def peopled(names, code, properties=b"", behind=None):
+    """A story of objects with these names, or these texts of names, and these properties, and where its code begins. Each abbreviation has
+    the text that is behind the code, if there is one."""
+    texts = [it if isinstance(it, bytes) else text([letter(character) for character in it]) for it in names]
     tables = [bytes([len(it) // 2]) + it + properties + b"\0" for it in texts]
     place, entries = STATIC + 9 * len(names), b""
     for table in tables:
         entries += bytes(7) + word(place)
         place += len(table)
     room = place - STATIC + (place - STATIC) % 2
-    return changed(story(code, room=room), STATIC, *entries, *b"".join(tables)), CODE + room
+    code += b"\0" * (len(code) % 2)
+    made = story(code + (behind or b""), room=room, abbreviations=[CODE + room + len(code)] * 96 if behind else None)
+    return changed(made, STATIC, *entries, *b"".join(tables)), CODE + room
 
 
 def status_lines(program, count):
@@ -372,6 +413,7 @@ GROWTH = [
     ("zfind broken_in_all", "what `find` grows by: the walk is the same", searched),
     ("zref new", "bytes of memory", longest),
     ("zref run", "text of a step, and of a turn", long_texts),
+    ("zref run", "texts of a turn, of which one counts", much_in_a_turn),
     ("zref run", "text before a return", long_results),
     ("zref run", "status lines of a turn, and letters of a name", status_lines),
     ("zref run", "frames", deepest),
@@ -383,6 +425,7 @@ GROWTH = [
     ("zref restore", "dynamic memory", largest_save),
     ("zplay start", "bytes of memory, and frames", longest),
     ("zplay run", "text of a step, and of a turn", long_texts),
+    ("zplay run", "texts of a turn, of which one counts", much_in_a_turn),
     ("zplay run", "text before a return", long_results),
     ("zplay run", "status lines of a turn, and letters of a name", status_lines),
     ("zplay run", "words of a line", many_words),
@@ -393,6 +436,7 @@ GROWTH = [
     ("zstate resumed", "frames with their locals and stacks", deep_saves),
     ("zquetzal write", "frames and memory", deep_saves),
     ("zfault new", "bytes and status lines of a turn", status_lines),
+    ("zfault bounded", "bytes and status lines of a turn, up to its bound", much_in_a_turn),
     ("zfault from_slice", "letters of a name", status_lines),
     ("zplayer play_checked", "text and status lines of a turn", status_lines),
     ("zplayer play_story", "text and status lines of a turn", status_lines),

@@ -1,5 +1,5 @@
 -- Values of the definitions, computed.
-use Rattle.std.proofs.Common.{◌≡◌, ℕ, zero, suc, ◌^◌, ◌-◌, ◌<◌, Bool, true, false, [], ◌∷◌, replicate, Some, None, Result, Ok, Err, refl, arith}
+use Rattle.std.proofs.Common.{◌≡◌, ◌⊎◌, inl, inr, ℕ, zero, suc, ◌^◌, ◌-◌, ◌<◌, ◌≤◌, Bool, true, false, List, [], ◌∷◌, replicate, Some, None, Result, Ok, Err, refl, arith}
 use Rattle.std.specs.Prelude.{pos, take}
 use Rattle.std.specs.Io.KnownBytes.{Appends}
 use Rattle.zfault.specs.declared.adapters.FromRead.{FromRead}
@@ -12,10 +12,11 @@ use Rattle.zfault.specs.Adapters.{reader_of, read_failures, unflushed, writer_of
 use Rattle.zfault.specs.Answers.{pause_for, answers}
 use Rattle.zfault.specs.Devices.{AppendsBeginning, BreaksOff, ChangesFront, CountsFailure, HandsOn, LetsWait, RisesByOne, waits_after}
 use Rattle.zfault.specs.Fault.{number_of}
+use Rattle.zfault.specs.declared.item.Item.{Item}
 use Rattle.zfault.specs.declared.item.Item.TheVariants.{Status, Text}
 use Rattle.zfault.specs.declared.item.Status.{Status as AStatus}
 use Rattle.zfault.specs.declared.items.Mark.{Mark}
-use Rattle.zfault.specs.Items.{items_of, StandWithin, text_of}
+use Rattle.zfault.specs.Items.{GivenOut, IsBounded, items_of, room_beside, size, size_of_lines, StandWithin, text_of}
 use Rattle.zfault.specs.Line.{padded, IsPadded}
 
 -- ---- faults, pauses and events
@@ -152,3 +153,28 @@ standing = ((omega arith, (omega arith, tt)), (omega arith, (omega arith, tt)), 
 
 text_among : (text_of (Text 104 ∷ Status one ∷ Text 105 ∷ Status two ∷ []) ≡ 104 ∷ 105 ∷ []) × (text_of (Status one ∷ []) ≡ [])
 text_among = (refl, refl)
+
+-- two bytes of text count two, and two lines 128 with the byte of the first one's name
+counted_items : (size (Text 104 ∷ Status one ∷ Text 105 ∷ Status two ∷ []) ≡ 131) × (size [] ≡ 0) × (size_of_lines (mark 2 two ∷ mark 0 one ∷ []) ≡ 129) × (size_of_lines [] ≡ 0)
+unfolding mark one two
+counted_items = (refl, refl, refl, refl)
+
+-- with nothing held there is the room of memory; beside a byte what a bound of 4 leaves, where memory has more, and none once it is passed
+left_beside : (room_beside [] 5 4 ≡ 5) × (room_beside (Text 104 ∷ []) 5 4 ≡ 3) × (room_beside (Text 104 ∷ []) 2 4 ≡ 2) × (room_beside (Status one ∷ []) 5 4 ≡ 0)
+unfolding one
+left_beside = (refl, refl, refl, refl)
+
+holding : ℕ → List Item → GivenOut
+holding most items = record { items = items; room = 0; most = most }
+
+-- beside a byte another comes within a bound of 2, and none beyond it, but where nothing was held; the bound itself stays
+within_bound :
+    IsBounded (holding 2 (Text 104 ∷ [])) (holding 2 (Text 104 ∷ Text 105 ∷ [])) × IsBounded (holding 1 []) (holding 1 (Text 104 ∷ Text 105 ∷ [])) × IsBounded (holding 0 (Text 104 ∷ [])) (holding 0 (Text 104 ∷ []))
+    × (IsBounded (holding 1 (Text 104 ∷ [])) (holding 1 (Text 104 ∷ Text 105 ∷ [])) → ⊥) × (IsBounded (holding 1 []) (holding 2 []) → ⊥)
+unfolding holding
+within_bound = ((refl, inr (inr (omega arith))), (refl, inr (inl refl)), (refl, inl refl), λ b. beyond b.1, λ b. omega (arith, b.0))
+  where
+    beyond : (Text 104 ∷ Text 105 ∷ [] ≡ Text 104 ∷ []) ⊎ ((Text 104 ∷ [] ≡ []) ⊎ (2 ≤ 1)) → ⊥
+    beyond (inl e) = absurd cc
+    beyond (inr (inl e)) = absurd cc
+    beyond (inr (inr more)) = omega (arith, more)

@@ -18,7 +18,7 @@ use crate::lines::Lines;
 use crate::machine::Machine;
 use crate::outside::{SaveStore, Words};
 use crate::saving::{resume, save};
-use crate::turns::{flush, turn};
+use crate::turns::{HELD, flush, turn};
 use std::alloc::Global;
 use zcert::Spelled;
 use zfault::{Event, Items, Line, Need, Sink, Source};
@@ -32,10 +32,11 @@ use zstate::Stop;
 /// to the store, and comes from it: what doesn't go there, or from where the machine doesn't go on, the story is told, and plays on; of bytes that
 /// the machine refuses the store is told why.
 ///
-/// What a turn of at most 1,024 steps gives out is written before the next turn's first step. So after P2 the machine stands where a turn
-/// ended, all that was given out before that turn was written, and a beginning of what the turn gave out, and the writer isn't called again;
-/// after P1 and P3 all of it was. After P1 the machine awaits a line, and after P3 the next step gives something out or makes a stack longer, or it is a
-/// save or a restore. At any other end than P2 what was written is flushed.
+/// What a turn of at most 1,024 steps gives out is written before the next turn's first step, and of it no more is held than 64 KiB, or than
+/// one step gives out: a step that finds no room beside what is held ends its turn, and is the next one's first. So after P2 the machine
+/// stands where a turn ended, all that was given out before that turn was written, and a beginning of what the turn gave out, and the writer
+/// isn't called again; after P1 and P3 all of it was. After P1 the machine awaits a line, and after P3 the next step gives something out or
+/// makes a stack longer, or it is a save or a restore. At any other end than P2 what was written is flushed.
 ///
 /// A later call goes on from there, with the next words and saves. What a call read behind the last line that it used, at most 255 bytes,
 /// is lost when the call ends; so is the beginning of a line whose reading fails. A reader that gives no more than a line at once, as a
@@ -119,7 +120,7 @@ fn play_turns<M: Machine, R: Source, W: Sink, S: SaveStore, G: Words>(
     ensures reads { Blames (IsErrOf result PlayError.Read) (R.failures reader.old) (R.failures reader.new) }
     ensures writes { BlamesWriter W.failures W.waits writer.old writer.new (IsErrOf result PlayError.Write) (IsErrOf result PlayError.Read) }
 {
-    let mut items = Items::new(alloc);
+    let mut items = Items::bounded(alloc, HELD);
     let mut lines = Lines::new();
     let mut left = options.budget;
     'turns: loop {

@@ -1,6 +1,6 @@
 //! Steps in turns: what a turn gives out is written before the next.
 
-ghost use Rattle.std.specs.Prelude.{◌≡◌, ◌<◌, false, Ok, None, IsErrOf, IfErr, IfNone, IfOk, IfSome, OnOk};
+ghost use Rattle.std.specs.Prelude.{◌≡◌, ◌<◌, [], false, Ok, None, IsErrOf, IfErr, IfNone, IfOk, IfSome, OnOk};
 ghost use Rattle.std.specs.Io.KnownBytes.{Keeps};
 ghost use Rattle.zfault.specs.Devices.{RisesByOne};
 ghost use Rattle.zstate.specs.Run.{Stands};
@@ -9,6 +9,7 @@ ghost use Rattle.zplayer.specs.Playing.{Writes, WritesInPart};
 
 use crate::end::PlayError;
 use crate::machine::Machine;
+use std::alloc::AllocError;
 use zfault::{Failed, Items, Pause, Sink};
 use zscreen::write_items;
 use zstate::Stop;
@@ -16,8 +17,14 @@ use zstate::Stop;
 /// The most steps that are made before what they gave out is written.
 const TURN: u32 = 1024;
 
+/// How much is held until it is written, but for what one step gives out: 64 KiB.
+pub(crate) const HELD: usize = 65_536;
+
 /// Makes at most `TURN` of the steps that are left, and writes what they gave out. Answers where playing then stands
 /// still, if it does. A failed write is the last call of the writer: it leaves the machine where the turn ended.
+///
+/// A step that finds no room beside what is held ends the turn, and is the first of the next one. Memory is wanting only where a step
+/// finds none with nothing held.
 pub(crate) fn turn<M: Machine, W: Sink>(
     machine: &mut M,
     writer: &mut W,
@@ -33,6 +40,7 @@ pub(crate) fn turn<M: Machine, W: Sink>(
     ensures no_read { ¬ IsErrOf result PlayError.Read }
     ensures finished { IsErrOf result PlayError.OutOfMemory → Writes (M.setting machine.old) status left.old left.new (M.state machine.old) (M.state machine.new) (W.contents writer.old) (W.contents writer.new) }
     ensures wanted { IsErrOf result PlayError.OutOfMemory → M.Wants (M.setting machine.old) (M.state machine.new) }
+    ensures held { IsErrOf result PlayError.OutOfMemory → items.new.items ≡ [] }
     ensures in_part { IsErrOf result PlayError.Write → WritesInPart (M.setting machine.old) status left.old left.new (M.state machine.old) (M.state machine.new) (W.contents writer.old) (W.contents writer.new) }
 {
     let mut steps = TURN.min(*left);
@@ -43,7 +51,8 @@ pub(crate) fn turn<M: Machine, W: Sink>(
     write_items(writer, items, status).map_err(|_| PlayError::Write)?;
     match ran {
         Ok(stop) => Ok(standstill(stop, *left)),
-        Err(_) => Err(PlayError::OutOfMemory),
+        Err(AllocError) if items.is_empty() => Err(PlayError::OutOfMemory),
+        Err(AllocError) => Ok(None),
     }
 }
 
