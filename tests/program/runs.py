@@ -13,6 +13,7 @@ import threading
 
 from arrays import see_arrays
 from calls import see_calls
+from dear import see_dear
 from finding import see_finding
 from game import see_game
 from lines import see_lines
@@ -434,6 +435,7 @@ def main():
     see_texts(program, count)
     see_lines(program, count)
     see_finding(program, count)
+    see_dear(program, count)
     see_game(program, count)
     see_streams(program, count)
     see_endless(program, count)

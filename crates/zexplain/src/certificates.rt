@@ -134,7 +134,7 @@ listing, if that is what is at fault, as an opcode that isn't played (zpc explai
     (
         "G2",
         "G2: the search took too long.
-Rule: zpc find visits at most 4,000,000 instructions (own).
+Rule: zpc find visits at most 4,000,000 instructions, and does at most 400,000,000 steps of work, of which a visit may make many (own).
 Do: read the second line, if it says \"no certificate\". Else bound loops and indices by constants, as docs/AUTHORS.md does.
 ",
     ),

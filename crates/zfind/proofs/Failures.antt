@@ -1,5 +1,5 @@
 -- What kept a certificate from being found, as what is told of it.
-use Rattle.std.proofs.Common.{◌≡◌, ℕ, inl, inr, refl, subst, sym}
+use Rattle.std.proofs.Common.{◌≡◌, inl, inr, refl, subst, sym}
 use Rattle.std.specs.Prelude.{◌≢◌}
 use Rattle.zstory.specs.LoadedStory.{LoadedStory}
 use Rattle.zlist.specs.declared.list_error.ListError.{ListError}
@@ -9,6 +9,7 @@ use Rattle.zdomain.specs.declared.interval.Interval.{Interval}
 use Rattle.zcert.specs.Certificate.{Certificate}
 use Rattle.zfind.specs.declared.error.Obstacle.{Obstacle}
 use Rattle.zfind.specs.declared.error.FindError.{FindError}
+use Rattle.zfind.specs.declared.visits.Allowance.{Allowance}
 use Rattle.zfind.specs.declared.error.FindError.TheVariants.{NotFound, RoundLimit, OutOfMemory}
 use Rattle.zfind.specs.Attempts.{IsMetBy}
 use Rattle.zfind.specs.Finding.{IsFailure, IsFaulty, IsListable, IsStopped, IsTried, IsWalkFailure, IsWrongWith, told_of}
@@ -32,7 +33,7 @@ module _ (story : LoadedStory) where
   not_limit faults.OutOfMemory e = absurd cc
 
   -- what kept a walk from finding one kept all from it
-  pub of_walk : IsListable story → (left : ℕ) (error : FindError) → IsWalkFailure story left error → IsFailure story error
+  pub of_walk : IsListable story → (left : Allowance) (error : FindError) → IsWalkFailure story left error → IsFailure story error
   of_walk listable left (NotFound obstacle) it = inr (listable, it)
   of_walk listable left RoundLimit it = listable
   of_walk listable left OutOfMemory it = tt
@@ -42,7 +43,7 @@ module _ (story : LoadedStory) where
   met_by c error (obstacle, is, wrong) = (obstacle, is, (c, wrong))
 
   -- and it is what kept the walks from finding one
-  pub walk_failure : (left : ℕ) (error : FindError) → IsMetBy story error → IsWalkFailure story left error
+  pub walk_failure : (left : Allowance) (error : FindError) → IsMetBy story error → IsWalkFailure story left error
   walk_failure left (NotFound obstacle) (other, is, tried) = subst (IsTried story) (same other obstacle (sym is)) tried
     where
       same : (one two : Obstacle) → NotFound one ≡ NotFound two → one ≡ two
@@ -51,7 +52,7 @@ module _ (story : LoadedStory) where
   walk_failure left OutOfMemory (other, is, tried) = absurd cc
 
   -- what stopped a walk kept one from being found
-  pub of_stopped : (left : ℕ) (error : FindError) → IsStopped left error → IsWalkFailure story left error
+  pub of_stopped : (left : Allowance) (error : FindError) → IsStopped left error → IsWalkFailure story left error
   of_stopped left (NotFound obstacle) never = absurd never
   of_stopped left RoundLimit it = it
   of_stopped left OutOfMemory it = tt

@@ -10,7 +10,8 @@ use Rattle.zcheck.specs.declared.refusal.StoryRule.TheVariants.{Tree}
 use Rattle.zfind.specs.declared.error.FindError.TheVariants.{NotFound, RoundLimit, OutOfMemory}
 use Rattle.zfind.specs.declared.error.Obstacle.TheVariants.{Place, Story}
 use Rattle.zfind.specs.declared.error.Obstacle.{Obstacle}
-use Rattle.zfind.specs.Finding.{HasNone, IsAtStart, IsBrokenAt, IsFailure, IsFaulty, IsFaultyElsewhere, IsLasting, IsListable, IsMet, IsStopped, IsTold, IsTried, IsWalkFailure, number_of, refused_for, told_of}
+use Rattle.zfind.specs.declared.visits.Allowance.{Allowance}
+use Rattle.zfind.specs.Finding.{HasNone, IsAtStart, IsBrokenAt, IsFailure, IsFaulty, IsFaultyElsewhere, IsLasting, IsLess, IsListable, IsMet, IsStopped, IsTold, IsTried, IsWalkFailure, number_of, refused_for, told_of}
 
 numbers : (number_of (NotFound (Story Tree)) ≡ 1) × (number_of RoundLimit ≡ 2) × (number_of OutOfMemory ≡ 3)
 numbers = (refl, refl, refl)
@@ -57,12 +58,26 @@ failures story o = (inl, (λ listable tried. inr (listable, tried)), by_case, (�
     by_case (inl faulty) = inl faulty
     by_case (inr tried) = inr tried.0
 
--- a walk has a limit where no visit is left, and what it doesn't find was tried
-walks : (story : LoadedStory) (o : Obstacle) → IsWalkFailure story 0 RoundLimit × (IsWalkFailure story 1 RoundLimit → ⊥) × (IsWalkFailure story 0 (NotFound o) → IsTried story o) × IsWalkFailure story 1 OutOfMemory
-walks story o = (refl, (λ left. omega (arith, left)), (λ failure. failure), tt)
+abbrev left : ℕ → ℕ → Allowance
+left v w = record { visits = v; work = w }
 
-stopped : (o : Obstacle) → IsStopped 0 RoundLimit × (IsStopped 1 RoundLimit → ⊥) × (IsStopped 0 (NotFound o) → ⊥) × IsStopped 1 OutOfMemory
-stopped o = (refl, (λ left. omega (arith, left)), (λ never. never), tt)
+some_left : ((left 1 1).visits ≡ 0) ⊎ ((left 1 1).work ≡ 0) → ⊥
+some_left (inl e) = omega (arith, e)
+some_left (inr e) = omega (arith, e)
+
+-- a walk has a limit where no visit is left or no work, and what it doesn't find was tried
+walks :
+    (story : LoadedStory) (o : Obstacle)
+    → IsWalkFailure story (left 0 1) RoundLimit × IsWalkFailure story (left 1 0) RoundLimit × (IsWalkFailure story (left 1 1) RoundLimit → ⊥) × (IsWalkFailure story (left 0 0) (NotFound o) → IsTried story o)
+    × IsWalkFailure story (left 1 1) OutOfMemory
+walks story o = (inl refl, inr refl, some_left, (λ failure. failure), tt)
+
+stopped : (o : Obstacle) → IsStopped (left 0 1) RoundLimit × IsStopped (left 1 0) RoundLimit × (IsStopped (left 1 1) RoundLimit → ⊥) × (IsStopped (left 0 0) (NotFound o) → ⊥) × IsStopped (left 1 1) OutOfMemory
+stopped o = (inl refl, inr refl, some_left, (λ never. never), tt)
+
+-- neither more visits nor more work
+less : IsLess (left 3 5) (left 3 5) × IsLess (left 2 4) (left 3 5) × (IsLess (left 4 5) (left 3 5) → ⊥) × (IsLess (left 3 6) (left 3 5) → ⊥)
+less = (record { visits = omega (arith); work = omega (arith) }, record { visits = omega (arith); work = omega (arith) }, (λ it. omega (arith, it.visits)), (λ it. omega (arith, it.work)))
 
 -- what stands where play begins, or what a certificate was tried with; nothing, where nothing was found or what is at fault is elsewhere
 tells :

@@ -1,5 +1,5 @@
 -- What comes of a walk (own).
-use Rattle.std.specs.Prelude.{◌≡◌, ⊤, ℕ, IfSome}
+use Rattle.std.specs.Prelude.{◌≡◌, ⊤, IfSome}
 use Rattle.zstory.specs.LoadedStory.{LoadedStory}
 use Rattle.zdomain.specs.Interval.{interval_operations}
 use Rattle.zdomain.specs.declared.interval.Interval.{Interval}
@@ -17,6 +17,7 @@ use Rattle.zfind.specs.declared.finding.Round.{Round}
 use Rattle.zfind.specs.declared.finding.Round.TheVariants as rounds
 use Rattle.zfind.specs.declared.obstacles.Sight.{Sight}
 use Rattle.zfind.specs.declared.obstacles.Sight.TheVariants as sights
+use Rattle.zfind.specs.declared.visits.Allowance.{Allowance}
 use Rattle.zfind.specs.Finding.{IsMet, IsTried, IsWalkFailure, IsWrongWith}
 
 -- what an error says stands in the way was met: a certificate was tried that this is wrong with
@@ -39,8 +40,8 @@ abbrev pub IsSearchWrong : LoadedStory → Certificate Interval → Search → T
 IsSearchWrong story certificate (searches.Passed passed) = passed ≡ certificate
 IsSearchWrong story certificate (searches.Failed failure) = (obstacle : Obstacle) → failure.error ≡ NotFound obstacle → IsWrongWith story certificate obstacle
 
--- The same of the walks over a listing, where so many visits are left.
-abbrev pub IsRound : LoadedStory → ℕ → Round → Type 0
+-- The same of the walks over a listing, where so much may be done yet.
+abbrev pub IsRound : LoadedStory → Allowance → Round → Type 0
 IsRound story left (rounds.Passed certificate) = Passes interval_operations story certificate
 IsRound story left (rounds.Failed error) = IsWalkFailure story left error
 IsRound story left (rounds.Wider listing) = ⊤

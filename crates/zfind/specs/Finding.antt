@@ -1,5 +1,5 @@
 -- What the finder answers (own).
-use Rattle.std.specs.Prelude.{◌≡◌, ◌⊎◌, ⊤, pos, ℕ, drop, IsErr, Option, Some, None}
+use Rattle.std.specs.Prelude.{◌≡◌, ◌≤◌, ◌⊎◌, ⊤, pos, ℕ, drop, IsErr, Option, Some, None}
 use Rattle.std.specs.Int.{w32, cast_signed}
 use Rattle.zstory.specs.LoadedStory.{LoadedStory, first_instruction}
 use Rattle.zcode.specs.Reading.{instruction_at}
@@ -20,6 +20,7 @@ use Rattle.zcheck.specs.Passes.{IsCause, Passes}
 use Rattle.zfind.specs.declared.error.FindError.{FindError}
 use Rattle.zfind.specs.declared.error.FindError.TheVariants.{NotFound, RoundLimit, OutOfMemory}
 use Rattle.zfind.specs.declared.error.Obstacle.{Obstacle}
+use Rattle.zfind.specs.declared.visits.Allowance.{Allowance}
 use Rattle.zfind.specs.declared.error.Obstacle.TheVariants as obstacles
 
 abbrev pub number_of : FindError → ℕ
@@ -41,10 +42,15 @@ refused_for (refusals.Story rule) = NotFound (obstacles.Story rule)
 refused_for (refusals.Instruction a rule) = NotFound (obstacles.Place (cast_signed w32 a) rule)
 refused_for refusals.OutOfMemory = OutOfMemory
 
--- why a walk stops that may make so many visits more: none is left, or memory was refused
-abbrev pub IsStopped : ℕ → FindError → Type 0
+-- no more is allowed than that
+pub record IsLess (now : Allowance) (before : Allowance) : Type 0 where
+  pub visits : now.visits ≤ before.visits
+  pub work : now.work ≤ before.work
+
+-- why a walk stops that may do so much yet: no visit is left or no work, or memory was refused
+abbrev pub IsStopped : Allowance → FindError → Type 0
 IsStopped left (NotFound _) = ⊥
-IsStopped left RoundLimit = left ≡ 0
+IsStopped left RoundLimit = (left.visits ≡ 0) ⊎ (left.work ≡ 0)
 IsStopped left OutOfMemory = ⊤
 
 -- More that is found can't mend the rule at an instruction that was visited: where it leads, what it returns and what it stores is said
@@ -83,10 +89,10 @@ module _ (story : LoadedStory) where
   IsFailure RoundLimit = IsListable
   IsFailure OutOfMemory = ⊤
 
-  -- why none is found of a story that lists nothing at fault, where so many visits are left
-  abbrev pub IsWalkFailure : ℕ → FindError → Type 0
+  -- why none is found of a story that lists nothing at fault, where so much may be done yet
+  abbrev pub IsWalkFailure : Allowance → FindError → Type 0
   IsWalkFailure left (NotFound obstacle) = IsTried obstacle
-  IsWalkFailure left RoundLimit = left ≡ 0
+  IsWalkFailure left RoundLimit = (left.visits ≡ 0) ⊎ (left.work ≡ 0)
   IsWalkFailure left OutOfMemory = ⊤
 
   -- At a place that a certificate lists this rule is broken, of those that are the one with the lowest number, and more that is found can't

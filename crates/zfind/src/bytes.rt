@@ -6,6 +6,9 @@ use zpairs::PLACES;
 use zplace::is_changing;
 use zstory::Story;
 
+/// How many places a block has.
+const BLOCK_LENGTH: usize = 256;
+
 /// The length of the header, behind which bytes may be frozen (Z 1.1.1.1).
 const HEADER_LENGTH: usize = 64;
 
@@ -22,6 +25,11 @@ impl Span {
         self.first <= other.last && other.first <= self.last
     }
 
+    /// How many there are.
+    pub(crate) fn length(self) -> usize {
+        self.last.saturating_sub(self.first).saturating_add(1)
+    }
+
     /// All from the lower first to the higher last.
     pub(crate) fn join(self, other: Span) -> Span {
         Span {
@@ -35,9 +43,13 @@ impl Span {
 #[derive(Drop)]
 pub(crate) struct Bytes {
     frozen: Vec<bool>,
+    /// How many are frozen of each block of places.
+    counts: Vec<u16>,
+    /// Whether each was opened since ranges were last made.
+    opened: Vec<bool>,
     /// Where bytes were opened since this was last asked.
     fresh: Option<Span>,
-    /// Where they were since ranges were last made.
+    /// Where they were since ranges were last made, or what was opened was last noted.
     stale: Option<Span>,
 }
 
@@ -51,19 +63,48 @@ impl Bytes {
                 && !is_changing(story, place);
         }
         Ok(Bytes {
+            counts: counts_of(alloc, &frozen)?,
             frozen,
+            opened: vec![in alloc; false; PLACES]?,
             fresh: None,
             stale: None,
         })
     }
 
+    /// Opens the bytes from a place up to an end. Answers how much was gone over.
+    pub(crate) fn open_piece(&mut self, from: usize, end: usize) -> usize {
+        let mut passed = 0usize;
+        for block in from / BLOCK_LENGTH..end.div_ceil(BLOCK_LENGTH) {
+            passed = passed.saturating_add(1);
+            if self.has_frozen(block) {
+                passed = passed.saturating_add(BLOCK_LENGTH);
+                self.open_in_block(block, from, end);
+            }
+        }
+        passed
+    }
+
+    /// Whether a byte of a block is frozen.
+    fn has_frozen(&self, block: usize) -> bool {
+        self.counts.get(block).copied().unwrap_or(0) > 0
+    }
+
+    /// Opens the bytes of a block from a place up to an end.
+    fn open_in_block(&mut self, block: usize, from: usize, end: usize) {
+        let first = block.saturating_mul(BLOCK_LENGTH);
+        for place in first.max(from)..first.saturating_add(BLOCK_LENGTH).min(end) {
+            self.open(place);
+        }
+    }
+
     /// Opens the byte at a place.
-    pub(crate) fn open(&mut self, place: usize) {
+    fn open(&mut self, place: usize) {
         let Some(mark) = self.frozen.get_mut(place) else {
             return;
         };
         if *mark {
             *mark = false;
+            self.note_opened(place);
             let here = Span {
                 first: place,
                 last: place,
@@ -73,12 +114,32 @@ impl Bytes {
         }
     }
 
+    /// Notes that the byte at a place was opened.
+    fn note_opened(&mut self, place: usize) {
+        if let Some(mark) = self.opened.get_mut(place) {
+            *mark = true;
+        }
+        if let Some(count) = self.counts.get_mut(place / BLOCK_LENGTH) {
+            *count = count.saturating_sub(1);
+        }
+    }
+
+    /// Whether the byte at a place was opened since ranges were last made.
+    pub(crate) fn was_opened(&self, place: usize) -> bool {
+        self.opened.get(place).copied().unwrap_or(false)
+    }
+
+    /// Where bytes were opened since ranges were last made, or this was last asked, if any were.
+    pub(crate) fn take_stale(&mut self) -> Option<Span> {
+        self.stale.take()
+    }
+
     /// Where bytes were opened since this was last asked, if any were.
     pub(crate) fn take_fresh(&mut self) -> Option<Span> {
         self.fresh.take()
     }
 
-    /// Whether a byte may have been opened there since ranges were last made.
+    /// Whether a byte may have been opened there since ranges were last made, or what was opened was last noted.
     pub(crate) fn is_stale(&self, reach: Option<Span>) -> bool {
         match (self.stale, reach) {
             (Some(stale), Some(reach)) => stale.meets(reach),
@@ -89,6 +150,7 @@ impl Bytes {
     /// The ranges of bytes that are frozen.
     pub(crate) fn ranges(&mut self, alloc: Global) -> Result<Vec<Range>, AllocError> {
         self.stale = None;
+        self.opened.fill(false);
         let mut ranges = Vec::new(alloc);
         let mut first = None;
         for (place, mark) in self.frozen.iter().enumerate() {
@@ -103,6 +165,17 @@ impl Bytes {
         }
         Ok(ranges)
     }
+}
+
+/// How many are marked of each block of places.
+fn counts_of(alloc: Global, marks: &[bool]) -> Result<Vec<u16>, AllocError> {
+    let mut counts = vec![in alloc; 0u16; PLACES / BLOCK_LENGTH]?;
+    for (place, mark) in marks.iter().enumerate() {
+        if let Some(count) = counts.get_mut(place / BLOCK_LENGTH) {
+            *count = count.saturating_add(u16::from(*mark));
+        }
+    }
+    Ok(counts)
 }
 
 /// The range from a place up to an end.

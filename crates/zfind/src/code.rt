@@ -1,11 +1,13 @@
 //! What is found once of a story's code.
 
 use crate::bytes::Span;
+use crate::gaps::{ADDRESSES, Gaps};
 use crate::groups::Groups;
 use crate::recursion::recursive_routines;
 use crate::thresholds::Thresholds;
 use std::alloc::{AllocError, Global};
 use zcode::{Instr, Operand, Operation};
+use zdomain::Domain;
 use zlist::{Listing, Record};
 use zobj::PropertyQuestion;
 use zplace::{data_end, list_place, table_of};
@@ -31,6 +33,10 @@ pub(crate) struct Code<'a> {
     recursive: Vec<bool>,
     /// Where the property tables are.
     properties: Span,
+    /// At which packed addresses no routine is listed.
+    unlisted: Gaps,
+    /// At which of them no head stands either, so that none can be listed.
+    headless: Gaps,
     /// Whether it is waited for routines that are called and not listed, since they may be listed yet; else they may give any word.
     waits: bool,
 }
@@ -51,6 +57,8 @@ impl<'a> Code<'a> {
             wanderers: Vec::new(alloc),
             recursive: recursive_routines(alloc, listing)?,
             properties: property_span(story),
+            unlisted: Gaps::new(alloc, &listed_heads(alloc, listing)?)?,
+            headless: Gaps::new(alloc, &possible_heads(alloc, story, listing)?)?,
             waits: false,
         };
         for (index, record) in listing.records().iter().enumerate() {
@@ -218,17 +226,24 @@ impl<'a> Code<'a> {
         u16::from_be_bytes([self.byte_at(place), self.byte_at(place.saturating_add(1))])
     }
 
-    /// Whether a routine's head stands at a packed address in static memory, so that a certificate may list it (Z 5.1, 5.2).
+    /// Whether a routine's head stands at a packed address in static memory, so that a certificate may list it.
     pub(crate) fn has_head(&self, packed: u16) -> bool {
-        let head = 2 * usize::from(packed);
-        let locals = usize::from(self.byte_at(head));
-        let end = head.saturating_add(1 + 2 * locals);
-        head >= self.story.static_base() && locals <= 15 && end <= self.story.memory().len()
+        has_head(self.story, packed)
+    }
+
+    /// Whether a set has a packed address, beside 0, at which no routine is listed.
+    pub(crate) fn has_unlisted<V: Domain>(&self, callees: V) -> bool {
+        self.unlisted.meet(callees)
+    }
+
+    /// Whether it has one at which none can be.
+    pub(crate) fn has_headless<V: Domain>(&self, callees: V) -> bool {
+        self.headless.meet(callees)
     }
 
     /// The byte at a place, 0 outside memory.
     pub(crate) fn byte_at(&self, place: usize) -> u8 {
-        self.story.memory().get(place).copied().unwrap_or(0)
+        byte_at(self.story, place)
     }
 
     /// The index of the first instruction of a routine.
@@ -273,6 +288,42 @@ fn add_constants(thresholds: &mut Thresholds, instruction: &Instr) -> Result<(),
         }
     }
     Ok(())
+}
+
+/// Whether a routine is listed at each packed address.
+fn listed_heads(alloc: Global, listing: &Listing) -> Result<Vec<bool>, AllocError> {
+    let mut marks = vec![in alloc; false; ADDRESSES]?;
+    for (packed, mark) in marks.iter_mut().enumerate() {
+        *mark = listing.is_routine(packed.saturating_mul(2));
+    }
+    Ok(marks)
+}
+
+/// Whether one is or can be.
+fn possible_heads(
+    alloc: Global,
+    story: &Story,
+    listing: &Listing,
+) -> Result<Vec<bool>, AllocError> {
+    let mut marks = vec![in alloc; false; ADDRESSES]?;
+    for (packed, mark) in marks.iter_mut().enumerate() {
+        *mark = listing.is_routine(packed.saturating_mul(2))
+            || has_head(story, packed.min(0xffff) as u16);
+    }
+    Ok(marks)
+}
+
+/// Whether a routine's head stands at a packed address in static memory (Z 5.1, 5.2).
+fn has_head(story: &Story, packed: u16) -> bool {
+    let head = 2 * usize::from(packed);
+    let locals = usize::from(byte_at(story, head));
+    let end = head.saturating_add(1 + 2 * locals);
+    head >= story.static_base() && locals <= 15 && end <= story.memory().len()
+}
+
+/// The byte at a place, 0 outside memory.
+fn byte_at(story: &Story, place: usize) -> u8 {
+    story.memory().get(place).copied().unwrap_or(0)
 }
 
 /// An index in four bytes.

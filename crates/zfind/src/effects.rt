@@ -5,7 +5,7 @@ use crate::frame::{Frame, MOST_HEIGHT};
 use crate::state::State;
 use std::alloc::{AllocError, Global};
 use zdomain::Domain;
-use zflow::{Edge, Flow, Lead, argument_set, flow_of};
+use zflow::{Edge, Flow, Lead, Outcome, argument_set, flow_of};
 use zlist::Record;
 use zruns::Tables;
 
@@ -38,14 +38,57 @@ pub(crate) struct Effect<V> {
 #[derive(Clone, Copy)]
 pub(crate) struct Calls<V> {
     pub(crate) callees: V,
+    /// Whether they are listed.
+    pub(crate) naming: Naming,
     first: Option<V>,
     second: Option<V>,
     third: Option<V>,
-    /// Whether it is known of anything that it comes back.
-    pub(crate) comes_back: bool,
+    /// What comes back, as far as is known.
+    given: Option<V>,
+    /// How often results had grown when that was asked.
+    growths: u32,
+    /// How many routines were asked for it.
+    pub(crate) asked: u32,
 }
 
 impl<V: Domain> Calls<V> {
+    /// How many packed addresses lie from the least to the greatest.
+    pub(crate) fn span(&self) -> u32 {
+        let least = i32::from(self.callees.lowest().cast_signed());
+        let greatest = i32::from(self.callees.highest().cast_signed());
+        greatest
+            .saturating_sub(least)
+            .unsigned_abs()
+            .saturating_add(1)
+    }
+
+    /// Whether it is known of anything that it comes back.
+    pub(crate) fn comes_back(&self) -> bool {
+        self.given.is_some()
+    }
+
+    /// Whether what comes back of these routines is known by this call, where results have grown so often.
+    fn is_as_given(&self, callees: V, growths: u32) -> bool {
+        self.growths == growths && are_same(self.callees, callees)
+    }
+
+    /// The routines that another call entered with the same or more arguments.
+    pub(crate) fn entered_by(&self, before: Option<&Calls<V>>) -> Option<V> {
+        match before {
+            Some(before) if before.naming == Naming::Listed && self.gives_less(before) => {
+                Some(before.callees)
+            }
+            _ => None,
+        }
+    }
+
+    /// Whether the arguments of another call have all values of these.
+    fn gives_less(&self, before: &Calls<V>) -> bool {
+        is_given_by(self.first, before.first)
+            && is_given_by(self.second, before.second)
+            && is_given_by(self.third, before.third)
+    }
+
     /// An argument, by its index, if there is one.
     pub(crate) fn argument(&self, index: u8) -> Option<V> {
         match index {
@@ -66,6 +109,8 @@ pub(crate) struct Visit<'a, V> {
     pub(crate) record: &'a Record,
     pub(crate) locals: &'a [V],
     pub(crate) slots: &'a [V],
+    /// What it called when it was visited last, if it was visited and calls.
+    pub(crate) before: Option<&'a Calls<V>>,
 }
 
 impl<'a, V: Domain> Visit<'a, V> {
@@ -80,13 +125,17 @@ impl<'a, V: Domain> Visit<'a, V> {
         )
     }
 
-    /// What the instruction does.
-    pub(crate) fn effects(self, flow: &Flow<'_, V>) -> Result<Effects<V>, AllocError> {
+    /// What the instruction does, where it may read more besides.
+    pub(crate) fn effects(
+        self,
+        flow: &Flow<'_, V>,
+        more: Option<V>,
+    ) -> Result<Effects<V>, AllocError> {
         let count = self.slots.len().saturating_sub(flow.popped);
         let left = self.slots.get(..count).unwrap_or(&[]);
         Ok(Effects {
-            held: self.effect_of(left, &flow.held)?,
-            failed: self.effect_of(left, &flow.failed)?,
+            held: self.effect_of(left, &flow.held, more)?,
+            failed: self.effect_of(left, &flow.failed, more)?,
         })
     }
 
@@ -95,13 +144,14 @@ impl<'a, V: Domain> Visit<'a, V> {
         self,
         left: &[V],
         edge: &Option<Edge<'_, V>>,
+        more: Option<V>,
     ) -> Result<Option<Effect<V>>, AllocError> {
         let Some(edge) = edge else {
             return Ok(None);
         };
         let target = self.record.instruction.target();
-        let Some(frame) = Frame::behind(self.alloc, self.locals, left, &edge.outcome, target)?
-        else {
+        let outcome = with_more(edge.outcome, more);
+        let Some(frame) = Frame::behind(self.alloc, self.locals, left, &outcome, target)? else {
             return Ok(None);
         };
         if frame.height() > MOST_HEIGHT {
@@ -110,8 +160,8 @@ impl<'a, V: Domain> Visit<'a, V> {
         let mut effect = Effect {
             to: None,
             frame,
-            given: global_given(target, edge.outcome.gives),
-            assigned: assigned_global(edge.outcome.assigns),
+            given: global_given(target, outcome.gives),
+            assigned: assigned_global(outcome.assigns),
             returned: None,
             calls: None,
         };
@@ -136,16 +186,10 @@ impl<'a, V: Domain> Visit<'a, V> {
 
     /// Says what is called, and what comes back as far as is known.
     fn call(self, effect: &mut Effect<V>, callees: V) -> Result<(), AllocError> {
-        let given = given_by(self.code, self.state, callees);
-        effect.calls = Some(Calls {
-            callees,
-            first: self.argument(0),
-            second: self.argument(1),
-            third: self.argument(2),
-            comes_back: given.is_some(),
-        });
+        let calls = self.calls(callees);
+        effect.calls = Some(calls);
         let target = self.record.instruction.target();
-        let Some(result) = given else {
+        let Some(result) = calls.given else {
             return Ok(());
         };
         if target == 0 && effect.frame.height() >= MOST_HEIGHT {
@@ -155,6 +199,31 @@ impl<'a, V: Domain> Visit<'a, V> {
         effect.given = global_given(target, Some(result));
         effect.to = self.code.index_behind(self.next(), 0);
         Ok(())
+    }
+
+    /// Its call of these routines.
+    fn calls(self, callees: V) -> Calls<V> {
+        let (given, asked) = self.given_by(callees);
+        Calls {
+            callees,
+            naming: naming_of(self.code, callees),
+            first: self.argument(0),
+            second: self.argument(1),
+            third: self.argument(2),
+            given,
+            growths: self.state.result_growths(),
+            asked,
+        }
+    }
+
+    /// What they give, as far as is known, and how many were asked: none, where nothing has changed since the last visit.
+    fn given_by(self, callees: V) -> (Option<V>, u32) {
+        match self.before {
+            Some(before) if before.is_as_given(callees, self.state.result_growths()) => {
+                (before.given, 0)
+            }
+            _ => given_by(self.code, self.state, callees),
+        }
     }
 
     /// The place behind the instruction.
@@ -203,47 +272,41 @@ pub(crate) enum Naming {
 
 /// Whether the routines at the packed addresses of a set are listed.
 pub(crate) fn naming_of<V: Domain>(code: &Code<'_>, callees: V) -> Naming {
-    let mut naming = Naming::Listed;
-    let mut callee = callees.least_from(1);
-    for _ in 0..WORDS {
-        let Some(packed) = callee else {
-            return naming;
-        };
-        if code.routine_of(packed).is_none() {
-            if !code.has_head(packed) {
-                return Naming::Headless;
-            }
-            naming = Naming::Listable;
-        }
-        callee = next_callee(callees, packed);
+    if !code.has_unlisted(callees) {
+        Naming::Listed
+    } else if code.has_headless(callees) {
+        Naming::Headless
+    } else {
+        Naming::Listable
     }
-    naming
 }
 
 /// What the routines at the packed addresses of a set give, as far as is known: anything, where one of them is none, and nothing yet,
-/// where they are still to be listed.
-fn given_by<V: Domain>(code: &Code<'_>, state: &State<V>, callees: V) -> Option<V> {
+/// where they are still to be listed. And how many were asked.
+fn given_by<V: Domain>(code: &Code<'_>, state: &State<V>, callees: V) -> (Option<V>, u32) {
     match naming_of(code, callees) {
         Naming::Listed => returned_by(code, state, callees),
-        Naming::Listable if code.waits() => None,
-        _ => Some(V::any()),
+        Naming::Listable if code.waits() => (None, 0),
+        _ => (Some(V::any()), 0),
     }
 }
 
-/// What those routines gave so far.
-fn returned_by<V: Domain>(code: &Code<'_>, state: &State<V>, callees: V) -> Option<V> {
+/// What those routines gave so far, and how many there are.
+fn returned_by<V: Domain>(code: &Code<'_>, state: &State<V>, callees: V) -> (Option<V>, u32) {
     let mut given = None;
+    let mut asked = 0u32;
     let mut callee = callees.least_from(1);
     for _ in 0..WORDS {
         let Some(packed) = callee else {
-            return given;
+            return (given, asked);
         };
         if let Some(number) = code.routine_of(packed) {
             given = joined(given, state.result(number));
         }
+        asked = asked.saturating_add(1);
         callee = next_callee(callees, packed);
     }
-    given
+    (given, asked)
 }
 
 /// Whether nothing is known that one of those routines gives.
@@ -265,6 +328,31 @@ pub(crate) fn is_awaited<V: Domain>(code: &Code<'_>, state: &State<V>, callees: 
 /// The next word of a set behind one.
 pub(crate) fn next_callee<V: Domain>(callees: V, packed: u16) -> Option<u16> {
     callees.least_from(packed.checked_add(1)?)
+}
+
+/// Whether each set is within the other.
+fn are_same<V: Domain>(one: V, other: V) -> bool {
+    one.is_within(other) && other.is_within(one)
+}
+
+/// Whether an argument has no value that it hasn't in another call; there, too, it is none where it is none here.
+fn is_given_by<V: Domain>(now: Option<V>, before: Option<V>) -> bool {
+    match (now, before) {
+        (Some(now), Some(before)) => now.is_within(before),
+        (None, None) => true,
+        _ => false,
+    }
+}
+
+/// What may come, where more may be read besides.
+fn with_more<V: Domain>(outcome: Outcome<V>, more: Option<V>) -> Outcome<V> {
+    match more {
+        Some(_) => Outcome {
+            gives: joined(outcome.gives, more),
+            ..outcome
+        },
+        None => outcome,
+    }
 }
 
 /// The words of either, where there are some.

@@ -1,11 +1,11 @@
 //! Certificates found.
 
-ghost use Rattle.std.specs.Prelude.{◌≡◌, ◌≤◌, IfErr, IfOk, Err};
+ghost use Rattle.std.specs.Prelude.{◌≡◌, IfErr, IfOk, Err};
 ghost use Rattle.zdomain.specs.Interval.{interval_operations};
 ghost use Rattle.zlist.specs.Listed.{Lists};
 ghost use Rattle.zcheck.specs.Passes.{Passes};
 ghost use Rattle.zfind.specs.Attempts.{IsAttempt, IsRound, IsSearch, IsSearchWrong};
-ghost use Rattle.zfind.specs.Finding.{IsFailure, IsStopped, IsWalkFailure, IsWrongWith};
+ghost use Rattle.zfind.specs.Finding.{IsFailure, IsLess, IsStopped, IsWalkFailure, IsWrongWith};
 ghost use Rattle.zfind.specs.declared.error.FindError.TheVariants.{NotFound, RoundLimit};
 ghost use Rattle.zfind.specs.declared.error.Obstacle.{Obstacle as AnObstacle};
 
@@ -15,7 +15,7 @@ use crate::error::FindError;
 use crate::extending::extended;
 use crate::settling::settled;
 use crate::state::Plan;
-use crate::visits::MOST_VISITS;
+use crate::visits::{Allowance, MOST_VISITS, MOST_WORK, count_work};
 use crate::walk::Walk;
 use std::alloc::{AllocError, Global};
 use zcert::Certificate;
@@ -82,13 +82,16 @@ struct Failure {
 ///
 /// Nothing is promised of whether one is found: a story that has a certificate may be refused. One that lists something at fault is
 /// refused for that (G1): no certificate was found, and what stood in its way is told; it is the lister's fault, or what the checker says
-/// first of a certificate that was tried. G2 comes where the 4,000,001st instruction would be visited before a first round of walks is
-/// done, G3 where memory was refused.
+/// first of a certificate that was tried. G2 comes where the 4,000,001st instruction would be visited, or more work done than `MOST_WORK`,
+/// before a first round of walks is done, G3 where memory was refused.
 pub fn find(alloc: Global, story: &Story) -> Result<Certificate, FindError>
     ensures passes { IfOk result (Passes interval_operations story.now) }
     ensures failed { IfErr result (IsFailure story.now) }
 {
-    let mut left = MOST_VISITS;
+    let mut left = Allowance {
+        visits: MOST_VISITS,
+        work: MOST_WORK,
+    };
     listed(alloc, story, &mut left)
 }
 
@@ -107,10 +110,10 @@ pub(crate) fn listing_of(alloc: Global, story: &Story) -> Result<Listing, FindEr
 
 /// A certificate of a story, if it has a listing. So many visits are left.
 #[tactic(auto, using(crate::proofs::Failures::of_walk))]
-fn listed(alloc: Global, story: &Story, left: &mut u32) -> Result<Certificate, FindError>
+fn listed(alloc: Global, story: &Story, left: &mut Allowance) -> Result<Certificate, FindError>
     ensures passes { IfOk result (Passes interval_operations story.now) }
     ensures failed { IfErr result (IsFailure story.now) }
-    ensures fewer { left.new ≤ left.old }
+    ensures less { IsLess left.new left.old }
 {
     let listing = listing_of(alloc, story)?;
     searched(alloc, story, listing, left)
@@ -121,11 +124,11 @@ fn searched(
     alloc: Global,
     story: &Story,
     first: Listing,
-    left: &mut u32,
+    left: &mut Allowance,
 ) -> Result<Certificate, FindError>
     ensures passes { IfOk result (Passes interval_operations story.now) }
     ensures failed { IfErr result (IsWalkFailure story.now left.new) }
-    ensures fewer { left.new ≤ left.old }
+    ensures less { IsLess left.new left.old }
 {
     let mut listing = first;
     for _ in 0..MOST_EXTENSIONS {
@@ -144,11 +147,11 @@ fn search_of(
     alloc: Global,
     story: &Story,
     listing: &Listing,
-    left: &mut u32,
+    left: &mut Allowance,
 ) -> Result<Round, FindError>
     ensures round { IfOk result (IsRound story.now left.new) }
     ensures failed { IfErr result (IsWalkFailure story.now left.new) }
-    ensures fewer { left.new ≤ left.old }
+    ensures less { IsLess left.new left.old }
 {
     let code = Code::new(alloc, story, listing)?.waiting();
     let failure = match walked_by_each(alloc, story, &code, left)? {
@@ -179,11 +182,11 @@ fn last_search(
     alloc: Global,
     story: &Story,
     listing: &Listing,
-    left: &mut u32,
+    left: &mut Allowance,
 ) -> Result<Certificate, FindError>
     ensures passes { IfOk result (Passes interval_operations story.now) }
     ensures failed { IfErr result (IsWalkFailure story.now left.new) }
-    ensures fewer { left.new ≤ left.old }
+    ensures less { IsLess left.new left.old }
 {
     let code = Code::new(alloc, story, listing)?;
     match walked_by_each(alloc, story, &code, left)? {
@@ -198,10 +201,10 @@ fn walked_by_each(
     alloc: Global,
     story: &Story,
     code: &Code<'_>,
-    left: &mut u32,
+    left: &mut Allowance,
 ) -> Result<Search, FindError>
     ensures search { IfOk result (IsSearch story.now) }
-    ensures fewer { left.new ≤ left.old }
+    ensures less { IsLess left.new left.old }
     ensures stopped { IfErr result (IsStopped left.new) }
 {
     let failure = match walked(alloc, story, code, 0, left)? {
@@ -227,10 +230,10 @@ fn walked(
     story: &Story,
     code: &Code<'_>,
     given: u16,
-    left: &mut u32,
+    left: &mut Allowance,
 ) -> Result<Search, FindError>
     ensures search { IfOk result (IsSearch story.now) }
-    ensures fewer { left.new ≤ left.old }
+    ensures less { IsLess left.new left.old }
     ensures stopped { IfErr result (IsStopped left.new) }
 {
     let mut plan = Plan::widening(code.thresholds(alloc)?, Interval::single(given));
@@ -248,6 +251,7 @@ fn walked(
     plan.delay = LAST_DELAY;
     let mut walk = Walk::new(alloc, code, plan)?;
     walk.grow(left)?;
+    count_work(left, walk.cost_of_check())?;
     let certificate = certificate_of(alloc, code, &mut walk)?;
     Ok(last_tried(story, walk, certificate))
 }
@@ -282,14 +286,15 @@ fn make_attempt(
     story: &Story,
     code: &Code<'_>,
     plan: Plan<Interval>,
-    left: &mut u32,
+    left: &mut Allowance,
 ) -> Result<Attempt, FindError>
     ensures passes { IfOk result (IsAttempt story.now) }
-    ensures fewer { left.new ≤ left.old }
+    ensures less { IsLess left.new left.old }
     ensures stopped { IfErr result (IsStopped left.new) }
 {
     let mut walk = Walk::new(alloc, code, plan)?;
     walk.grow(left)?;
+    count_work(left, walk.cost_of_check())?;
     let certificate = certificate_of(alloc, code, &mut walk)?;
     let error = match tried(story, certificate) {
         Ok(certificate) => return Ok(Attempt::Passed(certificate)),

@@ -23,6 +23,12 @@ impl<V: Domain> Frame<V> {
         }
     }
 
+    /// Makes it one of no local and no slot, which keeps its room.
+    pub(crate) fn clear(&mut self) {
+        self.locals = 0;
+        self.sets.clear();
+    }
+
     /// What is known behind an instruction, where it left these sets of the locals and of the slots that it didn't take. `None` where what
     /// a branch says leaves a local no value.
     pub(crate) fn behind(

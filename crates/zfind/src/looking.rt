@@ -2,7 +2,8 @@
 
 use crate::bytes::Span;
 use crate::code::Code;
-use crate::effects::{Effect, Effects, Naming, Visit, WORDS, naming_of, next_callee};
+use crate::effects::{Calls, Effect, Effects, Naming, Visit, WORDS, naming_of, next_callee};
+use crate::opened::Opened;
 use crate::openings::reach_of;
 use crate::state::State;
 use std::alloc::{AllocError, Global};
@@ -23,21 +24,30 @@ pub(crate) struct Seen<V> {
     pub(crate) demands: Demands<V>,
 }
 
-/// What is seen of an instruction of an index, where that was reached.
+/// What is known of bytes: what tables say, and which bytes were opened since they were made.
+#[derive(Clone, Copy)]
+pub(crate) struct Known<'a, 'b, 'c> {
+    pub(crate) tables: &'a Tables<'b>,
+    pub(crate) opened: &'c Opened,
+}
+
+/// What is seen of an instruction of an index, where that was reached; and what it called when it was visited last.
 pub(crate) fn look<V: Domain>(
     alloc: Global,
     code: &Code<'_>,
-    tables: &Tables<'_>,
+    known: Known<'_, '_, '_>,
     state: &State<V>,
     record: &Record,
     index: usize,
+    before: Option<&Calls<V>>,
 ) -> Result<Option<Seen<V>>, AllocError> {
-    let Some(visit) = visit_at(alloc, code, state, record, index) else {
+    let Some(visit) = visit_at(alloc, code, state, record, index, before) else {
         return Ok(None);
     };
-    let flow = visit.flow(tables);
+    let flow = visit.flow(known.tables);
+    let more = known.opened.more_read(&flow.demands);
     Ok(Some(Seen {
-        effects: visit.effects(&flow)?,
+        effects: visit.effects(&flow, more)?,
         learned: learned_at(visit),
         reach: reach_of(code, &flow.demands),
         demands: flow.demands,
@@ -51,6 +61,7 @@ fn visit_at<'a, V: Domain>(
     state: &'a State<V>,
     record: &'a Record,
     index: usize,
+    before: Option<&'a Calls<V>>,
 ) -> Option<Visit<'a, V>> {
     let (locals, slots) = state.sets_at(index)?;
     Some(Visit {
@@ -60,6 +71,7 @@ fn visit_at<'a, V: Domain>(
         record,
         locals,
         slots,
+        before,
     })
 }
 
@@ -71,8 +83,9 @@ pub(crate) fn callees_at<V: Domain>(
     state: &State<V>,
     record: &Record,
     index: usize,
+    before: Option<&Calls<V>>,
 ) -> Option<V> {
-    let visit = visit_at(alloc, code, state, record, index)?;
+    let visit = visit_at(alloc, code, state, record, index, before)?;
     match visit.flow(tables).held?.lead {
         Lead::Entering(callees) => Some(callees),
         _ => None,

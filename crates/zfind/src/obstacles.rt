@@ -9,6 +9,7 @@ use crate::certificate::certificate_of;
 use crate::code::Code;
 use crate::error::{FindError, Obstacle};
 use crate::finding::{MOST_EXTENSIONS, listing_of, wider};
+use crate::visits::{Allowance, count_work};
 use crate::walk::Walk;
 use std::alloc::Global;
 use zcert::Certificate;
@@ -23,6 +24,9 @@ use ztext::TextEnds;
 
 /// How many instructions are visited at most to find what is broken in every certificate (own).
 const MOST_FAIR_VISITS: u32 = 60_000;
+
+/// How much work is done at most for that (own).
+const MOST_FAIR_WORK: u32 = 100_000_000;
 
 /// How often it is looked what is broken in a walk that isn't at its end: I4 is broken wherever a visit is due, and what is due differs
 /// from one time to the next, so that it hides no other rule each time.
@@ -100,8 +104,12 @@ fn broken_in_listed(
     ensures memory { IfErr result (λ error. error ≡ OutOfMemory) }
 {
     let mut listing = first;
+    let mut left = Allowance {
+        visits: 0,
+        work: MOST_FAIR_WORK,
+    };
     for _ in 0..MOST_EXTENSIONS {
-        match broken_so_far(alloc, story, &listing)? {
+        match broken_so_far(alloc, story, &listing, &mut left)? {
             Sight::Told(told) => return Ok(told),
             Sight::Wider(more) => listing = more,
         }
@@ -110,14 +118,22 @@ fn broken_in_listed(
 }
 
 /// The same of a listing, or what is listed next.
-fn broken_so_far(alloc: Global, story: &Story, listing: &Listing) -> Result<Sight, FindError>
+fn broken_so_far(
+    alloc: Global,
+    story: &Story,
+    listing: &Listing,
+    left: &mut Allowance,
+) -> Result<Sight, FindError>
     ensures sight { IfOk result (IsSight story.now) }
     ensures memory { IfErr result (λ error. error ≡ OutOfMemory) }
 {
     let code = Code::new(alloc, story, listing)?.waiting();
     let mut walk = Walk::fair(alloc, &code)?;
-    if let Some(obstacle) = broken_in_code(alloc, story, &code, &mut walk)? {
+    if let Some(obstacle) = broken_in_code(alloc, story, &code, &mut walk, left)? {
         return Ok(Sight::Told(Some(obstacle)));
+    }
+    if left.work == 0 {
+        return Ok(Sight::Told(None));
     }
     match wider(alloc, &code, walk.into_wanted())? {
         Some(more) => Ok(Sight::Wider(more)),
@@ -125,20 +141,24 @@ fn broken_so_far(alloc: Global, story: &Story, listing: &Listing) -> Result<Sigh
     }
 }
 
-/// The same of what is listed.
+/// The same of what is listed, as far as work is left.
 #[tactic(auto, using(crate::proofs::Telling::met_where_broken))]
 fn broken_in_code(
     alloc: Global,
     story: &Story,
     code: &Code<'_>,
     walk: &mut Walk<'_, Interval>,
+    left: &mut Allowance,
 ) -> Result<Option<Obstacle>, FindError>
     ensures told { IfOk result (λ obstacle. IfSome obstacle (IsMet story.now)) }
     ensures memory { IfErr result (λ error. error ≡ OutOfMemory) }
 {
-    let mut left = MOST_FAIR_VISITS;
+    left.visits = MOST_FAIR_VISITS;
     for _ in 0..MOMENTS {
-        let grown = walk.grow(&mut left);
+        let grown = walk.grow(left);
+        if count_work(left, walk.cost_of_check()).is_err() {
+            return Ok(None);
+        }
         let certificate = certificate_of(alloc, code, walk)?;
         match grown {
             Ok(()) => return Ok(obstacle_at_end(story, code, walk, &certificate)),
@@ -148,7 +168,7 @@ fn broken_in_code(
         if let Some(obstacle) = certain_obstacle(story, code, walk, &certificate) {
             return Ok(Some(obstacle));
         }
-        left = VISITS_BETWEEN;
+        left.visits = VISITS_BETWEEN;
     }
     Ok(None)
 }

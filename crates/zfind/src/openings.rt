@@ -13,77 +13,89 @@ use zruns::Run;
 /// How many bytes a parse buffer has for a word (Z 15 sread).
 const WORD_LENGTH: usize = 4;
 
-/// How many numbers properties have, with 0 (Z 12.4.1).
-const NUMBERS: usize = 32;
+/// How many blocks of objects tables have.
+const BLOCKS: usize = 16;
 
-/// Opens the bytes that an instruction may write.
-pub(crate) fn open_written<V: Domain>(code: &Code<'_>, bytes: &mut Bytes, demands: &Demands<V>) {
+/// Of a long run tables go over this part of its addresses at most.
+const RUN_PIECES: usize = 128;
+
+/// How many numbers properties have, with 0 (Z 12.4.1).
+pub(crate) const NUMBERS: usize = 32;
+
+/// Opens the bytes that an instruction may write. Answers how much was gone over.
+pub(crate) fn open_written<V: Domain>(
+    code: &Code<'_>,
+    bytes: &mut Bytes,
+    demands: &Demands<V>,
+) -> usize {
     if let Some(elements) = demands.elements {
-        open_elements(bytes, elements);
+        return open_elements(bytes, elements);
     }
     if let Some(pairs) = demands.property {
-        open_properties(code, bytes, pairs);
+        return open_properties(code, bytes, pairs);
     }
-    if let Some(buffers) = demands.buffers {
-        open_buffers(code, bytes, buffers);
+    match demands.buffers {
+        Some(buffers) => open_buffers(code, bytes, buffers),
+        None => 0,
     }
 }
 
-/// Opens elements that are written.
-fn open_elements<V: Domain>(bytes: &mut Bytes, elements: Elements<V>) {
+/// Opens elements that are written. Of those that are read, blocks are gone over.
+fn open_elements<V: Domain>(bytes: &mut Bytes, elements: Elements<V>) -> usize {
+    let run = Run::of(elements.width, elements.arrays, elements.indices);
+    let length = run_length(elements.width, run);
     match elements.access {
-        Access::Reading => {}
-        Access::Writing => {
-            let run = Run::of(elements.width, elements.arrays, elements.indices);
-            open_places(
-                bytes,
-                usize::from(run.first),
-                run_length(elements.width, run),
-            );
-        }
+        Access::Reading => length.min(PLACES / RUN_PIECES),
+        Access::Writing => open_places(bytes, usize::from(run.first), length),
     }
 }
 
 /// How many bytes the elements of a run have.
-fn run_length(width: Width, run: Run) -> usize {
+pub(crate) fn run_length(width: Width, run: Run) -> usize {
     usize::from(run.more) + usize::from(width.span())
 }
 
 /// Opens so many bytes from a place on, of which the first follows the last byte address.
-fn open_places(bytes: &mut Bytes, first: usize, count: usize) {
-    for offset in 0..count.min(PLACES) {
-        bytes.open(first.saturating_add(offset) % PLACES);
-    }
+fn open_places(bytes: &mut Bytes, first: usize, count: usize) -> usize {
+    let from = first % PLACES;
+    let end = from + count.min(PLACES);
+    let front = bytes.open_piece(from, end.min(PLACES));
+    front.saturating_add(bytes.open_piece(0, end.saturating_sub(PLACES)))
 }
 
 /// Opens buffers that are known.
-fn open_buffers<V: Domain>(code: &Code<'_>, bytes: &mut Bytes, buffers: Buffers<V>) {
+fn open_buffers<V: Domain>(code: &Code<'_>, bytes: &mut Bytes, buffers: Buffers<V>) -> usize {
+    let mut passed = 0usize;
     if let Some(text) = buffers.texts.known() {
         let text = usize::from(text);
-        open_places(bytes, text + 1, usize::from(code.byte_at(text)));
+        passed = open_places(bytes, text + 1, usize::from(code.byte_at(text)));
     }
     if let Some(parse) = buffers.parses.known() {
         let parse = usize::from(parse);
         let words = usize::from(code.byte_at(parse));
-        open_places(bytes, parse + 1, 1 + WORD_LENGTH * words);
+        passed = passed.saturating_add(open_places(bytes, parse + 1, 1 + WORD_LENGTH * words));
     }
+    passed
 }
 
-/// Opens the data of properties that are given a word.
-fn open_properties<V: Domain>(code: &Code<'_>, bytes: &mut Bytes, pairs: Pairs<V>) {
+/// Opens the data of properties that are given a word. Of those that are asked for, blocks are gone over.
+fn open_properties<V: Domain>(code: &Code<'_>, bytes: &mut Bytes, pairs: Pairs<V>) -> usize {
     match pairs.asked {
-        Asked::Answered(_) => {}
+        Asked::Answered(_) => NUMBERS * BLOCKS,
         Asked::Filled => open_filled(code, bytes, pairs.objects, pairs.numbers),
     }
 }
 
 /// Opens the data of each property that an object and a number of two sets make.
-fn open_filled<V: Domain>(code: &Code<'_>, bytes: &mut Bytes, objects: V, numbers: V) {
+fn open_filled<V: Domain>(code: &Code<'_>, bytes: &mut Bytes, objects: V, numbers: V) -> usize {
+    let mut passed = 0usize;
     for below in 0..code.story.objects() {
         if objects.contains(u16::from(below) + 1) {
             open_list(code, bytes, table_of(code.story, below + 1), numbers);
+            passed = passed.saturating_add(NUMBERS);
         }
     }
+    passed
 }
 
 /// Opens the data of those properties in a table that have a number of a set.

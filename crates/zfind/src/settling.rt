@@ -1,13 +1,14 @@
 //! What is left of what is known, once nothing more is found.
 
-ghost use Rattle.std.specs.Prelude.{◌≤◌, IfErr};
-ghost use Rattle.zfind.specs.Finding.{IsStopped};
+ghost use Rattle.std.specs.Prelude.{IfErr};
+ghost use Rattle.zfind.specs.Finding.{IsLess, IsStopped};
 
 use crate::code::Code;
 use crate::error::FindError;
-use crate::looking::{followed_by, look};
-use crate::state::{Plan, State};
-use crate::visits::{count_more, count_visit};
+use crate::looking::{Known, look};
+use crate::opened::Opened;
+use crate::state::State;
+use crate::visits::{Allowance, count_visit, count_work};
 use crate::walk::Walk;
 use std::alloc::Global;
 use zdomain::Domain;
@@ -19,43 +20,54 @@ pub(crate) fn settled<V: Domain>(
     alloc: Global,
     code: &Code<'_>,
     walk: &mut Walk<'_, V>,
-    left: &mut u32,
+    left: &mut Allowance,
 ) -> Result<State<V>, FindError>
-    ensures fewer { left.new ≤ left.old }
+    ensures less { IsLess left.new left.old }
     ensures stopped { IfErr result (IsStopped left.new) }
 {
     let ranges = walk.bytes.ranges(alloc)?;
     let tables = Tables::new(code.story, &ranges);
-    let mut next = Walk::new(alloc, code, Plan::joining(alloc))?;
+    let opened = Opened::new(alloc)?;
+    let known = Known {
+        tables: &tables,
+        opened: &opened,
+    };
+    let mut next = Walk::still(alloc, code)?;
     for index in 0..code.records().len() {
-        if walk.state.is_reached(index) {
-            count_visit(left)?;
-        }
-        settle(alloc, code, &tables, &walk.state, &mut next, index, left)?;
+        settle(alloc, code, known, &walk.state, &mut next, index, left)?;
     }
     Ok(next.into_state())
 }
 
-/// Does what an instruction does by what is known, to what is found anew.
+/// Does what an instruction does by what is known, to what is found anew, if it was reached.
 fn settle<V: Domain>(
     alloc: Global,
     code: &Code<'_>,
-    tables: &Tables<'_>,
+    known: Known<'_, '_, '_>,
     state: &State<V>,
     next: &mut Walk<'_, V>,
     index: usize,
-    left: &mut u32,
+    left: &mut Allowance,
 ) -> Result<(), FindError>
-    ensures fewer { left.new ≤ left.old }
+    ensures less { IsLess left.new left.old }
     ensures stopped { IfErr result (IsStopped left.new) }
 {
     let Some(record) = code.records().get(index) else {
         return Ok(());
     };
-    let Some(seen) = look(alloc, code, tables, state, record, index)? else {
+    let Some(seen) = look(
+        alloc,
+        code,
+        known,
+        state,
+        record,
+        index,
+        next.calls_at(index),
+    )?
+    else {
         return Ok(());
     };
-    count_more(left, followed_by(code, &seen.effects))?;
+    count_visit(left)?;
     next.apply(index, state.routine_at(index), &seen.effects)?;
-    Ok(())
+    count_work(left, next.take_work())
 }

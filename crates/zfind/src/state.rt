@@ -1,6 +1,6 @@
 //! What is known of each place, global and routine.
 
-use crate::code::Code;
+use crate::code::{Code, short};
 use crate::frame::Frame;
 use crate::thresholds::Thresholds;
 use std::alloc::{AllocError, Global};
@@ -11,6 +11,9 @@ const GLOBALS: usize = 240;
 
 /// How often what is no meeting of ways grows before it is widened, so that each walk ends.
 const MOST_GROWTHS: u16 = 200;
+
+/// For how many sets a place counts beside its own.
+const SETS_OF_PLACE: usize = 8;
 
 /// What is known of a place: its sets begin at `start` of the list of all sets.
 #[derive(Clone, Copy)]
@@ -52,6 +55,8 @@ pub(crate) struct State<V> {
     globals: Vec<V>,
     global_growths: Vec<Growths>,
     results: Vec<Cell<V>>,
+    /// How often a result has grown.
+    result_growths: u32,
 }
 
 /// How sets grow.
@@ -145,6 +150,7 @@ impl<V: Domain> State<V> {
             globals: loaded_globals(alloc, code)?,
             global_growths: vec![in alloc; NO_GROWTHS; GLOBALS]?,
             results: vec![in alloc; cell; code.routines().len()]?,
+            result_growths: 0,
         })
     }
 
@@ -157,6 +163,17 @@ impl<V: Domain> State<V> {
     pub(crate) fn result(&self, number: u16) -> Option<V> {
         let index = usize::from(number).checked_sub(1)?;
         self.results.get(index)?.set
+    }
+
+    /// How often a result has grown.
+    pub(crate) fn result_growths(&self) -> u32 {
+        self.result_growths
+    }
+
+    /// How many sets are known of places, with a few for each place.
+    pub(crate) fn size(&self) -> u32 {
+        let places = self.spots.len().saturating_mul(SETS_OF_PLACE);
+        short(self.sets.len().saturating_add(places))
     }
 
     /// Whether a place was reached.
@@ -222,8 +239,7 @@ impl<V: Domain> State<V> {
         let widens = spot.growths.are_enough(may_widen, plan);
         let mut is_new = false;
         for (offset, more) in frame.sets().iter().enumerate() {
-            let cap = plan.cap_at(index, offset);
-            is_new |= self.raise(plan, spot.start.saturating_add(offset), *more, widens, cap);
+            is_new |= self.raise(plan, index, offset, spot.start, *more, widens);
         }
         if is_new {
             self.count_growth(index, may_widen);
@@ -255,15 +271,23 @@ impl<V: Domain> State<V> {
         }
     }
 
-    /// Gives a set the words of another, and says whether any was new.
-    fn raise(&mut self, plan: &Plan<V>, at: usize, more: V, widens: bool, cap: Option<V>) -> bool {
-        let Some(set) = self.sets.get_mut(at) else {
+    /// Gives a set of a place, whose sets begin at a start, the words of another, and says whether any was new.
+    fn raise(
+        &mut self,
+        plan: &Plan<V>,
+        index: usize,
+        offset: usize,
+        start: usize,
+        more: V,
+        widens: bool,
+    ) -> bool {
+        let Some(set) = self.sets.get_mut(start.saturating_add(offset)) else {
             return false;
         };
         if more.is_within(*set) {
             return false;
         }
-        *set = plan.grown(*set, more, widens, cap);
+        *set = plan.grown(*set, more, widens, plan.cap_at(index, offset));
         true
     }
 
@@ -301,11 +325,13 @@ impl<V: Domain> State<V> {
         };
         let Some(set) = cell.set else {
             cell.set = Some(more);
+            self.result_growths = self.result_growths.saturating_add(1);
             return true;
         };
         if more.is_within(set) {
             return false;
         }
+        self.result_growths = self.result_growths.saturating_add(1);
         let widens = cell.growths.are_enough(may_widen, plan);
         cell.set = Some(plan.grown(set, more, widens, cap));
         cell.growths = cell.growths.after(may_widen);

@@ -1,7 +1,7 @@
 //! The walk over a story's code, which finds what is known of each place.
 
-ghost use Rattle.std.specs.Prelude.{◌≤◌, IfErr};
-ghost use Rattle.zfind.specs.Finding.{IsStopped};
+ghost use Rattle.std.specs.Prelude.{IfErr};
+ghost use Rattle.zfind.specs.Finding.{IsLess, IsStopped};
 
 use crate::bytes::{Bytes, Span};
 use crate::code::{Code, short};
@@ -9,17 +9,21 @@ use crate::effects::{Calls, Effect, Effects, Naming, WORDS, is_awaited, naming_o
 use crate::error::FindError;
 use crate::frame::Frame;
 use crate::groups::Groups;
-use crate::looking::{callees_at, followed_by, look};
+use crate::looking::{Known, Seen, callees_at, followed_by, look};
+use crate::opened::Opened;
 use crate::openings::open_written;
 use crate::queue::Queue;
 use crate::state::{Plan, State};
-use crate::visits::{count_more, count_visit};
+use crate::visits::{Allowance, count_more, count_visit, count_work};
 use std::alloc::{AllocError, Global};
 use zdomain::Domain;
 use zruns::Tables;
 
 /// How often routines that never return are told from those that wait for them, so that each walk ends soon.
 const MOST_ENDINGS: u16 = 64;
+
+/// For how much work the check of a routine that a call may name counts.
+const COST_OF_CALLEE: u32 = 16;
 
 /// A walk: what is known so far, and which instructions are to be visited since that grew.
 #[derive(Drop)]
@@ -40,14 +44,20 @@ pub(crate) struct Walk<'a, V> {
     found: u32,
     /// How often each instruction was visited, where those come first that were visited least.
     visits: Option<Vec<u32>>,
-    /// Whether each instruction calls what nothing is known to come back of.
-    stuck: Vec<bool>,
+    /// What each instruction called when it was visited last.
+    calls: Vec<Option<Calls<V>>>,
+    /// What was called last.
+    last: Option<Calls<V>>,
     /// Whether a routine is called at each packed address that isn't listed yet.
     wanted: Vec<bool>,
     /// Whether there is one.
     waits: bool,
     /// How often it was said of routines what they give that never return.
     endings: u16,
+    /// How much was done that isn't counted yet.
+    work: u32,
+    /// Whether nothing is visited, so that it isn't noted what is to be.
+    is_still: bool,
 }
 
 impl<'a, V: Domain> Walk<'a, V> {
@@ -70,10 +80,13 @@ impl<'a, V: Domain> Walk<'a, V> {
             ranks: vec![in alloc; 0; code.routines().len().saturating_add(1)]?,
             found: 0,
             visits: None,
-            stuck: vec![in alloc; false; count]?,
+            calls: vec![in alloc; None; count]?,
+            last: None,
             wanted: vec![in alloc; false; WORDS]?,
             waits: false,
             endings: 0,
+            work: 0,
+            is_still: false,
         };
         if let Some(first) = code.first() {
             walk.join(first, 0, &Frame::empty(alloc), false)?;
@@ -86,6 +99,13 @@ impl<'a, V: Domain> Walk<'a, V> {
     pub(crate) fn fair(alloc: Global, code: &'a Code<'a>) -> Result<Walk<'a, V>, AllocError> {
         let mut walk = Walk::new(alloc, code, Plan::joining(alloc))?;
         walk.visits = Some(vec![in alloc; 0; code.records().len()]?);
+        Ok(walk)
+    }
+
+    /// One that takes what is found, and visits nothing.
+    pub(crate) fn still(alloc: Global, code: &'a Code<'a>) -> Result<Walk<'a, V>, AllocError> {
+        let mut walk = Walk::new(alloc, code, Plan::joining(alloc))?;
+        walk.is_still = true;
         Ok(walk)
     }
 
@@ -109,35 +129,82 @@ impl<'a, V: Domain> Walk<'a, V> {
         self.waits.then_some(self.wanted)
     }
 
-    /// Walks until nothing more is found, with at most so many visits. What looks where bytes were opened is visited once more when
-    /// nothing else is left, so that tables are seldom made: the first visit behind that is made here, and the others of its round by `run`.
-    pub(crate) fn grow(&mut self, left: &mut u32) -> Result<(), FindError>
-        ensures fewer { left.new ≤ left.old }
+    /// Walks until nothing more is found, as far as is allowed. What looks where bytes were opened is visited once more when nothing else
+    /// is left. Tables are made once, and say what they say but for what was opened since.
+    pub(crate) fn grow(&mut self, left: &mut Allowance) -> Result<(), FindError>
+        ensures less { IsLess left.new left.old }
+        ensures stopped { IfErr result (IsStopped left.new) }
+    {
+        let ranges = self.bytes.ranges(self.alloc)?;
+        let tables = Tables::new(self.code.story, &ranges);
+        let mut opened = Opened::new(self.alloc)?;
+        self.run_rounds(&tables, &mut opened, left)
+    }
+
+    /// Walks by rounds: the first visit of each is made here, and the others by `run`.
+    fn run_rounds(
+        &mut self,
+        tables: &Tables<'_>,
+        opened: &mut Opened,
+        left: &mut Allowance,
+    ) -> Result<(), FindError>
+        ensures less { IsLess left.new left.old }
         ensures stopped { IfErr result (IsStopped left.new) }
     {
         while let Some(index) = self.queue.next() {
             count_visit(left)?;
             self.queue.remove_next();
-            let ranges = self.bytes.ranges(self.alloc)?;
-            let tables = Tables::new(self.code.story, &ranges);
-            self.visit(&tables, index, left)?;
-            self.run(&tables, left)?;
+            self.note_opened(opened)?;
+            let known = Known {
+                tables: &*tables,
+                opened: &*opened,
+            };
+            self.visit(known, index, left)?;
+            self.run(known, left)?;
             self.wake_more()?;
         }
         Ok(())
     }
 
     /// Visits instructions until none is left.
-    fn run(&mut self, tables: &Tables<'_>, left: &mut u32) -> Result<(), FindError>
-        ensures fewer { left.new ≤ left.old }
+    fn run(&mut self, known: Known<'_, '_, '_>, left: &mut Allowance) -> Result<(), FindError>
+        ensures less { IsLess left.new left.old }
         ensures stopped { IfErr result (IsStopped left.new) }
     {
         while let Some(index) = self.queue.next() {
             count_visit(left)?;
             self.queue.remove_next();
-            self.visit(tables, index, left)?;
+            self.visit(known, index, left)?;
         }
         Ok(())
+    }
+
+    /// Notes what was opened in the round before.
+    fn note_opened(&mut self, opened: &mut Opened) -> Result<(), AllocError> {
+        let passed = opened.note(self.alloc, self.code, &mut self.bytes)?;
+        self.spend(passed);
+        Ok(())
+    }
+
+    /// How much work it is to make a certificate of what is known, and to check it.
+    pub(crate) fn cost_of_check(&self) -> u32 {
+        let mut cost = self.state.size();
+        for calls in &self.calls {
+            cost = cost.saturating_add(cost_of_calls(calls));
+        }
+        cost
+    }
+
+    /// Notes that so much was done.
+    fn spend(&mut self, work: usize) {
+        self.work = self.work.saturating_add(short(work));
+    }
+
+    /// How much was done since this was last asked.
+    pub(crate) fn take_work(&mut self) -> u32 {
+        let work = self.work;
+        self.work = 0;
+        work
     }
 
     /// Has those visited that were put off: what looked where bytes were opened, and, where there is none, what waits for a routine that
@@ -157,6 +224,7 @@ impl<'a, V: Domain> Walk<'a, V> {
             return Ok(());
         }
         self.endings = self.endings.saturating_add(1);
+        self.spend(usize::from(self.routine_count()).saturating_mul(3));
         let waiting = self.waiting_routines()?;
         for below in 0..self.routine_count() {
             if !is_marked(&waiting, below + 1) {
@@ -192,8 +260,8 @@ impl<'a, V: Domain> Walk<'a, V> {
         if self.endings > MOST_ENDINGS {
             return Ok(waiting);
         }
-        for (index, is_stuck) in self.stuck.iter().enumerate() {
-            if *is_stuck {
+        for (index, calls) in self.calls.iter().enumerate() {
+            if is_stuck(calls) {
                 mark(&mut waiting, usize::from(self.state.routine_at(index)));
             }
         }
@@ -220,29 +288,49 @@ impl<'a, V: Domain> Walk<'a, V> {
         self.endings > 0
     }
 
-    /// Visits an instruction. Each routine that it calls behind the first is one more visit.
-    fn visit(&mut self, tables: &Tables<'_>, index: usize, left: &mut u32) -> Result<(), FindError>
-        ensures fewer { left.new ≤ left.old }
+    /// Visits an instruction, and counts what that was.
+    fn visit(
+        &mut self,
+        known: Known<'_, '_, '_>,
+        index: usize,
+        left: &mut Allowance,
+    ) -> Result<(), FindError>
+        ensures less { IsLess left.new left.old }
         ensures stopped { IfErr result (IsStopped left.new) }
     {
         let code = self.code;
         let Some(record) = code.records().get(index) else {
             return Ok(());
         };
-        let Some(seen) = look(self.alloc, code, tables, &self.state, record, index)? else {
+        let before = self.calls_at(index);
+        let Some(seen) = look(self.alloc, code, known, &self.state, record, index, before)? else {
             return Ok(());
         };
-        if let Err(error) = count_more(left, followed_by(code, &seen.effects)) {
-            self.wake(index)?;
-            return Err(error);
+        if self.visits.is_some() {
+            if let Err(error) = count_more(left, followed_by(code, &seen.effects)) {
+                self.wake(index)?;
+                return Err(error);
+            }
         }
+        self.take_seen(index, &seen)?;
+        count_work(left, self.take_work())
+    }
+
+    /// What an instruction called when it was visited last.
+    pub(crate) fn calls_at(&self, index: usize) -> Option<&Calls<V>> {
+        self.calls.get(index)?.as_ref()
+    }
+
+    /// Does what is seen of an instruction.
+    fn take_seen(&mut self, index: usize, seen: &Seen<V>) -> Result<(), AllocError> {
+        let code = self.code;
         self.note_visit(index, seen.reach);
-        open_written(code, &mut self.bytes, &seen.demands);
+        let passed = open_written(code, &mut self.bytes, &seen.demands);
+        self.spend(passed);
         self.note_loaders();
         self.learn(seen.learned)?;
         let routine = self.state.routine_at(index);
-        self.apply(index, routine, &seen.effects)?;
-        Ok(())
+        self.apply(index, routine, &seen.effects)
     }
 
     /// Notes where an instruction looked, and that it was visited once more.
@@ -299,8 +387,7 @@ impl<'a, V: Domain> Walk<'a, V> {
             self.give_back(routine, set)?;
         }
         if let Some(calls) = &effect.calls {
-            self.note_call(index, calls);
-            self.enter_each(calls)?;
+            self.call(index, calls)?;
         }
         match effect.to {
             Some(to) => self.join(to, routine, &effect.frame, to <= index),
@@ -331,24 +418,40 @@ impl<'a, V: Domain> Walk<'a, V> {
         Ok(())
     }
 
-    /// Notes whether it is known of anything that it comes back of a call.
-    fn note_call(&mut self, index: usize, calls: &Calls<V>) {
-        if let Some(mark) = self.stuck.get_mut(index) {
-            *mark = !calls.comes_back;
+    /// Calls routines, but those that were called so before, here or by the last instruction that called.
+    fn call(&mut self, index: usize, calls: &Calls<V>) -> Result<(), AllocError> {
+        self.spend(calls.asked as usize);
+        let here = calls.entered_by(self.calls_at(index));
+        let last = calls.entered_by(self.last.as_ref());
+        if !has_all(here, calls.callees) && !has_all(last, calls.callees) {
+            self.enter_each(calls, here, last)?;
         }
+        if let Some(noted) = self.calls.get_mut(index) {
+            *noted = Some(*calls);
+        }
+        self.last = Some(*calls);
+        Ok(())
     }
 
-    /// Enters each routine that is called, or has it listed; up to the first that isn't listed, where one can't be.
-    fn enter_each(&mut self, calls: &Calls<V>) -> Result<(), AllocError> {
-        let naming = naming_of(self.code, calls.callees);
+    /// Enters each routine that is called, beside those of two sets, or has it listed; up to the first that isn't listed, where one can't
+    /// be.
+    fn enter_each(
+        &mut self,
+        calls: &Calls<V>,
+        here: Option<V>,
+        last: Option<V>,
+    ) -> Result<(), AllocError> {
+        let mut frame = Frame::empty(self.alloc);
         let mut callee = calls.callees.least_from(1);
         for _ in 0..WORDS {
             let Some(packed) = callee else {
                 return Ok(());
             };
+            self.spend(1);
             match self.code.routine_of(packed) {
-                Some(number) => self.enter(number, calls)?,
-                None if naming == Naming::Listable => self.want(packed),
+                Some(_) if has(here, packed) || has(last, packed) => {}
+                Some(number) => self.enter(number, calls, &mut frame)?,
+                None if calls.naming == Naming::Listable => self.want(packed),
                 None => return Ok(()),
             }
             callee = next_callee(calls.callees, packed);
@@ -364,13 +467,18 @@ impl<'a, V: Domain> Walk<'a, V> {
         }
     }
 
-    /// Enters a routine.
-    fn enter(&mut self, number: u16, calls: &Calls<V>) -> Result<(), AllocError> {
+    /// Enters a routine, by the frame that is put together for it.
+    fn enter(
+        &mut self,
+        number: u16,
+        calls: &Calls<V>,
+        frame: &mut Frame<V>,
+    ) -> Result<(), AllocError> {
         let Some(entry) = self.code.entry_of(number) else {
             return Ok(());
         };
         self.rank(number);
-        let mut frame = Frame::empty(self.alloc);
+        frame.clear();
         for index in 0..self.code.local_count(number) {
             frame.push(match calls.argument(index) {
                 Some(set) => set,
@@ -378,7 +486,7 @@ impl<'a, V: Domain> Walk<'a, V> {
             })?;
         }
         frame.end_locals();
-        self.join(entry, number, &frame, self.code.is_recursive(number))
+        self.join(entry, number, frame, self.code.is_recursive(number))
     }
 
     /// Gives a routine its rank, if it has none.
@@ -404,6 +512,7 @@ impl<'a, V: Domain> Walk<'a, V> {
         frame: &Frame<V>,
         may_widen: bool,
     ) -> Result<(), AllocError> {
+        self.spend(frame.sets().len().saturating_add(1));
         if self
             .state
             .join_place(&self.plan, to, routine, frame, may_widen)?
@@ -423,7 +532,16 @@ impl<'a, V: Domain> Walk<'a, V> {
         let Some(record) = self.code.records().get(index) else {
             return false;
         };
-        match callees_at(self.alloc, self.code, tables, &self.state, record, index) {
+        let before = self.calls_at(index);
+        match callees_at(
+            self.alloc,
+            self.code,
+            tables,
+            &self.state,
+            record,
+            index,
+            before,
+        ) {
             Some(callees) => naming_of(self.code, callees) == Naming::Listable,
             None => false,
         }
@@ -434,7 +552,16 @@ impl<'a, V: Domain> Walk<'a, V> {
         let Some(record) = self.code.records().get(index) else {
             return false;
         };
-        match callees_at(self.alloc, self.code, tables, &self.state, record, index) {
+        let before = self.calls_at(index);
+        match callees_at(
+            self.alloc,
+            self.code,
+            tables,
+            &self.state,
+            record,
+            index,
+            before,
+        ) {
             Some(callees) => is_awaited(self.code, &self.state, callees),
             None => false,
         }
@@ -476,7 +603,12 @@ impl<'a, V: Domain> Walk<'a, V> {
 
     /// Has all visited that depends on a thing of a number.
     fn wake_group(&mut self, groups: &Groups, number: u16) -> Result<(), AllocError> {
-        for (_, index) in groups.of(number) {
+        if self.is_still {
+            return Ok(());
+        }
+        let group = groups.of(number);
+        self.spend(group.len());
+        for (_, index) in group {
             self.wake(*index as usize)?;
         }
         Ok(())
@@ -484,7 +616,11 @@ impl<'a, V: Domain> Walk<'a, V> {
 
     /// Has all visited that names by a variable what it calls or reads.
     fn wake_wanderers(&mut self) -> Result<(), AllocError> {
+        if self.is_still {
+            return Ok(());
+        }
         let code = self.code;
+        self.spend(code.wanderers().len());
         for index in code.wanderers() {
             self.wake(*index as usize)?;
         }
@@ -497,6 +633,7 @@ impl<'a, V: Domain> Walk<'a, V> {
             return;
         };
         let code = self.code;
+        self.spend(code.loaders().len());
         for index in code.loaders() {
             if self.looked_at(*index as usize, fresh) {
                 self.put_off(*index as usize);
@@ -514,6 +651,7 @@ impl<'a, V: Domain> Walk<'a, V> {
     /// Has all visited that looked where bytes were opened since the tables were made.
     fn wake_outdated(&mut self) -> Result<(), AllocError> {
         let code = self.code;
+        self.spend(code.loaders().len());
         for index in code.loaders() {
             if self.was_put_off(*index as usize) {
                 self.wake(*index as usize)?;
@@ -538,6 +676,38 @@ impl<'a, V: Domain> Walk<'a, V> {
             Some(Some(reach)) => reach.meets(span),
             _ => false,
         }
+    }
+}
+
+/// Whether a word is one of a set, if there is one.
+fn has<V: Domain>(set: Option<V>, word: u16) -> bool {
+    match set {
+        Some(set) => set.contains(word),
+        None => false,
+    }
+}
+
+/// Whether all words are of a set, if there is one.
+fn has_all<V: Domain>(set: Option<V>, words: V) -> bool {
+    match set {
+        Some(set) => words.is_within(set),
+        None => false,
+    }
+}
+
+/// How much work it is to check calls.
+fn cost_of_calls<V: Domain>(calls: &Option<Calls<V>>) -> u32 {
+    match calls {
+        Some(calls) => calls.span().saturating_mul(COST_OF_CALLEE),
+        None => 0,
+    }
+}
+
+/// Whether nothing is known to come back of calls.
+fn is_stuck<V: Domain>(calls: &Option<Calls<V>>) -> bool {
+    match calls {
+        Some(calls) => !calls.comes_back(),
+        None => false,
     }
 }
 

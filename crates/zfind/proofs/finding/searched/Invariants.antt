@@ -1,5 +1,5 @@
-use Rattle.std.proofs.Common.{◌≤◌}
+use Rattle.zfind.specs.Finding.{IsLess}
 use Rattle.zfind.proofs.finding.searched.Given as goal
 
 abbrev pub invariant-loop : goal.invariant-loop
-invariant-loop l = l.left ≤ l.fn.left
+invariant-loop l = IsLess l.left l.fn.left

@@ -1,5 +1,5 @@
-use Rattle.std.proofs.Common.{◌≤◌}
+use Rattle.zfind.specs.Finding.{IsLess}
 use Rattle.zfind.proofs.finding.walked_by_each.Given as goal
 
 abbrev pub invariant-loop-given : goal.invariant-loop-given
-invariant-loop-given l = l.left ≤ l.fn.left
+invariant-loop-given l = IsLess l.left l.fn.left

@@ -1,5 +1,5 @@
-use Rattle.std.proofs.Common.{◌≤◌}
+use Rattle.zfind.specs.Finding.{IsLess}
 use Rattle.zfind.proofs.settling.settled.Given as goal
 
 abbrev pub invariant-loop-index : goal.invariant-loop-index
-invariant-loop-index g l = l.left ≤ l.fn.left
+invariant-loop-index g l = IsLess l.left l.fn.left
