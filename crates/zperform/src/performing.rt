@@ -154,7 +154,9 @@ fn fulfil<F: Files, R: Source, W: Sink, E: Sink>(
             certificate: Some(certificate),
         } => list_certificate(alloc, story, certificate, files, writer),
         Command::Find {
-            story, certificate, ..
+            story,
+            certificate,
+            ..
         } => find_file(alloc, story, certificate, files, writer),
         Command::Check { story, certificate } => {
             check_files(alloc, story, certificate, files, writer)
