@@ -1,0 +1,59 @@
+"""What a command line has to answer by the model: exit status, output, errors, and the file of saves (README.md has the forms)."""
+from instructions import Listing
+from machine import Machine, Store
+from stories import Refused, Story
+
+
+def at(place):
+    return b"%05x" % place if 0 <= place < 0x100000 else b"%d" % place
+
+
+def answer(case, tally):
+    """What a case has to answer. The tally counts what was met."""
+    saved = case.files.get("saved")
+    try:
+        status, output, errors, saved = COMMANDS[case.words[0]](case, tally)
+    except Refused as refused:
+        tally.codes[refused.code] += 1
+        where = b"" if refused.place is None else b" at " + at(refused.place)
+        status, output, errors = 1, b"", b"refused: %s%s\n" % (refused.code.encode(), where)
+    tally.kinds[case.words[0]] += 1
+    return status, output, errors, saved
+
+
+def listed(case, tally):
+    return 0, Listing(Story(case.files["story"])).lines(), b"", None
+
+
+def options_of(words):
+    """The options of a play by their names, and the names of its files."""
+    found, files, words = {}, [], list(words)
+    while words:
+        it = words.pop(0)
+        if it in ("--status", "--tell"):
+            found[it] = True
+        elif it.startswith("--"):
+            found[it] = words.pop(0)
+        else:
+            files.append(it)
+    return found, files
+
+
+def played(case, tally):
+    options, files = options_of(case.words[1:])
+    story = Story(case.files["story"])
+    store = Store(case.files.get("saved")) if "--save" in options else None
+    machine = Machine(story, int(options.get("--seed", 1)), case.typed, "--status" in options, store, tally.opcodes)
+    end = machine.run(int(options["--budget"]))
+    for code in machine.told:
+        tally.codes[code] += 1
+    told = b"".join(b"save refused: %s\n" % it.encode() for it in machine.told) if "--tell" in options else b""
+    saved = store.contents if store else None
+    if isinstance(end, int):
+        tally.codes[f"F{end}"] += 1
+        return 3, machine.output, told + b"fault: F%d at %s\n" % (end, at(machine.place)), saved
+    tally.codes[end] += 1
+    return 0, machine.output, told + (b"" if end == "quit" else b"end: %s\n" % end.encode()), saved
+
+
+COMMANDS = {"list": listed, "play": played}

@@ -1,0 +1,106 @@
+#!/usr/bin/env python3
+"""Compares the program with the model on command lines that are drawn.
+
+    run.py PROGRAM [COUNT] [SEED]
+
+A difference is told with the seed and the number of its case, `run.py PROGRAM --case SEED-NUMBER FOLDER` writes the files of a case. Before
+the last line it is told how often each fault, refusal and opcode was met.
+"""
+import collections
+import concurrent.futures
+import os
+import sys
+
+sys.path.insert(0, os.path.join(os.path.dirname(os.path.abspath(__file__)), "../program"))
+
+from answers import answer
+from draw import Drawer
+from instructions import OPCODES
+from program import Program, shown
+
+AT_ONCE = 2
+MOST_TOLD = 20
+
+
+class Tally:
+    """What passed and what failed, and how often what was met."""
+
+    def __init__(self):
+        self.passed, self.failed = 0, 0
+        self.codes, self.opcodes, self.kinds = collections.Counter(), collections.Counter(), collections.Counter()
+
+    def see(self, name, case, wanted, came):
+        if wanted == came:
+            self.passed += 1
+        else:
+            self.failed += 1
+            if self.failed <= MOST_TOLD:
+                print(f"model: case {name}: {' '.join(case.words)}: {told(came)}; wanted was {told(wanted)}", flush=True)
+
+    def end(self):
+        print("model: met " + ", ".join(f"{it} {self.codes[it]}" for it in sorted(self.codes, key=by_number)))
+        print("model: opcodes " + ", ".join(f"{it} {self.opcodes[it]}" for it in OPCODES))
+        print("model: kinds " + ", ".join(f"{it} {many}" for it, many in sorted(self.kinds.items())))
+        print(f"model: {self.passed} passed, {self.failed} failed")
+        return 1 if self.failed or not self.passed else 0
+
+
+def by_number(code):
+    return (code[0], int(code[1:])) if code[1:].isdigit() else (code, 0)
+
+
+def told(answer):
+    status, output, errors, saved = answer
+    return f"status {status}, {shown(output)}, {shown(errors)}" + (f", a save {shown(saved)}" if saved is not None else "")
+
+
+def ran(program, case):
+    """What the program answers: its exit status, its output, its errors, and the file of saves if there is one."""
+    import tempfile
+
+    with tempfile.TemporaryDirectory(prefix="zpc-") as room:
+        for name, contents in case.files.items():
+            with open(os.path.join(room, name), "wb") as file:
+                file.write(contents)
+        came = program.run_in(room, case.words, typed=case.typed)
+        path, saved = os.path.join(room, "saved"), None
+        if os.path.exists(path):
+            with open(path, "rb") as file:
+                saved = file.read()
+    return came.status, came.output, came.errors, saved
+
+
+def compared(path, count, seed):
+    program, tally, drawer = Program(path), Tally(), Drawer(seed, Program(path))
+    with concurrent.futures.ThreadPoolExecutor(AT_ONCE) as pool:
+        for number, case, came in pool.map(lambda it: (it, *one(program, drawer.case(it))), range(count)):
+            wanted = answer(case, tally)
+            tally.see(f"{seed}-{number}", case, wanted, came)
+    return tally.end()
+
+
+def one(program, case):
+    return case, ran(program, case)
+
+
+def written(path, name, folder):
+    """Writes the files of a case into a folder, and tells its words."""
+    seed, number = name.rsplit("-", 1)
+    case = Drawer(seed, Program(path)).case(int(number))
+    for file, contents in [*case.files.items(), ("typed", case.typed)]:
+        with open(os.path.join(folder, file), "wb") as out:
+            out.write(contents)
+    print(" ".join(case.words))
+    return 0
+
+
+def main():
+    path, *rest = sys.argv[1:]
+    if rest[:1] == ["--case"]:
+        return written(path, *rest[1:])
+    count, seed = [*rest, *["2000", "1"][len(rest) :]]
+    return compared(path, int(count), seed)
+
+
+if __name__ == "__main__":
+    sys.exit(main())
