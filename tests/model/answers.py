@@ -1,6 +1,8 @@
 """What a command line has to answer by the model: exit status, output, errors, and the file of saves (README.md has the forms)."""
-from instructions import Listing
+import certificates
+from instructions import Listing, decode, line_of
 from machine import Machine, Store
+from rules import judge
 from stories import Refused, Story
 
 
@@ -21,8 +23,26 @@ def answer(case, tally):
     return status, output, errors, saved
 
 
+def accepted(case, name):
+    """The story of a case and the certificate of this name, which it is accepted with, or Refused."""
+    story = Story(case.files["story"])
+    certificate = certificates.read(case.files[name])
+    judge(story, certificate)
+    return story, certificate
+
+
+def checked(case, tally):
+    accepted(case, case.words[2])
+    tally.codes["accepted"] += 1
+    return 0, b"accepted\n", b"", None
+
+
 def listed(case, tally):
-    return 0, Listing(Story(case.files["story"])).lines(), b"", None
+    if len(case.words) == 2:
+        return 0, Listing(Story(case.files["story"])).lines(), b"", None
+    story, certificate = accepted(case, case.words[2])
+    names = {it: decode(story, story.memory, it).name for it in certificate.instructions}
+    return 0, b"".join(line_of(it, number, names[it]) for it, (number, _, _) in certificate.instructions.items()), b"", None
 
 
 def options_of(words):
@@ -41,7 +61,7 @@ def options_of(words):
 
 def played(case, tally):
     options, files = options_of(case.words[1:])
-    story = Story(case.files["story"])
+    story = accepted(case, files[1])[0] if len(files) > 1 else Story(case.files["story"])
     store = Store(case.files.get("saved")) if "--save" in options else None
     machine = Machine(story, int(options.get("--seed", 1)), case.typed, "--status" in options, store, tally.opcodes)
     end = machine.run(int(options["--budget"]))
@@ -56,4 +76,4 @@ def played(case, tally):
     return 0, machine.output, told + (b"" if end == "quit" else b"end: %s\n" % end.encode()), saved
 
 
-COMMANDS = {"list": listed, "play": played}
+COMMANDS = {"list": listed, "check": checked, "play": played}

@@ -63,10 +63,12 @@ class Drawer:
     """Draws the cases of a seed, by their numbers."""
 
     def __init__(self, seed, program):
-        self.seed, self.program, self.stories = seed, program, repository()
+        self.seed, self.program, self.stories, self.found = seed, program, repository(), {}
 
     def case(self, number):
         draw = random.Random(f"{self.seed}-{number}")
+        if draw.random() < 0.45:
+            return self.with_certificate(draw)
         story = self.story(draw)
         if draw.random() < 0.15:
             return Case(["list", "story"], {"story": story})
@@ -79,3 +81,24 @@ class Drawer:
             return made if draw.random() < 0.85 else mutated(draw, made, self.stories)
         made = draw.choice(self.stories)
         return made if draw.random() < 0.1 else mutated(draw, made, self.stories)
+
+    def sound(self, draw):
+        """A story for which a certificate is found, and that."""
+        while True:
+            story = worlds.story(draw) if draw.random() < 0.7 else draw.choice(self.stories)
+            if story not in self.found:
+                self.found[story] = self.program.found(story)[1]
+            if self.found[story]:
+                return story, self.found[story]
+
+    def with_certificate(self, draw):
+        story, certificate = self.sound(draw)
+        way = draw.random()
+        if way < 0.5:
+            certificate = mutated(draw, certificate, [certificate])
+        elif way < 0.75:
+            story = mutated(draw, story, self.stories)
+        files, command = {"story": story, "certificate": certificate}, draw.choice(["check", "check", "play", "list"])
+        if command == "play":
+            return Case(["play", *options(draw), "story", "certificate"], files, typed(draw))
+        return Case([command, "story", "certificate"], files)
