@@ -1,13 +1,21 @@
-"""Command lines that are drawn, each from a seed of its own: the words, the files, what is typed. Most are made so that they get far."""
+"""Command lines that are drawn, each from a seed of its own: the words, the files, what is typed. Most are made so that they get far.
+
+What the documents leave open isn't drawn: saves that a session is handed from elsewhere (Q10 asks what a certificate describes), and
+files of saves that are neither empty nor begin with FORM (N2, which `--force` takes back)."""
 import glob
 import os
 import random
 
+import certificates
+import spoiling
 import worlds
+from machine import Machine, Store
+from stories import Story
 
 ROOT = os.path.join(os.path.dirname(os.path.abspath(__file__)), "../..")
 FOLDERS = ["crates/zpc/data", "tests/authors", "benches/stories"]
 LINES = [b"look", b"go north", b"take lamp, at", b"", b"  ", b"save", b"restore", b"quit", b"LOOK \xe9 at\r", b"n", b"x" * 300, b"\"at.\"", b"e", b"1"]
+POOL = 40  # stories with a certificate that is found, for each seed
 
 
 class Case:
@@ -18,7 +26,7 @@ class Case:
 
 
 def repository():
-    """The stories of the repository, by name."""
+    """The stories of the repository."""
     found = [it for folder in FOLDERS for it in sorted(glob.glob(os.path.join(ROOT, folder, "*.z3")))]
     return [read(it) for it in found]
 
@@ -26,23 +34,6 @@ def repository():
 def read(path):
     with open(path, "rb") as file:
         return file.read()
-
-
-def mutated(draw, file, others, least=0):
-    """The file with some bytes changed, cut off, or with a part of another."""
-    way, made = draw.random(), bytearray(file)
-    if way < 0.1:
-        return bytes(made[: draw.randint(0, len(made))])
-    if way < 0.2:
-        other = draw.choice(others)
-        at, size = draw.randrange(len(made)), draw.randint(1, 64)
-        return bytes(made[:at] + other[at : at + size] + made[at + size :])
-    if way < 0.25:
-        return bytes(made) + bytes(draw.randint(0, 255) for _ in range(draw.randint(1, 9)))
-    for _ in range(draw.choice([1, 1, 1, 2, 4])):
-        at = draw.randrange(draw.choice([64, len(made), len(made)]))
-        made[at] = draw.choice([draw.randint(0, 255), made[at] ^ 1 << draw.randint(0, 7), 0, 255])
-    return bytes(made)
 
 
 def typed(draw):
@@ -63,14 +54,17 @@ class Drawer:
     """Draws the cases of a seed, by their numbers."""
 
     def __init__(self, seed, program):
-        self.seed, self.program, self.stories, self.found = seed, program, repository(), {}
+        self.seed, self.program, self.stories, self.pool = seed, program, repository(), {}
 
     def case(self, number):
         draw = random.Random(f"{self.seed}-{number}")
-        if draw.random() < 0.45:
+        way = draw.random()
+        if way < 0.4:
             return self.with_certificate(draw)
+        if way < 0.55:
+            return self.with_saves(draw)
         story = self.story(draw)
-        if draw.random() < 0.15:
+        if way < 0.65:
             return Case(["list", "story"], {"story": story})
         return Case(["play", *options(draw), "story"], {"story": story}, typed(draw))
 
@@ -78,27 +72,68 @@ class Drawer:
         kind = draw.random()
         if kind < 0.65:
             made = worlds.story(draw)
-            return made if draw.random() < 0.85 else mutated(draw, made, self.stories)
+            return made if draw.random() < 0.85 else spoiling.bytes_of(draw, made, self.stories)
         made = draw.choice(self.stories)
-        return made if draw.random() < 0.1 else mutated(draw, made, self.stories)
+        if draw.random() < 0.5:
+            return spoiling.code_of(draw, made)
+        return made if draw.random() < 0.1 else spoiling.bytes_of(draw, made, self.stories)
+
+    # ---- saves
+
+    def with_saves(self, draw):
+        """A play of the checked machine that keeps saves, mostly with one that was kept before, whole or spoiled."""
+        story = worlds.story(draw, restores=draw.random() < 0.8)
+        files, lines = {"story": story}, typed(draw)
+        save = kept(story, lines)
+        if draw.random() < 0.8 and save:
+            files["saved"] = save if draw.random() < 0.3 else spoiling.save_of(draw, save)
+        elif draw.random() < 0.1:
+            files["saved"] = b""
+        tell = ["--tell"] if draw.random() < 0.8 else []
+        return Case(["play", *options(draw), *tell, "--save", "saved", "story"], files, lines)
+
+    # ---- certificates
 
     def sound(self, draw):
         """A story for which a certificate is found, and that."""
-        while True:
-            story = worlds.story(draw) if draw.random() < 0.7 else draw.choice(self.stories)
-            if story not in self.found:
-                self.found[story] = self.program.found(story)[1]
-            if self.found[story]:
-                return story, self.found[story]
+        number = draw.randrange(POOL + len(self.stories))
+        if number not in self.pool:
+            self.pool[number] = self.found(number)
+        return self.pool[number] or self.sound(draw)
+
+    def found(self, number):
+        if number >= POOL:
+            story = self.stories[number - POOL]
+            certificate = self.program.found(story)[1]
+            return (story, certificate) if certificate else None
+        for attempt in range(8):
+            story = worlds.story(random.Random(f"{self.seed}-pool-{number}-{attempt}"), 0)
+            certificate = self.program.found(story)[1]
+            if certificate:
+                return story, certificate
+        return None
 
     def with_certificate(self, draw):
         story, certificate = self.sound(draw)
         way = draw.random()
-        if way < 0.5:
-            certificate = mutated(draw, certificate, [certificate])
-        elif way < 0.75:
-            story = mutated(draw, story, self.stories)
+        if way < 0.1:
+            certificate = spoiling.bytes_of(draw, certificate, [certificate])
+        elif way < 0.5:
+            certificate = spoiling.certificate_of(draw, certificate)
+        elif way < 0.55:
+            story = spoiling.bytes_of(draw, story, self.stories)
+        elif way < 0.85:
+            story = spoiling.code_of(draw, story, certificates.read(certificate))
         files, command = {"story": story, "certificate": certificate}, draw.choice(["check", "check", "play", "list"])
-        if command == "play":
-            return Case(["play", *options(draw), "story", "certificate"], files, typed(draw))
-        return Case([command, "story", "certificate"], files)
+        if command != "play":
+            return Case([command, "story", "certificate"], files)
+        keeps = ["--save", "saved"] if draw.random() < 0.5 else []
+        return Case(["play", *options(draw), *keeps, "story", "certificate"], files, typed(draw))
+
+
+def kept(story, lines):
+    """The save that a play of a story keeps last, or None."""
+    store = Store(None)
+    machine = Machine(Story(story), 1, lines, False, store)
+    machine.run(100)
+    return store.contents

@@ -10,8 +10,9 @@ import collections
 import concurrent.futures
 import os
 import sys
+import tempfile
 
-sys.path.insert(0, os.path.join(os.path.dirname(os.path.abspath(__file__)), "../program"))
+sys.path.append(os.path.join(os.path.dirname(os.path.abspath(__file__)), "../program"))
 
 from answers import answer
 from draw import Drawer
@@ -56,8 +57,6 @@ def told(answer):
 
 def ran(program, case):
     """What the program answers: its exit status, its output, its errors, and the file of saves if there is one."""
-    import tempfile
-
     with tempfile.TemporaryDirectory(prefix="zpc-") as room:
         for name, contents in case.files.items():
             with open(os.path.join(room, name), "wb") as file:

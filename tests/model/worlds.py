@@ -2,7 +2,8 @@
 operands is any word, as often as the hazard of the story says."""
 import struct
 
-from instructions import BRANCHES, COUNTS, MORE, NONE, ONE, STORES, TWO
+from instructions import BRANCHES, MORE, NONE, ONE, STORES, TWO
+from stories import encoded
 
 GLOBALS, OBJECTS = 0x40, 0x220
 SCRATCH = 64  # bytes of an array in dynamic memory
@@ -17,7 +18,7 @@ ROLES = {
     "get_next_prop": "op", "add": "ww", "sub": "ww", "mul": "ww", "div": "wd", "mod": "wd", "jz": "w", "get_sibling": "o", "get_child": "o",
     "get_parent": "o", "get_prop_len": "q", "inc": "v", "dec": "v", "print_addr": "t", "remove_obj": "o", "print_obj": "o", "ret": "w",
     "print_paddr": "T", "load": "v", "not": "w", "storew": "Aiw", "storeb": "Aiw", "put_prop": "oPw", "print_char": "c",
-    "print_num": "w", "random": "w", "push": "w", "pull": "v",
+    "print_num": "w", "jump": "w", "random": "w", "push": "w", "pull": "v",
 }  # fmt: skip
 OFTEN = ["print", "print_num", "new_line", "call", "push", "add", "sub", "je", "jl", "inc_chk", "loadw", "storeb", "get_prop", "insert_obj", "print_obj"]
 SELDOM = ["sread", "show_status", "save", "restore", "restart", "quit", "ret", "rtrue", "rfalse", "print_ret", "ret_popped", "pop"]
@@ -47,8 +48,8 @@ def text(draw, uses=True, most=5):
 class World:
     """Where things are in a story that is drawn, and its bytes as they come."""
 
-    def __init__(self, draw):
-        self.draw, self.hazard = draw, draw.choice([0, 0, 0, 0.01, 0.05])
+    def __init__(self, draw, hazard):
+        self.draw, self.hazard, self.saves = draw, hazard, draw.random() < 0.3
         self.count = draw.randint(1, 5)
         self.static_texts, self.routines = [], []
         self.tables()
@@ -66,16 +67,16 @@ class World:
             child = [it for it in range(1, count + 1) if parents[it - 1] == number]
             links = bytes([parents[number - 1], elder[-1] if elder else 0, child[-1] if child else 0])
             entries += bytes(draw.choice([0, 255, 0x11]) for _ in range(4)) + links + word(begin + len(tables))
-            tables += self.property_table(begin + len(tables))
+            tables += self.property_table(number, begin + len(tables))
         self.front = bytes(draw.randint(0, 255) for _ in range(62)) + entries + tables
 
-    def property_table(self, at):
+    def property_table(self, owner, at):
         draw = self.draw
         name = b"" if draw.random() < 0.2 else text(draw)
         made = bytes([len(name) // 2]) + name
         for number in sorted(draw.sample(range(1, 32), draw.randint(0, 4)), reverse=True):
             size = draw.choice([1, 2, 2, 2, 3, 8])
-            self.property_data.append((number, at + len(made) + 1, size))
+            self.property_data.append((number, at + len(made) + 1, size, owner))
             made += bytes([(size - 1) << 5 | number]) + bytes(draw.randint(0, 255) for _ in range(size))
         return made + b"\0"
 
@@ -84,7 +85,7 @@ class World:
         draw = self.draw
         self.array = OBJECTS + len(self.front)
         self.text_buffer = self.array + SCRATCH
-        letters, words = draw.choice([2, 10, 20, 20]), draw.choice([1, 3, 4])
+        letters, words = draw.choice([2, 10, 20, 20, int(9 * self.hazard)]), draw.choice([1, 3, 4, 4])
         self.parse = self.text_buffer + letters + 2
         self.front += bytes(draw.randint(0, 255) for _ in range(SCRATCH)) + bytes([letters]) + bytes(letters + 1)
         self.front += bytes([words]) + bytes(1 + 4 * words)
@@ -109,8 +110,6 @@ class World:
         self.back += b"\0" * ((self.static + len(self.back)) % 2)
 
     def dictionary_bytes(self):
-        from stories import encoded
-
         draw = self.draw
         separators, length = draw.choice([b"", b",", b",.\""]), draw.choice([4, 7])
         keys = sorted(encoded(it) for it in draw.sample(WORDS_KNOWN, draw.randint(0, len(WORDS_KNOWN))))
@@ -143,7 +142,7 @@ class Code:
         world, draw = self.world, self.draw
         if draw.random() < world.hazard:
             return draw.choice(ODD_WORDS + [draw.randint(0, 65535)])
-        data = draw.choice(world.property_data or [(1, 0, 1)])
+        data = draw.choice(world.property_data or [(1, 0, 1, 1)])
         return {
             "w": lambda: draw.choice(ODD_WORDS + [draw.randint(0, 9)] * 8),
             "v": lambda: self.variable_to(False),
@@ -166,7 +165,7 @@ class Code:
         if self.height > 0 and draw.random() < 0.3 and role in "w":
             self.height -= 1
             return 0
-        fit = {"o": [19], "A": [20], "i": [21], "w": [17, 18, 21, 22, 23] + list(range(1, self.locals + 1))}.get(role)
+        fit = {"o": [19], "A": [20], "i": [21], "w": [17, 18, 21, 22, 23] + list(range(1, self.locals + 1)) * 2}.get(role)
         return draw.choice(fit) if fit else None
 
     def operand(self, role):
@@ -188,7 +187,7 @@ class Code:
         if draw.random() < 0.2 and (pushes or self.height):
             self.height += pushes
             return 0
-        return draw.choice([17, 18, 21, 22, 23, 24] + list(range(1, self.locals + 1)))
+        return draw.choice([17, 18, 22, 23, 24] + list(range(1, self.locals + 1)))
 
     def operands(self, name):
         draw, world = self.draw, self.world
@@ -198,12 +197,26 @@ class Code:
             head = draw.choice(world.routines + [0]) // 2 if draw.random() >= world.hazard else draw.randint(0, 65535)
             return [(0, head)] + [self.operand("w") for _ in range(draw.randint(0, 3))]
         if name == "sread":
-            return [(0, world.text_buffer), (0, world.parse)]
+            return [(0, world.text_buffer if draw.random() >= world.hazard else draw.randint(0, 2000)), (0, world.parse)]
+        if name in ("put_prop", "get_next_prop", "get_prop") and draw.random() >= world.hazard and world.property_data:
+            return self.of_property(name)
         return [self.operand(it) for it in ROLES.get(name, "")]
+
+    def of_property(self, name):
+        """Operands that name an object and a property that it has, for `put_prop` and `get_prop` one of a word or a byte."""
+        draw = self.draw
+        data = [it for it in self.world.property_data if it[2] <= 2 or name == "get_next_prop"]
+        if not data:
+            return [(1, 1), (1, draw.randint(1, 31))] + [(1, 7)] * (name == "put_prop")
+        number, _, _, owner = draw.choice(data)
+        asked = draw.choice([0, number]) if name == "get_next_prop" else number
+        return [(1, owner), (1, asked)] + ([self.operand("w")] if name == "put_prop" else [])
 
     def name(self):
         draw = self.draw
         kind = draw.random()
+        if self.world.saves and draw.random() < 0.12:
+            return draw.choice(["save", "save", "restore", "sread"])
         if kind < 0.35:
             return draw.choice(OFTEN)
         if kind < 0.40:
@@ -221,7 +234,7 @@ class Code:
                 name = "nop"
             else:
                 self.height -= 1
-        if name == "jump":
+        if name == "jump" and self.draw.random() >= self.world.hazard:
             return b"\x8c", "jump"
         made = spelled(self.draw, name, self.operands(name))
         self.height += name == "push"
@@ -233,20 +246,27 @@ class Code:
 
     def drawn(self, count, at, last):
         """So many instructions from a place on, and a last one."""
-        parts = [self.instruction() for _ in range(count)] + [(last, None)]
+        parts, heights = [], [0]
+        for _ in range(count):
+            parts.append(self.instruction())
+            heights.append(self.height)
+        parts.append((last, None))
         starts, places = at, []
         for made, kind in parts:
             places.append(starts)
             starts += len(made) + (2 if kind else 0)
-        return b"".join(made + self.patch(kind, places, number, len(made)) for number, (made, kind) in enumerate(parts))
+        self.targets = list(zip(places, heights))
+        return b"".join(made + self.patch(kind, number, len(made)) for number, (made, kind) in enumerate(parts))
 
-    def patch(self, kind, places, number, size):
+    def patch(self, kind, number, size):
+        """The branch data or the operand of a jump, which leads to where the stack is as high, mostly ahead."""
         if kind is None:
             return b""
-        draw, end = self.draw, places[number] + size + 2
-        ahead = draw.random() < 0.9
-        target = draw.choice(places[number + 1 :] if ahead else places)
-        offset = target - end + 2
+        draw, end = self.draw, self.targets[number][0] + size + 2
+        targets = self.targets[number + 1 if draw.random() < 0.9 else 0 :]
+        height = self.targets[number + 1][1]
+        fit = [it for it, high in targets if high == height or draw.random() < self.world.hazard]
+        offset = (draw.choice(fit) if draw.random() >= self.world.hazard else draw.randint(0, 3000)) - end + 2
         if kind == "jump":
             return word(offset)
         if draw.random() < (0.02 if self.is_main else 0.1):
@@ -272,17 +292,22 @@ def spelled(draw, name, operands):
     return bytes([first, types]) + values
 
 
-def story(draw):
-    """A story: some routines, of which each calls those before it, and the main code."""
-    world = World(draw)
+def story(draw, hazard=None, restores=False):
+    """A story: some routines, of which each calls those before it and maybe itself, and the main code, which may begin with a `restore` and a `save`."""
+    world = World(draw, draw.choice([0, 0, 0.01, 0.01, 0.05]) if hazard is None else hazard)
     code, begin = b"", world.static + len(world.back)
     for _ in range(draw.randint(0, 4)):
         code += b"\0" * ((begin + len(code)) % 2)
         head, count = begin + len(code), draw.randint(0, 3)
         code += bytes([count]) + b"".join(word(draw.randint(0, 3)) for _ in range(count))
+        recursive = draw.random() < 0.15
+        if recursive:
+            world.routines.append(head)
         code += Code(world, count, False).drawn(draw.randint(1, 12), begin + len(code), draw.choice([b"\xb0", b"\xb1", b"\x9b\x07", b"\xab\x11"]))
-        world.routines.append(head)
+        if not recursive:
+            world.routines.append(head)
     first = begin + len(code)
-    last = b"\xba" if draw.random() < 0.7 or world.hazard else b"\xba"
-    code += Code(world, 0, True).drawn(draw.randint(3, 50), first, last)
+    code += b"\xb6\x42\xb5\x42" if restores else b""
+    first_drawn = begin + len(code)
+    code += Code(world, 0, True).drawn(draw.randint(3, 50), first_drawn, b"\xba")
     return world.finished(code, first)

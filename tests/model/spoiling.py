@@ -1,0 +1,188 @@
+"""Copies of stories, certificates and saves that are spoiled in some place."""
+import struct
+
+import certificates
+from instructions import Listing
+from intervals import ALL
+from saves import chunk, chunks_of
+from stories import Refused, Story
+
+
+def bytes_of(draw, file, others):
+    """The file with some bytes changed, cut off, or with a part of another."""
+    way, made = draw.random(), bytearray(file)
+    if way < 0.1:
+        return bytes(made[: draw.randint(0, len(made))])
+    if way < 0.2:
+        other = draw.choice(others)
+        at, size = draw.randrange(len(made)), draw.randint(1, 64)
+        return bytes(made[:at] + other[at : at + size] + made[at + size :])
+    if way < 0.25:
+        return bytes(made) + bytes(draw.randint(0, 255) for _ in range(draw.randint(1, 9)))
+    for _ in range(draw.choice([1, 1, 1, 2, 4])):
+        change(draw, made, draw.randrange(draw.choice([64, len(made), len(made)])))
+    return bytes(made)
+
+
+def change(draw, made, at):
+    made[at] = draw.choice([draw.randint(0, 255), made[at] ^ 1 << draw.randint(0, 7), 0, 255, max(made[at], 1) - 1, min(made[at], 254) + 1])
+
+
+def code_of(draw, file, certificate=None):
+    """The story with a byte changed of an instruction that it or a certificate lists, or a byte of a table."""
+    made = bytearray(file)
+    try:
+        places = sorted(certificate.instructions if certificate else Listing(Story(file)).found)
+    except Refused:
+        places = []
+    for _ in range(draw.choice([1, 1, 2])):
+        at = draw.choice(places) + draw.randint(0, 4) if places and draw.random() < 0.7 else draw.randrange(64, len(made))
+        if 0 <= at < len(made):
+            change(draw, made, at)
+    return bytes(made)
+
+
+# ---- certificates
+
+
+def interval_of(draw, interval):
+    """Another interval: wider, narrower, or any."""
+    lower, upper = interval
+    changes = [ALL, (lower - 1, upper), (lower, upper + 1), (lower + 1, upper), (lower, upper - 1), (lower, 32767), (-32768, upper), (0, 255), (0, 0)]
+    changed = draw.choice(changes)
+    return changed if ALL[0] <= changed[0] <= changed[1] <= ALL[1] else ALL
+
+
+def one_interval(draw, made):
+    """Changes an interval of a local or a slot."""
+    fit = [it for it, (_, values, slots) in made.instructions.items() if values or slots]
+    if fit:
+        number, values, slots = made.instructions[draw.choice(fit)]
+        several = values if values and (not slots or draw.random() < 0.7) else slots
+        at = draw.randrange(len(several))
+        several[at] = interval_of(draw, several[at])
+
+
+def one_global(draw, made):
+    used = [it for it, value in enumerate(made.globals) if value[0] != value[1]] + list(range(9))
+    at = draw.choice(used)
+    made.globals[at] = interval_of(draw, made.globals[at])
+
+
+def one_place(draw, made):
+    """Leaves an instruction out, gives it another routine, or another height."""
+    place = draw.choice(sorted(made.instructions))
+    number, values, slots = made.instructions.pop(place)
+    way = draw.random()
+    if way < 0.3:
+        slots = slots + [(0, 0)] if draw.random() < 0.6 else slots[:-1]
+    elif way < 0.5:
+        number = draw.randint(0, len(made.routines))
+        values = ([*values, *[ALL] * 15])[: made.routines[number - 1][1] if number else 0]
+    elif way < 0.7:
+        place += draw.choice([-1, 1, 2])
+    if way < 0.7:
+        made.instructions[place] = (number, values, slots)
+
+
+def one_range(draw, made):
+    """Leaves a frozen range out, or adds one."""
+    if made.ranges and draw.random() < 0.5:
+        made.ranges.remove(draw.choice(made.ranges))
+        return
+    first = draw.randint(0x220, 0x360) if draw.random() < 0.9 else draw.randint(0, 2000)
+    made.ranges = [it for it in made.ranges if it[1] < first - 1 or it[0] > first + 5]
+    made.ranges.append((first, first + draw.randint(0, 3)))
+    made.ranges.sort()
+
+
+def one_routine(draw, made):
+    if made.routines:
+        at = draw.randrange(len(made.routines))
+        address, count, result = made.routines[at]
+        if draw.random() < 0.8:
+            made.routines[at] = (address, count, interval_of(draw, result))
+        elif draw.random() < 0.5:
+            made.routines[at] = (address + draw.choice([1, 2]), count, result)
+        else:
+            made.routines.pop(at)
+
+
+def all_wide(draw, made):
+    """Makes many intervals as wide as they come."""
+    rate = draw.choice([0.1, 0.5, 1])
+    wide = lambda values: [ALL if draw.random() < rate else it for it in values]
+    for place, (number, values, slots) in made.instructions.items():
+        made.instructions[place] = (number, wide(values), wide(slots))
+    made.globals[1:] = wide(made.globals[1:])
+    made.routines = [(at, count, ALL if draw.random() < rate else result) for at, count, result in made.routines]
+
+
+CHANGES = [one_interval] * 4 + [one_global] * 3 + [one_place] * 3 + [one_range] * 2 + [one_routine] * 3 + [all_wide] * 2
+
+
+def certificate_of(draw, file):
+    """The certificate with one thing changed, or two, that it still spells one."""
+    made = certificates.read(file)
+    for _ in range(draw.choice([1, 1, 1, 2])):
+        draw.choice(CHANGES)(draw, made)
+    return spelled(made)
+
+
+def spelled(made):
+    """The file of a certificate."""
+    parts = [b"ZPCC\x01", made.header, struct.pack(">IH", made.length, len(made.ranges))]
+    parts += [struct.pack(">HH", *it) for it in made.ranges] + [struct.pack(">hh", *it) for it in made.globals]
+    parts.append(struct.pack(">H", len(made.routines)))
+    parts += [struct.pack(">IBhh", at, count, *result) for at, count, result in made.routines]
+    parts.append(struct.pack(">I", len(made.instructions)))
+    for place, (number, values, slots) in sorted(made.instructions.items()):
+        parts.append(struct.pack(">IHB", place, number, len(slots)))
+        parts += [struct.pack(">hh", *it) for it in values + slots]
+    return b"".join(parts)
+
+
+# ---- saves
+
+
+def save_of(draw, save):
+    """The save with a byte or a chunk changed; it still begins with FORM."""
+    chunks = chunks_of(save)
+    way = draw.random()
+    if way < 0.3:
+        made = bytearray(save)
+        change(draw, made, draw.choice([draw.randrange(4, len(made)), draw.randrange(8, 40), len(made) - draw.randint(1, 20)]))
+        return bytes(made)
+    if way < 0.4:
+        return save[: draw.randint(4, len(save))] if draw.random() < 0.7 else save + bytes(draw.randint(1, 3))
+    if way < 0.8:
+        at = draw.randrange(len(chunks))
+        chunks[at] = (chunks[at][0], spoiled_data(draw, chunks[at][1]))
+        return joined(chunks)
+    return joined(other_chunks(draw, chunks))
+
+
+def spoiled_data(draw, data):
+    made = bytearray(data)
+    if made and draw.random() < 0.8:
+        change(draw, made, draw.randrange(len(made)))
+        return bytes(made)
+    return bytes(made[: draw.randint(0, len(made))]) if draw.random() < 0.5 else bytes(made) + bytes(draw.choice([1, 2, 8, 8 * 1025]))
+
+
+def other_chunks(draw, chunks):
+    """Chunks left out, twice, in another order, or of another kind."""
+    way, at = draw.random(), draw.randrange(len(chunks))
+    if way < 0.2:
+        return chunks[:at] + chunks[at + 1 :]
+    if way < 0.4:
+        return chunks + [chunks[at]]
+    if way < 0.6:
+        return draw.sample(chunks, len(chunks))
+    extra = (draw.choice([b"AUTH", b"CMem", b"IntD", b"UMem"]), bytes(draw.randint(0, 3)))
+    return chunks[:at] + [extra] + chunks[at + (way > 0.8) :]
+
+
+def joined(chunks):
+    body = b"IFZS" + b"".join(chunk(*it) for it in chunks)
+    return b"FORM" + struct.pack(">I", len(body)) + body
