@@ -1,7 +1,6 @@
 """Certificates of version 1 as docs/CERTIFICATE.md spells them: how a file is read, and its first refusal (K1 to K7).
 
-What is asked of a field in the table there is asked of the whole row, but for the rows of several kinds of numbers, of which each number is
-a field. No draw ends a file within a row that is wrong in an earlier number, since the document doesn't say which of both is told."""
+Each number of the table there is a field by itself, also of a row that has several."""
 import struct
 
 from stories import Refused

@@ -10,7 +10,8 @@ import certificates
 import spoiling
 import worlds
 from machine import Machine, Store
-from stories import Story
+from stories import Refused, Story
+from walking import Walk
 
 ROOT = os.path.join(os.path.dirname(os.path.abspath(__file__)), "../..")
 FOLDERS = ["crates/zpc/data", "tests/authors", "benches/stories"]
@@ -60,10 +61,11 @@ class Drawer:
         draw = random.Random(f"{self.seed}-{number}")
         way = draw.random()
         if way < 0.4:
-            return self.with_certificate(draw)
+            return self.with_certificate(draw) if way < 0.2 else self.walked(draw)
         if way < 0.55:
             return self.with_saves(draw)
-        story = self.story(draw)
+        crossing = draw.choice([0, 0, 0, 0.02, 0.1])
+        story = worlds.story(draw, crossing / 5, crossing=crossing) if crossing else self.story(draw)
         if way < 0.65:
             return Case(["list", "story"], {"story": story})
         return Case(["play", *options(draw), "story"], {"story": story}, typed(draw))
@@ -124,11 +126,25 @@ class Drawer:
             story = spoiling.bytes_of(draw, story, self.stories)
         elif way < 0.85:
             story = spoiling.code_of(draw, story, certificates.read(certificate))
-        files, command = {"story": story, "certificate": certificate}, draw.choice(["check", "check", "play", "list"])
-        if command != "play":
-            return Case([command, "story", "certificate"], files)
-        keeps = ["--save", "saved"] if draw.random() < 0.5 else []
-        return Case(["play", *options(draw), *keeps, "story", "certificate"], files, typed(draw))
+        return accepting(draw, story, certificate)
+
+    def walked(self, draw):
+        """A story with the certificate of a walk, mostly as it is."""
+        story = worlds.story(draw) if draw.random() < 0.7 else spoiling.code_of(draw, draw.choice(self.stories))
+        try:
+            certificate = spoiling.spelled(Walk(Story(story)).made)
+        except Refused:
+            return Case(["list", "story"], {"story": story})
+        return accepting(draw, story, certificate if draw.random() < 0.7 else spoiling.certificate_of(draw, certificate))
+
+
+def accepting(draw, story, certificate):
+    """A command that asks whether a story is accepted with a certificate."""
+    files, command = {"story": story, "certificate": certificate}, draw.choice(["check", "check", "play", "list"])
+    if command != "play":
+        return Case([command, "story", "certificate"], files)
+    keeps = ["--save", "saved"] if draw.random() < 0.5 else []
+    return Case(["play", *options(draw), *keeps, "story", "certificate"], files, typed(draw))
 
 
 def kept(story, lines):

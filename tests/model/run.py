@@ -15,7 +15,7 @@ import tempfile
 sys.path.append(os.path.join(os.path.dirname(os.path.abspath(__file__)), "../program"))
 
 from answers import answer
-from draw import Drawer
+from draw import Case, Drawer
 from instructions import OPCODES
 from program import Program, shown
 
@@ -31,12 +31,14 @@ class Tally:
         self.codes, self.opcodes, self.kinds = collections.Counter(), collections.Counter(), collections.Counter()
 
     def see(self, name, case, wanted, came):
+        """Whether the answer is the one that was wanted, or enough was told."""
         if wanted == came:
             self.passed += 1
-        else:
-            self.failed += 1
-            if self.failed <= MOST_TOLD:
-                print(f"model: case {name}: {' '.join(case.words)}: {told(came)}; wanted was {told(wanted)}", flush=True)
+            return True
+        self.failed += 1
+        if self.failed <= MOST_TOLD:
+            print(f"model: case {name}: {' '.join(case.words)}: {told(came)}; wanted was {told(wanted)}", flush=True)
+        return self.failed > MOST_TOLD
 
     def end(self):
         print("model: met " + ", ".join(f"{it} {self.codes[it]}" for it in sorted(self.codes, key=by_number)))
@@ -69,12 +71,41 @@ def ran(program, case):
     return came.status, came.output, came.errors, saved
 
 
+def smaller(program, case):
+    """A case with less to it on which program and model still differ, tried greedily."""
+    tally, tries = Tally(), 40
+    for made in iter(lambda: next((it for it in lesser(case) if tries and differs(program, it, tally)), None), None):
+        case, tries = made, tries - 1
+    return case
+
+
+def differs(program, case, tally):
+    return answer(case, tally) != ran(program, case)
+
+
+def lesser(case):
+    """Cases with a smaller budget, with nothing typed, or without an option."""
+    words = case.words
+    if "--budget" in words:
+        at = words.index("--budget") + 1
+        for less in {int(words[at]) // 2, int(words[at]) - 1}:
+            if 0 <= less < int(words[at]):
+                yield Case([*words[:at], str(less), *words[at + 1 :]], case.files, case.typed)
+    if case.typed:
+        yield Case(words, case.files)
+        yield Case(words, case.files, case.typed.partition(b"\n")[0])
+    for option in ("--status", "--tell"):
+        if option in words:
+            yield Case([it for it in words if it != option], case.files, case.typed)
+
+
 def compared(path, count, seed):
     program, tally, drawer = Program(path), Tally(), Drawer(seed, Program(path))
     with concurrent.futures.ThreadPoolExecutor(AT_ONCE) as pool:
         for number, case, came in pool.map(lambda it: (it, *one(program, drawer.case(it))), range(count)):
             wanted = answer(case, tally)
-            tally.see(f"{seed}-{number}", case, wanted, came)
+            if not tally.see(f"{seed}-{number}", case, wanted, came):
+                print(f"model: the same of {' '.join(smaller(program, case).words)}", flush=True)
     return tally.end()
 
 

@@ -48,10 +48,12 @@ def text(draw, uses=True, most=5):
 class World:
     """Where things are in a story that is drawn, and its bytes as they come."""
 
-    def __init__(self, draw, hazard):
+    def __init__(self, draw, hazard, crossing):
         self.draw, self.hazard, self.saves = draw, hazard, draw.random() < 0.3
         self.count = draw.randint(1, 5)
-        self.static_texts, self.routines = [], []
+        self.static_texts, self.routines, self.elsewhere = [], [], []
+        self.crossing = crossing
+        self.large = draw.random() < 0.03
         self.tables()
         self.buffers()
         self.abbreviations_and_words()
@@ -84,10 +86,11 @@ class World:
         """An array and the two buffers of `sread`, behind which static memory begins."""
         draw = self.draw
         self.array = OBJECTS + len(self.front)
-        self.text_buffer = self.array + SCRATCH
+        room = draw.choice([0, 33000, 60000]) if self.large else 0
+        self.text_buffer = self.array + SCRATCH + room
         letters, words = draw.choice([2, 10, 20, 20, int(9 * self.hazard)]), draw.choice([1, 3, 4, 4])
         self.parse = self.text_buffer + letters + 2
-        self.front += bytes(draw.randint(0, 255) for _ in range(SCRATCH)) + bytes([letters]) + bytes(letters + 1)
+        self.front += bytes(draw.randint(0, 255) for _ in range(SCRATCH)) + bytes(room) + bytes([letters]) + bytes(letters + 1)
         self.front += bytes([words]) + bytes(1 + 4 * words)
         self.static = OBJECTS + len(self.front)
 
@@ -234,7 +237,7 @@ class Code:
                 name = "nop"
             else:
                 self.height -= 1
-        if name == "jump" and self.draw.random() >= self.world.hazard:
+        if name == "jump" and self.draw.random() >= max(self.world.hazard, self.world.crossing):
             return b"\x8c", "jump"
         made = spelled(self.draw, name, self.operands(name))
         self.height += name == "push"
@@ -266,7 +269,10 @@ class Code:
         targets = self.targets[number + 1 if draw.random() < 0.9 else 0 :]
         height = self.targets[number + 1][1]
         fit = [it for it, high in targets if high == height or draw.random() < self.world.hazard]
-        offset = (draw.choice(fit) if draw.random() >= self.world.hazard else draw.randint(0, 3000)) - end + 2
+        target = draw.choice(fit) if draw.random() >= self.world.hazard else draw.randint(0, 3000)
+        if self.world.elsewhere and draw.random() < self.world.crossing:
+            target = draw.choice(self.world.elsewhere)
+        offset = target - end + 2
         if kind == "jump":
             return word(offset)
         if draw.random() < (0.02 if self.is_main else 0.1):
@@ -292,9 +298,10 @@ def spelled(draw, name, operands):
     return bytes([first, types]) + values
 
 
-def story(draw, hazard=None, restores=False):
-    """A story: some routines, of which each calls those before it and maybe itself, and the main code, which may begin with a `restore` and a `save`."""
-    world = World(draw, draw.choice([0, 0, 0.01, 0.01, 0.05]) if hazard is None else hazard)
+def story(draw, hazard=None, restores=False, crossing=0):
+    """A story: some routines, of which each calls those before it and maybe itself, and the main code, which may begin with a `restore` and a `save`. As often as
+    `crossing` says code leads into other code, and jumps by variables."""
+    world = World(draw, draw.choice([0, 0, 0.01, 0.01, 0.05]) if hazard is None else hazard, crossing)
     code, begin = b"", world.static + len(world.back)
     for _ in range(draw.randint(0, 4)):
         code += b"\0" * ((begin + len(code)) % 2)
@@ -303,9 +310,12 @@ def story(draw, hazard=None, restores=False):
         recursive = draw.random() < 0.15
         if recursive:
             world.routines.append(head)
-        code += Code(world, count, False).drawn(draw.randint(1, 12), begin + len(code), draw.choice([b"\xb0", b"\xb1", b"\x9b\x07", b"\xab\x11"]))
+            code += draw.choice([b"", b"\xe0\x3f" + word(head // 2) + b"\x16"])
+        part = Code(world, count, False)
+        code += part.drawn(draw.randint(1, 12), begin + len(code), draw.choice([b"\xb0", b"\xb1", b"\x9b\x07", b"\xab\x11"]))
         if not recursive:
             world.routines.append(head)
+        world.elsewhere += [it for it, _ in part.targets]
     first = begin + len(code)
     code += b"\xb6\x42\xb5\x42" if restores else b""
     first_drawn = begin + len(code)
