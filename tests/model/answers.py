@@ -61,8 +61,8 @@ def options_of(words):
 
 def played(case, tally):
     options, files = options_of(case.words[1:])
-    story = accepted(case, files[1])[0] if len(files) > 1 else Story(case.files["story"])
-    store = Store(case.files.get("saved")) if "--save" in options else None
+    story, certificate = accepted(case, files[1]) if len(files) > 1 else (Story(case.files["story"]), None)
+    store = Store(case.files.get("saved"), certificate and certificate.instructions) if "--save" in options else None
     machine = Machine(story, int(options.get("--seed", 1)), case.typed, "--status" in options, store, tally.opcodes)
     end = machine.run(int(options["--budget"]))
     for code in machine.told:

@@ -7,6 +7,7 @@ import os
 import random
 
 import certificates
+import saves
 import spoiling
 import worlds
 from machine import Machine, Store
@@ -74,7 +75,10 @@ class Drawer:
         kind = draw.random()
         if kind < 0.65:
             made = worlds.story(draw)
-            return made if draw.random() < 0.85 else spoiling.bytes_of(draw, made, self.stories)
+            way = draw.random()
+            if way < 0.8:
+                return made
+            return spoiling.tables_of(draw, made) if way < 0.9 else spoiling.bytes_of(draw, made, self.stories)
         made = draw.choice(self.stories)
         if draw.random() < 0.5:
             return spoiling.code_of(draw, made)
@@ -90,7 +94,7 @@ class Drawer:
         if draw.random() < 0.8 and save:
             files["saved"] = save if draw.random() < 0.3 else spoiling.save_of(draw, save)
         elif draw.random() < 0.1:
-            files["saved"] = b""
+            files["saved"] = draw.choice([b"", b"F", b"FORM"])
         tell = ["--tell"] if draw.random() < 0.8 else []
         return Case(["play", *options(draw), *tell, "--save", "saved", "story"], files, lines)
 
@@ -109,7 +113,7 @@ class Drawer:
             certificate = self.program.found(story)[1]
             return (story, certificate) if certificate else None
         for attempt in range(8):
-            story = worlds.story(random.Random(f"{self.seed}-pool-{number}-{attempt}"), 0)
+            story = worlds.story(random.Random(f"{self.seed}-pool-{number}-{attempt}"), 0, number % 3 == 0)
             certificate = self.program.found(story)[1]
             if certificate:
                 return story, certificate
@@ -124,6 +128,8 @@ class Drawer:
             certificate = spoiling.certificate_of(draw, certificate)
         elif way < 0.55:
             story = spoiling.bytes_of(draw, story, self.stories)
+        elif way < 0.65:
+            story = spoiling.tables_of(draw, story)
         elif way < 0.85:
             story = spoiling.code_of(draw, story, certificates.read(certificate))
         return accepting(draw, story, certificate)
@@ -131,6 +137,8 @@ class Drawer:
     def walked(self, draw):
         """A story with the certificate of a walk, mostly as it is."""
         story = worlds.story(draw) if draw.random() < 0.7 else spoiling.code_of(draw, draw.choice(self.stories))
+        if draw.random() < 0.1:
+            story = spoiling.tables_of(draw, story)
         try:
             certificate = spoiling.spelled(Walk(Story(story)).made)
         except Refused:
@@ -143,8 +151,25 @@ def accepting(draw, story, certificate):
     files, command = {"story": story, "certificate": certificate}, draw.choice(["check", "check", "play", "list"])
     if command != "play":
         return Case([command, "story", "certificate"], files)
-    keeps = ["--save", "saved"] if draw.random() < 0.5 else []
-    return Case(["play", *options(draw), *keeps, "story", "certificate"], files, typed(draw))
+    lines, keeps = typed(draw), []
+    if draw.random() < 0.5:
+        keeps = ["--tell", "--save", "saved"]
+        if draw.random() < 0.7:
+            files.update(save_for(draw, story, certificate, lines))
+    return Case(["play", *options(draw), *keeps, "story", "certificate"], files, lines)
+
+
+def save_for(draw, story, certificate, lines):
+    """A file of saves for a play with a certificate: one that was kept by a play of the story, or one that is refused before it is asked
+    what the certificate describes."""
+    try:
+        save, listed = kept(story, lines), certificates.read(certificate).instructions
+    except Refused:
+        return {}
+    if save is None or draw.random() < 0.4:
+        return {} if save is None else {"saved": save}
+    spoiled, made = spoiling.save_of(draw, save), Story(story)
+    return {"saved": spoiled} if saves.judged(made, spoiled, made.memory, listed)[0] else {}
 
 
 def kept(story, lines):

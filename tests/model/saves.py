@@ -81,8 +81,8 @@ def frames_of(data):
     return found if 1 <= len(found) <= 1025 else None
 
 
-def judged(story, save, memory):
-    """The refusal of a save, and the memory, place and frames in which play goes on from it (Z 15 restore)."""
+def judged(story, save, memory, listed=None):
+    """The refusal of a save, and the memory, place and frames in which play goes on from it (Z 15 restore). A certificate lists places."""
     fault, parts = form_fault(save)
     if fault:
         return fault, None
@@ -98,6 +98,8 @@ def judged(story, save, memory):
     restored = bytearray(parts[b"UMem"] + story.memory[story.static :])
     flags = bytes([restored[0x10], restored[0x11] & 0xFC | memory[0x11] & 3])
     restored[:64] = story.memory[:0x10] + flags + story.memory[0x12:64]
+    if listed is not None and place not in listed:
+        return "Q9", None
     if not 0 <= place < story.length or restored[place] != SAVE or not is_whole(restored, place):
         return "Q9", None
     return None, (restored, place, frames)

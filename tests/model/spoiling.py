@@ -5,7 +5,7 @@ import certificates
 from instructions import Listing
 from intervals import ALL
 from saves import chunk, chunks_of
-from stories import Refused, Story
+from stories import Refused, Story, word_at
 
 
 def bytes_of(draw, file, others):
@@ -39,6 +39,21 @@ def code_of(draw, file, certificate=None):
         at = draw.choice(places) + draw.randint(0, 4) if places and draw.random() < 0.7 else draw.randrange(64, len(made))
         if 0 <= at < len(made):
             change(draw, made, at)
+    return bytes(made)
+
+
+def tables_of(draw, file):
+    """The story with a byte changed of its objects and what stands behind them, or a word of its header."""
+    made = bytearray(file)
+    if draw.random() < 0.6:
+        begin, static = word_at(made, 0x0A), word_at(made, 0x0E)
+        if begin + 62 < static <= len(made):
+            change(draw, made, draw.randrange(begin + (62 if draw.random() < 0.9 else 0), min(static, begin + 400)))
+            return bytes(made)
+    at = draw.choice([0x06, 0x08, 0x0A, 0x0C, 0x0E, 0x18, 0x18, 0x1A])
+    other = word_at(made, draw.choice([0x06, 0x08, 0x0A, 0x0C, 0x0E, 0x18]))
+    value = draw.choice([other, word_at(made, at) + draw.choice([-2, -1, 1, 2, 9]), draw.randint(64, len(made)), other + draw.randint(0, 500)])
+    made[at : at + 2] = struct.pack(">H", value % 65536)
     return bytes(made)
 
 

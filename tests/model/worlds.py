@@ -50,7 +50,7 @@ class World:
 
     def __init__(self, draw, hazard, crossing):
         self.draw, self.hazard, self.saves = draw, hazard, draw.random() < 0.3
-        self.count = draw.randint(1, 5)
+        self.count = draw.randint(1, 5) if draw.random() < 0.96 else draw.choice([40, 255])
         self.static_texts, self.routines, self.elsewhere = [], [], []
         self.crossing = crossing
         self.large = draw.random() < 0.03
