@@ -50,7 +50,7 @@ def options_of(words):
     found, files, words = {}, [], list(words)
     while words:
         it = words.pop(0)
-        if it in ("--status", "--tell"):
+        if it in ("--status", "--tell", "--force"):
             found[it] = True
         elif it.startswith("--"):
             found[it] = words.pop(0)
@@ -59,14 +59,23 @@ def options_of(words):
     return found, files
 
 
+def is_kept_from(options, saved):
+    """Whether a file holds something else than a save, and no word says that it may be lost (README.md)."""
+    return "--save" in options and "--force" not in options and not saved.startswith(b"FORM"[: len(saved)])
+
+
 def played(case, tally):
     options, files = options_of(case.words[1:])
     story, certificate = accepted(case, files[1]) if len(files) > 1 else (Story(case.files["story"]), None)
+    if is_kept_from(options, case.files.get("saved", b"")):
+        raise Refused("N2")
     store = Store(case.files.get("saved"), certificate and certificate.instructions) if "--save" in options else None
     machine = Machine(story, int(options.get("--seed", 1)), case.typed, "--status" in options, store, tally.opcodes)
     end = machine.run(int(options["--budget"]))
     for code in machine.told:
         tally.codes[code] += 1
+    if machine.resumed:
+        tally.codes["restored with a certificate" if certificate else "restored"] += 1
     told = b"".join(b"save refused: %s\n" % it.encode() for it in machine.told) if "--tell" in options else b""
     saved = store.contents if store else None
     if isinstance(end, int):

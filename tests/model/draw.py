@@ -1,7 +1,7 @@
 """Command lines that are drawn, each from a seed of its own: the words, the files, what is typed. Most are made so that they get far.
 
-What the documents leave open isn't drawn: saves that a session is handed from elsewhere (Q10 asks what a certificate describes), and
-files of saves that are neither empty nor begin with FORM (N2, which `--force` takes back)."""
+What docs/MACHINE.md and docs/CERTIFICATE.md don't say isn't drawn: with a certificate, saves that may be refused by Q10, since what a
+certificate describes stands elsewhere; and a file that is N2 beside a story or certificate that is refused too."""
 import glob
 import os
 import random
@@ -57,6 +57,7 @@ class Drawer:
 
     def __init__(self, seed, program):
         self.seed, self.program, self.stories, self.pool = seed, program, repository(), {}
+        self.forces = b"--force" in program.run(["play", "--help"]).output
 
     def case(self, number):
         draw = random.Random(f"{self.seed}-{number}")
@@ -96,6 +97,9 @@ class Drawer:
         elif draw.random() < 0.1:
             files["saved"] = draw.choice([b"", b"F", b"FORM"])
         tell = ["--tell"] if draw.random() < 0.8 else []
+        if self.forces and draw.random() < 0.15:
+            files["saved"] = draw.choice([b"F", b"FORMS", b"f", b"ZPCC", b"FOR\0", b"\0", save or b"FORM", b"FO", bytes(20)])
+            tell += ["--force"] if draw.random() < 0.5 else []
         return Case(["play", *options(draw), *tell, "--save", "saved", "story"], files, lines)
 
     # ---- certificates
