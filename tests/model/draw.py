@@ -39,8 +39,15 @@ def read(path):
 
 
 def typed(draw):
-    lines = [draw.choice(LINES) for _ in range(draw.randint(0, 12))]
+    lines = [draw.choice(LINES) if draw.random() < 0.8 else any_line(draw) for _ in range(draw.randint(0, 12))]
     return b"\n".join(lines) + draw.choice([b"", b"\n", b"\r\n"])
+
+
+def any_line(draw):
+    """A line of words and marks, or of any bytes."""
+    if draw.random() < 0.3:
+        return bytes(draw.randint(0, 255) for _ in range(draw.randint(1, 20))).replace(b"\n", b"")
+    return b"".join(draw.choice([*worlds.WORDS_KNOWN, b" ", b" ", b",", b".", b"?", b"A", b"7", b"o"]) for _ in range(draw.randint(1, 9)))
 
 
 def options(draw):

@@ -6,6 +6,7 @@ from instructions import BRANCHES, MORE, NONE, ONE, STORES, TWO
 from stories import encoded
 
 GLOBALS, OBJECTS = 0x40, 0x220
+FAR = 66000  # where a large story has a routine and texts that no byte address reaches
 SCRATCH = 64  # bytes of an array in dynamic memory
 ODD_WORDS = [0, 1, 2, 3, 5, 31, 32, 63, 64, 255, 256, 257, 0x7FFF, 0x8000, 0x8001, 0xFFFE, 0xFFFF]
 WORDS_KNOWN = [b"go", b"look", b"take", b"lamp", b"at", b"north"]
@@ -30,7 +31,7 @@ def word(number):
 
 def text(draw, uses=True, most=5):
     """The words of a text: letters, shifts, escapes, and abbreviations where it uses them."""
-    found = []
+    found = [it for it in (draw.randint(0, 31) for _ in range(draw.choice([0, 0, 0, most]))) if uses or not 1 <= it <= 3]
     for _ in range(draw.randint(1, most)):
         found += draw.choice([[draw.randint(6, 31), draw.randint(6, 31)], [0], [4, draw.randint(6, 31)], [5, draw.randint(7, 31)], [draw.randint(6, 31)]])
         if draw.random() < 0.15:
@@ -51,9 +52,9 @@ class World:
     def __init__(self, draw, hazard, crossing):
         self.draw, self.hazard, self.saves = draw, hazard, draw.random() < 0.3
         self.count = draw.randint(1, 5) if draw.random() < 0.96 else draw.choice([40, 255])
-        self.static_texts, self.routines, self.elsewhere = [], [], []
+        self.static_texts, self.far_texts, self.routines, self.elsewhere = [], [], [], []
         self.crossing = crossing
-        self.large = draw.random() < 0.03
+        self.large, self.far = draw.random() < 0.03, b""
         self.tables()
         self.buffers()
         self.abbreviations_and_words()
@@ -86,7 +87,7 @@ class World:
         """An array and the two buffers of `sread`, behind which static memory begins."""
         draw = self.draw
         self.array = OBJECTS + len(self.front)
-        room = draw.choice([0, 33000, 60000]) if self.large else 0
+        room = draw.choice([0, 33000, 58000]) if self.large and self.count <= 5 else 0
         self.text_buffer = self.array + SCRATCH + room
         letters, words = draw.choice([2, 10, 20, 20, int(9 * self.hazard)]), draw.choice([1, 3, 4, 4])
         self.parse = self.text_buffer + letters + 2
@@ -114,8 +115,8 @@ class World:
 
     def dictionary_bytes(self):
         draw = self.draw
-        separators, length = draw.choice([b"", b",", b",.\""]), draw.choice([4, 7])
-        keys = sorted(encoded(it) for it in draw.sample(WORDS_KNOWN, draw.randint(0, len(WORDS_KNOWN))))
+        separators, length = draw.choice([b"", b",", b",.\"", b" ,o", b"A?"]), draw.choice([4, 7])
+        keys = sorted(encoded(draw.choice(WORDS_KNOWN)) for _ in range(draw.randint(0, 8)))
         entries = b"".join(it + bytes(length - 4) for it in keys)
         return bytes([len(separators)]) + separators + bytes([length]) + word(len(keys)) + entries
 
@@ -125,7 +126,7 @@ class World:
         values = [draw.randint(0, self.count), draw.randint(0, 99), draw.randint(0, 99), draw.randint(1, self.count), self.array, draw.randint(0, 5)]
         values += [draw.choice(ODD_WORDS) for _ in range(240 - len(values))]
         rest = b"".join(word(it) for it in values) + self.front + self.back + code
-        rest += b"\0" * (len(rest) % 2)
+        rest = rest.ljust(FAR - 64, b"\0") + self.far if self.far else rest + b"\0" * (len(rest) % 2)
         stated = (64 + len(rest)) // 2 if draw.random() < 0.9 else 0
         total = sum(rest) % 65536 if draw.random() < 0.7 else draw.choice([0, 1])
         head = struct.pack(
@@ -156,7 +157,7 @@ class Code:
             "A": lambda: world.array,
             "i": lambda: draw.randint(0, SCRATCH // 2 - 1),
             "t": lambda: draw.choice(world.static_texts),
-            "T": lambda: draw.choice([it for it in world.static_texts if it % 2 == 0] or [0]) // 2,
+            "T": lambda: draw.choice([it for it in world.static_texts + world.far_texts if it % 2 == 0] or [0]) // 2,
             "d": lambda: draw.choice([1, 2, 3, 7, 0xFFFF, 0xFFFD, 0x8000]),
             "q": lambda: draw.choice([0, data[1]]),
             "c": lambda: draw.choice([0, 13, 32, 65, 97, 126, 127, 200, 300]),
@@ -203,7 +204,16 @@ class Code:
             return [(0, world.text_buffer if draw.random() >= world.hazard else draw.randint(0, 2000)), (0, world.parse)]
         if name in ("put_prop", "get_next_prop", "get_prop") and draw.random() >= world.hazard and world.property_data:
             return self.of_property(name)
-        return [self.operand(it) for it in ROLES.get(name, "")]
+        roles = ROLES.get(name, "")
+        found = [self.operand(it) for it in roles]
+        fit = [at for at, it in enumerate(roles) if it in "oaipdw" and self.locals]
+        if fit and draw.random() < 0.3:
+            at, local = draw.choice(fit), draw.randint(1, self.locals)
+            most = {"o": self.world.count, "a": 31, "i": 30, "p": 31, "d": 9, "w": draw.randint(1, 300)}[roles[at]]
+            if found[at] != (2, 0):
+                self.before.append((b"\xe7\x3f" + word(most) + bytes([local]), None))
+                found[at] = (2, local)
+        return found
 
     def of_property(self, name):
         """Operands that name an object and a property that it has, for `put_prop` and `get_prop` one of a word or a byte."""
@@ -251,8 +261,10 @@ class Code:
         """So many instructions from a place on, and a last one."""
         parts, heights = [], [0]
         for _ in range(count):
-            parts.append(self.instruction())
-            heights.append(self.height)
+            self.before, height = [], self.height
+            made = self.instruction()
+            parts += [*self.before, made]
+            heights += [height] * len(self.before) + [self.height]
         parts.append((last, None))
         starts, places = at, []
         for made, kind in parts:
@@ -292,7 +304,8 @@ def spelled(draw, name, operands):
         kinds = [kind == 2 for kind, _ in operands]
         return bytes([0x40 * kinds[0] + 0x20 * kinds[1] + TWO.index(name) + 1]) + values
     types = 0
-    for kind, _ in (operands + [(3, 0)] * 4)[:4]:
+    rest = [(3, 0)] + [(draw.choice([0, 1, 2, 3, 3, 3]), 0) for _ in range(3)]
+    for kind, _ in (operands + rest)[:4]:
         types = types << 2 | kind
     first = 0xC0 + TWO.index(name) + 1 if name in TWO else 0xE0 + MORE.index(name)
     return bytes([first, types]) + values
@@ -303,6 +316,8 @@ def story(draw, hazard=None, restores=False, crossing=0):
     `crossing` says code leads into other code, and jumps by variables."""
     world = World(draw, draw.choice([0, 0, 0.01, 0.01, 0.05]) if hazard is None else hazard, crossing)
     code, begin = b"", world.static + len(world.back)
+    if world.large:
+        add_far(world)
     for _ in range(draw.randint(0, 4)):
         code += b"\0" * ((begin + len(code)) % 2)
         head, count = begin + len(code), draw.randint(0, 3)
@@ -321,3 +336,15 @@ def story(draw, hazard=None, restores=False, crossing=0):
     first_drawn = begin + len(code)
     code += Code(world, 0, True).drawn(draw.randint(3, 50), first_drawn, b"\xba")
     return world.finished(code, first)
+
+
+def add_far(world):
+    """A routine and texts behind the first 64 KiB."""
+    draw, made = world.draw, b""
+    for _ in range(3):
+        world.far_texts.append(FAR + len(made))
+        made += text(draw)
+    head = FAR + len(made)
+    made += b"\x01" + word(draw.randint(0, 9)) + Code(world, 1, False).drawn(5, head + 3, b"\xb0")
+    world.far = made + b"\0" * (len(made) % 2)
+    world.routines.append(head)
