@@ -84,8 +84,10 @@ class Drawer:
         if kind < 0.65:
             made = worlds.story(draw)
             way = draw.random()
-            if way < 0.8:
+            if way < 0.75:
                 return made
+            if way < 0.8:
+                return spoiling.raw_of(draw, made)
             return spoiling.tables_of(draw, made) if way < 0.9 else spoiling.bytes_of(draw, made, self.stories)
         made = draw.choice(self.stories)
         if draw.random() < 0.5:

@@ -42,6 +42,13 @@ def code_of(draw, file, certificate=None):
     return bytes(made)
 
 
+def raw_of(draw, file):
+    """The story with any bytes as its code, of which some are often met."""
+    begin = min(word_at(file, 0x06), len(file))
+    often = [0x0D, 0x41, 0x54, 0x8C, 0x95, 0xA0, 0xB2, 0xBA, 0xC1, 0xE0, 0xE6, 0xE8, 0xFF, 0x57, 0x1F]
+    return file[:begin] + bytes(draw.choice([draw.choice(often), draw.randint(0, 255)]) for _ in range(len(file) - begin))
+
+
 def tables_of(draw, file):
     """The story with a byte changed of its objects and what stands behind them, or a word of its header."""
     made = bytearray(file)
@@ -164,6 +171,8 @@ def save_of(draw, save):
     """The save with a byte or a chunk changed; it still begins with FORM."""
     chunks = chunks_of(save)
     way = draw.random()
+    if way < 0.1:
+        return joined([(name, full_stacks(draw, data) if name == b"Stks" else data) for name, data in chunks])
     if way < 0.3:
         made = bytearray(save)
         change(draw, made, draw.choice([draw.randrange(4, len(made)), draw.randrange(8, 40), len(made) - draw.randint(1, 20)]))
@@ -175,6 +184,15 @@ def save_of(draw, save):
         chunks[at] = (chunks[at][0], spoiled_data(draw, chunks[at][1]))
         return joined(chunks)
     return joined(other_chunks(draw, chunks))
+
+
+def full_stacks(draw, data):
+    """Stacks that are full or nearly so, or as many frames as may stand."""
+    if draw.random() < 0.3:
+        height = draw.choice([65533, 65534, 65535])
+        return bytes(6) + struct.pack(">H", height) + bytes(2 * height)
+    first = data[: 8 + 2 * (data[6] * 256 + data[7])]
+    return first + draw.choice([bytes(8), b"\0\0\0\x02\x10\x01\0\0\0\x07\0\x07"]) * draw.choice([3, 1022, 1023, 1024, 1025])
 
 
 def spoiled_data(draw, data):
