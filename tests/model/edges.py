@@ -1,6 +1,6 @@
 """What may come of an instruction: its edges that can be taken, each with what is known after it (docs/CERTIFICATE.md, "What is known after
 an instruction")."""
-from intervals import ALL, BYTE, RESULTS, counted, fitting, has, hull, meet, single, told
+from intervals import ALL, BYTE, RESULTS, counted, has, hull, meet, single, told
 from stories import signed, word_at
 
 NEVER_TAKEN = {"quit", "restart"}
@@ -114,9 +114,8 @@ def loaded(site):
 def calls(site):
     """The edges of a call: a routine is entered, of each that may be, and 0 is called."""
     called, found = site.values[0], []
-    results = [site.known.certificate.routines[number - 1][2] for at, number in site.known.routine_at.items() if at % 2 == 0 and at and has_word(called, at // 2)]
     if called != (0, 0):
-        found += [behind(site, it) for it in results]
+        found += [behind(site, it) for at, _, it in site.known.certificate.routines if at % 2 == 0 and at and has_word(called, at // 2)]
     return found + ([behind(site, (0, 0))] if has(called, 0) else [])
 
 

@@ -2,10 +2,10 @@
 (I1 to I18), in the order that docs/CERTIFICATE.md says."""
 from edges import edges_of
 from instructions import NoInstruction, decode
-from intervals import ALL, has, is_single, within, words_in
+from intervals import has, is_single, within, words_in
 from known import Known
 from sites import NAMING, OBJECTS, Site
-from stories import Refused, word_at
+from stories import Refused
 
 
 def judge(story, certificate):

@@ -1,5 +1,5 @@
 """A listed instruction with what a certificate says before it: the intervals of its operands, and what they name."""
-from intervals import single, words_in
+from intervals import single
 
 NAMING = {"inc", "dec", "inc_chk", "dec_chk", "store", "load", "pull"}
 POPPING = {"pull", "pop", "ret_popped"}

@@ -55,6 +55,7 @@ class World:
         self.static_texts, self.far_texts, self.routines, self.elsewhere = [], [], [], []
         self.crossing = crossing
         self.large, self.far = draw.random() < 0.03, b""
+        self.soft = not self.large and draw.random() < 0.08  # dynamic memory goes up to the dictionary, which is behind all code
         self.tables()
         self.buffers()
         self.abbreviations_and_words()
@@ -128,9 +129,15 @@ class World:
         rest = b"".join(word(it) for it in values) + self.front + self.back + code
         rest = rest.ljust(FAR - 64, b"\0") + self.far if self.far else rest + b"\0" * (len(rest) % 2)
         stated = (64 + len(rest)) // 2 if draw.random() < 0.9 else 0
+        static, dictionary = self.static, self.dictionary
+        if self.soft:
+            static = dictionary = 64 + len(rest)
+            rest += self.dictionary_bytes()
+            rest += b"\0" * (len(rest) % 2)
+        stated = (64 + len(rest)) // 2 if stated else 0
         total = sum(rest) % 65536 if draw.random() < 0.7 else draw.choice([0, 1])
         head = struct.pack(
-            ">BBHHHHHHHH6sHHH", 3, draw.choice([0, 2, 0x70]), draw.randint(0, 9), self.static, first, self.dictionary, OBJECTS, GLOBALS, self.static,
+            ">BBHHHHHHHH6sHHH", 3, draw.choice([0, 2, 0x70]), draw.randint(0, 9), self.static, first, dictionary, OBJECTS, GLOBALS, static,
             draw.choice([0, 0, 1, 2, 3]), b"260101", self.static, stated, total,
         )  # fmt: skip
         return head.ljust(64, b"\0") + rest
@@ -155,7 +162,7 @@ class Code:
             "p": lambda: data[0] if data[2] <= 2 else draw.randint(1, 31),
             "P": lambda: data[0],
             "A": lambda: world.array,
-            "i": lambda: draw.randint(0, SCRATCH // 2 - 1),
+            "i": lambda: draw.randint(0, 1500 if world.soft and draw.random() < 0.3 else SCRATCH // 2 - 1),
             "t": lambda: draw.choice(world.static_texts),
             "T": lambda: draw.choice([it for it in world.static_texts + world.far_texts if it % 2 == 0] or [0]) // 2,
             "d": lambda: draw.choice([1, 2, 3, 7, 0xFFFF, 0xFFFD, 0x8000]),
