@@ -69,6 +69,7 @@ def played(case, tally):
     story, certificate = accepted(case, files[1]) if len(files) > 1 else (Story(case.files["story"]), None)
     if is_kept_from(options, case.files.get("saved", b"")):
         raise Refused("N2")
+    tally.codes["played with a certificate"] += certificate is not None
     store = Store(case.files.get("saved"), certificate and certificate.instructions) if "--save" in options else None
     machine = Machine(story, int(options.get("--seed", 1)), case.typed, "--status" in options, store, tally.opcodes)
     end = machine.run(int(options["--budget"]))

@@ -153,15 +153,26 @@ class Drawer:
         if draw.random() < 0.1:
             story = spoiling.tables_of(draw, story)
         try:
-            certificate = spoiling.spelled(Walk(Story(story)).made)
+            loaded = Story(story)
+            certificate = spoiling.spelled(Walk(loaded, frozen(draw, loaded)).made)
         except Refused:
             return Case(["list", "story"], {"story": story})
         return accepting(draw, story, certificate if draw.random() < 0.7 else spoiling.certificate_of(draw, certificate))
 
 
+def frozen(draw, story):
+    """Places of dynamic memory that a certificate may freeze: mostly none, or some runs behind the entries of objects."""
+    begin = story.entry(story.count + 1)
+    if draw.random() < 0.5 or begin >= story.static:
+        return set()
+    firsts = (draw.randrange(begin, story.static) for _ in range(draw.randint(1, 4)))
+    places = {place for first in firsts for place in range(first, min(first + draw.choice([1, 2, 9, 70]), story.static))}
+    return places - set(range(story.globals, story.globals + 480)) if draw.random() < 0.9 else places
+
+
 def accepting(draw, story, certificate):
     """A command that asks whether a story is accepted with a certificate."""
-    files, command = {"story": story, "certificate": certificate}, draw.choice(["check", "check", "play", "list"])
+    files, command = {"story": story, "certificate": certificate}, draw.choice(["check", "check", "play", "play", "play", "list"])
     if command != "play":
         return Case([command, "story", "certificate"], files)
     lines, keeps = typed(draw), []

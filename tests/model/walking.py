@@ -12,15 +12,22 @@ from stories import word_at
 ROUNDS, MOST_JOINS, MOST_CALLED = 12, 3, 20
 
 
+def ranges_of(places):
+    """The fewest ranges that have these places."""
+    firsts = sorted(it for it in places if it - 1 not in places)
+    lasts = sorted(it for it in places if it + 1 not in places)
+    return list(zip(firsts, lasts))
+
+
 class Walk:
     """A certificate that grows until it holds what comes of each instruction."""
 
-    def __init__(self, story):
+    def __init__(self, story, frozen=()):
         self.story, self.made, self.joins, self.changed = story, Certificate(), {}, False
         memory = story.memory
         self.made.header, self.made.length = memory[2:4] + memory[0x12:0x18] + memory[0x1C:0x1E], story.length
         self.made.globals = [single(word_at(memory, story.globals + 2 * it)) for it in range(240)]
-        self.made.ranges = self.sizes_of_buffers()
+        self.made.ranges = ranges_of({*frozen, *self.sizes_of_buffers()})
         self.known = Known(story, self.made)
         self.known.has_property_tables()
         self.known.closed = self.known.closed or self.known.closed_places(set())
@@ -34,10 +41,9 @@ class Walk:
         self.renumber()
 
     def sizes_of_buffers(self):
-        """The first bytes of the buffers that instructions name, as frozen ranges."""
+        """The first bytes of the buffers that instructions name."""
         found = (it for it in Listing(self.story).found.values() if it is not None and it.name == "sread")
-        places = sorted({value for it in found for is_variable, value in it.operands if not is_variable and 64 <= value < self.story.static})
-        return [(it, it) for it in places if it - 1 not in places]
+        return [value for it in found for is_variable, value in it.operands if not is_variable and 64 <= value < self.story.static]
 
     def join(self, key, old, new):
         """The least interval with both, or all words where it has grown too often."""

@@ -70,8 +70,10 @@ class World:
             elder = [it for it in range(1, number) if parents[it - 1] == parents[number - 1] and parents[number - 1]]
             child = [it for it in range(1, count + 1) if parents[it - 1] == number]
             links = bytes([parents[number - 1], elder[-1] if elder else 0, child[-1] if child else 0])
-            entries += bytes(draw.choice([0, 255, 0x11]) for _ in range(4)) + links + word(begin + len(tables))
-            tables += self.property_table(number, begin + len(tables))
+            shared = number > 1 and draw.random() < 0.08
+            entries += bytes(draw.choice([0, 255, 0x11]) for _ in range(4)) + links
+            entries += entries[7:9] if shared else word(begin + len(tables))
+            tables += b"" if shared else self.property_table(number, begin + len(tables))
         self.front = bytes(draw.randint(0, 255) for _ in range(62)) + entries + tables
 
     def property_table(self, owner, at):
@@ -127,20 +129,22 @@ class World:
         values = [draw.randint(0, self.count), draw.randint(0, 99), draw.randint(0, 99), draw.randint(1, self.count), self.array, draw.randint(0, 5)]
         values += [draw.choice(ODD_WORDS) for _ in range(240 - len(values))]
         rest = b"".join(word(it) for it in values) + self.front + self.back + code
-        rest = rest.ljust(FAR - 64, b"\0") + self.far if self.far else rest + b"\0" * (len(rest) % 2)
-        stated = (64 + len(rest)) // 2 if draw.random() < 0.9 else 0
+        rest = rest.ljust(FAR - 64, b"\0") + self.far if self.far else even(rest)
         static, dictionary = self.static, self.dictionary
         if self.soft:
             static = dictionary = 64 + len(rest)
-            rest += self.dictionary_bytes()
-            rest += b"\0" * (len(rest) % 2)
-        stated = (64 + len(rest)) // 2 if stated else 0
+            rest = even(rest + self.dictionary_bytes())
+        stated = (64 + len(rest)) // 2 if draw.random() < 0.9 else 0
         total = sum(rest) % 65536 if draw.random() < 0.7 else draw.choice([0, 1])
         head = struct.pack(
             ">BBHHHHHHHH6sHHH", 3, draw.choice([0, 2, 0x70]), draw.randint(0, 9), self.static, first, dictionary, OBJECTS, GLOBALS, static,
             draw.choice([0, 0, 1, 2, 3]), b"260101", self.static, stated, total,
         )  # fmt: skip
         return head.ljust(64, b"\0") + rest
+
+
+def even(made):
+    return made + b"\0" * (len(made) % 2)
 
 
 class Code:
@@ -161,7 +165,7 @@ class Code:
             "a": lambda: draw.randint(0, 31),
             "p": lambda: data[0] if data[2] <= 2 else draw.randint(1, 31),
             "P": lambda: data[0],
-            "A": lambda: world.array,
+            "A": lambda: world.static if self.reads and draw.random() < 0.3 else world.array,
             "i": lambda: draw.randint(0, 1500 if world.soft and draw.random() < 0.3 else SCRATCH // 2 - 1),
             "t": lambda: draw.choice(world.static_texts),
             "T": lambda: draw.choice([it for it in world.static_texts + world.far_texts if it % 2 == 0] or [0]) // 2,
@@ -202,6 +206,7 @@ class Code:
 
     def operands(self, name):
         draw, world = self.draw, self.world
+        self.reads = name in ("loadw", "loadb")
         if name == "je":
             return [self.operand("w") for _ in range(draw.randint(2, 4))]
         if name == "call":
@@ -353,5 +358,5 @@ def add_far(world):
         made += text(draw)
     head = FAR + len(made)
     made += b"\x01" + word(draw.randint(0, 9)) + Code(world, 1, False).drawn(5, head + 3, b"\xb0")
-    world.far = made + b"\0" * (len(made) % 2)
+    world.far = even(made)
     world.routines.append(head)
