@@ -76,7 +76,7 @@ class Drawer:
         crossing = draw.choice([0, 0, 0, 0.02, 0.1])
         story = worlds.story(draw, crossing / 5, crossing=crossing) if crossing else self.story(draw)
         if way < 0.65:
-            return Case(["list", "story"], {"story": story})
+            return Case(["list", "story"], {"story": story if draw.random() < 0.7 or len(story) < 64 else spoiling.raw_of(draw, story)})
         return Case(["play", *options(draw), "story"], {"story": story}, typed(draw))
 
     def story(self, draw):

@@ -21,6 +21,8 @@ from program import Program, shown
 
 AT_ONCE = 2
 MOST_TOLD = 20
+LAST = {"F": 16, "L": 11, "U": 3, "K": 7, "S": 8, "I": 18, "Q": 9}
+CODES = [f"{letter}{number}" for letter, last in LAST.items() for number in range(1, last + 1)] + ["N2"]
 
 
 class Tally:
@@ -42,6 +44,7 @@ class Tally:
 
     def end(self):
         print("model: met " + ", ".join(f"{it} {self.codes[it]}" for it in sorted(self.codes, key=by_number)))
+        print("model: never met: " + (", ".join(it for it in [*CODES, *OPCODES] if not self.codes[it] and not self.opcodes[it]) or "none"))
         print("model: opcodes " + ", ".join(f"{it} {self.opcodes[it]}" for it in OPCODES))
         print("model: kinds " + ", ".join(f"{it} {many}" for it, many in sorted(self.kinds.items())))
         print(f"model: {self.passed} passed, {self.failed} failed")

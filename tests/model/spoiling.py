@@ -46,7 +46,8 @@ def raw_of(draw, file):
     """The story with any bytes as its code, of which some are often met."""
     begin = min(word_at(file, 0x06), len(file))
     often = [0x0D, 0x41, 0x54, 0x8C, 0x95, 0xA0, 0xB2, 0xBA, 0xC1, 0xE0, 0xE6, 0xE8, 0xFF, 0x57, 0x1F]
-    return file[:begin] + bytes(draw.choice([draw.choice(often), draw.randint(0, 255)]) for _ in range(len(file) - begin))
+    begin += draw.choice([0, 0, 2, 3])
+    return file[:begin] + bytes(draw.choice([draw.choice(often), draw.randint(0, 255), draw.randint(0, 255)]) for _ in range(len(file) - begin))
 
 
 def tables_of(draw, file):
@@ -113,8 +114,12 @@ def one_range(draw, made):
         made.ranges.remove(draw.choice(made.ranges))
         return
     first = draw.randint(0x220, 0x360) if draw.random() < 0.9 else draw.randint(0, 2000)
-    made.ranges = [it for it in made.ranges if it[1] < first - 1 or it[0] > first + 5]
-    made.ranges.append((first, first + draw.randint(0, 3)))
+    last = first + draw.randint(0, 3)
+    if draw.random() < 0.8:
+        made.ranges = [it for it in made.ranges if it[1] < first - 1 or it[0] > last + 1]
+    else:
+        made.ranges.append(draw.choice([(last + 1, last + 3), (first, last), (last + 2, last + 2), (last + 3, last + 2)]))
+    made.ranges.append((first, last))
     made.ranges.sort()
 
 
@@ -192,7 +197,7 @@ def full_stacks(draw, data):
         height = draw.choice([65533, 65534, 65535])
         return bytes(6) + struct.pack(">H", height) + bytes(2 * height)
     first = data[: 8 + 2 * (data[6] * 256 + data[7])]
-    return first + draw.choice([bytes(8), b"\0\0\0\x02\x10\x01\0\0\0\x07\0\x07"]) * draw.choice([3, 1022, 1023, 1024, 1025])
+    return first + draw.choice([bytes(8), b"\0\0\0\x02\x10\x01\0\0\0\x07\0\x07"]) * draw.choice([1, 1, 3, 1022, 1023, 1024, 1025])
 
 
 def spoiled_data(draw, data):

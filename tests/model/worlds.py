@@ -49,7 +49,8 @@ def text(draw, uses=True, most=5):
 class World:
     """Where things are in a story that is drawn, and its bytes as they come."""
 
-    def __init__(self, draw, hazard, crossing):
+    def __init__(self, draw, hazard, crossing, returns):
+        self.returns = returns  # whether the main code may return
         self.draw, self.hazard, self.saves = draw, hazard, draw.random() < 0.3
         self.count = draw.randint(1, 5) if draw.random() < 0.96 else draw.choice([40, 255])
         self.static_texts, self.far_texts, self.routines, self.elsewhere = [], [], [], []
@@ -94,8 +95,9 @@ class World:
         self.text_buffer = self.array + SCRATCH + room
         letters, words = draw.choice([2, 10, 20, 20, int(9 * self.hazard)]), draw.choice([1, 3, 4, 4])
         self.parse = self.text_buffer + letters + 2
+        over = self.hazard > 0 and draw.random() < 0.2
         self.front += bytes(draw.randint(0, 255) for _ in range(SCRATCH)) + bytes(room) + bytes([letters]) + bytes(letters + 1)
-        self.front += bytes([words]) + bytes(1 + 4 * words)
+        self.front += bytes([words + over]) + bytes(1 + 4 * words + draw.choice([0, 0, 0, 2, 3]))
         self.static = OBJECTS + len(self.front)
 
     def abbreviations_and_words(self):
@@ -246,7 +248,7 @@ class Code:
             return draw.choice(OFTEN)
         if kind < 0.40:
             name = draw.choice(SELDOM)
-            if self.is_main and name in ("ret", "rtrue", "rfalse", "print_ret", "ret_popped") and draw.random() > self.world.hazard:
+            if self.is_main and not self.world.returns and name in ("ret", "rtrue", "rfalse", "print_ret", "ret_popped") and draw.random() > self.world.hazard:
                 return "nop"
             return name
         return draw.choice([it for it in [*TWO, *ONE, *NONE, *MORE] if it not in ("-", *SELDOM)])
@@ -326,7 +328,7 @@ def spelled(draw, name, operands):
 def story(draw, hazard=None, restores=False, crossing=0):
     """A story: some routines, of which each calls those before it and maybe itself, and the main code, which may begin with a `restore` and a `save`. As often as
     `crossing` says code leads into other code, and jumps by variables."""
-    world = World(draw, draw.choice([0, 0, 0.01, 0.01, 0.05]) if hazard is None else hazard, crossing)
+    world = World(draw, draw.choice([0, 0, 0.01, 0.01, 0.05]) if hazard is None else hazard, crossing, restores and draw.random() < 0.3)
     code, begin = b"", world.static + len(world.back)
     if world.large:
         add_far(world)
