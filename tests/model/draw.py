@@ -157,7 +157,7 @@ class Drawer:
             certificate = spoiling.spelled(Walk(loaded, frozen(draw, loaded)).made)
         except Refused:
             return Case(["list", "story"], {"story": story})
-        return accepting(draw, story, certificate if draw.random() < 0.7 else spoiling.certificate_of(draw, certificate))
+        return accepting(draw, story, certificate if draw.random() < 0.5 else spoiling.certificate_of(draw, certificate))
 
 
 def frozen(draw, story):

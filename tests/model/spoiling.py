@@ -53,6 +53,10 @@ def raw_of(draw, file):
 def tables_of(draw, file):
     """The story with a byte changed of its objects and what stands behind them, or a word of its header."""
     made = bytearray(file)
+    if draw.random() < 0.3 and word_at(made, 0x0A) + 62 + 9 * 6 < len(made):
+        first, second = (word_at(made, 0x0A) + 62 + 9 * draw.randint(0, 4) + 7 for _ in range(2))
+        made[first : first + 2] = struct.pack(">H", (word_at(made, second) + draw.choice([0, *range(-2, 13)])) % 65536)
+        return bytes(made)
     if draw.random() < 0.6:
         begin, static = word_at(made, 0x0A), word_at(made, 0x0E)
         if begin + 62 < static <= len(made):
@@ -74,6 +78,28 @@ def interval_of(draw, interval):
     changes = [ALL, (lower - 1, upper), (lower, upper + 1), (lower + 1, upper), (lower, upper - 1), (lower, 32767), (-32768, upper), (0, 255), (0, 0)]
     changed = draw.choice(changes)
     return changed if ALL[0] <= changed[0] <= changed[1] <= ALL[1] else ALL
+
+
+def narrower(draw, interval):
+    """The interval without one of its ends, where it has two."""
+    lower, upper = interval
+    if lower == upper:
+        return interval
+    return draw.choice([(lower + 1, upper), (lower, upper - 1)])
+
+
+def one_narrower(draw, made):
+    """Makes one interval narrower, of those that have several numbers."""
+    lists = [it for _, values, slots in made.instructions.values() for it in (values, slots)] + [made.globals]
+    fit = [(several, at) for several in lists for at, it in enumerate(several) if ALL != it and it[0] < it[1]]
+    routines = [at for at, (_, _, result) in enumerate(made.routines) if result[0] < result[1]]
+    if fit and draw.random() < 0.9:
+        several, at = draw.choice(fit)
+        several[at] = narrower(draw, several[at])
+    elif routines:
+        at = draw.choice(routines)
+        address, count, result = made.routines[at]
+        made.routines[at] = (address, count, narrower(draw, result))
 
 
 def one_interval(draw, made):
@@ -145,7 +171,7 @@ def all_wide(draw, made):
     made.routines = [(at, count, ALL if draw.random() < rate else result) for at, count, result in made.routines]
 
 
-CHANGES = [one_interval] * 4 + [one_global] * 3 + [one_place] * 3 + [one_range] * 2 + [one_routine] * 3 + [all_wide] * 2
+CHANGES = [one_narrower] * 9 + [one_interval] * 4 + [one_global] * 3 + [one_place] * 3 + [one_range] * 2 + [one_routine] * 3 + [all_wide] * 2
 
 
 def certificate_of(draw, file):

@@ -158,7 +158,7 @@ class Code:
     def role_word(self, role):
         world, draw = self.world, self.draw
         if draw.random() < world.hazard:
-            return draw.choice(ODD_WORDS + [draw.randint(0, 65535)])
+            return draw.choice(self.mistakes(role))
         data = draw.choice(world.property_data or [(1, 0, 1, 1)])
         return {
             "w": lambda: draw.choice(ODD_WORDS + [draw.randint(0, 9)] * 8),
@@ -175,6 +175,21 @@ class Code:
             "q": lambda: draw.choice([0, data[1]]),
             "c": lambda: draw.choice([0, 13, 32, 65, 97, 126, 127, 200, 300]),
         }[role]()
+
+    def mistakes(self, role):
+        """Words that are no such thing, or just are one, and any."""
+        world, end = self.world, self.world.static
+        some = {
+            "o": [0, world.count, world.count + 1, 256 + world.count],
+            "a": [31, 32, 0xFFFF],
+            "p": [0, 31, 32, 0xFFE0],
+            "P": [0, 1, 31],
+            "A": [0x10, 0x11, 0x3F, end - 1, end - 2, end, 0xFFFF, 0xFFFE],
+            "t": [0xFFFE, 0xFFFF, 0x40],
+            "d": [0, 0],
+            "v": [0, 15, 16, 255, 256],
+        }.get(role, [])
+        return some * 3 + [self.draw.choice(ODD_WORDS), self.draw.randint(0, 65535)]
 
     def role_variable(self, role):
         """A variable that may have such a word, or None."""
@@ -218,6 +233,8 @@ class Code:
             return [(0, world.text_buffer if draw.random() >= world.hazard else draw.randint(0, 2000)), (0, world.parse)]
         if name in ("put_prop", "get_next_prop", "get_prop") and draw.random() >= world.hazard and world.property_data:
             return self.of_property(name)
+        if name in ("storeb", "storew") and draw.random() < 0.06:
+            return [(1, 0x11 if name == "storeb" else 0x10), (1, 0), self.operand("w")]
         roles = ROLES.get(name, "")
         found = [self.operand(it) for it in roles]
         fit = [at for at, it in enumerate(roles) if it in "oaipdw" and self.locals]
@@ -347,6 +364,7 @@ def story(draw, hazard=None, restores=False, crossing=0):
         world.elsewhere += [it for it, _ in part.targets]
     first = begin + len(code)
     code += b"\xb6\x42\xb5\x42" if restores else b""
+    code += b"\xe8\x7f\x05" * draw.choice([63, 64, 64, 65]) if draw.random() < 0.03 else b""
     first_drawn = begin + len(code)
     code += Code(world, 0, True).drawn(draw.randint(3, 50), first_drawn, b"\xba")
     return world.finished(code, first)
