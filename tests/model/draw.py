@@ -76,7 +76,7 @@ class Drawer:
         crossing = draw.choice([0, 0, 0, 0.02, 0.1])
         story = worlds.story(draw, crossing / 5, crossing=crossing) if crossing else self.story(draw)
         if way < 0.65:
-            return Case(["list", "story"], {"story": story if draw.random() < 0.7 or len(story) < 64 else spoiling.raw_of(draw, story)})
+            return Case(["list", "story"], {"story": story if draw.random() < 0.4 or len(story) < 64 else unlisted(draw, story)})
         return Case(["play", *options(draw), "story"], {"story": story}, typed(draw))
 
     def story(self, draw):
@@ -158,6 +158,20 @@ class Drawer:
         except Refused:
             return Case(["list", "story"], {"story": story})
         return accepting(draw, story, certificate if draw.random() < 0.5 else spoiling.certificate_of(draw, certificate))
+
+
+def unlisted(draw, story):
+    """A copy of a story that is spoiled where loading or listing may tell it."""
+    way = draw.random()
+    if way < 0.03:
+        return story[: draw.choice([0, 1, 63, 64, 65])]
+    if way < 0.06:
+        return story.ljust(draw.choice([131072, 131073]), b"\0")
+    if way < 0.5:
+        return spoiling.raw_of(draw, story)
+    if way < 0.7:
+        return spoiling.dictionary_of(draw, story)
+    return spoiling.header_of(draw, story)
 
 
 def frozen(draw, story):

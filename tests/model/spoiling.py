@@ -62,9 +62,27 @@ def tables_of(draw, file):
         if begin + 62 < static <= len(made):
             change(draw, made, draw.randrange(begin + (62 if draw.random() < 0.9 else 0), min(static, begin + 400)))
             return bytes(made)
+    return header_of(draw, file)
+
+
+def dictionary_of(draw, file):
+    """The story with a byte changed of its dictionary."""
+    made = bytearray(file)
+    begin = word_at(made, 0x08)
+    if begin < len(made):
+        change(draw, made, min(begin + draw.randint(0, 30), len(made) - 1))
+    return bytes(made)
+
+
+def header_of(draw, file):
+    """The story with another word in its header that names a place."""
+    made = bytearray(file)
     at = draw.choice([0x06, 0x08, 0x0A, 0x0C, 0x0E, 0x18, 0x18, 0x1A])
     other = word_at(made, draw.choice([0x06, 0x08, 0x0A, 0x0C, 0x0E, 0x18]))
-    value = draw.choice([other, word_at(made, at) + draw.choice([-2, -1, 1, 2, 9]), draw.randint(64, len(made)), other + draw.randint(0, 500)])
+    near = word_at(made, at) + draw.choice([-2, -1, 1, 2, 9])
+    static = word_at(made, 0x0E)
+    edge = draw.choice([62, 63, 64, 65, static - 480, static - 479, static - 62, static - 61, static - 1, len(made), len(made) // 2 + 1])
+    value = draw.choice([other, near, draw.randint(64, len(made)), other + draw.randint(0, 500), edge])
     made[at : at + 2] = struct.pack(">H", value % 65536)
     return bytes(made)
 
@@ -243,6 +261,8 @@ def other_chunks(draw, chunks):
         return chunks + [chunks[at]]
     if way < 0.6:
         return draw.sample(chunks, len(chunks))
+    if way < 0.7:
+        return [(b"CMem" if name == b"UMem" else name, data) for name, data in chunks]
     extra = (draw.choice([b"AUTH", b"CMem", b"IntD", b"UMem"]), bytes(draw.randint(0, 3)))
     return chunks[:at] + [extra] + chunks[at + (way > 0.8) :]
 

@@ -157,7 +157,7 @@ class Code:
 
     def role_word(self, role):
         world, draw = self.world, self.draw
-        if draw.random() < world.hazard:
+        if draw.random() < world.hazard * (3 if role in "dap" else 1):
             return draw.choice(self.mistakes(role))
         data = draw.choice(world.property_data or [(1, 0, 1, 1)])
         return {
@@ -259,6 +259,8 @@ class Code:
     def name(self):
         draw = self.draw
         kind = draw.random()
+        if draw.random() < self.world.crossing / 3:
+            return "jump"
         if self.world.saves and draw.random() < 0.12:
             return draw.choice(["save", "save", "restore", "sread"])
         if kind < 0.35:
