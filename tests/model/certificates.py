@@ -1,0 +1,88 @@
+"""Certificates of version 1 as docs/CERTIFICATE.md spells them: how a file is read, and its first refusal (K1 to K7).
+
+Each number of the table there is a field by itself, also of a row that has several."""
+import struct
+
+from stories import Refused
+
+PLACES, LOCALS, HEIGHT, INSTRUCTIONS = 131072, 15, 64, 131072
+
+
+class Certificate:
+    """What a certificate says. Routines are (address, count of locals, result), an instruction at an address is (routine, locals, slots)."""
+
+    def __init__(self):
+        self.ranges, self.globals, self.routines, self.instructions = [], [], [], {}
+        self.header = self.length = None
+
+
+class Fields:
+    """Reads the fields of a file from its front."""
+
+    def __init__(self, file):
+        self.file, self.at = file, 0
+
+    def take(self, form):
+        size = struct.calcsize(form)
+        if self.at + size > len(self.file):
+            raise Refused("K3")
+        found = struct.unpack_from(form, self.file, self.at)
+        self.at += size
+        return found if len(found) > 1 else found[0]
+
+    def interval(self):
+        lower, upper = self.take(">hh")
+        require(lower <= upper, "K6")
+        return lower, upper
+
+
+def require(holds, code):
+    if not holds:
+        raise Refused(code)
+
+
+def read(file):
+    """The certificate that a file spells, or Refused."""
+    fields, made = Fields(file), Certificate()
+    require(fields.take(">4s") == b"ZPCC", "K1")
+    require(fields.take(">B") == 1, "K2")
+    made.header, made.length = fields.take(">10s"), fields.take(">I")
+    read_ranges(fields, made)
+    made.globals = [fields.interval() for _ in range(240)]
+    read_routines(fields, made)
+    read_instructions(fields, made)
+    require(fields.at == len(file), "K4")
+    return made
+
+
+def read_ranges(fields, made):
+    for _ in range(fields.take(">H")):
+        first, last = fields.take(">HH")
+        require(first <= last and (not made.ranges or first > made.ranges[-1][1] + 1), "K5")
+        made.ranges.append((first, last))
+
+
+def read_routines(fields, made):
+    for _ in range(fields.take(">H")):
+        address = fields.take(">I")
+        require(not made.routines or address > made.routines[-1][0], "K5")
+        require(address < PLACES, "K7")
+        count = fields.take(">B")
+        require(count <= LOCALS, "K7")
+        made.routines.append((address, count, fields.interval()))
+
+
+def read_instructions(fields, made):
+    count, before = fields.take(">I"), -1
+    require(count <= INSTRUCTIONS, "K7")
+    for _ in range(count):
+        address = fields.take(">I")
+        require(address > before, "K5")
+        require(address < PLACES, "K7")
+        number = fields.take(">H")
+        require(number <= len(made.routines), "K7")
+        height = fields.take(">B")
+        require(height <= HEIGHT, "K7")
+        values = [fields.interval() for _ in range(made.routines[number - 1][1] if number else 0)]
+        made.instructions[address] = (number, values, [fields.interval() for _ in range(height)])
+        before = address
