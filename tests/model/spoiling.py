@@ -147,7 +147,7 @@ def one_place(draw, made):
         number = draw.randint(0, len(made.routines))
         values = ([*values, *[ALL] * 15])[: made.routines[number - 1][1] if number else 0]
     elif way < 0.7:
-        place += draw.choice([-1, 1, 2])
+        place = draw.choice([place - 1, place + 1, place + 2, 131070, 131071, 131072])
     if way < 0.7:
         made.instructions[place] = (number, values, slots)
 
@@ -246,6 +246,9 @@ def full_stacks(draw, data):
 
 def spoiled_data(draw, data):
     made = bytearray(data)
+    if len(made) > 64 and draw.random() < 0.3:
+        change(draw, made, draw.choice([0x10, 0x11, 0x11, draw.randrange(64)]))  # of the header Flags 2 alone is the save's
+        return bytes(made)
     if made and draw.random() < 0.8:
         change(draw, made, draw.randrange(len(made)))
         return bytes(made)

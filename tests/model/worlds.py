@@ -366,7 +366,8 @@ def story(draw, hazard=None, restores=False, crossing=0):
         world.elsewhere += [it for it, _ in part.targets]
     first = begin + len(code)
     code += b"\xb6\x42\xb5\x42" if restores else b""
-    code += b"\xe8\x7f\x05" * draw.choice([63, 64, 64, 65]) if draw.random() < 0.03 else b""
+    pushes = draw.choice([63, 64, 64, 65]) if draw.random() < 0.03 else 2 * (restores and draw.random() < 0.3)
+    code += b"\xe8\x7f\x05" * pushes
     first_drawn = begin + len(code)
     code += Code(world, 0, True).drawn(draw.randint(3, 50), first_drawn, b"\xba")
     return world.finished(code, first)
