@@ -1,6 +1,6 @@
 #!/usr/bin/env python3
 """Counts what each command costs by the size of what it is given: a quarter, half and the whole of the largest, in instructions of the host,
-and the most memory that it takes. What grows faster than linearly shows as more than twice its neighbour.
+and the most memory that it takes. What grows faster than linearly shows as more than twice its neighbour. Needs valgrind and GNU's `time`.
 
     growth.py [--jobs N] [--only WORD] [PROGRAM]
 
@@ -36,17 +36,19 @@ def host(words, folder):
     with open(os.path.join(folder, "typed"), "rb") as typed:
         run = subprocess.run(command, cwd=folder, stdin=typed, stdout=subprocess.DEVNULL, stderr=subprocess.PIPE, check=False)
     found = re.search(rb"Collected : (\d+)", run.stderr)
-    if not found or b"failed" in run.stderr:
+    if not found or b"failed" in run.stderr or b"fault" in run.stderr:
         sys.exit(f"{' '.join(words)}: {run.stderr.decode()}")
     return int(found[1])
 
 
 def peak(words, folder):
-    """The most memory that a run takes, in MB of 1,000,000 bytes."""
-    with open(os.path.join(folder, "typed"), "rb") as typed, open(os.devnull, "wb") as nothing:
-        child = subprocess.Popen(words, cwd=folder, stdin=typed, stdout=nothing, stderr=nothing)
-        _, _, used = os.wait4(child.pid, 0)
-    return used.ru_maxrss * 1024 / 1e6
+    """The most memory that a run takes, in MB of 1,000,000 bytes, by GNU's `time`: what a child of this process takes at least is what this
+    process has."""
+    with open(os.path.join(folder, "typed"), "rb") as typed:
+        command = ["time", "-f", "%M", "-o", "peak", *words]
+        subprocess.run(command, cwd=folder, stdin=typed, stdout=subprocess.DEVNULL, stderr=subprocess.DEVNULL, check=False)
+    with open(os.path.join(folder, "peak"), encoding="utf-8") as file:
+        return int(file.read().split()[-1]) * 1024 / 1e6
 
 
 def nops(part):
@@ -128,7 +130,7 @@ def dictionary(part):
 def properties(part):
     """An object's property list of so many bytes, gone over for a property that isn't there, for ever."""
     room = int(64000 * part)
-    code = b"\x51\x01\x02\x10" + b"\x8c\xff\xf9"
+    code = b"\x11\x01\x02\x10" + b"\x8c\xff\xfb"
     made = story(code, room=room)
     table = STATIC + 9
     entries = [0xE3, *bytes(8)] * ((room - 12) // 9)
@@ -137,17 +139,14 @@ def properties(part):
 
 
 def siblings(part):
-    """The last of so many children is taken out and put back, as the first; so is the next that is last."""
-    count = int(254 * part)
-    room = 9 * 255 + 2
-    code = b"\x99\xff" + b"\x0e\xff\x01" + b"\x8c\xff\xf8"
+    """So many children, of which each time the last is moved to the front."""
+    first = 256 - int(254 * part)
+    moves = b"".join(b"\x0e" + bytes([number, 1]) for number in range(255, first - 1, -1))
     table = STATIC + 9 * 255
-    entries = b"".join(bytes(4) + bytes([0, 0, 0]) + word(table) for _ in range(255))
-    made = changed(story(code, room=room), STATIC, *entries)
-    first = 255 - count
+    made = story(moves + b"\x8c" + struct.pack(">h", -len(moves) - 1), room=9 * 255 + 2)
+    made = changed(made, STATIC, *(bytes(7) + word(table)) * 255)
     for number in range(first, 256):
-        at = STATIC + 9 * (number - 1) + 4
-        made = changed(made, at, 1, number + 1 if number < 255 else 0, 0)
+        made = changed(made, STATIC + 9 * (number - 1) + 4, 1, number + 1 if number < 255 else 0, 0)
     return {"story": changed(made, STATIC + 6, first)}
 
 
@@ -194,7 +193,7 @@ ROWS = {
     "step: sread": (dictionary, ["play", *ACCEPTED], (0, 60, 20)),
     "step: sread, checked": (dictionary, ["play", *CHECKED], (0, 60, 20)),
     "step: get_prop of a list": (properties, ["play", *CHECKED], (0, 200, 100)),
-    "step: insert_obj among siblings": (siblings, ["play", *CHECKED], (0, 300, 100)),
+    "step: insert_obj of the last child": (siblings, ["play", *CHECKED], lambda part: (0, 2 * int(254 * part) + 2, 2 * int(254 * part))),
 }
 
 
