@@ -73,7 +73,7 @@ class Drawer:
             return self.with_certificate(draw) if way < 0.2 else self.walked(draw)
         if way < 0.55:
             return self.with_saves(draw)
-        crossing = draw.choice([0, 0, 0, 0.02, 0.1])
+        crossing = draw.choice([0, 0, 0, 1 / 50, 1 / 10])
         story = worlds.story(draw, crossing / 5, crossing=crossing) if crossing else self.story(draw)
         if way < 0.65:
             return Case(["list", "story"], {"story": story if draw.random() < 0.4 or len(story) < 64 else unlisted(draw, story)})

@@ -347,7 +347,7 @@ def spelled(draw, name, operands):
 def story(draw, hazard=None, restores=False, crossing=0):
     """A story: some routines, of which each calls those before it and maybe itself, and the main code, which may begin with a `restore` and a `save`. As often as
     `crossing` says code leads into other code, and jumps by variables."""
-    world = World(draw, draw.choice([0, 0, 0.01, 0.01, 0.05]) if hazard is None else hazard, crossing, restores and draw.random() < 0.3)
+    world = World(draw, draw.choice([0, 0, 1 / 100, 1 / 100, 1 / 20]) if hazard is None else hazard, crossing, restores and draw.random() < 0.3)
     code, begin = b"", world.static + len(world.back)
     if world.large:
         add_far(world)
