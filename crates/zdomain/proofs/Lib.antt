@@ -2,3 +2,6 @@ pub mod Ends
 pub mod Inclusion
 pub mod Reading
 mod Worked
+pub mod Listing
+pub mod Going
+pub mod Reaching

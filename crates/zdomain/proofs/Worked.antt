@@ -61,7 +61,7 @@ no_inclusion = (λ w. no_words.0 (w 2 (record { word = omega arith; member = (om
 
 -- sets that don't have their single word are unsound
 nothing : SetOperations ℕ
-nothing = record { has = λ _ _. ⊥; single = λ word. word; any = 0; between = λ lo hi. lo; lowest = λ a. a; highest = λ a. a; known = λ a. None; join = λ a b. a; meet = λ a b. None; unary = λ op a. a; binary = λ op a b. a; narrow = λ q c a b. None }
+nothing = record { has = λ _ _. ⊥; single = λ word. word; any = 0; between = λ lo hi. lo; lowest = λ a. a; highest = λ a. a; known = λ a. None; few = λ a. None; packed = λ g. 0; join = λ a b. a; meet = λ a b. None; unary = λ op a. a; binary = λ op a b. a; narrow = λ q c a b. None }
 
 unsound : AreSound nothing → ⊥
 unfolding nothing

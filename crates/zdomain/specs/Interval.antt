@@ -13,6 +13,7 @@ use Rattle.zword.specs.declared.question.Question.{Question}
 use Rattle.zword.specs.declared.question.Question.TheVariants.{Equal, Less, Greater, Test}
 use Rattle.zdomain.specs.declared.interval.Interval.{Interval}
 use Rattle.zdomain.specs.Domain.{SetOperations}
+use Rattle.zdomain.specs.Few.{turned}
 
 -- two numbers in order, by the test of it
 pub in_order : (a b : ℤ) → int_le a b ≡ true → a ≤ℤ b
@@ -185,6 +186,8 @@ interval_operations = record {
   lowest = λ i. word_of (int_max i.lo (negsuc 32767));
   highest = λ i. word_of (int_min i.hi (pos 32767));
   known = λ i. if is_single i then Some (word_of i.lo) else None;
+  few = λ i. None;
+  packed = λ g. unwrap_or (interval_of (signed (turned g.least)) (signed (turned g.greatest))) all_words;
   join = join;
   meet = meet;
   unary = unary;

@@ -1,3 +1,8 @@
 pub mod Domain
 pub mod Interval
 pub mod IntervalLaw
+pub mod Few
+pub mod FewModel
+pub mod FewLaw
+pub mod Values
+pub mod ValuesLaw

@@ -3,6 +3,8 @@
 ghost use Rattle.std.specs.Prelude.{◌≡◌, ◌↔◌, ◌≤◌, ℕ, IfNone, IfSome, IsTrue};
 ghost use Rattle.zdomain.specs.Domain.{SetOperations, AreSound, In, Within};
 
+use crate::few::Few;
+use crate::gathered::Gathered;
 use zword::{BinaryOp, Question, UnaryOp};
 
 /// A set of words, of which there is at least one, with what a rule asks of sets and makes of them.
@@ -53,6 +55,14 @@ pub trait Domain: Copy + Drop {
     fn known(self) -> Option<u16>
         ensures { result ≡ operations.known self };
 
+    /// All words of the set, where it tells them one by one.
+    fn few(self) -> Option<Few>
+        ensures { result ≡ operations.few self };
+
+    /// A set that has each word that was gathered.
+    fn packed(gathered: &Gathered) -> Self
+        ensures { result ≡ operations.packed gathered.now };
+
     /// A set that has the words of both.
     fn join(self, other: Self) -> Self
         ensures { result ≡ operations.join self other };
@@ -65,7 +75,7 @@ pub trait Domain: Copy + Drop {
     fn unary(operation: UnaryOp, operand: Self) -> Self
         ensures { result ≡ operations.unary operation operand };
 
-    /// A set that has what the operation makes of any two words of the two sets.
+    /// A set that has what the operation makes of any two words of the two sets for which it is defined.
     fn binary(operation: BinaryOp, first: Self, second: Self) -> Self
         ensures { result ≡ operations.binary operation first second };
 

@@ -8,6 +8,8 @@ ghost use Rattle.zdomain.specs.Interval.{HasAddress, interval_operations};
 ghost use Rattle.zdomain.specs.IntervalLaw.{interval_sound};
 
 use crate::domain::Domain;
+use crate::few::{Few, turned};
+use crate::gathered::Gathered;
 use crate::interval::Interval;
 use crate::{arithmetic, edges};
 use zword::{BinaryOp, Question, UnaryOp};
@@ -72,6 +74,14 @@ impl Domain for Interval {
         } else {
             None
         }
+    }
+
+    fn few(self) -> Option<Few> {
+        None
+    }
+
+    fn packed(gathered: &Gathered) -> Interval {
+        Interval::between(turned(gathered.least()), turned(gathered.greatest()))
     }
 
     fn join(self, other: Interval) -> Interval {

@@ -4,7 +4,9 @@ use Rattle.std.specs.Prelude.{MatchOption, unwrap_or}
 use Rattle.std.specs.Int.{w16, int_wrap, int_min, int_max}
 use Rattle.std.proofs.lemmas.Int.{ints, int_wrap_fits, clamps, to_z-of_z}
 use Rattle.zdomain.specs.declared.interval.Interval.{Interval}
-use Rattle.zdomain.specs.Domain.{In}
+use Rattle.std.specs.Prelude.{◌≤◌}
+use Rattle.zdomain.specs.Domain.{In, IsGathered}
+use Rattle.zdomain.specs.Few.{turned, Gathering}
 use Rattle.zdomain.specs.Interval.{signed, point, all_words, interval_of, interval_where, outside, fitting, interval_operations}
 use Rattle.zword.specs.Binary.{word_of}
 
@@ -88,7 +90,7 @@ ends_lie f a b x y first second = by (f a.lo b.lo) (f a.lo b.hi) (f a.hi b.lo) (
 -- ---- the words at the ends
 
 -- a number of a word is that word's
-read_back : (z : ℤ) → negsuc 32767 ≤ℤ z → z ≤ℤ pos 32767 → signed (word_of z) ≡ z
+pub read_back : (z : ℤ) → negsuc 32767 ≤ℤ z → z ≤ℤ pos 32767 → signed (word_of z) ≡ z
 read_back (pos n) low high = to_z-of_z w16 (pos n) (record { sfits = omega (arith, ints) })
 read_back (negsuc n) low high = to_z-of_z w16 (negsuc n) (record { sfits = omega (arith, ints) })
 
@@ -103,3 +105,16 @@ highest_has a x i =
     let word = i.word in let high = i.member.1 in
     let back = read_back (int_min a.hi (pos 32767)) (omega (arith, ints, clamps)) (omega (arith, ints, clamps)) in
     rw back (omega (arith, ints, clamps))
+
+-- ---- words that were gathered
+
+-- the word at a place is no greater than one whose place isn't below it
+pub place_low : (place x : ℕ) → x < 65536 → place ≤ turned x → signed (turned place) ≤ℤ signed x
+place_low place x word low = grind (arith, ints, word, low)
+
+-- the word at a place is no less than one whose place isn't above it
+pub place_high : (place x : ℕ) → x < 65536 → place < 65536 → turned x ≤ place → signed x ≤ℤ signed (turned place)
+place_high place x word few high = grind (arith, ints, word, few, high)
+
+pub packed_has : (g : Gathering) (x : ℕ) → IsGathered g x → x < 65536 → Has (unwrap_or (interval_of (signed (turned g.least)) (signed (turned g.greatest))) all_words) x
+packed_has g x gathered word = between_has (turned g.least) (turned g.greatest) x (place_low g.least x word gathered.least) (place_high g.greatest x word gathered.bound gathered.greatest) word
