@@ -97,7 +97,6 @@ fn last_behind(before: u16, words: &[u16]) -> u16
 /// Whether words rise by their signed readings, and are 2 to 64 that are no interval.
 #[tactic(auto, unfolding(crate::specs::Few::is_scattered))]
 pub(crate) fn is_scattered(words: &[u16]) -> bool
-    requires { length words.now ≤ 64 }
     ensures { result ≡ is_scattered words.now }
 {
     2 <= words.len()

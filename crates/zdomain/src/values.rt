@@ -2,7 +2,7 @@
 
 ghost use Rattle.zdomain.specs.Few.{IsScattered};
 
-use crate::few::{Few, MOST_FEW, is_scattered};
+use crate::few::{Few, is_scattered};
 use crate::interval::Interval;
 
 /// 2 to 64 words, in the order of their signed readings, that are no interval.
@@ -13,15 +13,21 @@ pub struct Scattered {
 }
 
 impl Scattered {
+    ghost use Rattle.std.specs.Prelude.{◌≡◌, IfSome, IfNone, false};
+    ghost use Rattle.zdomain.specs.Few.{is_scattered};
+
     /// These words, where they rise by their signed readings, are 2 to 64, and are no interval.
-    pub fn new(words: &[u16]) -> Option<Scattered> {
-        if words.len() <= MOST_FEW && is_scattered(words) {
-            Some(Scattered {
-                few: Few::of(words),
-            })
-        } else {
-            None
+    #[tactic(auto, unfolding(crate::specs::Few::is_scattered))]
+    pub fn new(words: &[u16]) -> Option<Scattered>
+        ensures some { IfSome result (λ s. s.few ≡ words.now) }
+        ensures none { IfNone result (is_scattered words.now ≡ false) }
+    {
+        if !is_scattered(words) {
+            return None;
         }
+        Some(Scattered {
+            few: Few::of(words),
+        })
     }
 }
 
