@@ -1,3 +1,7 @@
+pub mod Orders
+pub mod Gathering
+pub mod Among
+pub mod Bits
 pub mod Ends
 pub mod Inclusion
 pub mod Reading

@@ -15,15 +15,14 @@ unfoldable pub words_from : ℕ → ℕ → List ℕ
 words_from word zero = []
 words_from word (suc n) = word ∷ words_from ((word + 1) % 65536) n
 
--- where a word has to be put, if it isn't there
-unfoldable pub seek : ℕ → List ℕ → Option ℕ
-seek word [] = Some 0
-seek word (x ∷ xs) = if x == word then None else (if nat_lt (turned word) (turned x) then Some 0 else option_map suc (seek word xs))
+-- how many words of a list stand before one, in the order of signed readings
+unfoldable pub place_in : ℕ → List ℕ → ℕ
+place_in word [] = 0
+place_in word (x ∷ xs) = if nat_lt (turned word) (turned x) then 0 else suc (place_in word xs)
 
--- the words of a list and one more, as long as there are at most 64
-abbrev pub put : List ℕ → ℕ → Option ℕ → Option (List ℕ)
-put words word None = Some words
-put words word (Some place) = if nat_lt (length words) 64 then Some (insert words place word) else None
+-- the words of a list and one that isn't there, as long as there are at most 64
+abbrev pub put : ℕ → List ℕ → Option (List ℕ)
+put word words = if nat_lt (length words) 64 then Some (insert words (place_in word words) word) else None
 
 -- Words that were gathered: the places of the least and of the greatest, and the words themselves, where there are at most 64
 pub record Gathering : Type 0 where
@@ -34,9 +33,10 @@ pub record Gathering : Type 0 where
 abbrev pub none_gathered : Gathering
 none_gathered = record { least = 65535; greatest = 0; few = Some [] }
 
+-- words and one more, as long as there are at most 64
 abbrev pub added : ℕ → Option (List ℕ) → Option (List ℕ)
 added word None = None
-added word (Some words) = put words word (seek word words)
+added word (Some words) = if is_among word words then Some words else put word words
 
 abbrev pub with_word : ℕ → Gathering → Gathering
 with_word word g = record { least = min g.least (turned word); greatest = max g.greatest (turned word); few = added word g.few }
@@ -45,6 +45,10 @@ with_word word g = record { least = min g.least (turned word); greatest = max g.
 unfoldable pub with_words : List ℕ → Gathering → Gathering
 with_words [] g = g
 with_words (x ∷ xs) g = with_words xs (with_word x g)
+
+-- the words of a list, gathered
+abbrev pub gathered : List ℕ → Gathering
+gathered words = with_words words none_gathered
 
 -- each word rises above the one before it
 unfoldable pub rises_behind : ℕ → List ℕ → Bool

@@ -3,7 +3,7 @@ use Rattle.std.proofs.Common.{◌≡◌, ℕ, zero, suc, ◌+◌, ◌-◌, ◌%�
 use Rattle.std.specs.Prelude.{MatchOption, IfSome, IsTrue, option_map, ◌==◌, nat_lt, nat_le, min, max, insert}
 use Rattle.std.proofs.lemmas.Bool.{eqb-true, eqb-false, ltb-true, ltb-false}
 use Rattle.zdomain.specs.Domain.{IsGathered}
-use Rattle.zdomain.specs.Few.{turned, is_among, words_from, seek, put, added, Gathering, none_gathered, with_word, with_words, rises_behind, rises, last_behind, first_of, last_of}
+use Rattle.zdomain.specs.Few.{turned, is_among, words_from, place_in, put, added, Gathering, none_gathered, with_word, with_words, rises_behind, rises, last_behind, first_of, last_of}
 
 or_left : (a b : Bool) → a ≡ true → a || b ≡ true
 or_left true b e = refl
@@ -44,47 +44,38 @@ insert_old zero w v xs h = among_behind w v xs h
 insert_old (suc i) w v [] h = absurd cc
 insert_old (suc i) w v (x ∷ xs) h = among_cons x v xs (λ e. rw e (among_front v (insert xs i w))) (λ r. among_behind x v (insert xs i w) (insert_old i w v xs r)) h
 
--- what needn't be put is there
-pub sought : (w : ℕ) (xs : List ℕ) → seek w xs ≡ None → IsTrue (is_among w xs)
-unfolding seek
-sought w [] e = absurd cc
-sought w (x ∷ xs) e = by (sought w xs) (x == w) (nat_lt (turned w) (turned x)) refl e
-  where
-    later : (seek w xs ≡ None → IsTrue (is_among w xs)) → (r : Option ℕ) → seek w xs ≡ r → option_map suc r ≡ None → IsTrue (is_among w (x ∷ xs))
-    later again None is f = among_behind x w xs (again is)
-    later again (Some i) is f = absurd cc
-
-    by : (seek w xs ≡ None → IsTrue (is_among w xs)) → (b c : Bool) → (x == w) ≡ b → (if b then None else (if c then Some 0 else option_map suc (seek w xs))) ≡ None → IsTrue (is_among w (x ∷ xs))
-    by again true c is f = or_left (x == w) (is_among w xs) is
-    by again false true is f = absurd cc
-    by again false false is f = later again (seek w xs) refl f
-
 abbrev Keeps : Option (List ℕ) → ℕ → Type 0
 Keeps few x = IfSome few (λ words. IsTrue (is_among x words))
 
-put_new : (w : ℕ) (xs : List ℕ) (r : Option ℕ) → seek w xs ≡ r → Keeps (put xs w r) w
-put_new w xs None e = sought w xs e
-put_new w xs (Some i) e = by (nat_lt (length xs) 64)
+put_new : (w : ℕ) (xs : List ℕ) → Keeps (put w xs) w
+put_new w xs = by (nat_lt (length xs) 64)
   where
-    by : (b : Bool) → Keeps (if b then Some (insert xs i w) else None) w
-    by true = insert_new i w xs
+    by : (b : Bool) → Keeps (if b then Some (insert xs (place_in w xs) w) else None) w
+    by true = insert_new (place_in w xs) w xs
     by false = tt
 
-put_old : (w v : ℕ) (xs : List ℕ) (r : Option ℕ) → IsTrue (is_among v xs) → Keeps (put xs w r) v
-put_old w v xs None h = h
-put_old w v xs (Some i) h = by (nat_lt (length xs) 64)
+put_old : (w v : ℕ) (xs : List ℕ) → IsTrue (is_among v xs) → Keeps (put w xs) v
+put_old w v xs h = by (nat_lt (length xs) 64)
   where
-    by : (b : Bool) → Keeps (if b then Some (insert xs i w) else None) v
-    by true = insert_old i w v xs h
+    by : (b : Bool) → Keeps (if b then Some (insert xs (place_in w xs) w) else None) v
+    by true = insert_old (place_in w xs) w v xs h
     by false = tt
 
 added_new : (w : ℕ) (few : Option (List ℕ)) → Keeps (added w few) w
 added_new w None = tt
-added_new w (Some xs) = put_new w xs (seek w xs) refl
+added_new w (Some xs) = by (is_among w xs) refl
+  where
+    by : (b : Bool) → is_among w xs ≡ b → Keeps (if b then Some xs else put w xs) w
+    by true e = e
+    by false e = put_new w xs
 
 added_old : (w v : ℕ) (few : Option (List ℕ)) → Keeps few v → Keeps (added w few) v
 added_old w v None h = tt
-added_old w v (Some xs) h = put_old w v xs (seek w xs) h
+added_old w v (Some xs) h = by (is_among w xs)
+  where
+    by : (b : Bool) → Keeps (if b then Some xs else put w xs) v
+    by true = h
+    by false = put_old w v xs h
 
 place_small : (w : ℕ) → turned w < 65536
 place_small w = omega arith

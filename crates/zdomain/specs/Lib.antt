@@ -2,6 +2,9 @@ pub mod Domain
 pub mod Interval
 pub mod IntervalLaw
 pub mod Few
+pub mod Marks
+pub mod Gathering
+pub mod Sides
 pub mod FewModel
 pub mod FewLaw
 pub mod Values

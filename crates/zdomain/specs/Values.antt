@@ -1,5 +1,6 @@
 -- Sets of words that are intervals or short lists (own).
-use Rattle.std.specs.Prelude.{◌≡◌, ℕ, zero, suc, ◌+◌, ◌-◌, ◌%◌, Bool, true, false, ◌&&◌, if◌then◌else◌, Option, Some, None, unwrap_or, List, [], ◌∷◌, ◌++◌, length, T, IsTrue, int_le, nat_lt, nat_le, refl}
+use Rattle.std.specs.Prelude.{◌≡◌, ℕ, zero, suc, ◌+◌, ◌-◌, ◌%◌, Bool, true, false, ◌&&◌, if◌then◌else◌, Option, Some, None, unwrap_or, List, [], ◌∷◌, ◌++◌, length, map, T, IsTrue, int_le, nat_lt, nat_le, refl}
+use Rattle.std.specs.List.{filter}
 use Rattle.std.proofs.Common.{sym, subst}
 use Rattle.zword.specs.Binary.{signed, word_of, apply, is_defined}
 use Rattle.zword.specs.Unary.{transform}
@@ -13,7 +14,7 @@ use Rattle.zdomain.specs.declared.values.Values.{Values}
 use Rattle.zdomain.specs.declared.values.Values.TheVariants.{Run, List as AList}
 use Rattle.zdomain.specs.Domain.{SetOperations}
 use Rattle.zdomain.specs.Interval as interval
-use Rattle.zdomain.specs.Few.{turned, is_among, words_from, Gathering, none_gathered, with_word, with_words, is_scattered, IsScattered, first_of, last_of}
+use Rattle.zdomain.specs.Few.{turned, is_among, words_from, Gathering, gathered, is_scattered, IsScattered, first_of, last_of}
 
 -- the words from one to another
 abbrev pub between : ℕ → ℕ → Interval
@@ -67,28 +68,17 @@ is_empty g = nat_lt g.greatest g.least
 abbrev pub found : Gathering → Option Values
 found g = if is_empty g then None else Some (packed g)
 
--- what an operation makes of the words of a list
-unfoldable pub with_turned : UnaryOp → List ℕ → Gathering → Gathering
-with_turned op [] g = g
-with_turned op (x ∷ xs) g = with_turned op xs (with_word (transform op x) g)
+-- what an operation makes of a word and each of a list by which it is defined
+abbrev pub row : BinaryOp → ℕ → List ℕ → List ℕ
+row op x ys = map (apply op x) (filter (is_defined op) ys)
 
--- what it makes of a word and those of a list by which it is defined
-unfoldable pub with_row : BinaryOp → ℕ → List ℕ → Gathering → Gathering
-with_row op x [] g = g
-with_row op x (y ∷ ys) g = with_row op x ys (if is_defined op y then with_word (apply op x y) g else g)
-
--- what it makes of those of two lists
-unfoldable pub with_rows : BinaryOp → List ℕ → List ℕ → Gathering → Gathering
-with_rows op [] ys g = g
-with_rows op (x ∷ xs) ys g = with_rows op xs ys (with_row op x ys g)
-
--- those of a list that a set has
-unfoldable pub with_common : Values → List ℕ → Gathering → Gathering
-with_common a [] g = g
-with_common a (x ∷ xs) g = with_common a xs (if has a x then with_word x g else g)
+-- what it makes of each of one list with each of another
+unfoldable pub rows : BinaryOp → List ℕ → List ℕ → List ℕ
+rows op [] ys = []
+rows op (x ∷ xs) ys = row op x ys ++ rows op xs ys
 
 abbrev pub unary_few : UnaryOp → Values → Option (List ℕ) → Values
-unary_few op a (Some xs) = packed (with_turned op xs none_gathered)
+unary_few op a (Some xs) = packed (gathered (map (transform op) xs))
 unary_few op a None = Run (interval.unary op (hull a))
 
 abbrev pub unary : UnaryOp → Values → Values
@@ -96,7 +86,7 @@ unary Not a = unary_few Not a (members a)
 unary Keep a = a
 
 abbrev pub binary_few : BinaryOp → Values → Values → Option (List ℕ) → Option (List ℕ) → Values
-binary_few op a b (Some xs) (Some ys) = packed (with_rows op xs ys none_gathered)
+binary_few op a b (Some xs) (Some ys) = packed (gathered (rows op xs ys))
 binary_few op a b (Some xs) None = Run (interval.binary op (hull a) (hull b))
 binary_few op a b None ys = Run (interval.binary op (hull a) (hull b))
 
@@ -104,7 +94,7 @@ abbrev pub binary : BinaryOp → Values → Values → Values
 binary op a b = binary_few op a b (members a) (members b)
 
 abbrev pub join_few : Values → Values → Option (List ℕ) → Option (List ℕ) → Values
-join_few a b (Some xs) (Some ys) = packed (with_words ys (with_words xs none_gathered))
+join_few a b (Some xs) (Some ys) = packed (gathered (xs ++ ys))
 join_few a b (Some xs) None = Run (interval.join (hull a) (hull b))
 join_few a b None ys = Run (interval.join (hull a) (hull b))
 
@@ -117,8 +107,8 @@ run_if (Some i) = Some (Run i)
 
 abbrev pub meet : Values → Values → Option Values
 meet (Run i) (Run j) = run_if (interval.meet i j)
-meet (Run i) (AList s) = found (with_common (Run i) s.few none_gathered)
-meet (AList s) b = found (with_common b s.few none_gathered)
+meet (Run i) (AList s) = found (gathered (filter (has (Run i)) s.few))
+meet (AList s) b = found (gathered (filter (has b) s.few))
 
 abbrev pub both : Option Values → Option Values → Option (Values × Values)
 both None b = None

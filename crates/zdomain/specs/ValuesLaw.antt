@@ -1,5 +1,6 @@
 -- What an operation on sets of lists answers contains what it has to. A part of the proof, and nothing to believe.
-use Rattle.std.proofs.Common.{◌≡◌, ℕ, zero, suc, ◌+◌, ◌-◌, ◌%◌, ◌<◌, ◌≤◌, Bool, true, false, ◌&&◌, if◌then◌else◌, Option, Some, None, List, [], ◌∷◌, length, ℤ, pos, negsuc, ◌≤ℤ◌, int_le, arith, refl, sym, ◌∙◌, ap, subst}
+use Rattle.std.proofs.Common.{◌≡◌, ℕ, zero, suc, ◌+◌, ◌-◌, ◌%◌, ◌<◌, ◌≤◌, Bool, true, false, ◌&&◌, if◌then◌else◌, Option, Some, None, List, [], ◌∷◌, ◌++◌, length, map, ℤ, pos, negsuc, ◌≤ℤ◌, int_le, arith, refl, sym, ◌∙◌, ap, subst}
+use Rattle.std.specs.List.{filter}
 use Rattle.std.specs.Prelude.{MatchOption, IfSome, IsTrue, T, nat_lt, nat_le, unwrap_or}
 use Rattle.std.specs.Int.{w16, int_min, int_max}
 use Rattle.std.proofs.lemmas.Int.{ints, clamps}
@@ -20,9 +21,9 @@ use Rattle.zdomain.specs.Domain.{AreSound, In, IsGathered}
 use Rattle.zdomain.specs.Interval as interval
 use Rattle.zdomain.specs.IntervalLaw.{interval_sound}
 use Rattle.zdomain.specs.IntervalLaw.Lying.{Has, le_true, packed_has, between_has, lowest_has, highest_has, any_has, point_has}
-use Rattle.zdomain.specs.Few.{turned, is_among, words_from, Gathering, none_gathered, with_word, with_words, is_scattered, IsScattered, rises, rises_behind, first_of, last_of}
-use Rattle.zdomain.specs.FewLaw.{among_cons, among_front, with_new, with_old, bound_kept, all_old, all_new, all_bound, first_least, last_most, from_has}
-use Rattle.zdomain.specs.Values.{has, lowest, highest, hull, between, run_members, members, list_where, list_or, packed, is_empty, found, with_turned, with_row, with_rows, with_common, unary_few, unary, binary_few, binary, join_few, join, run_if, meet, both, narrow_to, narrow, known, values_operations}
+use Rattle.zdomain.specs.Few.{turned, is_among, words_from, Gathering, none_gathered, gathered, is_scattered, IsScattered, rises, rises_behind, first_of, last_of}
+use Rattle.zdomain.specs.FewLaw.{among_cons, among_front, among_behind, all_new, first_least, last_most, from_has}
+use Rattle.zdomain.specs.Values.{has, lowest, highest, hull, between, run_members, members, list_where, list_or, packed, is_empty, found, row, rows, unary_few, unary, binary_few, binary, join_few, join, run_if, meet, both, narrow_to, narrow, known, values_operations}
 
 -- the set has the word
 abbrev Lists : Values → ℕ → Type 0
@@ -55,7 +56,7 @@ of_test : (b : Bool) → T b → b ≡ true
 of_test true t = refl
 of_test false t = absurd t
 
-rising : (s : Scattered) → rises s.few ≡ true
+pub rising : (s : Scattered) → rises s.few ≡ true
 unfolding is_scattered
 rising s =
     let e = of_test (is_scattered s.few) s.scattered.is in
@@ -155,22 +156,37 @@ found_lists g x h word = by (is_empty g) refl
 none_bound : none_gathered.greatest < 65536
 none_bound = omega arith
 
+-- what a list has is gathered, and so lies in the set of it
+gathered_lists : (words : List ℕ) (x : ℕ) → x < 65536 → IsTrue (is_among x words) → Lists (packed (gathered words)) x
+gathered_lists words x word h = packed_lists (gathered words) x (all_new words x none_gathered none_bound h) word
+
 -- ---- one word of each
 
-turned_old : (op : UnaryOp) (xs : List ℕ) (v : ℕ) (g : Gathering) → IsGathered g v → IsGathered (with_turned op xs g) v
-unfolding with_turned
-turned_old op [] v g h = h
-turned_old op (x ∷ xs) v g h = turned_old op xs v (with_word (transform op x) g) (with_old (transform op x) v g h)
+among_mapped : (f : ℕ → ℕ) (xs : List ℕ) (x : ℕ) → IsTrue (is_among x xs) → IsTrue (is_among (f x) (map f xs))
+among_mapped f [] x h = absurd cc
+among_mapped f (y ∷ ys) x h = among_cons y x ys (λ e. rw e (among_front (f x) (map f ys))) (λ r. among_behind (f y) (f x) (map f ys) (among_mapped f ys x r)) h
 
-turned_new : (op : UnaryOp) (xs : List ℕ) (x : ℕ) (g : Gathering) → g.greatest < 65536 → IsTrue (is_among x xs) → IsGathered (with_turned op xs g) (transform op x)
-unfolding with_turned
-turned_new op [] x g bound h = absurd cc
-turned_new op (y ∷ ys) x g bound h = among_cons y x ys
-  (λ e. turned_old op ys (transform op x) (with_word (transform op y) g) (rw e (with_new (transform op x) g bound)))
-  (λ r. turned_new op ys x (with_word (transform op y) g) (bound_kept (transform op y) g bound) r) h
+among_filtered : (p : ℕ → Bool) (xs : List ℕ) (x : ℕ) → p x ≡ true → IsTrue (is_among x xs) → IsTrue (is_among x (filter p xs))
+among_filtered p [] x is h = absurd cc
+among_filtered p (y ∷ ys) x is h = among_cons y x ys (λ e. first e) (λ r. later (p y) (among_filtered p ys x is r)) h
+  where
+    first : y ≡ x → IsTrue (is_among x (filter p (y ∷ ys)))
+    first e = rw (e, is) (among_front x (filter p ys))
+
+    later : (b : Bool) → IsTrue (is_among x (filter p ys)) → IsTrue (is_among x (if b then y ∷ filter p ys else filter p ys))
+    later true r = among_behind y x (filter p ys) r
+    later false r = r
+
+among_left : (xs ys : List ℕ) (x : ℕ) → IsTrue (is_among x xs) → IsTrue (is_among x (xs ++ ys))
+among_left [] ys x h = absurd cc
+among_left (z ∷ zs) ys x h = among_cons z x zs (λ e. rw e (among_front x (zs ++ ys))) (λ r. among_behind z x (zs ++ ys) (among_left zs ys x r)) h
+
+among_right : (xs ys : List ℕ) (x : ℕ) → IsTrue (is_among x ys) → IsTrue (is_among x (xs ++ ys))
+among_right [] ys x h = h
+among_right (z ∷ zs) ys x h = among_behind z x (zs ++ ys) (among_right zs ys x h)
 
 unary_by : (op : UnaryOp) (a : Values) (x : ℕ) (few : Option (List ℕ)) → members a ≡ few → Lists a x → Lists (unary_few op a few) (transform op x)
-unary_by op a x (Some xs) e h = packed_lists _ _ (turned_new op xs x none_gathered none_bound (members_has a xs x e h)) (transformed_small op x h.word)
+unary_by op a x (Some xs) e h = gathered_lists _ _ (transformed_small op x h.word) (among_mapped (transform op) xs x (members_has a xs x e h))
 unary_by op a x None e h = run_has _ _ (interval_sound.unary op (hull a) x (hull_has a x h))
 
 unary_lists : (op : UnaryOp) (a : Values) (x : ℕ) → Lists a x → Lists (unary op a) (transform op x)
@@ -179,79 +195,35 @@ unary_lists Keep a x h = h
 
 -- ---- two words
 
-row_step_old : (op : BinaryOp) (x y v : ℕ) (b : Bool) (g : Gathering) → IsGathered g v → IsGathered (if b then with_word (apply op x y) g else g) v
-row_step_old op x y v true g h = with_old (apply op x y) v g h
-row_step_old op x y v false g h = h
+among_row : (op : BinaryOp) (x : ℕ) (ys : List ℕ) (y : ℕ) → is_defined op y ≡ true → IsTrue (is_among y ys) → IsTrue (is_among (apply op x y) (row op x ys))
+among_row op x ys y defined h = among_mapped (apply op x) (filter (is_defined op) ys) y (among_filtered (is_defined op) ys y defined h)
 
-row_step_bound : (op : BinaryOp) (x y : ℕ) (b : Bool) (g : Gathering) → g.greatest < 65536 → (if b then with_word (apply op x y) g else g).greatest < 65536
-row_step_bound op x y true g bound = bound_kept (apply op x y) g bound
-row_step_bound op x y false g bound = bound
-
-row_old : (op : BinaryOp) (x : ℕ) (ys : List ℕ) (v : ℕ) (g : Gathering) → IsGathered g v → IsGathered (with_row op x ys g) v
-unfolding with_row
-row_old op x [] v g h = h
-row_old op x (y ∷ ys) v g h = row_old op x ys v _ (row_step_old op x y v (is_defined op y) g h)
-
-row_bound : (op : BinaryOp) (x : ℕ) (ys : List ℕ) (g : Gathering) → g.greatest < 65536 → (with_row op x ys g).greatest < 65536
-unfolding with_row
-row_bound op x [] g bound = bound
-row_bound op x (y ∷ ys) g bound = row_bound op x ys _ (row_step_bound op x y (is_defined op y) g bound)
-
-row_new : (op : BinaryOp) (x : ℕ) (ys : List ℕ) (y : ℕ) (g : Gathering) → g.greatest < 65536 → is_defined op y ≡ true → IsTrue (is_among y ys) → IsGathered (with_row op x ys g) (apply op x y)
-unfolding with_row
-row_new op x [] y g bound defined h = absurd cc
-row_new op x (z ∷ zs) y g bound defined h = among_cons z y zs
-  (λ e. row_old op x zs (apply op x y) _ (rw (e, defined) (with_new (apply op x y) g bound)))
-  (λ r. row_new op x zs y _ (row_step_bound op x z (is_defined op z) g bound) defined r) h
-
-rows_old : (op : BinaryOp) (xs ys : List ℕ) (v : ℕ) (g : Gathering) → IsGathered g v → IsGathered (with_rows op xs ys g) v
-unfolding with_rows
-rows_old op [] ys v g h = h
-rows_old op (x ∷ xs) ys v g h = rows_old op xs ys v _ (row_old op x ys v g h)
-
-rows_new : (op : BinaryOp) (xs ys : List ℕ) (x y : ℕ) (g : Gathering) → g.greatest < 65536 → is_defined op y ≡ true → IsTrue (is_among x xs) → IsTrue (is_among y ys) → IsGathered (with_rows op xs ys g) (apply op x y)
-unfolding with_rows
-rows_new op [] ys x y g bound defined h k = absurd cc
-rows_new op (z ∷ zs) ys x y g bound defined h k = among_cons z x zs
-  (λ e. rows_old op zs ys (apply op x y) _ (rw e (row_new op x ys y g bound defined k)))
-  (λ r. rows_new op zs ys x y _ (row_bound op z ys g bound) defined r k) h
+among_rows : (op : BinaryOp) (xs ys : List ℕ) (x y : ℕ) → is_defined op y ≡ true → IsTrue (is_among x xs) → IsTrue (is_among y ys) → IsTrue (is_among (apply op x y) (rows op xs ys))
+unfolding rows
+among_rows op [] ys x y defined h k = absurd cc
+among_rows op (z ∷ zs) ys x y defined h k = among_cons z x zs
+  (λ e. among_left (row op z ys) (rows op zs ys) (apply op x y) (rw e (among_row op x ys y defined k)))
+  (λ r. among_right (row op z ys) (rows op zs ys) (apply op x y) (among_rows op zs ys x y defined r k)) h
 
 binary_by : (op : BinaryOp) (a b : Values) (x y : ℕ) (few others : Option (List ℕ)) → members a ≡ few → members b ≡ others → Lists a x → Lists b y → is_defined op y ≡ true → Lists (binary_few op a b few others) (apply op x y)
-binary_by op a b x y (Some xs) (Some ys) e f i j defined = packed_lists _ _ (rows_new op xs ys x y none_gathered none_bound defined (members_has a xs x e i) (members_has b ys y f j)) (applied_small op x y i.word j.word)
+binary_by op a b x y (Some xs) (Some ys) e f i j defined = gathered_lists _ _ (applied_small op x y i.word j.word) (among_rows op xs ys x y defined (members_has a xs x e i) (members_has b ys y f j))
 binary_by op a b x y (Some xs) None e f i j defined = run_has _ _ (interval_sound.binary op (hull a) (hull b) x y (hull_has a x i) (hull_has b y j) defined)
 binary_by op a b x y None ys e f i j defined = run_has _ _ (interval_sound.binary op (hull a) (hull b) x y (hull_has a x i) (hull_has b y j) defined)
 
 -- ---- sets joined and met
 
 join_left_by : (a b : Values) (x : ℕ) (few others : Option (List ℕ)) → members a ≡ few → Lists a x → Lists (join_few a b few others) x
-join_left_by a b x (Some xs) (Some ys) e h = packed_lists _ _ (all_old ys x _ (all_new xs x none_gathered none_bound (members_has a xs x e h))) h.word
+join_left_by a b x (Some xs) (Some ys) e h = gathered_lists _ _ h.word (among_left xs ys x (members_has a xs x e h))
 join_left_by a b x (Some xs) None e h = run_has _ _ (interval_sound.join_left (hull a) (hull b) x (hull_has a x h))
 join_left_by a b x None ys e h = run_has _ _ (interval_sound.join_left (hull a) (hull b) x (hull_has a x h))
 
 join_right_by : (a b : Values) (x : ℕ) (few others : Option (List ℕ)) → members b ≡ others → Lists b x → Lists (join_few a b few others) x
-join_right_by a b x (Some xs) (Some ys) e h = packed_lists _ _ (all_new ys x _ (all_bound xs none_gathered none_bound) (members_has b ys x e h)) h.word
+join_right_by a b x (Some xs) (Some ys) e h = gathered_lists _ _ h.word (among_right xs ys x (members_has b ys x e h))
 join_right_by a b x (Some xs) None e h = run_has _ _ (interval_sound.join_right (hull a) (hull b) x (hull_has b x h))
 join_right_by a b x None ys e h = run_has _ _ (interval_sound.join_right (hull a) (hull b) x (hull_has b x h))
 
-common_old : (a : Values) (xs : List ℕ) (v : ℕ) (g : Gathering) → IsGathered g v → IsGathered (with_common a xs g) v
-unfolding with_common
-common_old a [] v g h = h
-common_old a (x ∷ xs) v g h = common_old a xs v _ (by (has a x))
-  where
-    by : (b : Bool) → IsGathered (if b then with_word x g else g) v
-    by true = with_old x v g h
-    by false = h
-
-common_new : (a : Values) (xs : List ℕ) (x : ℕ) (g : Gathering) → g.greatest < 65536 → IsTrue (has a x) → IsTrue (is_among x xs) → IsGathered (with_common a xs g) x
-unfolding with_common
-common_new a [] x g bound i h = absurd cc
-common_new a (y ∷ ys) x g bound i h = among_cons y x ys
-  (λ e. common_old a ys x _ (rw (e, i) (with_new x g bound)))
-  (λ r. common_new a ys x _ (by (has a y)) i r) h
-  where
-    by : (b : Bool) → (if b then with_word y g else g).greatest < 65536
-    by true = bound_kept y g bound
-    by false = bound
+common_lists : (a : Values) (words : List ℕ) (x : ℕ) → x < 65536 → IsTrue (has a x) → IsTrue (is_among x words) → MatchOption (found (gathered (filter (has a) words))) ⊥ (λ c. Lists c x)
+common_lists a words x word h k = found_lists (gathered (filter (has a) words)) x (all_new (filter (has a) words) x none_gathered none_bound (among_filtered (has a) words x h k)) word
 
 run_met : (r : Option Interval) (x : ℕ) → MatchOption r ⊥ (λ c. Has c x) → MatchOption (run_if r) ⊥ (λ c. Lists c x)
 run_met None x h = h
@@ -259,8 +231,8 @@ run_met (Some i) x h = run_has i x h
 
 meet_lists : (a b : Values) (x : ℕ) → Lists a x → Lists b x → MatchOption (meet a b) ⊥ (λ c. Lists c x)
 meet_lists (Run i) (Run j) x h k = run_met (interval.meet i j) x (interval_sound.meet i j x (has_run i x h) (has_run j x k))
-meet_lists (Run i) (AList s) x h k = found_lists _ x (common_new (Run i) s.few x none_gathered none_bound h.member k.member) h.word
-meet_lists (AList s) b x h k = found_lists _ x (common_new b s.few x none_gathered none_bound k.member h.member) h.word
+meet_lists (Run i) (AList s) x h k = common_lists (Run i) s.few x h.word h.member k.member
+meet_lists (AList s) b x h k = common_lists b s.few x h.word k.member h.member
 
 -- ---- edges
 

@@ -1,28 +1,37 @@
 //! Words gathered one by one, for a set of them.
 
 ghost use Rattle.std.specs.Prelude.{◌≡◌, ◌≤◌, ◌<◌, length, option_map, IfSome};
-ghost use Rattle.zdomain.specs.Few.{seek, with_word, with_words, none_gathered};
+ghost use Rattle.zdomain.specs.Few.{place_in, with_word, with_words, none_gathered};
 
 use crate::few::{MOST_FEW, turned};
+use crate::marks::Marks;
 use arrayvec::ArrayVec;
 use std::marker::Model;
 
+/// How many bytes have a bit for each word.
+const WORD_BYTES: usize = 8_192;
+
 /// Words that were gathered: from which to which they go in the order of signed readings, and which they are, where there are at most 64.
+/// As long as they aren't more, those that are among them are marked, so that one that came before costs no search.
 #[derive(Drop)]
 pub struct Gathered {
     least: u16,
     greatest: u16,
     few: ArrayVec<u16, MOST_FEW>,
+    marks: Marks<WORD_BYTES>,
     are_many: bool,
 }
 
 impl Model for Gathered {
-    ghost use Rattle.std.specs.Prelude.{if◌then◌else◌, Some, None};
+    ghost use Rattle.std.specs.Prelude.{◌≡◌, if◌then◌else◌, Some, None};
     ghost use Rattle.zdomain.specs.Few.{Gathering};
+    ghost use Rattle.zdomain.specs.Gathering.{AreMarked};
 
     ghost Value = { Gathering };
 
     ghost view = { λ g. record { least = g.least; greatest = g.greatest; few = if g.are_many then None else Some g.few.items } };
+
+    ghost invariant = { λ g. AreMarked g.are_many g.marks g.few.items };
 }
 
 impl Gathered {
@@ -37,6 +46,7 @@ impl Gathered {
             least: 0xffff,
             greatest: 0,
             few: ArrayVec::new(),
+            marks: Marks::none(),
             are_many: false,
         }
     }
@@ -48,16 +58,15 @@ impl Gathered {
         let place = turned(word);
         self.least = self.least.min(place);
         self.greatest = self.greatest.max(place);
-        if self.are_many {
+        if self.are_many || self.marks.has(usize::from(word)) {
             return;
         }
-        if let Some(index) = seek(word, self.few.as_slice()) {
-            if self.few.len() < MOST_FEW {
-                self.few.insert(index, word);
-            } else {
-                self.are_many = true;
-            }
+        if self.few.len() == MOST_FEW {
+            self.are_many = true;
+            return;
         }
+        self.few.insert(place_in(word, self.few.as_slice()), word);
+        self.marks.add(usize::from(word));
     }
 
     /// All of a slice.
@@ -98,24 +107,18 @@ impl Gathered {
     }
 }
 
-/// Where a word has to be put among others, if it isn't there.
-#[tactic(auto, unfolding(crate::specs::Few::seek))]
-fn seek(word: u16, words: &[u16]) -> Option<usize>
+/// How many words of a list stand before one, in the order of signed readings.
+#[tactic(auto, unfolding(crate::specs::Few::place_in))]
+fn place_in(word: u16, words: &[u16]) -> usize
     requires { length words.now ≤ 64 }
-    ensures value { result ≡ seek word words.now }
-    ensures fits { IfSome result (λ place. place ≤ length words.now) }
+    ensures value { result ≡ place_in word words.now }
+    ensures fits { result ≤ length words.now }
 {
     let [first, rest @ ..] = words else {
-        return Some(0);
+        return 0;
     };
-    if *first == word {
-        return None;
-    }
     if turned(word) < turned(*first) {
-        return Some(0);
+        return 0;
     }
-    match seek(word, rest) {
-        None => None,
-        Some(place) => Some(place + 1),
-    }
+    place_in(word, rest) + 1
 }

@@ -8,6 +8,8 @@ mod few;
 mod gathered;
 mod interval;
 mod interval_domain;
+mod marks;
+mod rising;
 mod values;
 mod values_domain;
 
@@ -15,5 +17,6 @@ pub use domain::Domain;
 pub use few::{Few, MOST_FEW, turned};
 pub use gathered::Gathered;
 pub use interval::Interval;
+pub use marks::Marks;
 pub use interval_domain::addresses_are_words;
 pub use values::{Scattered, Values};

@@ -1,15 +1,18 @@
 //! Intervals and short lists as a domain.
 
-ghost use Rattle.std.specs.Prelude.{◌≡◌, ◌≤◌, ◌<◌, ◌↔◌, ◌+◌, ◌-◌, ◌%◌, ◌++◌, ℕ, IsTrue, IfSome, IfNone, Some, None, option_map, length};
+ghost use Rattle.std.specs.Prelude.{◌≡◌, ◌≤◌, ◌<◌, ◌↔◌, ◌+◌, ◌-◌, ◌%◌, ◌++◌, ℕ, IsTrue, IfSome, IfNone, Some, None, option_map, length, map};
 ghost use Rattle.zdomain.specs.Domain.{In, Within};
-ghost use Rattle.zdomain.specs.Few.{turned, is_among, words_from, none_gathered};
-ghost use Rattle.zdomain.specs.Values.{values_operations, has, lowest, highest, hull, members, run_members, packed, found, meet, with_turned, with_row, with_rows, with_common, between, both, list_or, join_few, unary_few, binary_few};
+ghost use Rattle.std.specs.List.{filter};
+ghost use Rattle.zword.specs.Unary.{transform};
+ghost use Rattle.zdomain.specs.Few.{turned, is_among, words_from, gathered, with_words};
+ghost use Rattle.zdomain.specs.Values.{values_operations, has, lowest, highest, hull, members, run_members, packed, found, meet, row, rows, between, both, list_or, join_few, unary_few, binary_few};
 ghost use Rattle.zdomain.specs.ValuesLaw.{values_sound};
 
 use crate::domain::Domain;
 use crate::few::{Few, MOST_FEW, first_of, is_scattered, last_of, turned};
 use crate::gathered::Gathered;
 use crate::interval::Interval;
+use crate::rising::{add_shared, are_among, are_words, has_row};
 use crate::values::{Scattered, Values};
 use arrayvec::ArrayVec;
 use zword::{BinaryOp, Question, UnaryOp};
@@ -38,7 +41,7 @@ impl Domain for Values {
     fn is_within(self, other: Values) -> bool {
         match self {
             Values::Run(run) => is_run_within(run, &other),
-            Values::List(list) => are_in(list.few.as_slice(), &other),
+            Values::List(list) => is_list_within(list, &other),
         }
     }
 
@@ -185,18 +188,29 @@ fn meet(first: &Values, second: &Values) -> Option<Values>
             Some(common) => Some(Values::Run(common)),
             None => None,
         },
-        (Values::Run(_), Values::List(list)) => common(first, list.few.as_slice()),
-        (Values::List(list), _) => common(second, list.few.as_slice()),
+        (Values::Run(_), Values::List(list)) => common(first, *list),
+        (Values::List(list), _) => common(second, *list),
     }
 }
 
-/// The words of a list that a set has.
-fn common(set: &Values, words: &[u16]) -> Option<Values>
-    ensures { result ≡ found (with_common set.now words.now none_gathered) }
+/// The words of a list that a set has, gathered.
+fn shared(set: &Values, list: Scattered) -> Gathered
+    ensures { result ≡ gathered (filter (has set.now) list.few) }
 {
     let mut all = Gathered::none();
-    add_common(&mut all, set, words);
-    found(&all)
+    if let Values::List(other) = set {
+        add_shared(&mut all, list.few.as_slice(), other.few.as_slice());
+        return all;
+    }
+    add_between(&mut all, set, list.few.as_slice());
+    all
+}
+
+/// The words of a list that a set has.
+fn common(set: &Values, list: Scattered) -> Option<Values>
+    ensures { result ≡ found (gathered (filter (has set.now) list.few)) }
+{
+    found(&shared(set, list))
 }
 
 /// The set of what was gathered, if anything was.
@@ -334,14 +348,17 @@ fn are_in(words: &[u16], set: &Values) -> bool
     }
 }
 
-/// Whether it has a word and so many behind it.
-fn are_from_in(word: u16, more: u16, set: &Values) -> bool
-    ensures { IsTrue result ↔ ((k : ℕ) → k ≤ more → IsTrue (has set.now ((word + k) % 65536))) }
+/// Whether a set has each word of a list that is none.
+fn is_list_within(list: Scattered, set: &Values) -> bool
+    ensures { IsTrue result ↔ Within values_operations (Values.List list) set.now }
 {
-    if !has(set, word) {
-        return false;
+    match set {
+        Values::Run(_) => are_in(list.few.as_slice(), set),
+        Values::List(other) => {
+            are_words(list.few.as_slice());
+            are_among(list.few.as_slice(), other.few.as_slice())
+        }
     }
-    more == 0 || are_from_in(word.wrapping_add(1), more - 1, set)
 }
 
 /// Whether it has each word of an interval.
@@ -350,9 +367,9 @@ fn is_run_within(run: Interval, set: &Values) -> bool
 {
     match set {
         Values::Run(other) => run.is_within(*other),
-        Values::List(_) => {
+        Values::List(list) => {
             let least = run.lowest();
-            are_from_in(least, turned(run.highest()).saturating_sub(turned(least)), set)
+            has_row(list.few.as_slice(), least, turned(run.highest()).saturating_sub(turned(least)))
         }
     }
 }
@@ -376,9 +393,9 @@ fn least_among(words: &[u16], from: u16) -> Option<u16>
 }
 
 /// Adds what an operation makes of the words of a list.
-#[tactic(auto, unfolding(crate::specs::Values::with_turned))]
+#[tactic(auto, unfolding(crate::specs::Few::with_words))]
 fn add_turned(all: &mut Gathered, operation: UnaryOp, words: &[u16])
-    ensures { all.new ≡ with_turned operation words.now all.old }
+    ensures { all.new ≡ with_words (map (transform operation) words.now) all.old }
 {
     if let [first, rest @ ..] = words {
         all.add(operation.apply(*first));
@@ -387,9 +404,9 @@ fn add_turned(all: &mut Gathered, operation: UnaryOp, words: &[u16])
 }
 
 /// Adds what it makes of a word and those of a list by which it is defined.
-#[tactic(auto, unfolding(crate::specs::Values::with_row))]
+#[tactic(auto, unfolding(crate::specs::Few::with_words))]
 fn add_row(all: &mut Gathered, operation: BinaryOp, word: u16, others: &[u16])
-    ensures { all.new ≡ with_row operation word others.now all.old }
+    ensures { all.new ≡ with_words (row operation word others.now) all.old }
 {
     if let [first, rest @ ..] = others {
         if operation.is_defined(*first) {
@@ -400,9 +417,9 @@ fn add_row(all: &mut Gathered, operation: BinaryOp, word: u16, others: &[u16])
 }
 
 /// Adds what it makes of those of two lists.
-#[tactic(auto, unfolding(crate::specs::Values::with_rows))]
+#[tactic(auto, unfolding(crate::specs::Few::with_words, crate::specs::Values::rows), using(crate::proofs::Gathering::one_by_one))]
 fn add_rows(all: &mut Gathered, operation: BinaryOp, words: &[u16], others: &[u16])
-    ensures { all.new ≡ with_rows operation words.now others.now all.old }
+    ensures { all.new ≡ with_words (rows operation words.now others.now) all.old }
 {
     if let [first, rest @ ..] = words {
         add_row(all, operation, *first, others);
@@ -410,15 +427,15 @@ fn add_rows(all: &mut Gathered, operation: BinaryOp, words: &[u16], others: &[u1
     }
 }
 
-/// Adds those of a list that a set has.
-#[tactic(auto, unfolding(crate::specs::Values::with_common))]
-fn add_common(all: &mut Gathered, set: &Values, words: &[u16])
-    ensures { all.new ≡ with_common set.now words.now all.old }
+/// Adds those of a list that an interval has.
+#[tactic(auto, unfolding(crate::specs::Few::with_words))]
+fn add_between(all: &mut Gathered, set: &Values, words: &[u16])
+    ensures { all.new ≡ with_words (filter (has set.now) words.now) all.old }
 {
     if let [first, rest @ ..] = words {
         if has(set, *first) {
             all.add(*first);
         }
-        add_common(all, set, rest);
+        add_between(all, set, rest);
     }
 }

@@ -1,5 +1,7 @@
-use Rattle.std.proofs.Common.{refl, sym, ◌∙◌}
+use Rattle.std.proofs.Common.{◌≡◌, ap, ◌∙◌}
+use Rattle.zdomain.specs.Few.{Gathering}
+use Rattle.zdomain.specs.Values.{found}
 use Rattle.zdomain.proofs.values_domain.common.Goals as goal
 
 pub returns : goal.returns
-returns c = rw (c.found.ensures, c.add_common.ensures, c.none-all.ensures) refl
+returns c = c.found.ensures ∙ ap found c.shared.ensures

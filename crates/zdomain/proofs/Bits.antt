@@ -1,0 +1,56 @@
+-- Marks as bits.
+use Rattle.std.proofs.Common.{◌≡◌, ◌≢◌, ◌⊎◌, inl, inr, ℕ, ◌*◌, ◌/◌, ◌%◌, ◌^◌, ◌<◌, ◌≤◌, Bool, true, false, ◌||◌, ◌==◌, List, length, replicate, w8, refl, sym, ap, ◌∙◌, arith}
+use Rattle.std.specs.Prelude.{bit_or, slice_index_or, slice_set}
+use Rattle.std.specs.Int.{bit_at}
+use Rattle.std.proofs.lemmas.Nat.Bits.{bit_at-zero, bit_at_set_same, bit_at_set_other}
+use Rattle.std.proofs.lemmas.Bool.{cases_lt, eq-eqb}
+use Rattle.std.proofs.lemmas.Bool.Decides.{eqb_tells}
+use Rattle.std.proofs.lemmas.List.{get_or-set_same, get_or-set_other, get_or-replicate, get_or_past, length-replicate}
+use Rattle.zdomain.specs.Marks.{is_marked}
+
+pub unmarked : (long p : ℕ) → is_marked (replicate long 0) p ≡ false
+unmarked long p = let byte = zero_there (cases_lt (p / 8) long) in let bit = bit_at-zero (p % 8) in rw byte (rw bit refl)
+  where
+    zero_there : (p / 8 < long) ⊎ (long ≤ p / 8) → slice_index_or {A = ℕ} (replicate long 0) (p / 8) 0 ≡ 0
+    zero_there (inl inside) = get_or-replicate long (p / 8) 0 0 inside
+    zero_there (inr outside) = get_or_past {X = ℕ} (replicate long 0) (p / 8) 0 (let size = length-replicate {A = ℕ} long 0 in omega (arith, size, outside))
+
+or_true : (b : Bool) → (b || true) ≡ true
+or_true true = refl
+or_true false = refl
+
+or_false : (b : Bool) → b ≡ (b || false)
+or_false true = refl
+or_false false = refl
+
+-- the byte of a place, and all bytes, with the place marked
+abbrev pub with_mark : List ℕ → ℕ → List ℕ
+with_mark marks place = slice_set marks (place / 8) (bit_or (slice_index_or marks (place / 8) 0) (1 * 2 ^ (place % 8) % 256))
+
+module _ (marks : List ℕ) (place : ℕ) (inside : place / 8 < length marks) where
+  abbrev byte : ℕ
+  byte = bit_or (slice_index_or marks (place / 8) 0) (1 * 2 ^ (place % 8) % 256)
+
+  here : is_marked (with_mark marks place) place ≡ true
+  here =
+      ap (λ (b : ℕ). bit_at b (place % 8) == 1) (get_or-set_same marks (place / 8) byte 0 inside)
+      ∙ eq-eqb _ 1 (bit_at_set_same w8 (slice_index_or marks (place / 8) 0) (place % 8) (omega arith))
+
+  elsewhere : (p : ℕ) → p ≢ place → is_marked (with_mark marks place) p ≡ is_marked marks p
+  elsewhere p other = by_byte (eqb_tells (p / 8) (place / 8))
+    where
+      by_byte : ((p / 8 == place / 8) ≡ true) × (p / 8 ≡ place / 8) ⊎ ((p / 8 == place / 8) ≡ false) × (p / 8 ≢ place / 8) → is_marked (with_mark marks place) p ≡ is_marked marks p
+      by_byte (inr apart) = ap (λ (b : ℕ). bit_at b (p % 8) == 1) (get_or-set_other marks (place / 8) (p / 8) byte 0 apart.1)
+      by_byte (inl together) =
+          let same = together.1 in
+          ap (λ (k : ℕ). bit_at (slice_index_or (with_mark marks place) k 0) (p % 8) == 1) same
+          ∙ ap (λ (b : ℕ). bit_at b (p % 8) == 1) (get_or-set_same marks (place / 8) byte 0 inside)
+          ∙ ap (λ (b : ℕ). b == 1) (bit_at_set_other w8 (slice_index_or marks (place / 8) 0) (place % 8) (omega arith) (p % 8) (λ e. other (omega (arith, e, same))))
+          ∙ ap (λ (k : ℕ). bit_at (slice_index_or marks k 0) (p % 8) == 1) (sym same)
+
+  pub one_more : (p : ℕ) → is_marked (with_mark marks place) p ≡ (is_marked marks p || (p == place))
+  one_more p = by_place (eqb_tells p place)
+    where
+      by_place : ((p == place) ≡ true) × (p ≡ place) ⊎ ((p == place) ≡ false) × (p ≢ place) → is_marked (with_mark marks place) p ≡ (is_marked marks p || (p == place))
+      by_place (inl same) = ap (λ (q : ℕ). is_marked (with_mark marks place) q) same.1 ∙ here ∙ sym (let e = same.0 in rw e (or_true (is_marked marks p)))
+      by_place (inr other) = let e = other.0 in elsewhere p other.1 ∙ or_false (is_marked marks p) ∙ rw e refl
