@@ -8,7 +8,9 @@ use Rattle.zword.specs.declared.question.Question.{Question}
 use Rattle.zword.specs.declared.question.Question.TheVariants.{Equal}
 use Rattle.zword.specs.declared.count.CountOp.{CountOp}
 use Rattle.zword.specs.Question.{holds}
-use Rattle.zword.specs.Count.{counting as counts_by, counted}
+use Rattle.zword.specs.declared.count.CountOp.TheVariants.{Up, Down}
+use Rattle.zword.specs.declared.binary.BinaryOp.TheVariants.{Add, Sub}
+use Rattle.zword.specs.Count.{counted}
 use Rattle.zword.specs.Addressing.{place_of as text_place}
 use Rattle.zstory.specs.Bytes.{byte_at}
 use Rattle.zfault.specs.declared.fault.Fault.TheVariants.{UnlistedCall}
@@ -299,7 +301,8 @@ module _ {V : Type 0} (o : SetOperations V) (lawful : AreSound o) (claims : Clai
           asks_expected (Compare q) c (both_kept operands p.0) (compared_two q c p.0 two p.1) p.2
 
   counted_in : (op : CountOp) (p : InPlace) → In o (counted_set o claims.globals op p.v mid) (counted op p.old)
-  counted_in op p = lawful.binary (counts_by op) _ _ _ _ p.member (lawful.single 1 (omega arith))
+  counted_in Up p = lawful.binary Add _ _ _ _ p.member (lawful.single 1 (omega arith)) refl
+  counted_in Down p = lawful.binary Sub _ _ _ _ p.member (lawful.single 1 (omega arith)) refl
 
   counts : (op : CountOp) (question : Option Question) → (p : InPlace) → Expected (Count op question) (effect_of m (Count op question) all.values t)
   unfolding Expected LeadsIn AssignedIn effect_of outcome_of changed
@@ -511,7 +514,7 @@ module _ {V : Type 0} (o : SetOperations V) (lawful : AreSound o) (claims : Clai
   unfolding Expected demands_of outcome_of effect_of
   by_operation (Unary op) rule begins = gives_expected (Unary op) _ _ (true, refl) (lawful.unary op _ _ (all.members 0))
   by_operation (Binary op) rule begins =
-      let fine = defined_where o op (args 1) (arg all.values 1) rule.divides (all.members 1) in rw fine (gives_expected (Binary op) _ _ (true, refl) (lawful.binary op _ _ _ _ (all.members 0) (all.members 1)))
+      let fine = defined_where o op (args 1) (arg all.values 1) rule.divides (all.members 1) in rw fine (gives_expected (Binary op) _ _ (true, refl) (lawful.binary op _ _ _ _ (all.members 0) (all.members 1) fine))
   by_operation (Compare q) rule begins = compares q
   by_operation (Count op question) rule begins = counts op question (in_place rule.known rule.top rule.exists)
   by_operation Store rule begins =
