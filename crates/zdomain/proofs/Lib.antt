@@ -6,6 +6,7 @@ pub mod Ends
 pub mod Inclusion
 pub mod Reading
 mod Worked
+mod WorkedLists
 pub mod Listing
 pub mod Going
 pub mod Reaching
