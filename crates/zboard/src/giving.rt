@@ -20,6 +20,7 @@ use zobj::{ShortName, short_name};
 use ztext::{TextError, decode_into, output_byte};
 
 /// Gives out the text at a place, all or none. Only a text that prints something can be refused memory.
+#[inline(never)]
 pub(crate) fn give_decoded(
     memory: &[u8],
     at: usize,
@@ -83,7 +84,17 @@ fn give_name(
     }
 }
 
+/// Gives out a line's end.
+#[inline(never)]
+pub(crate) fn give_line_end(items: &mut Items) -> Result<(), AllocError>
+    ensures ok { OnOk result (items.new.items ≡ items.old.items ++ Text 10 ∷ []) }
+    ensures kept { OnErr result (items.new.items ≡ items.old.items) }
+{
+    items.give_text(b"\n")
+}
+
 /// Gives out the text at a place and a line's end, all or none.
+#[inline(never)]
 pub(crate) fn give_line(
     memory: &[u8],
     at: usize,
