@@ -10,10 +10,11 @@ use Rattle.zstory.specs.LoadedStory.{LoadedStory}
 use Rattle.zcode.specs.declared.instr.Operand.{Operand}
 use Rattle.zcode.specs.declared.instr.Operand.TheVariants.{Constant, Variable}
 use Rattle.zcode.specs.declared.opcode.Opcode.{Opcode}
-use Rattle.zlist.specs.Listed.{IsCalled, callee, calls, routine_named}
+use Rattle.zlist.specs.declared.list_error.ListError.{ListError}
+use Rattle.zlist.specs.Listed.{IsCalled, IsFault, callee, calls, routine_named}
 use Rattle.zlist.specs.Labels.{AreFound, Found, IsWalked, is_called}
 use Rattle.zlist.proofs.Lowest.{called_low}
-use Rattle.zlist.proofs.Reached.{called_known}
+use Rattle.zlist.proofs.Reached.{called_inside}
 
 named_even : (operands : List Operand) (a : ℕ) → routine_named operands ≡ Some a → (m : ℕ) × (a ≡ 2 * suc m)
 named_even [] a e = cc
@@ -80,11 +81,11 @@ module _ (story : LoadedStory) (found : Found) where
     ];
   }
 
-  pub found_all : (xs : List ℕ) → IsWalked story found → AreFound story found 65536 xs → (a : ℕ) → Contains xs a ↔ IsCalled story a
-  found_all xs walked it a = (
+  pub found_all : (xs : List ℕ) (packed : ℕ) → IsWalked story found → ((f : ListError) → IsFault story f → ⊥) → length story.memory ≤ 2 * packed → AreFound story found packed xs → (a : ℕ) → Contains xs a ↔ IsCalled story a
+  found_all xs packed walked none all it a = (
     it.only a,
     λ call.
         let even = callee_even call.1.opcode call.1.operands a call.4 in
-        let low = called_low story found walked a call in
-        subst (λ (n : ℕ). Contains xs n) (sym even.1) (it.has even.0 (omega (arith, low, even.1)) (ap (λ (n : ℕ). is_called found n) (sym even.1) ∙ called_known story found walked a call)),
+        let low = called_low story none a call in
+        subst (λ (n : ℕ). Contains xs n) (sym even.1) (it.has even.0 (omega (arith, low, all, even.1)) (ap (λ (n : ℕ). is_called found n) (sym even.1) ∙ called_inside story found walked a low call)),
   )

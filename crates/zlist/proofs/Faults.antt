@@ -14,66 +14,60 @@ the_ok i = Ok i
 ok_is : (i j : Instruction) → the_ok i ≡ the_ok j → i ≡ j
 ok_is i j e = cc
 
-module _ (story : LoadedStory) (p : ℤ) where
+pos_is : (a b : ℕ) → pos a ≡ pos b → a ≡ b
+pos_is a b e = cc
+
+module _ (story : LoadedStory) (address : ℕ) where
   abbrev pub NoneUnspelled : Type 0
-  NoneUnspelled = (cause : DecodeError) → IsUnspelled story p cause → ⊥
+  NoneUnspelled = (cause : DecodeError) → IsUnspelled story (pos address) cause → ⊥
 
   abbrev pub NoneHeadless : Type 0
-  NoneHeadless = (a : ℕ) (cause : DecodeError) → p ≡ pos a → IsHeadless story a cause → ⊥
+  NoneHeadless = (cause : DecodeError) → IsHeadless story address cause → ⊥
 
-  from_one : (f : ListError) → IsFault story f → place_of f ≡ p → 1 ≤ number_of f
+  from_one : (f : ListError) → IsFault story f → place_of f ≡ pos address → 1 ≤ number_of f
   from_one (Decode q cause) it at = omega arith
   from_one (TwoRoutines a) it at = omega arith
   from_one (ComputedJump a) it at = omega arith
   from_one OutOfMemory it at = absurd it
 
-  no_decode : NoneUnspelled → NoneHeadless → (q : ℤ) (cause : DecodeError) → IsFault story (Decode q cause) → q ≡ p → ⊥
+  no_decode : NoneUnspelled → NoneHeadless → (q : ℤ) (cause : DecodeError) → IsFault story (Decode q cause) → q ≡ pos address → ⊥
   no_decode one two q cause (inl it) at = one cause (subst (λ (x : ℤ). IsUnspelled story x cause) at it)
-  no_decode one two q cause (inr it) at = two it.0 cause (sym at ∙ it.1) it.2
+  no_decode one two q cause (inr it) at = two cause (subst (λ (a : ℕ). IsHeadless story a cause) (pos_is it.0 address (sym it.1 ∙ at)) it.2)
 
-  from_two : NoneUnspelled → NoneHeadless → (f : ListError) → IsFault story f → place_of f ≡ p → 2 ≤ number_of f
+  from_two : NoneUnspelled → NoneHeadless → (f : ListError) → IsFault story f → place_of f ≡ pos address → 2 ≤ number_of f
   from_two one two (Decode q cause) it at = absurd (no_decode one two q cause it at)
   from_two one two (TwoRoutines a) it at = omega arith
   from_two one two (ComputedJump a) it at = omega arith
   from_two one two OutOfMemory it at = absurd it
 
-  from_three : NoneUnspelled → NoneHeadless → (IsShared story p → ⊥) → (f : ListError) → IsFault story f → place_of f ≡ p → 3 ≤ number_of f
+  from_three : NoneUnspelled → NoneHeadless → (IsShared story (pos address) → ⊥) → (f : ListError) → IsFault story f → place_of f ≡ pos address → 3 ≤ number_of f
   from_three one two three (Decode q cause) it at = absurd (no_decode one two q cause it at)
   from_three one two three (TwoRoutines a) it at = absurd (three (subst (λ (x : ℤ). IsShared story x) at it))
   from_three one two three (ComputedJump a) it at = omega arith
   from_three one two three OutOfMemory it at = absurd it
 
-  none_here : NoneUnspelled → NoneHeadless → (IsShared story p → ⊥) → (IsComputed story p → ⊥) → (f : ListError) → IsFault story f → place_of f ≡ p → ⊥
+  none_here : NoneUnspelled → NoneHeadless → (IsShared story (pos address) → ⊥) → (IsComputed story (pos address) → ⊥) → (f : ListError) → IsFault story f → place_of f ≡ pos address → ⊥
   none_here one two three four (Decode q cause) it at = no_decode one two q cause it at
   none_here one two three four (TwoRoutines a) it at = three (subst (λ (x : ℤ). IsShared story x) at it)
   none_here one two three four (ComputedJump a) it at = four (subst (λ (x : ℤ). IsComputed story x) at it)
   none_here one two three four OutOfMemory it at = it
 
-  none_below : ((a : ℕ) → p ≡ pos a → ⊥) → NoneUnspelled → NoneHeadless → (f : ListError) → IsFault story f → place_of f ≡ p → ⊥
-  none_below below one two (Decode q cause) it at = no_decode one two q cause it at
-  none_below below one two (TwoRoutines a) it at = below a (sym at)
-  none_below below one two (ComputedJump a) it at = below a (sym at)
-  none_below below one two OutOfMemory it at = it
-
   -- ---- what is answered
 
-  pub is_unspelled : (cause : DecodeError) → IsUnspelled story p cause → IsFirstAt story p (Some (Decode p cause))
+  pub is_unspelled : (cause : DecodeError) → IsUnspelled story (pos address) cause → IsFirstAt story (pos address) (Some (Decode (pos address) cause))
   is_unspelled cause it = (inl it, refl, λ f fault at. from_one f fault at)
 
-  pub is_headless : (cause : DecodeError) → NoneUnspelled → ((a : ℕ) × (p ≡ pos a) × IsHeadless story a cause) → IsFirstAt story p (Some (Decode p cause))
-  is_headless cause one it = (inr (it.0, it.1, it.2, one), refl, λ f fault at. from_one f fault at)
+  pub is_headless : (cause : DecodeError) → NoneUnspelled → IsHeadless story address cause → IsFirstAt story (pos address) (Some (Decode (pos address) cause))
+  is_headless cause one it = (inr (address, refl, it, one), refl, λ f fault at. from_one f fault at)
 
-  pub is_two : (a : ℕ) → p ≡ pos a → NoneUnspelled → NoneHeadless → IsShared story p → IsFirstAt story p (Some (TwoRoutines a))
-  is_two a at one two it = (subst (λ (x : ℤ). IsShared story x) at it, sym at, λ f fault here. from_two one two f fault here)
+  pub is_two : NoneUnspelled → NoneHeadless → IsShared story (pos address) → IsFirstAt story (pos address) (Some (TwoRoutines address))
+  is_two one two it = (it, refl, λ f fault here. from_two one two f fault here)
 
-  pub is_jump : (a : ℕ) → p ≡ pos a → NoneUnspelled → NoneHeadless → (IsShared story p → ⊥) → IsComputed story p → IsFirstAt story p (Some (ComputedJump a))
-  is_jump a at one two three it = (subst (λ (x : ℤ). IsComputed story x) at it, sym at, λ f fault here. from_three one two three f fault here)
+  pub is_jump : NoneUnspelled → NoneHeadless → (IsShared story (pos address) → ⊥) → IsComputed story (pos address) → IsFirstAt story (pos address) (Some (ComputedJump address))
+  is_jump one two three it = (it, refl, λ f fault here. from_three one two three f fault here)
 
-  pub is_none : NoneUnspelled → NoneHeadless → (IsShared story p → ⊥) → (IsComputed story p → ⊥) → IsFirstAt story p None
+  pub is_none : NoneUnspelled → NoneHeadless → (IsShared story (pos address) → ⊥) → (IsComputed story (pos address) → ⊥) → IsFirstAt story (pos address) None
   is_none one two three four = λ f fault at. none_here one two three four f fault at
-
-  pub is_below : ((a : ℕ) → p ≡ pos a → ⊥) → NoneUnspelled → NoneHeadless → IsFirstAt story p None
-  is_below below one two = λ f fault at. none_below below one two f fault at
 
 -- an instruction that stands at a listed place jumps by a variable just where the place is one of such a jump
 pub computed_when : (story : LoadedStory) (p : ℤ) (i : Instruction) (answer : Bool) → IsListed story p → spelled story.memory p ≡ Ok i → (IsTrue answer ↔ JumpsByVariable i) → IsTrue answer ↔ IsComputed story p

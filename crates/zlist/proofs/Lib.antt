@@ -6,6 +6,7 @@ pub mod Rising
 pub mod Tables
 pub mod Orders
 pub mod ListingLaws
+pub mod Outside
 pub mod Marking
 pub mod Reaching
 pub mod Reached

@@ -1,9 +1,9 @@
 -- What marking a place changes.
 use Rattle.std.proofs.Common.{inl, inr, ◌≡◌, ℕ, zero, suc, ◌<◌, ◌≤◌, ◌==◌, Bool, true, false, List, [], ◌∷◌, ◌++◌, length, get_or, IsTrue, refl, sym, ap, ◌∙◌, subst, arith, cond, eq-eqb}
-use Rattle.std.specs.Prelude.{◌≢◌, ◌⊎◌, ℤ, pos, Ok, IfSome, slice_index_or, slice_set}
+use Rattle.std.specs.Prelude.{◌≢◌, ◌⊎◌, ℤ, pos, negsuc, ◌≤ℤ◌, ◌<ℤ◌, Ok, Option, None, IfSome, slice_index_or, slice_set}
 use Rattle.std.specs.List.{AllByRecursion, Contains}
 use Rattle.std.proofs.lemmas.Bool.{eqb-true, false≢true}
-use Rattle.std.proofs.lemmas.List.{get_or-set_same, get_or-set_other, length_push}
+use Rattle.std.proofs.lemmas.List.{get_or-set_same, get_or-set_other, length-set, length_push}
 use Rattle.std.proofs.lemmas.List.Sums.{sum_by-set}
 use Rattle.std.proofs.lemmas.List.Elements.{Contains-push, Contains-push_cases, Contains-append_left}
 use Rattle.std.proofs.lemmas.Option.{IfSome_then}
@@ -13,8 +13,9 @@ use Rattle.zlist.specs.declared.owner.Owner.{Owner}
 use Rattle.zlist.specs.declared.owner.Owner.TheVariants.{Main, Routine}
 use Rattle.zlist.specs.declared.owner.Label.{Label}
 use Rattle.zlist.specs.declared.owner.Label.TheVariants.{Nobody, One, Several}
-use Rattle.zlist.specs.Listed.{IsCalled, aside_place, callee, next_place, spelled}
-use Rattle.zlist.specs.Labels.{same, joined, has, Covers, left, place, IsSo, Found, label_at, Grows, Has, IsEntered, IsComplete, IsFollowed, IsSound, with_waiting}
+use Rattle.zlist.specs.Listed.{IsCalled, IsListed, aside_place, callee, next_place, spelled}
+use Rattle.zlist.specs.Labels.{same, joined, has, Covers, left, IsKnown, IsSo, Found, is_noted, label_at, lowered, reaches, Grows, Has, IsEntered, IsComplete, IsFollowed, IsLost, IsSound, with_waiting}
+use Rattle.zlist.proofs.Outside.{lowered_is, nothing_below, nothing_beyond, pos_above, pos_not_below, reaches_lowered, reaches_still}
 
 -- ---- labels
 
@@ -91,9 +92,14 @@ joined_so story Several Several p f g = f
 
 -- ---- marks
 
+-- what is noted stays so where it does on each side
+noted_on : (f g : Found) → ((p : ℤ) → reaches f.below p ≡ true → reaches g.below p ≡ true) → ((p : ℤ) → reaches f.beyond p ≡ true → reaches g.beyond p ≡ true) → (p : ℤ) → IsTrue (is_noted f p) → IsTrue (is_noted g p)
+noted_on f g low high (pos a) h = high (pos a) h
+noted_on f g low high (negsuc n) h = low (negsuc n) h
+
 -- the label of one slot is another
 abbrev pub with_label : Found → ℕ → Label → Found
-with_label f slot label = record { labels = slice_set f.labels slot label; called = f.called; waiting = f.waiting ++ slot ∷ [] }
+with_label f slot label = record { labels = slice_set f.labels slot label; called = f.called; waiting = f.waiting ++ slot ∷ []; below = f.below; beyond = f.beyond; absent = f.absent }
 
 same_slot : (f : Found) (slot : ℕ) (label : Label) → slot < length f.labels → label_at (with_label f slot label) slot ≡ label
 same_slot f slot label l = get_or-set_same f.labels slot label Nobody l
@@ -112,7 +118,8 @@ grows_by_mark f slot label l new =
       ]) refl;
       changed = λ k out. other_slot f slot k more (λ q. out (subst (λ (j : ℕ). Contains (f.waiting ++ slot ∷ []) j) (sym q) (Contains-push f.waiting slot)));
       waiting = λ k in_old. Contains-append_left f.waiting (slot ∷ []) k in_old;
-      called = λ a h. h;
+      known = λ a h. h;
+      noted = noted_on f (with_label f slot more) (λ p h. h) (λ p h. h);
       work = omega (arith, total, less, length_push f.waiting slot);
     }
 
@@ -127,20 +134,25 @@ still_known f slot k label l here there =
       | false ↦ λ e. subst (λ (m : Label). m ≢ Nobody) (sym (other_slot f slot k label (λ q. false≢true (sym e ∙ eq-eqb k slot q)))) there
     ]) refl
 
-pub sound_by_mark : (story : LoadedStory) (f : Found) (slot : ℕ) (label : Label) → slot < length f.labels → joined (label_at f slot) label ≢ label_at f slot → IsSo story label (place slot) → IsSound story f → IsSound story (with_label f slot (joined (label_at f slot) label))
+pub sound_by_mark : (story : LoadedStory) (f : Found) (slot : ℕ) (label : Label) → slot < length f.labels → joined (label_at f slot) label ≢ label_at f slot → IsSo story label (pos slot) → IsSound story f → IsSound story (with_label f slot (joined (label_at f slot) label))
 sound_by_mark story f slot label l new so sound =
     let more = joined (label_at f slot) label in
     let some = tells (label_at f slot) label new in
-    let here : IsSo story more (place slot) = joined_so story (label_at f slot) label (place slot) (sound.labels slot) so in record {
-      labels = λ k. (elim (k == slot) as (λ c. (k == slot) ≡ c → IsSo story (label_at (with_label f slot more) k) (place k)) [
-        | true ↦ λ e. subst (λ (j : ℕ). IsSo story (label_at (with_label f slot more) j) (place j)) (sym (eqb-true k slot e)) (subst (λ (m : Label). IsSo story m (place slot)) (sym (same_slot f slot more l)) here)
-        | false ↦ λ e. subst (λ (m : Label). IsSo story m (place k)) (sym (other_slot f slot k more (λ q. false≢true (sym e ∙ eq-eqb k slot q)))) (sound.labels k)
+    let here : IsSo story more (pos slot) = joined_so story (label_at f slot) label (pos slot) (sound.labels slot) so in record {
+      size = length-set f.labels slot more ∙ sound.size;
+      flags = sound.flags;
+      labels = λ k. (elim (k == slot) as (λ c. (k == slot) ≡ c → IsSo story (label_at (with_label f slot more) k) (pos k)) [
+        | true ↦ λ e. subst (λ (j : ℕ). IsSo story (label_at (with_label f slot more) j) (pos j)) (sym (eqb-true k slot e)) (subst (λ (m : Label). IsSo story m (pos slot)) (sym (same_slot f slot more l)) here)
+        | false ↦ λ e. subst (λ (m : Label). IsSo story m (pos k)) (sym (other_slot f slot k more (λ q. false≢true (sym e ∙ eq-eqb k slot q)))) (sound.labels k)
       ]) refl;
       called = sound.called;
       waiting = λ k w. elim (Contains-push_cases f.waiting slot k w) [
         | inl old ↦ still_known f slot k more l some (sound.waiting k old)
         | inr is ↦ subst (λ (j : ℕ). label_at (with_label f slot more) j ≢ Nobody) is (subst (λ (m : Label). m ≢ Nobody) (sym (same_slot f slot more l)) some)
       ];
+      below = sound.below;
+      beyond = sound.beyond;
+      absent = sound.absent;
     }
 
 pub grows_itself : (f : Found) → Grows f f
@@ -148,21 +160,80 @@ grows_itself f = record {
   covers = λ k x h. h;
   changed = λ k out. refl;
   waiting = λ k h. h;
-  called = λ a h. h;
+  known = λ a h. h;
+  noted = λ p h. h;
   work = omega arith;
 }
 
 -- ---- as the code has them
 
-pub marked_grows : (f : Found) (ls : List Label) (cs : List Bool) (ws : List ℕ) (slot : ℕ) (before label more : Label) → slot < length f.labels → before ≡ label_at f slot → more ≡ joined before label → (more ≡ before → ⊥) → ls ≡ slice_set f.labels slot more → cs ≡ f.called → ws ≡ f.waiting ++ slot ∷ [] → Grows f (record { labels = ls; called = cs; waiting = ws })
-marked_grows f ls cs ws slot before label more l was joins new e1 e2 e3 =
+pub marked_grows : (f : Found) (ls : List Label) (cs : List Bool) (ws : List ℕ) (lo be ab : Option ℤ) (slot : ℕ) (before label more : Label) → slot < length f.labels → before ≡ label_at f slot → more ≡ joined before label → (more ≡ before → ⊥) → ls ≡ slice_set f.labels slot more → cs ≡ f.called → ws ≡ f.waiting ++ slot ∷ [] → lo ≡ f.below → be ≡ f.beyond → ab ≡ f.absent → Grows f (record { labels = ls; called = cs; waiting = ws; below = lo; beyond = be; absent = ab })
+marked_grows f ls cs ws lo be ab slot before label more l was joins new e1 e2 e3 e4 e5 e6 =
     let known : more ≡ joined (label_at f slot) label = joins ∙ ap (λ b. joined b label) was in
-    rw (e1, e2, e3, known) (grows_by_mark f slot label l (λ q. new (known ∙ q ∙ sym was)))
+    rw (e1, e2, e3, e4, e5, e6, known) (grows_by_mark f slot label l (λ q. new (known ∙ q ∙ sym was)))
 
-pub marked_sound : (story : LoadedStory) (f : Found) (ls : List Label) (cs : List Bool) (ws : List ℕ) (slot : ℕ) (p : ℤ) (before label more : Label) → slot < length f.labels → place slot ≡ p → before ≡ label_at f slot → more ≡ joined before label → (more ≡ before → ⊥) → ls ≡ slice_set f.labels slot more → cs ≡ f.called → ws ≡ f.waiting ++ slot ∷ [] → IsSo story label p → IsSound story f → IsSound story (record { labels = ls; called = cs; waiting = ws })
-marked_sound story f ls cs ws slot p before label more l at was joins new e1 e2 e3 so sound =
+pub marked_sound : (story : LoadedStory) (f : Found) (ls : List Label) (cs : List Bool) (ws : List ℕ) (lo be ab : Option ℤ) (slot : ℕ) (before label more : Label) → slot < length f.labels → before ≡ label_at f slot → more ≡ joined before label → (more ≡ before → ⊥) → ls ≡ slice_set f.labels slot more → cs ≡ f.called → ws ≡ f.waiting ++ slot ∷ [] → lo ≡ f.below → be ≡ f.beyond → ab ≡ f.absent → IsSo story label (pos slot) → IsSound story f → IsSound story (record { labels = ls; called = cs; waiting = ws; below = lo; beyond = be; absent = ab })
+marked_sound story f ls cs ws lo be ab slot before label more l was joins new e1 e2 e3 e4 e5 e6 so sound =
     let known : more ≡ joined (label_at f slot) label = joins ∙ ap (λ b. joined b label) was in
-    rw (e1, e2, e3, known) (sound_by_mark story f slot label l (λ q. new (known ∙ q ∙ sym was)) (subst (λ q. IsSo story label q) (sym at) so) sound)
+    rw (e1, e2, e3, e4, e5, e6, known) (sound_by_mark story f slot label l (λ q. new (known ∙ q ∙ sym was)) so sound)
+
+-- ---- places outside memory
+
+pub grows_below : (ls : List Label) (cs : List Bool) (ws : List ℕ) (lo be ab : Option ℤ) (p : ℤ) → Grows (record { labels = ls; called = cs; waiting = ws; below = lo; beyond = be; absent = ab }) (record { labels = ls; called = cs; waiting = ws; below = lowered lo p; beyond = be; absent = ab })
+grows_below ls cs ws lo be ab p = record {
+  covers = λ k x h. h;
+  changed = λ k out. refl;
+  waiting = λ k h. h;
+  known = λ k h. h;
+  noted = noted_on (record { labels = ls; called = cs; waiting = ws; below = lo; beyond = be; absent = ab }) (record { labels = ls; called = cs; waiting = ws; below = lowered lo p; beyond = be; absent = ab }) (λ q h. reaches_still lo p q h) (λ q h. h);
+  work = omega arith;
+}
+
+pub grows_beyond : (ls : List Label) (cs : List Bool) (ws : List ℕ) (lo be ab : Option ℤ) (p : ℤ) → Grows (record { labels = ls; called = cs; waiting = ws; below = lo; beyond = be; absent = ab }) (record { labels = ls; called = cs; waiting = ws; below = lo; beyond = lowered be p; absent = ab })
+grows_beyond ls cs ws lo be ab p = record {
+  covers = λ k x h. h;
+  changed = λ k out. refl;
+  waiting = λ k h. h;
+  known = λ k h. h;
+  noted = noted_on (record { labels = ls; called = cs; waiting = ws; below = lo; beyond = be; absent = ab }) (record { labels = ls; called = cs; waiting = ws; below = lo; beyond = lowered be p; absent = ab }) (λ q h. h) (λ q h. reaches_still be p q h);
+  work = omega arith;
+}
+
+pub sound_below : (ls : List Label) (cs : List Bool) (ws : List ℕ) (lo be ab : Option ℤ) (p : ℤ) (story : LoadedStory) → p <ℤ pos 0 → IsListed story p → IsSound story (record { labels = ls; called = cs; waiting = ws; below = lo; beyond = be; absent = ab }) → IsSound story (record { labels = ls; called = cs; waiting = ws; below = lowered lo p; beyond = be; absent = ab })
+sound_below ls cs ws lo be ab p story low it sound = record {
+  size = sound.size;
+  flags = sound.flags;
+  labels = sound.labels;
+  called = sound.called;
+  waiting = sound.waiting;
+  below = lowered_is (λ q. (q <ℤ pos 0) × IsLost story q) lo p sound.below (low, (it, nothing_below story.memory p low));
+  beyond = sound.beyond;
+  absent = sound.absent;
+}
+
+pub sound_beyond : (ls : List Label) (cs : List Bool) (ws : List ℕ) (lo be ab : Option ℤ) (p : ℤ) (story : LoadedStory) → pos (length ls) ≤ℤ p → IsListed story p → IsSound story (record { labels = ls; called = cs; waiting = ws; below = lo; beyond = be; absent = ab }) → IsSound story (record { labels = ls; called = cs; waiting = ws; below = lo; beyond = lowered be p; absent = ab })
+sound_beyond ls cs ws lo be ab p story high it sound =
+    let past : pos (length story.memory) ≤ℤ p = subst (λ (n : ℕ). pos n ≤ℤ p) sound.size high in record {
+      size = sound.size;
+      flags = sound.flags;
+      labels = sound.labels;
+      called = sound.called;
+      waiting = sound.waiting;
+      below = sound.below;
+      beyond = lowered_is (λ q. (pos (length story.memory) ≤ℤ q) × IsLost story q) be p sound.beyond (past, (it, nothing_beyond story.memory p past));
+      absent = sound.absent;
+    }
+
+pub has_inside : (f : Found) (label : Label) (p : ℤ) (a : ℕ) → p ≡ pos a → Covers (label_at f a) label → Has f label p
+has_inside f label p a at it = inl (a, at, it)
+
+pub has_below : (f : Found) (label : Label) (p : ℤ) → p <ℤ pos 0 → IsTrue (reaches f.below p) → Has f label p
+has_below f label (pos a) low h = absurd (pos_not_below a low)
+has_below f label (negsuc n) low h = inr h
+
+pub has_beyond : (f : Found) (label : Label) (p : ℤ) (n : ℕ) → pos n ≤ℤ p → IsTrue (reaches f.beyond p) → Has f label p
+has_beyond f label (pos a) n high h = inr h
+has_beyond f label (negsuc k) n high h = absurd (pos_above n k high)
 
 -- ---- calls
 
@@ -176,23 +247,58 @@ called_more cs a k l h =
 called_only : (cs : List Bool) (a k : ℕ) → a < length cs → IsTrue (slice_index_or (slice_set cs a true) k false) → (k ≢ a) → IsTrue (slice_index_or cs k false)
 called_only cs a k l h n = sym (get_or-set_other cs a k true false n) ∙ h
 
-pub grows_by_call : (ls : List Label) (cs : List Bool) (ws : List ℕ) (a : ℕ) → a < length cs → Grows (record { labels = ls; called = cs; waiting = ws }) (record { labels = ls; called = slice_set cs a true; waiting = ws })
-grows_by_call ls cs ws a l = record {
+pub grows_by_call : (ls : List Label) (cs : List Bool) (ws : List ℕ) (lo be ab : Option ℤ) (a : ℕ) → a < length cs → Grows (record { labels = ls; called = cs; waiting = ws; below = lo; beyond = be; absent = ab }) (record { labels = ls; called = slice_set cs a true; waiting = ws; below = lo; beyond = be; absent = ab })
+grows_by_call ls cs ws lo be ab a l = record {
   covers = λ k x h. h;
   changed = λ k out. refl;
   waiting = λ k h. h;
-  called = λ k h. called_more cs a k l h;
+  known = λ k h. elim h [ inl it ↦ inl (called_more cs a k l it) | inr it ↦ inr it ];
+  noted = noted_on (record { labels = ls; called = cs; waiting = ws; below = lo; beyond = be; absent = ab }) (record { labels = ls; called = slice_set cs a true; waiting = ws; below = lo; beyond = be; absent = ab }) (λ q h. h) (λ q h. h);
   work = omega arith;
 }
 
-pub sound_by_call : (ls : List Label) (cs : List Bool) (ws : List ℕ) (a : ℕ) (story : LoadedStory) → a < length cs → IsCalled story a → IsSound story (record { labels = ls; called = cs; waiting = ws }) → IsSound story (record { labels = ls; called = slice_set cs a true; waiting = ws })
-sound_by_call ls cs ws a story l it sound = record {
+pub known_by_call : (ls : List Label) (cs : List Bool) (ws : List ℕ) (lo be ab : Option ℤ) (a : ℕ) → a < length cs → IsKnown (record { labels = ls; called = slice_set cs a true; waiting = ws; below = lo; beyond = be; absent = ab }) a
+known_by_call ls cs ws lo be ab a l = inl (get_or-set_same cs a true false l)
+
+pub sound_by_call : (ls : List Label) (cs : List Bool) (ws : List ℕ) (lo be ab : Option ℤ) (a : ℕ) (story : LoadedStory) → a < length cs → IsCalled story a → IsSound story (record { labels = ls; called = cs; waiting = ws; below = lo; beyond = be; absent = ab }) → IsSound story (record { labels = ls; called = slice_set cs a true; waiting = ws; below = lo; beyond = be; absent = ab })
+sound_by_call ls cs ws lo be ab a story l it sound = record {
+  size = sound.size;
+  flags = length-set cs a true ∙ sound.flags;
   labels = sound.labels;
   called = λ k h. (elim (k == a) as (λ c. (k == a) ≡ c → IsCalled story k) [
     | true ↦ λ e. subst (λ (j : ℕ). IsCalled story j) (sym (eqb-true k a e)) it
     | false ↦ λ e. sound.called k (called_only cs a k l h (λ q. false≢true (sym e ∙ eq-eqb k a q)))
   ]) refl;
   waiting = sound.waiting;
+  below = sound.below;
+  beyond = sound.beyond;
+  absent = sound.absent;
+}
+
+-- that of a place behind memory
+pub grows_absent : (ls : List Label) (cs : List Bool) (ws : List ℕ) (lo be ab : Option ℤ) (p : ℤ) → Grows (record { labels = ls; called = cs; waiting = ws; below = lo; beyond = be; absent = ab }) (record { labels = ls; called = cs; waiting = ws; below = lo; beyond = be; absent = lowered ab p })
+grows_absent ls cs ws lo be ab p = record {
+  covers = λ k x h. h;
+  changed = λ k out. refl;
+  waiting = λ k h. h;
+  known = λ k h. elim h [ inl it ↦ inl it | inr it ↦ inr (reaches_still ab p (pos k) it) ];
+  noted = noted_on (record { labels = ls; called = cs; waiting = ws; below = lo; beyond = be; absent = ab }) (record { labels = ls; called = cs; waiting = ws; below = lo; beyond = be; absent = lowered ab p }) (λ q h. h) (λ q h. h);
+  work = omega arith;
+}
+
+pub known_absent : (ls : List Label) (cs : List Bool) (ws : List ℕ) (lo be ab : Option ℤ) (a : ℕ) → IsKnown (record { labels = ls; called = cs; waiting = ws; below = lo; beyond = be; absent = lowered ab (pos a) }) a
+known_absent ls cs ws lo be ab a = inr (reaches_lowered ab (pos a))
+
+pub sound_absent : (ls : List Label) (cs : List Bool) (ws : List ℕ) (lo be ab : Option ℤ) (a : ℕ) (story : LoadedStory) → length cs ≤ a → IsCalled story a → IsSound story (record { labels = ls; called = cs; waiting = ws; below = lo; beyond = be; absent = ab }) → IsSound story (record { labels = ls; called = cs; waiting = ws; below = lo; beyond = be; absent = lowered ab (pos a) })
+sound_absent ls cs ws lo be ab a story l it sound = record {
+  size = sound.size;
+  flags = sound.flags;
+  labels = sound.labels;
+  called = sound.called;
+  waiting = sound.waiting;
+  below = sound.below;
+  beyond = sound.beyond;
+  absent = lowered_is (λ q. (k : ℕ) × (q ≡ pos k) × (length story.memory ≤ k) × IsCalled story k) ab (pos a) sound.absent (a, refl, omega (arith, l, sound.flags), it);
 }
 
 -- ---- one after another
@@ -202,15 +308,17 @@ grows_on f g h one two = record {
   covers = λ k x has_it. two.covers k x (one.covers k x has_it);
   changed = λ k out. two.changed k out ∙ one.changed k (λ w. out (two.waiting k w));
   waiting = λ k w. two.waiting k (one.waiting k w);
-  called = λ a c. two.called a (one.called a c);
+  known = λ a c. two.known a (one.known a c);
+  noted = λ p h. two.noted p (one.noted p h);
   work = omega (arith, one.work, two.work);
 }
 
 pub has_on : (f g : Found) (label : Label) (p : ℤ) → Grows f g → Has f label p → Has g label p
-has_on f g label p grows it = (it.0, it.1, it.2, λ x h. grows.covers it.0 x (it.3 x h))
+has_on f g label p grows (inl it) = inl (it.0, it.1, λ x h. grows.covers it.0 x (it.2 x h))
+has_on f g label p grows (inr it) = inr (grows.noted p it)
 
 pub entered_on : (memory : List ℕ) (f g : Found) (a : ℕ) → Grows f g → IsEntered memory f a → IsEntered memory g a
-entered_on memory f g a grows it = record { called = grows.called a it.called; begun = λ q at. has_on f g (One (Routine a)) (pos q) grows (it.begun q at) }
+entered_on memory f g a grows it = record { called = grows.known a it.called; begun = λ q at. has_on f g (One (Routine a)) (pos q) grows (it.begun q at) }
 
 pub followed : (memory : List ℕ) (f g h : Found) (label : Label) (p : ℤ) (i : Instruction) → IfSome (next_place p i) (Has f label) → Grows f g → IfSome (aside_place p i) (Has g label) → Grows g h → IfSome (callee i.opcode i.operands) (IsEntered memory h) → IsFollowed memory h label p i
 followed memory f g h label p i one to_g two to_h three = record {
@@ -228,21 +336,25 @@ followed_on memory f g label p i grows it = record {
   calls = IfSome_then (callee i.opcode i.operands) it.calls (λ a h. entered_on memory f g a grows h);
 }
 
+pub has_without : (f : Found) (slot : ℕ) (label : Label) (p : ℤ) → Has (with_waiting f slot) label p → Has f label p
+has_without f slot label p (inl it) = inl it
+has_without f slot label p (inr it) = inr (noted_on (with_waiting f slot) f (λ q h. h) (λ q h. h) p it)
+
 without_waiting : (memory : List ℕ) (f : Found) (slot : ℕ) (label : Label) (p : ℤ) (i : Instruction) → IsFollowed memory (with_waiting f slot) label p i → IsFollowed memory f label p i
 without_waiting memory f slot label p i it = record {
-  next = it.next;
-  aside = it.aside;
-  calls = IfSome_then (callee i.opcode i.operands) it.calls (λ a h. record { called = h.called; begun = h.begun });
+  next = IfSome_then (next_place p i) it.next (λ q h. has_without f slot label q h);
+  aside = IfSome_then (aside_place p i) it.aside (λ q h. has_without f slot label q h);
+  calls = IfSome_then (callee i.opcode i.operands) it.calls (λ a h. record { called = h.called; begun = λ q at. has_without f slot (One (Routine a)) (pos q) (h.begun q at) });
 }
 
-pub complete_on : (memory : List ℕ) (f g : Found) (slot : ℕ) → IsComplete memory (with_waiting f slot) → Grows f g → ((i : Instruction) → spelled memory (place slot) ≡ Ok i → IsFollowed memory g (label_at f slot) (place slot) i) → IsComplete memory g
+pub complete_on : (memory : List ℕ) (f g : Found) (slot : ℕ) → IsComplete memory (with_waiting f slot) → Grows f g → ((i : Instruction) → spelled memory (pos slot) ≡ Ok i → IsFollowed memory g (label_at f slot) (pos slot) i) → IsComplete memory g
 complete_on memory f g slot before grows visited k i out some here =
     let same = grows.changed k out in
     let still : label_at f k ≢ Nobody = subst (λ (m : Label). m ≢ Nobody) same some in
-    subst (λ (m : Label). IsFollowed memory g m (place k) i) (sym same)
-    ((elim (k == slot) as (λ c. (k == slot) ≡ c → IsFollowed memory g (label_at f k) (place k) i) [
-      | true ↦ λ e. subst (λ (j : ℕ). spelled memory (place j) ≡ Ok i → IsFollowed memory g (label_at f j) (place j) i) (sym (eqb-true k slot e)) (visited i) here
-      | false ↦ λ e. followed_on memory f g (label_at f k) (place k) i grows (without_waiting memory f slot (label_at f k) (place k) i (before k i (λ w. elim (Contains-push_cases f.waiting slot k w) [
+    subst (λ (m : Label). IsFollowed memory g m (pos k) i) (sym same)
+    ((elim (k == slot) as (λ c. (k == slot) ≡ c → IsFollowed memory g (label_at f k) (pos k) i) [
+      | true ↦ λ e. subst (λ (j : ℕ). spelled memory (pos j) ≡ Ok i → IsFollowed memory g (label_at f j) (pos j) i) (sym (eqb-true k slot e)) (visited i) here
+      | false ↦ λ e. followed_on memory f g (label_at f k) (pos k) i grows (without_waiting memory f slot (label_at f k) (pos k) i (before k i (λ w. elim (Contains-push_cases f.waiting slot k w) [
         | inl old ↦ out (grows.waiting k old)
         | inr is ↦ false≢true (sym e ∙ eq-eqb k slot (sym is))
       ]) still here))
@@ -250,9 +362,14 @@ complete_on memory f g slot before grows visited k i out some here =
 
 pub sound_without : (story : LoadedStory) (f : Found) (slot : ℕ) → IsSound story (with_waiting f slot) → IsSound story f
 sound_without story f slot sound = record {
+  size = sound.size;
+  flags = sound.flags;
   labels = sound.labels;
   called = sound.called;
   waiting = λ k w. sound.waiting k (Contains-append_left f.waiting (slot ∷ []) k w);
+  below = sound.below;
+  beyond = sound.beyond;
+  absent = sound.absent;
 }
 
 -- ---- at first
@@ -265,13 +382,18 @@ blank_at x [] all k = refl
 blank_at x (y ∷ ys) all zero = elim all.0 [ inl e ↦ e | inr e ↦ e ]
 blank_at x (y ∷ ys) all (suc k) = blank_at x ys all.1 k
 
-pub blank_is : (ls : List Label) (cs : List Bool) (ws : List ℕ) (story : LoadedStory) → AllByRecursion (λ y. (y ≡ Nobody) ⊎ (y ≡ Nobody)) ls → AllByRecursion (λ y. (y ≡ false) ⊎ (y ≡ false)) cs → ws ≡ [] → IsSound story (record { labels = ls; called = cs; waiting = ws }) × (ws ≡ []) × ((slot : ℕ) → label_at (record { labels = ls; called = cs; waiting = ws }) slot ≡ Nobody)
-blank_is ls cs ws story e1 e2 e3 =
+pub blank_is : (ls : List Label) (cs : List Bool) (ws : List ℕ) (n : ℕ) (story : LoadedStory) → length ls ≡ n → length cs ≡ n → AllByRecursion (λ y. (y ≡ Nobody) ⊎ (y ≡ Nobody)) ls → AllByRecursion (λ y. (y ≡ false) ⊎ (y ≡ false)) cs → ws ≡ [] → n ≡ length story.memory → IsSound story (record { labels = ls; called = cs; waiting = ws; below = None; beyond = None; absent = None }) × (ws ≡ []) × ((a : ℕ) → label_at (record { labels = ls; called = cs; waiting = ws; below = None; beyond = None; absent = None }) a ≡ Nobody)
+blank_is ls cs ws n story size flags e1 e2 e3 whole =
     let nobody = blank_at Nobody ls e1 in (
       record {
-        labels = λ slot. subst (λ (m : Label). IsSo story m (place slot)) (sym (nobody slot)) tt;
+        size = size ∙ whole;
+        flags = flags ∙ whole;
+        labels = λ a. subst (λ (m : Label). IsSo story m (pos a)) (sym (nobody a)) tt;
         called = λ a h. absurd (false≢true (sym (blank_at false cs e2 a) ∙ h));
-        waiting = λ slot w. absurd (none_in slot (subst (λ (l : List ℕ). Contains l slot) e3 w));
+        waiting = λ a w. absurd (none_in a (subst (λ (l : List ℕ). Contains l a) e3 w));
+        below = tt;
+        beyond = tt;
+        absent = tt;
       },
       e3,
       nobody,

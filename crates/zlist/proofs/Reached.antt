@@ -1,45 +1,21 @@
 -- What a walk that is at its end knows: all that is listed, called, or belongs to some code.
-use Rattle.std.proofs.Common.{◌≡◌, ℕ, suc, ◌+◌, ◌-◌, ◌<◌, Bool, true, false, List, [], IsTrue, refl, sym, ap, subst, ◌∙◌, arith, cond, nat_lt, Some, None, Ok}
-use Rattle.std.specs.Prelude.{◌≢◌, ℤ, pos, negsuc, Option, IfSome}
+use Rattle.std.proofs.Common.{inl, inr, ◌≡◌, ℕ, ◌<◌, ◌≤◌, Bool, true, false, List, [], length, IsTrue, refl, sym, ap, subst, ◌∙◌, arith, nat_lt, Some, None, Ok, Err, ◌||◌}
+use Rattle.std.specs.Prelude.{◌≢◌, ◌⊎◌, ℤ, pos, negsuc, ◌≤ℤ◌, Option, IfSome}
 use Rattle.std.specs.List.{Contains}
-use Rattle.std.proofs.lemmas.Bool.{false≢true, lt-ltb, ltb-true, ltb-false}
+use Rattle.std.proofs.lemmas.Bool.{false≢true, ltb-true, ltb-false}
 use Rattle.std.proofs.lemmas.List.{get_or_past}
 use Rattle.zstory.specs.LoadedStory.{LoadedStory, first_instruction}
+use Rattle.zcode.specs.declared.error.DecodeError.TheVariants.{Truncated}
 use Rattle.zcode.specs.Instruction.{Instruction}
 use Rattle.zlist.specs.declared.owner.Owner.{Owner}
 use Rattle.zlist.specs.declared.owner.Owner.TheVariants.{Main, Routine}
 use Rattle.zlist.specs.declared.owner.Label.{Label}
 use Rattle.zlist.specs.declared.owner.Label.TheVariants.{Nobody, One, Several}
 use Rattle.zlist.specs.Listed.{Begins, Belongs, IsCalled, IsClosed, IsListed, IsShared, aside_place, callee, next_place, spelled}
-use Rattle.zlist.specs.Labels.{Covers, Found, Has, IsEntered, IsFollowed, IsSo, IsWalked, has, is_called, label_at, place, slots}
+use Rattle.zlist.specs.Labels.{Covers, Found, Has, IsEntered, IsFollowed, IsKnown, IsLost, IsSo, IsWalked, has, is_called, is_noted, label_at, reaches}
 use Rattle.zlist.proofs.Marking.{same_is, same_itself}
+use Rattle.zlist.proofs.Outside.{le_on, nothing_beyond, pos_le, reached_from}
 use Rattle.zlist.proofs.Reaching.{so_listed}
-
--- ---- places and slots
-
-abbrev pub slot_of : ℤ → Option ℕ
-slot_of (pos n) = Some (n + 65536)
-slot_of (negsuc n) = cond (nat_lt n 65536) (Some (65535 - n)) None
-
-pub place_pos : (n : ℕ) → place (n + 65536) ≡ pos n
-place_pos n =
-    (elim (nat_lt (n + 65536) 65536) as (λ b. nat_lt (n + 65536) 65536 ≡ b → cond b (negsuc (65536 - suc (n + 65536))) (pos (n + 65536 - 65536)) ≡ pos n) [
-      | true ↦ λ e. absurd (omega (arith, ltb-true (n + 65536) 65536 e))
-      | false ↦ λ e. ap (λ (m : ℕ). pos m) (omega arith)
-    ]) refl
-
-place_negsuc : (n : ℕ) → n < 65536 → place (65535 - n) ≡ negsuc n
-place_negsuc n l =
-    ap (λ (b : Bool). cond b (negsuc (65536 - suc (65535 - n))) (pos (65535 - n - 65536))) (lt-ltb (65535 - n) 65536 (omega arith)) ∙ ap (λ (m : ℕ). negsuc m) (omega (arith, l))
-
-slot_of_place : (k : ℕ) → slot_of (place k) ≡ Some k
-slot_of_place k =
-    (elim (nat_lt k 65536) as (λ b. nat_lt k 65536 ≡ b → slot_of (cond b (negsuc (65536 - suc k)) (pos (k - 65536))) ≡ Some k) [
-      | true ↦ λ e.
-          let low : nat_lt (65536 - suc k) 65536 ≡ true = lt-ltb (65536 - suc k) 65536 (omega arith) in
-          ap (λ (b : Bool). cond b (Some (65535 - (65536 - suc k))) None) low ∙ ap (λ (n : ℕ). Some n) (omega (arith, ltb-true k 65536 e))
-      | false ↦ λ e. ap (λ (n : ℕ). Some n) (omega (arith, ltb-false k 65536 e))
-    ]) refl
 
 -- ---- what a label tells
 
@@ -74,89 +50,134 @@ one_of Several none few = absurd (few refl)
 none_in : (slot : ℕ) → Contains [] slot → ⊥
 none_in slot (k, l, e) = absurd (omega (arith, l))
 
+or_cases : (a b : Bool) → (a || b) ≡ true → (a ≡ true) ⊎ (b ≡ true)
+or_cases true b h = inl refl
+or_cases false b h = inr h
+
+or_left : (a b : Bool) → a ≡ true → (a || b) ≡ true
+or_left a b h = ap (λ (c : Bool). c || b) h
+
+or_right : (a b : Bool) → b ≡ true → (a || b) ≡ true
+or_right true b h = refl
+or_right false b h = h
+
+stands : (memory : List ℕ) (p : ℤ) (i : Instruction) → spelled memory p ≡ Ok i → spelled memory p ≡ Err Truncated → ⊥
+stands memory p i one other = cc
+
 -- ---- sets of places by their labels
 
--- the places whose labels pass a test
+-- the addresses whose labels pass a test, and the places outside memory that are noted
 abbrev pub by_label : Found → (Label → Bool) → ℤ → Bool
-by_label found test p = elim (slot_of p) [ None ↦ false | Some k ↦ test (label_at found k) ]
+by_label found test (pos a) = test (label_at found a) || reaches found.beyond (pos a)
+by_label found test (negsuc n) = reaches found.below (negsuc n)
 
-at_place : (found : Found) (test : Label → Bool) (k : ℕ) → by_label found test (place k) ≡ test (label_at found k)
-at_place found test k = ap (λ (o : Option ℕ). elim o [ None ↦ false | Some j ↦ test (label_at found j) ]) (slot_of_place k)
+noted_by : (found : Found) (test : Label → Bool) (p : ℤ) → is_noted found p ≡ true → by_label found test p ≡ true
+noted_by found test (pos a) h = or_right (test (label_at found a)) (reaches found.beyond (pos a)) h
+noted_by found test (negsuc n) h = h
 
 -- ---- the sets are closed
 
 module _ (story : LoadedStory) (found : Found) (walked : IsWalked story found) where
-  none_waits : (slot : ℕ) → Contains found.waiting slot → ⊥
-  none_waits slot w = none_in slot (subst (λ (l : List ℕ). Contains l slot) walked.done w)
+  none_waits : (a : ℕ) → Contains found.waiting a → ⊥
+  none_waits a w = none_in a (subst (λ (l : List ℕ). Contains l a) walked.done w)
 
-  followed_at : (slot : ℕ) (i : Instruction) → label_at found slot ≢ Nobody → spelled story.memory (place slot) ≡ Ok i → IsFollowed story.memory found (label_at found slot) (place slot) i
-  followed_at slot i some here = walked.way.complete slot i (none_waits slot) some here
+  followed_at : (a : ℕ) (i : Instruction) → label_at found a ≢ Nobody → spelled story.memory (pos a) ≡ Ok i → IsFollowed story.memory found (label_at found a) (pos a) i
+  followed_at a i some here = walked.way.complete a i (none_waits a) some here
+
+  beyond_past : (p : ℤ) → reaches found.beyond p ≡ true → pos (length story.memory) ≤ℤ p
+  beyond_past p h =
+      let at = reached_from (λ q. (pos (length story.memory) ≤ℤ q) × IsLost story q) found.beyond p walked.way.sound.beyond h in
+      le_on (pos (length story.memory)) at.0 p at.1.0 at.2
+
+  inside_only : (a : ℕ) → a < length story.memory → reaches found.beyond (pos a) ≡ true → ⊥
+  inside_only a l h = absurd (omega (arith, l, pos_le (length story.memory) a (beyond_past (pos a) h)))
 
   -- a test of labels that passes those that tell of more
   abbrev pub Rises : (Label → Bool) → Type 0
   Rises test = (one other : Label) → Covers one other → test other ≡ true → test one ≡ true
 
   here_by : (test : Label → Bool) (label : Label) (q : ℤ) → Rises test → test label ≡ true → Has found label q → by_label found test q ≡ true
-  here_by test label q rises h it =
-      ap (λ (p : ℤ). by_label found test p) it.2 ∙ at_place found test it.0 ∙ rises (label_at found it.0) label it.3 h
+  here_by test label q rises h (inl it) =
+      subst (λ (p : ℤ). by_label found test p ≡ true) (sym it.1) (or_left (test (label_at found it.0)) (reaches found.beyond (pos it.0)) (rises (label_at found it.0) label it.2 h))
+  here_by test label q rises h (inr it) = noted_by found test q it
 
-  slot_by : (test : Label → Bool) (p : ℤ) → by_label found test p ≡ true → (i : Instruction) → spelled story.memory p ≡ Ok i → (k : ℕ) × (p ≡ place k) × (test (label_at found k) ≡ true)
-  slot_by test (pos n) h i here = (n + 65536, sym (place_pos n), h)
-  slot_by test (negsuc n) h i here = cc
+  at_by : (test : Label → Bool) (p : ℤ) → by_label found test p ≡ true → (i : Instruction) → spelled story.memory p ≡ Ok i → (a : ℕ) × (p ≡ pos a) × (test (label_at found a) ≡ true)
+  at_by test (pos a) h i here =
+      elim (or_cases (test (label_at found a)) (reaches found.beyond (pos a)) h) [
+        | inl it ↦ (a, refl, it)
+        | inr out ↦ absurd (stands story.memory (pos a) i here (nothing_beyond story.memory (pos a) (beyond_past (pos a) out)))
+      ]
+  at_by test (negsuc n) h i here = cc
 
   closed_by : (test : Label → Bool) → Rises test → ((label : Label) → test label ≡ true → label ≢ Nobody) → IsClosed story.memory (by_label found test)
   closed_by test rises some = record {
     next = λ p q i h here there.
-        let at = slot_by test p h i here in
+        let at = at_by test p h i here in
         let followed = followed_at at.0 i (some _ at.2) (subst (λ (x : ℤ). spelled story.memory x ≡ Ok i) at.1 here) in
         here_by test (label_at found at.0) q rises at.2 (subst (λ (o : Option ℤ). IfSome o (Has found (label_at found at.0))) (subst (λ (x : ℤ). next_place x i ≡ Some q) at.1 there) followed.next);
     aside = λ p q i h here there.
-        let at = slot_by test p h i here in
+        let at = at_by test p h i here in
         let followed = followed_at at.0 i (some _ at.2) (subst (λ (x : ℤ). spelled story.memory x ≡ Ok i) at.1 here) in
         here_by test (label_at found at.0) q rises at.2 (subst (λ (o : Option ℤ). IfSome o (Has found (label_at found at.0))) (subst (λ (x : ℤ). aside_place x i ≡ Some q) at.1 there) followed.aside);
   }
 
   enters : (p : ℤ) (i : Instruction) (a : ℕ) → by_label found told p ≡ true → spelled story.memory p ≡ Ok i → callee i.opcode i.operands ≡ Some a → IsEntered story.memory found a
   enters p i a h here call =
-      let at = slot_by told p h i here in
+      let at = at_by told p h i here in
       let followed = followed_at at.0 i (told_is (label_at found at.0) at.2) (subst (λ (x : ℤ). spelled story.memory x ≡ Ok i) at.1 here) in
       subst (λ (o : Option ℕ). IfSome o (IsEntered story.memory found)) call followed.calls
 
-  -- all that is listed has a label
-  listed_told : (p : ℤ) → IsListed story p → by_label found told p ≡ true
+  -- all that is listed has a label, or is noted
+  pub listed_told : (p : ℤ) → IsListed story p → by_label found told p ≡ true
   listed_told p listed =
       listed (by_label found told) (closed_by told told_more told_is)
       (λ p i a q h here call at. here_by told (One (Routine a)) (pos q) told_more refl ((enters p i a h here call).begun q at))
       (here_by told (One Main) (pos (first_instruction story)) told_more refl walked.way.begun)
 
-  slot_found : (p : ℤ) → by_label found told p ≡ true → (k : ℕ) × (p ≡ place k) × (told (label_at found k) ≡ true)
-  slot_found (pos n) h = (n + 65536, sym (place_pos n), h)
-  slot_found (negsuc n) h =
-      (elim (nat_lt n 65536) as (λ b. nat_lt n 65536 ≡ b → elim (cond b (Some (65535 - n)) None) [ None ↦ false | Some k ↦ told (label_at found k) ] ≡ true → (k : ℕ) × (negsuc n ≡ place k) × (told (label_at found k) ≡ true)) [
-        | true ↦ λ e g. (65535 - n, sym (place_negsuc n (ltb-true n 65536 e)), g)
-        | false ↦ λ e g. absurd (false≢true g)
-      ]) refl h
+  -- the label of an address that is listed tells something
+  pub listed_label : (a : ℕ) → a < length story.memory → IsListed story (pos a) → label_at found a ≢ Nobody
+  listed_label a l listed =
+      elim (or_cases (told (label_at found a)) (reaches found.beyond (pos a)) (listed_told (pos a) listed)) [
+        | inl it ↦ told_is (label_at found a) it
+        | inr out ↦ absurd (inside_only a l out)
+      ]
 
-  within : (k : ℕ) → label_at found k ≢ Nobody → k < slots
-  within k some =
-      (elim (nat_lt k slots) as (λ b. nat_lt k slots ≡ b → k < slots) [
-        | true ↦ λ e. ltb-true k slots e
-        | false ↦ λ e. absurd (some (get_or_past found.labels k Nobody (omega (arith, walked.labels, ltb-false k slots e))))
+  within : (a : ℕ) → label_at found a ≢ Nobody → a < length story.memory
+  within a some =
+      (elim (nat_lt a (length story.memory)) as (λ b. nat_lt a (length story.memory) ≡ b → a < length story.memory) [
+        | true ↦ λ e. ltb-true a (length story.memory) e
+        | false ↦ λ e. absurd (some (get_or_past found.labels a Nobody (omega (arith, walked.way.sound.size, ltb-false a (length story.memory) e))))
       ]) refl
 
-  pub listed_slot : (p : ℤ) → IsListed story p → (k : ℕ) × (k < slots) × (p ≡ place k) × (label_at found k ≢ Nobody)
-  listed_slot p listed =
-      let at = slot_found p (listed_told p listed) in
-      let some = told_is (label_at found at.0) at.2 in
-      (at.0, within at.0 some, at.1, some)
+  -- behind memory it is noted
+  pub listed_beyond : (a : ℕ) → length story.memory ≤ a → IsListed story (pos a) → reaches found.beyond (pos a) ≡ true
+  listed_beyond a l listed =
+      elim (or_cases (told (label_at found a)) (reaches found.beyond (pos a)) (listed_told (pos a) listed)) [
+        | inl it ↦ absurd (omega (arith, l, within a (told_is (label_at found a) it)))
+        | inr out ↦ out
+      ]
 
-  -- and all that has one is listed
-  pub told_listed : (k : ℕ) → label_at found k ≢ Nobody → IsListed story (place k)
-  told_listed k some = so_listed story (label_at found k) (place k) some (walked.way.sound.labels k)
+  -- all that has a label is listed
+  pub told_listed : (a : ℕ) → label_at found a ≢ Nobody → IsListed story (pos a)
+  told_listed a some = so_listed story (label_at found a) (pos a) some (walked.way.sound.labels a)
 
   -- what is called is known
-  pub called_known : (a : ℕ) → IsCalled story a → IsTrue (is_called found a)
+  called_known : (a : ℕ) → IsCalled story a → IsKnown found a
   called_known a call = (enters call.0 call.1 a (listed_told call.0 call.2) call.3 call.4).called
+
+  pub called_inside : (a : ℕ) → a < length story.memory → IsCalled story a → IsTrue (is_called found a)
+  called_inside a l call = elim (called_known a call) [
+    | inl it ↦ it
+    | inr out ↦
+        let at = reached_from (λ p. (k : ℕ) × (p ≡ pos k) × (length story.memory ≤ k) × IsCalled story k) found.absent (pos a) walked.way.sound.absent out in
+        absurd (omega (arith, l, at.1.2, pos_le at.1.0 a (subst (λ (q : ℤ). q ≤ℤ pos a) at.1.1 at.2)))
+  ]
+
+  pub called_beyond : (a : ℕ) → length story.memory ≤ a → IsCalled story a → reaches found.absent (pos a) ≡ true
+  called_beyond a l call = elim (called_known a call) [
+    | inl it ↦ absurd (false≢true (sym (get_or_past found.called a false (omega (arith, l, walked.way.sound.flags))) ∙ it))
+    | inr out ↦ out
+  ]
 
   -- what belongs to some code has a label that tells of that
   has_more : (x : Owner) → Rises (λ label. has label x)
@@ -166,29 +187,25 @@ module _ (story : LoadedStory) (found : Found) (walked : IsWalked story found) w
   begun_by Main q at = subst (λ (n : ℕ). Has found (One Main) (pos n)) (sym at) walked.way.begun
   begun_by (Routine a) q at = (enters at.0.0 at.0.1 a (listed_told at.0.0 at.0.2) at.0.3 at.0.4).begun q at.1
 
-  pub belongs_has : (x : Owner) (k : ℕ) → Belongs story x (place k) → has (label_at found k) x ≡ true
-  belongs_has x k it =
-      sym (at_place found (λ label. has label x) k)
-      ∙ it.2 (by_label found (λ label. has label x)) (closed_by (λ label. has label x) (has_more x) (λ label h. told_is label (told_by label x h)))
-      (here_by (λ label. has label x) (One x) (pos it.0) (has_more x) (same_itself x) (begun_by x it.0 it.1))
+  belongs_has : (x : Owner) (a : ℕ) → a < length story.memory → Belongs story x (pos a) → has (label_at found a) x ≡ true
+  belongs_has x a l it =
+      let in_set : by_label found (λ label. has label x) (pos a) ≡ true =
+      it.2 (by_label found (λ label. has label x)) (closed_by (λ label. has label x) (has_more x) (λ label h. told_is label (told_by label x h)))
+      (here_by (λ label. has label x) (One x) (pos it.0) (has_more x) (same_itself x) (begun_by x it.0 it.1)) in
+      elim (or_cases (has (label_at found a) x) (reaches found.beyond (pos a)) in_set) [
+        | inl here ↦ here
+        | inr out ↦ absurd (inside_only a l out)
+      ]
 
-  -- the place of a label of one is no other's
-  pub shared_several : (k : ℕ) (x y : Owner) → x ≢ y → Belongs story x (place k) → Belongs story y (place k) → label_at found k ≡ Several
-  shared_several k x y n one other = several_of (label_at found k) x y n (belongs_has x k one) (belongs_has y k other)
+  -- the address of a label of one is no other's
+  pub shared_label : (a : ℕ) → a < length story.memory → IsShared story (pos a) → label_at found a ≡ Several
+  shared_label a l it = several_of (label_at found a) it.0 it.1 it.2 (belongs_has it.0 a l it.3) (belongs_has it.1 a l it.4)
 
-  -- the label of a place that is listed tells something
-  pub listed_label : (k : ℕ) → IsListed story (place k) → label_at found k ≢ Nobody
-  listed_label k listed = told_is (label_at found k) (sym (at_place found told k) ∙ listed_told (place k) listed)
-
-  -- and of a place that is shared it tells that
-  pub shared_label : (k : ℕ) → IsShared story (place k) → label_at found k ≡ Several
-  shared_label k it = shared_several k it.0 it.1 it.2 it.3 it.4
-
-  pub several_shared : (k : ℕ) → label_at found k ≡ Several → IsShared story (place k)
-  several_shared k e = subst (λ (label : Label). IsSo story label (place k)) e (walked.way.sound.labels k)
+  pub several_shared : (a : ℕ) → label_at found a ≡ Several → IsShared story (pos a)
+  several_shared a e = subst (λ (label : Label). IsSo story label (pos a)) e (walked.way.sound.labels a)
 
   -- an address that is at no fault, and is told of no one, isn't listed
-  pub unlisted : (a k : ℕ) (label : Label) → place k ≡ pos a → label ≡ label_at found k → (IsShared story (pos a) → ⊥) → ((x : Owner) → label ≡ One x → ⊥) → IsListed story (pos a) → ⊥
-  unlisted a k label at is unshared none listed =
-      let nobody = one_of label none (λ e. unshared (subst (λ (p : ℤ). IsShared story p) at (several_shared k (sym is ∙ e)))) in
-      listed_label k (subst (λ (p : ℤ). IsListed story p) (sym at) listed) (sym is ∙ nobody)
+  pub unlisted : (a : ℕ) (label : Label) → a < length story.memory → label ≡ label_at found a → (IsShared story (pos a) → ⊥) → ((x : Owner) → label ≡ One x → ⊥) → IsListed story (pos a) → ⊥
+  unlisted a label l is unshared none listed =
+      let nobody = one_of label none (λ e. unshared (several_shared a (sym is ∙ e))) in
+      listed_label a l listed (sym is ∙ nobody)

@@ -1,5 +1,5 @@
 -- The records of all that is listed, and the listing that they make.
-use Rattle.std.proofs.Common.{inl, ◌≡◌, ℕ, zero, suc, ◌+◌, ◌<◌, ◌≤◌, ◌==◌, Bool, true, false, List, [], ◌∷◌, ◌++◌, length, slice_index, get_or, IsTrue, ◌↔◌, refl, sym, ap, subst, ◌∙◌, arith, nat_lt, drop, Err, eq-eqb, ◌||◌}
+use Rattle.std.proofs.Common.{inl, ◌≡◌, ℕ, zero, suc, ◌+◌, ◌<◌, ◌≤◌, ◌==◌, Bool, true, false, List, [], ◌∷◌, ◌++◌, length, slice_index, get_or, IsTrue, ◌↔◌, refl, sym, ap, subst, ◌∙◌, arith, nat_lt, eq-eqb, ◌||◌}
 use Rattle.std.specs.Prelude.{All, ℤ, pos, negsuc}
 use Rattle.std.specs.List.{Contains, list_any}
 use Rattle.std.specs.List.Sorted.{IsStrictlyIncreasing}
@@ -8,7 +8,6 @@ use Rattle.std.proofs.lemmas.List.Elements.{All-push, All-map}
 use Rattle.std.proofs.lemmas.Grind.{get_or_default_zero}
 use Rattle.zstory.specs.LoadedStory.{LoadedStory}
 use Rattle.zcode.specs.declared.error.DecodeError.TheVariants.{Truncated}
-use Rattle.zcode.specs.Reading.{head_at, instruction_at}
 use Rattle.zlist.specs.declared.owner.Owner.{Owner}
 use Rattle.zlist.specs.declared.owner.Owner.TheVariants.{Main, Routine}
 use Rattle.zlist.specs.declared.record.Record.{Record}
@@ -16,9 +15,10 @@ use Rattle.zlist.specs.declared.list_error.ListError.{ListError}
 use Rattle.zlist.specs.declared.list_error.ListError.TheVariants.{Decode}
 use Rattle.zlist.specs.Listing.{ListedCode, addresses_of}
 use Rattle.zlist.specs.Numbering.{IsNumbering}
-use Rattle.zlist.specs.Listed.{Belongs, IsCalled, IsFault, IsListed, Lists, owner_of, spelled}
+use Rattle.zlist.specs.Listed.{Belongs, IsCalled, IsFault, IsListed, Lists, owner_of}
 use Rattle.zlist.specs.Labels.{AreListed, IsNumbered, number_in}
 use Rattle.zlist.proofs.Calls.{rising_push}
+use Rattle.zlist.proofs.Outside.{nothing_past}
 
 -- ---- on lists
 
@@ -58,16 +58,6 @@ contains_any (x ∷ xs) a (suc k) l h =
       | true ↦ refl
       | false ↦ contains_any xs a k (omega (arith, l)) h
     ]
-
-past : (memory : List ℕ) (a : ℕ) → length memory ≤ a → drop a memory ≡ []
-past [] zero l = refl
-past [] (suc a) l = refl
-past (b ∷ memory) zero l = absurd (omega (arith, l))
-past (b ∷ memory) (suc a) l = past memory a (omega (arith, l))
-
-nothing_past : (memory : List ℕ) (a : ℕ) → length memory ≤ a → spelled memory (pos a) ≡ Err Truncated
-unfolding instruction_at head_at
-nothing_past memory a l = ap (λ (bytes : List ℕ). instruction_at bytes) (past memory a l)
 
 -- ---- address by address
 
@@ -115,18 +105,18 @@ module _ (story : LoadedStory) (listing : ListedCode) (numbers : List ℕ) where
       let number : slice_index numbers a ≡ suc at.0 = ap (λ (n : ℕ). slice_index numbers n) (sym there) ∙ table.numbered at.0 at.1 ∙ omega arith in
       ap (λ (n : ℕ). owner_of listing.routines n) number ∙ ap (λ (n : ℕ). Routine n) there
 
-  listed_at : ((f : ListError) → IsFault story f → ⊥) → length story.memory ≤ 131072 → (p : ℤ) → IsListed story p → (a : ℕ) × (p ≡ pos a) × (a < 131072)
-  listed_at faultless short (pos a) it =
-      (elim (nat_lt a 131072) as (λ b. nat_lt a 131072 ≡ b → (k : ℕ) × (pos a ≡ pos k) × (k < 131072)) [
-        | true ↦ λ e. (a, refl, ltb-true a 131072 e)
-        | false ↦ λ e. absurd (faultless (Decode (pos a) Truncated) (inl (it, nothing_past story.memory a (omega (arith, short, ltb-false a 131072 e)))))
+  listed_at : ((f : ListError) → IsFault story f → ⊥) → (p : ℤ) → IsListed story p → (a : ℕ) × (p ≡ pos a) × (a < length story.memory)
+  listed_at faultless (pos a) it =
+      (elim (nat_lt a (length story.memory)) as (λ b. nat_lt a (length story.memory) ≡ b → (k : ℕ) × (pos a ≡ pos k) × (k < length story.memory)) [
+        | true ↦ λ e. (a, refl, ltb-true a (length story.memory) e)
+        | false ↦ λ e. absurd (faultless (Decode (pos a) Truncated) (inl (it, nothing_past story.memory a (ltb-false a (length story.memory) e))))
       ]) refl
-  listed_at faultless short (negsuc n) it = absurd (faultless (Decode (negsuc n) Truncated) (inl (it, refl)))
+  listed_at faultless (negsuc n) it = absurd (faultless (Decode (negsuc n) Truncated) (inl (it, refl)))
 
-  pub lists : ((f : ListError) → IsFault story f → ⊥) → length story.memory ≤ 131072 → ((a : ℕ) → Contains listing.routines a ↔ IsCalled story a) → IsNumbering listing.routines (length listing.routines) numbers → AreListed story numbers 131072 listing.records → Lists story listing
-  lists faultless short called table listed = record {
+  pub lists : ((f : ListError) → IsFault story f → ⊥) → ((a : ℕ) → Contains listing.routines a ↔ IsCalled story a) → IsNumbering listing.routines (length listing.routines) numbers → AreListed story numbers (length story.memory) listing.records → Lists story listing
+  lists faultless called table listed = record {
     faultless = faultless;
-    all = λ p it. let at = listed_at faultless short p it in (at.0, at.1, listed.all at.0 at.2 (subst (λ (q : ℤ). IsListed story q) at.1 it));
+    all = λ p it. let at = listed_at faultless p it in (at.0, at.1, listed.all at.0 at.2 (subst (λ (q : ℤ). IsListed story q) at.1 it));
     each = λ k d l.
         let it = listed.each k d l in record {
           spelled = it.spelled;

@@ -1,9 +1,10 @@
 -- Whose code places are found to be, and how far that was followed (own).
-use Rattle.std.specs.Prelude.{◌≡◌, ℕ, suc, All, ◌+◌, ◌*◌, ◌<◌, ◌≤◌, ◌==◌, ℤ, pos, negsuc, ◌≤ℤ◌, ◌<ℤ◌, ◌-ℤ◌, Bool, true, false, IsTrue, List, [], ◌∷◌, ◌++◌, length, Option, None, IfSome, Ok, if◌then◌else◌, slice_index, slice_index_or, ◌≢◌, sum_by}
+use Rattle.std.specs.Prelude.{◌≡◌, ℕ, suc, All, ◌+◌, ◌*◌, ◌<◌, ◌≤◌, ◌==◌, ℤ, pos, negsuc, ◌≤ℤ◌, ◌<ℤ◌, int_le, Bool, true, false, IsTrue, List, [], ◌∷◌, ◌++◌, length, Option, Some, None, IfSome, Ok, if◌then◌else◌, slice_index, slice_index_or, ◌≢◌, ◌⊎◌, sum_by}
 use Rattle.std.specs.Result.{result_ok}
 use Rattle.std.specs.List.{Contains, list_any}
 use Rattle.std.specs.List.Sorted.{IsStrictlyIncreasing}
 use Rattle.zstory.specs.LoadedStory.{LoadedStory, first_instruction}
+use Rattle.zcode.specs.declared.error.DecodeError.TheVariants.{Truncated}
 use Rattle.zcode.specs.Instruction.{Instruction}
 use Rattle.zlist.specs.declared.record.Record.{Record}
 use Rattle.zlist.specs.Listing.{addresses_of}
@@ -11,7 +12,7 @@ use Rattle.zlist.specs.declared.owner.Owner.{Owner}
 use Rattle.zlist.specs.declared.owner.Owner.TheVariants.{Main, Routine}
 use Rattle.zlist.specs.declared.owner.Label.{Label}
 use Rattle.zlist.specs.declared.owner.Label.TheVariants.{Nobody, One, Several}
-use Rattle.zlist.specs.Listed.{Belongs, IsCalled, IsListed, aside_place, begins, behind, callee, next_place, spelled}
+use Rattle.zlist.specs.Listed.{Belongs, IsCalled, IsListed, IsUnspelled, aside_place, begins, behind, callee, next_place, spelled}
 
 -- ---- labels
 
@@ -52,19 +53,6 @@ IsSo story Several p = (x y : Owner) × (x ≢ y) × Belongs story x p × Belong
 
 -- ---- places
 
--- Each place to which an instruction may lead has a slot: of its bytes the last lies below 131,072, and it leads less than 65,536
--- away from there.
-abbrev pub slots : ℕ
-slots = 262144
-
-abbrev pub place : ℕ → ℤ
-place slot = pos slot -ℤ pos 65536
-
--- the place has a slot
-pub record HasSlot (p : ℤ) : Type 0 where
-  pub above : negsuc 65535 ≤ℤ p
-  pub below : p <ℤ pos 196608
-
 -- the instruction lies in a memory of at most 131,072 bytes
 pub record IsInside (p : ℤ) (i : Instruction) : Type 0 where
   pub above : pos 0 ≤ℤ p
@@ -84,37 +72,75 @@ pub record IsNear (distance : ℤ) : Type 0 where
   pub above : negsuc 32769 ≤ℤ distance
   pub below : distance <ℤ pos 32768
 
+-- the lower of a place and of the lowest so far, if there is one
+abbrev pub lowered : Option ℤ → ℤ → Option ℤ
+lowered None p = Some p
+lowered (Some lowest) p = if int_le lowest p then Some lowest else Some p
+
+-- the lower of two, if there is one
+abbrev pub lower_of : Option ℤ → Option ℤ → Option ℤ
+lower_of lowest None = lowest
+lower_of lowest (Some p) = lowered lowest p
+
+-- whether a place is at least the lowest one
+abbrev pub reaches : Option ℤ → ℤ → Bool
+reaches None p = false
+reaches (Some lowest) p = int_le lowest p
+
 -- ---- a walk
 
--- what a walk has found so far: whose code each slot's place is, which addresses are called, and which slots are to be followed
+-- What a walk has found so far: whose code each address of memory is, which of them are called, and which are to be followed. Of the
+-- places outside memory, where nothing stands, the lowest tell enough: of those below memory to which code leads, of those behind
+-- it, and of those behind it that are called.
 pub record Found : Type 0 where
   pub labels : List Label
   pub called : List Bool
   pub waiting : List ℕ
+  pub below : Option ℤ
+  pub beyond : Option ℤ
+  pub absent : Option ℤ
 
 abbrev pub label_at : Found → ℕ → Label
-label_at found slot = slice_index_or found.labels slot Nobody
+label_at found a = slice_index_or found.labels a Nobody
 
 abbrev pub is_called : Found → ℕ → Bool
 is_called found a = slice_index_or found.called a false
+
+-- whether a place outside memory lies on its side no lower than the lowest that was found
+abbrev pub is_noted : Found → ℤ → Bool
+is_noted found (pos a) = reaches found.beyond (pos a)
+is_noted found (negsuc n) = reaches found.below (negsuc n)
+
+-- the call is known, or that of a lower place behind memory
+abbrev pub IsKnown : Found → ℕ → Type 0
+IsKnown found a = IsTrue (is_called found a) ⊎ IsTrue (reaches found.absent (pos a))
 
 -- how much there may still be to do
 abbrev pub work : Found → ℕ
 work found = 2 * sum_by left found.labels + length found.waiting
 
--- the place has a slot, with at least this label
+-- the address has at least this label, or the place lies outside memory and is noted
 abbrev pub Has : Found → Label → ℤ → Type 0
-Has found label p = (slot : ℕ) × (slot < slots) × (p ≡ place slot) × Covers (label_at found slot) label
+Has found label p = ((a : ℕ) × (p ≡ pos a) × Covers (label_at found a) label) ⊎ IsTrue (is_noted found p)
+
+-- code leads to the place, and nothing stands there
+abbrev pub IsLost : LoadedStory → ℤ → Type 0
+IsLost story p = IsUnspelled story p Truncated
 
 -- all that was found is so
 pub record IsSound (story : LoadedStory) (found : Found) : Type 0 where
-  pub labels : (slot : ℕ) → IsSo story (label_at found slot) (place slot)
+  pub size : length found.labels ≡ length story.memory
+  pub flags : length found.called ≡ length story.memory
+  pub labels : (a : ℕ) → IsSo story (label_at found a) (pos a)
   pub called : (a : ℕ) → IsTrue (is_called found a) → IsCalled story a
-  pub waiting : (slot : ℕ) → Contains found.waiting slot → label_at found slot ≢ Nobody
+  pub waiting : (a : ℕ) → Contains found.waiting a → label_at found a ≢ Nobody
+  pub below : IfSome found.below (λ p. (p <ℤ pos 0) × IsLost story p)
+  pub beyond : IfSome found.beyond (λ p. (pos (length story.memory) ≤ℤ p) × IsLost story p)
+  pub absent : IfSome found.absent (λ p. (a : ℕ) × (p ≡ pos a) × (length story.memory ≤ a) × IsCalled story a)
 
 -- what is called is known, and where it begins
 pub record IsEntered (memory : List ℕ) (found : Found) (a : ℕ) : Type 0 where
-  pub called : IsTrue (is_called found a)
+  pub called : IsKnown found a
   pub begun : (q : ℕ) → begins memory a ≡ Ok q → Has found (One (Routine a)) (pos q)
 
 -- where an instruction leads has this label, and what it calls is entered
@@ -123,21 +149,22 @@ pub record IsFollowed (memory : List ℕ) (found : Found) (label : Label) (p : �
   pub aside : IfSome (aside_place p i) (Has found label)
   pub calls : IfSome (callee i.opcode i.operands) (IsEntered memory found)
 
--- each slot with a label was followed, but those that wait
+-- each address with a label was followed, but those that wait
 abbrev pub IsComplete : List ℕ → Found → Type 0
-IsComplete memory found = (slot : ℕ) (i : Instruction) → (Contains found.waiting slot → ⊥) → label_at found slot ≢ Nobody → spelled memory (place slot) ≡ Ok i → IsFollowed memory found (label_at found slot) (place slot) i
+IsComplete memory found = (a : ℕ) (i : Instruction) → (Contains found.waiting a → ⊥) → label_at found a ≢ Nobody → spelled memory (pos a) ≡ Ok i → IsFollowed memory found (label_at found a) (pos a) i
 
--- Labels tell of more, and where one does its slot waits; and there is no more to do than before.
+-- Labels tell of more, and where one does its address waits; and there is no more to do than before.
 pub record Grows (old new : Found) : Type 0 where
-  pub covers : (slot : ℕ) → Covers (label_at new slot) (label_at old slot)
-  pub changed : (slot : ℕ) → (Contains new.waiting slot → ⊥) → label_at new slot ≡ label_at old slot
-  pub waiting : (slot : ℕ) → Contains old.waiting slot → Contains new.waiting slot
-  pub called : (a : ℕ) → IsTrue (is_called old a) → IsTrue (is_called new a)
+  pub covers : (a : ℕ) → Covers (label_at new a) (label_at old a)
+  pub changed : (a : ℕ) → (Contains new.waiting a → ⊥) → label_at new a ≡ label_at old a
+  pub waiting : (a : ℕ) → Contains old.waiting a → Contains new.waiting a
+  pub known : (a : ℕ) → IsKnown old a → IsKnown new a
+  pub noted : (p : ℤ) → IsTrue (is_noted old p) → IsTrue (is_noted new p)
   pub work : work new ≤ work old
 
--- and a slot waits before all others
+-- and an address waits before all others
 abbrev pub with_waiting : Found → ℕ → Found
-with_waiting found slot = record { labels = found.labels; called = found.called; waiting = found.waiting ++ slot ∷ [] }
+with_waiting found a = record { labels = found.labels; called = found.called; waiting = found.waiting ++ a ∷ []; below = found.below; beyond = found.beyond; absent = found.absent }
 
 -- a walk on its way from the first instruction
 pub record IsOnWay (story : LoadedStory) (found : Found) : Type 0 where
@@ -147,8 +174,6 @@ pub record IsOnWay (story : LoadedStory) (found : Found) : Type 0 where
 
 -- a walk that is at its end
 pub record IsWalked (story : LoadedStory) (found : Found) : Type 0 where
-  pub labels : length found.labels ≡ slots
-  pub calls : length found.called ≡ 131072
   pub way : IsOnWay story found
   pub done : found.waiting ≡ []
 

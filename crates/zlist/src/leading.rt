@@ -3,7 +3,7 @@
 ghost use Rattle.std.specs.Prelude.{◌≡◌, ◌<◌, ◌≤◌, ◌+◌, ◌^◌, IfOk, IfSome, length, if◌then◌else◌, None};
 ghost use Rattle.zcode.specs.Instruction.{destination};
 ghost use Rattle.zlist.specs.Listed.{aside, aside_place, begins, branched, callee, calls, ends, goes_on, may_answer, next_place, routine_named, spelled};
-ghost use Rattle.zlist.specs.Labels.{HasSlot, IsInside, IsNear};
+ghost use Rattle.zlist.specs.Labels.{IsInside, IsNear};
 
 use zcode::{Branch, DecodeError, Destination, Instr, Opcode, Operand, decode_by};
 use ztext::TextEnds;
@@ -59,8 +59,7 @@ fn goes_on(instruction: &Instr) -> bool
 /// The place behind an instruction, if play may go on there.
 pub(crate) fn next_place(place: i32, instruction: &Instr) -> Option<i32>
     requires { IsInside place instruction.now }
-    ensures value { result ≡ next_place place instruction.now }
-    ensures slot { IfSome result HasSlot }
+    ensures { result ≡ next_place place instruction.now }
 {
     if goes_on(instruction) {
         Some(place + instruction.length() as i32)
@@ -84,8 +83,7 @@ fn aside(instruction: &Instr) -> Option<i32>
 /// The place to which it may so lead.
 pub(crate) fn aside_place(place: i32, instruction: &Instr) -> Option<i32>
     requires { IsInside place instruction.now }
-    ensures value { result ≡ aside_place place instruction.now }
-    ensures slot { IfSome result HasSlot }
+    ensures { result ≡ aside_place place instruction.now }
 {
     let distance = aside(instruction)?;
     Some(place + instruction.length() as i32 + distance)

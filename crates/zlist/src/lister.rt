@@ -1,13 +1,13 @@
 //! The listing of all that a story lists.
 
-ghost use Rattle.std.specs.Prelude.{◌≡◌, ◌<◌, ◌≤◌, ◌+◌, ◌↔◌, ◌≢◌, ℕ, pos, IfSome, IfNone, IfOk, IfErr, IsTrue, All, Ok, length};
+ghost use Rattle.std.specs.Prelude.{◌≡◌, ◌<◌, ◌≤◌, ◌+◌, ◌↔◌, ◌≢◌, ℕ, pos, IfSome, IfNone, IfOk, IfErr, IsTrue, All, Ok, Some, None, length};
 ghost use Rattle.zcode.specs.declared.error.DecodeError.{DecodeError as ADecodeError};
 ghost use Rattle.zcode.specs.Instruction.{Instruction};
 ghost use Rattle.zlist.specs.declared.list_error.ListError.{ListError as AListError};
 ghost use Rattle.zlist.specs.declared.list_error.ListError.TheVariants.{Decode, OutOfMemory};
 ghost use Rattle.std.specs.List.{Contains};
 ghost use Rattle.std.specs.List.Sorted.{IsStrictlyIncreasing};
-ghost use Rattle.zlist.specs.Labels.{AreFound, AreListed, IsNumbered, IsWalked, number_in, place, slots};
+ghost use Rattle.zlist.specs.Labels.{AreFound, AreListed, IsNumbered, IsWalked, number_in};
 ghost use Rattle.zlist.specs.Listed.{Belongs, IsCalled, IsComputed, IsFault, IsFirstAt, IsHeadless, IsListed, IsLowestFault, IsShared, IsUnspelled, JumpsByVariable, Lists, spelled};
 
 use crate::leading::{begins, spelled};
@@ -16,43 +16,43 @@ use crate::listing::Listing;
 use crate::numbers::routine_numbers;
 use crate::owner::{Label, Owner};
 use crate::record::Record;
-use crate::walk::{SLOTS, Walk, place_of, slot_of, walk_story};
+use crate::walk::{Walk, walk_story};
 use std::alloc::{AllocError, Global};
 use zcode::{DecodeError, Instr, Opcode, Operand};
 use zstory::Story;
 use ztext::TextEnds;
 
-/// Why nothing stands at the place of a slot, if that is listed.
+/// Why nothing stands at an address, if that is listed.
 #[tactic(auto, using(crate::proofs::Reached::listed_label, crate::proofs::Reached::told_listed))]
 fn unspelled(
     walk: &Walk,
     story: &Story,
     ends: &mut TextEnds<'_>,
-    slot: usize,
+    address: usize,
 ) -> Option<DecodeError>
     requires walked { IsWalked story.now walk.now }
     requires ends { ends.old ≡ story.now.memory }
-    requires slot { slot < slots }
+    requires inside { address < length story.now.memory }
     ensures memory { ends.new ≡ ends.old }
-    ensures some { IfSome result (λ cause. IsUnspelled story.now (place slot) cause) }
-    ensures none { IfNone result ((cause : ADecodeError) → IsUnspelled story.now (place slot) cause → ⊥) }
+    ensures some { IfSome result (λ cause. IsUnspelled story.now (pos address) cause) }
+    ensures none { IfNone result ((cause : ADecodeError) → IsUnspelled story.now (pos address) cause → ⊥) }
 {
     let _length = story.length(); // at most 131,072
-    match walk.label_at(slot) {
+    match walk.label_at(address) {
         Label::Nobody => None,
-        Label::One(_) | Label::Several => spelled(ends, place_of(slot)).err(),
+        Label::One(_) | Label::Several => spelled(ends, address as i32).err(),
     }
 }
 
-/// What is wrong with the head of a routine at the place of a slot, if that is called.
-#[tactic(auto, using(crate::proofs::Reached::called_known))]
-fn headless(walk: &Walk, story: &Story, slot: usize) -> Option<DecodeError>
+/// What is wrong with the head of a routine at an address, if that is called.
+#[tactic(auto, using(crate::proofs::Reached::called_inside))]
+fn headless(walk: &Walk, story: &Story, address: u32) -> Option<DecodeError>
     requires walked { IsWalked story.now walk.now }
-    requires slot { slot < slots }
-    ensures some { IfSome result (λ cause. (a : ℕ) × (place slot ≡ pos a) × IsHeadless story.now a cause) }
-    ensures none { IfNone result ((a : ℕ) (cause : ADecodeError) → place slot ≡ pos a → IsHeadless story.now a cause → ⊥) }
+    requires inside { address < length story.now.memory }
+    ensures some { IfSome result (IsHeadless story.now address) }
+    ensures none { IfNone result ((cause : ADecodeError) → IsHeadless story.now address cause → ⊥) }
 {
-    let address = address_of(slot)?;
+    let _length = story.length(); // at most 131,072
     if walk.is_called(address) {
         begins(story.memory(), address).err()
     } else {
@@ -60,14 +60,14 @@ fn headless(walk: &Walk, story: &Story, slot: usize) -> Option<DecodeError>
     }
 }
 
-/// Whether the place of a slot belongs to two routines.
+/// Whether an address belongs to two routines.
 #[tactic(auto, using(crate::proofs::Reached::shared_label, crate::proofs::Reached::several_shared))]
-fn is_shared(walk: &Walk, story: &Story, slot: usize) -> bool
+fn is_shared(walk: &Walk, story: &Story, address: usize) -> bool
     requires walked { IsWalked story.now walk.now }
-    requires slot { slot < slots }
-    ensures { IsTrue result ↔ IsShared story.now (place slot) }
+    requires inside { address < length story.now.memory }
+    ensures { IsTrue result ↔ IsShared story.now (pos address) }
 {
-    matches!(walk.label_at(slot), Label::Several)
+    matches!(walk.label_at(address), Label::Several)
 }
 
 /// Whether an instruction jumps as far as a variable says.
@@ -80,91 +80,106 @@ fn jumps_by_variable(instruction: &Instr) -> bool
     }
 }
 
-/// Whether an instruction at the place of a slot is listed that jumps as far as a variable says.
+/// Whether an instruction is listed at an address that jumps as far as a variable says.
 #[tactic(auto, using(crate::proofs::Reached::listed_label))]
-fn is_computed(walk: &Walk, story: &Story, ends: &mut TextEnds<'_>, slot: usize) -> bool
+fn is_computed(walk: &Walk, story: &Story, ends: &mut TextEnds<'_>, address: usize) -> bool
     requires walked { IsWalked story.now walk.now }
     requires ends { ends.old ≡ story.now.memory }
-    requires slot { slot < slots }
+    requires inside { address < length story.now.memory }
     ensures memory { ends.new ≡ ends.old }
-    ensures value { IsTrue result ↔ IsComputed story.now (place slot) }
+    ensures value { IsTrue result ↔ IsComputed story.now (pos address) }
 {
     let _length = story.length(); // at most 131,072
-    if let Label::Nobody = walk.label_at(slot) {
+    if let Label::Nobody = walk.label_at(address) {
         return false;
     }
-    match spelled(ends, place_of(slot)) {
+    match spelled(ends, address as i32) {
         Ok(instruction) => jumps_by_variable(&instruction),
         Err(_) => false,
     }
 }
 
-/// That nothing stands at the place of a slot.
-fn nothing_at(slot: usize, cause: DecodeError) -> ListError
-    requires { slot < slots }
-    ensures { result ≡ Decode (place slot) cause }
+/// That nothing stands at an address.
+fn nothing_at(address: usize, cause: DecodeError) -> ListError
+    requires { address < 131072 }
+    ensures { result ≡ Decode (pos address) cause }
 {
-    ListError::Decode(place_of(slot), cause)
+    ListError::Decode(address as i32, cause)
 }
 
-/// The address of a slot, if its place doesn't lie below 0.
-fn address_of(slot: usize) -> Option<u32>
-    requires { slot < slots }
-    ensures some { IfSome result (λ a. place slot ≡ pos a) }
-    ensures none { IfNone result ((a : ℕ) → place slot ≡ pos a → ⊥) }
-{
-    u32::try_from(place_of(slot)).ok()
-}
-
-/// What is at fault at the place of a slot: of several the first.
-fn fault_at(walk: &Walk, story: &Story, ends: &mut TextEnds<'_>, slot: usize) -> Option<ListError>
+/// What is at fault at an address of memory: of several the first.
+fn fault_at(
+    walk: &Walk,
+    story: &Story,
+    ends: &mut TextEnds<'_>,
+    address: usize,
+) -> Option<ListError>
     requires walked { IsWalked story.now walk.now }
     requires ends { ends.old ≡ story.now.memory }
-    requires slot { slot < slots }
+    requires inside { address < length story.now.memory }
     ensures memory { ends.new ≡ ends.old }
-    ensures first { IsFirstAt story.now (place slot) result }
+    ensures first { IsFirstAt story.now (pos address) result }
 {
-    if let Some(cause) = unspelled(walk, story, ends, slot) {
-        return Some(nothing_at(slot, cause));
+    let _length = story.length(); // at most 131,072
+    if let Some(cause) = unspelled(walk, story, ends, address) {
+        return Some(nothing_at(address, cause));
     }
-    if let Some(cause) = headless(walk, story, slot) {
-        return Some(nothing_at(slot, cause));
+    if let Some(cause) = headless(walk, story, address as u32) {
+        return Some(nothing_at(address, cause));
     }
-    let Some(address) = address_of(slot) else {
-        return None;
-    };
-    if is_shared(walk, story, slot) {
-        return Some(ListError::TwoRoutines(address));
+    if is_shared(walk, story, address) {
+        return Some(ListError::TwoRoutines(address as u32));
     }
-    if is_computed(walk, story, ends, slot) {
-        return Some(ListError::ComputedJump(address));
+    if is_computed(walk, story, ends, address) {
+        return Some(ListError::ComputedJump(address as u32));
     }
     None
 }
 
-/// What is at fault at the lowest place.
-fn first_fault(walk: &Walk, story: &Story) -> Option<ListError>
+/// What is at fault at the lowest address of memory where something is.
+fn fault_inside(walk: &Walk, story: &Story) -> Option<ListError>
     requires { IsWalked story.now walk.now }
-    ensures some { IfSome result (IsLowestFault story.now) }
-    ensures none { IfNone result ((f : AListError) → IsFault story.now f → ⊥) }
+    ensures some { IfSome result (λ f. (a : ℕ) × IsFirstAt story.now (pos a) (Some f) × ((k : ℕ) → k < a → IsFirstAt story.now (pos k) None)) }
+    ensures none { IfNone result ((k : ℕ) → k < length story.now.memory → IsFirstAt story.now (pos k) None) }
 {
     let mut ends = TextEnds::new(story.memory());
-    for slot in 0..SLOTS {
-        if let Some(fault) = fault_at(walk, story, &mut ends, slot) {
+    for address in 0..story.length() {
+        if let Some(fault) = fault_at(walk, story, &mut ends, address) {
             return Some(fault);
         }
     }
     None
 }
 
+/// What is at fault at the lowest place: below memory, in it, or behind it.
+#[tactic(auto, using(crate::proofs::Lowest::lowest_below, crate::proofs::Lowest::lowest_inside, crate::proofs::Lowest::lowest_behind, crate::proofs::Lowest::faultless))]
+fn first_fault(walk: &Walk, story: &Story) -> Option<ListError>
+    requires { IsWalked story.now walk.now }
+    ensures some { IfSome result (IsLowestFault story.now) }
+    ensures none { IfNone result ((f : AListError) → IsFault story.now f → ⊥) }
+{
+    if let Some(place) = walk.below() {
+        return Some(ListError::Decode(place, DecodeError::Truncated));
+    }
+    if let Some(fault) = fault_inside(walk, story) {
+        return Some(fault);
+    }
+    match walk.beyond() {
+        Some(place) => Some(ListError::Decode(place, DecodeError::Truncated)),
+        None => None,
+    }
+}
+
 /// The addresses of the routines that are called, rising.
 fn routines_of(alloc: Global, walk: &Walk, story: &Story) -> Result<Vec<u32>, AllocError>
-    requires { IsWalked story.now walk.now }
+    requires walked { IsWalked story.now walk.now }
+    requires faultless { (f : AListError) → IsFault story.now f → ⊥ }
     ensures order { IfOk result (λ routines. IsStrictlyIncreasing routines.items × All (λ a. a < 131072) routines.items × (length routines.items ≤ 65535)) }
     ensures called { IfOk result (λ routines. (a : ℕ) → Contains routines.items a ↔ IsCalled story.now a) }
 {
+    let end = (story.length() as u32).div_ceil(2); // at most 65,536
     let mut routines = Vec::new(alloc);
-    for packed in 1..65536u32 {
+    for packed in 1..end {
         push_called(walk, story, packed, &mut routines)?;
     }
     Ok(routines)
@@ -204,11 +219,11 @@ fn number_of(owner: Owner, numbers: &[u16]) -> u16
 fn owner_of(walk: &Walk, story: &Story, address: usize) -> Option<Owner>
     requires walked { IsWalked story.now walk.now }
     requires faultless { (f : AListError) → IsFault story.now f → ⊥ }
-    requires address { address < 131072 }
+    requires inside { address < length story.now.memory }
     ensures some { IfSome result (λ x. Belongs story.now x (pos address)) }
     ensures none { IfNone result (IsListed story.now (pos address) → ⊥) }
 {
-    match walk.label_at(slot_of(address as i32)) {
+    match walk.label_at(address) {
         Label::One(owner) => Some(owner),
         _ => None,
     }
@@ -217,7 +232,7 @@ fn owner_of(walk: &Walk, story: &Story, address: usize) -> Option<Owner>
 /// What stands at an address.
 fn spelled_at(story: &Story, ends: &mut TextEnds<'_>, address: usize) -> Option<Instr>
     requires ends { ends.old ≡ story.now.memory }
-    requires address { address < 131072 }
+    requires inside { address < length story.now.memory }
     ensures memory { ends.new ≡ ends.old }
     ensures some { IfSome result (λ i. spelled story.now.memory (pos address) ≡ Ok i) }
     ensures none { IfNone result ((i : Instruction) → spelled story.now.memory (pos address) ≡ Ok i → ⊥) }
@@ -237,11 +252,12 @@ fn record_at(
     requires walked { IsWalked story.now walk.now }
     requires faultless { (f : AListError) → IsFault story.now f → ⊥ }
     requires ends { ends.old ≡ story.now.memory }
-    requires address { address < 131072 }
+    requires inside { address < length story.now.memory }
     ensures memory { ends.new ≡ ends.old }
     ensures some { IfSome result (λ r. (r.address ≡ address) × IsNumbered story.now numbers.now r) }
     ensures none { IfNone result (IsListed story.now (pos address) → ⊥) }
 {
+    let _length = story.length(); // at most 131,072
     let Some(owner) = owner_of(walk, story, address) else {
         return None;
     };
@@ -264,11 +280,12 @@ fn records_of(
 ) -> Result<Vec<Record>, AllocError>
     requires walked { IsWalked story.now walk.now }
     requires faultless { (f : AListError) → IsFault story.now f → ⊥ }
-    ensures { IfOk result (λ records. AreListed story.now numbers.now 131072 records.items) }
+    ensures listed { IfOk result (λ records. AreListed story.now numbers.now (length story.now.memory) records.items) }
+    ensures inside { IfOk result (λ records. All (λ r. r.address < 131072) records.items) }
 {
     let mut ends = TextEnds::new(story.memory());
     let mut records = Vec::new(alloc);
-    for address in 0..131072 {
+    for address in 0..story.length() {
         if let Some(record) = record_at(walk, story, &mut ends, numbers, address) {
             records.push(record)?;
         }

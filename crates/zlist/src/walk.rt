@@ -1,11 +1,11 @@
 //! Whose code each place is: every instruction is followed from where code begins.
 
-ghost use Rattle.std.specs.Prelude.{◌≡◌, ◌<◌, ◌≤◌, All, IfOk, IfSome, IfNone, [], ℕ, Ok, length, ◌≢◌, Some, None, IsTrue, pos};
+ghost use Rattle.std.specs.Prelude.{◌≡◌, ◌<◌, ◌≤◌, ◌<ℤ◌, ◌≤ℤ◌, All, IfOk, IfSome, IfNone, [], ℕ, Ok, length, ◌≢◌, Some, None, IsTrue, pos};
 ghost use Rattle.zstory.specs.LoadedStory.{LoadedStory, first_instruction};
 ghost use Rattle.zcode.specs.Instruction.{Instruction};
-ghost use Rattle.zlist.specs.Labels.{Found, Grows, Has, HasSlot, IsEntered, IsFollowed, IsInside, IsSo, IsSound, IsWalked, is_called, label_at, place, slots, with_waiting};
+ghost use Rattle.zlist.specs.Labels.{Covers, Found, Grows, Has, IsEntered, IsFollowed, IsInside, IsKnown, IsSo, IsSound, IsWalked, is_called, label_at, lower_of, lowered, reaches, with_waiting};
 ghost use Rattle.zlist.specs.declared.owner.Label.TheVariants.{Nobody};
-ghost use Rattle.zlist.specs.Listed.{IsCalled, spelled};
+ghost use Rattle.zlist.specs.Listed.{IsCalled, IsListed, spelled};
 
 use crate::leading::{aside_place, begins, callee, next_place};
 use crate::owner::{Label, Owner};
@@ -15,87 +15,82 @@ use std::marker::Model;
 use zcode::Instr;
 use zstory::Story;
 
-/// How many places have a slot.
-pub(crate) const SLOTS: usize = 262_144;
-
-/// How many of them lie below 0.
-const BELOW: i32 = 65_536;
-
-/// One more than the highest address that a call may name.
-const ADDRESSES: usize = 131_072;
-
-/// What was found so far.
+/// What was found so far. What stands at an address of memory is followed; of the places outside, where nothing stands, the lowest
+/// tell enough.
 #[derive(Drop)]
 pub(crate) struct Walk {
-    /// Whose code the place of each slot is.
+    /// Whose code each address of memory is.
     labels: Vec<Label>,
-    /// Whether each address is called.
+    /// Whether each address of memory is called.
     called: Vec<bool>,
-    /// The slots whose instructions are to be followed.
+    /// The addresses whose instructions are to be followed.
     waiting: Vec<u32>,
+    /// The lowest place below memory that code leads to.
+    below: Option<i32>,
+    /// The lowest place behind memory that code leads to.
+    beyond: Option<i32>,
+    /// The lowest place behind memory that is called.
+    absent: Option<i32>,
 }
 
 impl Model for Walk {
-    ghost use Rattle.std.specs.Prelude.{◌≡◌, ◌<◌, length, All};
-    ghost use Rattle.zlist.specs.Labels.{Found, slots};
+    ghost use Rattle.std.specs.Prelude.{◌≤◌, ◌<◌, length, All};
+    ghost use Rattle.zlist.specs.Labels.{Found};
 
     ghost Value = { Found };
 
-    ghost view = { λ w. record { labels = w.labels.items; called = w.called.items; waiting = w.waiting.items } };
+    ghost view = { λ w. record { labels = w.labels.items; called = w.called.items; waiting = w.waiting.items; below = w.below; beyond = w.beyond; absent = w.absent } };
 
-    ghost invariant = { λ w. (length w.labels.items ≡ slots) × (length w.called.items ≡ 131072) × All (λ slot. slot < slots) w.waiting.items };
+    ghost invariant = { λ w. (length w.labels.items ≤ 131072) × All (λ a. a < 131072) w.waiting.items };
 }
 
-/// The slot of a place.
-pub(crate) fn slot_of(at: i32) -> usize
-    requires { HasSlot at }
-    ensures value { place result ≡ at }
-    ensures within { result < slots }
+/// The lower of a place and of the lowest so far, if there is one.
+fn lowered(lowest: Option<i32>, at: i32) -> Option<i32>
+    ensures { result ≡ lowered lowest at }
 {
-    (at + BELOW) as usize
-}
-
-/// The place of a slot.
-pub(crate) fn place_of(slot: usize) -> i32
-    requires { slot < slots }
-    ensures { result ≡ place slot }
-{
-    slot as i32 - BELOW
+    match lowest {
+        Some(lowest) if lowest <= at => Some(lowest),
+        _ => Some(at),
+    }
 }
 
 impl Walk {
-    /// A walk that found nothing yet.
-    fn new(alloc: Global) -> Result<Walk, AllocError>
-        ensures { IfOk result (λ walk. (story : LoadedStory) → IsSound story walk × (walk.waiting ≡ []) × ((slot : ℕ) → label_at walk slot ≡ Nobody)) }
+    /// A walk through a memory of so many bytes that found nothing yet.
+    fn new(alloc: Global, size: usize) -> Result<Walk, AllocError>
+        requires { size ≤ 131072 }
+        ensures { IfOk result (λ walk. (story : LoadedStory) → size ≡ length story.memory → IsSound story walk × (walk.waiting ≡ []) × ((a : ℕ) → label_at walk a ≡ Nobody)) }
     {
         Ok(Walk {
-            labels: vec![in alloc; Label::Nobody; SLOTS]?,
-            called: vec![in alloc; false; ADDRESSES]?,
+            labels: vec![in alloc; Label::Nobody; size]?,
+            called: vec![in alloc; false; size]?,
             waiting: Vec::new(alloc),
+            below: None,
+            beyond: None,
+            absent: None,
         })
     }
 
-    /// Takes the slot that waited last, if one waits.
+    /// Takes the address that waited last, if one waits.
     fn next(&mut self) -> Option<usize>
         ensures none { IfNone result ((self.new ≡ self.old) × (self.old.waiting ≡ [])) }
-        ensures some { IfSome result (λ slot. self.old ≡ with_waiting self.new slot) }
-        ensures within { IfSome result (λ slot. slot < slots) }
-        ensures labels { length self.old.labels ≡ slots }
-        ensures calls { length self.old.called ≡ 131072 }
+        ensures some { IfSome result (λ address. self.old ≡ with_waiting self.new address) }
+        ensures within { IfSome result (λ address. address < 131072) }
     {
-        let slot = self.waiting.pop()?;
-        Some(slot as usize)
+        let address = self.waiting.pop()?;
+        Some(address as usize)
     }
 
-    /// Whose code the place of a slot was found to be.
-    pub(crate) fn label_at(&self, slot: usize) -> Label
-        requires { slot < slots }
-        ensures { result ≡ label_at self.now slot }
+    /// Whose code an address of memory was found to be.
+    pub(crate) fn label_at(&self, address: usize) -> Label
+        ensures { result ≡ label_at self.now address }
     {
-        self.labels[slot]
+        match self.labels.get(address) {
+            Some(label) => *label,
+            None => Label::Nobody,
+        }
     }
 
-    /// Whether the routine at an address is called.
+    /// Whether the routine at an address of memory is called.
     pub(crate) fn is_called(&self, address: u32) -> bool
         ensures { result ≡ is_called self.now address }
     {
@@ -105,29 +100,81 @@ impl Walk {
         }
     }
 
-    /// Tells of a place that it belongs to some code too. Its slot waits where that is new.
-    fn mark(&mut self, at: i32, label: Label) -> Result<(), AllocError>
-        requires { HasSlot at }
-        ensures grows { IfOk result (λ _. Grows self.old self.new) }
-        ensures has { IfOk result (λ _. Has self.new label at) }
-        ensures sound { (story : LoadedStory) → IsSo story label at → IsSound story self.old → IfOk result (λ _. IsSound story self.new) }
+    /// The lowest place below memory that code leads to.
+    pub(crate) fn below(&self) -> Option<i32>
+        ensures { result ≡ self.now.below }
     {
-        let slot = slot_of(at);
-        let before = self.label_at(slot);
+        self.below
+    }
+
+    /// The lowest place behind memory that code leads to, or that is called.
+    pub(crate) fn beyond(&self) -> Option<i32>
+        ensures { result ≡ lower_of self.now.beyond self.now.absent }
+    {
+        match self.absent {
+            Some(at) => lowered(self.beyond, at),
+            None => self.beyond,
+        }
+    }
+
+    /// Tells of an address of memory that it belongs to some code too. It waits where that is new.
+    fn mark_inside(&mut self, address: usize, label: Label) -> Result<(), AllocError>
+        requires { address < length self.old.labels }
+        ensures grows { IfOk result (λ _. Grows self.old self.new) }
+        ensures covers { IfOk result (λ _. Covers (label_at self.new address) label) }
+        ensures sound { (story : LoadedStory) → IsSo story label (pos address) → IsSound story self.old → IfOk result (λ _. IsSound story self.new) }
+    {
+        let before = self.label_at(address);
         let label = before.joined(label);
         if !label.is(before) {
-            self.waiting.push(slot as u32)?;
-            self.labels[slot] = label;
+            self.waiting.push(address as u32)?;
+            self.labels[address] = label;
+        }
+        Ok(())
+    }
+
+    /// Notes that code leads to a place below memory.
+    #[tactic(auto, using(crate::proofs::Marking::grows_below, crate::proofs::Marking::sound_below, crate::proofs::Outside::reaches_lowered))]
+    fn note_below(&mut self, at: i32)
+        requires { at <ℤ pos 0 }
+        ensures grows { Grows self.old self.new }
+        ensures noted { IsTrue (reaches self.new.below at) }
+        ensures sound { (story : LoadedStory) → IsListed story at → IsSound story self.old → IsSound story self.new }
+    {
+        self.below = lowered(self.below, at);
+    }
+
+    /// Notes that code leads to a place behind memory.
+    #[tactic(auto, using(crate::proofs::Marking::grows_beyond, crate::proofs::Marking::sound_beyond, crate::proofs::Outside::reaches_lowered))]
+    fn note_beyond(&mut self, at: i32)
+        requires { pos (length self.old.labels) ≤ℤ at }
+        ensures grows { Grows self.old self.new }
+        ensures noted { IsTrue (reaches self.new.beyond at) }
+        ensures sound { (story : LoadedStory) → IsListed story at → IsSound story self.old → IsSound story self.new }
+    {
+        self.beyond = lowered(self.beyond, at);
+    }
+
+    /// Tells of a place that it belongs to some code too. An address of memory waits where that is new.
+    #[tactic(auto, using(crate::proofs::Marking::has_inside, crate::proofs::Marking::has_below, crate::proofs::Marking::has_beyond, crate::proofs::Reaching::so_listed))]
+    fn mark(&mut self, at: i32, label: Label) -> Result<(), AllocError>
+        ensures grows { IfOk result (λ _. Grows self.old self.new) }
+        ensures has { IfOk result (λ _. Has self.new label at) }
+        ensures sound { (story : LoadedStory) → label ≢ Nobody → IsSo story label at → IsSound story self.old → IfOk result (λ _. IsSound story self.new) }
+    {
+        match usize::try_from(at) {
+            Ok(address) if address < self.labels.len() => self.mark_inside(address, label)?,
+            Ok(_) => self.note_beyond(at),
+            Err(_) => self.note_below(at),
         }
         Ok(())
     }
 
     /// Tells of a place, if there is one, that it belongs to some code too.
     fn lead(&mut self, at: Option<i32>, label: Label) -> Result<(), AllocError>
-        requires { IfSome at HasSlot }
         ensures grows { IfOk result (λ _. Grows self.old self.new) }
         ensures has { IfOk result (λ _. IfSome at (Has self.new label)) }
-        ensures sound { (story : LoadedStory) → IfSome at (IsSo story label) → IsSound story self.old → IfOk result (λ _. IsSound story self.new) }
+        ensures sound { (story : LoadedStory) → label ≢ Nobody → IfSome at (IsSo story label) → IsSound story self.old → IfOk result (λ _. IsSound story self.new) }
     {
         match at {
             Some(at) => self.mark(at, label),
@@ -136,14 +183,18 @@ impl Walk {
     }
 
     /// Notes that a routine is called.
-    #[tactic(auto, using(crate::proofs::Marking::grows_by_call, crate::proofs::Marking::sound_by_call))]
+    #[tactic(auto, using(crate::proofs::Marking::grows_by_call, crate::proofs::Marking::known_by_call, crate::proofs::Marking::sound_by_call, crate::proofs::Marking::grows_absent, crate::proofs::Marking::known_absent, crate::proofs::Marking::sound_absent))]
     fn call(&mut self, address: u32)
         requires { address < 131072 }
         ensures grows { Grows self.old self.new }
-        ensures called { IsTrue (is_called self.new address) }
+        ensures called { IsKnown self.new address }
         ensures sound { (story : LoadedStory) → IsCalled story address → IsSound story self.old → IsSound story self.new }
     {
-        self.called[address as usize] = true;
+        if (address as usize) < self.called.len() {
+            self.called[address as usize] = true;
+        } else {
+            self.absent = lowered(self.absent, address as i32);
+        }
     }
 
     /// Enters a routine that is called, if one is: notes it, and marks where it begins.
@@ -185,15 +236,15 @@ impl Walk {
         Ok(())
     }
 
-    /// Follows the instruction of a slot, if one stands there.
-    fn visit(&mut self, standing: &Standing<'_>, slot: usize) -> Result<(), AllocError>
-        requires within { slot < slots }
+    /// Follows the instruction at an address, if one stands there.
+    fn visit(&mut self, standing: &Standing<'_>, address: usize) -> Result<(), AllocError>
+        requires within { address < 131072 }
         ensures grows { IfOk result (λ _. Grows self.old self.new) }
-        ensures followed { IfOk result (λ _. (i : Instruction) → spelled standing.now (place slot) ≡ Ok i → IsFollowed standing.now self.new (label_at self.old slot) (place slot) i) }
-        ensures sound { (story : LoadedStory) → standing.now ≡ story.memory → label_at self.old slot ≢ Nobody → IsSound story self.old → IfOk result (λ _. IsSound story self.new) }
+        ensures followed { IfOk result (λ _. (i : Instruction) → spelled standing.now (pos address) ≡ Ok i → IsFollowed standing.now self.new (label_at self.old address) (pos address) i) }
+        ensures sound { (story : LoadedStory) → standing.now ≡ story.memory → label_at self.old address ≢ Nobody → IsSound story self.old → IfOk result (λ _. IsSound story self.new) }
     {
-        let at = place_of(slot);
-        let label = self.label_at(slot);
+        let at = address as i32;
+        let label = self.label_at(address);
         let Some(instruction) = standing.at(at) else {
             return Ok(());
         };
@@ -204,8 +255,7 @@ impl Walk {
 
 /// The place of a story's first instruction.
 fn first_place(story: &Story) -> i32
-    ensures value { result ≡ pos (first_instruction story.now) }
-    ensures slot { HasSlot result }
+    ensures { result ≡ pos (first_instruction story.now) }
 {
     let _length = story.length(); // at most 131,072
     story.first_instruction() as i32
@@ -215,12 +265,11 @@ fn first_place(story: &Story) -> i32
 pub(crate) fn walk_story(alloc: Global, story: &Story) -> Result<Walk, AllocError>
     ensures { IfOk result (IsWalked story.now) }
 {
-    let _length = story.length(); // at most 131,072
     let standing = Standing::new(alloc, story.memory())?;
-    let mut walk = Walk::new(alloc)?;
+    let mut walk = Walk::new(alloc, story.length())?;
     walk.mark(first_place(story), Label::One(Owner::Main))?;
-    while let Some(slot) = walk.next() {
-        walk.visit(&standing, slot)?;
+    while let Some(address) = walk.next() {
+        walk.visit(&standing, address)?;
     }
     Ok(walk)
 }

@@ -1,4 +1,4 @@
-use Rattle.std.proofs.Common.{◌≤◌, rules, subst, sym, length}
+use Rattle.std.proofs.Common.{rules, subst, sym, length}
 use Rattle.zlist.specs.Labels.{AreListed}
 use Rattle.zlist.specs.Listed.{Lists}
 use Rattle.zlist.specs.Listing.{ListedCode}
@@ -13,7 +13,6 @@ returns-clause-lists c =
     let routines = c.in_ok-routines.routines.items in
     let numbers = c.deref-2.result.now in
     let made : ListedCode = record { records = records; routines = routines } in
-    let short : length story.memory ≤ 131072 = search rules in
     let table : IsNumbering routines (length routines) numbers = search rules in
-    let listed : AreListed story numbers 131072 records = search rules in
-    subst (λ (l : ListedCode). Lists story l) (sym c.in_ok-listing.ensures) (lists story made numbers c.in_default.ensures.none short c.in_ok-routines.ensures.called table listed)
+    let listed : AreListed story numbers (length story.memory) records = search rules in
+    subst (λ (l : ListedCode). Lists story l) (sym c.in_ok-listing.ensures) (lists story made numbers c.in_default.ensures.none c.in_ok-routines.ensures.called table listed)

@@ -1,4 +1,4 @@
-use Rattle.std.proofs.Common.{◌≡◌, rules, arith, subst, sym, ◌+◌, ◌++◌, ◌∷◌, [], List}
+use Rattle.std.proofs.Common.{◌≡◌, rules, arith, subst, sym, ◌+◌, ◌++◌, ◌∷◌, [], ◌≤◌, List, length}
 use Rattle.std.specs.Prelude.{ℕ}
 use Rattle.zlist.specs.declared.record.Record.{Record}
 use Rattle.zlist.specs.Labels.{AreListed}
@@ -25,7 +25,12 @@ loop-address-preserved c =
       same = search rules;
     }
 
-pub returns : goal.returns
-returns c =
-    let end : c.loop-address.address ≡ 131072 = search (rules, arith) in
+pub returns-clause-listed : goal.returns-clause-listed
+returns-clause-listed c =
+    let end : c.loop-address.address ≡ length c.args.story.now.memory = search (rules, arith) in
     subst (λ (n : ℕ). AreListed c.args.story.now c.args.numbers.now n c.loop-address.records.items) end c.loop-address.invariant.listed
+
+pub returns-clause-inside : goal.returns-clause-inside
+returns-clause-inside c =
+    let short : c.loop-address.address ≤ 131072 = search (rules, arith) in
+    λ k d l. omega (arith, short, c.loop-address.invariant.listed.below k d l)

@@ -13,4 +13,4 @@ returns-clause-sound c = λ story same called sound.
     let it : IsCalled story c.in-Some.address = search rules in
     let at : begins c.args.memory.now c.in-Some.address ≡ Ok c.in-Ok.first = search rules in
     let so = so_begun story c.args.memory.now c.in-Some.address c.in-Ok.first same it at in
-    c.in_ok-mark.ensures.sound story (search rules) (c.call.ensures.sound story it sound)
+    c.in_ok-mark.ensures.sound story (λ e. cc) (search rules) (c.call.ensures.sound story it sound)

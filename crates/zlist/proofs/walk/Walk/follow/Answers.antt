@@ -26,4 +26,4 @@ returns-clause-sound c = λ story same some here so sound.
     let next = subst (λ (o : Option ℤ). IfSome o (IsSo story c.args.label)) (sym to_next) (so_next story c.args.memory.now c.args.label c.args.at i same here so) in
     let aside = subst (λ (o : Option ℤ). IfSome o (IsSo story c.args.label)) (sym to_aside) (so_aside story c.args.memory.now c.args.label c.args.at i same here so) in
     let calls = subst (λ (o : Option ℕ). IfSome o (IsCalled story)) (sym c.callee.ensures.value) (so_callee story c.args.memory.now c.args.label c.args.at i same some here so) in
-    c.in_ok-enter.ensures.sound story same calls (c.in_ok-lead-2.ensures.sound story aside (c.in_ok-lead.ensures.sound story next sound))
+    c.in_ok-enter.ensures.sound story same calls (c.in_ok-lead-2.ensures.sound story some aside (c.in_ok-lead.ensures.sound story some next sound))

@@ -1,11 +1,9 @@
 use Rattle.std.proofs.Common.{rules}
-use Rattle.zlist.proofs.Marking.{marked_grows, marked_sound}
+use Rattle.zlist.specs.Listed.{IsListed}
+use Rattle.zlist.proofs.Reaching.{so_listed}
 use Rattle.zlist.proofs.walk.Walk.mark.Goals as goal
 
-pub returns-in_ok-push-clause-grows : goal.returns-in_ok-push-clause-grows
-returns-in_ok-push-clause-grows c =
-    marked_grows c.args.self.now _ _ _ c.slot_of-slot.result c.label_at-before.result c.args.label c.joined-label.result (search rules) (search rules) (search rules) (search rules) (search rules) (search rules) (search rules)
-
-pub returns-in_ok-push-clause-sound : goal.returns-in_ok-push-clause-sound
-returns-in_ok-push-clause-sound c = λ story so sound.
-    marked_sound story c.args.self.now _ _ _ c.slot_of-slot.result c.args.at c.label_at-before.result c.args.label c.joined-label.result (search rules) (search rules) (search rules) (search rules) (search rules) (search rules) (search rules) (search rules) so sound
+pub returns-in-Ok-2-clause-sound : goal.returns-in-Ok-2-clause-sound
+returns-in-Ok-2-clause-sound c = λ story some so sound.
+    let it : IsListed story c.args.at = so_listed story c.args.label c.args.at some so in
+    c.note_beyond.ensures.sound story (search (rules, it)) sound
