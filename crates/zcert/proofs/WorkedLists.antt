@@ -12,7 +12,7 @@ use Rattle.zcert.specs.declared.values_spelled.Unfinished.TheVariants as unfinis
 use Rattle.zcert.specs.Numbers as numbers
 use Rattle.zcert.specs.Numbers.{width, number, HasRoom}
 use Rattle.zcert.specs.Lists.{words_at, list_of, run_at, list_at, set_at, set_bytes, HasBytes, values_format}
-use Rattle.zcert.specs.Coming.{list_bytes, are_from, floor_behind}
+use Rattle.zcert.specs.Coming.{list_bytes, are_from, floor_behind, IsComing}
 use Rattle.zcert.specs.Unfinished.{set_came, set_awaited, values_turns}
 use Rattle.zcert.specs.Turns.{field_width}
 use Rattle.zcert.specs.Spelling.{heading, routine_bytes}
@@ -129,3 +129,15 @@ awaited = (refl, refl, refl, refl, refl)
 coming : (are_from 32773 (5 ∷ 7 ∷ []) ≡ true) × (are_from 32774 (5 ∷ 7 ∷ []) ≡ false) × (are_from 0 (5 ∷ 5 ∷ []) ≡ false) × (are_from 0 (65535 ∷ 65536 ∷ []) ≡ false) × (floor_behind 0 (5 ∷ 7 ∷ []) ≡ 32776) × (floor_behind 4 [] ≡ 4)
 unfolding are_from floor_behind
 coming = (refl, refl, refl, refl, refl, refl)
+
+-- of three words the first has come; a list of one word or of 65 is none, nor is one that has come whole one that is coming
+partly : IsComing 3 33180 (411 ∷ []) × (IsComing 3 33179 (411 ∷ []) → ⊥) × (IsComing 1 0 [] → ⊥) × (IsComing 65 0 [] → ⊥) × (IsComing 2 33182 (411 ∷ 413 ∷ []) → ⊥) × IsComing 64 0 []
+unfolding are_from floor_behind
+partly = (
+  record { some = omega arith; few = omega arith; more = omega arith; rise = refl; behind = refl },
+  λ it. omega (arith, it.behind),
+  λ it. omega (arith, it.some),
+  λ it. omega (arith, it.few),
+  λ it. omega (arith, it.more),
+  record { some = omega arith; few = omega arith; more = omega arith; rise = refl; behind = refl },
+)
