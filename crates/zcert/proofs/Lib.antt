@@ -1,5 +1,6 @@
 mod Sample
 mod Worked
+mod WorkedLists
 pub mod Bare
 pub mod Found
 pub mod Only
@@ -16,3 +17,4 @@ pub mod Fixed
 pub mod Uncut
 pub mod Room
 pub mod Refused
+pub mod Words

@@ -481,8 +481,8 @@ routine_found = (refl, refl, refl)
 
 -- ---- refusals
 
-refusals : (number_of errors.Magic ≡ 1) × (number_of errors.Version ≡ 2) × (number_of errors.Truncated ≡ 3) × (number_of errors.Trailing ≡ 4) × (number_of errors.Order ≡ 5) × (number_of errors.EmptyInterval ≡ 6) × (number_of errors.Limit ≡ 7) × (number_of errors.OutOfMemory ≡ 8)
-refusals = (refl, refl, refl, refl, refl, refl, refl, refl)
+refusals : (number_of errors.Magic ≡ 1) × (number_of errors.Version ≡ 2) × (number_of errors.Truncated ≡ 3) × (number_of errors.Trailing ≡ 4) × (number_of errors.Order ≡ 5) × (number_of errors.EmptyInterval ≡ 6) × (number_of errors.Limit ≡ 7) × (number_of errors.OutOfMemory ≡ 8) × (number_of errors.ListForm ≡ 9)
+refusals = (refl, refl, refl, refl, refl, refl, refl, refl, refl)
 
 -- ---- pieces
 

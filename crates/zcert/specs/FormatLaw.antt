@@ -1,8 +1,11 @@
 -- What a format owes: what is read is spelled so, and what has a spelling is read again. The modules below are the proof that
--- intervals meet it, and nothing to believe.
+-- intervals and lists meet it, and nothing to believe.
 pub mod Stepping
 pub mod Widths
 pub mod Intervals
+pub mod Steady
+pub mod Words
+pub mod Sets
 use Rattle.std.specs.Prelude.{◌≡◌, ◌≢◌, ℕ, ◌<◌, List, [], ◌++◌, length, Result, Ok, Err}
 use Rattle.std.proofs.Common.{get_or}
 use Rattle.zcert.specs.declared.error.CertError.{CertError}

@@ -2,8 +2,11 @@ pub mod Numbers
 pub mod Certificate
 pub mod Steps
 pub mod Format
+pub mod Lists
 pub mod Turns
 pub mod Begun
+pub mod Coming
+pub mod Unfinished
 pub mod FormatLaw
 pub mod Spelling
 pub mod Reading

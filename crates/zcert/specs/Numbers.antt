@@ -20,6 +20,12 @@ pub data Number : Type 0 where
   Height : Number
   -- an end of an interval, by its unsigned reading
   End : Number
+  -- whether a set is an interval or a list
+  Kind : Number
+  -- how many words a list has
+  WordCount : Number
+  -- a word of a list, by its unsigned reading
+  Word : Number
 
 -- how many bytes a number has
 abbrev pub width : Number → ℕ
@@ -39,6 +45,9 @@ width InstructionAddress = 4
 width RoutineNumber = 2
 width Height = 1
 width End = 2
+width Kind = 1
+width WordCount = 1
+width Word = 2
 
 -- the bytes of a number
 abbrev pub number : Number → ℕ → List ℕ

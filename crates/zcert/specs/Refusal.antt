@@ -20,6 +20,7 @@ number_of errors.Order = 5
 number_of errors.EmptyInterval = 6
 number_of errors.Limit = 7
 number_of errors.OutOfMemory = 8
+number_of errors.ListForm = 9
 
 -- Builders refuse as readers do.
 module _ {V : Type 0} (format : Format V) where

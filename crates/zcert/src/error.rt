@@ -19,7 +19,7 @@ pub enum CertError {
     Truncated,
     /// K4: bytes follow the last field.
     Trailing,
-    /// K5: ranges or addresses that do not rise, a range that ends before its first byte, or a field out of turn.
+    /// K5: ranges, addresses or words of a list that do not rise, a range that ends before its first byte, or a field out of turn.
     Order,
     /// K6: an interval whose lower end is above its upper end.
     EmptyInterval,
@@ -27,6 +27,8 @@ pub enum CertError {
     Limit,
     /// K8: a growth was refused.
     OutOfMemory,
+    /// K9: no list: a kind above 1, a count outside 2 to 64, or an interval spelled as a list.
+    ListForm,
 }
 
 impl CertError {
@@ -45,6 +47,7 @@ impl CertError {
             CertError::EmptyInterval => 6,
             CertError::Limit => 7,
             CertError::OutOfMemory => 8,
+            CertError::ListForm => 9,
         }
     }
 
@@ -59,6 +62,7 @@ impl CertError {
             CertError::EmptyInterval => "an interval is empty",
             CertError::Limit => "a number is above its limit",
             CertError::OutOfMemory => "out of memory",
+            CertError::ListForm => "a list is not spelled as one",
         }
     }
 }

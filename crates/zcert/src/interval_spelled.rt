@@ -23,7 +23,7 @@ pub enum Begun {
 }
 
 // The interval between two ends, which are words without sign.
-fn interval_between(lo: u16, hi: u16) -> Result<Interval, CertError>
+pub(crate) fn interval_between(lo: u16, hi: u16) -> Result<Interval, CertError>
     ensures { result ≡ nonempty (interval_of (cast_signed w16 lo) (cast_signed w16 hi)) }
 {
     match Interval::new(lo.cast_signed(), hi.cast_signed()) {

@@ -4,6 +4,7 @@
 mod builder;
 mod building;
 mod certificate;
+mod coming;
 mod contents;
 mod error;
 mod field;
@@ -19,6 +20,7 @@ mod stage;
 mod steps;
 mod stream;
 mod turns;
+mod values_spelled;
 mod writing;
 
 pub use builder::CertBuilder;
@@ -26,6 +28,7 @@ pub use certificate::Certificate;
 pub use error::CertError;
 pub use field::{Field, Header, Turn};
 pub use laws::{builders_refuse_as_readers, fields_make_certificates, spellings_are_read};
+pub use limits::LIST_VERSION;
 pub use parts::{Instruction, Range, Routine};
 pub use reading::read;
 pub use spelled::Spelled;

@@ -6,6 +6,9 @@ pub const MAGIC: u32 = 0x5A50_4343;
 /// The version of the format in which a set of values is an interval.
 pub const VERSION: u8 = 1;
 
+/// The version of the format in which it is an interval or a list.
+pub const LIST_VERSION: u8 = 2;
+
 /// How many globals there are, from variable 16 on (Z 6.2).
 pub const GLOBALS: u8 = 240;
 
@@ -38,6 +41,15 @@ pub const END_BYTES: usize = 2;
 
 /// The bytes of an interval.
 pub const VALUE_BYTES: usize = 2 * END_BYTES;
+
+/// The bytes of the kind of a set.
+pub const KIND_BYTES: usize = 1;
+
+/// The bytes of the count of a list's words.
+pub const COUNT_BYTES: usize = 1;
+
+/// The bytes of a word of a list.
+pub const WORD_BYTES: usize = 2;
 
 /// The bytes of a routine before its result.
 pub const ROUTINE_BYTES: usize = 5;

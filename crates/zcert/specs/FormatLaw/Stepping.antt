@@ -8,7 +8,7 @@ use Rattle.byteorder.specs.Endian.{big_bytes, big_number}
 use Rattle.byteorder.specs.Numbers.{big_from-take, big_from-lt, big_number-reads_back, length-bytes_high_first}
 use Rattle.zcert.specs.declared.error.CertError.{CertError}
 use Rattle.zcert.specs.declared.error.CertError.TheVariants.{Truncated, OutOfMemory}
-use Rattle.zcert.specs.Numbers.{Number, Magic, Version, Release, Checksum, LoadedLength, RangeCount, RangeFirst, RangeLast, RoutineCount, RoutineAddress, LocalCount, InstructionCount, InstructionAddress, RoutineNumber, Height, End, width, number, HasRoom}
+use Rattle.zcert.specs.Numbers.{Number, Magic, Version, Release, Checksum, LoadedLength, RangeCount, RangeFirst, RangeLast, RoutineCount, RoutineAddress, LocalCount, InstructionCount, InstructionAddress, RoutineNumber, Height, End, Kind, WordCount, Word, width, number, HasRoom}
 use Rattle.zcert.specs.Steps.{◌>>=◌, need, sized_at, number_at, serial_at}
 use Rattle.zcert.specs.FormatLaw.{IsBytes, Takes, IsPlain}
 
@@ -98,6 +98,9 @@ wide InstructionAddress = wide_long
 wide RoutineNumber = wide_word
 wide Height = wide_byte
 wide End = wide_word
+wide Kind = wide_byte
+wide WordCount = wide_byte
+wide Word = wide_word
 
 pub number_takes : (kind : Number) (bytes : List ℕ) (n : ℕ) (rest : List ℕ) → IsBytes bytes → number_at kind bytes ≡ Ok (n, rest) → Takes bytes (number kind n) rest × HasRoom kind n
 number_takes kind bytes n rest fits e =
