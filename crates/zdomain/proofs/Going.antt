@@ -1,5 +1,5 @@
 -- A word and those behind it.
-use Rattle.std.proofs.Common.{◌≡◌, ℕ, zero, suc, ◌+◌, ◌-◌, ◌%◌, ◌<◌, ◌≤◌, arith, subst}
+use Rattle.std.proofs.Common.{ℕ, zero, suc, ◌+◌, ◌-◌, ◌%◌, ◌<◌, ◌≤◌, arith, subst}
 
 -- what holds of a word, and of so many from the next one on, holds of all
 pub from_first : (P : ℕ → Type 0) (word more : ℕ) → word < 65536 → 0 < more → P word → ((k : ℕ) → k ≤ more - 1 → P (((word + 1) % 65536 + k) % 65536)) → (k : ℕ) → k ≤ more → P ((word + k) % 65536)

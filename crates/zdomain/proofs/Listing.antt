@@ -1,6 +1,5 @@
 -- A list that was tested is the list that is due.
-use Rattle.std.proofs.Common.{◌≡◌, ℕ, Bool, true, false, Option, Some, List, ap, subst, sym, refl}
-use Rattle.std.specs.Prelude.{T}
+use Rattle.std.proofs.Common.{◌≡◌, ℕ, Bool, true, false, Option, Some, List, ap, subst, refl}
 use Rattle.std.proofs.Math.Dec.{T_prop}
 use Rattle.zdomain.specs.declared.interval.Interval.{Interval}
 use Rattle.zdomain.specs.declared.values.Values.{Values}

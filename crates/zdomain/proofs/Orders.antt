@@ -1,5 +1,5 @@
 -- Lists that rise, side by side.
-use Rattle.std.proofs.Common.{◌≡◌, ◌≢◌, ℕ, zero, suc, ◌+◌, ◌-◌, ◌%◌, ◌<◌, ◌≤◌, Bool, true, false, ◌&&◌, ◌||◌, ◌==◌, if◌then◌else◌, List, [], ◌∷◌, length, refl, sym, ap, ◌∙◌, subst, arith}
+use Rattle.std.proofs.Common.{◌≡◌, ◌≢◌, ℕ, suc, ◌+◌, ◌-◌, ◌%◌, ◌<◌, ◌≤◌, Bool, true, false, ◌&&◌, ◌||◌, ◌==◌, if◌then◌else◌, List, [], ◌∷◌, refl, sym, ◌∙◌, subst, arith}
 use Rattle.std.specs.Prelude.{◌↔◌, IsTrue, nat_lt}
 use Rattle.std.specs.List.{filter}
 use Rattle.std.proofs.lemmas.Bool.{eqb-true, eqb-false, ltb-true, ltb-false}
@@ -7,7 +7,7 @@ use Rattle.zdomain.specs.Few.{turned, is_among, rises, rises_behind}
 use Rattle.std.proofs.Common.{get_or}
 use Rattle.zdomain.specs.declared.values.Scattered.{Scattered}
 use Rattle.zdomain.specs.declared.values.Values.TheVariants.{List as AList}
-use Rattle.zdomain.specs.Domain.{In, Within}
+use Rattle.zdomain.specs.Domain.{Within}
 use Rattle.zdomain.specs.Sides.{are_among, shared, has_row}
 use Rattle.zdomain.specs.Values.{values_operations}
 use Rattle.zdomain.proofs.Going.{from_first, from_all}
@@ -84,8 +84,7 @@ among_small (x ∷ xs) v small h = among_cons x v xs (λ e. let first = small 0 
 -- as sets
 pub within_is : (s t : Scattered) → ((i : ℕ) → get_or s.few i 0 < 65536) → rises s.few ≡ true → rises t.few ≡ true → IsTrue (are_among s.few t.few) ↔ Within values_operations (AList s) (AList t)
 within_is s t small r q =
-    let is = under_is s.few t.few r q in
-    (
+    let is = under_is s.few t.few r q in (
       λ e x h. record { word = h.word; member = is.0 e x h.member },
       λ w. is.1 (λ x h. (w x (record { word = among_small s.few x small h; member = h })).member),
     )
@@ -164,8 +163,7 @@ row_is (x ∷ xs) word more p fits r = by (λ w m q f. row_is xs w m q f (rest_r
     by : ((w m : ℕ) → w < 65536 → turned w + m < 65536 → (IsTrue (has_row xs w m) → HasRow xs w m) × (HasRow xs w m → IsTrue (has_row xs w m))) → (b c d : Bool) → nat_lt (turned x) (turned word) ≡ b → (x == word) ≡ c → (more == 0) ≡ d → (IsTrue (if b then has_row xs word more else (if c then (if d then true else has_row xs ((word + 1) % 65536) (more - 1)) else false)) → HasRow (x ∷ xs) word more) × (HasRow (x ∷ xs) word more → IsTrue (if b then has_row xs word more else (if c then (if d then true else has_row xs ((word + 1) % 65536) (more - 1)) else false)))
     by again true c d e f g =
         let less = ltb-true (turned x) (turned word) e in
-        let rest = again word more p fits in
-        (
+        let rest = again word more p fits in (
           λ t k most. among_behind x ((word + k) % 65536) xs (rest.0 t k most),
           λ all. rest.1 (λ k most. behind_it ((word + k) % 65536) (let place = place_of_next word k p (omega (arith, fits, most)) in omega (arith, place, less)) (all k most)),
         )
@@ -177,8 +175,7 @@ row_is (x ∷ xs) word more p fits r = by (λ w m q f. row_is xs w m q f (rest_r
         let same = eqb-true x word f in
         let some : 0 < more = (let other = eqb-false more 0 g in omega (arith, other)) in
         let next = next_place word (omega (arith, fits, some)) in
-        let rest = again ((word + 1) % 65536) (more - 1) (omega arith) (omega (arith, next, fits, some)) in
-        (
+        let rest = again ((word + 1) % 65536) (more - 1) (omega arith) (omega (arith, next, fits, some)) in (
           λ t. from_first (λ v. IsTrue (is_among v (x ∷ xs))) word more p some (subst (λ (w : ℕ). IsTrue (is_among w (x ∷ xs))) same (among_front x xs)) (λ k most. among_behind x (((word + 1) % 65536 + k) % 65536) xs (rest.0 t k most)),
           λ all. rest.1 (λ k most. behind_it (((word + 1) % 65536 + k) % 65536) (let place = place_of_next ((word + 1) % 65536) k (omega arith) (omega (arith, next, fits, most, some)) in omega (arith, place, next, same)) (from_all (λ v. IsTrue (is_among v (x ∷ xs))) word more p some all k most)),
         )

@@ -1,5 +1,5 @@
 -- The words of an interval, one behind the other.
-use Rattle.std.proofs.Common.{◌≡◌, ℕ, ◌+◌, ◌-◌, ◌%◌, ◌<◌, ◌≤◌, Bool, ℤ, pos, negsuc, ◌≤ℤ◌, FitsSigned, arith, refl, sym, subst, ◌∙◌}
+use Rattle.std.proofs.Common.{◌≡◌, ℕ, ◌+◌, ◌-◌, ◌%◌, ◌<◌, ◌≤◌, Bool, pos, negsuc, ◌≤ℤ◌, FitsSigned, arith, subst, ◌∙◌}
 use Rattle.std.specs.Prelude.{IsTrue, ◌↔◌}
 use Rattle.std.specs.Int.{w16, int_min, int_max}
 use Rattle.std.proofs.lemmas.Int.{ints, clamps}
@@ -7,7 +7,7 @@ use Rattle.zword.specs.Binary.{signed, word_of}
 use Rattle.zdomain.specs.declared.interval.Interval.{Interval}
 use Rattle.zdomain.specs.declared.values.Values.{Values}
 use Rattle.zdomain.specs.declared.values.Values.TheVariants.{Run}
-use Rattle.zdomain.specs.Domain.{In, Within}
+use Rattle.zdomain.specs.Domain.{Within}
 use Rattle.zdomain.specs.Interval.{interval_operations}
 use Rattle.zdomain.specs.IntervalLaw.Lying.{Has, read_back}
 use Rattle.zdomain.specs.Few.{turned}
@@ -40,16 +40,19 @@ module _ (i : Interval) (a b : ℕ) (low : signed a ≡ i.lo) (high : signed b �
       let e = ends in
       let word : (a + k) % 65536 < 65536 = omega arith in
       let place = place_of_next a b k p q e most in
-      record { word = word; member = (
-        rw (← low) (order a ((a + k) % 65536) p word (omega (arith, place))),
-        rw (← high) (order ((a + k) % 65536) b word q (omega (arith, place, most, e))),
-      ) }
+      record {
+        word = word;
+        member = (
+          rw (← low) (order a ((a + k) % 65536) p word (omega (arith, place))),
+          rw (← high) (order ((a + k) % 65536) b word q (omega (arith, place, most, e))),
+        );
+      }
 
   pub each_within : (set : Values) (r : Bool) → IsTrue r ↔ ((k : ℕ) → k ≤ turned b - turned a → IsTrue (has set ((a + k) % 65536))) → IsTrue r ↔ Within values_operations (Run i) set
   each_within set r e = (
     λ t x h.
-      let in_run = has_run i x h in let r = reached x in_run in
-      record { word = h.word; member = subst (λ (y : ℕ). IsTrue (has set y)) (behind a x p h.word r.0) (e.0 t (turned x - turned a) (omega (arith, r.1))) },
+        let in_run = has_run i x h in let r = reached x in_run in
+        record { word = h.word; member = subst (λ (y : ℕ). IsTrue (has set y)) (behind a x p h.word r.0) (e.0 t (turned x - turned a) (omega (arith, r.1))) },
     λ w. e.1 (λ k most. (w ((a + k) % 65536) (run_has i ((a + k) % 65536) (steps k most))).member),
   )
 

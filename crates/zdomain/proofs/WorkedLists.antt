@@ -1,10 +1,10 @@
 -- Values of the definitions of lists, computed.
-use Rattle.std.proofs.Common.{◌≡◌, ℕ, ℤ, pos, negsuc, Bool, true, false, Option, Some, None, List, [], ◌∷◌, option_map, refl}
+use Rattle.std.proofs.Common.{◌≡◌, ℕ, pos, negsuc, Bool, true, false, Option, Some, None, List, [], ◌∷◌, option_map, refl}
 use Rattle.zdomain.specs.declared.interval.Interval.{Interval}
 use Rattle.zdomain.specs.declared.values.Values.{Values}
 use Rattle.zdomain.specs.declared.values.Values.TheVariants.{Run, List as AList}
 use Rattle.zword.specs.declared.unary.UnaryOp.TheVariants.{Not}
-use Rattle.zword.specs.declared.binary.BinaryOp.TheVariants.{Add, Mul, Div, Mod, And}
+use Rattle.zword.specs.declared.binary.BinaryOp.TheVariants.{Add, Div, Mod}
 use Rattle.zword.specs.declared.question.Question.TheVariants.{Equal, Less}
 use Rattle.zdomain.specs.Few.{turned, words_from, place_in, with_words, gathered, rises_behind, last_behind, is_scattered, first_of, last_of}
 use Rattle.zdomain.specs.Interval.{point}

@@ -1,5 +1,5 @@
 -- A few words, in the order of their signed readings, and how they are gathered (own).
-use Rattle.std.specs.Prelude.{◌≡◌, ℕ, zero, suc, ◌+◌, ◌-◌, ◌%◌, ◌<◌, ◌≤◌, Bool, true, false, ◌&&◌, not, ◌==◌, nat_lt, nat_le, if◌then◌else◌, min, max, List, [], ◌∷◌, length, Option, Some, None, option_map, MatchOption, T, insert}
+use Rattle.std.specs.Prelude.{ℕ, zero, suc, ◌+◌, ◌-◌, ◌%◌, Bool, true, ◌&&◌, ◌==◌, nat_lt, nat_le, if◌then◌else◌, min, max, List, [], ◌∷◌, length, Option, Some, None, T, insert}
 use Rattle.std.specs.List.{list_any}
 
 -- where a word stands in the order of signed readings, which begins with 32768 and ends with 32767

@@ -1,9 +1,9 @@
 -- What is gathered is kept. A part of the proof of the law, and nothing to believe.
-use Rattle.std.proofs.Common.{◌≡◌, ℕ, zero, suc, ◌+◌, ◌-◌, ◌%◌, ◌<◌, ◌≤◌, Bool, true, false, ◌&&◌, ◌||◌, if◌then◌else◌, Option, Some, None, List, [], ◌∷◌, length, arith, refl, sym, ◌∙◌, ap}
-use Rattle.std.specs.Prelude.{MatchOption, IfSome, IsTrue, option_map, ◌==◌, nat_lt, nat_le, min, max, insert}
+use Rattle.std.proofs.Common.{◌≡◌, ℕ, zero, suc, ◌+◌, ◌%◌, ◌<◌, ◌≤◌, Bool, true, false, ◌&&◌, ◌||◌, if◌then◌else◌, Option, Some, None, List, [], ◌∷◌, length, arith, refl}
+use Rattle.std.specs.Prelude.{IfSome, IsTrue, ◌==◌, nat_lt, insert}
 use Rattle.std.proofs.lemmas.Bool.{eqb-true, eqb-false, ltb-true, ltb-false}
 use Rattle.zdomain.specs.Domain.{IsGathered}
-use Rattle.zdomain.specs.Few.{turned, is_among, words_from, place_in, put, added, Gathering, none_gathered, with_word, with_words, rises_behind, rises, last_behind, first_of, last_of}
+use Rattle.zdomain.specs.Few.{turned, is_among, words_from, place_in, put, added, Gathering, with_word, with_words, rises_behind, last_behind}
 
 or_left : (a b : Bool) → a ≡ true → a || b ≡ true
 or_left true b e = refl

@@ -1,6 +1,6 @@
 -- How a few words are kept: zeros behind them fill their room.
 use Rattle.std.specs.Prelude.{◌≡◌, ℕ, ◌≤◌, ◌-◌, ◌++◌, List, length, take, drop, replicate}
-use Rattle.std.proofs.Common.{zero, suc, arith, refl, take-append-drop, length-take-le, length-append}
+use Rattle.std.proofs.Common.{arith, refl, take-append-drop, length-take-le, length-append}
 use Rattle.std.proofs.lemmas.List.{drop-replicate, length-replicate}
 use Rattle.std.proofs.Math.Seq.{drop-append_seam, take-append_seam}
 

@@ -1,20 +1,19 @@
 -- Sets of words that are intervals or short lists (own).
-use Rattle.std.specs.Prelude.{◌≡◌, ℕ, zero, suc, ◌+◌, ◌-◌, ◌%◌, Bool, true, false, ◌&&◌, if◌then◌else◌, Option, Some, None, unwrap_or, List, [], ◌∷◌, ◌++◌, length, map, T, IsTrue, int_le, nat_lt, nat_le, refl}
+use Rattle.std.specs.Prelude.{◌≡◌, ℕ, ◌+◌, ◌-◌, ◌%◌, Bool, true, false, ◌&&◌, if◌then◌else◌, Option, Some, None, unwrap_or, List, [], ◌∷◌, ◌++◌, map, T, IsTrue, int_le, nat_lt, refl}
 use Rattle.std.specs.List.{filter}
 use Rattle.std.proofs.Common.{sym, subst}
-use Rattle.zword.specs.Binary.{signed, word_of, apply, is_defined}
+use Rattle.zword.specs.Binary.{signed, apply, is_defined}
 use Rattle.zword.specs.Unary.{transform}
 use Rattle.zword.specs.declared.unary.UnaryOp.{UnaryOp}
 use Rattle.zword.specs.declared.unary.UnaryOp.TheVariants.{Not, Keep}
 use Rattle.zword.specs.declared.binary.BinaryOp.{BinaryOp}
 use Rattle.zword.specs.declared.question.Question.{Question}
 use Rattle.zdomain.specs.declared.interval.Interval.{Interval}
-use Rattle.zdomain.specs.declared.values.Scattered.{Scattered}
 use Rattle.zdomain.specs.declared.values.Values.{Values}
 use Rattle.zdomain.specs.declared.values.Values.TheVariants.{Run, List as AList}
 use Rattle.zdomain.specs.Domain.{SetOperations}
 use Rattle.zdomain.specs.Interval as interval
-use Rattle.zdomain.specs.Few.{turned, is_among, words_from, Gathering, gathered, is_scattered, IsScattered, first_of, last_of}
+use Rattle.zdomain.specs.Few.{turned, is_among, words_from, Gathering, gathered, is_scattered, first_of, last_of}
 
 -- the words from one to another
 abbrev pub between : ℕ → ℕ → Interval

@@ -1,17 +1,15 @@
 -- What an operation on sets of lists answers contains what it has to. A part of the proof, and nothing to believe.
-use Rattle.std.proofs.Common.{◌≡◌, ℕ, zero, suc, ◌+◌, ◌-◌, ◌%◌, ◌<◌, ◌≤◌, Bool, true, false, ◌&&◌, if◌then◌else◌, Option, Some, None, List, [], ◌∷◌, ◌++◌, length, map, ℤ, pos, negsuc, ◌≤ℤ◌, int_le, arith, refl, sym, ◌∙◌, ap, subst}
+use Rattle.std.proofs.Common.{◌≡◌, ℕ, ◌+◌, ◌-◌, ◌%◌, ◌<◌, ◌≤◌, Bool, true, false, ◌&&◌, if◌then◌else◌, Option, Some, None, List, [], ◌∷◌, ◌++◌, length, map, ℤ, pos, negsuc, ◌≤ℤ◌, int_le, arith, refl, subst}
 use Rattle.std.specs.List.{filter}
-use Rattle.std.specs.Prelude.{MatchOption, IfSome, IsTrue, T, nat_lt, nat_le, unwrap_or}
-use Rattle.std.specs.Int.{w16, int_min, int_max}
+use Rattle.std.specs.Prelude.{MatchOption, IfSome, IsTrue, T, nat_lt, nat_le}
+use Rattle.std.specs.Int.{int_min, int_max}
 use Rattle.std.proofs.lemmas.Int.{ints, clamps}
-use Rattle.std.proofs.lemmas.Bool.{ltb-true, ltb-false}
+use Rattle.std.proofs.lemmas.Bool.{ltb-true}
 use Rattle.zword.specs.Binary.{signed, word_of, apply, is_defined}
 use Rattle.zword.specs.Unary.{transform}
 use Rattle.zword.specs.declared.unary.UnaryOp.{UnaryOp}
 use Rattle.zword.specs.declared.unary.UnaryOp.TheVariants.{Not, Keep}
 use Rattle.zword.specs.declared.binary.BinaryOp.{BinaryOp}
-use Rattle.zword.specs.declared.question.Question.{Question}
-use Rattle.zword.specs.Question.{holds}
 use Rattle.zword.proofs.Small.{applied_small, transformed_small}
 use Rattle.zdomain.specs.declared.interval.Interval.{Interval}
 use Rattle.zdomain.specs.declared.values.Scattered.{Scattered}
@@ -20,10 +18,10 @@ use Rattle.zdomain.specs.declared.values.Values.TheVariants.{Run, List as AList}
 use Rattle.zdomain.specs.Domain.{AreSound, In, IsGathered}
 use Rattle.zdomain.specs.Interval as interval
 use Rattle.zdomain.specs.IntervalLaw.{interval_sound}
-use Rattle.zdomain.specs.IntervalLaw.Lying.{Has, le_true, packed_has, between_has, lowest_has, highest_has, any_has, point_has}
-use Rattle.zdomain.specs.Few.{turned, is_among, words_from, Gathering, none_gathered, gathered, is_scattered, IsScattered, rises, rises_behind, first_of, last_of}
+use Rattle.zdomain.specs.IntervalLaw.Lying.{Has, le_true, packed_has, between_has, lowest_has, highest_has}
+use Rattle.zdomain.specs.Few.{turned, is_among, words_from, Gathering, none_gathered, gathered, is_scattered, rises, first_of, last_of}
 use Rattle.zdomain.specs.FewLaw.{among_cons, among_front, among_behind, all_new, first_least, last_most, from_has}
-use Rattle.zdomain.specs.Values.{has, lowest, highest, hull, between, run_members, members, list_where, list_or, packed, is_empty, found, row, rows, unary_few, unary, binary_few, binary, join_few, join, run_if, meet, both, narrow_to, narrow, known, values_operations}
+use Rattle.zdomain.specs.Values.{has, lowest, highest, hull, run_members, members, list_where, list_or, packed, is_empty, found, row, rows, unary_few, unary, binary_few, join_few, run_if, meet, both, narrow_to, known, values_operations}
 
 -- the set has the word
 abbrev Lists : Values → ℕ → Type 0
@@ -129,8 +127,8 @@ members_has (Run i) words x e h =
     let low = low_small i x (has_run i x h) in
     let high = high_small i x (has_run i x h) in
     run_lists (lowest (Run i)) (highest (Run i)) x words low high h.word
-      (turned_le (lowest (Run i)) x low h.word (lowest_lies (Run i) x h))
-      (turned_le x (highest (Run i)) h.word high (highest_lies (Run i) x h)) e
+    (turned_le (lowest (Run i)) x low h.word (lowest_lies (Run i) x h))
+    (turned_le x (highest (Run i)) h.word high (highest_lies (Run i) x h)) e
 members_has (AList s) words x e h = let same : s.few ≡ words = cc in subst (λ (ws : List ℕ). IsTrue (is_among x ws)) same h.member
 
 -- ---- what was gathered
@@ -202,8 +200,8 @@ among_rows : (op : BinaryOp) (xs ys : List ℕ) (x y : ℕ) → is_defined op y 
 unfolding rows
 among_rows op [] ys x y defined h k = absurd cc
 among_rows op (z ∷ zs) ys x y defined h k = among_cons z x zs
-  (λ e. among_left (row op z ys) (rows op zs ys) (apply op x y) (rw e (among_row op x ys y defined k)))
-  (λ r. among_right (row op z ys) (rows op zs ys) (apply op x y) (among_rows op zs ys x y defined r k)) h
+    (λ e. among_left (row op z ys) (rows op zs ys) (apply op x y) (rw e (among_row op x ys y defined k)))
+    (λ r. among_right (row op z ys) (rows op zs ys) (apply op x y) (among_rows op zs ys x y defined r k)) h
 
 binary_by : (op : BinaryOp) (a b : Values) (x y : ℕ) (few others : Option (List ℕ)) → members a ≡ few → members b ≡ others → Lists a x → Lists b y → is_defined op y ≡ true → Lists (binary_few op a b few others) (apply op x y)
 binary_by op a b x y (Some xs) (Some ys) e f i j defined = gathered_lists _ _ (applied_small op x y i.word j.word) (among_rows op xs ys x y defined (members_has a xs x e i) (members_has b ys y f j))

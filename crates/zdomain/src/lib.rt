@@ -17,6 +17,6 @@ pub use domain::Domain;
 pub use few::{Few, MOST_FEW, turned};
 pub use gathered::Gathered;
 pub use interval::Interval;
-pub use marks::Marks;
 pub use interval_domain::addresses_are_words;
+pub use marks::Marks;
 pub use values::{Scattered, Values};

@@ -11,8 +11,7 @@ use crate::gathered::Gathered;
 /// The elements of a list are words.
 pub(crate) fn are_words(words: &[u16])
     ensures { (i : ℕ) → get_or words.now i 0 < 65536 }
-{
-}
+{}
 
 /// Whether each word of a list is in another.
 #[tactic(auto, unfolding(crate::specs::Sides::are_among))]

@@ -98,7 +98,13 @@ impl Domain for Values {
     }
 
     fn binary(operation: BinaryOp, first: Values, second: Values) -> Values {
-        binary_few(operation, &first, &second, members(&first), members(&second))
+        binary_few(
+            operation,
+            &first,
+            &second,
+            members(&first),
+            members(&second),
+        )
     }
 
     fn narrow(
@@ -284,7 +290,10 @@ fn members(set: &Values) -> Option<Few>
     ensures { result ≡ members set.now }
 {
     match set {
-        Values::Run(run) => run_members(run.lowest(), turned(run.highest()).saturating_sub(turned(run.lowest()))),
+        Values::Run(run) => run_members(
+            run.lowest(),
+            turned(run.highest()).saturating_sub(turned(run.lowest())),
+        ),
         Values::List(list) => Some(list.few),
     }
 }
@@ -369,7 +378,11 @@ fn is_run_within(run: Interval, set: &Values) -> bool
         Values::Run(other) => run.is_within(*other),
         Values::List(list) => {
             let least = run.lowest();
-            has_row(list.few.as_slice(), least, turned(run.highest()).saturating_sub(turned(least)))
+            has_row(
+                list.few.as_slice(),
+                least,
+                turned(run.highest()).saturating_sub(turned(least)),
+            )
         }
     }
 }

@@ -1,4 +1,4 @@
-use Rattle.std.proofs.Common.{◌≡◌, ℕ, ◌-◌, List, length, take, drop, ap, ◌∙◌}
+use Rattle.std.proofs.Common.{◌-◌, length, take, drop, ap, ◌∙◌}
 use Rattle.zdomain.specs.Few.{Gathering, with_words}
 use Rattle.zdomain.specs.Values.{rows}
 use Rattle.zdomain.proofs.Gathering.{row_by_row}

@@ -1,4 +1,3 @@
-use Rattle.std.proofs.Common.{length}
 use Rattle.zdomain.proofs.values_domain.+push_from.Given as goal
 
 abbrev pub decreases-push_from : goal.decreases-push_from

@@ -1,4 +1,4 @@
-use Rattle.std.proofs.Common.{refl, sym, ◌∙◌}
+use Rattle.std.proofs.Common.{refl}
 use Rattle.zdomain.proofs.values_domain.binary_few.Goals as goal
 
 pub returns-in-Some-Some : goal.returns-in-Some-Some

@@ -1,5 +1,4 @@
-use Rattle.std.proofs.Common.{◌≡◌, ap, ◌∙◌}
-use Rattle.zdomain.specs.Few.{Gathering}
+use Rattle.std.proofs.Common.{ap, ◌∙◌}
 use Rattle.zdomain.specs.Values.{found}
 use Rattle.zdomain.proofs.values_domain.common.Goals as goal
 

@@ -1,8 +1,8 @@
-use Rattle.std.proofs.Common.{rules, ◌≡◌, ◌<◌, ◌≤◌, ◌+◌, ◌-◌, ◌%◌, ℕ, List, FitsSigned, ap, sym, ◌∙◌, arith}
+use Rattle.std.proofs.Common.{rules, ◌≡◌, ◌<◌, ◌+◌, ◌-◌, ℕ, List, FitsSigned, ap, ◌∙◌, arith}
 use Rattle.std.specs.Int.{w16}
 use Rattle.std.specs.Prelude.{◌↔◌, IsTrue}
 use Rattle.zword.specs.Binary.{signed}
-use Rattle.zdomain.specs.Few.{turned, is_among}
+use Rattle.zdomain.specs.Few.{turned}
 use Rattle.zdomain.specs.Sides.{has_row}
 use Rattle.zdomain.specs.declared.values.Values.TheVariants.{List as AList}
 use Rattle.zdomain.specs.ValuesLaw.{rising}

@@ -1,4 +1,4 @@
-use Rattle.std.proofs.Common.{refl, sym, ap, ◌∙◌}
+use Rattle.std.proofs.Common.{refl, sym, ap}
 use Rattle.zdomain.specs.Few.{none_gathered}
 use Rattle.zdomain.specs.Values.{packed}
 use Rattle.zdomain.proofs.Gathering.{one_by_one}

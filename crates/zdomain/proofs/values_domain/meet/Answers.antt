@@ -1,4 +1,4 @@
-use Rattle.std.proofs.Common.{refl, sym, ◌∙◌}
+use Rattle.std.proofs.Common.{refl}
 use Rattle.zdomain.proofs.values_domain.meet.Goals as goal
 
 pub returns-in-Run-List : goal.returns-in-Run-List

@@ -1,4 +1,4 @@
-use Rattle.std.proofs.Common.{◌≡◌, ℕ, List, ap, sym, ◌∙◌, refl}
+use Rattle.std.proofs.Common.{◌≡◌, ℕ, List, ap, ◌∙◌, refl}
 use Rattle.std.specs.List.{filter}
 use Rattle.zdomain.specs.declared.values.Values.TheVariants.{List as AList}
 use Rattle.zdomain.specs.Few.{is_among, with_words, gathered, Gathering}

@@ -1,4 +1,4 @@
-use Rattle.std.proofs.Common.{refl, sym, ◌∙◌}
+use Rattle.std.proofs.Common.{refl}
 use Rattle.zdomain.proofs.values_domain.unary_few.Goals as goal
 
 pub returns-in-Some : goal.returns-in-Some

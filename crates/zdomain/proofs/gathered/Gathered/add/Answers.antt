@@ -1,4 +1,4 @@
-use Rattle.std.proofs.Common.{◌≡◌, ℕ, Bool, List, sym, ap, ◌∙◌, ◌||◌, ◌==◌}
+use Rattle.std.proofs.Common.{ℕ, Bool, List, sym, ap, ◌∙◌, ◌||◌, ◌==◌}
 use Rattle.zdomain.specs.Few.{is_among}
 use Rattle.zdomain.proofs.Among.{among_insert}
 use Rattle.zdomain.proofs.gathered.Gathered.add.Goals as goal
