@@ -1,13 +1,13 @@
 -- What is asked of the place behind a call, whatever the routine gives.
-use Rattle.std.proofs.Common.{◌≡◌, ◌↔◌, ℕ, zero, suc, ◌-◌, ◌<◌, ◌≤◌, Bool, true, false, List, [], ◌∷◌, Option, Some, None, refl, sym, subst, arith}
-use Rattle.std.specs.Prelude.{◌==◌, nat_lt, if◌then◌else◌, IfSome, IsTrue, slice_get, slice_set}
+use Rattle.std.proofs.Common.{◌≡◌, ◌↔◌, ℕ, zero, suc, ◌-◌, ◌<◌, Bool, true, false, List, [], ◌∷◌, Option, Some, None, refl, subst, arith}
+use Rattle.std.specs.Prelude.{◌==◌, nat_lt, if◌then◌else◌, slice_get, slice_set}
 use Rattle.std.specs.List.{AllZip}
 use Rattle.std.proofs.lemmas.Option.{same_Some}
 use Rattle.zdomain.specs.Domain.{In, SetOperations, Within}
 use Rattle.zflow.specs.Transfer.{Shape, with_result}
 use Rattle.zrule.specs.Claims.{Claims, Entry}
 use Rattle.zrule.specs.Edges.{IsNextAbove, stated_for}
-use Rattle.zrule.specs.Rules.{Covers, EachCallee, Leads, result_at}
+use Rattle.zrule.specs.Rules.{EachCallee, Leads, result_at}
 use Rattle.zrule.proofs.Together.{leads_narrower}
 
 module _ {V : Type 0} (o : SetOperations V) where

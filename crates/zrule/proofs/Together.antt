@@ -1,7 +1,6 @@
 -- What holds of a block holds of each routine in it.
-use Rattle.std.proofs.Common.{◌≡◌, ◌⊎◌, inl, inr, ℕ, zero, suc, ◌+◌, ◌-◌, ◌<◌, ◌≤◌, arith, subst, sym, Bool, true, false, List, [], ◌∷◌, ◌++◌, ◌*◌, ◌/◌, length, Option, Some, None, refl, ap, ◌∙◌}
-use Rattle.std.specs.Prelude.{◌==◌, nat_lt, if◌then◌else◌, IfSome, MatchOption, slice_get, slice_set}
-use Rattle.std.specs.Bool.{MatchBool}
+use Rattle.std.proofs.Common.{◌≡◌, ◌⊎◌, inl, inr, ℕ, zero, suc, ◌+◌, ◌-◌, ◌<◌, ◌≤◌, arith, subst, sym, Bool, true, false, List, [], ◌∷◌, ◌++◌, ◌*◌, length, Option, Some, None, refl, ap, ◌∙◌}
+use Rattle.std.specs.Prelude.{◌==◌, nat_lt, if◌then◌else◌, IfSome, slice_get, slice_set}
 use Rattle.std.specs.List.{AllZip}
 use Rattle.zstory.specs.LoadedStory.{LoadedStory}
 use Rattle.std.proofs.Math.Nat.{mul-le-mul_left, mul-suc}

@@ -1,4 +1,4 @@
-use Rattle.std.proofs.Common.{rules, arith, subst, sym, refl, ◌*◌, ◌+◌, ◌<◌, ◌≤◌}
+use Rattle.std.proofs.Common.{rules, arith, subst, sym, refl, ◌*◌, ◌<◌, ◌≤◌}
 use Rattle.zrule.specs.Blocks.{AreInTurn}
 use Rattle.zrule.specs.Claims.{claims_of}
 use Rattle.zrule.proofs.Together.{block_inside, one_more_block}
