@@ -22,6 +22,7 @@ pub mod Stepping
 pub mod Called
 mod Calling
 mod Together
+mod Behind
 mod Supplied
 mod Pieces
 pub mod Opening

@@ -1,20 +1,17 @@
 -- What holds of a block holds of each routine in it.
-use Rattle.std.proofs.Common.{◌≡◌, ◌⊎◌, inl, inr, ℕ, zero, suc, ◌+◌, ◌-◌, ◌<◌, ◌≤◌, arith, subst, sym, Bool, true, false, List, [], ◌∷◌, ◌++◌, ◌*◌, ◌/◌, length, Option, Some, None, refl, ap, ◌∙◌}
-use Rattle.std.specs.Prelude.{◌==◌, nat_lt, if◌then◌else◌, IfSome, MatchOption, slice_get, slice_set}
-use Rattle.std.specs.Bool.{MatchBool}
+use Rattle.std.proofs.Common.{◌≡◌, ◌⊎◌, inl, inr, ℕ, zero, suc, ◌+◌, ◌-◌, ◌<◌, ◌≤◌, arith, subst, sym, Bool, true, false, List, [], ◌∷◌, ◌++◌, ◌*◌, length, Option, Some, None, refl, ap, ◌∙◌}
+use Rattle.std.specs.Prelude.{◌==◌, nat_lt, if◌then◌else◌, IfSome, slice_get, slice_set}
 use Rattle.std.specs.List.{AllZip}
 use Rattle.zstory.specs.LoadedStory.{LoadedStory}
+use Rattle.std.proofs.Math.Nat.{mul-le-mul_left, mul-suc}
 use Rattle.std.proofs.lemmas.Bool.{cases_lt}
 use Rattle.std.proofs.lemmas.Option.{same_Some}
 use Rattle.zrule.specs.declared.blocks.Block.{Block}
-use Rattle.zrule.specs.Blocks.{AreBlocks, IsBlock}
+use Rattle.zrule.specs.Blocks.{AreInTurn, IsBlock}
 use Rattle.zdomain.specs.Domain.{AreSound, In, SetOperations, Within}
 use Rattle.zflow.specs.Transfer.{Shape, with_result}
 use Rattle.zrule.specs.Claims.{Claims}
-use Rattle.zrule.specs.declared.rule.Rule.{Rule}
-use Rattle.zrule.specs.declared.rule.Rule.TheVariants as rules
-use Rattle.zrule.specs.Edges.{CalleeKeeps}
-use Rattle.zrule.specs.Rules.{Begins, Leads, Starts, Takes, result_at}
+use Rattle.zrule.specs.Rules.{Begins, Leads, Starts}
 
 module _ {V : Type 0} (o : SetOperations V) (claims : Claims V) where
   -- with fewer values for each argument a routine begins as well
@@ -29,18 +26,6 @@ module _ {V : Type 0} (o : SetOperations V) (claims : Claims V) where
 
   pub begins_narrower : (story : LoadedStory) (narrow wide : List V) (p : ℕ) → AllZip (Within o) narrow wide → Begins o claims story wide p → Begins o claims story narrow p
   begins_narrower story narrow wide p z b = record { index = b.index; routine = b.routine; entry = b.entry; listed = b.listed; same = b.same; empty = b.empty; starts = starts_narrower narrow wide _ _ z b.starts }
-
-  -- what takes any value of a set takes each of fewer
-  pub takes_narrower : (narrow wide : V) (v : ℕ) → Within o narrow wide → Takes o claims (Some wide) v → Takes o claims (Some narrow) v
-  takes_narrower narrow wide v within = by_kind (nat_lt v 16) (slice_get claims.globals (v - 16))
-    where
-      in_global : (values : Option V) → MatchOption values ⊥ (Within o wide) → MatchOption values ⊥ (Within o narrow)
-      in_global None t = t
-      in_global (Some values) t = λ x inside. t x (within x inside)
-
-      by_kind : (c : Bool) (values : Option V) → MatchBool c (Unit {0}) (MatchOption values ⊥ (Within o wide)) → MatchBool c (Unit {0}) (MatchOption values ⊥ (Within o narrow))
-      by_kind true values t = t
-      by_kind false values t = in_global values t
 
   set_narrower : (xs ys : List V) (k : ℕ) (narrow wide : V) → Within o narrow wide → AllZip (Within o) (slice_set xs k wide) ys → AllZip (Within o) (slice_set xs k narrow) ys
   set_narrower [] ys k narrow wide within z = z
@@ -70,10 +55,6 @@ module _ {V : Type 0} (o : SetOperations V) (claims : Claims V) where
     };
   }
 
-  -- where each value that the block's routines give may come back, that of one of them may
-  pub successor_kept : (story : LoadedStory) (args : List V) (routine next v : ℕ) (rule : Rule) → rule ≡ rules.Successor → (f : Shape V) (p : ℕ) (gives : V) → Leads o claims routine (with_result (Some gives) v f) next → Within o (result_at o claims p) gives → CalleeKeeps o claims story args routine next v rule f p
-  successor_kept story args routine next v rule is f p gives leads within = rw is (leads_narrower routine f v next (result_at o claims p) gives within leads)
-
 -- what holds of so many places from a base on, and of the next, holds of one more
 pub one_further : (P : ℕ → Type 0) (base offset : ℕ) → ((x : ℕ) → base ≤ x → x < base + offset → P x) → P (base + offset) → (x : ℕ) → base ≤ x → x < base + (offset + 1) → P x
 one_further P base offset before here x above below = by_case (cases_lt x (base + offset))
@@ -99,13 +80,21 @@ module _ {V : Type 0} (o : SetOperations V) (sound : AreSound o) (given : ℕ �
 
 -- ---- blocks in their order
 
-module _ {V : Type 0} (o : SetOperations V) (claims : Claims V) (story : LoadedStory) where
-  pub block_there : (blocks : List (Block V)) (packed : ℕ) (found : Option (Block V)) → AreBlocks o claims story blocks → IfSome found (λ block. (slice_get blocks (packed / 64) ≡ Some block) × (packed ≡ 64 * (packed / 64))) → IfSome found (IsBlock o claims story packed)
-  block_there blocks packed None are is = tt
-  block_there blocks packed (Some block) are is = subst (λ p. IsBlock o claims story p block) (sym is.1) (are (packed / 64) block is.0)
+-- of blocks that all lie among the packed addresses, each does
+pub block_inside : (count number blocks : ℕ) → number < blocks → count * blocks ≤ 65536 → count * number + count ≤ 65536
+block_inside count number blocks less few =
+    let up : suc number ≤ blocks = omega (arith, less) in
+    let most = mul-le-mul_left count up in
+    let next = mul-suc count number in
+    omega (arith, most, next, few)
 
-  pub none_yet : AreBlocks o claims story []
-  none_yet k block is = absurd cc
+module _ {V : Type 0} (o : SetOperations V) (claims : Claims V) (story : LoadedStory) where
+  pub block_there : (count k : ℕ) (blocks : List (Block V)) (packed : ℕ) (found : Option (Block V)) → AreInTurn o claims story count blocks → IfSome found (λ block. (slice_get blocks k ≡ Some block) × (packed ≡ count * k)) → IfSome found (IsBlock o claims story count packed)
+  block_there count k blocks packed None are is = tt
+  block_there count k blocks packed (Some block) are is = subst (λ p. IsBlock o claims story count p block) (sym is.1) (are k block is.0)
+
+  pub none_yet : (count : ℕ) → AreInTurn o claims story count []
+  none_yet count k block is = absurd cc
 
   at_end : (blocks : List (Block V)) (new : Block V) (k : ℕ) (block : Block V) → slice_get (blocks ++ new ∷ []) k ≡ Some block → (slice_get blocks k ≡ Some block) ⊎ ((k ≡ length blocks) × (new ≡ block))
   at_end [] new zero block is = inr (refl, same_Some new block is)
@@ -117,9 +106,9 @@ module _ {V : Type 0} (o : SetOperations V) (claims : Claims V) (story : LoadedS
       by_case (inl e) = inl e
       by_case (inr e) = inr (ap (λ n. suc n) e.0, e.1)
 
-  pub one_more_block : (blocks : List (Block V)) (new : Block V) (number : ℕ) → length blocks ≡ number → IsBlock o claims story (64 * number) new → AreBlocks o claims story blocks → AreBlocks o claims story (blocks ++ new ∷ [])
-  one_more_block blocks new number count is are k block found = by_case (at_end blocks new k block found)
+  pub one_more_block : (count : ℕ) (blocks : List (Block V)) (new : Block V) (number base : ℕ) → length blocks ≡ number → base ≡ count * number → IsBlock o claims story count base new → AreInTurn o claims story count blocks → AreInTurn o claims story count (blocks ++ new ∷ [])
+  one_more_block count blocks new number base long at is are k block found = by_case (at_end blocks new k block found)
     where
-      by_case : (slice_get blocks k ≡ Some block) ⊎ ((k ≡ length blocks) × (new ≡ block)) → IsBlock o claims story (64 * k) block
+      by_case : (slice_get blocks k ≡ Some block) ⊎ ((k ≡ length blocks) × (new ≡ block)) → IsBlock o claims story count (count * k) block
       by_case (inl e) = are k block e
-      by_case (inr e) = let same : number ≡ k = sym (e.0 ∙ count) in subst (λ b. IsBlock o claims story (64 * k) b) e.1 (subst (λ n. IsBlock o claims story (64 * n) new) same is)
+      by_case (inr e) = let same : number ≡ k = sym (e.0 ∙ long) in subst (λ b. IsBlock o claims story count (count * k) b) e.1 (subst (λ n. IsBlock o claims story count (count * n) new) same (subst (λ n. IsBlock o claims story count n new) at is))

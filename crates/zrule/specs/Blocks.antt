@@ -6,6 +6,8 @@ use Rattle.zstate.specs.Step.{unpacked}
 use Rattle.zrule.specs.declared.arguments.Arguments.{Arguments}
 use Rattle.zrule.specs.declared.arguments.Arguments.TheVariants.{Zero, One, Two, Three}
 use Rattle.zrule.specs.declared.blocks.Block.{Block}
+use Rattle.zrule.specs.declared.wanted.Wanted.{Wanted}
+use Rattle.zrule.specs.declared.wanted.Wanted.TheVariants.{Begin, Give}
 use Rattle.zrule.specs.Claims.{Claims}
 use Rattle.zrule.specs.Rules.{Begins, result_at}
 
@@ -16,28 +18,37 @@ sets_of (One a) = a ∷ []
 sets_of (Two a b) = a ∷ b ∷ []
 sets_of (Three a b c) = a ∷ b ∷ c ∷ []
 
--- something holds of each of the 64 packed addresses from a base on
-abbrev pub InBlock : ℕ → (ℕ → Type 0) → Type 0
-InBlock base P = (x : ℕ) → base ≤ x → x < base + 64 → P x
+-- something holds of each of so many packed addresses from a base on
+abbrev pub InBlock : ℕ → ℕ → (ℕ → Type 0) → Type 0
+InBlock count base P = (x : ℕ) → base ≤ x → x < base + count → P x
 
 module _ {V : Type 0} (o : SetOperations V) (claims : Claims V) where
   -- whatever the routine gives that begins there lies in a set
-  abbrev pub EachGives : ℕ → V → Type 0
-  EachGives base gives = InBlock base (λ x. Within o (result_at o claims (unpacked x)) gives)
+  abbrev pub EachGives : ℕ → ℕ → V → Type 0
+  EachGives count base gives = InBlock count base (λ x. Within o (result_at o claims (unpacked x)) gives)
 
   module _ (story : LoadedStory) where
     -- a routine begins there, with these arguments
-    abbrev pub EachBegins : ℕ → Arguments V → Type 0
-    EachBegins base arguments = InBlock base (λ x. Begins o claims story (sets_of arguments) (unpacked x))
+    abbrev pub EachBegins : ℕ → ℕ → Arguments V → Type 0
+    EachBegins count base arguments = InBlock count base (λ x. Begins o claims story (sets_of arguments) (unpacked x))
 
-    -- what a block says is so, from its base on
-    pub record IsBlock (base : ℕ) (block : Block V) : Type 0 where
-      pub gives : EachGives base block.gives
-      pub zero : IfSome block.zero (EachBegins base)
-      pub one : IfSome block.one (EachBegins base)
-      pub two : IfSome block.two (EachBegins base)
-      pub three : IfSome block.three (EachBegins base)
+    -- what a block says is so, of so many addresses from its base on
+    pub record IsBlock (count base : ℕ) (block : Block V) : Type 0 where
+      pub gives : EachGives count base block.gives
+      pub zero : IfSome block.zero (EachBegins count base)
+      pub one : IfSome block.one (EachBegins count base)
+      pub two : IfSome block.two (EachBegins count base)
+      pub three : IfSome block.three (EachBegins count base)
 
     -- the first block begins at 0, and each other behind the one before
-    abbrev pub AreBlocks : List (Block V) → Type 0
-    AreBlocks blocks = (k : ℕ) (block : Block V) → slice_get blocks k ≡ Some block → IsBlock (64 * k) block
+    abbrev pub AreInTurn : ℕ → List (Block V) → Type 0
+    AreInTurn count blocks = (k : ℕ) (block : Block V) → slice_get blocks k ≡ Some block → IsBlock count (count * k) block
+
+    -- blocks of 64 addresses, and wide ones of 4,096
+    abbrev pub AreBlocks : List (Block V) × List (Block V) → Type 0
+    AreBlocks blocks = AreInTurn 64 blocks.0 × AreInTurn 4096 blocks.1
+
+    -- the routine at a place is as it is wanted to be
+    abbrev pub IsAsWanted : Wanted V → ℕ → Type 0
+    IsAsWanted (Begin arguments) p = Begins o claims story (sets_of arguments) p
+    IsAsWanted (Give set) p = Within o (result_at o claims p) set

@@ -1,15 +1,15 @@
 -- What rules ask of each edge of an instruction (own).
-use Rattle.std.specs.Prelude.{ℕ, ◌<◌, ◌≤◌, List, Option, Some, IfSome, MatchOption, length}
+use Rattle.std.specs.Prelude.{ℕ, ◌-◌, ◌<◌, ◌≤◌, ◌==◌, nat_lt, if◌then◌else◌, List, Option, None, Some, IfSome, MatchOption, length, slice_get}
 use Rattle.zstory.specs.LoadedStory.{LoadedStory}
 use Rattle.zdomain.specs.Domain.{SetOperations, In}
 use Rattle.zflow.specs.declared.parts.Lead.{Lead}
 use Rattle.zflow.specs.declared.flow.Edge.{Edge}
 use Rattle.zflow.specs.declared.flow.Flow.{Flow}
-use Rattle.zflow.specs.Transfer.{Shape, slots_with, with_result}
+use Rattle.zflow.specs.Transfer.{Shape, slots_with}
 use Rattle.zrule.specs.declared.rule.Rule.{Rule}
 use Rattle.zrule.specs.declared.rule.Rule.TheVariants as rules
-use Rattle.zrule.specs.Claims.{Claims}
-use Rattle.zrule.specs.Rules.{Begins, Enters, GoesOn, Leads, Returns, Takes, TakesBack, TakesInPlace, comes_back, result_at}
+use Rattle.zrule.specs.Claims.{Claims, Entry}
+use Rattle.zrule.specs.Rules.{Enters, GoesOn, Returns, Takes, TakesBack, TakesInPlace, comes_back}
 
 -- the least word of a set above a word, if there is one
 abbrev pub IsNextAbove : {V : Type 0} → SetOperations V → V → ℕ → Option ℕ → Type 0
@@ -19,14 +19,12 @@ IsNextAbove o a word next = MatchOption next ((y : ℕ) → In o a y → y ≤ w
 abbrev pub StaysLow : {V : Type 0} → SetOperations V → Claims V → ℕ → Lead V → Shape V → Type 0
 StaysLow o claims target lead f = length (slots_with (comes_back o claims lead) target f.slots) ≤ 64
 
-module _ {V : Type 0} (o : SetOperations V) (claims : Claims V) (story : LoadedStory) (args : List V) (routine next target : ℕ) where
-  -- what a rule asks of each routine that may be called with these arguments, where this is known of the caller
-  abbrev pub CalleeKeeps : Rule → Shape V → ℕ → Type 0
-  CalleeKeeps rules.Called f p = Begins o claims story args p
-  CalleeKeeps rules.Successor f p = Leads o claims routine (with_result (Some (result_at o claims p)) target f) next
-  CalleeKeeps rules.Stored f p = Takes o claims (Some (result_at o claims p)) target
-  CalleeKeeps rule f p = Unit {0}
+-- the set that is stated for what a variable is given, where one is: none for a global, of which the set isn't stated by places
+abbrev pub stated_for : {V : Type 0} → ℕ → Option (Entry V) → Option V
+stated_for v None = None
+stated_for v (Some e) = if v == 0 then slice_get e.shape.slots 0 else (if nat_lt v 16 then slice_get e.shape.locals (v - 1) else None)
 
+module _ {V : Type 0} (o : SetOperations V) (claims : Claims V) (story : LoadedStory) (args : List V) (routine next target : ℕ) where
   -- an edge of an instruction of the routine, in front of the place `next`, whose result goes to the target
   abbrev pub EdgeKeeps : Rule → Edge V → Type 0
   EdgeKeeps rules.Successor edge = IfSome edge.after (StaysLow o claims target edge.lead) → IfSome edge.after (λ f. GoesOn o claims routine target f next edge.lead)

@@ -3,41 +3,27 @@
 ghost use Rattle.std.specs.Prelude.{◌≡◌, ◌↔◌, ◌*◌, ◌+◌, ◌≤◌, ℕ, IfNone, IfSome, IsTrue, MatchOption, Some, [], reverse, slice_get, suc};
 ghost use Rattle.zstory.specs.Bytes.{byte_at, word_at};
 ghost use Rattle.zdomain.specs.Domain.{In, Within};
-ghost use Rattle.zcode.specs.Operation.{target};
 ghost use Rattle.zstate.specs.Step.{unpacked, words_from};
-ghost use Rattle.zflow.specs.Transfer.{argument_sets};
-ghost use Rattle.zcert.specs.Listed.{seen};
-ghost use Rattle.zrule.specs.Blocks.{AreBlocks, InBlock, IsBlock, sets_of};
-ghost use Rattle.zrule.specs.Claims.{Claims, claims_of, entry_of};
-ghost use Rattle.zrule.specs.Edges.{CalleeKeeps, IsNextAbove};
+ghost use Rattle.zrule.specs.Blocks.{AreBlocks, InBlock, IsAsWanted, sets_of};
+ghost use Rattle.zrule.specs.Claims.{Claims, claims_of};
+ghost use Rattle.zrule.specs.Edges.{IsNextAbove};
 ghost use Rattle.zrule.specs.Rules.{Begins, EachCallee, Starts, result_at};
 
-use crate::arguments::{Arguments, arguments_of};
-use crate::blocks::Block;
-use crate::edges::{leads_given, takes};
-use crate::rule::Rule;
+use crate::arguments::Arguments;
 use crate::site::Site;
+use crate::wanted::Wanted;
 use zcert::{Certificate, Instruction, Spelled};
 use zdomain::Domain;
-use zflow::Known;
 use zstory::Story;
 
-/// Whether each routine at a packed address of the set keeps a rule, where `after` is known of the caller behind the call, before
-/// what comes back.
-pub(crate) fn callees_keep<V: Spelled>(
-    site: Site<'_, V>,
-    set: V,
-    after: &Known<'_, V>,
-    rule: Rule,
-) -> bool
-    requires near { site.listed.now.address + site.instruction.now.size ≤ 131072 }
-    requires told { IfSome site.blocks (λ b. AreBlocks V.operations (claims_of V.operations site.certificate.now) site.story.now b.now) }
-    ensures { IsTrue result ↔ EachCallee V.operations (claims_of V.operations site.entry.certificate.now) set (CalleeKeeps V.operations (claims_of V.operations site.entry.certificate.now) site.entry.story.now (argument_sets V.operations site.entry.certificate.now.globals site.entry.instruction.now (entry_of (seen site.entry.listed.now)).shape) site.entry.listed.now.routine (site.entry.listed.now.address + site.entry.instruction.now.size) (target site.entry.instruction.now) rule after.now) }
+/// Whether the routine at each packed address of the set, other than 0, is as it is wanted to be.
+pub(crate) fn callees_are<V: Spelled>(site: Site<'_, V>, set: V, wanted: Wanted<V>) -> bool
+    requires { IfSome site.blocks (λ b. AreBlocks V.operations (claims_of V.operations site.certificate.now) site.story.now b.now) }
+    ensures { IsTrue result ↔ EachCallee V.operations (claims_of V.operations site.entry.certificate.now) set (IsAsWanted V.operations (claims_of V.operations site.entry.certificate.now) site.entry.story.now wanted) }
 {
-    let arguments = arguments_of(site);
     let mut callee = next_above(set, 0);
     while let Some(word) = callee {
-        let Some(last) = kept_to(site, arguments, word, after, rule) else {
+        let Some(last) = wanted_to(site, word, wanted) else {
             return false;
         };
         callee = next_above(set, last);
@@ -46,99 +32,67 @@ pub(crate) fn callees_keep<V: Spelled>(
 }
 
 /// The least word of a set above a word.
-fn next_above<V: Spelled>(set: V, word: u16) -> Option<u16>
+pub(crate) fn next_above<V: Spelled>(set: V, word: u16) -> Option<u16>
     ensures { IsNextAbove V.operations set word result }
 {
     set.least_from(word.checked_add(1)?)
 }
 
-/// The last packed address up to which each from one on is known to keep a rule: that of the block that begins there, where the rule is
-/// kept for the whole block, and else the address itself. `None` where that doesn't keep it.
-fn kept_to<V: Spelled>(
-    site: Site<'_, V>,
-    arguments: Arguments<V>,
-    packed: u16,
-    after: &Known<'_, V>,
-    rule: Rule,
-) -> Option<u16>
-    requires near { site.listed.now.address + site.instruction.now.size ≤ 131072 }
-    requires told { IfSome site.blocks (λ b. AreBlocks V.operations (claims_of V.operations site.certificate.now) site.story.now b.now) }
-    ensures kept { IfSome result (λ last. (packed ≤ last) × ((x : ℕ) → packed ≤ x → x ≤ last → CalleeKeeps V.operations (claims_of V.operations site.entry.certificate.now) site.entry.story.now (sets_of arguments) site.entry.listed.now.routine (site.entry.listed.now.address + site.entry.instruction.now.size) (target site.entry.instruction.now) rule after.now (unpacked x))) }
-    ensures broken { IfNone result (CalleeKeeps V.operations (claims_of V.operations site.entry.certificate.now) site.entry.story.now (sets_of arguments) site.entry.listed.now.routine (site.entry.listed.now.address + site.entry.instruction.now.size) (target site.entry.instruction.now) rule after.now (unpacked packed) → ⊥) }
+/// The last packed address up to which the routine at each from one on is known to be as it is wanted to be: that of the block that
+/// begins there, the wide one first, where that is known of the whole block, and else the address itself. `None` where that isn't so.
+fn wanted_to<V: Spelled>(site: Site<'_, V>, packed: u16, wanted: Wanted<V>) -> Option<u16>
+    requires { IfSome site.blocks (λ b. AreBlocks V.operations (claims_of V.operations site.certificate.now) site.story.now b.now) }
+    ensures kept { IfSome result (λ last. (packed ≤ last) × ((x : ℕ) → packed ≤ x → x ≤ last → IsAsWanted V.operations (claims_of V.operations site.entry.certificate.now) site.entry.story.now wanted (unpacked x))) }
+    ensures broken { IfNone result (IsAsWanted V.operations (claims_of V.operations site.entry.certificate.now) site.entry.story.now wanted (unpacked packed) → ⊥) }
 {
-    if is_block_kept(site, arguments, packed, after, rule) {
+    if is_wide_wanted(site, packed, wanted) {
+        return Some(packed + 4095);
+    }
+    if is_block_wanted(site, packed, wanted) {
         return Some(packed + 63);
     }
-    if callee_keeps(site, arguments, packed, after, rule) {
+    if callee_is(site, packed, wanted) {
         return Some(packed);
     }
     None
 }
 
-/// Whether a block begins at a packed address that keeps a rule as a whole.
-fn is_block_kept<V: Spelled>(
-    site: Site<'_, V>,
-    arguments: Arguments<V>,
-    packed: u16,
-    after: &Known<'_, V>,
-    rule: Rule,
-) -> bool
-    requires near { site.listed.now.address + site.instruction.now.size ≤ 131072 }
-    requires told { IfSome site.blocks (λ b. AreBlocks V.operations (claims_of V.operations site.certificate.now) site.story.now b.now) }
-    ensures room { IsTrue result → packed ≤ 65472 }
-    ensures kept { IsTrue result → InBlock packed (λ x. CalleeKeeps V.operations (claims_of V.operations site.entry.certificate.now) site.entry.story.now (sets_of arguments) site.entry.listed.now.routine (site.entry.listed.now.address + site.entry.instruction.now.size) (target site.entry.instruction.now) rule after.now (unpacked x)) }
+/// Whether a wide block begins at a packed address of which each routine is as it is wanted to be.
+fn is_wide_wanted<V: Spelled>(site: Site<'_, V>, packed: u16, wanted: Wanted<V>) -> bool
+    requires { IfSome site.blocks (λ b. AreBlocks V.operations (claims_of V.operations site.certificate.now) site.story.now b.now) }
+    ensures room { IsTrue result → packed ≤ 61440 }
+    ensures kept { IsTrue result → InBlock 4096 packed (λ x. IsAsWanted V.operations (claims_of V.operations site.entry.certificate.now) site.entry.story.now wanted (unpacked x)) }
 {
-    match site.block_at(packed) {
-        Some(block) => block_keeps(site, arguments, &block, after, rule),
+    match site.wide_block_at(packed) {
+        Some(block) => block.is_as_wanted(wanted),
         None => false,
     }
 }
 
-/// Whether a block keeps a rule as a whole: never, where one of its routines doesn't keep it.
-fn block_keeps<V: Spelled>(
-    site: Site<'_, V>,
-    arguments: Arguments<V>,
-    block: &Block<V>,
-    after: &Known<'_, V>,
-    rule: Rule,
-) -> bool
-    requires { site.listed.now.address + site.instruction.now.size ≤ 131072 }
-    ensures { (base : ℕ) → IsTrue result → IsBlock V.operations (claims_of V.operations site.entry.certificate.now) site.entry.story.now base block.now → InBlock base (λ x. CalleeKeeps V.operations (claims_of V.operations site.entry.certificate.now) site.entry.story.now (sets_of arguments) site.entry.listed.now.routine (site.entry.listed.now.address + site.entry.instruction.now.size) (target site.entry.instruction.now) rule after.now (unpacked x)) }
+/// Whether a block does.
+fn is_block_wanted<V: Spelled>(site: Site<'_, V>, packed: u16, wanted: Wanted<V>) -> bool
+    requires { IfSome site.blocks (λ b. AreBlocks V.operations (claims_of V.operations site.certificate.now) site.story.now b.now) }
+    ensures room { IsTrue result → packed ≤ 65472 }
+    ensures kept { IsTrue result → InBlock 64 packed (λ x. IsAsWanted V.operations (claims_of V.operations site.entry.certificate.now) site.entry.story.now wanted (unpacked x)) }
 {
-    match rule {
-        Rule::Called => block.begins_with(arguments),
-        Rule::Successor => leads_given(site, after, block.gives),
-        Rule::Stored => takes(site.certificate, Some(block.gives), site.target()),
-        _ => true,
+    match site.block_at(packed) {
+        Some(block) => block.is_as_wanted(wanted),
+        None => false,
     }
 }
 
-/// Whether the routine at a packed address keeps a rule.
-fn callee_keeps<V: Spelled>(
-    site: Site<'_, V>,
-    arguments: Arguments<V>,
-    packed: u16,
-    after: &Known<'_, V>,
-    rule: Rule,
-) -> bool
-    requires { site.listed.now.address + site.instruction.now.size ≤ 131072 }
-    ensures { IsTrue result ↔ CalleeKeeps V.operations (claims_of V.operations site.entry.certificate.now) site.entry.story.now (sets_of arguments) site.entry.listed.now.routine (site.entry.listed.now.address + site.entry.instruction.now.size) (target site.entry.instruction.now) rule after.now (2 * packed) }
+/// Whether the routine at a packed address is as it is wanted to be.
+fn callee_is<V: Spelled>(site: Site<'_, V>, packed: u16, wanted: Wanted<V>) -> bool
+    ensures { IsTrue result ↔ IsAsWanted V.operations (claims_of V.operations site.entry.certificate.now) site.entry.story.now wanted (unpacked packed) }
 {
-    let place = 2 * u32::from(packed);
-    match rule {
-        Rule::Called => begins(site.story, site.certificate, arguments, packed),
-        Rule::Successor => leads_given(site, after, result_at(site.certificate, place)),
-        Rule::Stored => takes(
-            site.certificate,
-            Some(result_at(site.certificate, place)),
-            site.target(),
-        ),
-        _ => true,
+    match wanted {
+        Wanted::Begin(arguments) => begins(site.story, site.certificate, arguments, packed),
+        Wanted::Give(set) => { result_at(site.certificate, 2 * u32::from(packed)).is_within(set) }
     }
 }
 
 /// The values that the routine at a place may give: any, where none begins there.
-pub(crate) fn result_at<V: Spelled>(certificate: &Certificate<V>, place: u32) -> V
+fn result_at<V: Spelled>(certificate: &Certificate<V>, place: u32) -> V
     ensures { result ≡ result_at V.operations (claims_of V.operations certificate.now) place }
 {
     match certificate.routine_index(place) {

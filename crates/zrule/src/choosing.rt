@@ -1,8 +1,7 @@
 //! The sets that the routines of a block are tried with: they decide how often a rule is asked, and never what is answered.
 
-ghost use Rattle.std.specs.Prelude.{◌≤◌};
+ghost use Rattle.std.specs.Prelude.{◌+◌, ◌≤◌};
 
-use crate::blocks::BLOCK_LENGTH;
 use crate::callees::byte_at;
 use zcert::{Certificate, Spelled};
 use zdomain::Domain;
@@ -12,13 +11,14 @@ use zstory::Story;
 pub(crate) fn tried_set<V: Spelled>(
     story: &Story,
     certificate: &Certificate<V>,
+    count: u16,
     base: u16,
     index: usize,
 ) -> V
-    requires { base ≤ 65472 }
+    requires { base + count ≤ 65536 }
 {
     let mut set = V::any();
-    for offset in 0..BLOCK_LENGTH {
+    for offset in 0..count {
         let place = 2 * u32::from(base + offset);
         let Some(common) = common_with(story, certificate, place, index, set) else {
             return set;

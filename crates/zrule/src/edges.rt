@@ -1,18 +1,20 @@
 //! What rules ask of an edge of an instruction.
 
-ghost use Rattle.std.specs.Prelude.{◌≡◌, ◌↔◌, ◌+◌, ◌<◌, ◌≤◌, IfSome, IsTrue, Some, length, option_map};
+ghost use Rattle.std.specs.Prelude.{◌≡◌, ◌↔◌, ◌*◌, ◌+◌, ◌<◌, ◌≤◌, ℕ, IfSome, IsTrue, Some, length, option_map};
+ghost use Rattle.zdomain.specs.Domain.{In, Within};
 ghost use Rattle.zcode.specs.Operation.{target};
-ghost use Rattle.zflow.specs.declared.parts.Lead.TheVariants.{Ahead, Returning};
+ghost use Rattle.zflow.specs.declared.parts.Lead.TheVariants.{Ahead, Entering, Returning};
 ghost use Rattle.zflow.specs.Transfer.{Shape, argument_sets, with_result};
 ghost use Rattle.zcert.specs.Listed.{listed_at, seen};
 ghost use Rattle.zrule.specs.Blocks.{AreBlocks};
 ghost use Rattle.zrule.specs.Claims.{Claims, claims_of, entry_of};
-ghost use Rattle.zrule.specs.Edges.{StaysLow};
-ghost use Rattle.zrule.specs.Rules.{Covers, Enters, GoesOn, Leads, Returns, Takes, TakesBack, TakesInPlace};
+ghost use Rattle.zrule.specs.Edges.{StaysLow, stated_for};
+ghost use Rattle.zrule.specs.Rules.{Begins, Covers, EachCallee, Enters, GoesOn, Leads, Returns, Takes, TakesBack, TakesInPlace, result_at};
 
-use crate::callees::{callees_keep, result_of};
-use crate::rule::Rule;
+use crate::arguments::arguments_of;
+use crate::callees::{callees_are, next_above, result_of};
 use crate::site::Site;
+use crate::wanted::Wanted;
 use zcert::{Certificate, Instruction, Spelled};
 use zdomain::Domain;
 use zflow::{Edge, Known, Lead};
@@ -48,7 +50,7 @@ pub(crate) fn goes_on<V: Spelled>(site: Site<'_, V>, edge: &Edge<'_, V>) -> bool
 {
     match (&edge.after, edge.lead) {
         (Some(after), Lead::Ahead(distance)) => leads_ahead(site, after, distance),
-        (Some(after), Lead::Entering(set)) => { callees_keep(site, set, after, Rule::Successor) }
+        (Some(after), Lead::Entering(set)) => callees_lead(site, set, after),
         _ => true,
     }
 }
@@ -60,8 +62,59 @@ pub(crate) fn enters<V: Spelled>(site: Site<'_, V>, edge: &Edge<'_, V>) -> bool
     ensures { IsTrue result ↔ IfSome edge.now.after (λ f. Enters V.operations (claims_of V.operations site.entry.certificate.now) site.entry.story.now (argument_sets V.operations site.entry.certificate.now.globals site.entry.instruction.now (entry_of (seen site.entry.listed.now)).shape) edge.now.lead) }
 {
     match (&edge.after, edge.lead) {
-        (Some(after), Lead::Entering(set)) => { callees_keep(site, set, after, Rule::Called) }
+        (Some(_), Lead::Entering(set)) => callees_begin(site, set),
         _ => true,
+    }
+}
+
+/// Whether each routine of a set begins with the arguments of the instruction.
+fn callees_begin<V: Spelled>(site: Site<'_, V>, set: V) -> bool
+    requires { IfSome site.blocks (λ b. AreBlocks V.operations (claims_of V.operations site.certificate.now) site.story.now b.now) }
+    ensures { IsTrue result ↔ EachCallee V.operations (claims_of V.operations site.entry.certificate.now) set (Begins V.operations (claims_of V.operations site.entry.certificate.now) site.entry.story.now (argument_sets V.operations site.entry.certificate.now.globals site.entry.instruction.now (entry_of (seen site.entry.listed.now)).shape)) }
+{
+    callees_are(site, set, Wanted::Begin(arguments_of(site)))
+}
+
+/// Whether the place behind the instruction is led to with whatever a routine of a set gives. What comes back decides only where that
+/// place states a set for the variable that takes it, and then by this alone: all else is compared once.
+fn callees_lead<V: Spelled>(site: Site<'_, V>, set: V, after: &Known<'_, V>) -> bool
+    requires near { site.listed.now.address + site.instruction.now.size ≤ 131072 }
+    requires told { IfSome site.blocks (λ b. AreBlocks V.operations (claims_of V.operations site.certificate.now) site.story.now b.now) }
+    ensures { IsTrue result ↔ EachCallee V.operations (claims_of V.operations site.entry.certificate.now) set (λ p. Leads V.operations (claims_of V.operations site.entry.certificate.now) site.entry.listed.now.routine (with_result (Some (result_at V.operations (claims_of V.operations site.entry.certificate.now) p)) (target site.entry.instruction.now) after.now) (site.entry.listed.now.address + site.entry.instruction.now.size)) }
+{
+    if next_above(set, 0).is_none() {
+        return true;
+    }
+    match stated_behind(site) {
+        Some(stated) => leads_stated(site, set, after, stated),
+        None => leads_given(site, after, V::any()),
+    }
+}
+
+/// Whether it is where that place states this set, and a routine is called.
+fn leads_stated<V: Spelled>(site: Site<'_, V>, set: V, after: &Known<'_, V>, stated: V) -> bool
+    requires near { site.listed.now.address + site.instruction.now.size ≤ 131072 }
+    requires told { IfSome site.blocks (λ b. AreBlocks V.operations (claims_of V.operations site.certificate.now) site.story.now b.now) }
+    requires stated { stated_for (target site.instruction.now) ((claims_of V.operations site.certificate.now).entry (site.listed.now.address + site.instruction.now.size)) ≡ Some stated }
+    requires called { (w : ℕ) × In V.operations set w × (0 < w) }
+    ensures { IsTrue result ↔ EachCallee V.operations (claims_of V.operations site.entry.certificate.now) set (λ p. Leads V.operations (claims_of V.operations site.entry.certificate.now) site.entry.listed.now.routine (with_result (Some (result_at V.operations (claims_of V.operations site.entry.certificate.now) p)) (target site.entry.instruction.now) after.now) (site.entry.listed.now.address + site.entry.instruction.now.size)) }
+{
+    if !leads_given(site, after, stated) {
+        return false;
+    }
+    callees_are(site, set, Wanted::Give(stated))
+}
+
+/// The set that the place behind the instruction states for the variable that takes its result, where it states one.
+fn stated_behind<V: Spelled>(site: Site<'_, V>) -> Option<V>
+    requires { site.listed.now.address + site.instruction.now.size ≤ 131072 }
+    ensures { result ≡ stated_for (target site.entry.instruction.now) ((claims_of V.operations site.entry.certificate.now).entry (site.entry.listed.now.address + site.entry.instruction.now.size)) }
+{
+    let next = listed_near(site.certificate, site.near, site.next())?;
+    match site.target() {
+        0 => next.slots.last().copied(),
+        variable if variable < 16 => next.locals.get(usize::from(variable) - 1).copied(),
+        _ => None,
     }
 }
 
@@ -87,7 +140,7 @@ fn leads<V: Spelled>(site: Site<'_, V>, after: &Known<'_, V>, to: u32) -> bool
 }
 
 /// Whether the place behind the instruction is, once its result variable is given a value of the set.
-pub(crate) fn leads_given<V: Spelled>(site: Site<'_, V>, after: &Known<'_, V>, set: V) -> bool
+fn leads_given<V: Spelled>(site: Site<'_, V>, after: &Known<'_, V>, set: V) -> bool
     requires { site.listed.now.address + site.instruction.now.size ≤ 131072 }
     ensures { IsTrue result ↔ Leads V.operations (claims_of V.operations site.entry.certificate.now) site.entry.listed.now.routine (with_result (Some set) (target site.entry.instruction.now) after.now) (site.entry.listed.now.address + site.entry.instruction.now.size) }
 {
@@ -162,38 +215,52 @@ pub(crate) fn stores<V: Spelled>(site: Site<'_, V>, edge: &Edge<'_, V>) -> bool
     requires told { IfSome site.blocks (λ b. AreBlocks V.operations (claims_of V.operations site.certificate.now) site.story.now b.now) }
     ensures { IsTrue result ↔ IfSome edge.now.after (λ f. Takes V.operations (claims_of V.operations site.entry.certificate.now) edge.now.outcome.gives (target site.entry.instruction.now) × TakesInPlace V.operations (claims_of V.operations site.entry.certificate.now) edge.now.outcome.assigns × TakesBack V.operations (claims_of V.operations site.entry.certificate.now) (target site.entry.instruction.now) edge.now.lead) }
 {
-    let Some(after) = &edge.after else {
+    if edge.after.is_none() {
         return true;
-    };
+    }
     takes(site.certificate, edge.outcome.gives, site.target())
         && takes_in_place(site.certificate, edge.outcome.assigns)
-        && takes_back(site, after, edge.lead)
+        && takes_back(site, edge.lead)
 }
 
 /// Whether the result variable takes what comes back.
-fn takes_back<V: Spelled>(site: Site<'_, V>, after: &Known<'_, V>, lead: Lead<V>) -> bool
-    requires near { site.listed.now.address + site.instruction.now.size ≤ 131072 }
-    requires told { IfSome site.blocks (λ b. AreBlocks V.operations (claims_of V.operations site.certificate.now) site.story.now b.now) }
+fn takes_back<V: Spelled>(site: Site<'_, V>, lead: Lead<V>) -> bool
+    requires { IfSome site.blocks (λ b. AreBlocks V.operations (claims_of V.operations site.certificate.now) site.story.now b.now) }
     ensures { IsTrue result ↔ TakesBack V.operations (claims_of V.operations site.entry.certificate.now) (target site.entry.instruction.now) lead }
 {
     match lead {
-        Lead::Entering(set) => callees_keep(site, set, after, Rule::Stored),
+        Lead::Entering(set) => callees_take(site, set),
         Lead::Ahead(_) | Lead::Returning(_) => true,
     }
 }
 
+/// Whether it takes what each routine of a set gives.
+fn callees_take<V: Spelled>(site: Site<'_, V>, set: V) -> bool
+    requires { IfSome site.blocks (λ b. AreBlocks V.operations (claims_of V.operations site.certificate.now) site.story.now b.now) }
+    ensures { IsTrue result ↔ TakesBack V.operations (claims_of V.operations site.entry.certificate.now) (target site.entry.instruction.now) (Entering set) }
+{
+    match global_set(site.certificate, site.target()) {
+        Some(stated) => callees_are(site, set, Wanted::Give(stated)),
+        None => true,
+    }
+}
+
+/// The set of a global; other variables have none of their own.
+fn global_set<V: Spelled>(certificate: &Certificate<V>, variable: u8) -> Option<V>
+    ensures { (x : V) → Takes V.operations (claims_of V.operations certificate.now) (Some x) variable ↔ IfSome result (Within V.operations x) }
+{
+    if variable < 16 {
+        return None;
+    }
+    Some(certificate.globals()[usize::from(variable) - 16])
+}
+
 /// Whether what is given to a variable lies in its set, if that is a global.
-pub(crate) fn takes<V: Spelled>(
-    certificate: &Certificate<V>,
-    gives: Option<V>,
-    variable: u8,
-) -> bool
+fn takes<V: Spelled>(certificate: &Certificate<V>, gives: Option<V>, variable: u8) -> bool
     ensures { IsTrue result ↔ Takes V.operations (claims_of V.operations certificate.now) gives variable }
 {
-    match gives {
-        Some(set) if variable >= 16 => {
-            set.is_within(certificate.globals()[usize::from(variable) - 16])
-        }
+    match (gives, global_set(certificate, variable)) {
+        (Some(set), Some(stated)) => set.is_within(stated),
         _ => true,
     }
 }

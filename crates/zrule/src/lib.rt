@@ -15,6 +15,7 @@ mod properties;
 mod rule;
 mod site;
 mod texts;
+mod wanted;
 
 pub use blocks::Blocks;
 pub use judging::{instruction_there, judge, rule_at};

@@ -75,11 +75,23 @@ impl<'s, V: Spelled> Site<'s, V> {
     /// The block that begins at a packed address, if one is known.
     pub(crate) fn block_at(self, packed: u16) -> Option<Block<V>>
         requires { IfSome self.blocks (λ b. AreBlocks V.operations (claims_of V.operations self.certificate.now) self.story.now b.now) }
-        ensures told { IfSome result (IsBlock V.operations (claims_of V.operations self.entry.certificate.now) self.entry.story.now packed) }
+        ensures told { IfSome result (IsBlock V.operations (claims_of V.operations self.entry.certificate.now) self.entry.story.now 64 packed) }
         ensures room { IfSome result (λ _. packed ≤ 65472) }
     {
         match self.blocks {
             Some(blocks) => blocks.beginning_at(packed),
+            None => None,
+        }
+    }
+
+    /// The wide block that begins there, if one is known.
+    pub(crate) fn wide_block_at(self, packed: u16) -> Option<Block<V>>
+        requires { IfSome self.blocks (λ b. AreBlocks V.operations (claims_of V.operations self.certificate.now) self.story.now b.now) }
+        ensures told { IfSome result (IsBlock V.operations (claims_of V.operations self.entry.certificate.now) self.entry.story.now 4096 packed) }
+        ensures room { IfSome result (λ _. packed ≤ 61440) }
+    {
+        match self.blocks {
+            Some(blocks) => blocks.wide_at(packed),
             None => None,
         }
     }

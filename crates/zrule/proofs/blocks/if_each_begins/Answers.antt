@@ -11,5 +11,5 @@ loop-offset-preserved g c = one_further (λ x. Begins g.V.Domain.operations (cla
 
 pub returns : goal.returns
 returns g c =
-    let end : 64 ≤ c.loop-offset.offset = search (rules, arith) in
+    let end : c.args.count ≤ c.loop-offset.offset = search (rules, arith) in
     λ x above below. c.loop-offset.invariant x above (omega (arith, below, end))
