@@ -311,7 +311,8 @@ fn make_attempt(
     }))
 }
 
-/// A certificate, if it passes, and else what is wrong with it first.
+/// A certificate, if it passes, and else what is wrong with it first. A function of its own, since a check's tables lie on the stack.
+#[inline(never)]
 pub(crate) fn tried(story: &Story, certificate: Certificate) -> Result<Certificate, FindError>
     ensures passes { IfOk result (λ passed. (passed ≡ certificate) × Passes interval_operations story.now certificate) }
     ensures failed { IfErr result (λ error. (obstacle : AnObstacle) × (error ≡ NotFound obstacle) × IsWrongWith story.now certificate obstacle) }

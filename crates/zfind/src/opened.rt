@@ -80,7 +80,9 @@ impl Opened {
         )
     }
 
-    /// Asks which places are closed for another cause than that they are frozen, if that wasn't done.
+    /// Asks which places are closed for another cause than that they are frozen, if that wasn't done. A function of its own,
+    /// since its tables lie on the stack.
+    #[inline(never)]
     fn find_closed(&mut self, alloc: Global, story: &Story) -> Result<(), AllocError> {
         if !self.closed.is_empty() {
             return Ok(());

@@ -130,7 +130,8 @@ impl<'a, V: Domain> Walk<'a, V> {
     }
 
     /// Walks until nothing more is found, as far as is allowed. What looks where bytes were opened is visited once more when nothing else
-    /// is left. Tables are made once, and say what they say but for what was opened since.
+    /// is left. Tables are made once, and say what they say but for what was opened since. A function of its own, since they lie on the stack.
+    #[inline(never)]
     pub(crate) fn grow(&mut self, left: &mut Allowance) -> Result<(), FindError>
         ensures less { IsLess left.new left.old }
         ensures stopped { IfErr result (IsStopped left.new) }
