@@ -135,9 +135,10 @@ fn broken_so_far(
     if left.work == 0 {
         return Ok(Sight::Told(None));
     }
-    match wider(alloc, &code, walk.into_wanted())? {
-        Some(more) => Ok(Sight::Wider(more)),
-        None => Ok(Sight::Told(None)),
+    match wider(alloc, &code, walk.into_wanted(), left) {
+        Ok(Some(more)) => Ok(Sight::Wider(more)),
+        Ok(None) | Err(FindError::RoundLimit) => Ok(Sight::Told(None)),
+        Err(error) => Err(error),
     }
 }
 
