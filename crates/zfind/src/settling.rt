@@ -28,7 +28,7 @@ pub(crate) fn settled<V: Domain>(
 {
     let ranges = walk.bytes.ranges(alloc)?;
     let tables = Tables::new(code.story, &ranges);
-    let opened = Opened::new(alloc)?;
+    let opened = Opened::new(alloc);
     let known = Known {
         tables: &tables,
         opened: &opened,
