@@ -447,12 +447,11 @@ GROWTH = [
 
 
 SMALL_STACK = (resource.RLIMIT_STACK, 512 * 1024)
-STACK_TO_FIND = (resource.RLIMIT_STACK, 768 * 1024)
 LITTLE_MEMORY = (resource.RLIMIT_AS, 4 * 1024 * 1024)
 
 
 def on_small_machines(program, count):
-    """Each command on the sample games, with a stack of 512 KB, and `find` with one of 768: it does the same. And in 4 MB of address space, of which the C library takes
+    """Each command on the sample games, with a stack of 512 KB: it does the same. And in 4 MB of address space, of which the C library takes
     3.3: it does the same, or tells that memory was refused."""
     data = os.path.join(os.path.dirname(os.path.abspath(__file__)), "../../crates/zpc/data")
     commands = ["explain I5", "list story", "check story certificate", "find story found", "play story", "play story certificate"]
@@ -464,8 +463,7 @@ def on_small_machines(program, count):
         for command in commands:
             done = program.run(command.split(), made)
             count.see(done.status == 0 and done.output, f"{command} of {name}: {done}")
-            stack = STACK_TO_FIND if command.startswith("find") else SMALL_STACK
-            count.is_answer(f"{command} of {name} on a small stack", program.run(command.split(), made, limits=[stack]), done)
+            count.is_answer(f"{command} of {name} on a small stack", program.run(command.split(), made, limits=[SMALL_STACK]), done)
             answer = program.run(command.split(), made, limits=[LITTLE_MEMORY])
             refused = answer.status == 4 and answer.errors == b"failed: memory\n" and done.output.startswith(answer.output)
             count.see(answer == done or refused, f"{command} of {name} in little memory: {answer}")

@@ -25,7 +25,7 @@ module _ (story : LoadedStory) where
   told (faults.ComputedJump a) lowest = inl (faulty _ (lowest (λ e. absurd cc)))
   told faults.OutOfMemory lowest = tt
 
-  -- and it isn't that there were too many visits
+  -- and it isn't that the search took too long
   pub not_limit : (fault : ListError) → told_of fault ≡ RoundLimit → ⊥
   not_limit (faults.Decode p cause) e = absurd cc
   not_limit (faults.TwoRoutines a) e = absurd cc

@@ -39,7 +39,8 @@ impl Span {
     }
 }
 
-/// The bytes of dynamic memory that no store was found to reach, of those that no instruction changes without asking.
+/// The bytes of dynamic memory that no store was found to reach, of those that no instruction changes without asking. What isn't dynamic has no
+/// marks, but for one place behind it.
 #[derive(Drop)]
 pub(crate) struct Bytes {
     frozen: Vec<bool>,
@@ -56,7 +57,8 @@ pub(crate) struct Bytes {
 impl Bytes {
     /// All that may be frozen.
     pub(crate) fn new(alloc: Global, story: &Story) -> Result<Bytes, AllocError> {
-        let mut frozen = vec![in alloc; false; PLACES]?;
+        let count = story.static_base().saturating_add(1).min(PLACES);
+        let mut frozen = vec![in alloc; false; count]?;
         for (place, mark) in frozen.iter_mut().enumerate() {
             *mark = HEADER_LENGTH <= place
                 && place < story.static_base()
@@ -65,7 +67,7 @@ impl Bytes {
         Ok(Bytes {
             counts: counts_of(alloc, &frozen)?,
             frozen,
-            opened: vec![in alloc; false; PLACES]?,
+            opened: vec![in alloc; false; count]?,
             fresh: None,
             stale: None,
         })
@@ -169,7 +171,7 @@ impl Bytes {
 
 /// How many are marked of each block of places.
 fn counts_of(alloc: Global, marks: &[bool]) -> Result<Vec<u16>, AllocError> {
-    let mut counts = vec![in alloc; 0u16; PLACES / BLOCK_LENGTH]?;
+    let mut counts = vec![in alloc; 0u16; marks.len().div_ceil(BLOCK_LENGTH)]?;
     for (place, mark) in marks.iter().enumerate() {
         if let Some(count) = counts.get_mut(place / BLOCK_LENGTH) {
             *count = count.saturating_add(u16::from(*mark));

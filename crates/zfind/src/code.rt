@@ -57,7 +57,7 @@ impl<'a> Code<'a> {
             wanderers: Vec::new(alloc),
             recursive: recursive_routines(alloc, listing)?,
             properties: property_span(story),
-            unlisted: Gaps::new(alloc, &listed_heads(alloc, listing)?)?,
+            unlisted: Gaps::new(alloc, &listed_heads(alloc, story, listing)?)?,
             headless: Gaps::new(alloc, &possible_heads(alloc, story, listing)?)?,
             waits: false,
         };
@@ -290,9 +290,14 @@ fn add_constants(thresholds: &mut Thresholds, instruction: &Instr) -> Result<(),
     Ok(())
 }
 
-/// Whether a routine is listed at each packed address.
-fn listed_heads(alloc: Global, listing: &Listing) -> Result<Vec<bool>, AllocError> {
-    let mut marks = vec![in alloc; false; ADDRESSES]?;
+/// How many packed addresses lie in a story's memory: behind them no routine begins.
+fn address_count(story: &Story) -> usize {
+    story.memory().len().div_ceil(2).min(ADDRESSES)
+}
+
+/// Whether a routine is listed at each packed address in memory.
+fn listed_heads(alloc: Global, story: &Story, listing: &Listing) -> Result<Vec<bool>, AllocError> {
+    let mut marks = vec![in alloc; false; address_count(story)]?;
     for (packed, mark) in marks.iter_mut().enumerate() {
         *mark = listing.is_routine(packed.saturating_mul(2));
     }
@@ -305,7 +310,7 @@ fn possible_heads(
     story: &Story,
     listing: &Listing,
 ) -> Result<Vec<bool>, AllocError> {
-    let mut marks = vec![in alloc; false; ADDRESSES]?;
+    let mut marks = vec![in alloc; false; address_count(story)]?;
     for (packed, mark) in marks.iter_mut().enumerate() {
         *mark = listing.is_routine(packed.saturating_mul(2))
             || has_head(story, packed.min(0xffff) as u16);

@@ -26,8 +26,8 @@ pub enum FindError {
     /// G1: none was found that passes. What stood in its way is told.
     #[error("no certificate was found")]
     NotFound(Obstacle),
-    /// G2: more instructions would have to be visited than the finder visits.
-    #[error("too many visits")]
+    /// G2: more instructions would have to be visited than the finder visits, or more work done than it does.
+    #[error("the search took too long")]
     RoundLimit,
     /// G3: a growth was refused.
     #[error("out of memory")]

@@ -20,6 +20,14 @@ struct Places<'a> {
     waiting: Vec<usize>,
 }
 
+/// For how much work each byte of a story counts where more of it is listed, since an instruction is looked for at each.
+const COST_OF_BYTE: u32 = 8;
+
+/// How much work it is to list more of a story, and to find anew what depends on what.
+pub(crate) fn cost_of_listing(code: &Code<'_>) -> u32 {
+    short(code.story.memory().len()).saturating_mul(COST_OF_BYTE)
+}
+
 /// A listing of what is listed and of the routines at these packed addresses, with what their code leads to and calls by constants.
 /// It may list more than play reaches, and a place that two routines lead to as that of either, since a walk finds whose it is.
 pub(crate) fn extended(

@@ -12,12 +12,12 @@ ghost use Rattle.zfind.specs.declared.error.Obstacle.{Obstacle as AnObstacle};
 use crate::certificate::certificate_of;
 use crate::code::Code;
 use crate::error::FindError;
-use crate::extending::extended;
+use crate::extending::{cost_of_listing, extended};
 use crate::settling::settled;
 use crate::state::Plan;
 use crate::visits::{Allowance, MOST_VISITS, MOST_WORK, count_work};
 use crate::walk::Walk;
-use std::alloc::{AllocError, Global};
+use std::alloc::Global;
 use zcert::Certificate;
 use zcheck::examine;
 use zdomain::{Domain, Interval};
@@ -158,22 +158,27 @@ fn search_of(
         Search::Passed(certificate) => return Ok(Round::Passed(certificate)),
         Search::Failed(failure) => failure,
     };
-    match wider(alloc, &code, failure.wanted)? {
+    match wider(alloc, &code, failure.wanted, left)? {
         Some(more) => Ok(Round::Wider(more)),
         None => Ok(Round::Failed(failure.error)),
     }
 }
 
-/// A listing with the routines that are wanted, if any is.
+/// A listing with the routines that are wanted, if any is, as far as work is left.
 pub(crate) fn wider(
     alloc: Global,
     code: &Code<'_>,
     wanted: Option<Vec<bool>>,
-) -> Result<Option<Listing>, AllocError> {
-    match wanted {
-        Some(wanted) => extended(alloc, code, &wanted),
-        None => Ok(None),
-    }
+    left: &mut Allowance,
+) -> Result<Option<Listing>, FindError>
+    ensures less { IsLess left.new left.old }
+    ensures stopped { IfErr result (IsStopped left.new) }
+{
+    let Some(wanted) = wanted else {
+        return Ok(None);
+    };
+    count_work(left, cost_of_listing(code))?;
+    Ok(extended(alloc, code, &wanted)?)
 }
 
 /// The certificate of the walks over a listing, in which routines that aren't listed may give anything.
@@ -311,7 +316,8 @@ fn make_attempt(
     }))
 }
 
-/// A certificate, if it passes, and else what is wrong with it first.
+/// A certificate, if it passes, and else what is wrong with it first. A function of its own, since a check's tables lie on the stack.
+#[inline(never)]
 pub(crate) fn tried(story: &Story, certificate: Certificate) -> Result<Certificate, FindError>
     ensures passes { IfOk result (λ passed. (passed ≡ certificate) × Passes interval_operations story.now certificate) }
     ensures failed { IfErr result (λ error. (obstacle : AnObstacle) × (error ≡ NotFound obstacle) × IsWrongWith story.now certificate obstacle) }

@@ -9,17 +9,18 @@ pub(crate) const ADDRESSES: usize = 65_536;
 /// The packed addresses at which something is missing, each found at once from those before it.
 #[derive(Drop)]
 pub(crate) struct Gaps {
-    /// The next one from each address on, or their count.
+    /// The next one from each address on, or the count of these: from there on each is one.
     next: Vec<u32>,
 }
 
 impl Gaps {
-    /// Those that aren't marked.
+    /// Those that aren't marked, and all behind the marks.
     pub(crate) fn new(alloc: Global, there: &[bool]) -> Result<Gaps, AllocError> {
-        let mut next = vec![in alloc; ADDRESSES as u32; ADDRESSES]?;
-        let mut nearest = ADDRESSES as u32;
-        for behind in 0..ADDRESSES {
-            let address = ADDRESSES - 1 - behind;
+        let count = there.len().min(ADDRESSES);
+        let mut nearest = count as u32;
+        let mut next = vec![in alloc; nearest; count]?;
+        for behind in 0..count {
+            let address = count - 1 - behind;
             if !there.get(address).copied().unwrap_or(false) {
                 nearest = address as u32;
             }
@@ -48,8 +49,10 @@ impl Gaps {
 
     /// The next one from an address on.
     fn next_from(&self, address: u16) -> Option<u16> {
-        let next = self.next.get(usize::from(address)).copied()?;
-        u16::try_from(next).ok()
+        match self.next.get(usize::from(address)) {
+            Some(next) => u16::try_from(*next).ok(),
+            None => Some(address),
+        }
     }
 }
 

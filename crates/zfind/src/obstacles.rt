@@ -135,9 +135,10 @@ fn broken_so_far(
     if left.work == 0 {
         return Ok(Sight::Told(None));
     }
-    match wider(alloc, &code, walk.into_wanted())? {
-        Some(more) => Ok(Sight::Wider(more)),
-        None => Ok(Sight::Told(None)),
+    match wider(alloc, &code, walk.into_wanted(), left) {
+        Ok(Some(more)) => Ok(Sight::Wider(more)),
+        Ok(None) | Err(FindError::RoundLimit) => Ok(Sight::Told(None)),
+        Err(error) => Err(error),
     }
 }
 
@@ -191,7 +192,8 @@ fn obstacle_at_end(
     certain_obstacle(story, code, walk, certificate)
 }
 
-/// What the checker says first of a certificate.
+/// What the checker says first of a certificate. A function of its own, since a check's tables lie on the stack.
+#[inline(never)]
 fn obstacle_for(story: &Story, certificate: &Certificate) -> Option<Obstacle>
     ensures { IfSome result (IsWrongWith story.now certificate.now) }
 {
@@ -202,6 +204,8 @@ fn obstacle_for(story: &Story, certificate: &Certificate) -> Option<Obstacle>
 }
 
 /// Whether all is known at the end of a walk that this speaks of: it isn't said of a call of which it is waited for what comes back.
+/// A function of its own, since its tables lie on the stack.
+#[inline(never)]
 fn is_known_at_end(
     story: &Story,
     code: &Code<'_>,
@@ -219,7 +223,9 @@ fn is_known_at_end(
     }
 }
 
-/// The first rule that is broken, where more is to be found, and is broken by what was found alone.
+/// The first rule that is broken, where more is to be found, and is broken by what was found alone. A function of its own, since its tables
+/// lie on the stack.
+#[inline(never)]
 #[tactic(auto, using(crate::proofs::Telling::broken_where_listed))]
 fn certain_obstacle(
     story: &Story,

@@ -34,7 +34,7 @@ enum Lost {
 /// so that none have to be made anew for each of them.
 #[derive(Drop)]
 pub(crate) struct Opened {
-    /// Whether each place is one.
+    /// Whether each place is one. As all that follows, this is made once places were opened.
     marks: Vec<bool>,
     /// How many are in each block of places.
     counts: Vec<u16>,
@@ -48,14 +48,14 @@ pub(crate) struct Opened {
 
 impl Opened {
     /// None.
-    pub(crate) fn new(alloc: Global) -> Result<Opened, AllocError> {
-        Ok(Opened {
-            marks: vec![in alloc; false; PLACES]?,
-            counts: vec![in alloc; 0; PLACES / BLOCK_LENGTH]?,
+    pub(crate) fn new(alloc: Global) -> Opened {
+        Opened {
+            marks: Vec::new(alloc),
+            counts: Vec::new(alloc),
             closed: Vec::new(alloc),
-            lost: vec![in alloc; Lost::Nothing; NUMBERS * OBJECTS]?,
-            lost_numbers: vec![in alloc; false; NUMBERS]?,
-        })
+            lost: Vec::new(alloc),
+            lost_numbers: Vec::new(alloc),
+        }
     }
 
     /// Notes what was opened since this was last done. Answers how much was gone over.
@@ -68,7 +68,9 @@ impl Opened {
         let Some(span) = bytes.take_stale() else {
             return Ok(0);
         };
-        self.find_closed(alloc, code.story)?;
+        if self.closed.is_empty() {
+            self.make_marks(alloc, code.story)?;
+        }
         for place in span.first..span.last.saturating_add(1) {
             if bytes.was_opened(place) {
                 self.mark(place);
@@ -80,16 +82,15 @@ impl Opened {
         )
     }
 
-    /// Asks which places are closed for another cause than that they are frozen, if that wasn't done.
-    fn find_closed(&mut self, alloc: Global, story: &Story) -> Result<(), AllocError> {
-        if !self.closed.is_empty() {
-            return Ok(());
-        }
-        let tables = Tables::new(story, &[]);
-        self.closed.reserve(PLACES)?;
-        for place in 0..story.static_base().min(PLACES) {
-            self.closed.push(is_closed(&tables, place))?;
-        }
+    /// Makes the marks of the places of dynamic memory and of its properties, and asks which places are closed for another cause than that
+    /// they are frozen.
+    fn make_marks(&mut self, alloc: Global, story: &Story) -> Result<(), AllocError> {
+        let count = story.static_base().min(PLACES);
+        self.marks = vec![in alloc; false; count]?;
+        self.counts = vec![in alloc; 0; count.div_ceil(BLOCK_LENGTH)]?;
+        self.lost = vec![in alloc; Lost::Nothing; NUMBERS * OBJECTS]?;
+        self.lost_numbers = vec![in alloc; false; NUMBERS]?;
+        self.closed = closed_places(alloc, story, count)?;
         Ok(())
     }
 
@@ -280,6 +281,17 @@ impl Lost {
             _ => Lost::Nothing,
         }
     }
+}
+
+/// Whether each of so many places is closed where nothing is frozen. A function of its own, since its tables lie on the stack.
+#[inline(never)]
+fn closed_places(alloc: Global, story: &Story, count: usize) -> Result<Vec<bool>, AllocError> {
+    let tables = Tables::new(story, &[]);
+    let mut closed = Vec::with_capacity(alloc, count)?;
+    for place in 0..count {
+        closed.push(is_closed(&tables, place))?;
+    }
+    Ok(closed)
 }
 
 /// Whether the byte at a place is closed where nothing is frozen.

@@ -15,7 +15,8 @@ use zdomain::Domain;
 use zruns::Tables;
 
 /// What each place, global and routine is given by all that leads there, where this is known of each place. Where it is less than that,
-/// a set was widened too far.
+/// a set was widened too far. A function of its own, since its tables lie on the stack.
+#[inline(never)]
 pub(crate) fn settled<V: Domain>(
     alloc: Global,
     code: &Code<'_>,
@@ -27,7 +28,7 @@ pub(crate) fn settled<V: Domain>(
 {
     let ranges = walk.bytes.ranges(alloc)?;
     let tables = Tables::new(code.story, &ranges);
-    let opened = Opened::new(alloc)?;
+    let opened = Opened::new(alloc);
     let known = Known {
         tables: &tables,
         opened: &opened,

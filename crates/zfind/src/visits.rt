@@ -9,7 +9,7 @@ use crate::error::FindError;
 pub const MOST_VISITS: u32 = 4_000_000;
 
 /// How much work is done at most: each set that is joined, each routine that is entered, each instruction that is to be visited, each byte
-/// that is gone over, counts as one (own).
+/// that is gone over, counts as one, and each byte of a story as eight where more of it is listed (own).
 pub const MOST_WORK: u32 = 400_000_000;
 
 /// What a search may do yet.

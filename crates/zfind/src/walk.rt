@@ -48,7 +48,7 @@ pub(crate) struct Walk<'a, V> {
     calls: Vec<Option<Calls<V>>>,
     /// What was called last.
     last: Option<Calls<V>>,
-    /// Whether a routine is called at each packed address that isn't listed yet.
+    /// Whether a routine is called at each packed address that isn't listed yet, once there is one.
     wanted: Vec<bool>,
     /// Whether there is one.
     waits: bool,
@@ -82,7 +82,7 @@ impl<'a, V: Domain> Walk<'a, V> {
             visits: None,
             calls: vec![in alloc; None; count]?,
             last: None,
-            wanted: vec![in alloc; false; WORDS]?,
+            wanted: Vec::new(alloc),
             waits: false,
             endings: 0,
             work: 0,
@@ -130,14 +130,15 @@ impl<'a, V: Domain> Walk<'a, V> {
     }
 
     /// Walks until nothing more is found, as far as is allowed. What looks where bytes were opened is visited once more when nothing else
-    /// is left. Tables are made once, and say what they say but for what was opened since.
+    /// is left. Tables are made once, and say what they say but for what was opened since. A function of its own, since they lie on the stack.
+    #[inline(never)]
     pub(crate) fn grow(&mut self, left: &mut Allowance) -> Result<(), FindError>
         ensures less { IsLess left.new left.old }
         ensures stopped { IfErr result (IsStopped left.new) }
     {
         let ranges = self.bytes.ranges(self.alloc)?;
         let tables = Tables::new(self.code.story, &ranges);
-        let mut opened = Opened::new(self.alloc)?;
+        let mut opened = Opened::new(self.alloc);
         self.run_rounds(&tables, &mut opened, left)
     }
 
@@ -451,7 +452,7 @@ impl<'a, V: Domain> Walk<'a, V> {
             match self.code.routine_of(packed) {
                 Some(_) if has(here, packed) || has(last, packed) => {}
                 Some(number) => self.enter(number, calls, &mut frame)?,
-                None if calls.naming == Naming::Listable => self.want(packed),
+                None if calls.naming == Naming::Listable => self.want(packed)?,
                 None => return Ok(()),
             }
             callee = next_callee(calls.callees, packed);
@@ -460,11 +461,16 @@ impl<'a, V: Domain> Walk<'a, V> {
     }
 
     /// Notes that the routine at a packed address is to be listed, where it is waited for that.
-    fn want(&mut self, packed: u16) {
-        if self.code.waits() {
-            mark(&mut self.wanted, usize::from(packed));
+    fn want(&mut self, packed: u16) -> Result<(), AllocError> {
+        if !self.code.waits() {
+            return Ok(());
+        }
+        if !self.waits {
+            self.wanted = vec![in self.alloc; false; WORDS]?;
             self.waits = true;
         }
+        mark(&mut self.wanted, usize::from(packed));
+        Ok(())
     }
 
     /// Enters a routine, by the frame that is put together for it.

@@ -121,7 +121,7 @@ fn certificates_that_do_not_hold_are_told(rt: HostRuntime) -> Result<(), Fail> {
             FindError::NotFound(Obstacle::Place(804, Rule::Successor)),
             "no certificate was found",
         ),
-        (FindError::RoundLimit, "too many visits"),
+        (FindError::RoundLimit, "the search took too long"),
         (FindError::OutOfMemory, "out of memory"),
     ];
     assert!(rt; are_told(rt.alloc(), &refused)?);
