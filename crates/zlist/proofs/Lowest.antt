@@ -8,9 +8,9 @@ use Rattle.zcode.specs.declared.error.DecodeError.TheVariants.{Truncated}
 use Rattle.zcode.specs.declared.error.DecodeError.{DecodeError}
 use Rattle.zlist.specs.declared.list_error.ListError.{ListError}
 use Rattle.zlist.specs.declared.list_error.ListError.TheVariants.{Decode, TwoRoutines, ComputedJump, OutOfMemory}
-use Rattle.zlist.specs.Listed.{ComesFirst, IsCalled, IsFault, IsFirstAt, IsListed, IsLowestFault, IsUnspelled, number_of, place_of}
+use Rattle.zlist.specs.Listed.{ComesFirst, IsCalled, IsFault, IsFirstAt, IsListed, IsLowestFault, number_of, place_of}
 use Rattle.zlist.specs.Labels.{Found, IsLost, IsWalked, lower_of, reaches}
-use Rattle.zlist.proofs.Outside.{headless_past, le_from, lower_from, pos_le, pos_not_below, reaches_lower}
+use Rattle.zlist.proofs.Outside.{headless_past, le_from, lower_from, reaches_lower}
 use Rattle.zlist.proofs.Reached.{called_beyond, listed_beyond, listed_told}
 use Rattle.zlist.proofs.Reaching.{belongs_listed}
 
@@ -135,8 +135,13 @@ module _ (story : LoadedStory) (found : Found) (walked : IsWalked story found) w
     | inr call ↦
         let so : (a : ℕ) × (p ≡ pos a) × (length story.memory ≤ a) × IsCalled story a =
         subst (λ (o : Option ℤ). IfSome o (λ q. (a : ℕ) × (q ≡ pos a) × (length story.memory ≤ a) × IsCalled story a)) call.0 walked.way.sound.absent in
-        inr (so.0, so.1, (so.3, headless_past story.memory so.0 so.2), λ other it.
-          false≢true (sym call.1 ∙ subst (λ (q : ℤ). reaches found.beyond q ≡ true) (sym so.1) (listed_beyond story found walked so.0 so.2 (subst (λ (q : ℤ). IsListed story q) so.1 it.0))))
+        inr (
+          so.0,
+          so.1,
+          (so.3, headless_past story.memory so.0 so.2),
+          λ other it.
+              false≢true (sym call.1 ∙ subst (λ (q : ℤ). reaches found.beyond q ≡ true) (sym so.1) (listed_beyond story found walked so.0 so.2 (subst (λ (q : ℤ). IsListed story q) so.1 it.0))),
+        )
   ]
 
   pub lowest_behind : NoneBelow → NoneInside → (p : ℤ) → lower_of found.beyond found.absent ≡ Some p → IsLowestFault story (Decode p Truncated)
