@@ -8,9 +8,9 @@ use Rattle.zcode.specs.declared.error.DecodeError.TheVariants.{Truncated}
 use Rattle.zcode.specs.declared.error.DecodeError.{DecodeError}
 use Rattle.zlist.specs.declared.list_error.ListError.{ListError}
 use Rattle.zlist.specs.declared.list_error.ListError.TheVariants.{Decode, TwoRoutines, ComputedJump, OutOfMemory}
-use Rattle.zlist.specs.Listed.{ComesFirst, IsCalled, IsFault, IsFirstAt, IsListed, IsLowestFault, IsUnspelled, number_of, place_of}
+use Rattle.zlist.specs.Listed.{ComesFirst, IsCalled, IsFault, IsFirstAt, IsListed, IsLowestFault, number_of, place_of}
 use Rattle.zlist.specs.Labels.{Found, IsLost, IsWalked, lower_of, reaches}
-use Rattle.zlist.proofs.Outside.{headless_past, le_from, lower_from, pos_le, pos_not_below, reaches_lower}
+use Rattle.zlist.proofs.Outside.{headless_past, le_from, lower_from, reaches_lower}
 use Rattle.zlist.proofs.Reached.{called_beyond, listed_beyond, listed_told}
 use Rattle.zlist.proofs.Reaching.{belongs_listed}
 

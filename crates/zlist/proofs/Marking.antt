@@ -97,58 +97,58 @@ noted_on : (f g : Found) → ((p : ℤ) → reaches f.below p ≡ true → reach
 noted_on f g low high (pos a) h = high (pos a) h
 noted_on f g low high (negsuc n) h = low (negsuc n) h
 
--- the label of one slot is another
+-- the label of one address is another
 abbrev pub with_label : Found → ℕ → Label → Found
-with_label f slot label = record { labels = slice_set f.labels slot label; called = f.called; waiting = f.waiting ++ slot ∷ []; below = f.below; beyond = f.beyond; absent = f.absent }
+with_label f address label = record { labels = slice_set f.labels address label; called = f.called; waiting = f.waiting ++ address ∷ []; below = f.below; beyond = f.beyond; absent = f.absent }
 
-same_slot : (f : Found) (slot : ℕ) (label : Label) → slot < length f.labels → label_at (with_label f slot label) slot ≡ label
-same_slot f slot label l = get_or-set_same f.labels slot label Nobody l
+same_address : (f : Found) (address : ℕ) (label : Label) → address < length f.labels → label_at (with_label f address label) address ≡ label
+same_address f address label l = get_or-set_same f.labels address label Nobody l
 
-other_slot : (f : Found) (slot k : ℕ) (label : Label) → k ≢ slot → label_at (with_label f slot label) k ≡ label_at f k
-other_slot f slot k label n = get_or-set_other f.labels slot k label Nobody n
+other_address : (f : Found) (address k : ℕ) (label : Label) → k ≢ address → label_at (with_label f address label) k ≡ label_at f k
+other_address f address k label n = get_or-set_other f.labels address k label Nobody n
 
-pub grows_by_mark : (f : Found) (slot : ℕ) (label : Label) → slot < length f.labels → joined (label_at f slot) label ≢ label_at f slot → Grows f (with_label f slot (joined (label_at f slot) label))
-grows_by_mark f slot label l new =
-    let more = joined (label_at f slot) label in
-    let total = sum_by-set left f.labels slot more Nobody l in
-    let less = tells_more (label_at f slot) label new in record {
-      covers = λ k. (elim (k == slot) as (λ c. (k == slot) ≡ c → Covers (label_at (with_label f slot more) k) (label_at f k)) [
-        | true ↦ λ e. subst (λ (j : ℕ). Covers (label_at (with_label f slot more) j) (label_at f j)) (sym (eqb-true k slot e)) (subst (λ (m : Label). Covers m (label_at f slot)) (sym (same_slot f slot more l)) (covers_left (label_at f slot) label))
-        | false ↦ λ e. subst (λ (m : Label). Covers m (label_at f k)) (sym (other_slot f slot k more (λ q. false≢true (sym e ∙ eq-eqb k slot q)))) (λ x h. h)
+pub grows_by_mark : (f : Found) (address : ℕ) (label : Label) → address < length f.labels → joined (label_at f address) label ≢ label_at f address → Grows f (with_label f address (joined (label_at f address) label))
+grows_by_mark f address label l new =
+    let more = joined (label_at f address) label in
+    let total = sum_by-set left f.labels address more Nobody l in
+    let less = tells_more (label_at f address) label new in record {
+      covers = λ k. (elim (k == address) as (λ c. (k == address) ≡ c → Covers (label_at (with_label f address more) k) (label_at f k)) [
+        | true ↦ λ e. subst (λ (j : ℕ). Covers (label_at (with_label f address more) j) (label_at f j)) (sym (eqb-true k address e)) (subst (λ (m : Label). Covers m (label_at f address)) (sym (same_address f address more l)) (covers_left (label_at f address) label))
+        | false ↦ λ e. subst (λ (m : Label). Covers m (label_at f k)) (sym (other_address f address k more (λ q. false≢true (sym e ∙ eq-eqb k address q)))) (λ x h. h)
       ]) refl;
-      changed = λ k out. other_slot f slot k more (λ q. out (subst (λ (j : ℕ). Contains (f.waiting ++ slot ∷ []) j) (sym q) (Contains-push f.waiting slot)));
-      waiting = λ k in_old. Contains-append_left f.waiting (slot ∷ []) k in_old;
+      changed = λ k out. other_address f address k more (λ q. out (subst (λ (j : ℕ). Contains (f.waiting ++ address ∷ []) j) (sym q) (Contains-push f.waiting address)));
+      waiting = λ k in_old. Contains-append_left f.waiting (address ∷ []) k in_old;
       known = λ a h. h;
-      noted = noted_on f (with_label f slot more) (λ p h. h) (λ p h. h);
-      work = omega (arith, total, less, length_push f.waiting slot);
+      noted = noted_on f (with_label f address more) (λ p h. h) (λ p h. h);
+      work = omega (arith, total, less, length_push f.waiting address);
     }
 
 -- a label that tells more tells something
 tells : (a b : Label) → joined a b ≢ a → joined a b ≢ Nobody
 tells a b new e = omega (arith, tells_more a b new, ap left e, at_most a)
 
-still_known : (f : Found) (slot k : ℕ) (label : Label) → slot < length f.labels → label ≢ Nobody → label_at f k ≢ Nobody → label_at (with_label f slot label) k ≢ Nobody
-still_known f slot k label l here there =
-    (elim (k == slot) as (λ c. (k == slot) ≡ c → label_at (with_label f slot label) k ≢ Nobody) [
-      | true ↦ λ e. subst (λ (m : Label). m ≢ Nobody) (sym (ap (λ j. label_at (with_label f slot label) j) (eqb-true k slot e) ∙ same_slot f slot label l)) here
-      | false ↦ λ e. subst (λ (m : Label). m ≢ Nobody) (sym (other_slot f slot k label (λ q. false≢true (sym e ∙ eq-eqb k slot q)))) there
+still_known : (f : Found) (address k : ℕ) (label : Label) → address < length f.labels → label ≢ Nobody → label_at f k ≢ Nobody → label_at (with_label f address label) k ≢ Nobody
+still_known f address k label l here there =
+    (elim (k == address) as (λ c. (k == address) ≡ c → label_at (with_label f address label) k ≢ Nobody) [
+      | true ↦ λ e. subst (λ (m : Label). m ≢ Nobody) (sym (ap (λ j. label_at (with_label f address label) j) (eqb-true k address e) ∙ same_address f address label l)) here
+      | false ↦ λ e. subst (λ (m : Label). m ≢ Nobody) (sym (other_address f address k label (λ q. false≢true (sym e ∙ eq-eqb k address q)))) there
     ]) refl
 
-pub sound_by_mark : (story : LoadedStory) (f : Found) (slot : ℕ) (label : Label) → slot < length f.labels → joined (label_at f slot) label ≢ label_at f slot → IsSo story label (pos slot) → IsSound story f → IsSound story (with_label f slot (joined (label_at f slot) label))
-sound_by_mark story f slot label l new so sound =
-    let more = joined (label_at f slot) label in
-    let some = tells (label_at f slot) label new in
-    let here : IsSo story more (pos slot) = joined_so story (label_at f slot) label (pos slot) (sound.labels slot) so in record {
-      size = length-set f.labels slot more ∙ sound.size;
+pub sound_by_mark : (story : LoadedStory) (f : Found) (address : ℕ) (label : Label) → address < length f.labels → joined (label_at f address) label ≢ label_at f address → IsSo story label (pos address) → IsSound story f → IsSound story (with_label f address (joined (label_at f address) label))
+sound_by_mark story f address label l new so sound =
+    let more = joined (label_at f address) label in
+    let some = tells (label_at f address) label new in
+    let here : IsSo story more (pos address) = joined_so story (label_at f address) label (pos address) (sound.labels address) so in record {
+      size = length-set f.labels address more ∙ sound.size;
       flags = sound.flags;
-      labels = λ k. (elim (k == slot) as (λ c. (k == slot) ≡ c → IsSo story (label_at (with_label f slot more) k) (pos k)) [
-        | true ↦ λ e. subst (λ (j : ℕ). IsSo story (label_at (with_label f slot more) j) (pos j)) (sym (eqb-true k slot e)) (subst (λ (m : Label). IsSo story m (pos slot)) (sym (same_slot f slot more l)) here)
-        | false ↦ λ e. subst (λ (m : Label). IsSo story m (pos k)) (sym (other_slot f slot k more (λ q. false≢true (sym e ∙ eq-eqb k slot q)))) (sound.labels k)
+      labels = λ k. (elim (k == address) as (λ c. (k == address) ≡ c → IsSo story (label_at (with_label f address more) k) (pos k)) [
+        | true ↦ λ e. subst (λ (j : ℕ). IsSo story (label_at (with_label f address more) j) (pos j)) (sym (eqb-true k address e)) (subst (λ (m : Label). IsSo story m (pos address)) (sym (same_address f address more l)) here)
+        | false ↦ λ e. subst (λ (m : Label). IsSo story m (pos k)) (sym (other_address f address k more (λ q. false≢true (sym e ∙ eq-eqb k address q)))) (sound.labels k)
       ]) refl;
       called = sound.called;
-      waiting = λ k w. elim (Contains-push_cases f.waiting slot k w) [
-        | inl old ↦ still_known f slot k more l some (sound.waiting k old)
-        | inr is ↦ subst (λ (j : ℕ). label_at (with_label f slot more) j ≢ Nobody) is (subst (λ (m : Label). m ≢ Nobody) (sym (same_slot f slot more l)) some)
+      waiting = λ k w. elim (Contains-push_cases f.waiting address k w) [
+        | inl old ↦ still_known f address k more l some (sound.waiting k old)
+        | inr is ↦ subst (λ (j : ℕ). label_at (with_label f address more) j ≢ Nobody) is (subst (λ (m : Label). m ≢ Nobody) (sym (same_address f address more l)) some)
       ];
       below = sound.below;
       beyond = sound.beyond;
@@ -167,15 +167,15 @@ grows_itself f = record {
 
 -- ---- as the code has them
 
-pub marked_grows : (f : Found) (ls : List Label) (cs : List Bool) (ws : List ℕ) (lo be ab : Option ℤ) (slot : ℕ) (before label more : Label) → slot < length f.labels → before ≡ label_at f slot → more ≡ joined before label → (more ≡ before → ⊥) → ls ≡ slice_set f.labels slot more → cs ≡ f.called → ws ≡ f.waiting ++ slot ∷ [] → lo ≡ f.below → be ≡ f.beyond → ab ≡ f.absent → Grows f (record { labels = ls; called = cs; waiting = ws; below = lo; beyond = be; absent = ab })
-marked_grows f ls cs ws lo be ab slot before label more l was joins new e1 e2 e3 e4 e5 e6 =
-    let known : more ≡ joined (label_at f slot) label = joins ∙ ap (λ b. joined b label) was in
-    rw (e1, e2, e3, e4, e5, e6, known) (grows_by_mark f slot label l (λ q. new (known ∙ q ∙ sym was)))
+pub marked_grows : (f : Found) (ls : List Label) (cs : List Bool) (ws : List ℕ) (lo be ab : Option ℤ) (address : ℕ) (before label more : Label) → address < length f.labels → before ≡ label_at f address → more ≡ joined before label → (more ≡ before → ⊥) → ls ≡ slice_set f.labels address more → cs ≡ f.called → ws ≡ f.waiting ++ address ∷ [] → lo ≡ f.below → be ≡ f.beyond → ab ≡ f.absent → Grows f (record { labels = ls; called = cs; waiting = ws; below = lo; beyond = be; absent = ab })
+marked_grows f ls cs ws lo be ab address before label more l was joins new e1 e2 e3 e4 e5 e6 =
+    let known : more ≡ joined (label_at f address) label = joins ∙ ap (λ b. joined b label) was in
+    rw (e1, e2, e3, e4, e5, e6, known) (grows_by_mark f address label l (λ q. new (known ∙ q ∙ sym was)))
 
-pub marked_sound : (story : LoadedStory) (f : Found) (ls : List Label) (cs : List Bool) (ws : List ℕ) (lo be ab : Option ℤ) (slot : ℕ) (before label more : Label) → slot < length f.labels → before ≡ label_at f slot → more ≡ joined before label → (more ≡ before → ⊥) → ls ≡ slice_set f.labels slot more → cs ≡ f.called → ws ≡ f.waiting ++ slot ∷ [] → lo ≡ f.below → be ≡ f.beyond → ab ≡ f.absent → IsSo story label (pos slot) → IsSound story f → IsSound story (record { labels = ls; called = cs; waiting = ws; below = lo; beyond = be; absent = ab })
-marked_sound story f ls cs ws lo be ab slot before label more l was joins new e1 e2 e3 e4 e5 e6 so sound =
-    let known : more ≡ joined (label_at f slot) label = joins ∙ ap (λ b. joined b label) was in
-    rw (e1, e2, e3, e4, e5, e6, known) (sound_by_mark story f slot label l (λ q. new (known ∙ q ∙ sym was)) so sound)
+pub marked_sound : (story : LoadedStory) (f : Found) (ls : List Label) (cs : List Bool) (ws : List ℕ) (lo be ab : Option ℤ) (address : ℕ) (before label more : Label) → address < length f.labels → before ≡ label_at f address → more ≡ joined before label → (more ≡ before → ⊥) → ls ≡ slice_set f.labels address more → cs ≡ f.called → ws ≡ f.waiting ++ address ∷ [] → lo ≡ f.below → be ≡ f.beyond → ab ≡ f.absent → IsSo story label (pos address) → IsSound story f → IsSound story (record { labels = ls; called = cs; waiting = ws; below = lo; beyond = be; absent = ab })
+marked_sound story f ls cs ws lo be ab address before label more l was joins new e1 e2 e3 e4 e5 e6 so sound =
+    let known : more ≡ joined (label_at f address) label = joins ∙ ap (λ b. joined b label) was in
+    rw (e1, e2, e3, e4, e5, e6, known) (sound_by_mark story f address label l (λ q. new (known ∙ q ∙ sym was)) so sound)
 
 -- ---- places outside memory
 
@@ -327,7 +327,7 @@ followed memory f g h label p i one to_g two to_h three = record {
   calls = three;
 }
 
--- ---- from slot to slot
+-- ---- from address to address
 
 followed_on : (memory : List ℕ) (f g : Found) (label : Label) (p : ℤ) (i : Instruction) → Grows f g → IsFollowed memory f label p i → IsFollowed memory g label p i
 followed_on memory f g label p i grows it = record {
@@ -336,37 +336,37 @@ followed_on memory f g label p i grows it = record {
   calls = IfSome_then (callee i.opcode i.operands) it.calls (λ a h. entered_on memory f g a grows h);
 }
 
-pub has_without : (f : Found) (slot : ℕ) (label : Label) (p : ℤ) → Has (with_waiting f slot) label p → Has f label p
-has_without f slot label p (inl it) = inl it
-has_without f slot label p (inr it) = inr (noted_on (with_waiting f slot) f (λ q h. h) (λ q h. h) p it)
+pub has_without : (f : Found) (address : ℕ) (label : Label) (p : ℤ) → Has (with_waiting f address) label p → Has f label p
+has_without f address label p (inl it) = inl it
+has_without f address label p (inr it) = inr (noted_on (with_waiting f address) f (λ q h. h) (λ q h. h) p it)
 
-without_waiting : (memory : List ℕ) (f : Found) (slot : ℕ) (label : Label) (p : ℤ) (i : Instruction) → IsFollowed memory (with_waiting f slot) label p i → IsFollowed memory f label p i
-without_waiting memory f slot label p i it = record {
-  next = IfSome_then (next_place p i) it.next (λ q h. has_without f slot label q h);
-  aside = IfSome_then (aside_place p i) it.aside (λ q h. has_without f slot label q h);
-  calls = IfSome_then (callee i.opcode i.operands) it.calls (λ a h. record { called = h.called; begun = λ q at. has_without f slot (One (Routine a)) (pos q) (h.begun q at) });
+without_waiting : (memory : List ℕ) (f : Found) (address : ℕ) (label : Label) (p : ℤ) (i : Instruction) → IsFollowed memory (with_waiting f address) label p i → IsFollowed memory f label p i
+without_waiting memory f address label p i it = record {
+  next = IfSome_then (next_place p i) it.next (λ q h. has_without f address label q h);
+  aside = IfSome_then (aside_place p i) it.aside (λ q h. has_without f address label q h);
+  calls = IfSome_then (callee i.opcode i.operands) it.calls (λ a h. record { called = h.called; begun = λ q at. has_without f address (One (Routine a)) (pos q) (h.begun q at) });
 }
 
-pub complete_on : (memory : List ℕ) (f g : Found) (slot : ℕ) → IsComplete memory (with_waiting f slot) → Grows f g → ((i : Instruction) → spelled memory (pos slot) ≡ Ok i → IsFollowed memory g (label_at f slot) (pos slot) i) → IsComplete memory g
-complete_on memory f g slot before grows visited k i out some here =
+pub complete_on : (memory : List ℕ) (f g : Found) (address : ℕ) → IsComplete memory (with_waiting f address) → Grows f g → ((i : Instruction) → spelled memory (pos address) ≡ Ok i → IsFollowed memory g (label_at f address) (pos address) i) → IsComplete memory g
+complete_on memory f g address before grows visited k i out some here =
     let same = grows.changed k out in
     let still : label_at f k ≢ Nobody = subst (λ (m : Label). m ≢ Nobody) same some in
     subst (λ (m : Label). IsFollowed memory g m (pos k) i) (sym same)
-    ((elim (k == slot) as (λ c. (k == slot) ≡ c → IsFollowed memory g (label_at f k) (pos k) i) [
-      | true ↦ λ e. subst (λ (j : ℕ). spelled memory (pos j) ≡ Ok i → IsFollowed memory g (label_at f j) (pos j) i) (sym (eqb-true k slot e)) (visited i) here
-      | false ↦ λ e. followed_on memory f g (label_at f k) (pos k) i grows (without_waiting memory f slot (label_at f k) (pos k) i (before k i (λ w. elim (Contains-push_cases f.waiting slot k w) [
+    ((elim (k == address) as (λ c. (k == address) ≡ c → IsFollowed memory g (label_at f k) (pos k) i) [
+      | true ↦ λ e. subst (λ (j : ℕ). spelled memory (pos j) ≡ Ok i → IsFollowed memory g (label_at f j) (pos j) i) (sym (eqb-true k address e)) (visited i) here
+      | false ↦ λ e. followed_on memory f g (label_at f k) (pos k) i grows (without_waiting memory f address (label_at f k) (pos k) i (before k i (λ w. elim (Contains-push_cases f.waiting address k w) [
         | inl old ↦ out (grows.waiting k old)
-        | inr is ↦ false≢true (sym e ∙ eq-eqb k slot (sym is))
+        | inr is ↦ false≢true (sym e ∙ eq-eqb k address (sym is))
       ]) still here))
     ]) refl)
 
-pub sound_without : (story : LoadedStory) (f : Found) (slot : ℕ) → IsSound story (with_waiting f slot) → IsSound story f
-sound_without story f slot sound = record {
+pub sound_without : (story : LoadedStory) (f : Found) (address : ℕ) → IsSound story (with_waiting f address) → IsSound story f
+sound_without story f address sound = record {
   size = sound.size;
   flags = sound.flags;
   labels = sound.labels;
   called = sound.called;
-  waiting = λ k w. sound.waiting k (Contains-append_left f.waiting (slot ∷ []) k w);
+  waiting = λ k w. sound.waiting k (Contains-append_left f.waiting (address ∷ []) k w);
   below = sound.below;
   beyond = sound.beyond;
   absent = sound.absent;
@@ -374,8 +374,8 @@ sound_without story f slot sound = record {
 
 -- ---- at first
 
-none_in : (slot : ℕ) → Contains [] slot → ⊥
-none_in slot (k, l, e) = absurd (omega (arith, l))
+none_in : (address : ℕ) → Contains [] address → ⊥
+none_in address (k, l, e) = absurd (omega (arith, l))
 
 blank_at : {X : Type 0} (x : X) (xs : List X) → AllByRecursion (λ y. (y ≡ x) ⊎ (y ≡ x)) xs → (k : ℕ) → slice_index_or xs k x ≡ x
 blank_at x [] all k = refl
@@ -399,5 +399,5 @@ blank_is ls cs ws n story size flags e1 e2 e3 whole =
       nobody,
     )
 
-pub complete_begun : (memory : List ℕ) (f g : Found) → ((slot : ℕ) → label_at f slot ≡ Nobody) → Grows f g → IsComplete memory g
+pub complete_begun : (memory : List ℕ) (f g : Found) → ((address : ℕ) → label_at f address ≡ Nobody) → Grows f g → IsComplete memory g
 complete_begun memory f g blank grows k i out some here = absurd (some (grows.changed k out ∙ blank k))

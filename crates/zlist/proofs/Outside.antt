@@ -1,5 +1,5 @@
 -- Places outside memory, and the lowest of places.
-use Rattle.std.proofs.Common.{inl, inr, ◌≡◌, ℕ, zero, suc, ◌+◌, ◌<◌, ◌≤◌, Bool, true, false, List, [], ◌∷◌, length, drop, IsTrue, refl, sym, ap, subst, ◌∙◌, arith, cond, Some, None, Err}
+use Rattle.std.proofs.Common.{inl, inr, ◌≡◌, ℕ, zero, suc, ◌≤◌, true, false, List, [], ◌∷◌, length, drop, refl, sym, ap, subst, ◌∙◌, arith, cond, Some, None, Err}
 use Rattle.std.specs.Prelude.{◌⊎◌, ℤ, pos, negsuc, ◌≤ℤ◌, ◌<ℤ◌, int_le, Option, IfSome}
 use Rattle.std.specs.Int.Signed.{le_z_yes, ≤ℤ_refl}
 use Rattle.std.proofs.lemmas.Bool.{false≢true, le-ltb}

@@ -1,5 +1,5 @@
 -- What a walk that is at its end knows: all that is listed, called, or belongs to some code.
-use Rattle.std.proofs.Common.{inl, inr, ◌≡◌, ℕ, ◌<◌, ◌≤◌, Bool, true, false, List, [], length, IsTrue, refl, sym, ap, subst, ◌∙◌, arith, nat_lt, Some, None, Ok, Err, ◌||◌}
+use Rattle.std.proofs.Common.{inl, inr, ◌≡◌, ℕ, ◌<◌, ◌≤◌, Bool, true, false, List, [], length, IsTrue, refl, sym, ap, subst, ◌∙◌, arith, nat_lt, Some, Ok, Err, ◌||◌}
 use Rattle.std.specs.Prelude.{◌≢◌, ◌⊎◌, ℤ, pos, negsuc, ◌≤ℤ◌, Option, IfSome}
 use Rattle.std.specs.List.{Contains}
 use Rattle.std.proofs.lemmas.Bool.{false≢true, ltb-true, ltb-false}

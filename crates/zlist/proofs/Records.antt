@@ -1,5 +1,5 @@
 -- The records of all that is listed, and the listing that they make.
-use Rattle.std.proofs.Common.{inl, ◌≡◌, ℕ, zero, suc, ◌+◌, ◌<◌, ◌≤◌, ◌==◌, Bool, true, false, List, [], ◌∷◌, ◌++◌, length, slice_index, get_or, IsTrue, ◌↔◌, refl, sym, ap, subst, ◌∙◌, arith, nat_lt, eq-eqb, ◌||◌}
+use Rattle.std.proofs.Common.{inl, ◌≡◌, ℕ, zero, suc, ◌+◌, ◌<◌, ◌==◌, Bool, true, false, List, [], ◌∷◌, ◌++◌, length, slice_index, get_or, IsTrue, ◌↔◌, refl, sym, ap, subst, ◌∙◌, arith, nat_lt, eq-eqb, ◌||◌}
 use Rattle.std.specs.Prelude.{All, ℤ, pos, negsuc}
 use Rattle.std.specs.List.{Contains, list_any}
 use Rattle.std.specs.List.Sorted.{IsStrictlyIncreasing}
