@@ -417,6 +417,7 @@ GROWTH = [
     ("zref run", "text before a return", long_results),
     ("zref run", "status lines of a turn, and letters of a name", status_lines),
     ("zref run", "frames", deepest),
+    ("zref run", "instructions that were played, and more than are kept", longest),
     ("zref run", "words of a stack", tallest),
     ("zref run", "words of a line", many_words),
     ("zref save_bytes", "frames with their locals and stacks", deep_saves),

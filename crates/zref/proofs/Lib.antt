@@ -1,6 +1,7 @@
 mod Calling
 mod Doing
 mod Drawing
+mod Ending
 mod Fixed
 mod Hearing
 mod Keeping
