@@ -87,6 +87,7 @@ none_read known fed errors.Trailing first final = final_read known fed errors.Tr
 none_read known fed errors.Order first final = final_read known fed errors.Order first final
 none_read known fed errors.EmptyInterval first final = final_read known fed errors.EmptyInterval first final
 none_read known fed errors.Limit first final = final_read known fed errors.Limit first final
+none_read known fed errors.ListForm first final = final_read known fed errors.ListForm first final
 
 -- nor with one more piece, which is refused
 pub none_more : (known : Option (List ℕ)) (at count : ℕ) (buffer : List ℕ) (old : Stream Interval) (e : CertError) → count ≤ length buffer → IsFedTo known at old → ReadsPart known at count buffer
@@ -103,6 +104,7 @@ unread story_known certificate_known story errors.Trailing held read = ((story, 
 unread story_known certificate_known story errors.Order held read = ((story, held), read)
 unread story_known certificate_known story errors.EmptyInterval held read = ((story, held), read)
 unread story_known certificate_known story errors.Limit held read = ((story, held), read)
+unread story_known certificate_known story errors.ListForm held read = ((story, held), read)
 
 -- what a stream refuses of a story and of the file that it was fed is refused of both files
 pub unaccepted : (story_known certificate_known : Option (List ℕ)) (story : LoadedStory) (stream : Stream Interval) (refusal : StreamRefusal) → HoldsStory story_known story → Reads certificate_known (IsFed interval_format stream)
