@@ -27,6 +27,12 @@ SIGNALS = [signal.SIGINT, signal.SIGTERM, signal.SIGHUP, signal.SIGKILL]
 SEED = 1
 
 
+def heed():
+    """Has a play end by each signal, also where who runs this ignores some, as a shell in the background does."""
+    for it in SIGNALS[:-1]:
+        signal.signal(it, signal.SIG_DFL)
+
+
 def left_after(program, rng, room, linked, plays, end):
     """Ends one of so many plays, and then the others. What was in the file behind each, and what is wrong, if anything."""
     file = os.path.join(room, "other" if linked else "kept")
@@ -38,7 +44,7 @@ def left_after(program, rng, room, linked, plays, end):
     if linked:
         os.symlink("other", os.path.join(room, "kept"))
     words = [program.path, "play", "--budget", "4000000000", "--save", "kept", "story"]
-    running = [subprocess.Popen(words, cwd=room, stdin=subprocess.DEVNULL, stdout=subprocess.DEVNULL, stderr=subprocess.DEVNULL) for _ in range(plays)]
+    running = [subprocess.Popen(words, cwd=room, stdin=subprocess.DEVNULL, stdout=subprocess.DEVNULL, stderr=subprocess.DEVNULL, preexec_fn=heed) for _ in range(plays)]
     contents = set()
     for it in running:
         time.sleep(rng.uniform(0, 0.05))
