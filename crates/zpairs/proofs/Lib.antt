@@ -1,5 +1,4 @@
 mod Tables
-mod Bits
 pub mod Telling
 mod Marking
 mod Found

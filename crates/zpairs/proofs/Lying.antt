@@ -17,7 +17,8 @@ use Rattle.zobj.specs.Answers.{address_of, answer_of, if_there, is_property_numb
 use Rattle.zplace.specs.Bytes.{IsFixed}
 use Rattle.zpairs.specs.declared.ends.Ends.{Ends}
 use Rattle.zpairs.specs.Frozen.{FrozenStory, frozen_by}
-use Rattle.zpairs.specs.Ends.{turned, exactly, a_byte, any_word, no_word, byte_ends, word_ends, data_ends, value_ends}
+use Rattle.zdomain.specs.Few.{turned}
+use Rattle.zpairs.specs.Ends.{exactly, a_byte, any_word, no_word, byte_ends, word_ends, data_ends, value_ends}
 use Rattle.zpairs.specs.Fixed.{is_fixed}
 use Rattle.zpairs.specs.Cells.{cell_at}
 use Rattle.zpairs.specs.Pairs.{may_have, may_exceed, is_asked, answer_ends, pair_ends, number_ends, object_ends, all_ends, between_ends, answers}

@@ -6,10 +6,10 @@ use Rattle.zstory.specs.Bytes.{byte_at}
 use Rattle.zstory.specs.LoadedStory.{LoadedStory, globals, object_table, static_base, abbreviations, IsSound}
 use Rattle.zstory.specs.Objects.{IsObjectCount, property_table}
 use Rattle.zobj.specs.Properties.{data_end}
-use Rattle.zpairs.specs.Marks.{is_marked}
+use Rattle.zdomain.specs.Marks.{is_marked}
 use Rattle.zpairs.specs.Frozen.{AreMarked, FrozenStory, frozen_by}
 use Rattle.zplace.specs.Bytes.{IsChanging}
-use Rattle.zpairs.specs.Fixed.{AreClosed, AreMarkedToo, any_below, is_changing, is_closed, is_flags, is_in_abbreviation, is_in_frame, is_size_place, is_within}
+use Rattle.zpairs.specs.Fixed.{AreClosed, AreMarkedBelow, AreMarkedToo, any_below, is_changing, is_closed, is_flags, is_in_abbreviation, is_in_frame, is_size_place, is_within}
 use Rattle.zpairs.proofs.Telling.{size_is, changing_is, static_unchanging}
 
 -- two questions that are answered alike
@@ -57,16 +57,16 @@ marked_whole from size place p behind before word = by_order (cases_lt p from)
 
 -- ---- one after the other
 
-pub then_marked : (before middle after : List ℕ) (f g : ℕ → Bool) → AreMarkedToo before middle f → AreMarkedToo middle after g → AreMarkedToo before after (λ p. f p || g p)
-then_marked before middle after f g first second p word = second p word ∙ ap (λ (b : Bool). b || g p) (first p word) ∙ or_again (is_marked before p) (f p) (g p)
+pub then_marked : (end : ℕ) (before middle after : List ℕ) (f g : ℕ → Bool) → AreMarkedBelow end before middle f → AreMarkedBelow end middle after g → AreMarkedBelow end before after (λ p. f p || g p)
+then_marked end before middle after f g first second p word = second p word ∙ ap (λ (b : Bool). b || g p) (first p word) ∙ or_again (is_marked before p) (f p) (g p)
 
-pub none_more : (marks : List ℕ) (n : ℕ) (f : ℕ → ℕ → Bool) → n ≡ 0 → AreMarkedToo marks marks (λ p. any_below n (f p))
+pub none_more : (end : ℕ) (marks : List ℕ) (n : ℕ) (f : ℕ → ℕ → Bool) → n ≡ 0 → AreMarkedBelow end marks marks (λ p. any_below n (f p))
 unfolding any_below
-none_more marks n f none = subst (λ (k : ℕ). AreMarkedToo marks marks (λ p. any_below k (f p))) (sym none) (λ p word. or_false (is_marked marks p))
+none_more end marks n f none = subst (λ (k : ℕ). AreMarkedBelow end marks marks (λ p. any_below k (f p))) (sym none) (λ p word. or_false (is_marked marks p))
 
-pub one_more_marked : (before middle after : List ℕ) (n : ℕ) (f : ℕ → ℕ → Bool) → AreMarkedToo before middle (λ p. any_below n (f p)) → AreMarkedToo middle after (λ p. f p n) → AreMarkedToo before after (λ p. any_below (n + 1) (f p))
+pub one_more_marked : (end : ℕ) (before middle after : List ℕ) (n : ℕ) (f : ℕ → ℕ → Bool) → AreMarkedBelow end before middle (λ p. any_below n (f p)) → AreMarkedBelow end middle after (λ p. f p n) → AreMarkedBelow end before after (λ p. any_below (n + 1) (f p))
 unfolding any_below
-one_more_marked before middle after n f so_far next = let one : suc n ≡ n + 1 = omega arith in subst (λ (k : ℕ). AreMarkedToo before after (λ p. any_below k (f p))) one (then_marked before middle after (λ p. any_below n (f p)) (λ p. f p n) so_far next)
+one_more_marked end before middle after n f so_far next = let one : suc n ≡ n + 1 = omega arith in subst (λ (k : ℕ). AreMarkedBelow end before after (λ p. any_below k (f p))) one (then_marked end before middle after (λ p. any_below n (f p)) (λ p. f p n) so_far next)
 
 -- ---- the header
 
@@ -116,8 +116,8 @@ or_true false = refl
 pub same_piece : (before after : List ℕ) (from size first long : ℕ) → from ≡ first → size ≡ long → AreMarkedToo before after (is_within from size) → AreMarkedToo before after (is_within first long)
 same_piece before after from size first long at wide marked = subst (λ (k : ℕ). AreMarkedToo before after (is_within k long)) at (subst (λ (k : ℕ). AreMarkedToo before after (is_within from k)) wide marked)
 
-pub same_table : (before after : List ℕ) (read memory : List ℕ) (table first : ℕ) → read ≡ memory → table ≡ first → AreMarkedToo before after (λ p. any_below 96 (λ n. is_in_abbreviation read table n p)) → AreMarkedToo before after (λ p. any_below 96 (λ n. is_in_abbreviation memory first n p))
-same_table before after read memory table first same at marked = subst (λ (k : ℕ). AreMarkedToo before after (λ p. any_below 96 (λ n. is_in_abbreviation memory k n p))) at (subst (λ (m : List ℕ). AreMarkedToo before after (λ p. any_below 96 (λ n. is_in_abbreviation m table n p))) same marked)
+pub same_table : (before after : List ℕ) (read memory : List ℕ) (table first end base : ℕ) → read ≡ memory → table ≡ first → end ≡ base → AreMarkedBelow end before after (λ p. any_below 96 (λ n. is_in_abbreviation read table n p)) → AreMarkedBelow base before after (λ p. any_below 96 (λ n. is_in_abbreviation memory first n p))
+same_table before after read memory table first end base same at last marked = subst (λ (k : ℕ). AreMarkedBelow k before after (λ p. any_below 96 (λ n. is_in_abbreviation memory first n p))) last (subst (λ (k : ℕ). AreMarkedBelow end before after (λ p. any_below 96 (λ n. is_in_abbreviation memory k n p))) at (subst (λ (m : List ℕ). AreMarkedBelow end before after (λ p. any_below 96 (λ n. is_in_abbreviation m table n p))) same marked))
 
 -- the ranges are marked first, and nothing here is static
 ranges_last : (of_ranges others is_static : Bool) → is_static ≡ false → (of_ranges || others) ≡ ((others || of_ranges) || is_static)
@@ -127,11 +127,11 @@ ranges_last false true is_static none = refl
 ranges_last false false is_static none = sym none
 
 module _ (told : FrozenStory) where
-  base_small : IsSound told.story.memory → static_base told.story ≤ 65536
+  pub base_small : IsSound told.story.memory → static_base told.story ≤ 65536
   base_small sound = let high = sound.bytes 14 in let low = sound.bytes 15 in omega (arith, high, low)
 
   pub all_marked : (of_ranges with_header with_globals with_objects with_frames all : List ℕ) → IsSound told.story.memory → IsObjectCount told.story.memory told.story.objects → AreMarked told.ranges of_ranges → AreMarkedToo of_ranges with_header (λ p. nat_lt p 64 && not (is_flags p)) → AreMarkedToo with_header with_globals (is_within (globals told.story) 480) → AreMarkedToo with_globals with_objects (is_within (object_table told.story) (62 + 9 * told.story.objects))
-      → AreMarkedToo with_objects with_frames (λ p. any_below told.story.objects (λ below. is_in_frame told.story.memory (property_table told.story.memory (below + 1)) p)) → AreMarkedToo with_frames all (λ p. any_below 96 (λ n. is_in_abbreviation told.story.memory (abbreviations told.story) n p)) → AreClosed told all
+      → AreMarkedToo with_objects with_frames (λ p. any_below told.story.objects (λ below. is_in_frame told.story.memory (property_table told.story.memory (below + 1)) p)) → AreMarkedBelow (static_base told.story) with_frames all (λ p. any_below 96 (λ n. is_in_abbreviation told.story.memory (abbreviations told.story) n p)) → AreClosed told all
   all_marked of_ranges with_header with_globals with_objects with_frames all sound counted ranges header variables objects frames abbreviated = record {
     each = each;
     behind = λ p above. or_right _ (nat_le (static_base told.story) p) (le-leb (static_base told.story) p above);
@@ -139,16 +139,16 @@ module _ (told : FrozenStory) where
   }
     where
       first_two : AreMarkedToo of_ranges with_globals (λ p. (nat_lt p 64 && not (is_flags p)) || is_within (globals told.story) 480 p)
-      first_two = then_marked of_ranges with_header with_globals (λ p. nat_lt p 64 && not (is_flags p)) (is_within (globals told.story) 480) header variables
+      first_two = then_marked 65536 of_ranges with_header with_globals (λ p. nat_lt p 64 && not (is_flags p)) (is_within (globals told.story) 480) header variables
 
       first_three : AreMarkedToo of_ranges with_objects (λ p. (nat_lt p 64 && not (is_flags p)) || is_within (globals told.story) 480 p || is_within (object_table told.story) (62 + 9 * told.story.objects) p)
-      first_three = then_marked of_ranges with_globals with_objects (λ p. (nat_lt p 64 && not (is_flags p)) || is_within (globals told.story) 480 p) (is_within (object_table told.story) (62 + 9 * told.story.objects)) first_two objects
+      first_three = then_marked 65536 of_ranges with_globals with_objects (λ p. (nat_lt p 64 && not (is_flags p)) || is_within (globals told.story) 480 p) (is_within (object_table told.story) (62 + 9 * told.story.objects)) first_two objects
 
       first_four : AreMarkedToo of_ranges with_frames (λ p. (nat_lt p 64 && not (is_flags p)) || is_within (globals told.story) 480 p || is_within (object_table told.story) (62 + 9 * told.story.objects) p || any_below told.story.objects (λ below. is_in_frame told.story.memory (property_table told.story.memory (below + 1)) p))
-      first_four = then_marked of_ranges with_objects with_frames (λ p. (nat_lt p 64 && not (is_flags p)) || is_within (globals told.story) 480 p || is_within (object_table told.story) (62 + 9 * told.story.objects) p) (λ p. any_below told.story.objects (λ below. is_in_frame told.story.memory (property_table told.story.memory (below + 1)) p)) first_three frames
+      first_four = then_marked 65536 of_ranges with_objects with_frames (λ p. (nat_lt p 64 && not (is_flags p)) || is_within (globals told.story) 480 p || is_within (object_table told.story) (62 + 9 * told.story.objects) p) (λ p. any_below told.story.objects (λ below. is_in_frame told.story.memory (property_table told.story.memory (below + 1)) p)) first_three frames
 
-      first_five : AreMarkedToo of_ranges all (λ p. (nat_lt p 64 && not (is_flags p)) || is_within (globals told.story) 480 p || is_within (object_table told.story) (62 + 9 * told.story.objects) p || any_below told.story.objects (λ below. is_in_frame told.story.memory (property_table told.story.memory (below + 1)) p) || any_below 96 (λ n. is_in_abbreviation told.story.memory (abbreviations told.story) n p))
-      first_five = then_marked of_ranges with_frames all (λ p. (nat_lt p 64 && not (is_flags p)) || is_within (globals told.story) 480 p || is_within (object_table told.story) (62 + 9 * told.story.objects) p || any_below told.story.objects (λ below. is_in_frame told.story.memory (property_table told.story.memory (below + 1)) p)) (λ p. any_below 96 (λ n. is_in_abbreviation told.story.memory (abbreviations told.story) n p)) first_four abbreviated
+      first_five : AreMarkedBelow (static_base told.story) of_ranges all (λ p. (nat_lt p 64 && not (is_flags p)) || is_within (globals told.story) 480 p || is_within (object_table told.story) (62 + 9 * told.story.objects) p || any_below told.story.objects (λ below. is_in_frame told.story.memory (property_table told.story.memory (below + 1)) p) || any_below 96 (λ n. is_in_abbreviation told.story.memory (abbreviations told.story) n p))
+      first_five = then_marked (static_base told.story) of_ranges with_frames all (λ p. (nat_lt p 64 && not (is_flags p)) || is_within (globals told.story) 480 p || is_within (object_table told.story) (62 + 9 * told.story.objects) p || any_below told.story.objects (λ below. is_in_frame told.story.memory (property_table told.story.memory (below + 1)) p)) (λ p. any_below 96 (λ n. is_in_abbreviation told.story.memory (abbreviations told.story) n p)) (λ p below. first_four p (let small = base_small sound in omega (arith, below, small))) abbreviated
 
       others : ℕ → Bool
       others p = (nat_lt p 64 && not (is_flags p)) || is_within (globals told.story) 480 p || is_within (object_table told.story) (62 + 9 * told.story.objects) p || any_below told.story.objects (λ below. is_in_frame told.story.memory (property_table told.story.memory (below + 1)) p) || any_below 96 (λ n. is_in_abbreviation told.story.memory (abbreviations told.story) n p)
@@ -157,4 +157,4 @@ module _ (told : FrozenStory) where
       each p below =
           let small = base_small sound in
           let word : p < 65536 = omega (arith, below, small) in
-          first_five p word ∙ ap (λ (b : Bool). b || others p) (ranges.each p word) ∙ ranges_last (frozen_by told.ranges p) (others p) (nat_le (static_base told.story) p) (low (static_base told.story) p 0 below)
+          first_five p below ∙ ap (λ (b : Bool). b || others p) (ranges.each p word) ∙ ranges_last (frozen_by told.ranges p) (others p) (nat_le (static_base told.story) p) (low (static_base told.story) p 0 below)

@@ -10,10 +10,11 @@ use Rattle.zobj.specs.declared.property.Property.{Property}
 use Rattle.zobj.specs.declared.answers.PropertyQuestion.TheVariants.{Value, Address, Next}
 use Rattle.zobj.specs.Properties.{first_properties, property_of}
 use Rattle.zpairs.specs.declared.cell.Test.TheVariants.{Answered, Put, Open}
-use Rattle.zpairs.specs.Marks.{is_marked}
+use Rattle.zdomain.specs.Marks.{is_marked}
 use Rattle.zpairs.specs.Frozen.{FrozenStory, frozen_by}
 use Rattle.zpairs.specs.Rows.{property_in}
-use Rattle.zpairs.specs.Ends.{turned, exactly, a_byte, any_word, no_word, joined, value_ends, address_ends}
+use Rattle.zdomain.specs.Few.{turned}
+use Rattle.zpairs.specs.Ends.{exactly, a_byte, any_word, no_word, joined, value_ends, address_ends}
 use Rattle.zpairs.specs.Blocks.{object_cell, object_in, place_cell}
 use Rattle.zpairs.specs.Fixed.{any_below, is_closed, is_size_place}
 use Rattle.zpairs.specs.Cells.{absent_passes, has_none, cell_of, cell_at, no_cell, merged, passes}

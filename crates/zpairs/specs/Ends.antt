@@ -1,15 +1,11 @@
 -- The ends of what an answer may be, in the order of signed readings (own).
-use Rattle.std.specs.Prelude.{ℕ, ◌+◌, ◌%◌, Bool, ◌&&◌, ◌==◌, if◌then◌else◌, min, max, List, Option, Some, None}
+use Rattle.std.specs.Prelude.{ℕ, ◌+◌, Bool, ◌&&◌, ◌==◌, if◌then◌else◌, min, max, List, Option, Some, None}
 use Rattle.zstory.specs.Bytes.{byte_at, word_at}
 use Rattle.zobj.specs.declared.property.Property.{Property}
 use Rattle.zobj.specs.Values.{default_word}
 use Rattle.zobj.specs.Answers.{address_of}
+use Rattle.zdomain.specs.Few.{turned}
 use Rattle.zpairs.specs.declared.ends.Ends.{Ends}
-
--- Where a word stands in the order of signed readings, which begins with 32768 and ends with 32767; and the word that stands at a
--- place of that order
-abbrev pub turned : ℕ → ℕ
-turned word = (word + 32768) % 65536
 
 -- the ends of one word, of the words below 256, of all words, and of none
 abbrev pub exactly : ℕ → Ends

@@ -6,7 +6,7 @@ use Rattle.zstory.specs.Objects.{object_place, property_table}
 use Rattle.ztext.specs.Abbreviations.{readable_word}
 use Rattle.ztext.specs.Local.{read_length}
 use Rattle.zobj.specs.Properties.{list_place, data_end}
-use Rattle.zpairs.specs.Marks.{is_marked}
+use Rattle.zdomain.specs.Marks.{is_marked}
 use Rattle.zpairs.specs.Frozen.{FrozenStory, frozen_by}
 
 -- a place is one of so many from another on
@@ -66,6 +66,9 @@ pub record AreClosed (told : FrozenStory) (marks : List ℕ) : Type 0 where
   pub behind : (p : ℕ) → static_base told.story ≤ p → is_closed told p ≡ true
   pub still : (p : ℕ) → static_base told.story ≤ p → is_changing told.story p ≡ false
 
--- marks with those of more places
+-- marks with those of more places, up to an end; and of all places
+abbrev pub AreMarkedBelow : ℕ → List ℕ → List ℕ → (ℕ → Bool) → Type 0
+AreMarkedBelow end before after holds = (p : ℕ) → p < end → is_marked after p ≡ (is_marked before p || holds p)
+
 abbrev pub AreMarkedToo : List ℕ → List ℕ → (ℕ → Bool) → Type 0
-AreMarkedToo before after holds = (p : ℕ) → p < 65536 → is_marked after p ≡ (is_marked before p || holds p)
+AreMarkedToo before after holds = AreMarkedBelow 65536 before after holds

@@ -3,7 +3,7 @@ use Rattle.std.specs.Prelude.{◌≡◌, ℕ, ◌<◌, ◌&&◌, Bool, List, nat
 use Rattle.std.specs.List.{list_any}
 use Rattle.zstory.specs.LoadedStory.{LoadedStory}
 use Rattle.zcert.specs.declared.parts.Range.{Range}
-use Rattle.zpairs.specs.Marks.{is_marked}
+use Rattle.zdomain.specs.Marks.{is_marked}
 
 -- the place lies in the range, both ends included
 abbrev pub is_inside : ℕ → Range → Bool

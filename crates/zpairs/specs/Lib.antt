@@ -1,4 +1,3 @@
-pub mod Marks
 pub mod Frozen
 pub mod Fixed
 pub mod Ends

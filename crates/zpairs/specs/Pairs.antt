@@ -12,7 +12,8 @@ use Rattle.zplace.specs.Bytes.{IsOpen}
 use Rattle.zpairs.specs.declared.ends.Ends.{Ends}
 use Rattle.zpairs.specs.declared.cell.Cell.{Cell}
 use Rattle.zpairs.specs.Frozen.{FrozenStory}
-use Rattle.zpairs.specs.Ends.{turned, no_word, joined}
+use Rattle.zdomain.specs.Few.{turned}
+use Rattle.zpairs.specs.Ends.{no_word, joined}
 use Rattle.zpairs.specs.Cells.{cell_at}
 
 module _ {V : Type 0} (o : SetOperations V) where

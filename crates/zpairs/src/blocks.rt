@@ -42,16 +42,18 @@ pub(crate) fn object_cell(
     }
 }
 
-/// What is known of each block and each number.
-pub(crate) fn block_cells(marked: Marked<'_>, places: &[u16; OBJECT_CELLS]) -> [Cell; BLOCK_CELLS]
+/// Makes cells what is known of each block and each number.
+pub(crate) fn fill_blocks(
+    cells: &mut [Cell; BLOCK_CELLS],
+    marked: Marked<'_>,
+    places: &[u16; OBJECT_CELLS],
+)
     requires { ArePlaces marked.story.now places.now }
-    ensures { AreBlocks (record { story = marked.entry.story.now; ranges = marked.entry.ranges.now }) result }
+    ensures { AreBlocks (record { story = marked.entry.story.now; ranges = marked.entry.ranges.now }) cells.new }
 {
-    let mut cells = [Cell::NONE; BLOCK_CELLS];
     for k in 0..BLOCK_CELLS {
         cells[k] = block_cell(marked, places, k / COLUMNS, (k % COLUMNS) as u16);
     }
-    cells
 }
 
 /// What stands in a table of blocks at an index, and nothing behind its last.

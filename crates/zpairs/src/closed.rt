@@ -3,11 +3,11 @@
 ghost use Rattle.std.specs.Prelude.{◌≡◌, ◌+◌, ◌≤◌, ◌<◌, ◌&&◌, ◌||◌, length, not, nat_lt};
 ghost use Rattle.zstory.specs.Objects.{property_table};
 ghost use Rattle.ztext.specs.Abbreviations.{readable_word};
-ghost use Rattle.zpairs.specs.Fixed.{AreClosed, AreMarkedToo, any_below, is_flags, is_in_abbreviation, is_in_frame, is_in_text, is_size_place, is_within};
+ghost use Rattle.zpairs.specs.Fixed.{AreClosed, AreMarkedBelow, AreMarkedToo, any_below, is_flags, is_in_abbreviation, is_in_frame, is_in_text, is_size_place, is_within};
 
-use crate::frozen::{PLACES, marks_of};
-use crate::marks::Marks;
+use crate::frozen::{MARK_BYTES, PLACES, mark_ranges};
 use zcert::Range;
+use zdomain::Marks;
 use zplace::{data_end, list_place, name_words, read_length, table_of};
 use zstory::{DEFAULTS_LENGTH, GLOBALS_LENGTH, OBJECT_ENTRY_LENGTH, Story};
 
@@ -20,24 +20,23 @@ const FLAGS_2: usize = 0x10;
 /// How many abbreviations there are (Z 3.3).
 const ABBREVIATIONS: u8 = 96;
 
-/// A mark for each byte of dynamic memory whether it is closed: what the story's own tables take up, and what lies in a range. Each table is
-/// gone over once, and each place of each range; static memory, all of which is closed, isn't.
-pub fn closed_marks(story: &Story, ranges: &[Range]) -> Marks
-    ensures { AreClosed (record { story = story.now; ranges = ranges.now }) result }
+/// Marks each byte of dynamic memory that is closed: what the story's own tables take up, and what lies in a range. Each table is gone over
+/// once, and each place of each range; static memory, all of which is closed, isn't.
+pub(crate) fn mark_closed(marks: &mut Marks<MARK_BYTES>, story: &Story, ranges: &[Range])
+    ensures { AreClosed (record { story = story.now; ranges = ranges.now }) marks.new }
 {
     let memory = story.memory();
-    let mut marks = marks_of(ranges);
     let entries = OBJECT_ENTRY_LENGTH * usize::from(story.objects());
-    mark_header(&mut marks);
-    mark(&mut marks, story.globals(), GLOBALS_LENGTH);
-    mark(&mut marks, story.object_table(), DEFAULTS_LENGTH + entries);
-    mark_frames(&mut marks, story);
-    mark_abbreviations(&mut marks, memory, story.abbreviations());
-    marks
+    mark_ranges(marks, ranges);
+    mark_header(marks);
+    mark(marks, story.globals(), GLOBALS_LENGTH);
+    mark(marks, story.object_table(), DEFAULTS_LENGTH + entries);
+    mark_frames(marks, story);
+    mark_abbreviations(marks, memory, story.abbreviations(), story.static_base());
 }
 
 /// Marks so many places from one on.
-fn mark(marks: &mut Marks, from: usize, size: usize)
+fn mark(marks: &mut Marks<MARK_BYTES>, from: usize, size: usize)
     ensures { AreMarkedToo marks.old marks.new (is_within from size) }
 {
     for place in from..from.saturating_add(size).min(PLACES) {
@@ -46,7 +45,7 @@ fn mark(marks: &mut Marks, from: usize, size: usize)
 }
 
 /// Marks the header without Flags 2.
-fn mark_header(marks: &mut Marks)
+fn mark_header(marks: &mut Marks<MARK_BYTES>)
     ensures { AreMarkedToo marks.old marks.new (λ p. nat_lt p 64 && not (is_flags p)) }
 {
     mark(marks, 0, FLAGS_2);
@@ -54,7 +53,7 @@ fn mark_header(marks: &mut Marks)
 }
 
 /// Marks what the property tables of all objects are beside their data.
-fn mark_frames(marks: &mut Marks, story: &Story)
+fn mark_frames(marks: &mut Marks<MARK_BYTES>, story: &Story)
     ensures { AreMarkedToo marks.old marks.new (λ p. any_below story.now.objects (λ below. is_in_frame story.now.memory (property_table story.now.memory (below + 1)) p)) }
 {
     for below in 0..story.objects() {
@@ -63,7 +62,7 @@ fn mark_frames(marks: &mut Marks, story: &Story)
 }
 
 /// Marks what one property table is beside its data.
-fn mark_frame(marks: &mut Marks, story: &Story, table: usize)
+fn mark_frame(marks: &mut Marks<MARK_BYTES>, story: &Story, table: usize)
     requires { table ≤ 65535 }
     ensures { AreMarkedToo marks.old marks.new (is_in_frame story.now.memory table) }
 {
@@ -74,7 +73,7 @@ fn mark_frame(marks: &mut Marks, story: &Story, table: usize)
 }
 
 /// Marks the size bytes of a list of properties, with the zero byte at its end.
-fn mark_sizes(marks: &mut Marks, memory: &[u8], first: usize)
+fn mark_sizes(marks: &mut Marks<MARK_BYTES>, memory: &[u8], first: usize)
     ensures { AreMarkedToo marks.old marks.new (is_size_place (length memory.now) memory.now first) }
 {
     let mut at = first;
@@ -87,31 +86,37 @@ fn mark_sizes(marks: &mut Marks, memory: &[u8], first: usize)
     }
 }
 
-/// Marks all abbreviations of a table.
-fn mark_abbreviations(marks: &mut Marks, memory: &[u8], table: usize)
-    requires { table < 65536 }
-    ensures { AreMarkedToo marks.old marks.new (λ p. any_below 96 (λ n. is_in_abbreviation memory.now table n p)) }
+/// Marks all abbreviations of a table, up to an end.
+fn mark_abbreviations(marks: &mut Marks<MARK_BYTES>, memory: &[u8], table: usize, end: usize)
+    requires table { table < 65536 }
+    requires end { end ≤ 65536 }
+    ensures { AreMarkedBelow end marks.old marks.new (λ p. any_below 96 (λ n. is_in_abbreviation memory.now table n p)) }
 {
     for number in 0..ABBREVIATIONS {
-        mark_abbreviation(marks, memory, table + 2 * usize::from(number));
+        mark_abbreviation(marks, memory, table + 2 * usize::from(number), end);
     }
 }
 
-/// Marks a word of the table, which leads to an abbreviation, and what a reading of its text goes over.
-fn mark_abbreviation(marks: &mut Marks, memory: &[u8], entry: usize)
-    ensures { AreMarkedToo marks.old marks.new (λ p. is_within entry 2 p || is_in_text memory.now (readable_word memory.now entry) p) }
+/// Marks a word of the table, which leads to an abbreviation, and what a reading of its text goes over, up to an end.
+fn mark_abbreviation(marks: &mut Marks<MARK_BYTES>, memory: &[u8], entry: usize, end: usize)
+    requires { end ≤ 65536 }
+    ensures { AreMarkedBelow end marks.old marks.new (λ p. is_within entry 2 p || is_in_text memory.now (readable_word memory.now entry) p) }
 {
     mark(marks, entry, 2);
-    mark_text(marks, memory, readable_word(memory, entry));
+    mark_text(marks, memory, readable_word(memory, entry), end);
 }
 
-/// Marks what a reading goes over of the text that a word leads to.
-fn mark_text(marks: &mut Marks, memory: &[u8], found: Option<u16>)
-    ensures { AreMarkedToo marks.old marks.new (is_in_text memory.now found) }
+/// Marks what a reading goes over of the text that a word leads to, up to an end. A text that begins behind it isn't read.
+fn mark_text(marks: &mut Marks<MARK_BYTES>, memory: &[u8], found: Option<u16>, end: usize)
+    requires { end ≤ 65536 }
+    ensures { AreMarkedBelow end marks.old marks.new (is_in_text memory.now found) }
 {
-    if let Some(word) = found {
-        let place = 2 * usize::from(word);
-        mark(marks, place, read_length(memory, place));
+    let Some(word) = found else {
+        return;
+    };
+    let place = 2 * usize::from(word);
+    if place < end {
+        mark(marks, place, read_length(memory, place).min(end - place));
     }
 }
 

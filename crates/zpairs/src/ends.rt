@@ -1,7 +1,10 @@
 //! The ends of what an answer may be.
 
 ghost use Rattle.std.specs.Prelude.{◌≡◌};
-ghost use Rattle.zpairs.specs.Ends.{exactly, joined, turned};
+ghost use Rattle.zdomain.specs.Few.{turned};
+ghost use Rattle.zpairs.specs.Ends.{exactly, joined};
+
+use zdomain::turned;
 
 /// The least and the greatest of some words, in the order of their signed readings. Each end is the place of a word in that order,
 /// so that both rise as numbers do.
@@ -9,14 +12,6 @@ ghost use Rattle.zpairs.specs.Ends.{exactly, joined, turned};
 pub struct Ends {
     pub least: u16,
     pub greatest: u16,
-}
-
-/// Where a word stands in the order of signed readings, and the word that stands at a place of it.
-#[inline(always)]
-pub fn turned(word: u16) -> u16
-    ensures { result ≡ turned word }
-{
-    word.wrapping_add(0x8000)
 }
 
 impl Ends {

@@ -2,29 +2,31 @@
 
 ghost use Rattle.std.specs.Prelude.{◌≡◌, ◌<◌, ◌||◌, ℕ};
 ghost use Rattle.zpairs.specs.Frozen.{AreMarked, frozen_by, is_inside};
-ghost use Rattle.zpairs.specs.Marks.{is_marked};
+ghost use Rattle.zdomain.specs.Marks.{is_marked};
 
-use crate::marks::Marks;
 use zcert::Range;
+use zdomain::Marks;
 
 /// How many places ranges can reach.
 pub const PLACES: usize = 65_536;
 
-/// The marks of ranges. Each place of each range is gone over once.
-pub(crate) fn marks_of(ranges: &[Range]) -> Marks
-    ensures { AreMarked ranges.now result }
+/// How many bytes have a bit for each of them.
+pub(crate) const MARK_BYTES: usize = 8_192;
+
+/// Marks the places of ranges, and no others. Each place of each range is gone over once.
+pub(crate) fn mark_ranges(marks: &mut Marks<MARK_BYTES>, ranges: &[Range])
+    ensures { AreMarked ranges.now marks.new }
 {
-    let mut marks = Marks::none();
+    *marks = Marks::none();
     let mut left = ranges;
     while let [range, rest @ ..] = left {
-        mark(&mut marks, *range);
+        mark(marks, *range);
         left = rest;
     }
-    marks
 }
 
 /// Marks the places of a range.
-fn mark(marks: &mut Marks, range: Range)
+fn mark(marks: &mut Marks<MARK_BYTES>, range: Range)
     ensures { (p : ℕ) → p < 65536 → is_marked marks.new p ≡ (is_marked marks.old p || is_inside p range) }
 {
     for place in usize::from(range.first)..usize::from(range.last) + 1 {

@@ -10,14 +10,13 @@ mod fixed;
 mod frozen;
 mod laws;
 mod marked;
-mod marks;
 mod properties;
+mod room;
 mod rows;
 
-pub use closed::closed_marks;
-pub use ends::{Ends, turned};
+pub use ends::Ends;
 pub use frozen::PLACES;
 pub use laws::answers_lie_in_their_sets;
 pub use marked::Marked;
-pub use marks::Marks;
 pub use properties::Properties;
+pub use room::PropertyRoom;

@@ -4,8 +4,9 @@ ghost use Rattle.std.specs.Prelude.{◌≡◌};
 ghost use Rattle.zpairs.specs.Fixed.{AreClosed};
 
 use crate::fixed::is_still;
-use crate::marks::Marks;
+use crate::frozen::MARK_BYTES;
 use zcert::Range;
+use zdomain::Marks;
 use zstory::Story;
 
 /// A story and ranges of bytes that stay as they are, with a mark for each byte of dynamic memory whether it is closed.
@@ -13,7 +14,7 @@ use zstory::Story;
 pub struct Marked<'a> {
     pub story: &'a Story,
     pub ranges: &'a [Range],
-    pub closed: &'a Marks,
+    pub closed: &'a Marks<MARK_BYTES>,
     pub ghost marked: { AreClosed (record { story = story.now; ranges = ranges.now }) closed.now },
 }
 

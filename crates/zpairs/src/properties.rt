@@ -8,31 +8,33 @@ ghost use Rattle.zpairs.specs.Frozen.{FrozenStory, frozen_by};
 ghost use Rattle.zpairs.specs.Pairs.{EachPair, all_ends, is_asked, may_exceed, may_have, object_ends, pair_ends};
 
 use crate::blocks::{
-    BLOCK_CELLS, BLOCK_LENGTH, COLUMNS, OBJECT_CELLS, block_cells, cell_in, object_cell,
+    BLOCK_CELLS, BLOCK_LENGTH, COLUMNS, OBJECT_CELLS, cell_in, fill_blocks, object_cell,
 };
 use crate::cell::{Cell, Test};
-use crate::ends::{Ends, turned};
+use crate::closed::mark_closed;
+use crate::ends::Ends;
+use crate::frozen::MARK_BYTES;
 use crate::marked::Marked;
-use crate::marks::Marks;
-use crate::rows::object_places;
+use crate::room::PropertyRoom;
+use crate::rows::place_objects;
 use std::marker::Model;
 use zcert::Range;
-use zdomain::Domain;
+use zdomain::{Domain, Marks, turned};
 use zobj::PropertyQuestion;
 use zstory::Story;
 
 /// How many numbers a size byte can have (Z 12.4.1).
 const NUMBERS: u16 = 32;
 
-/// The properties of a story's objects, with the ranges of bytes that stay as they are. Where each object has each number is kept, and what
-/// is known of 16 objects side by side, so that a question about many is answered by blocks.
+/// The properties of a story's objects, with the ranges of bytes that stay as they are. Where each object has each number is kept in a room,
+/// and what is known of 16 objects side by side, so that a question about many is answered by blocks.
 #[derive(Drop)]
 pub struct Properties<'a> {
     story: &'a Story,
     ranges: &'a [Range],
-    closed: Marks,
-    places: [u16; OBJECT_CELLS],
-    blocks: [Cell; BLOCK_CELLS],
+    closed: &'a Marks<MARK_BYTES>,
+    places: &'a [u16; OBJECT_CELLS],
+    blocks: &'a [Cell; BLOCK_CELLS],
 }
 
 impl<'a> Model for Properties<'a> {
@@ -46,7 +48,7 @@ impl<'a> Model for Properties<'a> {
     ghost use Rattle.zpairs.specs.Fixed.{AreClosed};
     ghost use Rattle.zpairs.specs.Rows.{ArePlaces};
 
-    ghost invariant = { λ p. AreClosed (record { story = p.story.now; ranges = p.ranges.now }) p.closed × ArePlaces p.story.now p.places × AreBlocks (record { story = p.story.now; ranges = p.ranges.now }) p.blocks };
+    ghost invariant = { λ p. AreClosed (record { story = p.story.now; ranges = p.ranges.now }) p.closed.now × ArePlaces p.story.now p.places.now × AreBlocks (record { story = p.story.now; ranges = p.ranges.now }) p.blocks.now };
 }
 
 impl<'a> Properties<'a> {
@@ -59,25 +61,29 @@ impl<'a> Properties<'a> {
     ghost use Rattle.zpairs.specs.Frozen.{frozen_by};
     ghost use Rattle.zpairs.specs.Pairs.{AreAnswered, HaveOpenData, CanBePut, EachPair, all_ends, answers, ends_below, number_ends, object_ends, pair_ends};
 
-    /// Those of a story, of which the bytes in some ranges stay as they are, by the marks of closed bytes. Each object's list is gone over
-    /// once. They take no memory beside their own, about 40 KB.
-    pub fn new(story: &'a Story, ranges: &'a [Range], closed: Marks) -> Properties<'a>
-        requires { AreClosed (record { story = story.now; ranges = ranges.now }) closed }
+    /// Those of a story, of which the bytes in some ranges stay as they are, in a room. Each of the story's own tables is gone over once, and
+    /// each place of each range.
+    pub fn new(
+        story: &'a Story,
+        ranges: &'a [Range],
+        room: &'a mut PropertyRoom,
+    ) -> Properties<'a>
         ensures { result ≡ record { story = story.now; ranges = ranges.now } }
     {
-        let places = object_places(story);
+        mark_closed(&mut room.closed, story, ranges);
+        place_objects(&mut room.places, story);
         let marked = Marked {
             story,
             ranges,
-            closed: &closed,
+            closed: &room.closed,
         };
-        let blocks = block_cells(marked, &places);
+        fill_blocks(&mut room.blocks, marked, &room.places);
         Properties {
             story,
             ranges,
-            closed,
-            places,
-            blocks,
+            closed: &room.closed,
+            places: &room.places,
+            blocks: &room.blocks,
         }
     }
 
@@ -89,7 +95,7 @@ impl<'a> Properties<'a> {
         Marked {
             story: self.story,
             ranges: self.ranges,
-            closed: &self.closed,
+            closed: self.closed,
         }
     }
 
@@ -222,7 +228,7 @@ impl<'a> Properties<'a> {
         ensures { result ≡ block_cell self.now block number }
     {
         cell_in(
-            &self.blocks,
+            self.blocks,
             COLUMNS * usize::from(block) + usize::from(number),
         )
     }
@@ -302,9 +308,9 @@ impl<'a> Properties<'a> {
         let marked = Marked {
             story: self.story,
             ranges: self.ranges,
-            closed: &self.closed,
+            closed: self.closed,
         };
-        object_cell(marked, &self.places, usize::from(object) - 1, number)
+        object_cell(marked, self.places, usize::from(object) - 1, number)
     }
 
     /// The ends of what may be answered of objects and numbers of two sets.

@@ -57,17 +57,15 @@ fn renew(story: &Story, row: &mut [Option<Property>; COLUMNS], k: usize)
     }
 }
 
-/// Where the data of each object's property of each number are, 0 where it has none.
-pub(crate) fn object_places(story: &Story) -> [u16; OBJECT_CELLS]
-    ensures { ArePlaces story.now result }
+/// Makes places those where the data of each object's property of each number are, 0 where it has none.
+pub(crate) fn place_objects(places: &mut [u16; OBJECT_CELLS], story: &Story)
+    ensures { ArePlaces story.now places.new }
 {
-    let mut places = [0; OBJECT_CELLS];
     let mut row = [None; COLUMNS];
     for k in 0..COLUMNS * usize::from(story.objects()) {
         renew(story, &mut row, k);
         places[k] = address_of(row[k % COLUMNS]);
     }
-    places
 }
 
 /// The property whose data are at a place, and none at 0.

@@ -8,7 +8,8 @@ use Rattle.zdomain.specs.Domain.{SetOperations, AreSound, In}
 use Rattle.zarray.specs.declared.width.Width.{Width}
 use Rattle.zarray.specs.declared.width.Width.TheVariants.{Byte, Word}
 use Rattle.zarray.specs.Arrays.{place_of, span, value_at, element_at}
-use Rattle.zpairs.specs.Ends.{turned, exactly}
+use Rattle.zdomain.specs.Few.{turned}
+use Rattle.zpairs.specs.Ends.{exactly}
 use Rattle.zpairs.specs.Frozen.{FrozenStory, frozen_by}
 use Rattle.zpairs.proofs.Hulls.{IsInside, IsPlace, inside_first, inside_second}
 use Rattle.zpairs.proofs.Lying.{low_end, high_end, exact}

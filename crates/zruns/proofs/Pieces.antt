@@ -117,11 +117,6 @@ pub block_read : (told : FrozenStory) (width : Width) (cells : List Cell) (block
 block_read told width cells block are few = are block few
 
 module _ (told : FrozenStory) (width : Width) where
-  -- a piece of one address
-  pub single : (at : ℕ) → cell_at told width at ≡ piece_cell told width at 1
-  unfolding merged_below
-  single at = let same : at ≡ at + 0 = omega arith in subst (λ (p : ℕ). cell_at told width at ≡ merged no_cell (cell_at told width p)) same (sym (before_all (cell_at told width at) (omega arith)))
-
   pub none_yet : (from : ℕ) → no_cell ≡ piece_cell told width from (from - from)
   unfolding merged_below
   none_yet from = let none : 0 ≡ from - from = omega arith in subst (λ (n : ℕ). no_cell ≡ piece_cell told width from n) none refl
@@ -155,18 +150,7 @@ module _ (told : FrozenStory) (width : Width) where
 
 -- how far a step goes
 pub step_small : (at end size : ℕ) → at < end → size ≡ step_length at end → (1 ≤ size) × (at + size ≤ end)
-step_small at end size some is = by ((at % 256 == 0) && nat_le 256 (end - at)) refl is
-  where
-    by : (b : Bool) → ((at % 256 == 0) && nat_le 256 (end - at)) ≡ b → size ≡ (if b then 256 else 1) → (1 ≤ size) × (at + size ≤ end)
-    by true e is = let whole = leb-true 256 (end - at) (and_parts (at % 256 == 0) (nat_le 256 (end - at)) e).1 in (omega (arith, is), omega (arith, is, whole))
-    by false e is = (omega (arith, is), omega (arith, is, some))
-
-pub one_step : (at end size : ℕ) → size ≡ step_length at end → (size ≡ 256 → ⊥) → step_length at end ≡ 1
-one_step at end size is other = by ((at % 256 == 0) && nat_le 256 (end - at)) is
-  where
-    by : (b : Bool) → size ≡ (if b then 256 else 1) → ◌≡◌ {A = ℕ} (if b then 256 else 1) 1
-    by true e = absurd (other e)
-    by false e = refl
+step_small at end size some is = (omega (arith, some, is), omega (arith, some, is))
 
 -- one more block of a table
 pub one_more_cell : (cells : List Cell) (f : ℕ → Cell) (k : ℕ) (cell : Cell) → k < length cells → cell ≡ f k → ((j : ℕ) → j < k → slice_index_or cells j no_cell ≡ f j) → (j : ℕ) → j < k + 1 → slice_index_or (slice_set cells k cell) j no_cell ≡ f j

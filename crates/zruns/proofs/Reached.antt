@@ -6,7 +6,7 @@ use Rattle.zdomain.specs.Domain.{SetOperations, AreSound, In}
 use Rattle.zarray.specs.declared.width.Width.{Width}
 use Rattle.zarray.specs.declared.width.Width.TheVariants.{Byte, Word}
 use Rattle.zarray.specs.Arrays.{place_of, span}
-use Rattle.zpairs.specs.Ends.{turned}
+use Rattle.zdomain.specs.Few.{turned}
 use Rattle.zruns.specs.Runs.{address, as_word, run_of}
 
 -- the order of signed readings is that of places

@@ -42,7 +42,7 @@ whole_runs = (refl, refl, refl)
 addresses : (address (record { first = 65534; more = 3 }) 0 ≡ 65534) × (address (record { first = 65534; more = 3 }) 1 ≡ 65535) × (address (record { first = 65534; more = 3 }) 2 ≡ 0) × (address (record { first = 65534; more = 3 }) 3 ≡ 1)
 addresses = (refl, refl, refl, refl)
 
-steps : (step_length 255 1000 ≡ 1) × (step_length 256 512 ≡ 256) × (step_length 256 511 ≡ 1) × (step_length 0 65536 ≡ 256) × (step_length 256 600 ≡ 256)
+steps : (step_length 255 1000 ≡ 1) × (step_length 256 512 ≡ 256) × (step_length 256 511 ≡ 255) × (step_length 0 65536 ≡ 256) × (step_length 256 600 ≡ 256)
 steps = (refl, refl, refl, refl, refl)
 
 -- ---- a story with one object

@@ -1,5 +1,5 @@
 -- What is known of addresses side by side: whole blocks that are asked in the place of their addresses (own).
-use Rattle.std.specs.Prelude.{◌≡◌, ℕ, ◌+◌, ◌-◌, ◌*◌, ◌%◌, ◌<◌, ◌&&◌, ◌==◌, nat_le, if◌then◌else◌, List, slice_index_or}
+use Rattle.std.specs.Prelude.{◌≡◌, ℕ, ◌+◌, ◌-◌, ◌*◌, ◌%◌, ◌<◌, min, List, slice_index_or}
 use Rattle.zarray.specs.declared.width.Width.{Width}
 use Rattle.zpairs.specs.Frozen.{FrozenStory}
 use Rattle.zruns.specs.declared.cell.Cell.{Cell}
@@ -17,6 +17,6 @@ block_cell told width block = piece_cell told width (256 * block) 256
 abbrev pub AreBlocks : FrozenStory → Width → List Cell → Type 0
 AreBlocks told width cells = (block : ℕ) → block < 256 → slice_index_or cells block no_cell ≡ block_cell told width block
 
--- how many addresses are asked at once from one before an end on: those of a whole block, or one
+-- how many addresses are asked at once from one before an end on: those up to the end of its block, and not beyond the other
 abbrev pub step_length : ℕ → ℕ → ℕ
-step_length at end = if (at % 256 == 0) && nat_le 256 (end - at) then 256 else 1
+step_length at end = min (256 - at % 256) (end - at)

@@ -6,7 +6,8 @@ use Rattle.zdomain.specs.Domain.{SetOperations}
 use Rattle.zarray.specs.declared.width.Width.{Width}
 use Rattle.zarray.specs.declared.width.Width.TheVariants.{Byte, Word}
 use Rattle.zarray.specs.Arrays.{span, place_of, value_at}
-use Rattle.zpairs.specs.Ends.{turned, exactly, joined, no_word}
+use Rattle.zdomain.specs.Few.{turned}
+use Rattle.zpairs.specs.Ends.{exactly, joined, no_word}
 use Rattle.zpairs.specs.Pairs.{between_ends}
 use Rattle.zpairs.specs.Frozen.{FrozenStory}
 use Rattle.zplace.specs.Bytes.{IsOpen}

@@ -6,7 +6,7 @@ use Rattle.ztext.specs.Words.{text_at}
 use Rattle.zword.specs.declared.addressing.Addressing.{Addressing}
 use Rattle.zword.specs.Addressing.{place_of}
 use Rattle.zdomain.specs.Domain.{SetOperations, In}
-use Rattle.zpairs.specs.Marks.{is_marked}
+use Rattle.zdomain.specs.Marks.{is_marked}
 use Rattle.zpairs.specs.Frozen.{FrozenStory, frozen_by}
 use Rattle.zplace.specs.Bytes.{IsWithin, IsFixed}
 use Rattle.zpairs.specs.Fixed.{is_fixed}

@@ -1,11 +1,11 @@
 //! What is known of blocks of addresses.
 
-ghost use Rattle.std.specs.Prelude.{◌≡◌, ◌<◌, slice_index_or};
-ghost use Rattle.zruns.specs.Blocks.{AreBlocks, block_cell};
+ghost use Rattle.std.specs.Prelude.{◌≡◌, ◌<◌, ◌≤◌, ◌+◌, slice_index_or};
+ghost use Rattle.zruns.specs.Blocks.{AreBlocks, block_cell, piece_cell};
 ghost use Rattle.zruns.specs.Runs.{no_cell};
 
 use crate::cell::Cell;
-use crate::element::cell_at;
+use crate::element::with_element;
 use zarray::Width;
 use zpairs::Marked;
 
@@ -15,15 +15,13 @@ pub(crate) const BLOCK_LENGTH: usize = 256;
 /// How many blocks all byte addresses make.
 pub(crate) const BLOCKS: usize = 256;
 
-/// What is known of the elements that begin in each block.
-pub(crate) fn block_cells(marked: Marked<'_>, width: Width) -> [Cell; BLOCKS]
-    ensures { AreBlocks (record { story = marked.entry.story.now; ranges = marked.entry.ranges.now }) width result }
+/// Makes cells what is known of the elements that begin in each block.
+pub(crate) fn fill_blocks(cells: &mut [Cell; BLOCKS], marked: Marked<'_>, width: Width)
+    ensures { AreBlocks (record { story = marked.entry.story.now; ranges = marked.entry.ranges.now }) width cells.new }
 {
-    let mut cells = [Cell::NONE; BLOCKS];
     for block in 0..BLOCKS {
         cells[block] = block_cell(marked, width, block);
     }
-    cells
 }
 
 /// What stands in a table of blocks at an index, and nothing behind its last.
@@ -45,18 +43,18 @@ fn block_cell(marked: Marked<'_>, width: Width, block: usize) -> Cell
     if memory.len() <= BLOCK_LENGTH * block {
         return Cell::BEHIND;
     }
-    merged_in(marked, width, block)
+    piece_cell(marked, width, BLOCK_LENGTH * block, BLOCK_LENGTH)
 }
 
-/// What is known of those of one block, one by one.
+/// What is known of the elements at so many addresses from one on, one by one.
 #[tactic(auto, unfolding(crate::specs::Runs::merged_below))]
-fn merged_in(marked: Marked<'_>, width: Width, block: usize) -> Cell
-    requires { block < 256 }
-    ensures { result ≡ block_cell (record { story = marked.entry.story.now; ranges = marked.entry.ranges.now }) width block }
+pub(crate) fn piece_cell(marked: Marked<'_>, width: Width, from: usize, size: usize) -> Cell
+    requires { from + size ≤ 65536 }
+    ensures { result ≡ piece_cell (record { story = marked.entry.story.now; ranges = marked.entry.ranges.now }) width from size }
 {
     let mut cell = Cell::NONE;
-    for place in 0..BLOCK_LENGTH {
-        cell = cell.merge(cell_at(marked, width, BLOCK_LENGTH * block + place));
+    for more in 0..size {
+        cell = with_element(cell, marked, width, from + more);
     }
     cell
 }

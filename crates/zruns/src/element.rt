@@ -4,25 +4,28 @@ ghost use Rattle.std.specs.Prelude.{◌≡◌, ◌<◌, not};
 ghost use Rattle.zstory.specs.Bytes.{byte_at};
 ghost use Rattle.zarray.specs.Arrays.{value_at};
 ghost use Rattle.zpairs.specs.Fixed.{is_closed, is_fixed};
-ghost use Rattle.zruns.specs.Runs.{cell_at, each_byte};
+ghost use Rattle.zruns.specs.Runs.{cell_at, each_byte, merged};
 
 use crate::cell::Cell;
 use zarray::Width;
 use zpairs::{Ends, Marked};
 
-/// What is known of the element at an address.
-pub(crate) fn cell_at(marked: Marked<'_>, width: Width, place: usize) -> Cell
+/// What is known of some elements and the one at an address. What doesn't hold of the others isn't asked of it.
+#[inline(always)]
+pub(crate) fn with_element(others: Cell, marked: Marked<'_>, width: Width, place: usize) -> Cell
     requires { place < 65536 }
-    ensures { result ≡ cell_at (record { story = marked.entry.story.now; ranges = marked.entry.ranges.now }) width place }
+    ensures { result ≡ merged others (cell_at (record { story = marked.entry.story.now; ranges = marked.entry.ranges.now }) width place) }
 {
+    let value = value_at(width, marked.story.memory(), place);
     Cell {
-        is_open: are_open(marked, width, place),
-        fixed: are_fixed(marked, width, place),
-        ends: Ends::exactly(value_at(width, marked.story.memory(), place)),
+        is_open: others.is_open && are_open(marked, width, place),
+        fixed: others.fixed && are_fixed(marked, width, place),
+        ends: others.ends.join(Ends::exactly(value)),
     }
 }
 
 /// Whether each byte of an element is open.
+#[inline(always)]
 fn are_open(marked: Marked<'_>, width: Width, place: usize) -> bool
     requires { place < 65536 }
     ensures { result ≡ each_byte width (λ q. not (is_closed (record { story = marked.entry.story.now; ranges = marked.entry.ranges.now }) q)) place }
@@ -34,6 +37,7 @@ fn are_open(marked: Marked<'_>, width: Width, place: usize) -> bool
 }
 
 /// Whether no play changes a byte of it.
+#[inline(always)]
 fn are_fixed(marked: Marked<'_>, width: Width, place: usize) -> bool
     requires { place < 65536 }
     ensures { result ≡ each_byte width (is_fixed (record { story = marked.entry.story.now; ranges = marked.entry.ranges.now })) place }

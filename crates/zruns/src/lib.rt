@@ -5,6 +5,7 @@ mod blocks;
 mod cell;
 mod element;
 mod laws;
+mod room;
 mod run;
 mod runs;
 mod tables;
@@ -13,6 +14,7 @@ mod texts;
 
 pub use cell::Cell;
 pub use laws::elements_lie_in_their_sets;
+pub use room::Room;
 pub use run::Run;
 pub use runs::{Runs, are_readable};
 pub use tables::Tables;

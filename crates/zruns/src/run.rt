@@ -4,8 +4,7 @@ ghost use Rattle.std.specs.Prelude.{◌≡◌, ◌+◌, ◌≤◌, min};
 ghost use Rattle.zruns.specs.Runs.{run_of, summed};
 
 use zarray::Width;
-use zdomain::Domain;
-use zpairs::turned;
+use zdomain::{Domain, turned};
 
 /// Addresses one behind the other, where 0 follows 65,535.
 #[derive(Clone, Copy)]

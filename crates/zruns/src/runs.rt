@@ -4,14 +4,15 @@ ghost use Rattle.std.specs.Prelude.{◌≡◌, ◌<◌, ◌↔◌, IsTrue};
 ghost use Rattle.zruns.specs.Blocks.{step_length};
 ghost use Rattle.zruns.specs.Runs.{AreReadable, any_element};
 
-use crate::blocks::{BLOCK_LENGTH, BLOCKS, block_cells, cell_in};
+use crate::blocks::{BLOCK_LENGTH, BLOCKS, cell_in, fill_blocks, piece_cell};
 use crate::cell::Cell;
-use crate::element::{byte_at, cell_at};
+use crate::element::byte_at;
+use crate::room::RunRoom;
 use crate::run::Run;
 use std::marker::Model;
 use zarray::Width;
-use zdomain::Domain;
-use zpairs::{PLACES, Properties, turned};
+use zdomain::{Domain, turned};
+use zpairs::{PLACES, Properties};
 use zstory::Story;
 
 /// The least size of a text buffer: room for a letter, and for the zero behind it (own).
@@ -28,8 +29,8 @@ const WORD_LENGTH: usize = 4;
 #[derive(Drop)]
 pub struct Runs<'a> {
     properties: Properties<'a>,
-    bytes: [Cell; BLOCKS],
-    words: [Cell; BLOCKS],
+    bytes: &'a [Cell; BLOCKS],
+    words: &'a [Cell; BLOCKS],
 }
 
 impl<'a> Model for Runs<'a> {
@@ -42,7 +43,7 @@ impl<'a> Model for Runs<'a> {
     ghost use Rattle.zarray.specs.declared.width.Width.TheVariants.{Byte, Word};
     ghost use Rattle.zruns.specs.Blocks.{AreBlocks};
 
-    ghost invariant = { λ p. AreBlocks p.properties Byte p.bytes × AreBlocks p.properties Word p.words };
+    ghost invariant = { λ p. AreBlocks p.properties Byte p.bytes.now × AreBlocks p.properties Word p.words.now };
 }
 
 impl<'a> Runs<'a> {
@@ -50,24 +51,24 @@ impl<'a> Runs<'a> {
     ghost use Rattle.zpairs.specs.Frozen.{frozen_by};
     ghost use Rattle.zruns.specs.Blocks.{block_cell, piece_cell, step_length};
     ghost use Rattle.zpairs.specs.Fixed.{is_fixed};
-    ghost use Rattle.zruns.specs.Runs.{AreOpen, cell_at, elements, run_cell};
+    ghost use Rattle.zruns.specs.Runs.{AreOpen, elements, run_cell};
     ghost use Rattle.std.specs.Prelude.{◌*◌, ℕ};
     ghost use Rattle.zstory.specs.Bytes.{byte_at};
     ghost use Rattle.zplace.specs.Bytes.{IsOpen, IsWithin};
     ghost use Rattle.zruns.specs.Buffers.{AreBuffers, IsBuffer, IsParseBuffer, IsTextBuffer};
 
-    /// Those of a story, of which the bytes in some ranges stay as they are, over its properties. Memory is gone over once for each width.
-    /// They take no memory beside their own, about 3 KB more than the properties.
-    pub(crate) fn new(properties: Properties<'a>) -> Runs<'a>
+    /// Those of a story, of which the bytes in some ranges stay as they are, over its properties, in a room. Memory is gone over once for each
+    /// width.
+    pub(crate) fn new(properties: Properties<'a>, room: &'a mut RunRoom) -> Runs<'a>
         ensures { result ≡ properties.entry }
     {
         let marked = properties.marked();
-        let bytes = block_cells(marked, Width::Byte);
-        let words = block_cells(marked, Width::Word);
+        fill_blocks(&mut room.bytes, marked, Width::Byte);
+        fill_blocks(&mut room.words, marked, Width::Word);
         Runs {
             properties,
-            bytes,
-            words,
+            bytes: &room.bytes,
+            words: &room.words,
         }
     }
 
@@ -193,10 +194,11 @@ impl<'a> Runs<'a> {
         requires few { end ≤ 65536 }
         ensures { result ≡ piece_cell self.now width at (step_length at end) }
     {
-        if step_length(at, end) == BLOCK_LENGTH {
+        let size = step_length(at, end);
+        if size == BLOCK_LENGTH {
             self.block_cell(width, at / BLOCK_LENGTH)
         } else {
-            self.cell(width, at)
+            self.part_cell(width, at, size)
         }
     }
 
@@ -206,30 +208,26 @@ impl<'a> Runs<'a> {
         ensures { result ≡ block_cell self.now width block }
     {
         match width {
-            Width::Byte => cell_in(&self.bytes, block),
-            Width::Word => cell_in(&self.words, block),
+            Width::Byte => cell_in(self.bytes, block),
+            Width::Word => cell_in(self.words, block),
         }
     }
 
-    /// What is known of a single one.
-    fn cell(&self, width: Width, place: usize) -> Cell
-        requires { place < 65536 }
-        ensures { result ≡ cell_at self.now width place }
+    /// What is known of those of a part of a block.
+    fn part_cell(&self, width: Width, from: usize, size: usize) -> Cell
+        requires { from + size ≤ 65536 }
+        ensures { result ≡ piece_cell self.now width from size }
     {
-        cell_at(self.properties.marked(), width, place)
+        piece_cell(self.properties.marked(), width, from, size)
     }
 }
 
-/// How many addresses are taken in one step from one before an end on: those of a block, where a whole one begins there.
+/// How many addresses are taken in one step from one before an end on: those up to the end of its block, and not beyond the other.
 fn step_length(at: usize, end: usize) -> usize
     requires { at < end }
     ensures { result ≡ step_length at end }
 {
-    if at % BLOCK_LENGTH == 0 && BLOCK_LENGTH <= end - at {
-        BLOCK_LENGTH
-    } else {
-        1
-    }
+    (BLOCK_LENGTH - at % BLOCK_LENGTH).min(end - at)
 }
 
 /// A set of whatever may be read where that isn't known.

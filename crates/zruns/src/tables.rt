@@ -1,11 +1,12 @@
 //! The tables of a story by which a checker answers questions about many objects and many addresses.
 
+use crate::room::Room;
 use crate::runs::Runs;
 use crate::texts::Texts;
 use std::marker::Model;
 use zcert::Range;
 use zdomain::Domain;
-use zpairs::{Properties, closed_marks};
+use zpairs::Properties;
 use zstory::Story;
 
 /// What is known of a story's properties, of runs of its addresses, and of its texts.
@@ -37,17 +38,17 @@ impl<'a> Tables<'a> {
     ghost use Rattle.zpairs.specs.Frozen.{frozen_by};
     ghost use Rattle.zruns.specs.Names.{AreFixedNames};
 
-    /// Those of a story, of which the bytes in some ranges stay as they are. Each of its own tables is gone over once, each place of each
-    /// range, and each place of memory. They take no memory beside their own, about 60 KB.
-    pub fn new(story: &'a Story, ranges: &'a [Range]) -> Tables<'a>
+    /// Those of a story, of which the bytes in some ranges stay as they are, in a room. Each of its own tables is gone over once, each place of
+    /// each range, and each place of memory.
+    pub fn new(story: &'a Story, ranges: &'a [Range], room: &'a mut Room) -> Tables<'a>
         ensures { result ≡ record { story = story.now; ranges = ranges.now } }
     {
-        let properties = Properties::new(story, ranges, closed_marks(story, ranges));
-        let texts = Texts::new(story, ranges, properties.marked());
+        let properties = Properties::new(story, ranges, &mut room.properties);
+        let texts = Texts::new(story, ranges, properties.marked(), &mut room.texts);
         Tables {
             names_fixed: texts.are_names_fixed(),
             texts,
-            runs: Runs::new(properties),
+            runs: Runs::new(properties, &mut room.runs),
         }
     }
 

@@ -1,30 +1,38 @@
 //! Where texts begin that no play changes.
 
-ghost use Rattle.std.specs.Prelude.{◌≡◌, ◌<◌, ◌&&◌, ◌||◌, ◌==◌, ℕ};
-ghost use Rattle.zpairs.specs.Marks.{is_marked};
-ghost use Rattle.zruns.specs.Texts.{AreTextMarks, begins_text};
+ghost use Rattle.std.specs.Prelude.{◌≡◌, ◌<◌, ◌+◌, ◌&&◌, ◌||◌, ◌==◌, ℕ, length, nat_le, nat_lt};
+ghost use Rattle.zstory.specs.Bytes.{byte_at};
+ghost use Rattle.zdomain.specs.Marks.{is_marked};
+ghost use Rattle.zruns.specs.Texts.{AreTextMarks};
 
-use zpairs::{Marked, Marks};
+use zdomain::Marks;
+use zpairs::Marked;
 
 /// The least high byte of a word that ends a text (Z 3.2).
 const END: u8 = 0x80;
 
-/// A mark for each place whether a text that no play changes begins there. Memory is gone over once, from its end on.
-pub(crate) fn text_marks(marked: Marked<'_>) -> Marks
-    ensures { AreTextMarks (record { story = marked.entry.story.now; ranges = marked.entry.ranges.now }) result }
+/// How many bytes have a bit for each place that memory can have: there are at most 131,072 (Z 1.1.4).
+pub(crate) const MARK_BYTES: usize = 16_384;
+
+/// Marks each place where a text begins that no play changes, and no other. Memory is gone over once, from its end on.
+pub(crate) fn mark_texts(marks: &mut Marks<MARK_BYTES>, marked: Marked<'_>)
+    ensures { AreTextMarks (record { story = marked.entry.story.now; ranges = marked.entry.ranges.now }) marks.new }
 {
-    let mut marks = Marks::none();
-    let mut at = marked.story.memory().len();
+    *marks = Marks::none();
+    let memory = marked.story.memory();
+    let mut at = memory.len();
+    let mut behind_fixed = marked.is_fixed(at);
     while at > 0 {
         at -= 1;
-        let begins = begins_text(marked, at, marks.has(at + 2));
-        mark_if(&mut marks, at, begins);
+        let fixed = marked.is_fixed(at);
+        let begins = begins_text(memory, at, fixed, behind_fixed, marks.has(at + 2));
+        mark_if(marks, at, begins);
+        behind_fixed = fixed;
     }
-    marks
 }
 
 /// Marks a place, if something holds there.
-fn mark_if(marks: &mut Marks, place: usize, holds: bool)
+fn mark_if(marks: &mut Marks<MARK_BYTES>, place: usize, holds: bool)
     requires { place < 131072 }
     ensures { (p : ℕ) → is_marked marks.new p ≡ (is_marked marks.old p || (holds && p == place)) }
 {
@@ -33,13 +41,11 @@ fn mark_if(marks: &mut Marks, place: usize, holds: bool)
     }
 }
 
-/// Whether such a text begins at a place, by whether one begins behind its first word.
-fn begins_text(marked: Marked<'_>, place: usize, behind: bool) -> bool
+/// Whether such a text begins at a place, by whether no play changes its first byte and its second, and whether one begins behind its first
+/// word.
+fn begins_text(memory: &[u8], place: usize, fixed: bool, next_fixed: bool, behind: bool) -> bool
     requires { place < 131072 }
-    ensures { result ≡ begins_text (record { story = marked.entry.story.now; ranges = marked.entry.ranges.now }) place behind }
+    ensures { result ≡ (nat_lt (place + 1) (length memory.now) && ((fixed && next_fixed) && (nat_le 128 (byte_at memory.now place) || behind))) }
 {
-    let memory = marked.story.memory();
-    place + 1 < memory.len()
-        && (marked.is_fixed(place) && marked.is_fixed(place + 1))
-        && (memory[place] >= END || behind)
+    place + 1 < memory.len() && (fixed && next_fixed) && (memory[place] >= END || behind)
 }

@@ -4,12 +4,13 @@ ghost use Rattle.std.specs.Prelude.{◌↔◌, ◌+◌, ◌<◌, IsTrue};
 ghost use Rattle.zruns.specs.Texts.{AreMarkedBlocks, IsLeastFrom, IsMarkedBlock};
 
 use crate::blocks::{BLOCK_LENGTH, BLOCKS};
-use crate::text_marks::text_marks;
+use crate::room::TextRoom;
+use crate::text_marks::{MARK_BYTES, mark_texts};
 use std::marker::Model;
 use zcert::Range;
-use zdomain::Domain;
+use zdomain::{Domain, Marks};
 use zobj::{ShortName, short_name};
-use zpairs::{Marked, Marks};
+use zpairs::Marked;
 use zstory::Story;
 use zword::Addressing;
 
@@ -20,9 +21,9 @@ use zword::Addressing;
 pub struct Texts<'a> {
     story: &'a Story,
     ranges: &'a [Range],
-    marks: Marks,
-    bytes: [bool; BLOCKS],
-    packed: [bool; BLOCKS],
+    marks: &'a Marks<MARK_BYTES>,
+    bytes: &'a [bool; BLOCKS],
+    packed: &'a [bool; BLOCKS],
 }
 
 impl<'a> Model for Texts<'a> {
@@ -35,7 +36,7 @@ impl<'a> Model for Texts<'a> {
     ghost use Rattle.zword.specs.declared.addressing.Addressing.TheVariants.{Byte, Packed};
     ghost use Rattle.zruns.specs.Texts.{AreMarkedBlocks, AreTextMarks};
 
-    ghost invariant = { λ p. AreTextMarks (record { story = p.story.now; ranges = p.ranges.now }) p.marks × AreMarkedBlocks p.marks Byte p.bytes × AreMarkedBlocks p.marks Packed p.packed };
+    ghost invariant = { λ p. AreTextMarks (record { story = p.story.now; ranges = p.ranges.now }) p.marks.now × AreMarkedBlocks p.marks.now Byte p.bytes.now × AreMarkedBlocks p.marks.now Packed p.packed.now };
 }
 
 impl<'a> Texts<'a> {
@@ -46,20 +47,27 @@ impl<'a> Texts<'a> {
     ghost use Rattle.zruns.specs.Names.{AreFixedNames, EachObject, HasFixedName};
     ghost use Rattle.zruns.specs.Texts.{AreFixedTexts, HasFixedText};
 
-    /// Those of a story, of which the bytes in some ranges stay as they are, by its marks. Memory is gone over once, and the words that name
-    /// its places twice. They take no memory beside their own, about 17 KB.
-    pub(crate) fn new(story: &'a Story, ranges: &'a [Range], marked: Marked<'_>) -> Texts<'a>
+    /// Those of a story, of which the bytes in some ranges stay as they are, by its marks, in a room. Memory is gone over once, and the words
+    /// that name its places twice.
+    pub(crate) fn new(
+        story: &'a Story,
+        ranges: &'a [Range],
+        marked: Marked<'_>,
+        room: &'a mut TextRoom,
+    ) -> Texts<'a>
         requires story { marked.story.now ≡ story.now }
         requires ranges { marked.ranges.now ≡ ranges.now }
         ensures { result ≡ record { story = story.now; ranges = ranges.now } }
     {
-        let marks = text_marks(marked);
+        mark_texts(&mut room.marks, marked);
+        mark_blocks(&mut room.bytes, &room.marks, Addressing::Byte);
+        mark_blocks(&mut room.packed, &room.marks, Addressing::Packed);
         Texts {
             story,
             ranges,
-            bytes: marked_blocks(&marks, Addressing::Byte),
-            packed: marked_blocks(&marks, Addressing::Packed),
-            marks,
+            marks: &room.marks,
+            bytes: &room.bytes,
+            packed: &room.packed,
         }
     }
 
@@ -171,19 +179,17 @@ fn least_behind<V: Domain>(set: V, word: u16, more: u16) -> Option<u16>
     set.least_from(word.checked_add(more)?)
 }
 
-/// Whether the place that each word of a block names is marked, of all blocks.
-fn marked_blocks(marks: &Marks, addressing: Addressing) -> [bool; BLOCKS]
-    ensures { AreMarkedBlocks marks.now addressing result }
+/// Tells of all blocks whether the place that each word of the block names is marked.
+fn mark_blocks(blocks: &mut [bool; BLOCKS], marks: &Marks<MARK_BYTES>, addressing: Addressing)
+    ensures { AreMarkedBlocks marks.now addressing blocks.new }
 {
-    let mut blocks = [false; BLOCKS];
     for block in 0..BLOCKS {
         blocks[block] = is_marked_block(marks, addressing, block);
     }
-    blocks
 }
 
 /// Whether that of each word of one block is.
-fn is_marked_block(marks: &Marks, addressing: Addressing, block: usize) -> bool
+fn is_marked_block(marks: &Marks<MARK_BYTES>, addressing: Addressing, block: usize) -> bool
     requires { block < 256 }
     ensures { IsTrue result ↔ IsMarkedBlock marks.now addressing block }
 {

@@ -1,6 +1,6 @@
 use Rattle.std.proofs.Common.{◌≡◌, ◌+◌, ◌≤◌, ◌&&◌, ◌||◌, ℕ, min}
 use Rattle.std.specs.Prelude.{nat_le, nat_lt, max}
-use Rattle.zpairs.specs.Marks.{is_marked}
+use Rattle.zdomain.specs.Marks.{is_marked}
 use Rattle.zpairs.proofs.closed.mark.Given as goal
 
 abbrev pub invariant-loop-place : goal.invariant-loop-place

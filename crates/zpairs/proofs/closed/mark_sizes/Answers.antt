@@ -1,5 +1,5 @@
 use Rattle.std.proofs.Common.{◌∙◌}
-use Rattle.zpairs.specs.Marks.{is_marked}
+use Rattle.zdomain.specs.Marks.{is_marked}
 use Rattle.zpairs.proofs.Marking.{size_passed, last_size, no_size}
 use Rattle.zpairs.proofs.closed.mark_sizes.Goals as goal
 

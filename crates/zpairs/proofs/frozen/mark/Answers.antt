@@ -1,6 +1,6 @@
 use Rattle.std.proofs.Common.{ap, ◌∙◌, arith}
 use Rattle.std.specs.Prelude.{◌||◌, Bool}
-use Rattle.zpairs.specs.Marks.{is_marked}
+use Rattle.zdomain.specs.Marks.{is_marked}
 use Rattle.zpairs.proofs.Ranged.{unmarked, mark_more, marked_whole}
 use Rattle.zpairs.proofs.frozen.mark.Goals as goal
 

@@ -1,6 +1,6 @@
 use Rattle.std.proofs.Common.{◌+◌, ◌*◌, ◌<◌, ℕ}
 use Rattle.std.specs.Prelude.{IsTrue}
-use Rattle.zpairs.specs.Marks.{is_marked}
+use Rattle.zdomain.specs.Marks.{is_marked}
 use Rattle.zword.specs.Addressing.{place_of}
 use Rattle.zruns.proofs.texts.is_marked_block.Given as goal
 

@@ -2,7 +2,7 @@ use Rattle.std.proofs.Common.{◌≡◌, ℕ, ◌<◌, ◌/◌, ◌%◌, length}
 use Rattle.std.specs.Prelude.{slice_index_or}
 use Rattle.zpairs.specs.Cells.{no_cell}
 use Rattle.zpairs.specs.Blocks.{block_cell}
-use Rattle.zpairs.proofs.blocks.block_cells.Given as goal
+use Rattle.zpairs.proofs.blocks.fill_blocks.Given as goal
 
 abbrev pub invariant-loop-k : goal.invariant-loop-k
 invariant-loop-k l = record {

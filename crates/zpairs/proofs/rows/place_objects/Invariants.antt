@@ -3,7 +3,7 @@ use Rattle.std.specs.Prelude.{slice_index_or}
 use Rattle.zobj.specs.Answers.{address_of}
 use Rattle.zobj.specs.Properties.{property_of}
 use Rattle.zpairs.specs.Rows.{IsObjectRow}
-use Rattle.zpairs.proofs.rows.object_places.Given as goal
+use Rattle.zpairs.proofs.rows.place_objects.Given as goal
 
 abbrev pub invariant-loop-k : goal.invariant-loop-k
 invariant-loop-k l = record {

@@ -4,7 +4,7 @@ use Rattle.zobj.specs.Answers.{address_of}
 use Rattle.zobj.specs.Properties.{property_of}
 use Rattle.zpairs.specs.Rows.{IsObjectRow}
 use Rattle.zpairs.proofs.Regrouped.{one_more_place}
-use Rattle.zpairs.proofs.rows.object_places.Goals as goal
+use Rattle.zpairs.proofs.rows.place_objects.Goals as goal
 
 within : (k : ℕ) → ((k + 1) % 33 ≡ 0 → ⊥) → k / 33 ≡ (k + 1) / 33
 within k more = grind (arith, more)

@@ -2,7 +2,7 @@ use Rattle.std.proofs.Common.{◌/◌, ◌%◌, ◌∙◌, arith}
 use Rattle.std.proofs.lemmas.List.{length-set}
 use Rattle.zpairs.specs.Blocks.{block_cell}
 use Rattle.zpairs.proofs.Regrouped.{one_more_cell}
-use Rattle.zpairs.proofs.blocks.block_cells.Goals as goal
+use Rattle.zpairs.proofs.blocks.fill_blocks.Goals as goal
 
 pub loop-k-preserved : goal.loop-k-preserved
 loop-k-preserved c =

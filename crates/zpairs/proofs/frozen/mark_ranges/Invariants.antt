@@ -1,7 +1,7 @@
 use Rattle.std.proofs.Common.{◌≡◌, ◌<◌, ◌||◌, ℕ, length}
-use Rattle.zpairs.specs.Marks.{is_marked}
+use Rattle.zdomain.specs.Marks.{is_marked}
 use Rattle.zpairs.specs.Frozen.{frozen_by}
-use Rattle.zpairs.proofs.frozen.marks_of.Given as goal
+use Rattle.zpairs.proofs.frozen.mark_ranges.Given as goal
 
 abbrev pub invariant-loop-left : goal.invariant-loop-left
 invariant-loop-left l = record {

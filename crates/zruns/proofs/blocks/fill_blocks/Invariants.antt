@@ -2,7 +2,7 @@ use Rattle.std.proofs.Common.{◌≡◌, ℕ, ◌<◌, length}
 use Rattle.std.specs.Prelude.{slice_index_or}
 use Rattle.zruns.specs.Blocks.{block_cell}
 use Rattle.zruns.specs.Runs.{no_cell}
-use Rattle.zruns.proofs.blocks.block_cells.Given as goal
+use Rattle.zruns.proofs.blocks.fill_blocks.Given as goal
 
 abbrev pub invariant-loop-block : goal.invariant-loop-block
 invariant-loop-block l = record {

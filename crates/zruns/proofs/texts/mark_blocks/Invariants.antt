@@ -1,7 +1,7 @@
 use Rattle.std.proofs.Common.{◌≡◌, ◌<◌, ◌↔◌, ℕ, false, length}
 use Rattle.std.specs.Prelude.{IsTrue, slice_index_or}
 use Rattle.zruns.specs.Texts.{IsMarkedBlock}
-use Rattle.zruns.proofs.texts.marked_blocks.Given as goal
+use Rattle.zruns.proofs.texts.mark_blocks.Given as goal
 
 abbrev pub invariant-loop-block : goal.invariant-loop-block
 invariant-loop-block l = record {

@@ -1,0 +1,26 @@
+//! Room for what is known of a story's properties.
+
+use crate::blocks::{BLOCK_CELLS, OBJECT_CELLS};
+use crate::cell::Cell;
+use crate::frozen::MARK_BYTES;
+use zdomain::Marks;
+
+/// Room for what is known of a story's properties, some 31 KB. It is made once and filled where it stands: to move it would cost more than
+/// all else that is done for a small story.
+#[derive(Drop)]
+pub struct PropertyRoom {
+    pub(crate) closed: Marks<MARK_BYTES>,
+    pub(crate) places: [u16; OBJECT_CELLS],
+    pub(crate) blocks: [Cell; BLOCK_CELLS],
+}
+
+impl PropertyRoom {
+    /// One of which nothing is said.
+    pub fn new() -> PropertyRoom {
+        PropertyRoom {
+            closed: Marks::none(),
+            places: [0; OBJECT_CELLS],
+            blocks: [Cell::NONE; BLOCK_CELLS],
+        }
+    }
+}

@@ -1,0 +1,49 @@
+//! Room for the tables of a story.
+
+use crate::blocks::BLOCKS;
+use crate::cell::Cell;
+use crate::text_marks::MARK_BYTES;
+use zdomain::Marks;
+use zpairs::PropertyRoom;
+
+/// Room for the tables of a story, some 51 KB. It is made once and filled where it stands: to move it would cost more than all else that is
+/// done for a small story.
+#[derive(Drop)]
+pub struct Room {
+    pub(crate) properties: PropertyRoom,
+    pub(crate) runs: RunRoom,
+    pub(crate) texts: TextRoom,
+}
+
+/// That for runs of addresses.
+#[derive(Drop)]
+pub(crate) struct RunRoom {
+    pub(crate) bytes: [Cell; BLOCKS],
+    pub(crate) words: [Cell; BLOCKS],
+}
+
+/// That for texts.
+#[derive(Drop)]
+pub(crate) struct TextRoom {
+    pub(crate) marks: Marks<MARK_BYTES>,
+    pub(crate) bytes: [bool; BLOCKS],
+    pub(crate) packed: [bool; BLOCKS],
+}
+
+impl Room {
+    /// One of which nothing is said.
+    pub fn new() -> Room {
+        Room {
+            properties: PropertyRoom::new(),
+            runs: RunRoom {
+                bytes: [Cell::NONE; BLOCKS],
+                words: [Cell::NONE; BLOCKS],
+            },
+            texts: TextRoom {
+                marks: Marks::none(),
+                bytes: [false; BLOCKS],
+                packed: [false; BLOCKS],
+            },
+        }
+    }
+}
