@@ -7,7 +7,7 @@ use crate::refusal::Refusal;
 use crate::story_rules::broken_story_rule;
 use zcert::{Certificate, Spelled};
 use zrule::judge;
-use zruns::Tables;
+use zruns::{Room, Tables};
 use zstory::Story;
 use ztext::TextEnds;
 
@@ -19,7 +19,8 @@ pub fn examine<V: Spelled>(story: &Story, certificate: &Certificate<V>) -> Optio
     if let Some(rule) = broken_story_rule(story, certificate) {
         return Some(Refusal::Story(rule));
     }
-    let tables = Tables::new(story, certificate.ranges());
+    let mut room = Room::new();
+    let tables = Tables::new(story, certificate.ranges(), &mut room);
     let mut ends = TextEnds::new(story.memory());
     for index in 0..certificate.instruction_count() {
         let listed = certificate.instruction(index);

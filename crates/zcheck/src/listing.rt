@@ -15,7 +15,7 @@ use std::alloc::{AllocError, Global};
 use zcert::{Certificate, Spelled};
 use zlist::{Listing, Record};
 use zrule::{Blocks, judge};
-use zruns::Tables;
+use zruns::{Room, Tables};
 use zstory::Story;
 use ztext::TextEnds;
 
@@ -74,7 +74,8 @@ fn each_judged<V: Spelled>(
     ensures records { IfOk result (λ records. AreRecords story.now certificate.now records.items) }
     ensures refused { IfErr result (IsRefused V.operations story.now certificate.now) }
 {
-    let tables = Tables::new(story, certificate.ranges());
+    let mut room = Room::new();
+    let tables = Tables::new(story, certificate.ranges(), &mut room);
     let mut ends = TextEnds::new(story.memory());
     for index in 0..certificate.instruction_count() {
         let listed = certificate.instruction(index);

@@ -18,7 +18,7 @@ use zcode::decode;
 use zdomain::Interval;
 use zlist::Listing;
 use zrule::{Rule, judge};
-use zruns::Tables;
+use zruns::{Room, Tables};
 use zstory::Story;
 use ztext::TextEnds;
 
@@ -216,7 +216,8 @@ fn is_known_at_end(
     let Obstacle::Place(place, _) = obstacle else {
         return true;
     };
-    let tables = Tables::new(story, certificate.ranges());
+    let mut room = Room::new();
+    let tables = Tables::new(story, certificate.ranges(), &mut room);
     match code.index_behind(0, place) {
         Some(index) => !walk.awaits_at(&tables, index),
         None => true,
@@ -235,7 +236,8 @@ fn certain_obstacle(
 ) -> Option<Obstacle>
     ensures { IfSome result (IsBrokenIn story.now certificate.now) }
 {
-    let tables = Tables::new(story, certificate.ranges());
+    let mut room = Room::new();
+    let tables = Tables::new(story, certificate.ranges(), &mut room);
     let mut ends = TextEnds::new(story.memory());
     for index in 0..certificate.instruction_count() {
         let listed = certificate.instruction(index);

@@ -10,7 +10,7 @@ use zflow::{Access, Asked, Demands, Elements, Pairs};
 use zobj::{Property, PropertyQuestion, property_at};
 use zpairs::PLACES;
 use zplace::{list_place, table_of};
-use zruns::{Run, Tables};
+use zruns::{Room, Run, Tables};
 use zstory::Story;
 
 /// How many places a block has.
@@ -286,7 +286,8 @@ impl Lost {
 /// Whether each of so many places is closed where nothing is frozen. A function of its own, since its tables lie on the stack.
 #[inline(never)]
 fn closed_places(alloc: Global, story: &Story, count: usize) -> Result<Vec<bool>, AllocError> {
-    let tables = Tables::new(story, &[]);
+    let mut room = Room::new();
+    let tables = Tables::new(story, &[], &mut room);
     let mut closed = Vec::with_capacity(alloc, count)?;
     for place in 0..count {
         closed.push(is_closed(&tables, place))?;

@@ -12,7 +12,7 @@ use crate::visits::{Allowance, count_visit, count_work};
 use crate::walk::Walk;
 use std::alloc::Global;
 use zdomain::Domain;
-use zruns::Tables;
+use zruns::{Room, Tables};
 
 /// What each place, global and routine is given by all that leads there, where this is known of each place. Where it is less than that,
 /// a set was widened too far. A function of its own, since its tables lie on the stack.
@@ -27,7 +27,8 @@ pub(crate) fn settled<V: Domain>(
     ensures stopped { IfErr result (IsStopped left.new) }
 {
     let ranges = walk.bytes.ranges(alloc)?;
-    let tables = Tables::new(code.story, &ranges);
+    let mut room = Room::new();
+    let tables = Tables::new(code.story, &ranges, &mut room);
     let opened = Opened::new(alloc);
     let known = Known {
         tables: &tables,

@@ -17,7 +17,7 @@ use crate::state::{Plan, State};
 use crate::visits::{Allowance, count_more, count_visit, count_work};
 use std::alloc::{AllocError, Global};
 use zdomain::Domain;
-use zruns::Tables;
+use zruns::{Room, Tables};
 
 /// How often routines that never return are told from those that wait for them, so that each walk ends soon.
 const MOST_ENDINGS: u16 = 64;
@@ -137,7 +137,8 @@ impl<'a, V: Domain> Walk<'a, V> {
         ensures stopped { IfErr result (IsStopped left.new) }
     {
         let ranges = self.bytes.ranges(self.alloc)?;
-        let tables = Tables::new(self.code.story, &ranges);
+        let mut room = Room::new();
+        let tables = Tables::new(self.code.story, &ranges, &mut room);
         let mut opened = Opened::new(self.alloc);
         self.run_rounds(&tables, &mut opened, left)
     }

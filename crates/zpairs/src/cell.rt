@@ -46,6 +46,15 @@ pub struct Cell {
 }
 
 impl Cell {
+    /// What stands where nothing is told yet. All of it is zero, so that many take one fill of memory, and no move.
+    pub(crate) const BLANK: Cell = Cell {
+        has: false,
+        short: false,
+        is_open: false,
+        values: Ends::BLANK,
+        addresses: Ends::BLANK,
+    };
+
     /// What is known of none.
     pub(crate) const NONE: Cell = Cell {
         has: true,

@@ -15,6 +15,12 @@ pub struct Ends {
 }
 
 impl Ends {
+    /// What stands where nothing is told yet.
+    pub const BLANK: Ends = Ends {
+        least: 0,
+        greatest: 0,
+    };
+
     /// Those of no word.
     pub const NONE: Ends = Ends {
         least: 0xffff,

@@ -63,11 +63,7 @@ impl<'a> Properties<'a> {
 
     /// Those of a story, of which the bytes in some ranges stay as they are, in a room. Each of the story's own tables is gone over once, and
     /// each place of each range.
-    pub fn new(
-        story: &'a Story,
-        ranges: &'a [Range],
-        room: &'a mut PropertyRoom,
-    ) -> Properties<'a>
+    pub fn new(story: &'a Story, ranges: &'a [Range], room: &'a mut PropertyRoom) -> Properties<'a>
         ensures { result ≡ record { story = story.now; ranges = ranges.now } }
     {
         mark_closed(&mut room.closed, story, ranges);

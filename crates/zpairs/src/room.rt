@@ -15,12 +15,12 @@ pub struct PropertyRoom {
 }
 
 impl PropertyRoom {
-    /// One of which nothing is said.
+    /// One in which nothing is told yet.
     pub fn new() -> PropertyRoom {
         PropertyRoom {
             closed: Marks::none(),
             places: [0; OBJECT_CELLS],
-            blocks: [Cell::NONE; BLOCK_CELLS],
+            blocks: [Cell::BLANK; BLOCK_CELLS],
         }
     }
 }

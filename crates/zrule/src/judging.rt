@@ -32,7 +32,7 @@ use zcert::{Certificate, Instruction, Spelled};
 use zcode::{Instr, decode_by, text_ends_instruction};
 use zdomain::Domain;
 use zflow::{Demands, Edge, Flow, flow_of};
-use zruns::Tables;
+use zruns::{Room, Tables};
 use zstory::Story;
 use ztext::TextEnds;
 
@@ -275,7 +275,8 @@ fn broken_rule<V: Spelled>(
 ) -> Option<Rule>
     ensures { MatchOption result ((rule : ARule) → Keeps V.operations (claims_of V.operations certificate.now) story.now listed.now.address (entry_of (seen listed.now)) rule) (IsLowestBroken V.operations (claims_of V.operations certificate.now) story.now listed.now.address (entry_of (seen listed.now))) }
 {
-    let tables = Tables::new(story, certificate.ranges());
+    let mut room = Room::new();
+    let tables = Tables::new(story, certificate.ranges(), &mut room);
     let mut ends = TextEnds::new(story.memory());
     match judge(
         story,

@@ -1,10 +1,10 @@
 -- What is known of runs, piece by piece.
-use Rattle.std.proofs.Common.{◌≡◌, ◌↔◌, ◌⊎◌, inl, inr, ℕ, zero, suc, ◌+◌, ◌-◌, ◌*◌, ◌%◌, ◌<◌, ◌≤◌, min, Bool, true, false, ◌&&◌, not, ◌==◌, if◌then◌else◌, List, length, refl, sym, subst, ap, ◌∙◌, arith}
+use Rattle.std.proofs.Common.{◌≡◌, ◌↔◌, ◌⊎◌, inl, inr, ℕ, zero, suc, ◌+◌, ◌-◌, ◌*◌, ◌<◌, ◌≤◌, min, Bool, true, false, ◌&&◌, not, List, length, refl, sym, subst, ap, ◌∙◌, arith}
 use Rattle.std.specs.Prelude.{IsTrue, nat_le, slice_index_or, slice_set}
 use Rattle.std.proofs.lemmas.Bool.{cases_lt, and_parts, and_from, le-leb, leb-true}
 use Rattle.std.proofs.lemmas.List.{get_or-set_same, get_or-set_other, get_or_past}
 use Rattle.zstory.specs.Bytes.{byte_at, readable_end}
-use Rattle.zstory.specs.LoadedStory.{LoadedStory, IsSound}
+use Rattle.zstory.specs.LoadedStory.{LoadedStory, IsSound, static_base}
 use Rattle.zstory.specs.Objects.{IsObjectCount}
 use Rattle.zcert.specs.declared.parts.Range.{Range}
 use Rattle.zdomain.specs.Domain.{SetOperations}
@@ -74,6 +74,50 @@ appended n (suc m) f =
     let one : suc (n + m) ≡ n + suc m = omega arith in
     let before = appended n m f in
     subst (λ (k : ℕ). merged_below k f ≡ merged (merged_below n f) (merged (merged_below m (λ k. f (n + k))) (f (n + m)))) one (rw before (regrouped (merged_below n f) (merged_below m (λ k. f (n + k))) (f (n + m))))
+
+-- ---- what holds of each
+
+module _ (part : Cell → Bool) (of_both : (a b : Cell) → part (merged a b) ≡ (part a && part b)) where
+  -- it holds of one more
+  pub one_holds : (n : ℕ) (f : ℕ → Cell) → part (merged_below n f) ≡ true → part (f n) ≡ true → part (merged_below (n + 1) f) ≡ true
+  unfolding merged_below
+  one_holds n f before here = let one : suc n ≡ n + 1 = omega arith in subst (λ (k : ℕ). part (merged_below k f) ≡ true) one (of_both (merged_below n f) (f n) ∙ and_from (part (merged_below n f)) (part (f n)) before here)
+
+  -- it doesn't hold of all where it doesn't of one
+  pub one_fails : (n k : ℕ) (f : ℕ → Cell) → k < n → part (f k) ≡ false → part (merged_below n f) ≡ false
+  unfolding merged_below
+  one_fails zero k f few none = absurd (omega (arith, few))
+  one_fails (suc n) k f few none = of_both (merged_below n f) (f n) ∙ by_order (λ low. one_fails n k f low none) (cases_lt k n)
+    where
+      and_false : (b : Bool) → (b && false) ≡ false
+      and_false true = refl
+      and_false false = refl
+
+      by_order : (k < n → part (merged_below n f) ≡ false) → (k < n) ⊎ (n ≤ k) → (part (merged_below n f) && part (f n)) ≡ false
+      by_order before (inl low) = let none_before = before low in rw none_before refl
+      by_order before (inr high) = let same : k ≡ n = omega (arith, few, high) in let last = subst (λ (m : ℕ). part (f m) ≡ false) same none in rw last (and_false (part (merged_below n f)))
+
+  -- it holds of all where it does of each
+  pub all_hold : (n : ℕ) (f : ℕ → Cell) → part no_cell ≡ true → ((k : ℕ) → part (f k) ≡ true) → part (merged_below n f) ≡ true
+  unfolding merged_below
+  all_hold zero f none each = none
+  all_hold (suc n) f none each = of_both (merged_below n f) (f n) ∙ and_from (part (merged_below n f)) (part (f n)) (all_hold n f none each) (each n)
+
+pub made_of : (a : Cell) (open_too fixed_too : Bool) (ends : Ends) → open_too ≡ a.is_open → fixed_too ≡ a.fixed → ends ≡ a.ends → record { is_open = open_too; fixed = fixed_too; ends = ends } ≡ a
+made_of a open_too fixed_too ends e f g = same_cells (record { is_open = open_too; fixed = fixed_too; ends = ends }) a e f g
+
+-- ---- in static memory
+
+module _ (told : FrozenStory) (sound : IsSound told.story.memory) (counted : IsObjectCount told.story.memory told.story.objects) where
+  static_fixed : (p : ℕ) → static_base told.story ≤ p → is_fixed told p ≡ true
+  static_fixed p above = (fixed_is told p).1 (record { closed = static above; unchanging = static_unchanging told.story sound counted p above })
+
+  one_static : (width : Width) (p : ℕ) → static_base told.story ≤ p → (cell_at told width p).fixed ≡ true
+  one_static Byte p above = static_fixed p above
+  one_static Word p above = and_from (is_fixed told p) (is_fixed told (p + 1)) (static_fixed p above) (static_fixed (p + 1) (omega (arith, above)))
+
+  pub all_static : (width : Width) (from size : ℕ) → static_base told.story ≤ from → (piece_cell told width from size).fixed ≡ true
+  all_static width from size above = all_hold (λ c. c.fixed) (λ a b. refl) size (λ k. cell_at told width (from + k)) refl (λ k. one_static width (from + k) (omega (arith, above)))
 
 -- ---- behind memory
 

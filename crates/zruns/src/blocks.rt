@@ -1,11 +1,11 @@
 //! What is known of blocks of addresses.
 
-ghost use Rattle.std.specs.Prelude.{◌≡◌, ◌<◌, ◌≤◌, ◌+◌, slice_index_or};
-ghost use Rattle.zruns.specs.Blocks.{AreBlocks, block_cell, piece_cell};
+ghost use Rattle.std.specs.Prelude.{◌≡◌, ◌<◌, slice_index_or};
+ghost use Rattle.zruns.specs.Blocks.{AreBlocks, block_cell};
 ghost use Rattle.zruns.specs.Runs.{no_cell};
 
 use crate::cell::Cell;
-use crate::element::with_element;
+use crate::piece::piece_cell;
 use zarray::Width;
 use zpairs::Marked;
 
@@ -44,17 +44,4 @@ fn block_cell(marked: Marked<'_>, width: Width, block: usize) -> Cell
         return Cell::BEHIND;
     }
     piece_cell(marked, width, BLOCK_LENGTH * block, BLOCK_LENGTH)
-}
-
-/// What is known of the elements at so many addresses from one on, one by one.
-#[tactic(auto, unfolding(crate::specs::Runs::merged_below))]
-pub(crate) fn piece_cell(marked: Marked<'_>, width: Width, from: usize, size: usize) -> Cell
-    requires { from + size ≤ 65536 }
-    ensures { result ≡ piece_cell (record { story = marked.entry.story.now; ranges = marked.entry.ranges.now }) width from size }
-{
-    let mut cell = Cell::NONE;
-    for more in 0..size {
-        cell = with_element(cell, marked, width, from + more);
-    }
-    cell
 }

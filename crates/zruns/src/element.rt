@@ -4,29 +4,14 @@ ghost use Rattle.std.specs.Prelude.{◌≡◌, ◌<◌, not};
 ghost use Rattle.zstory.specs.Bytes.{byte_at};
 ghost use Rattle.zarray.specs.Arrays.{value_at};
 ghost use Rattle.zpairs.specs.Fixed.{is_closed, is_fixed};
-ghost use Rattle.zruns.specs.Runs.{cell_at, each_byte, merged};
+ghost use Rattle.zruns.specs.Runs.{each_byte};
 
-use crate::cell::Cell;
 use zarray::Width;
-use zpairs::{Ends, Marked};
-
-/// What is known of some elements and the one at an address. What doesn't hold of the others isn't asked of it.
-#[inline(always)]
-pub(crate) fn with_element(others: Cell, marked: Marked<'_>, width: Width, place: usize) -> Cell
-    requires { place < 65536 }
-    ensures { result ≡ merged others (cell_at (record { story = marked.entry.story.now; ranges = marked.entry.ranges.now }) width place) }
-{
-    let value = value_at(width, marked.story.memory(), place);
-    Cell {
-        is_open: others.is_open && are_open(marked, width, place),
-        fixed: others.fixed && are_fixed(marked, width, place),
-        ends: others.ends.join(Ends::exactly(value)),
-    }
-}
+use zpairs::Marked;
 
 /// Whether each byte of an element is open.
 #[inline(always)]
-fn are_open(marked: Marked<'_>, width: Width, place: usize) -> bool
+pub(crate) fn are_open(marked: Marked<'_>, width: Width, place: usize) -> bool
     requires { place < 65536 }
     ensures { result ≡ each_byte width (λ q. not (is_closed (record { story = marked.entry.story.now; ranges = marked.entry.ranges.now }) q)) place }
 {
@@ -38,7 +23,7 @@ fn are_open(marked: Marked<'_>, width: Width, place: usize) -> bool
 
 /// Whether no play changes a byte of it.
 #[inline(always)]
-fn are_fixed(marked: Marked<'_>, width: Width, place: usize) -> bool
+pub(crate) fn are_fixed(marked: Marked<'_>, width: Width, place: usize) -> bool
     requires { place < 65536 }
     ensures { result ≡ each_byte width (is_fixed (record { story = marked.entry.story.now; ranges = marked.entry.ranges.now })) place }
 {
@@ -49,7 +34,7 @@ fn are_fixed(marked: Marked<'_>, width: Width, place: usize) -> bool
 }
 
 /// The element at a place, where memory may have ended.
-fn value_at(width: Width, memory: &[u8], place: usize) -> u16
+pub(crate) fn value_at(width: Width, memory: &[u8], place: usize) -> u16
     requires { place < 65536 }
     ensures { result ≡ value_at width memory.now place }
 {

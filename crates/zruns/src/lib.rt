@@ -5,6 +5,7 @@ mod blocks;
 mod cell;
 mod element;
 mod laws;
+mod piece;
 mod room;
 mod run;
 mod runs;

@@ -31,13 +31,13 @@ pub(crate) struct TextRoom {
 }
 
 impl Room {
-    /// One of which nothing is said.
+    /// One in which nothing is told yet.
     pub fn new() -> Room {
         Room {
             properties: PropertyRoom::new(),
             runs: RunRoom {
-                bytes: [Cell::NONE; BLOCKS],
-                words: [Cell::NONE; BLOCKS],
+                bytes: [Cell::BLANK; BLOCKS],
+                words: [Cell::BLANK; BLOCKS],
             },
             texts: TextRoom {
                 marks: Marks::none(),

@@ -4,9 +4,10 @@ ghost use Rattle.std.specs.Prelude.{◌≡◌, ◌<◌, ◌↔◌, IsTrue};
 ghost use Rattle.zruns.specs.Blocks.{step_length};
 ghost use Rattle.zruns.specs.Runs.{AreReadable, any_element};
 
-use crate::blocks::{BLOCK_LENGTH, BLOCKS, cell_in, fill_blocks, piece_cell};
+use crate::blocks::{BLOCK_LENGTH, BLOCKS, cell_in, fill_blocks};
 use crate::cell::Cell;
 use crate::element::byte_at;
+use crate::piece::piece_cell;
 use crate::room::RunRoom;
 use crate::run::Run;
 use std::marker::Model;

@@ -1,6 +1,6 @@
 use Rattle.std.proofs.Common.{◌+◌, ◌*◌, refl, arith}
 use Rattle.zstory.specs.LoadedStory.{globals, object_table, abbreviations, static_base}
-use Rattle.zpairs.proofs.Marking.{all_marked, base_small, same_piece, same_table}
+use Rattle.zpairs.proofs.Marking.{all_marked, same_piece, same_table}
 use Rattle.zpairs.proofs.closed.mark_closed.Goals as goal
 
 pub returns : goal.returns

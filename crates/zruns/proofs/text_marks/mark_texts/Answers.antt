@@ -1,9 +1,5 @@
-use Rattle.std.proofs.Common.{◌≡◌, ◌+◌, ◌-◌, ◌∙◌, List, length, ap, sym, arith}
-use Rattle.std.specs.Prelude.{Bool, ◌&&◌, ◌||◌, nat_le, nat_lt}
-use Rattle.zstory.specs.Bytes.{byte_at}
-use Rattle.zpairs.specs.Fixed.{is_fixed}
+use Rattle.std.proofs.Common.{◌-◌, length, ap, arith}
 use Rattle.zpairs.specs.Frozen.{FrozenStory}
-use Rattle.zruns.specs.Texts.{begins_text}
 use Rattle.zruns.proofs.Beginnings.{begins_by, none_marked, one_more_mark}
 use Rattle.zruns.proofs.text_marks.mark_texts.Goals as goal
 
