@@ -17,7 +17,7 @@ use Rattle.zpairs.specs.Frozen.{FrozenStory}
 use Rattle.zpairs.specs.Fixed.{is_closed, is_fixed}
 use Rattle.zpairs.specs.Rows.{ArePlaces, property_in}
 use Rattle.zpairs.specs.Ends.{joined, no_word}
-use Rattle.zpairs.specs.Cells.{cell_at, cell_of, no_cell, merged, passes}
+use Rattle.zpairs.specs.Cells.{blank_cell, cell_at, cell_of, no_cell, merged, passes}
 use Rattle.zpairs.specs.Pairs.{ends_below, may_have, is_asked, answer_ends, pair_ends, number_ends, object_ends, all_ends}
 use Rattle.zpairs.specs.Blocks.{AreBlocks, merged_below, object_in, object_cell, place_cell, block_cell, EachInBlock, place_ends, block_ends, row_end}
 use Rattle.zpairs.proofs.Each.{one_more_below}
@@ -29,8 +29,8 @@ use Rattle.zpairs.proofs.Lying.{may}
 pub all_merged : (k m : ℕ) (f : ℕ → Cell) (cell : Cell) → k ≡ m → cell ≡ merged_below k f → cell ≡ merged_below m f
 all_merged k m f cell same is = subst (λ (n : ℕ). cell ≡ merged_below n f) same is
 
-pub one_more_cell : (cells : List Cell) (f : ℕ → Cell) (k : ℕ) (cell : Cell) → k < length cells → cell ≡ f k → ((j : ℕ) → j < k → slice_index_or cells j no_cell ≡ f j) → (j : ℕ) → j < k + 1 → slice_index_or (slice_set cells k cell) j no_cell ≡ f j
-one_more_cell cells f k cell inside is before = one_more_below (λ j. slice_index_or (slice_set cells k cell) j no_cell ≡ f j) k (λ j below. get_or-set_other cells k j cell no_cell (λ e. omega (arith, e, below)) ∙ before j below) (get_or-set_same cells k cell no_cell inside ∙ is)
+pub one_more_cell : (cells : List Cell) (f : ℕ → Cell) (k : ℕ) (cell : Cell) → k < length cells → cell ≡ f k → ((j : ℕ) → j < k → slice_index_or cells j blank_cell ≡ f j) → (j : ℕ) → j < k + 1 → slice_index_or (slice_set cells k cell) j blank_cell ≡ f j
+one_more_cell cells f k cell inside is before = one_more_below (λ j. slice_index_or (slice_set cells k cell) j blank_cell ≡ f j) k (λ j below. get_or-set_other cells k j cell blank_cell (λ e. omega (arith, e, below)) ∙ before j below) (get_or-set_same cells k cell blank_cell inside ∙ is)
 
 pub one_more_place : (places : List ℕ) (f : ℕ → ℕ) (k place : ℕ) → k < length places → place ≡ f k → ((j : ℕ) → j < k → slice_index_or places j 0 ≡ f j) → (j : ℕ) → j < k + 1 → slice_index_or (slice_set places k place) j 0 ≡ f j
 one_more_place places f k place inside is before = one_more_below (λ j. slice_index_or (slice_set places k place) j 0 ≡ f j) k (λ j below. get_or-set_other places k j place 0 (λ e. omega (arith, e, below)) ∙ before j below) (get_or-set_same places k place 0 inside ∙ is)
@@ -71,7 +71,7 @@ module _ (told : FrozenStory) where
       rw there (ap (λ (x : ℕ). cell_at told x number) same)
 
 -- a block is read
-pub block_read : (told : FrozenStory) (cells : List Cell) (block number k : ℕ) → AreBlocks told cells → block < 16 → number ≤ 32 → k ≡ 33 * block + number → slice_index_or cells k no_cell ≡ block_cell told block number
+pub block_read : (told : FrozenStory) (cells : List Cell) (block number k : ℕ) → AreBlocks told cells → block < 16 → number ≤ 32 → k ≡ 33 * block + number → slice_index_or cells k blank_cell ≡ block_cell told block number
 block_read told cells block number k are few small at =
     let row : k / 33 ≡ block = omega (arith, at, small) in
     let column : k % 33 ≡ number = omega (arith, at, small) in

@@ -6,7 +6,7 @@ use Rattle.zpairs.specs.declared.ends.Ends.{Ends}
 use Rattle.zpairs.specs.declared.cell.Cell.{Cell}
 use Rattle.zpairs.specs.Frozen.{FrozenStory}
 use Rattle.zpairs.specs.Ends.{no_word}
-use Rattle.zpairs.specs.Cells.{cell_at, no_cell, merged}
+use Rattle.zpairs.specs.Cells.{blank_cell, cell_at, no_cell, merged}
 use Rattle.zpairs.specs.Pairs.{ends_below, is_asked, answer_ends, object_ends}
 
 -- what is known of all that a function says, below a number
@@ -31,7 +31,7 @@ block_cell told block number = merged_below 16 (place_cell told block number)
 
 -- a table of all blocks, with the same numbers
 abbrev pub AreBlocks : FrozenStory → List Cell → Type 0
-AreBlocks told cells = (k : ℕ) → k < 528 → slice_index_or cells k no_cell ≡ block_cell told (k / 33) (k % 33)
+AreBlocks told cells = (k : ℕ) → k < 528 → slice_index_or cells k blank_cell ≡ block_cell told (k / 33) (k % 33)
 
 -- something holds of each object of a block
 abbrev pub EachInBlock : FrozenStory → ℕ → (ℕ → Type 0) → Type 0

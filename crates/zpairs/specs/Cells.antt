@@ -43,6 +43,16 @@ cell_of closed fixed memory number property = record {
 abbrev pub cell_at : FrozenStory → ℕ → ℕ → Cell
 cell_at told object number = cell_of (is_closed told) (is_fixed told) told.story.memory number (property_of told.story.memory object number)
 
+-- what stands where nothing is told yet
+abbrev pub blank_cell : Cell
+blank_cell = record {
+  has = false;
+  short = false;
+  is_open = false;
+  values = record { least = 0; greatest = 0 };
+  addresses = record { least = 0; greatest = 0 };
+}
+
 -- what is known of none of the objects, and of those of either
 abbrev pub no_cell : Cell
 no_cell = record { has = true; short = true; is_open = true; values = no_word; addresses = no_word }

@@ -1,8 +1,7 @@
 //! Tables of what is known of objects, one by one and block by block.
 
-ghost use Rattle.std.specs.Prelude.{◌≡◌, ◌<◌, slice_index_or};
+ghost use Rattle.std.specs.Prelude.{◌≡◌, ◌<◌};
 ghost use Rattle.zpairs.specs.Blocks.{AreBlocks, block_cell, object_cell};
-ghost use Rattle.zpairs.specs.Cells.{no_cell};
 ghost use Rattle.zpairs.specs.Rows.{ArePlaces};
 
 use crate::cell::Cell;
@@ -53,16 +52,6 @@ pub(crate) fn fill_blocks(
 {
     for k in 0..BLOCK_CELLS {
         cells[k] = block_cell(marked, places, k / COLUMNS, (k % COLUMNS) as u16);
-    }
-}
-
-/// What stands in a table of blocks at an index, and nothing behind its last.
-pub(crate) fn cell_in(cells: &[Cell; BLOCK_CELLS], index: usize) -> Cell
-    ensures { result ≡ slice_index_or cells.now index no_cell }
-{
-    match cells.get(index) {
-        Some(cell) => *cell,
-        None => Cell::NONE,
     }
 }
 

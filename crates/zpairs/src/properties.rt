@@ -7,9 +7,7 @@ ghost use Rattle.zpairs.specs.Ends.{no_word};
 ghost use Rattle.zpairs.specs.Frozen.{FrozenStory, frozen_by};
 ghost use Rattle.zpairs.specs.Pairs.{EachPair, all_ends, is_asked, may_exceed, may_have, object_ends, pair_ends};
 
-use crate::blocks::{
-    BLOCK_CELLS, BLOCK_LENGTH, COLUMNS, OBJECT_CELLS, cell_in, fill_blocks, object_cell,
-};
+use crate::blocks::{BLOCK_CELLS, BLOCK_LENGTH, COLUMNS, OBJECT_CELLS, fill_blocks, object_cell};
 use crate::cell::{Cell, Test};
 use crate::closed::mark_closed;
 use crate::ends::Ends;
@@ -223,10 +221,7 @@ impl<'a> Properties<'a> {
         requires small { number ≤ 32 }
         ensures { result ≡ block_cell self.now block number }
     {
-        cell_in(
-            self.blocks,
-            COLUMNS * usize::from(block) + usize::from(number),
-        )
+        self.blocks[COLUMNS * usize::from(block) + usize::from(number)]
     }
 
     /// Whether each object of a block that a set has passes a test with each number of a set, object by object.

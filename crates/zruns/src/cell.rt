@@ -17,13 +17,6 @@ pub struct Cell {
 }
 
 impl Cell {
-    /// What stands where nothing is told yet. All of it is zero, so that many take one fill of memory, and no move.
-    pub(crate) const BLANK: Cell = Cell {
-        is_open: false,
-        fixed: false,
-        ends: Ends::BLANK,
-    };
-
     /// What is known of none.
     pub(crate) const NONE: Cell = Cell {
         is_open: true,

@@ -4,7 +4,14 @@ use crate::blocks::BLOCKS;
 use crate::cell::Cell;
 use crate::text_marks::MARK_BYTES;
 use zdomain::Marks;
-use zpairs::PropertyRoom;
+use zpairs::{Ends, PropertyRoom};
+
+/// What stands where nothing is told yet. All of it is zero, so that many take one fill of memory, and no move.
+const BLANK: Cell = Cell {
+    is_open: false,
+    fixed: false,
+    ends: Ends::BLANK,
+};
 
 /// Room for the tables of a story, some 51 KB. It is made once and filled where it stands: to move it would cost more than all else that is
 /// done for a small story.
@@ -36,8 +43,8 @@ impl Room {
         Room {
             properties: PropertyRoom::new(),
             runs: RunRoom {
-                bytes: [Cell::BLANK; BLOCKS],
-                words: [Cell::BLANK; BLOCKS],
+                bytes: [BLANK; BLOCKS],
+                words: [BLANK; BLOCKS],
             },
             texts: TextRoom {
                 marks: Marks::none(),

@@ -1,4 +1,4 @@
-use Rattle.std.proofs.Common.{◌+◌, ◌*◌, ◌∙◌, arith, subst}
+use Rattle.std.proofs.Common.{◌+◌, ◌*◌, arith, subst}
 use Rattle.zpairs.specs.Frozen.{FrozenStory}
 use Rattle.zpairs.specs.Blocks.{AreBlocks}
 use Rattle.zpairs.proofs.Regrouped.{block_read}
@@ -9,4 +9,4 @@ returns c =
     let are = subst (λ (told : FrozenStory). AreBlocks told c.self.inside.blocks.now) c.self.view_is c.self.invariant.2 in
     let block = c.from.ensures in
     let number = c.from-2.ensures in
-    c.cell_in.ensures ∙ block_read c.args.self.now c.self.inside.blocks.now c.args.block c.args.number (33 * c.from.result + c.from-2.result) are c.requires.few c.requires.small (omega (arith, block, number))
+    block_read c.args.self.now c.self.inside.blocks.now c.args.block c.args.number (33 * c.from.result + c.from-2.result) are c.requires.few c.requires.small (omega (arith, block, number))
