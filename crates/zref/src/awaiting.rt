@@ -1,6 +1,6 @@
 //! What a step waits for that can't be made for want of an event.
 
-ghost use Rattle.std.specs.Prelude.{◌≡◌, ◌^◌, ◌<◌, ◌<ℤ◌, MatchOption, pos, Result, Err, IfErr, IfOk, length};
+ghost use Rattle.std.specs.Prelude.{◌≡◌, ◌^◌, ◌<◌, Result, Err, IfErr, IfOk, length};
 ghost use Rattle.zobj.specs.Entries.{HasTable};
 ghost use Rattle.zstory.specs.Header as header;
 ghost use Rattle.zstory.specs.LoadedStory.{object_table};
@@ -9,9 +9,9 @@ ghost use Rattle.zstate.specs.Run.{need_in};
 ghost use Rattle.zstate.specs.State as spec;
 ghost use Rattle.zstate.specs.Step.{Done, fetch, step};
 ghost use Rattle.zref.specs.Machine.{Judges, scope_of, setting_of};
-ghost use Rattle.zref.specs.Row.{IsAsLoaded, IsFetched, IsFit, within};
+ghost use Rattle.zref.specs.Row.{AreKept, IsAsLoaded, IsFetched, IsFit, within};
 
-use crate::cache::row_at;
+use crate::cache::{Cache, address_of, row_at};
 use crate::lines::need_of_line;
 use crate::plan::StepError;
 use crate::random::halt_random;
@@ -63,11 +63,12 @@ fn need_in(judged: Result<(), StepError>) -> Option<Need>
     }
 }
 
-/// What keeps the next step from being made, and no row is kept for it.
+/// What keeps the next step from being made.
 pub(crate) fn halt_next(
     story: &Story,
     scope: &Scope,
     state: &State,
+    cache: &mut Cache,
     text: &mut Vec<u8>,
 ) -> Result<(), StepError>
     requires memory { length state.now.memory ≡ length story.now.memory }
@@ -75,15 +76,17 @@ pub(crate) fn halt_next(
     requires tables { header.object_table state.now.memory ≡ object_table story.now }
     requires reached { state.now.frame.return_place < 2 ^ 24 }
     requires loaded { IsAsLoaded story.now state.now.memory }
-    ensures { Judges (step (setting_of story.now scope.now) state.now) result state.now }
+    requires kept { AreKept story.now scope.now cache.old.numbers.items cache.old.rows.items }
+    ensures judges { Judges (step (setting_of story.now scope.now) state.now) result state.now }
+    ensures rows { AreKept story.now scope.now cache.new.numbers.items cache.new.rows.items }
 {
-    match row_of_next(story, scope, state) {
+    match cache.fetch(story, scope, state) {
         Ok(row) => halt_at(story, scope, &row, state, text),
         Err(halt) => Err(StepError::Halt(halt)),
     }
 }
 
-/// The row of the instruction at the place.
+/// The row of the instruction at the place, with none kept.
 #[tactic(auto, unfolding(zstate::specs::Step::fetch))]
 pub(crate) fn row_of_next(story: &Story, scope: &Scope, state: &State) -> Result<Row, Halt>
     requires memory { length state.now.memory ≡ length story.now.memory }
@@ -95,14 +98,4 @@ pub(crate) fn row_of_next(story: &Story, scope: &Scope, state: &State) -> Result
         Some(place) => row_at(story, scope, state, place),
         None => Err(Halt::Fault(Fault::UnlistedInstruction)),
     }
-}
-
-/// A place as an address, where it is one: none is below 0.
-fn address_of(place: i32) -> Option<usize>
-    ensures { MatchOption result (place <ℤ pos 0) (λ address. pos address ≡ place) }
-{
-    if place < 0 {
-        return None;
-    }
-    Some(place as usize)
 }
