@@ -39,6 +39,8 @@ KINDS = {
     "jl": [JL],
     "inc": [INC],
     "push": [PUSH, PULL],
+    "new_line": [b"\xbb"],
+    "random": [bytes([0xE7, 0x7F, 100, G[0]])],
     "print": [b"\xb2" + straight.encoded("hello ")],
     "sentence": [straight.KINDS["sentence"]],
     "mix": [ADD, SUB, JE, STORE_GLOBAL, INC, JL, AND, JZ, STORE, INC_CHK, ADD_CONSTANT, PUSH, PULL],
