@@ -10,6 +10,7 @@ import subprocess
 import sys
 import tempfile
 
+from lists import NAMINGS
 from program import Answer, Count, Program
 from samples import HELLO, QUIT, certificate, changed, printed, story, with_objects
 from saves import SAVES, SAVES_LISTED, THAT_SAVE
@@ -180,6 +181,8 @@ def main():
                 see_each(devices, count, words, files, settings)
             for words in (["--help"], ["--version"], ["play"], ["list"], ["explain", "I5"], ["explain", "I19"], ["check", "story", "story"]):
                 see_each(devices, count, words, files, settings)
+        for words in (["list", "story", "certificate"], ["play", "story", "certificate"], ["check", "story", "certificate"]):
+            see_each(devices, count, words, NAMINGS[0][1], {"SHORT": 400})
         see_lines(devices, count)
         see_prompt(devices, count)
         see_writers(devices, count)

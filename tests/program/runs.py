@@ -17,6 +17,7 @@ from dear import see_dear
 from finding import see_finding
 from game import see_game
 from lines import see_lines
+from lists import see_lists
 from objects import see_objects
 from plays import see_plays
 from program import Answer, Count, Program
@@ -434,6 +435,7 @@ def main():
     see_arrays(program, count)
     see_texts(program, count)
     see_lines(program, count)
+    see_lists(program, count, COMMANDS)
     see_finding(program, count)
     see_dear(program, count)
     see_game(program, count)

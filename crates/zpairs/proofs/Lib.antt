@@ -2,6 +2,7 @@ mod Tables
 pub mod Telling
 mod Marking
 mod Found
+mod Listed
 mod Tests
 mod Each
 pub mod Hulls

@@ -1,11 +1,12 @@
 //! What comes of asking objects for properties.
 
-ghost use Rattle.std.specs.Prelude.{◌≡◌, ◌↔◌, ◌≤◌, ℕ, IsTrue};
+ghost use Rattle.std.specs.Prelude.{◌≡◌, ◌↔◌, ◌≤◌, ℕ, IsTrue, map};
 ghost use Rattle.zdomain.specs.Domain.{In};
 ghost use Rattle.zpairs.specs.Cells.{absent_passes, cell_at, passes};
 ghost use Rattle.zpairs.specs.Ends.{no_word};
 ghost use Rattle.zpairs.specs.Frozen.{FrozenStory, frozen_by};
-ghost use Rattle.zpairs.specs.Pairs.{EachPair, all_ends, is_asked, may_exceed, may_have, object_ends, pair_ends};
+ghost use Rattle.zdomain.specs.Few.{with_words};
+ghost use Rattle.zpairs.specs.Pairs.{EachPair, all_ends, column, hull, is_asked, may_exceed, may_have, object_ends, pair_ends};
 
 use crate::blocks::{BLOCK_CELLS, BLOCK_LENGTH, COLUMNS, OBJECT_CELLS, fill_blocks, object_cell};
 use crate::cell::{Cell, Test};
@@ -15,9 +16,10 @@ use crate::frozen::MARK_BYTES;
 use crate::marked::Marked;
 use crate::room::PropertyRoom;
 use crate::rows::place_objects;
+use crate::told::members;
 use std::marker::Model;
 use zcert::Range;
-use zdomain::{Domain, Marks, turned};
+use zdomain::{Domain, Gathered, Marks, turned};
 use zobj::PropertyQuestion;
 use zstory::Story;
 
@@ -50,14 +52,17 @@ impl<'a> Model for Properties<'a> {
 }
 
 impl<'a> Properties<'a> {
-    ghost use Rattle.std.specs.Prelude.{◌≡◌, ◌↔◌, ◌≤◌, ◌<◌, ◌+◌, ◌*◌, ℕ, IsTrue, nat_lt, if◌then◌else◌};
+    ghost use Rattle.std.specs.Prelude.{◌≡◌, ◌↔◌, ◌≤◌, ◌<◌, ◌+◌, ◌*◌, ℕ, IsTrue, nat_lt, if◌then◌else◌, map};
+    ghost use Rattle.std.specs.List.{list_all};
+    ghost use Rattle.zdomain.specs.Few.{with_words};
+    ghost use Rattle.zpairs.specs.Members.{members};
     ghost use Rattle.zdomain.specs.Domain.{In};
     ghost use Rattle.zpairs.specs.Blocks.{EachInBlock, block_cell, block_ends, row_end};
     ghost use Rattle.zpairs.specs.Cells.{cell_at, passes};
     ghost use Rattle.zpairs.specs.Ends.{no_word};
     ghost use Rattle.zpairs.specs.Fixed.{AreClosed};
     ghost use Rattle.zpairs.specs.Frozen.{frozen_by};
-    ghost use Rattle.zpairs.specs.Pairs.{AreAnswered, HaveOpenData, CanBePut, EachPair, all_ends, answers, ends_below, number_ends, object_ends, pair_ends};
+    ghost use Rattle.zpairs.specs.Pairs.{AreAnswered, HaveOpenData, CanBePut, EachPair, all_ends, answers, between_ends, column_words, columns, ends_below, ends_of, hull_answers, is_exact, known_answers, number_ends, object_ends, pair_ends, pairs, row, told_words, word_of, words_if};
 
     /// Those of a story, of which the bytes in some ranges stay as they are, in a room. Each of the story's own tables is gone over once, and
     /// each place of each range.
@@ -128,18 +133,142 @@ impl<'a> Properties<'a> {
         self.pass(Test::Open, objects, numbers)
     }
 
-    /// A set of whatever may be answered of an object of the story and a number of two sets: the words from the least to the greatest,
-    /// by their signed readings. A value is known where it is a default, or no play changes a byte of it.
+    /// A set of whatever may be answered of an object of the story and a number of two sets. A value is known where it is a default, or no
+    /// play changes a byte of it.
     pub fn answers<V: Domain>(&self, question: PropertyQuestion, objects: V, numbers: V) -> V
         ensures { result ≡ answers V.operations self.now question objects numbers }
     {
         match question {
             PropertyQuestion::Value | PropertyQuestion::Address => {
-                let ends = self.all_ends(question, objects, numbers);
-                V::between(turned(ends.least), turned(ends.greatest))
+                self.known_answers(question, objects, numbers)
             }
             PropertyQuestion::Next => V::between(0, NUMBERS - 1),
         }
+    }
+
+    /// Values, or addresses: the words themselves, where they are told, and else those from the least to the greatest of two hulls, by their
+    /// signed readings.
+    fn known_answers<V: Domain>(&self, question: PropertyQuestion, objects: V, numbers: V) -> V
+        ensures { result ≡ known_answers V.operations self.now question objects numbers }
+    {
+        match self.told_answers(question, objects, numbers) {
+            Some(words) => words,
+            None => self.hull_answers(question, hull(objects), hull(numbers)),
+        }
+    }
+
+    /// The words from the least to the greatest.
+    fn hull_answers<V: Domain>(&self, question: PropertyQuestion, objects: V, numbers: V) -> V
+        ensures { result ≡ between_ends V.operations (all_ends V.operations self.now question objects numbers) }
+    {
+        let ends = self.all_ends(question, objects, numbers);
+        V::between(turned(ends.least), turned(ends.greatest))
+    }
+
+    /// The words that are answered of all pairs, where both sets tell their own and each pair answers one.
+    fn told_answers<V: Domain>(
+        &self,
+        question: PropertyQuestion,
+        objects: V,
+        numbers: V,
+    ) -> Option<V>
+        ensures { result ≡ told_words V.operations self.now question (members V.operations objects numbers) }
+    {
+        match members(objects, numbers) {
+            Some((few, others)) => self.list_answers(question, few.as_slice(), others.as_slice()),
+            None => None,
+        }
+    }
+
+    /// Those of each object of one list with each number of another: each column is taken once, whichever numbers it stands for.
+    fn list_answers<V: Domain>(
+        &self,
+        question: PropertyQuestion,
+        objects: &[u16],
+        numbers: &[u16],
+    ) -> Option<V>
+        ensures { result ≡ column_words V.operations self.now question objects.now (columns numbers.now) }
+    {
+        let mut columns = Gathered::none();
+        add_columns(&mut columns, numbers);
+        match columns.few() {
+            Some(each) => self.column_answers(question, objects, each),
+            None => None,
+        }
+    }
+
+    /// Those of each object with each column.
+    fn column_answers<V: Domain>(
+        &self,
+        question: PropertyQuestion,
+        objects: &[u16],
+        columns: &[u16],
+    ) -> Option<V>
+        ensures { result ≡ words_if V.operations (pairs self.now question objects.now columns.now) }
+    {
+        let mut all = Gathered::none();
+        if self.add_pairs(&mut all, question, objects, columns) {
+            Some(V::packed(&all))
+        } else {
+            None
+        }
+    }
+
+    /// Adds the least that each pair answers, and tells whether each answers one word.
+    fn add_pairs(
+        &self,
+        all: &mut Gathered,
+        question: PropertyQuestion,
+        objects: &[u16],
+        columns: &[u16],
+    ) -> bool
+        ensures exact { result ≡ list_all is_exact (pairs self.now question objects.now columns.now) }
+        ensures words { all.new ≡ with_words (map word_of (pairs self.now question objects.now columns.now)) all.old }
+    {
+        let [first, rest @ ..] = objects else {
+            return true;
+        };
+        let exact = self.add_row(all, question, *first, columns);
+        self.add_pairs(all, question, rest, columns) && exact
+    }
+
+    /// The same of one object, if the story has it.
+    fn add_row(
+        &self,
+        all: &mut Gathered,
+        question: PropertyQuestion,
+        object: u16,
+        columns: &[u16],
+    ) -> bool
+        ensures exact { result ≡ list_all is_exact (row self.now question object columns.now) }
+        ensures words { all.new ≡ with_words (map word_of (row self.now question object columns.now)) all.old }
+    {
+        if 1 <= object && object <= u16::from(self.story.objects()) {
+            self.add_ends(all, question, object as u8, columns)
+        } else {
+            true
+        }
+    }
+
+    /// The same of an object of the story.
+    fn add_ends(
+        &self,
+        all: &mut Gathered,
+        question: PropertyQuestion,
+        object: u8,
+        columns: &[u16],
+    ) -> bool
+        requires least { 1 ≤ object }
+        requires most { object ≤ self.now.story.objects }
+        ensures exact { result ≡ list_all is_exact (map (ends_of self.now question object) columns.now) }
+        ensures words { all.new ≡ with_words (map word_of (map (ends_of self.now question object) columns.now)) all.old }
+    {
+        let [first, rest @ ..] = columns else {
+            return true;
+        };
+        let ends = self.cell(object, column(*first)).answer_ends(question);
+        all.add(turned(ends.least));
+        self.add_ends(all, question, object, rest) && ends.least == ends.greatest
     }
 
     /// Whether each object of a set passes a test with each number of a set.
@@ -458,6 +587,31 @@ impl<'a> Properties<'a> {
         } else {
             Ends::NONE
         }
+    }
+}
+
+/// The set from the least word of a set to its greatest.
+fn hull<V: Domain>(set: V) -> V
+    ensures { result ≡ hull V.operations set }
+{
+    V::between(set.lowest(), set.highest())
+}
+
+/// The number by which one is asked for: all that no property has have one.
+fn column(number: u16) -> u16
+    ensures value { result ≡ column number }
+    ensures small { result ≤ 32 }
+{
+    number.min(NUMBERS)
+}
+
+/// Adds those of a list.
+fn add_columns(all: &mut Gathered, numbers: &[u16])
+    ensures { all.new ≡ with_words (map column numbers.now) all.old }
+{
+    if let [first, rest @ ..] = numbers {
+        all.add(column(*first));
+        add_columns(all, rest);
     }
 }
 
