@@ -6,6 +6,7 @@ pub mod Found
 pub mod Only
 pub mod Rest
 pub mod Stores
+pub mod Taken
 pub mod Calls
 pub mod FieldBytes
 pub mod Makes
@@ -18,3 +19,4 @@ pub mod Uncut
 pub mod Room
 pub mod Refused
 pub mod Words
+pub mod Fronts

@@ -1,6 +1,6 @@
 -- Instructions stand by their addresses, so that a search of the stored ones finds the one that is listed.
 use Rattle.std.proofs.Common.{◌≡◌, ◌≢◌, Bool, true, if◌then◌else◌, ℕ, zero, suc, ◌+◌, ◌<◌, ◌≤◌, false, eqb, List, [], ◌∷◌, length, get_or, map, Option, Some, None, Result, Ok, Err, refl, sym, ap, subst, ◌∙◌, eq-eqb, arith, inl, inr}
-use Rattle.std.specs.Prelude.{slice_get, IsSome}
+use Rattle.std.specs.Prelude.{slice_get, IfSome, IsSome}
 use Rattle.std.proofs.lemmas.List.{length-map}
 use Rattle.std.specs.Ordering.{nat_cmp, ordering_index}
 use Rattle.std.specs.List.Sorted.{IsNonDecreasingBy, IsPartitionPoint, IsSearchInRange, IsBinarySearchResult}
@@ -11,9 +11,10 @@ use Rattle.std.proofs.lemmas.Bool.{cases_lt, eqb-true, false≢true}
 use Rattle.std.specs.declared.cmp.Ordering.TheVariants.{Less, Equal, Greater}
 use Rattle.std.proofs.lemmas.Bool.Decides.{nat_tests}
 use Rattle.std.proofs.lemmas.Option.{get_or_from_slice_get, slice_get_within, slice_get-map}
-use Rattle.zcert.specs.declared.contents.Stored.{Stored}
+use Rattle.zcert.specs.declared.instructions.Stored.{Stored}
 use Rattle.zcert.specs.Certificate.{Instruction}
 use Rattle.zcert.specs.Contents.{stored_instruction}
+use Rattle.zcert.specs.Keeping.{Keeping}
 use Rattle.zcert.specs.Spelling.{Rise}
 use Rattle.zcert.specs.declared.parts.Routine.{Routine}
 use Rattle.zcert.specs.Listed.{listed_at, routine_at, Finds}
@@ -22,12 +23,12 @@ use Rattle.zcert.proofs.Rising.{some_is, none_there, above}
 abbrev address : Stored → ℕ
 address s = s.address
 
-abbrev instructions : {V : Type 0} → List V → List Stored → List (Instruction V)
-instructions values ss = map (stored_instruction values) ss
+abbrev instructions : {V C : Type 0} → Keeping V C → List C → List Stored → List (Instruction V)
+instructions keeping cells ss = map (stored_instruction keeping cells) ss
 
-pub rise_stored : {V : Type 0} (values : List V) (floor : ℕ) (ss : List Stored) → Rise (λ (i : Instruction V). i.address) floor (instructions values ss) → Rise address floor ss
-rise_stored values floor [] rise = tt
-rise_stored values floor (s ∷ ss) rise = (rise.0, rise_stored values (s.address + 1) ss rise.1)
+pub rise_stored : {V C : Type 0} (keeping : Keeping V C) (cells : List C) (floor : ℕ) (ss : List Stored) → Rise (λ (i : Instruction V). i.address) floor (instructions keeping cells ss) → Rise address floor ss
+rise_stored keeping cells floor [] rise = tt
+rise_stored keeping cells floor (s ∷ ss) rise = (rise.0, rise_stored keeping cells (s.address + 1) ss rise.1)
 
 -- each is the one that is listed at its address
 pub listed : {V : Type 0} (floor : ℕ) (is : List (Instruction V)) (k : ℕ) (i : Instruction V) → Rise (λ (i : Instruction V). i.address) floor is → slice_get is k ≡ Some i → listed_at is i.address ≡ Some i
@@ -38,20 +39,28 @@ listed {V} floor (x ∷ is) (suc k) i rise e =
     let other : eqb x.address i.address ≡ false = grind (arith, nat_tests) in
     rw other (listed (x.address + 1) is k i rise.1 e)
 
--- where none has the address, none is listed there
-not_listed : {V : Type 0} (values : List V) (ss : List Stored) (at : ℕ) → ((k : ℕ) (s : Stored) → slice_get ss k ≡ Some s → s.address ≢ at) → listed_at (instructions values ss) at ≡ None
-not_listed values [] at none = refl
-not_listed values (x ∷ ss) at none =
-    let differs : x.address ≢ at = none 0 x refl in
-    let other : eqb x.address at ≡ false = grind (arith, nat_tests) in
-    rw other (not_listed values ss at (λ k s e. none (suc k) s e))
-
--- ---- the search
-
 slice_get_is_some : {A : Type 0} (xs : List A) (k : ℕ) → k < length xs → IsSome (slice_get xs k)
 slice_get_is_some [] k lt = absurd (omega arith)
 slice_get_is_some (x ∷ xs) zero lt = refl
 slice_get_is_some (x ∷ xs) (suc k) lt = slice_get_is_some xs k (omega arith)
+
+-- by its index
+pub listed_index : {V : Type 0} (is : List (Instruction V)) (k at : ℕ) → Rise (λ (i : Instruction V). i.address) 0 is → k < length is → IfSome (slice_get is k) (λ i. i.address ≡ at) → listed_at is at ≡ slice_get is k
+listed_index {V} is k at rise low there = by_answer (slice_get is k) refl there
+  where
+    by_answer : (o : Option (Instruction V)) → slice_get is k ≡ o → IfSome o (λ i. i.address ≡ at) → listed_at is at ≡ o
+    by_answer (Some i) e same = ap (listed_at is) (sym same) ∙ listed 0 is k i rise e
+    by_answer None e same = absurd (false≢true (rw e at (slice_get_is_some is k low)))
+
+-- where none has the address, none is listed there
+not_listed : {V C : Type 0} (keeping : Keeping V C) (cells : List C) (ss : List Stored) (at : ℕ) → ((k : ℕ) (s : Stored) → slice_get ss k ≡ Some s → s.address ≢ at) → listed_at (instructions keeping cells ss) at ≡ None
+not_listed keeping cells [] at none = refl
+not_listed keeping cells (x ∷ ss) at none =
+    let differs : x.address ≢ at = none 0 x refl in
+    let other : eqb x.address at ≡ false = grind (arith, nat_tests) in
+    rw other (not_listed keeping cells ss at (λ k s e. none (suc k) s e))
+
+-- ---- the search
 
 ranks : (x y at : ℕ) → x ≤ y → ordering_index (nat_cmp x at) ≤ ordering_index (nat_cmp y at)
 ranks x y at le = grind (arith, nat_tests)
@@ -100,17 +109,17 @@ module _ {A : Type 0} (address : A → ℕ) where
       let same : get_or xs k x ≡ x = get_or_from_slice_get xs k x x e in
       (x, e, equal_is (address x) at (subst (λ (y : A). nat_cmp (address y) at ≡ Equal) same (holds x)))
 
-this_index : {V : Type 0} (values : List V) (ss : List Stored) (at k : ℕ) (s : Stored) → Rise (λ (i : Instruction V). i.address) 0 (instructions values ss) → slice_get ss k ≡ Some s → s.address ≡ at → listed_at (instructions values ss) at ≡ slice_get (instructions values ss) k
-this_index values ss at k s rise e here =
-    let there : slice_get (instructions values ss) k ≡ Some (stored_instruction values s) = slice_get-map (stored_instruction values) ss k ∙ ap (option_map (stored_instruction values)) e in
-    ap (listed_at (instructions values ss)) (sym here) ∙ listed 0 (instructions values ss) k (stored_instruction values s) rise there ∙ sym there
+this_index : {V C : Type 0} (keeping : Keeping V C) (cells : List C) (ss : List Stored) (at k : ℕ) (s : Stored) → Rise (λ (i : Instruction V). i.address) 0 (instructions keeping cells ss) → slice_get ss k ≡ Some s → s.address ≡ at → listed_at (instructions keeping cells ss) at ≡ slice_get (instructions keeping cells ss) k
+this_index keeping cells ss at k s rise e here =
+    let there : slice_get (instructions keeping cells ss) k ≡ Some (stored_instruction keeping cells s) = slice_get-map (stored_instruction keeping cells) ss k ∙ ap (option_map (stored_instruction keeping cells)) e in
+    ap (listed_at (instructions keeping cells ss)) (sym here) ∙ listed 0 (instructions keeping cells ss) k (stored_instruction keeping cells s) rise there ∙ sym there
 
 -- what a binary search answers is the index of what is listed
-pub searched : {V : Type 0} (values : List V) (ss : List Stored) (at : ℕ) (r : Result ℕ ℕ) → Rise (λ (i : Instruction V). i.address) 0 (instructions values ss) → IsSearchInRange r (length ss) → IsBinarySearchResult (λ s. nat_cmp s.address at) ss r → Finds (instructions values ss) at (result_ok r)
-searched values ss at (Ok k) rise range position =
+pub searched : {V C : Type 0} (keeping : Keeping V C) (cells : List C) (ss : List Stored) (at : ℕ) (r : Result ℕ ℕ) → Rise (λ (i : Instruction V). i.address) 0 (instructions keeping cells ss) → IsSearchInRange r (length ss) → IsBinarySearchResult (λ s. nat_cmp s.address at) ss r → Finds (instructions keeping cells ss) at (result_ok r)
+searched keeping cells ss at (Ok k) rise range position =
     let found = one_at address ss at k range position (slice_get ss k) refl in
-    (rw (length-map ss (stored_instruction values)) range, this_index values ss at k found.0 rise found.1 found.2)
-searched values ss at (Err i) rise range position = not_listed values ss at (none_at address ss at i (position (not_decreasing address ss at (rise_stored values 0 ss rise))))
+    (rw (length-map ss (stored_instruction keeping cells)) range, this_index keeping cells ss at k found.0 rise found.1 found.2)
+searched keeping cells ss at (Err i) rise range position = not_listed keeping cells ss at (none_at address ss at i (position (not_decreasing address ss at (rise_stored keeping cells 0 ss rise))))
 
 -- ---- routines
 

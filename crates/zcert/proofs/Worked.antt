@@ -1,6 +1,7 @@
 -- Values of the definitions, computed.
 use Rattle.std.proofs.Common.{◌≡◌, true, false, ℕ, List, [], ◌∷◌, ◌++◌, length, replicate, zero, suc, Some, None, Ok, Err, pos, negsuc, inl, inr, refl, ap, arith}
 use Rattle.std.specs.List.{AllByRecursion}
+use Rattle.std.proofs.lemmas.Int.{ints}
 use Rattle.zdomain.specs.declared.interval.Interval.{Interval}
 use Rattle.zdomain.specs.Interval.{point, all_words, interval_of, in_order}
 use Rattle.zstory.specs.declared.identity.Identity.{Identity}
@@ -11,7 +12,7 @@ use Rattle.zcert.specs.declared.field.Turn.{Turn}
 use Rattle.zcert.specs.declared.field.Turn.TheVariants as turns
 use Rattle.zcert.specs.declared.parts.Range.{Range}
 use Rattle.zcert.specs.declared.parts.Routine.{Routine}
-use Rattle.zcert.specs.declared.contents.Stored.{Stored}
+use Rattle.zcert.specs.declared.instructions.Stored.{Stored}
 use Rattle.zcert.specs.declared.limits.TheConstants.{MAGIC, VERSION, GLOBALS, ADDRESS_LIMIT, MAX_LOCALS, MAX_INSTRUCTIONS, MAX_RANGES, MAX_ROUTINES, MAX_HEIGHT}
 use Rattle.zcert.specs.Numbers.{width, number, HasRoom}
 use Rattle.zcert.specs.Numbers as numbers
@@ -22,6 +23,7 @@ use Rattle.zcert.specs.Spelling.{identity_bytes, range_bytes, counted, routine_b
 use Rattle.zcert.specs.Reading.{magic_at, version_at, heading_at, identity_at, range_at, ranges_at, all_ranges_at, address_fits, values_at, routine_at, routines_at, all_routines_at, instruction_at, instructions_at, all_instructions_at, reading}
 use Rattle.zcert.specs.Building.{Progress, opening, before_globals, before_ranges, before_routines, before_instructions, instruction_of, with_routine, InTurn, taken, all_taken, Adds, IsDue}
 use Rattle.zcert.specs.Fields.{field_bytes, IsField, field_at, next_at, IsReached, LeadsToPart}
+use Rattle.zcert.specs.Keeping.{intervals_kept}
 use Rattle.zcert.specs.Contents.{values_of, stored_instruction, LiesIn}
 use Rattle.zcert.specs.Listed.{listed_at, Finds}
 use Rattle.zcert.specs.Listed as listing
@@ -32,6 +34,7 @@ use Rattle.zcert.specs.Turns.{IsOfSet, IsSetNext, field_width, next_width, IsPar
 use Rattle.zcert.specs.Begun.{end_bytes, ends_turns}
 use Rattle.zcert.specs.Streaming.{IsCut, GoesOn, unfed, Leads, IsRefusal, IsUnread, IsFed, IsOpen}
 use Rattle.zcert.proofs.Follows.{magic_refused}
+use Rattle.zcert.proofs.Fronts.{intervals_held}
 use Rattle.zcert.specs.View.{Answers, Refuses, RefusesField, Takes}
 
 -- ---- limits
@@ -460,9 +463,14 @@ stored = record { address = 0x331; routine = 1; locals = 1; height = 1; start = 
 all_values : List Interval
 all_values = point 5 ∷ point 6 ∷ point 0 ∷ point 7 ∷ point 8 ∷ []
 
-kept : (values_of all_values stored ≡ point 0 ∷ point 7 ∷ []) × (stored_instruction all_values stored ≡ instruction) × LiesIn all_values stored × (LiesIn (point 5 ∷ point 6 ∷ point 0 ∷ []) stored → ⊥)
+kept : (values_of intervals_kept all_values stored ≡ point 0 ∷ point 7 ∷ []) × (stored_instruction intervals_kept all_values stored ≡ instruction) × LiesIn interval_format intervals_kept all_values stored × (LiesIn interval_format intervals_kept (point 5 ∷ point 6 ∷ point 0 ∷ []) stored → ⊥)
 unfolding all_values stored instruction
-kept = (refl, refl, omega arith, λ l. omega (arith, l))
+kept = (
+  refl,
+  refl,
+  record { begun = omega arith; holds = record { kept = point 0 ∷ point 7 ∷ []; rest = point 8 ∷ []; counted = refl; have = ((omega (arith, ints), omega (arith, ints)), ((omega (arith, ints), omega (arith, ints)), tt)); are = refl } },
+  λ l. absurd (omega (arith, intervals_held 2 (point 0 ∷ []) l.holds)),
+)
 
 -- ---- what is listed
 

@@ -12,6 +12,7 @@ use Rattle.zcert.specs.declared.values_spelled.Unfinished.TheVariants as unfinis
 use Rattle.zcert.specs.Numbers as numbers
 use Rattle.zcert.specs.Numbers.{width, number, HasRoom}
 use Rattle.zcert.specs.Lists.{words_at, list_of, run_at, list_at, set_at, set_bytes, HasBytes, values_format}
+use Rattle.zcert.specs.Keeping.{intervals_kept, values_kept, words_in}
 use Rattle.zcert.specs.Coming.{list_bytes, are_from, floor_behind, IsComing}
 use Rattle.zcert.specs.Unfinished.{set_came, set_awaited, values_turns}
 use Rattle.zcert.specs.Turns.{field_width}
@@ -49,6 +50,11 @@ spelled = (refl, refl, refl, refl)
 read_again : (values_format.value_at (0 ∷ 0xFF ∷ 0xFE ∷ 0 ∷ 5 ∷ 9 ∷ []) ≡ Ok (below_zero, 9 ∷ [])) × (values_format.value_at (1 ∷ 2 ∷ 1 ∷ 0x9B ∷ 1 ∷ 0x9D ∷ []) ≡ Ok (two, [])) × (values_format.value_at (1 ∷ 2 ∷ 0xFF ∷ 0xFE ∷ 0 ∷ 5 ∷ 8 ∷ []) ≡ Ok (signed, 8 ∷ []))
 unfolding below_zero two signed words_at is_scattered rises_behind last_behind
 read_again = (refl, refl, refl)
+
+-- kept one behind the other, and as many of them as are asked for
+kept : (values_kept.cells two ≡ 1 ∷ 2 ∷ 1 ∷ 0x9B ∷ 1 ∷ 0x9D ∷ []) × (values_kept.sets 2 (0 ∷ 0xFF ∷ 0xFE ∷ 0 ∷ 5 ∷ 1 ∷ 2 ∷ 1 ∷ 0x9B ∷ 1 ∷ 0x9D ∷ 9 ∷ []) ≡ below_zero ∷ two ∷ []) × (values_kept.sets 0 (1 ∷ 2 ∷ []) ≡ []) × (intervals_kept.sets 1 (point 5 ∷ point 6 ∷ []) ≡ point 5 ∷ []) × (words_in (1 ∷ 0x9B ∷ 1 ∷ 0x9D ∷ []) ≡ 411 ∷ 413 ∷ [])
+unfolding below_zero two words_at is_scattered rises_behind last_behind
+kept = (refl, refl, refl, refl, refl)
 
 -- no list: one word; 5 and 6, which are an interval; 6 and 5; a kind that is none
 refused : (values_format.value_at (1 ∷ 1 ∷ 0 ∷ 5 ∷ []) ≡ Err errors.ListForm) × (values_format.value_at (1 ∷ 2 ∷ 0 ∷ 5 ∷ 0 ∷ 6 ∷ []) ≡ Err errors.ListForm) × (values_format.value_at (1 ∷ 2 ∷ 0 ∷ 6 ∷ 0 ∷ 5 ∷ []) ≡ Err errors.Order) × (values_format.value_at (2 ∷ []) ≡ Err errors.ListForm) × (values_format.value_at (255 ∷ []) ≡ Err errors.ListForm)

@@ -6,6 +6,7 @@ pub mod Intervals
 pub mod Steady
 pub mod Words
 pub mod Sets
+pub mod Kept
 use Rattle.std.specs.Prelude.{◌≡◌, ◌≢◌, ℕ, ◌<◌, List, [], ◌++◌, length, Result, Ok, Err}
 use Rattle.std.proofs.Common.{get_or}
 use Rattle.zcert.specs.declared.error.CertError.{CertError}

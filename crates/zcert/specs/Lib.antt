@@ -3,6 +3,7 @@ pub mod Certificate
 pub mod Steps
 pub mod Format
 pub mod Lists
+pub mod Keeping
 pub mod Turns
 pub mod Begun
 pub mod Coming

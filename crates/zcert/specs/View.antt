@@ -1,24 +1,23 @@
 -- What the code's certificates and builders say.
-use Rattle.std.specs.Prelude.{◌≡◌, map, drop, Result, Ok, Err, IsOk}
+use Rattle.std.specs.Prelude.{◌≡◌, Result, Ok, Err, IsOk}
 use Rattle.zcert.specs.declared.error.CertError.{CertError}
 use Rattle.zcert.specs.declared.error.CertError.TheVariants.{OutOfMemory}
 use Rattle.zcert.specs.declared.contents.Contents.{Contents}
 use Rattle.zcert.specs.declared.building.Building.{Building}
 use Rattle.zcert.specs.Certificate.{Certificate}
-use Rattle.zcert.specs.Contents.{stored_instruction}
 use Rattle.zcert.specs.Building.{Progress}
 
-abbrev pub content_of : {V : Type 0} → Contents V → Certificate V
+abbrev pub content_of : {V P C R : Type 0} → Contents V P C R → Certificate V
 content_of c = record {
   identity = c.identity;
   ranges = c.ranges.items;
   globals = c.globals.items;
   routines = c.routines.items;
-  instructions = map (stored_instruction c.values.items) c.stored.items;
+  instructions = c.instructions.instructions;
 }
 
-abbrev pub progress_of : {V : Type 0} → Building V → Progress V
-progress_of b = record { content = content_of b.contents; values = drop b.start b.contents.values.items; floor = b.floor; turn = b.turn }
+abbrev pub progress_of : {V P C R : Type 0} → Building V P C R → Progress V
+progress_of b = record { content = content_of b.contents; values = b.contents.instructions.values; floor = b.floor; turn = b.turn }
 
 -- What a step answered, seen by view, is what it has to.
 abbrev pub Gives : {X Y : Type 0} → (X → Y) → Result X CertError → Result Y CertError → Type 0

@@ -1,10 +1,9 @@
 //! A certificate in the making: where each field leads.
 
-ghost use Rattle.std.specs.Prelude.{◌≤◌, length};
-
-use crate::contents::{Contents, Stored};
+use crate::contents::Contents;
 use crate::error::CertError;
 use crate::field::{Field, Header, Turn};
+use crate::instructions::Instructions;
 use crate::limits::{ADDRESS_LIMIT, MAX_HEIGHT, MAX_INSTRUCTIONS, MAX_LOCALS};
 use crate::parts::{Range, Routine};
 use crate::spelled::Spelled;
@@ -12,20 +11,18 @@ use crate::turns::{before_globals, before_instructions, before_ranges, before_ro
 use std::alloc::Global;
 use zstory::Identity;
 
-/// What has come so far. The values of the newest instruction begin at `start`.
+/// What has come so far.
 #[derive(Drop)]
-pub struct Building<V> {
+pub struct Building<V: Spelled> {
     pub contents: Contents<V>,
-    pub start: usize,
     /// The least that the next address, or the next range's first byte, may be.
     pub floor: u32,
     pub turn: Turn,
-    pub ghost begun: { start ≤ length contents.values.items },
 }
 
 // Each takes one kind of field. Out of turn it is out of order; a field that is refused changes nothing.
 impl<V: Spelled> Building<V> {
-    ghost use Rattle.std.specs.Prelude.{◌≡◌, ◌≢◌, ◌+◌, ◌<◌, Err, vec_len, vec_capacity};
+    ghost use Rattle.std.specs.Prelude.{◌≡◌, ◌≢◌, ◌+◌, ◌<◌, Err, length};
     ghost use Rattle.zcert.specs.View.{progress_of, Takes};
     ghost use Rattle.zcert.specs.Reading.{address_fits};
     ghost use Rattle.zcert.specs.Certificate.{locals_of};
@@ -47,10 +44,8 @@ impl<V: Spelled> Building<V> {
                 ranges: Vec::new(alloc),
                 globals: Vec::new(alloc),
                 routines: Vec::new(alloc),
-                stored: Vec::new(alloc),
-                values: Vec::new(alloc),
+                instructions: Instructions::new(alloc),
             },
-            start: 0,
             floor: 0,
             turn: Turn::Release,
         }
@@ -257,7 +252,7 @@ impl<V: Spelled> Building<V> {
             return Err(CertError::Order);
         };
         self.address(address)?;
-        self.start = self.contents.values.len();
+        self.contents.instructions.begin();
         self.turn = Turn::RoutineNumber { more, address };
         Ok(())
     }
@@ -297,7 +292,7 @@ impl<V: Spelled> Building<V> {
     fn await_values(&mut self, left: u16, more: u32, header: Header)
         requires address { header.address < ADDRESS_LIMIT }
         requires counted { length (progress_of self.old).values + left ≡ header.locals + header.height }
-        requires room { left ≡ 0 → vec_len self.old.contents.stored < vec_capacity self.old.contents.stored }
+        requires room { left ≡ 0 → 0 < self.old.contents.instructions.room }
         ensures { progress_of self.new ≡ before_values left more header (progress_of self.old) }
     {
         if left > 0 {
@@ -308,13 +303,7 @@ impl<V: Spelled> Building<V> {
             };
             return;
         }
-        self.contents.store(Stored {
-            address: header.address,
-            routine: header.routine,
-            locals: header.locals,
-            height: header.height,
-            start: self.start,
-        });
+        self.contents.instructions.store(header);
         self.floor = header.address + 1;
         self.turn = before_instructions(more);
     }
@@ -338,7 +327,7 @@ impl<V: Spelled> Building<V> {
         let locals = self.locals_of(routine);
         let left = u16::from(locals) + u16::from(height);
         if left == 0 {
-            self.contents.stored.reserve(1)?;
+            self.contents.instructions.reserve()?;
         }
         let header = Header {
             address,
@@ -358,9 +347,9 @@ impl<V: Spelled> Building<V> {
             return Err(CertError::Order);
         };
         if left == 0 {
-            self.contents.stored.reserve(1)?;
+            self.contents.instructions.reserve()?;
         }
-        self.contents.push_value(values)?;
+        self.contents.instructions.push(values)?;
         self.await_values(left, more, header);
         Ok(())
     }

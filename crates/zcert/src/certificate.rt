@@ -1,9 +1,9 @@
 //! A certificate as it is used.
 
-ghost use Rattle.std.specs.Prelude.{◌≡◌, ◌<◌, length, slice_get, Some};
+ghost use Rattle.std.specs.Prelude.{◌≡◌, ◌<◌, length, slice_get, IfSome, Some};
 ghost use Rattle.std.specs.Option.{option_map};
 ghost use Rattle.zcert.specs.Spelling.{HasSpelling};
-ghost use Rattle.zcert.specs.Listed.{listed_at, routine_at, seen};
+ghost use Rattle.zcert.specs.Listed.{Finds, listed_at, routine_at, seen};
 
 use crate::contents::Contents;
 use crate::parts::{Instruction, Range, Routine};
@@ -98,11 +98,11 @@ impl<V: Spelled> Certificate<V> {
         ensures value { result ≡ length self.now.instructions }
         ensures keeps { HasSpelling V.format self.now }
     {
-        self.contents.stored.len()
+        self.contents.instructions.count()
     }
 
-    /// The listed instruction of an index, in the order of their addresses.
-    pub fn instruction(&self, index: usize) -> Instruction<'_, V>
+    /// The listed instruction of an index, in the order of their addresses. Its sets are lent, or made in the room.
+    pub fn instruction<'a>(&'a self, index: usize, room: &'a mut V::Room) -> Instruction<'a, V>
         requires { index < length self.now.instructions }
         ensures value { slice_get self.now.instructions index ≡ Some (seen result) }
 
@@ -110,16 +110,40 @@ impl<V: Spelled> Certificate<V> {
         ensures listed { listed_at self.now.instructions result.address ≡ Some (seen result) }
         ensures keeps { HasSpelling V.format self.now }
     {
-        self.contents.instruction_of(index)
+        self.contents.instructions.get(index, room)
     }
 
-    /// The instruction that is listed at an address, if one is. The search takes as many steps as the count of instructions has
-    /// binary digits.
-    pub fn instruction_at(&self, address: u32) -> Option<Instruction<'_, V>>
+    /// The address of the listed instruction of an index.
+    pub fn address_of(&self, index: usize) -> u32
+        requires { index < length self.now.instructions }
+        ensures value { IfSome (slice_get self.now.instructions index) (λ i. i.address ≡ result) }
+
+        // It is the one that is listed there.
+        ensures listed { listed_at self.now.instructions result ≡ slice_get self.now.instructions index }
+        ensures keeps { HasSpelling V.format self.now }
+    {
+        self.contents.instructions.address_of(index)
+    }
+
+    /// The index of the instruction that is listed at an address, if one is. The search takes as many steps as the count of
+    /// instructions has binary digits.
+    pub fn instruction_index(&self, address: u32) -> Option<usize>
+        ensures value { Finds self.now.instructions address result }
+        ensures keeps { HasSpelling V.format self.now }
+    {
+        self.contents.instructions.index_of(address)
+    }
+
+    /// The instruction that is listed at an address, if one is, found by such a search.
+    pub fn instruction_at<'a>(
+        &'a self,
+        address: u32,
+        room: &'a mut V::Room,
+    ) -> Option<Instruction<'a, V>>
         ensures value { option_map seen result ≡ listed_at self.now.instructions address }
         ensures keeps { HasSpelling V.format self.now }
     {
-        let index = self.contents.index_of(address)?;
-        Some(self.instruction(index))
+        let index = self.instruction_index(address)?;
+        Some(self.instruction(index, room))
     }
 }

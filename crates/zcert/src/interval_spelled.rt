@@ -6,6 +6,8 @@ ghost use Rattle.zdomain.specs.Interval.{interval_of};
 ghost use Rattle.zcert.specs.Begun.{ends_turns};
 ghost use Rattle.zcert.specs.Format.{interval_format, nonempty};
 ghost use Rattle.zcert.specs.FormatLaw.Intervals.{interval_is_format, intervals_are_turns};
+ghost use Rattle.zcert.specs.FormatLaw.Kept.{intervals_are_kept};
+ghost use Rattle.zcert.specs.Keeping.{intervals_kept};
 
 use crate::error::CertError;
 use crate::limits::{END_BYTES, VALUE_BYTES, VERSION};
@@ -35,13 +37,21 @@ pub(crate) fn interval_between(lo: u16, hi: u16) -> Result<Interval, CertError>
 impl Spelled for Interval {
     type Partial = Begun;
 
+    type Cell = Interval;
+
+    type Room = ();
+
     ghost format = { interval_format };
 
     ghost turns = { ends_turns };
 
+    ghost keeping = { intervals_kept };
+
     ghost is_format = { interval_is_format };
 
     ghost are_turns = { intervals_are_turns };
+
+    ghost are_kept = { intervals_are_kept };
 
     fn version() -> u8 {
         VERSION
@@ -76,6 +86,21 @@ impl Spelled for Interval {
     fn write_to(self, out: &mut Vec<u8>) -> Result<(), AllocError> {
         out.extend_from_slice(&self.lo.to_be_bytes())?;
         out.extend_from_slice(&self.hi.to_be_bytes())
+    }
+
+    fn keep(self, kept: &mut Vec<Interval>) -> Result<(), AllocError> {
+        kept.push(self)?;
+        Ok(())
+    }
+
+    fn room() {}
+
+    fn sets<'a>(kept: &'a [Interval], count: usize, _room: &'a mut ()) -> &'a [Interval] {
+        &kept[..count]
+    }
+
+    fn kept_length(kept: &[Interval]) -> usize {
+        kept.len().saturating_mul(VALUE_BYTES)
     }
 
     fn has_spelling(self) {}

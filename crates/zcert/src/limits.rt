@@ -30,6 +30,9 @@ pub const MAX_ROUTINES: u16 = 65_535;
 /// The greatest height of the stack before an instruction.
 pub const MAX_HEIGHT: u8 = 64;
 
+/// The most sets of an instruction: those of its locals, and of its slots.
+pub const MAX_SETS: usize = 79;
+
 /// The bytes of magic, version and identity, and of the three counts.
 pub const FIXED_BYTES: usize = 27;
 

@@ -1,8 +1,9 @@
 //! What a kind of sets has to offer, so that certificates can hold them.
 
-ghost use Rattle.std.specs.Prelude.{◌≡◌, ◌≢◌, ◌<◌, ◌≤◌, ◌++◌, [], length, IfErr, IfOk, IfSome, None, Ok, Err, OnOk};
+ghost use Rattle.std.specs.Prelude.{◌≡◌, ◌≢◌, ◌<◌, ◌≤◌, ◌++◌, [], length, IfErr, IfOk, IfSome, None, Ok, Err, OnOk, OnErr};
 ghost use Rattle.zcert.specs.Format.{Format};
 ghost use Rattle.zcert.specs.FormatLaw.{IsFormat};
+ghost use Rattle.zcert.specs.Keeping.{Keeping, Holds, AreKept};
 ghost use Rattle.zcert.specs.Turns.{Turns, AreTurns};
 
 use crate::error::CertError;
@@ -17,11 +18,20 @@ pub trait Spelled: Domain {
     /// What has come of a set that isn't whole.
     type Partial: Drop;
 
+    /// What a list of sets is kept in: one cell a set, or as many as it asks for.
+    type Cell: Copy + Drop;
+
+    /// Room for the sets of one instruction, where they have to be made of cells.
+    type Room: Drop;
+
     /// How the version writes sets.
     ghost format: { Format Self };
 
     /// The bytes by which an unfinished set came, and how many its next number takes.
     ghost turns: { Turns Self.Partial };
+
+    /// The cells of a set, and the sets in cells.
+    ghost keeping: { Keeping Self Self.Cell };
 
     /// The version.
     fn version() -> u8
@@ -53,6 +63,23 @@ pub trait Spelled: Domain {
     fn write_to(self, out: &mut Vec<u8>) -> Result<(), AllocError>
         ensures { OnOk result (out.new.items ≡ out.old.items ++ format.spelled self) };
 
+    /// Keeps the set behind those that are kept.
+    fn keep(self, kept: &mut Vec<Self::Cell>) -> Result<(), AllocError>
+        ensures kept { OnOk result (kept.new.items ≡ kept.old.items ++ keeping.cells self) }
+        ensures err { OnErr result (kept.new.items ≡ kept.old.items) };
+
+    /// Room that nothing was made in.
+    fn room() -> Self::Room;
+
+    /// So many sets from the front of those that are kept: lent, or made in the room.
+    fn sets<'a>(kept: &'a [Self::Cell], count: usize, room: &'a mut Self::Room) -> &'a [Self]
+        requires few { count ≤ 79 }
+        requires kept { Holds format keeping count kept.now }
+        ensures { result.now ≡ keeping.sets count kept.now };
+
+    /// How many bytes sets take that are kept.
+    fn kept_length(kept: &[Self::Cell]) -> usize;
+
     /// Each set has a spelling.
     fn has_spelling(self)
         ensures { format.Has self };
@@ -62,4 +89,7 @@ pub trait Spelled: Domain {
 
     /// And without all bytes of its next number a set is cut off.
     ghost are_turns: { AreTurns format turns };
+
+    /// Sets are found as they were kept.
+    ghost are_kept: { AreKept format keeping };
 }

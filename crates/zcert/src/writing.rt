@@ -2,14 +2,14 @@
 
 ghost use Rattle.std.specs.Prelude.{◌≡◌, ◌≤◌, ◌++◌, length, IfOk, OnOk};
 ghost use Rattle.zcert.specs.Numbers as numbers;
-ghost use Rattle.zcert.specs.Contents.{stored_instruction, LiesIn};
+ghost use Rattle.zcert.specs.Listed.{seen};
 ghost use Rattle.zcert.specs.View.{content_of};
 ghost use Rattle.zcert.specs.Spelling.{identity_bytes, range_bytes, values_bytes, routine_bytes, instruction_bytes, counted, heading, spelling, HasSpelling};
 
 use crate::certificate::Certificate;
-use crate::contents::{Contents, Stored};
+use crate::contents::Contents;
 use crate::limits::{FIXED_BYTES, HEADER_BYTES, MAGIC, RANGE_BYTES, ROUTINE_BYTES};
-use crate::parts::{Range, Routine};
+use crate::parts::{Instruction, Range, Routine};
 use crate::spelled::Spelled;
 use std::alloc::{AllocError, Global};
 use zstory::Identity;
@@ -78,27 +78,27 @@ fn put_routines<V: Spelled>(out: &mut Vec<u8>, routines: &[Routine<V>]) -> Resul
 
 fn put_instruction<V: Spelled>(
     out: &mut Vec<u8>,
-    contents: &Contents<V>,
-    stored: Stored,
+    instruction: &Instruction<'_, V>,
 ) -> Result<(), AllocError>
-    requires { LiesIn contents.now.values.items stored }
-    ensures { OnOk result (out.new.items ≡ out.old.items ++ instruction_bytes V.format (stored_instruction contents.now.values.items stored)) }
+    requires { length instruction.now.slots.now ≤ 64 }
+    ensures { OnOk result (out.new.items ≡ out.old.items ++ instruction_bytes V.format (seen instruction.now)) }
 {
-    let said = contents.instruction(stored);
-    out.extend_from_slice(&said.address.to_be_bytes())?;
-    out.extend_from_slice(&said.routine.to_be_bytes())?;
-    out.push(stored.height)?;
-    put_values(out, said.locals)?;
-    put_values(out, said.slots)
+    out.extend_from_slice(&instruction.address.to_be_bytes())?;
+    out.extend_from_slice(&instruction.routine.to_be_bytes())?;
+    out.push(instruction.slots.len() as u8)?;
+    put_values(out, instruction.locals)?;
+    put_values(out, instruction.slots)
 }
 
 fn put_instructions<V: Spelled>(out: &mut Vec<u8>, contents: &Contents<V>) -> Result<(), AllocError>
-    requires { length contents.now.stored.items ≤ 131072 }
+    requires { HasSpelling V.format (content_of contents.now) }
     ensures { OnOk result (out.new.items ≡ out.old.items ++ counted numbers.InstructionCount (instruction_bytes V.format) (content_of contents.now).instructions) }
 {
-    out.extend_from_slice(&(contents.stored.len() as u32).to_be_bytes())?;
-    for stored in &contents.stored {
-        put_instruction(out, contents, *stored)?;
+    let count = contents.instructions.count();
+    let mut room = V::room();
+    out.extend_from_slice(&(count as u32).to_be_bytes())?;
+    for index in 0..count {
+        put_instruction(out, &contents.instructions.get(index, &mut room))?;
     }
     Ok(())
 }
@@ -127,8 +127,8 @@ fn room_for<V: Spelled>(contents: &Contents<V>) -> usize {
         .saturating_add(contents.ranges.len().saturating_mul(RANGE_BYTES))
         .saturating_add(room_of(&contents.globals))
         .saturating_add(room_of_routines(&contents.routines))
-        .saturating_add(contents.stored.len().saturating_mul(HEADER_BYTES))
-        .saturating_add(room_of(&contents.values))
+        .saturating_add(contents.instructions.count().saturating_mul(HEADER_BYTES))
+        .saturating_add(contents.instructions.bytes_of_sets())
 }
 
 // All that a certificate says, apart from the vector, which would be dropped where any of these is refused.

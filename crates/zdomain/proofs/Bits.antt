@@ -1,12 +1,13 @@
 -- Marks as bits.
-use Rattle.std.proofs.Common.{◌≡◌, ◌≢◌, ◌⊎◌, inl, inr, ℕ, ◌*◌, ◌/◌, ◌%◌, ◌^◌, ◌<◌, ◌≤◌, Bool, true, false, ◌||◌, ◌==◌, List, length, replicate, w8, refl, sym, ap, ◌∙◌, arith}
+use Rattle.std.proofs.Common.{◌≡◌, ◌≢◌, ◌⊎◌, inl, inr, ℕ, ◌+◌, ◌*◌, ◌/◌, ◌%◌, ◌^◌, ◌<◌, ◌≤◌, Bool, true, false, ◌&&◌, ◌||◌, ◌==◌, not, min, List, length, replicate, w8, refl, sym, ap, ◌∙◌, arith}
 use Rattle.std.specs.Prelude.{bit_or, slice_index_or, slice_set}
 use Rattle.std.specs.Int.{bit_at}
-use Rattle.std.proofs.lemmas.Nat.Bits.{bit_at-zero, bit_at_set_same, bit_at_set_other}
+use Rattle.std.specs.Int.Bits.{bit_xor}
+use Rattle.std.proofs.lemmas.Nat.Bits.{bit_at_and, bit_at_xor, bit_at-lt, bit_at-zero, bit_at_set_same, bit_at_set_other}
 use Rattle.std.proofs.lemmas.Bool.{cases_lt, eq-eqb}
 use Rattle.std.proofs.lemmas.Bool.Decides.{eqb_tells}
 use Rattle.std.proofs.lemmas.List.{get_or-set_same, get_or-set_other, get_or-replicate, get_or_past, length-replicate}
-use Rattle.zdomain.specs.Marks.{is_marked}
+use Rattle.zdomain.specs.Marks.{is_marked, rest_of}
 
 pub unmarked : (long p : ℕ) → is_marked (replicate long 0) p ≡ false
 unmarked long p = let byte = zero_there (cases_lt (p / 8) long) in let bit = bit_at-zero (p % 8) in rw byte (rw bit refl)
@@ -54,3 +55,18 @@ module _ (marks : List ℕ) (place : ℕ) (inside : place / 8 < length marks) wh
       by_place : ((p == place) ≡ true) × (p ≡ place) ⊎ ((p == place) ≡ false) × (p ≢ place) → is_marked (with_mark marks place) p ≡ (is_marked marks p || (p == place))
       by_place (inl same) = ap (λ (q : ℕ). is_marked (with_mark marks place) q) same.1 ∙ here ∙ sym (let e = same.0 in rw e (or_true (is_marked marks p)))
       by_place (inr other) = let e = other.0 in elsewhere p other.1 ∙ or_false (is_marked marks p) ∙ rw e refl
+
+-- ---- marks of a whole that others haven't
+
+two_bits : (a b : ℕ) → a < 2 → b < 2 → (min a ((a + b) % 2) == 1) ≡ ((a == 1) && not (b == 1))
+two_bits a b low small = grind (arith, low, small)
+
+rest_bit : (whole byte i : ℕ) → (bit_at (rest_of whole byte) i == 1) ≡ ((bit_at whole i == 1) && not (bit_at byte i == 1))
+rest_bit whole byte i =
+    ap (λ (b : ℕ). b == 1) (bit_at_and whole (bit_xor whole byte) i ∙ ap (λ (b : ℕ). min (bit_at whole i) b) (bit_at_xor whole byte i))
+    ∙ two_bits (bit_at whole i) (bit_at byte i) (bit_at-lt whole i) (bit_at-lt byte i)
+
+pub turned_within : (whole before after : List ℕ) → ((k : ℕ) → slice_index_or after k 0 ≡ rest_of (slice_index_or whole k 0) (slice_index_or before k 0)) → (p : ℕ) → is_marked after p ≡ (is_marked whole p && not (is_marked before p))
+turned_within whole before after each p =
+    ap (λ (byte : ℕ). bit_at byte (p % 8) == 1) (each (p / 8))
+    ∙ rest_bit (slice_index_or whole (p / 8) 0) (slice_index_or before (p / 8) 0) (p % 8)

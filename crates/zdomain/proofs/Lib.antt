@@ -7,6 +7,7 @@ pub mod Inclusion
 pub mod Reading
 mod Worked
 mod WorkedLists
+pub mod One
 pub mod Listing
 pub mod Going
 pub mod Reaching

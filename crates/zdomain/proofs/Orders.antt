@@ -2,7 +2,7 @@
 use Rattle.std.proofs.Common.{◌≡◌, ◌≢◌, ℕ, suc, ◌+◌, ◌-◌, ◌%◌, ◌<◌, ◌≤◌, Bool, true, false, ◌&&◌, ◌||◌, ◌==◌, if◌then◌else◌, List, [], ◌∷◌, refl, sym, ◌∙◌, subst, arith}
 use Rattle.std.specs.Prelude.{◌↔◌, IsTrue, nat_lt}
 use Rattle.std.specs.List.{filter}
-use Rattle.std.proofs.lemmas.Bool.{eqb-true, eqb-false, ltb-true, ltb-false}
+use Rattle.std.proofs.lemmas.Bool.{eqb-true, eqb-false, ltb-true, ltb-false, and_parts}
 use Rattle.zdomain.specs.Few.{turned, is_among, rises, rises_behind}
 use Rattle.std.proofs.Common.{get_or}
 use Rattle.zdomain.specs.declared.values.Scattered.{Scattered}
@@ -13,23 +13,18 @@ use Rattle.zdomain.specs.Values.{values_operations}
 use Rattle.zdomain.proofs.Going.{from_first, from_all}
 use Rattle.zdomain.specs.FewLaw.{among_cons, among_front, among_behind, first_least}
 
-both_of : (a b : Bool) → a && b ≡ true → (a ≡ true) × (b ≡ true)
-both_of true true e = (refl, refl)
-both_of true false e = absurd cc
-both_of false b e = absurd cc
-
 -- what is behind the first rises too
 pub rest_rises : (x : ℕ) (xs : List ℕ) → rises (x ∷ xs) ≡ true → rises xs ≡ true
 unfolding rises_behind
 rest_rises x [] r = refl
-rest_rises x (y ∷ ys) r = (both_of (nat_lt (turned x) (turned y)) (rises_behind y ys) r).1
+rest_rises x (y ∷ ys) r = (and_parts (nat_lt (turned x) (turned y)) (rises_behind y ys) r).1
 
 -- each of them stands above the first
 pub above : (x : ℕ) (xs : List ℕ) (v : ℕ) → rises (x ∷ xs) ≡ true → IsTrue (is_among v xs) → turned x < turned v
 unfolding rises_behind
 above x [] v r h = absurd cc
 above x (y ∷ ys) v r h =
-    let split = both_of (nat_lt (turned x) (turned y)) (rises_behind y ys) r in
+    let split = and_parts (nat_lt (turned x) (turned y)) (rises_behind y ys) r in
     let less = ltb-true (turned x) (turned y) split.0 in
     let more = first_least y ys v split.1 h in
     omega (arith, less, more)

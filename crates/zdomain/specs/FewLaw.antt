@@ -1,7 +1,7 @@
 -- What is gathered is kept. A part of the proof of the law, and nothing to believe.
 use Rattle.std.proofs.Common.{◌≡◌, ℕ, zero, suc, ◌+◌, ◌%◌, ◌<◌, ◌≤◌, Bool, true, false, ◌&&◌, ◌||◌, if◌then◌else◌, Option, Some, None, List, [], ◌∷◌, length, arith, refl}
 use Rattle.std.specs.Prelude.{IfSome, IsTrue, ◌==◌, nat_lt, insert}
-use Rattle.std.proofs.lemmas.Bool.{eqb-true, eqb-false, ltb-true, ltb-false}
+use Rattle.std.proofs.lemmas.Bool.{eqb-true, eqb-false, ltb-true, ltb-false, and_parts}
 use Rattle.zdomain.specs.Domain.{IsGathered}
 use Rattle.zdomain.specs.Few.{turned, is_among, words_from, place_in, put, added, Gathering, with_word, with_words, rises_behind, last_behind}
 
@@ -107,16 +107,11 @@ all_new (x ∷ xs) v g bound h = among_cons x v xs (λ e. all_old xs v (with_wor
 
 -- ---- words that rise
 
-both_of : (a b : Bool) → a && b ≡ true → (a ≡ true) × (b ≡ true)
-both_of true true e = (refl, refl)
-both_of true false e = absurd cc
-both_of false b e = absurd cc
-
 pub first_least : (y : ℕ) (ys : List ℕ) (x : ℕ) → rises_behind y ys ≡ true → IsTrue (is_among x (y ∷ ys)) → turned y ≤ turned x
 unfolding rises_behind
 first_least y [] x r h = among_cons y x [] (λ e. omega (arith, e)) (λ f. absurd cc) h
 first_least y (z ∷ zs) x r h =
-    let split = both_of (nat_lt (turned y) (turned z)) (rises_behind z zs) r in
+    let split = and_parts (nat_lt (turned y) (turned z)) (rises_behind z zs) r in
     let less = ltb-true (turned y) (turned z) split.0 in
     among_cons y x (z ∷ zs) (λ e. omega (arith, e)) (λ f. omega (arith, less, first_least z zs x split.1 f)) h
 
@@ -124,7 +119,7 @@ pub last_most : (y : ℕ) (ys : List ℕ) (x : ℕ) → rises_behind y ys ≡ tr
 unfolding rises_behind last_behind
 last_most y [] x r h = among_cons y x [] (λ e. omega (arith, e)) (λ f. absurd cc) h
 last_most y (z ∷ zs) x r h =
-    let split = both_of (nat_lt (turned y) (turned z)) (rises_behind z zs) r in
+    let split = and_parts (nat_lt (turned y) (turned z)) (rises_behind z zs) r in
     let less = ltb-true (turned y) (turned z) split.0 in
     let end = last_most z zs z split.1 (among_front z zs) in
     among_cons y x (z ∷ zs) (λ e. omega (arith, e, less, end)) (λ f. last_most z zs x split.1 f) h

@@ -4,7 +4,7 @@ use Rattle.std.specs.List.{filter}
 use Rattle.std.specs.Prelude.{MatchOption, IfSome, IsTrue, T, nat_lt, nat_le}
 use Rattle.std.specs.Int.{int_min, int_max}
 use Rattle.std.proofs.lemmas.Int.{ints, clamps}
-use Rattle.std.proofs.lemmas.Bool.{ltb-true}
+use Rattle.std.proofs.lemmas.Bool.{ltb-true, and_parts}
 use Rattle.zword.specs.Binary.{signed, word_of, apply, is_defined}
 use Rattle.zword.specs.Unary.{transform}
 use Rattle.zword.specs.declared.unary.UnaryOp.{UnaryOp}
@@ -27,11 +27,6 @@ use Rattle.zdomain.specs.Values.{has, lowest, highest, hull, run_members, member
 abbrev Lists : Values → ℕ → Type 0
 Lists a x = In values_operations a x
 
-both_of : (a b : Bool) → a && b ≡ true → (a ≡ true) × (b ≡ true)
-both_of true true e = (refl, refl)
-both_of true false e = absurd cc
-both_of false b e = absurd cc
-
 both_are : (a b : Bool) → a ≡ true → b ≡ true → a && b ≡ true
 both_are true b e f = f
 both_are false b e f = absurd cc
@@ -45,7 +40,7 @@ run_has i x h = record { word = h.word; member = both_are (int_le i.lo (signed x
 
 pub has_run : (i : Interval) (x : ℕ) → Lists (Run i) x → Has i x
 has_run i x h =
-    let split = both_of (int_le i.lo (signed x)) (int_le (signed x) i.hi) h.member in
+    let split = and_parts (int_le i.lo (signed x)) (int_le (signed x) i.hi) h.member in
     record { word = h.word; member = (le_true i.lo (signed x) split.0, le_true (signed x) i.hi split.1) }
 
 -- ---- ends
@@ -58,9 +53,9 @@ pub rising : (s : Scattered) → rises s.few ≡ true
 unfolding is_scattered
 rising s =
     let e = of_test (is_scattered s.few) s.scattered.is in
-    let few = both_of (nat_le 2 (length s.few)) _ e in
-    let most = both_of (nat_le (length s.few) 64) _ few.1 in
-    (both_of (rises s.few) _ most.1).0
+    let few = and_parts (nat_le 2 (length s.few)) _ e in
+    let most = and_parts (nat_le (length s.few) 64) _ few.1 in
+    (and_parts (rises s.few) _ most.1).0
 
 some_first : (words : List ℕ) → nat_le 2 (length words) ≡ true → IsTrue (is_among (first_of words) words)
 some_first [] e = absurd cc
@@ -71,7 +66,7 @@ pub list_first : (s : Scattered) (x : ℕ) → x < 65536 → x ≡ first_of s.fe
 unfolding is_scattered
 list_first s x word same =
     let e = of_test (is_scattered s.few) s.scattered.is in
-    record { word = word; member = rw same (some_first s.few (both_of (nat_le 2 (length s.few)) _ e).0) }
+    record { word = word; member = rw same (some_first s.few (and_parts (nat_le 2 (length s.few)) _ e).0) }
 
 signed_le : (a x : ℕ) → x < 65536 → turned a ≤ turned x → signed (a % 65536) ≤ℤ signed x
 signed_le a x word h = grind (arith, ints, word, h)

@@ -35,8 +35,8 @@ impl Model for Gathered {
 }
 
 impl Gathered {
-    ghost use Rattle.std.specs.Prelude.{◌≡◌, ◌≤◌, length, option_map, IfSome};
-    ghost use Rattle.zdomain.specs.Few.{with_word, with_words, none_gathered};
+    ghost use Rattle.std.specs.Prelude.{◌≡◌, ◌≤◌, length, option_map, false, IfSome};
+    ghost use Rattle.zdomain.specs.Few.{added, is_among, with_word, with_words, none_gathered};
 
     /// No words.
     pub fn none() -> Gathered
@@ -52,15 +52,23 @@ impl Gathered {
     }
 
     /// One more.
+    #[inline(always)]
     pub fn add(&mut self, word: u16)
         ensures { self.new ≡ with_word word self.old }
     {
         let place = turned(word);
         self.least = self.least.min(place);
         self.greatest = self.greatest.max(place);
-        if self.are_many || self.marks.has(usize::from(word)) {
-            return;
+        if !self.are_many && !self.marks.has(usize::from(word)) {
+            self.put(word);
         }
+    }
+
+    /// One that isn't among them, as long as they are few. It lies between the ends.
+    fn put(&mut self, word: u16)
+        requires { IfSome self.old.few (λ words. is_among word words ≡ false) }
+        ensures { self.new ≡ record { least = self.old.least; greatest = self.old.greatest; few = added word self.old.few } }
+    {
         if self.few.len() == MOST_FEW {
             self.are_many = true;
             return;

@@ -1,7 +1,7 @@
 //! Marks of places.
 
-ghost use Rattle.std.specs.Prelude.{◌≡◌, ◌<◌, ◌*◌, ◌||◌, ◌==◌, ℕ, false};
-ghost use Rattle.zdomain.specs.Marks.{is_marked};
+ghost use Rattle.std.specs.Prelude.{◌≡◌, ◌<◌, ◌*◌, ◌&&◌, ◌||◌, ◌==◌, ℕ, false, not, slice_index_or};
+ghost use Rattle.zdomain.specs.Marks.{is_marked, rest_of};
 
 use std::marker::Model;
 
@@ -20,7 +20,7 @@ impl<const BYTES: usize> Model for Marks<BYTES> {
 }
 
 impl<const BYTES: usize> Marks<BYTES> {
-    ghost use Rattle.std.specs.Prelude.{◌≡◌, ◌<◌, ◌*◌, ◌||◌, ◌==◌, ℕ, false};
+    ghost use Rattle.std.specs.Prelude.{◌≡◌, ◌<◌, ◌*◌, ◌&&◌, ◌||◌, ◌==◌, ℕ, false, not};
     ghost use Rattle.zdomain.specs.Marks.{is_marked};
 
     /// No marks.
@@ -48,5 +48,20 @@ impl<const BYTES: usize> Marks<BYTES> {
         ensures { (p : ℕ) → is_marked self.new p ≡ (is_marked self.old p || p == place) }
     {
         self.bytes[place / 8] |= 1 << (place % 8);
+    }
+    /// Makes the marks those of a whole that weren't here.
+    pub fn turn_within(&mut self, whole: &Marks<BYTES>)
+        ensures { (p : ℕ) → is_marked self.new p ≡ (is_marked whole.now p && not (is_marked self.old p)) }
+    {
+        turn_within(&mut self.bytes, &whole.bytes);
+    }
+}
+
+/// Makes each byte the bits of one of a whole that it hasn't.
+fn turn_within<const BYTES: usize>(bytes: &mut [u8; BYTES], whole: &[u8; BYTES])
+    ensures { (k : ℕ) → slice_index_or bytes.new k 0 ≡ rest_of (slice_index_or whole.now k 0) (slice_index_or bytes.old k 0) }
+{
+    for k in 0..BYTES {
+        bytes[k] = whole[k] & (whole[k] ^ bytes[k]);
     }
 }

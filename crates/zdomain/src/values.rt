@@ -37,3 +37,16 @@ pub enum Values {
     Run(Interval),
     List(Scattered),
 }
+
+/// What stands in a place that holds no set: the word 0.
+impl Default for Values {
+    ghost use Rattle.std.specs.Prelude.{◌≡◌};
+    ghost use Rattle.zdomain.specs.Interval.{point};
+    ghost use Rattle.zdomain.specs.declared.values.Values.TheVariants.{Run};
+
+    ghost is_default = { λ values. values ≡ Run (point 0) };
+
+    fn default() -> Values {
+        Values::Run(Interval::of_word(0))
+    }
+}

@@ -164,14 +164,32 @@ fn binary_few(
     ensures { result ≡ binary_few operation a.now b.now few others }
 {
     match (few, others) {
-        (Some(words), Some(more)) => {
-            let mut all = Gathered::none();
-            add_rows(&mut all, operation, words.as_slice(), more.as_slice());
-            packed(&all)
-        }
+        (Some(words), Some(more)) => results(operation, words.as_slice(), more.as_slice()),
         (Some(_), None) => Values::Run(Interval::binary(operation, hull(a), hull(b))),
         (None, _) => Values::Run(Interval::binary(operation, hull(a), hull(b))),
     }
+}
+
+/// What an operation makes of each word of one list with each of another by which it is defined. Of one word and one, which is what most
+/// operations are asked for, nothing has to be gathered.
+fn results(operation: BinaryOp, words: &[u16], more: &[u16]) -> Values
+    ensures { result ≡ packed (gathered (rows operation words.now more.now)) }
+{
+    match (words, more) {
+        ([word], [other]) if operation.is_defined(*other) => {
+            Values::Run(Interval::of_word(operation.apply(*word, *other)))
+        }
+        _ => gathered_results(operation, words, more),
+    }
+}
+
+/// All of them, gathered.
+fn gathered_results(operation: BinaryOp, words: &[u16], more: &[u16]) -> Values
+    ensures { result ≡ packed (gathered (rows operation words.now more.now)) }
+{
+    let mut all = Gathered::none();
+    add_rows(&mut all, operation, words, more);
+    packed(&all)
 }
 
 /// Two sets, where there are both.

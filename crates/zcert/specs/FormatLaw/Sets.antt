@@ -128,7 +128,7 @@ pub record AreListed (words : List ℕ) : Type 0 where
   pub few : nat_le (length words) 64 ≡ true
   pub rise : rises words ≡ true
 
-listed_by : (words : List ℕ) → is_scattered words ≡ true → AreListed words
+pub listed_by : (words : List ℕ) → is_scattered words ≡ true → AreListed words
 unfolding is_scattered
 listed_by words e =
     let a = both_true (nat_le 2 (length words)) _ e in
@@ -136,7 +136,7 @@ listed_by words e =
     let c = both_true (rises words) _ b.1 in
     record { some = a.0; few = b.0; rise = c.0 }
 
-one_way : (words : List ℕ) (p q : IsScattered words) → p ≡ q
+pub one_way : (words : List ℕ) (p q : IsScattered words) → p ≡ q
 one_way words p q = ap (λ t. record { is = t }) (T_prop _ p.is q.is)
 
 pub list_back : (words : List ℕ) (are : IsScattered words) (b : Bool) (e : is_scattered words ≡ b) → b ≡ true → list_where words b e ≡ Ok (AList (record { few = words; scattered = are }))

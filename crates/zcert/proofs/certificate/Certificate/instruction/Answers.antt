@@ -7,4 +7,4 @@ use Rattle.zcert.proofs.certificate.Certificate.instruction.Goals as goal
 pub returns-clause-listed : goal.returns-clause-listed
 returns-clause-listed g c =
     let rise = c.self.invariant.instructions_rise in
-    subst (λ (v : Content g.row.V.Denot). listed_at v.instructions c.instruction_of.result.address ≡ Some (seen c.instruction_of.result)) c.self.view_is (listed 0 _ c.args.index (seen c.instruction_of.result) rise c.instruction_of.ensures)
+    subst (λ (v : Content g.row.V.Denot). listed_at v.instructions c.get.result.address ≡ Some (seen c.get.result)) c.self.view_is (listed 0 _ c.args.index (seen c.get.result) rise c.get.ensures)
