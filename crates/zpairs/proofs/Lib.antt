@@ -2,6 +2,7 @@ mod Tables
 pub mod Telling
 mod Marking
 mod Found
+mod Listed
 mod Tests
 mod Each
 pub mod Hulls
@@ -9,4 +10,5 @@ pub mod Lying
 pub mod Ranged
 mod Regrouped
 mod ByNumber
+mod Words
 mod Worked

@@ -1,7 +1,8 @@
 -- Whatever is answered lies in the set of answers.
 use Rattle.std.proofs.Common.{◌≡◌, ◌⊎◌, inl, inr, ℕ, ◌+◌, ◌-◌, ◌*◌, ◌<◌, ◌≤◌, ◌≤ℤ◌, Bool, true, false, ◌==◌, ◌&&◌, ◌||◌, if◌then◌else◌, List, Option, Some, None, Result, Ok, Err, refl, sym, subst, ap, ◌∙◌, arith}
-use Rattle.std.specs.Prelude.{is_some, MatchOption}
-use Rattle.std.proofs.lemmas.Bool.{cases_lt, ne_eqb}
+use Rattle.std.specs.Prelude.{is_some, MatchOption, IfSome, IsTrue, unwrap_or, map}
+use Rattle.std.specs.List.{list_all}
+use Rattle.std.proofs.lemmas.Bool.{cases_lt, ne_eqb, eqb-true}
 use Rattle.std.proofs.lemmas.Int.{ints}
 use Rattle.zstory.specs.Bytes.{AreBytes, byte_at, word_at}
 use Rattle.zstory.specs.Header.{object_table}
@@ -17,11 +18,14 @@ use Rattle.zobj.specs.Answers.{address_of, answer_of, if_there, is_property_numb
 use Rattle.zplace.specs.Bytes.{IsFixed}
 use Rattle.zpairs.specs.declared.ends.Ends.{Ends}
 use Rattle.zpairs.specs.Frozen.{FrozenStory, frozen_by}
-use Rattle.zdomain.specs.Few.{turned}
+use Rattle.zdomain.specs.Few.{turned, is_among, gathered, none_gathered}
+use Rattle.zdomain.specs.FewLaw.{all_new}
 use Rattle.zpairs.specs.Ends.{exactly, a_byte, any_word, no_word, byte_ends, word_ends, data_ends, value_ends}
 use Rattle.zpairs.specs.Fixed.{is_fixed}
 use Rattle.zpairs.specs.Cells.{cell_at}
-use Rattle.zpairs.specs.Pairs.{may_have, may_exceed, is_asked, answer_ends, pair_ends, number_ends, object_ends, all_ends, between_ends, answers}
+use Rattle.zpairs.specs.Pairs.{may_have, may_exceed, is_asked, answer_ends, pair_ends, number_ends, object_ends, all_ends, between_ends, hull, hull_answers, column, columns, ends_of, pairs, is_exact, word_of, column_words, told_words, known_answers, answers}
+use Rattle.zpairs.specs.Members.{both}
+use Rattle.zpairs.proofs.Listed.{one_pair, among_map}
 use Rattle.zpairs.proofs.Telling.{fixed_is}
 use Rattle.zpairs.proofs.Found.{found_small, none_above, next_below}
 use Rattle.zpairs.proofs.Hulls.{IsInside, IsPlace, inside_all, places_below}
@@ -186,6 +190,51 @@ module _ {V : Type 0} (o : SetOperations V) (sound : AreSound o) where
         let ends = all_ends o told question objects numbers in
         sound.between (turned ends.least) (turned ends.greatest) v (low_end ends.least v word inside.above) (high_end ends.greatest v word all_place inside.below) word
 
+  -- ---- what is told, and what lies between hulls
+
+  hull_has : (a : V) (x : ℕ) → In o a x → In o (hull o a) x
+  hull_has a x has = sound.between (o.lowest a) (o.highest a) x (sound.lowest a x has) (sound.highest a x has) has.word
+
+  column_asked : (numbers : V) (n : ℕ) → In o numbers n → is_asked o numbers (column n) ≡ true
+  column_asked numbers n has = by_order (cases_lt n 32)
+    where
+      by_order : (n < 32) ⊎ (32 ≤ n) → is_asked o numbers (column n) ≡ true
+      by_order (inl low) = let same : n ≡ column n = omega (arith, low) in subst (λ (k : ℕ). is_asked o numbers k ≡ true) same (asked numbers n low has)
+      by_order (inr high) = let same : 32 ≡ column n = omega (arith, high) in subst (λ (k : ℕ). is_asked o numbers k ≡ true) same (others_asked numbers n high has)
+
+  one_word : (ends : Ends) (v : ℕ) → v < 65536 → is_exact ends ≡ true → IsInside ends (turned v) → word_of ends ≡ v
+  one_word ends v word e inside = let same = eqb-true ends.least ends.greatest e in let above = inside.above in let below = inside.below in omega (arith, same, above, below, word)
+
+  module _ (told : FrozenStory) (question : PropertyQuestion) (objects numbers : V) (x n v : ℕ) (first : 1 ≤ x) (last : x ≤ told.story.objects) (has : In o objects x) (asked_for : In o numbers n) (word : v < 65536) (inside : IsInside (ends_of told question x n) (turned v)) where
+    on_hulls : In o (hull_answers o told question objects numbers) v
+    on_hulls = lies_between told question (hull o objects) (hull o numbers) v word (all_inside told question (hull o objects) (hull o numbers) x (column n) (turned v) (omega arith) first last (hull_has objects x has) (column_asked (hull o numbers) n (hull_has numbers n asked_for)) inside)
+
+    among_pairs : (few columns : List ℕ) → IsTrue (is_among x few) → IsTrue (is_among (column n) columns) → list_all is_exact (pairs told question few columns) ≡ true → In o (o.packed (gathered (map word_of (pairs told question few columns)))) v
+    among_pairs few columns of_few of_columns e =
+        let one = one_pair told question columns few x (column n) first last of_few of_columns e in
+        let once : column n ≡ column (column n) = omega arith in
+        let there : IsInside (ends_of told question x (column n)) (turned v) = subst (λ (k : ℕ). IsInside (answer_ends question (cell_at told x k)) (turned v)) once inside in
+        let is = one_word (ends_of told question x (column n)) v word one.exact there in
+        let all = map word_of (pairs told question few columns) in
+        sound.packed (gathered all) v (all_new all v none_gathered (omega arith) (subst (λ (w : ℕ). IsTrue (is_among w all)) is one.among)) word
+
+    by_columns : (few : List ℕ) (columns : Option (List ℕ)) → IsTrue (is_among x few) → IfSome columns (λ all. IsTrue (is_among (column n) all)) → In o (unwrap_or (column_words o told question few columns) (hull_answers o told question objects numbers)) v
+    by_columns few None of_few of_columns = on_hulls
+    by_columns few (Some columns) of_few of_columns = by (list_all is_exact (pairs told question few columns)) refl
+      where
+        by : (b : Bool) → list_all is_exact (pairs told question few columns) ≡ b → In o (unwrap_or (if b then Some (o.packed (gathered (map word_of (pairs told question few columns)))) else None) (hull_answers o told question objects numbers)) v
+        by true e = among_pairs few columns of_few of_columns e
+        by false e = on_hulls
+
+    by_lists : (few others : Option (List ℕ)) → ((words : List ℕ) → few ≡ Some words → IsTrue (is_among x words)) → ((words : List ℕ) → others ≡ Some words → IsTrue (is_among n words)) → In o (unwrap_or (told_words o told question (both few others)) (hull_answers o told question objects numbers)) v
+    by_lists (Some xs) (Some ys) of_few of_others = by_columns xs (columns ys) (of_few xs refl) (all_new (map column ys) (column n) none_gathered (omega arith) (among_map column ys n (of_others ys refl))).few
+    by_lists (Some xs) None of_few of_others = on_hulls
+    by_lists None others of_few of_others = on_hulls
+
+    -- what lies between the ends of a pair is answered
+    pub lies : In o (known_answers o told question objects numbers) v
+    lies = by_lists (o.few objects) (o.few numbers) (λ words e. sound.few objects words x e has) (λ words e. sound.few numbers words n e asked_for)
+
   -- ---- answers
 
   pub value_lies : (told : FrozenStory) (now : List ℕ) (objects numbers : V) (x n v : ℕ) → 1 ≤ x → x ≤ told.story.objects → In o objects x → In o numbers n → property_of now x n ≡ property_of told.story.memory x n → default_word now n ≡ default_word told.story.memory n
@@ -195,13 +244,14 @@ module _ {V : Type 0} (o : SetOperations V) (sound : AreSound o) where
       found_as : value_or_default now n (property_of now x n) ≡ Ok v → value_or_default now n (property_of told.story.memory x n) ≡ Ok v
       found_as = subst (λ (f : Option Property). value_or_default now n f ≡ Ok v) found
 
-      by : (b : Bool) → is_property_number n ≡ b → (if b then value_or_default now n (property_of now x n) else Err AbsentProperty) ≡ Ok v → In o (between_ends o (all_ends o told Value objects numbers)) v
+      by : (b : Bool) → is_property_number n ≡ b → (if b then value_or_default now n (property_of now x n) else Err AbsentProperty) ≡ Ok v → In o (known_answers o told Value objects numbers) v
       by false is e = absurd cc
       by true is e =
           let small : n < 32 = grind (arith, is) in
           let inside = of_value (is_fixed told) told.story.memory now bytes (λ p e. fixed p ((fixed_is told p).0 e)) n (property_of told.story.memory x n) v default (found_as e) in
           let of_cell : IsInside (answer_ends Value (cell_at told x n)) (turned v) = rw is inside.1 in
-          lies_between told Value objects numbers v inside.0 (all_inside told Value objects numbers x n (turned v) (omega (arith, small)) first last has (asked numbers n small asked_for) of_cell)
+          let same : n ≡ column n = omega (arith, small) in
+          lies told Value objects numbers x n v first last has asked_for inside.0 (subst (λ (k : ℕ). IsInside (answer_ends Value (cell_at told x k)) (turned v)) same of_cell)
 
   address_word : (memory : List ℕ) (x n : ℕ) → address_of (property_of memory x n) < 65536
   address_word memory x n = by (property_of memory x n) refl
@@ -219,11 +269,12 @@ module _ {V : Type 0} (o : SetOperations V) (sound : AreSound o) where
       word : v < 65536
       word = let small = address_word told.story.memory x n in omega (arith, is, small)
 
-      by_order : (n < 32) ⊎ (32 ≤ n) → In o (between_ends o (all_ends o told Address objects numbers)) v
-      by_order (inl low) = lies_between told Address objects numbers v word (all_inside told Address objects numbers x n (turned v) (omega (arith, low)) first last has (asked numbers n low asked_for) (exact v (address_of (property_of told.story.memory x n)) is))
-      by_order (inr high) =
-          let none : address_of (property_of told.story.memory x n) ≡ address_of (property_of told.story.memory x 32) = ap address_of (none_above told.story.memory x n high ∙ sym (none_above told.story.memory x 32 (omega arith))) in
-          lies_between told Address objects numbers v word (all_inside told Address objects numbers x 32 (turned v) (omega arith) first last has (others_asked numbers n high asked_for) (exact v (address_of (property_of told.story.memory x 32)) (is ∙ none)))
+      in_column : (k : ℕ) → k ≡ column n → v ≡ address_of (property_of told.story.memory x k) → In o (known_answers o told Address objects numbers) v
+      in_column k same here = lies told Address objects numbers x n v first last has asked_for word (subst (λ (m : ℕ). IsInside (answer_ends Address (cell_at told x m)) (turned v)) same (exact v (address_of (property_of told.story.memory x k)) here))
+
+      by_order : (n < 32) ⊎ (32 ≤ n) → In o (known_answers o told Address objects numbers) v
+      by_order (inl low) = in_column n (omega (arith, low)) is
+      by_order (inr high) = in_column 32 (omega (arith, high)) (is ∙ ap address_of (none_above told.story.memory x n high ∙ sym (none_above told.story.memory x 32 (omega arith))))
 
   pub next_lies : (told : FrozenStory) (now : List ℕ) (objects numbers : V) (x n v : ℕ) → answer_of Next now x n ≡ Ok v → In o (answers o told Next objects numbers) v
   next_lies told now objects numbers x n v e = by (next_in (properties now x) n) refl e

@@ -1,15 +1,14 @@
 -- Marks of closed bytes.
-use Rattle.std.proofs.Common.{◌≡◌, ◌↔◌, ◌⊎◌, inl, inr, ℕ, suc, ◌+◌, ◌*◌, ◌<◌, ◌≤◌, Bool, true, false, ◌&&◌, ◌||◌, not, ◌==◌, min, List, length, refl, sym, subst, ap, ◌∙◌, arith}
-use Rattle.std.specs.Prelude.{IsTrue, nat_le, nat_lt, max}
+use Rattle.std.proofs.Common.{◌≡◌, ◌⊎◌, inl, inr, ℕ, suc, ◌+◌, ◌*◌, ◌<◌, ◌≤◌, Bool, true, false, ◌&&◌, ◌||◌, not, ◌==◌, min, List, [], length, refl, sym, subst, ap, ◌∙◌, arith}
+use Rattle.std.specs.Prelude.{nat_le, nat_lt, max}
 use Rattle.std.proofs.lemmas.Bool.{cases_lt, le-leb, or_right}
 use Rattle.zstory.specs.Bytes.{byte_at}
 use Rattle.zstory.specs.LoadedStory.{LoadedStory, globals, object_table, static_base, abbreviations, IsSound}
-use Rattle.zstory.specs.Objects.{IsObjectCount, property_table}
+use Rattle.zstory.specs.Objects.{IsObjectCount, object_place, property_table}
 use Rattle.zobj.specs.Properties.{data_end}
 use Rattle.zdomain.specs.Marks.{is_marked}
 use Rattle.zpairs.specs.Frozen.{AreMarked, FrozenStory, frozen_by}
-use Rattle.zplace.specs.Bytes.{IsChanging}
-use Rattle.zpairs.specs.Fixed.{AreClosed, AreMarkedBelow, AreMarkedToo, any_below, is_changing, is_closed, is_flags, is_in_abbreviation, is_in_frame, is_size_place, is_within}
+use Rattle.zpairs.specs.Fixed.{AreClosed, AreFixed, AreMarkedBelow, AreMarkedToo, any_below, is_changing, is_closed, is_fixed, is_flags, is_in_abbreviation, is_in_frame, is_size_place, is_within}
 use Rattle.zpairs.proofs.Telling.{size_is, changing_is, static_unchanging}
 
 -- two questions that are answered alike
@@ -21,9 +20,6 @@ same_answer false false there back = refl
 not_true : (b : Bool) → (b ≡ true → ⊥) → b ≡ false
 not_true true none = absurd (none refl)
 not_true false none = refl
-
-pub changing_as : (story : LoadedStory) (p : ℕ) (b : Bool) → IsTrue b ↔ IsChanging story p → b ≡ is_changing story p
-changing_as story p b told = let same = changing_is story p in same_answer b (is_changing story p) (λ e. same.1 (told.0 e)) (λ e. told.1 (same.0 e))
 
 or_false : (b : Bool) → b ≡ (b || false)
 or_false true = refl
@@ -158,3 +154,27 @@ module _ (told : FrozenStory) where
           let small = base_small sound in
           let word : p < 65536 = omega (arith, below, small) in
           first_five p below ∙ ap (λ (b : Bool). b || others p) (ranges.each p word) ∙ ranges_last (frozen_by told.ranges p) (others p) (nat_le (static_base told.story) p) (low (static_base told.story) p 0 below)
+
+-- ---- what instructions change
+
+pub all_changing : (story : LoadedStory) (none with_flags with_globals all : List ℕ) → ((p : ℕ) → is_marked none p ≡ false) → AreMarkedToo none with_flags (is_within 16 2) → AreMarkedToo with_flags with_globals (is_within (globals story) 480) → AreMarkedToo with_globals all (λ p. any_below story.objects (λ below. is_within (object_place story.memory (below + 1)) 7 p)) → (p : ℕ) → p < 65536 → is_marked all p ≡ is_changing story p
+all_changing story none with_flags with_globals all blank flags variables states p word =
+    let states_there = any_below story.objects (λ below. is_within (object_place story.memory (below + 1)) 7 p) in
+    states p word
+    ∙ ap (λ (b : Bool). b || states_there) (variables p word)
+    ∙ ap (λ (b : Bool). (b || is_within (globals story) 480 p) || states_there) (flags p word)
+    ∙ ap (λ (b : Bool). ((b || is_flags p) || is_within (globals story) 480 p) || states_there) (blank p)
+
+pub all_fixed : (story : LoadedStory) (closed changing fixed : List ℕ) → IsSound story.memory → ((p : ℕ) → p < 65536 → is_marked changing p ≡ is_changing story p) → ((p : ℕ) → is_marked fixed p ≡ (is_marked closed p && not (is_marked changing p))) → AreFixed story closed fixed
+all_fixed story closed changing fixed sound told turned p below =
+    let small = base_small (record { story = story; ranges = [] }) sound in
+    turned p ∙ ap (λ (b : Bool). is_marked closed p && not b) (told p (omega (arith, below, small)))
+
+-- ---- what no play changes
+
+module _ (told : FrozenStory) (closed : List ℕ) (marked : AreClosed told closed) (p : ℕ) where
+  pub fixed_behind : static_base told.story ≤ p → true ≡ is_fixed told p
+  fixed_behind above = sym (ap (λ (b : Bool). b && not (is_changing told.story p)) (marked.behind p above) ∙ ap not (marked.still p above))
+
+  pub fixed_by_marks : (fixed : List ℕ) (b : Bool) → p < static_base told.story → AreFixed told.story closed fixed → b ≡ is_marked fixed p → b ≡ is_fixed told p
+  fixed_by_marks fixed b below still e = e ∙ still p below ∙ ap (λ (x : Bool). x && not (is_changing told.story p)) (marked.each p below)

@@ -13,12 +13,14 @@ use Rattle.zpairs.specs.declared.cell.Test.TheVariants.{Answered, Put, Open}
 use Rattle.zdomain.specs.Marks.{is_marked}
 use Rattle.zpairs.specs.Frozen.{FrozenStory, frozen_by}
 use Rattle.zpairs.specs.Rows.{property_in}
-use Rattle.zdomain.specs.Few.{turned}
+use Rattle.zdomain.specs.declared.values.Values.{Values}
+use Rattle.zdomain.specs.Values.{values_operations, packed}
+use Rattle.zdomain.specs.Few.{turned, gathered, with_words, rises_behind, last_behind, place_in, is_scattered, words_from}
 use Rattle.zpairs.specs.Ends.{exactly, a_byte, any_word, no_word, joined, value_ends, address_ends}
 use Rattle.zpairs.specs.Blocks.{object_cell, object_in, place_cell}
 use Rattle.zpairs.specs.Fixed.{any_below, is_closed, is_size_place}
 use Rattle.zpairs.specs.Cells.{absent_passes, has_none, cell_of, cell_at, no_cell, merged, passes}
-use Rattle.zpairs.specs.Pairs.{AreAnswered, HaveOpenData, CanBePut, EachPair, may_exceed, is_asked, ends_below, answers}
+use Rattle.zpairs.specs.Pairs.{AreAnswered, HaveOpenData, CanBePut, EachPair, may_exceed, is_asked, ends_below, hull, columns, pairs, answers}
 use Rattle.zpairs.proofs.Telling.{closed_is}
 
 -- ---- the order of signed readings
@@ -149,6 +151,29 @@ address_hulls : (answers interval_operations told Address (between 1 1) (between
 unfolding between told story story_above front tables first_properties has_none any_below is_size_place ends_below
 address_hulls = (refl, refl, refl, refl, refl)
 
+-- ---- lists
+
+abbrev of : List ℕ → Values
+of words = packed (gathered words)
+
+-- each number once, and one for all that no property has; a hull has no gaps, and that of an interval is the interval
+each_once : (columns (5 ∷ 3 ∷ 5 ∷ 40 ∷ 33 ∷ []) ≡ Some (3 ∷ 5 ∷ 32 ∷ [])) × (hull values_operations (of (3 ∷ 9 ∷ [])) ≡ values_operations.between 3 9) × (hull interval_operations (between 3 9) ≡ between 3 9)
+unfolding between with_words rises_behind last_behind place_in is_scattered
+each_once = (refl, refl, refl)
+
+-- The words themselves of all pairs: of both objects with property 3, of object 2 with two, and of two numbers that none has. An object that
+-- the story hasn't adds none
+told_answers :
+    (answers values_operations told Value (values_operations.between 1 2) (values_operations.single 3) ≡ of (0x1234 ∷ 0xFFFE ∷ [])) × (answers values_operations told Value (values_operations.single 2) (of (3 ∷ 5 ∷ [])) ≡ of (0xFFFE ∷ 9 ∷ []))
+    × (answers values_operations told Address (values_operations.single 1) (of (3 ∷ 40 ∷ 33 ∷ [])) ≡ of (0x276 ∷ 0 ∷ [])) × (answers values_operations told Address (of (2 ∷ 9 ∷ [])) (values_operations.single 5) ≡ values_operations.single 0x281)
+unfolding between told story story_above front tables first_properties has_none any_below is_size_place ends_below pairs with_words rises_behind last_behind place_in is_scattered words_from
+told_answers = (refl, refl, refl, refl)
+
+-- One value that may change, of object 1, and more numbers than are told: then all that lies between is asked, object 2 among it
+between_hulls : (answers values_operations told Value (of (1 ∷ 3 ∷ [])) (of (3 ∷ 5 ∷ [])) ≡ values_operations.between 0xFFFE 0x1234) × (answers values_operations told Address (of (1 ∷ 3 ∷ [])) (values_operations.between 0 64) ≡ values_operations.between 0 0x281)
+unfolding between told story story_above front tables first_properties has_none any_below is_size_place ends_below pairs with_words rises_behind last_behind place_in is_scattered words_from
+between_hulls = (refl, refl)
+
 -- nothing is frozen, and static memory begins at 0x274, so that all data are static, or further on
 told_above : ℕ → FrozenStory
 told_above base = record { story = story_above base; ranges = [] }
@@ -203,13 +228,13 @@ open_byte of p e closed = let yes = (closed_is of p).1 closed in opposite (is_cl
 
 -- Object 1 can be given a word in property 5, of one byte, and asked for it; not in property 2, of three. Its property 5 is open, and
 -- its property 3 is frozen; where its table lies in static memory, its property 5 isn't open
-pairs :
+asked_pairs :
     CanBePut interval_operations story (only 1) (only 5) × (CanBePut interval_operations story (only 1) (only 2) → ⊥)
     × AreAnswered interval_operations story Value (only 1) (only 5) × (AreAnswered interval_operations story Value (only 1) (only 2) → ⊥)
     × HaveOpenData interval_operations story (frozen_by told.ranges) (only 1) (only 5) × (HaveOpenData interval_operations story (frozen_by told.ranges) (only 1) (only 3) → ⊥)
     × (HaveOpenData interval_operations (story_above 0x74) (frozen_by []) (only 1) (only 5) → ⊥)
 unfolding told told_above story story_above front tables first_properties any_below is_size_place
-pairs = (
+asked_pairs = (
   of_pair story (omega arith) 5 (omega arith) _ refl,
   λ can. absurd (let never : false ≡ true = pair_of story (omega arith) 2 (omega arith) _ can in cc),
   of_pair story (omega arith) 5 (omega arith) _ refl,

@@ -66,6 +66,10 @@ pub record AreClosed (told : FrozenStory) (marks : List ℕ) : Type 0 where
   pub behind : (p : ℕ) → static_base told.story ≤ p → is_closed told p ≡ true
   pub still : (p : ℕ) → static_base told.story ≤ p → is_changing told.story p ≡ false
 
+-- of the bytes of dynamic memory that are marked as closed, those that no instruction changes without asking are marked here
+abbrev pub AreFixed : LoadedStory → List ℕ → List ℕ → Type 0
+AreFixed story closed marks = (p : ℕ) → p < static_base story → is_marked marks p ≡ (is_marked closed p && not (is_changing story p))
+
 -- marks with those of more places, up to an end; and of all places
 abbrev pub AreMarkedBelow : ℕ → List ℕ → List ℕ → (ℕ → Bool) → Type 0
 AreMarkedBelow end before after holds = (p : ℕ) → p < end → is_marked after p ≡ (is_marked before p || holds p)

@@ -5,3 +5,4 @@ pub mod Cells
 pub mod Pairs
 pub mod Blocks
 pub mod Rows
+pub mod Members

@@ -1,5 +1,6 @@
 -- What comes of asking any object of a set for the property of any number of a set (own).
-use Rattle.std.specs.Prelude.{ℕ, zero, suc, ◌+◌, ◌≤◌, Bool, ◌||◌, ◌==◌, if◌then◌else◌, is_some, IfSome}
+use Rattle.std.specs.Prelude.{ℕ, zero, suc, ◌+◌, ◌≤◌, min, nat_le, Bool, ◌&&◌, ◌||◌, ◌==◌, if◌then◌else◌, is_some, IfSome, IsTrue, Option, Some, None, unwrap_or, List, [], ◌∷◌, ◌++◌, map}
+use Rattle.std.specs.List.{list_all}
 use Rattle.std.specs.Result.{IsOk}
 use Rattle.zstory.specs.LoadedStory.{LoadedStory}
 use Rattle.zdomain.specs.Domain.{SetOperations, In}
@@ -12,9 +13,10 @@ use Rattle.zplace.specs.Bytes.{IsOpen}
 use Rattle.zpairs.specs.declared.ends.Ends.{Ends}
 use Rattle.zpairs.specs.declared.cell.Cell.{Cell}
 use Rattle.zpairs.specs.Frozen.{FrozenStory}
-use Rattle.zdomain.specs.Few.{turned}
+use Rattle.zdomain.specs.Few.{turned, is_among, gathered}
 use Rattle.zpairs.specs.Ends.{no_word, joined}
 use Rattle.zpairs.specs.Cells.{cell_at}
+use Rattle.zpairs.specs.Members.{members}
 
 module _ {V : Type 0} (o : SetOperations V) where
   module _ (story : LoadedStory) where
@@ -76,9 +78,67 @@ module _ {V : Type 0} (o : SetOperations V) (told : FrozenStory) (question : Pro
 abbrev pub between_ends : {V : Type 0} → SetOperations V → Ends → V
 between_ends o ends = o.between (turned ends.least) (turned ends.greatest)
 
--- A set of whatever may be answered: words between the least and the greatest value, by signed readings, or address. A number behind
--- a number is that of a property, or 0
+-- from the least word of a set to its greatest
+abbrev pub hull : {V : Type 0} → SetOperations V → V → V
+hull o a = o.between (o.lowest a) (o.highest a)
+
+-- all words between the least and the greatest, by signed readings, of what the objects of a hull answer with the numbers of another
+abbrev pub hull_answers : {V : Type 0} → SetOperations V → FrozenStory → PropertyQuestion → V → V → V
+hull_answers o told question objects numbers = between_ends o (all_ends o told question (hull o objects) (hull o numbers))
+
+-- ---- objects and numbers of lists
+
+-- the number by which one is asked for
+abbrev pub column : ℕ → ℕ
+column n = min n 32
+
+-- those of a list, each once
+abbrev pub columns : List ℕ → Option (List ℕ)
+columns numbers = (gathered (map column numbers)).few
+
+-- something holds of each object of a list that the story has and each number of another
+abbrev pub EachWord : LoadedStory → List ℕ → List ℕ → (ℕ → ℕ → Type 0) → Type 0
+EachWord story objects numbers Holds = (x n : ℕ) → 1 ≤ x → x ≤ story.objects → IsTrue (is_among x objects) → IsTrue (is_among n numbers) → Holds x n
+
+module _ (told : FrozenStory) (question : PropertyQuestion) where
+  abbrev pub ends_of : ℕ → ℕ → Ends
+  ends_of x n = answer_ends question (cell_at told x (column n))
+
+  -- the ends of what an object answers with each number of a list, if the story has it, and each object of another
+  abbrev pub row : ℕ → List ℕ → List Ends
+  row x numbers = if nat_le 1 x && nat_le x told.story.objects then map (ends_of x) numbers else []
+
+  unfoldable pub pairs : List ℕ → List ℕ → List Ends
+  pairs [] numbers = []
+  pairs (x ∷ objects) numbers = row x numbers ++ pairs objects numbers
+
+-- one word is answered, and which it is
+abbrev pub is_exact : Ends → Bool
+is_exact ends = ends.least == ends.greatest
+
+abbrev pub word_of : Ends → ℕ
+word_of ends = turned ends.least
+
+module _ {V : Type 0} (o : SetOperations V) where
+  -- the words that are answered, where each pair answers one
+  abbrev pub words_if : List Ends → Option V
+  words_if all = if list_all is_exact all then Some (o.packed (gathered (map word_of all))) else None
+
+  module _ (told : FrozenStory) (question : PropertyQuestion) where
+    abbrev pub column_words : List ℕ → Option (List ℕ) → Option V
+    column_words objects (Some numbers) = words_if (pairs told question objects numbers)
+    column_words objects None = None
+
+    abbrev pub told_words : Option (List ℕ × List ℕ) → Option V
+    told_words (Some words) = column_words words.0 (columns words.1)
+    told_words None = None
+
+-- the words that are answered of all pairs, where both sets tell their own and each pair answers one; and else those between
+abbrev pub known_answers : {V : Type 0} → SetOperations V → FrozenStory → PropertyQuestion → V → V → V
+known_answers o told question objects numbers = unwrap_or (told_words o told question (members o objects numbers)) (hull_answers o told question objects numbers)
+
+-- A set of whatever may be answered: values, or addresses. A number behind a number is that of a property, or 0
 abbrev pub answers : {V : Type 0} → SetOperations V → FrozenStory → PropertyQuestion → V → V → V
-answers o told Value objects numbers = between_ends o (all_ends o told Value objects numbers)
-answers o told Address objects numbers = between_ends o (all_ends o told Address objects numbers)
+answers o told Value objects numbers = known_answers o told Value objects numbers
+answers o told Address objects numbers = known_answers o told Address objects numbers
 answers o told Next objects numbers = o.between 0 31

@@ -15,7 +15,7 @@ use zstory::{DEFAULTS_LENGTH, GLOBALS_LENGTH, OBJECT_ENTRY_LENGTH, Story};
 const HEADER_LENGTH: usize = 64;
 
 /// Where Flags 2 stands in the header, a word (Z 11.1).
-const FLAGS_2: usize = 0x10;
+pub(crate) const FLAGS_2: usize = 0x10;
 
 /// How many abbreviations there are (Z 3.3).
 const ABBREVIATIONS: u8 = 96;
@@ -36,7 +36,7 @@ pub(crate) fn mark_closed(marks: &mut Marks<MARK_BYTES>, story: &Story, ranges: 
 }
 
 /// Marks so many places from one on.
-fn mark(marks: &mut Marks<MARK_BYTES>, from: usize, size: usize)
+pub(crate) fn mark(marks: &mut Marks<MARK_BYTES>, from: usize, size: usize)
     ensures { AreMarkedToo marks.old marks.new (is_within from size) }
 {
     for place in from..from.saturating_add(size).min(PLACES) {

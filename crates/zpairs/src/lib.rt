@@ -13,6 +13,7 @@ mod marked;
 mod properties;
 mod room;
 mod rows;
+mod told;
 
 pub use ends::Ends;
 pub use frozen::PLACES;
@@ -20,3 +21,4 @@ pub use laws::answers_lie_in_their_sets;
 pub use marked::Marked;
 pub use properties::Properties;
 pub use room::PropertyRoom;
+pub use told::members;

@@ -1,37 +1,41 @@
 //! What comes of asking objects for properties.
 
-ghost use Rattle.std.specs.Prelude.{◌≡◌, ◌↔◌, ◌≤◌, ℕ, IsTrue};
+ghost use Rattle.std.specs.Prelude.{◌≡◌, ◌↔◌, ◌≤◌, ℕ, IsTrue, map};
 ghost use Rattle.zdomain.specs.Domain.{In};
 ghost use Rattle.zpairs.specs.Cells.{absent_passes, cell_at, passes};
 ghost use Rattle.zpairs.specs.Ends.{no_word};
 ghost use Rattle.zpairs.specs.Frozen.{FrozenStory, frozen_by};
-ghost use Rattle.zpairs.specs.Pairs.{EachPair, all_ends, is_asked, may_exceed, may_have, object_ends, pair_ends};
+ghost use Rattle.zdomain.specs.Few.{with_words};
+ghost use Rattle.zpairs.specs.Pairs.{EachPair, all_ends, column, hull, is_asked, may_exceed, may_have, object_ends, pair_ends};
 
-use crate::blocks::{BLOCK_CELLS, BLOCK_LENGTH, COLUMNS, OBJECT_CELLS, fill_blocks, object_cell};
+use crate::blocks::{BLOCK_CELLS, BLOCK_LENGTH, COLUMNS, OBJECT_CELLS, fill_blocks, fill_cells};
 use crate::cell::{Cell, Test};
 use crate::closed::mark_closed;
 use crate::ends::Ends;
+use crate::fixed::mark_fixed;
 use crate::frozen::MARK_BYTES;
 use crate::marked::Marked;
 use crate::room::PropertyRoom;
 use crate::rows::place_objects;
+use crate::told::members;
 use std::marker::Model;
 use zcert::Range;
-use zdomain::{Domain, Marks, turned};
+use zdomain::{Domain, Gathered, Marks, turned};
 use zobj::PropertyQuestion;
 use zstory::Story;
 
 /// How many numbers a size byte can have (Z 12.4.1).
 const NUMBERS: u16 = 32;
 
-/// The properties of a story's objects, with the ranges of bytes that stay as they are. Where each object has each number is kept in a room,
-/// and what is known of 16 objects side by side, so that a question about many is answered by blocks.
+/// The properties of a story's objects, with the ranges of bytes that stay as they are. What is known of each object and each number is kept in
+/// a room, and of 16 objects side by side, so that a question about many is answered by blocks.
 #[derive(Drop)]
 pub struct Properties<'a> {
     story: &'a Story,
     ranges: &'a [Range],
     closed: &'a Marks<MARK_BYTES>,
-    places: &'a [u16; OBJECT_CELLS],
+    fixed: &'a Marks<MARK_BYTES>,
+    cells: &'a [Cell; OBJECT_CELLS],
     blocks: &'a [Cell; BLOCK_CELLS],
 }
 
@@ -42,22 +46,24 @@ impl<'a> Model for Properties<'a> {
 
     ghost view = { λ p. record { story = p.story.now; ranges = p.ranges.now } };
 
-    ghost use Rattle.zpairs.specs.Blocks.{AreBlocks};
-    ghost use Rattle.zpairs.specs.Fixed.{AreClosed};
-    ghost use Rattle.zpairs.specs.Rows.{ArePlaces};
+    ghost use Rattle.zpairs.specs.Blocks.{AreBlocks, AreCells};
+    ghost use Rattle.zpairs.specs.Fixed.{AreClosed, AreFixed};
 
-    ghost invariant = { λ p. AreClosed (record { story = p.story.now; ranges = p.ranges.now }) p.closed.now × ArePlaces p.story.now p.places.now × AreBlocks (record { story = p.story.now; ranges = p.ranges.now }) p.blocks.now };
+    ghost invariant = { λ p. AreClosed (record { story = p.story.now; ranges = p.ranges.now }) p.closed.now × AreFixed p.story.now p.closed.now p.fixed.now × AreCells (record { story = p.story.now; ranges = p.ranges.now }) p.cells.now × AreBlocks (record { story = p.story.now; ranges = p.ranges.now }) p.blocks.now };
 }
 
 impl<'a> Properties<'a> {
-    ghost use Rattle.std.specs.Prelude.{◌≡◌, ◌↔◌, ◌≤◌, ◌<◌, ◌+◌, ◌*◌, ℕ, IsTrue, nat_lt, if◌then◌else◌};
+    ghost use Rattle.std.specs.Prelude.{◌≡◌, ◌↔◌, ◌≤◌, ◌<◌, ◌+◌, ◌*◌, ℕ, IsTrue, nat_lt, if◌then◌else◌, map};
+    ghost use Rattle.std.specs.List.{list_all};
+    ghost use Rattle.zdomain.specs.Few.{is_among, with_words};
+    ghost use Rattle.zpairs.specs.Members.{members};
     ghost use Rattle.zdomain.specs.Domain.{In};
     ghost use Rattle.zpairs.specs.Blocks.{EachInBlock, block_cell, block_ends, row_end};
     ghost use Rattle.zpairs.specs.Cells.{cell_at, passes};
     ghost use Rattle.zpairs.specs.Ends.{no_word};
     ghost use Rattle.zpairs.specs.Fixed.{AreClosed};
     ghost use Rattle.zpairs.specs.Frozen.{frozen_by};
-    ghost use Rattle.zpairs.specs.Pairs.{AreAnswered, HaveOpenData, CanBePut, EachPair, all_ends, answers, ends_below, number_ends, object_ends, pair_ends};
+    ghost use Rattle.zpairs.specs.Pairs.{AreAnswered, HaveOpenData, CanBePut, EachPair, EachWord, all_ends, answers, between_ends, column, column_words, columns, ends_below, ends_of, hull_answers, is_exact, known_answers, number_ends, object_ends, pair_ends, pairs, row, told_words, word_of, words_if};
 
     /// Those of a story, of which the bytes in some ranges stay as they are, in a room. Each of the story's own tables is gone over once, and
     /// each place of each range.
@@ -65,18 +71,23 @@ impl<'a> Properties<'a> {
         ensures { result ≡ record { story = story.now; ranges = ranges.now } }
     {
         mark_closed(&mut room.closed, story, ranges);
+        mark_fixed(&mut room.fixed, story, &room.closed);
         place_objects(&mut room.places, story);
         let marked = Marked {
             story,
+            base: story.static_base(),
             ranges,
             closed: &room.closed,
+            fixed: &room.fixed,
         };
-        fill_blocks(&mut room.blocks, marked, &room.places);
+        fill_cells(&mut room.cells, marked, &room.places);
+        fill_blocks(&mut room.blocks, marked, &room.cells);
         Properties {
             story,
             ranges,
             closed: &room.closed,
-            places: &room.places,
+            fixed: &room.fixed,
+            cells: &room.cells,
             blocks: &room.blocks,
         }
     }
@@ -88,8 +99,10 @@ impl<'a> Properties<'a> {
     {
         Marked {
             story: self.story,
+            base: self.story.static_base(),
             ranges: self.ranges,
             closed: self.closed,
+            fixed: self.fixed,
         }
     }
 
@@ -128,22 +141,212 @@ impl<'a> Properties<'a> {
         self.pass(Test::Open, objects, numbers)
     }
 
-    /// A set of whatever may be answered of an object of the story and a number of two sets: the words from the least to the greatest,
-    /// by their signed readings. A value is known where it is a default, or no play changes a byte of it.
+    /// A set of whatever may be answered of an object of the story and a number of two sets. A value is known where it is a default, or no
+    /// play changes a byte of it.
     pub fn answers<V: Domain>(&self, question: PropertyQuestion, objects: V, numbers: V) -> V
         ensures { result ≡ answers V.operations self.now question objects numbers }
     {
         match question {
             PropertyQuestion::Value | PropertyQuestion::Address => {
-                let ends = self.all_ends(question, objects, numbers);
-                V::between(turned(ends.least), turned(ends.greatest))
+                self.known_answers(question, objects, numbers)
             }
             PropertyQuestion::Next => V::between(0, NUMBERS - 1),
         }
     }
 
+    /// Values, or addresses: the words themselves, where they are told, and else those from the least to the greatest of two hulls, by their
+    /// signed readings.
+    fn known_answers<V: Domain>(&self, question: PropertyQuestion, objects: V, numbers: V) -> V
+        ensures { result ≡ known_answers V.operations self.now question objects numbers }
+    {
+        match self.told_answers(question, objects, numbers) {
+            Some(words) => words,
+            None => self.hull_answers(question, hull(objects), hull(numbers)),
+        }
+    }
+
+    /// The words from the least to the greatest.
+    fn hull_answers<V: Domain>(&self, question: PropertyQuestion, objects: V, numbers: V) -> V
+        ensures { result ≡ between_ends V.operations (all_ends V.operations self.now question objects numbers) }
+    {
+        let ends = self.all_ends(question, objects, numbers);
+        V::between(turned(ends.least), turned(ends.greatest))
+    }
+
+    /// The words that are answered of all pairs, where both sets tell their own and each pair answers one.
+    fn told_answers<V: Domain>(
+        &self,
+        question: PropertyQuestion,
+        objects: V,
+        numbers: V,
+    ) -> Option<V>
+        ensures { result ≡ told_words V.operations self.now question (members V.operations objects numbers) }
+    {
+        match members(objects, numbers) {
+            Some((few, others)) => self.list_answers(question, few.as_slice(), others.as_slice()),
+            None => None,
+        }
+    }
+
+    /// Those of each object of one list with each number of another: each column is taken once, whichever numbers it stands for.
+    fn list_answers<V: Domain>(
+        &self,
+        question: PropertyQuestion,
+        objects: &[u16],
+        numbers: &[u16],
+    ) -> Option<V>
+        ensures { result ≡ column_words V.operations self.now question objects.now (columns numbers.now) }
+    {
+        let mut columns = Gathered::none();
+        add_columns(&mut columns, numbers);
+        match columns.few() {
+            Some(each) => self.column_answers(question, objects, each),
+            None => None,
+        }
+    }
+
+    /// Those of each object with each column.
+    fn column_answers<V: Domain>(
+        &self,
+        question: PropertyQuestion,
+        objects: &[u16],
+        columns: &[u16],
+    ) -> Option<V>
+        ensures { result ≡ words_if V.operations (pairs self.now question objects.now columns.now) }
+    {
+        let mut all = Gathered::none();
+        if self.add_pairs(&mut all, question, objects, columns) {
+            Some(V::packed(&all))
+        } else {
+            None
+        }
+    }
+
+    /// Adds the least that each pair answers, and tells whether each answers one word.
+    fn add_pairs(
+        &self,
+        all: &mut Gathered,
+        question: PropertyQuestion,
+        objects: &[u16],
+        columns: &[u16],
+    ) -> bool
+        ensures exact { result ≡ list_all is_exact (pairs self.now question objects.now columns.now) }
+        ensures words { all.new ≡ with_words (map word_of (pairs self.now question objects.now columns.now)) all.old }
+    {
+        let [first, rest @ ..] = objects else {
+            return true;
+        };
+        let exact = self.add_row(all, question, *first, columns);
+        self.add_pairs(all, question, rest, columns) && exact
+    }
+
+    /// The same of one object, if the story has it.
+    fn add_row(
+        &self,
+        all: &mut Gathered,
+        question: PropertyQuestion,
+        object: u16,
+        columns: &[u16],
+    ) -> bool
+        ensures exact { result ≡ list_all is_exact (row self.now question object columns.now) }
+        ensures words { all.new ≡ with_words (map word_of (row self.now question object columns.now)) all.old }
+    {
+        if 1 <= object && object <= u16::from(self.story.objects()) {
+            self.add_ends(all, question, object as u8, columns)
+        } else {
+            true
+        }
+    }
+
+    /// The same of an object of the story.
+    fn add_ends(
+        &self,
+        all: &mut Gathered,
+        question: PropertyQuestion,
+        object: u8,
+        columns: &[u16],
+    ) -> bool
+        requires least { 1 ≤ object }
+        requires most { object ≤ self.now.story.objects }
+        ensures exact { result ≡ list_all is_exact (map (ends_of self.now question object) columns.now) }
+        ensures words { all.new ≡ with_words (map word_of (map (ends_of self.now question object) columns.now)) all.old }
+    {
+        let [first, rest @ ..] = columns else {
+            return true;
+        };
+        let ends = self.cell(object, column(*first)).answer_ends(question);
+        all.add(turned(ends.least));
+        self.add_ends(all, question, object, rest) && ends.least == ends.greatest
+    }
+
     /// Whether each object of a set passes a test with each number of a set.
     fn pass<V: Domain>(&self, test: Test, objects: V, numbers: V) -> bool
+        ensures { IsTrue result ↔ EachPair V.operations self.now.story objects numbers (λ x n. IsTrue (passes test n (cell_at self.now x n))) }
+    {
+        self.words_pass(test, objects, numbers) || self.blocks_pass(test, objects, numbers)
+    }
+
+    /// Whether the test is always passed, or both sets tell their words and each pair of them passes. Where that isn't so, nothing is said.
+    fn words_pass<V: Domain>(&self, test: Test, objects: V, numbers: V) -> bool
+        ensures { IsTrue result → EachPair V.operations self.now.story objects numbers (λ x n. IsTrue (passes test n (cell_at self.now x n))) }
+    {
+        if let Test::Answered(PropertyQuestion::Address) = test {
+            return true;
+        }
+        match members(objects, numbers) {
+            Some((few, others)) => self.lists_pass(test, few.as_slice(), others.as_slice()),
+            None => false,
+        }
+    }
+
+    /// Whether each object of one list that the story has passes a test with each number of another: each column is taken once.
+    fn lists_pass(&self, test: Test, objects: &[u16], numbers: &[u16]) -> bool
+        ensures { IsTrue result → EachWord self.now.story objects.now numbers.now (λ x n. IsTrue (passes test n (cell_at self.now x n))) }
+    {
+        let mut columns = Gathered::none();
+        add_columns(&mut columns, numbers);
+        match columns.few() {
+            Some(each) => self.objects_pass(test, objects, each),
+            None => false,
+        }
+    }
+
+    /// Whether each object of a list that the story has passes a test in each column.
+    fn objects_pass(&self, test: Test, objects: &[u16], columns: &[u16]) -> bool
+        ensures { IsTrue result → EachWord self.now.story objects.now columns.now (λ x n. IsTrue (passes test (column n) (cell_at self.now x (column n)))) }
+    {
+        let [first, rest @ ..] = objects else {
+            return true;
+        };
+        self.told_object_passes(test, *first, columns) && self.objects_pass(test, rest, columns)
+    }
+
+    /// Whether an object does, if the story has it.
+    fn told_object_passes(&self, test: Test, object: u16, columns: &[u16]) -> bool
+        ensures { IsTrue result → 1 ≤ object → object ≤ self.now.story.objects → (n : ℕ) → IsTrue (is_among n columns.now) → IsTrue (passes test (column n) (cell_at self.now object (column n))) }
+    {
+        if 1 <= object && object <= u16::from(self.story.objects()) {
+            self.columns_pass(test, object as u8, columns)
+        } else {
+            true
+        }
+    }
+
+    /// Whether an object of the story does.
+    fn columns_pass(&self, test: Test, object: u8, columns: &[u16]) -> bool
+        requires least { 1 ≤ object }
+        requires most { object ≤ self.now.story.objects }
+        ensures { IsTrue result → (n : ℕ) → IsTrue (is_among n columns.now) → IsTrue (passes test (column n) (cell_at self.now object (column n))) }
+    {
+        let [first, rest @ ..] = columns else {
+            return true;
+        };
+        let number = column(*first);
+        self.cell(object, number).passes(test, number) && self.columns_pass(test, object, rest)
+    }
+
+    /// Whether each object of a set passes a test with each number of a set, by blocks.
+    fn blocks_pass<V: Domain>(&self, test: Test, objects: V, numbers: V) -> bool
         ensures { IsTrue result ↔ EachPair V.operations self.now.story objects numbers (λ x n. IsTrue (passes test n (cell_at self.now x n))) }
     {
         for block in 0..self.block_count() {
@@ -296,12 +499,7 @@ impl<'a> Properties<'a> {
         requires small { number ≤ 32 }
         ensures { result ≡ cell_at self.now object number }
     {
-        let marked = Marked {
-            story: self.story,
-            ranges: self.ranges,
-            closed: self.closed,
-        };
-        object_cell(marked, self.places, usize::from(object) - 1, number)
+        self.cells[COLUMNS * (usize::from(object) - 1) + usize::from(number)]
     }
 
     /// The ends of what may be answered of objects and numbers of two sets.
@@ -458,6 +656,31 @@ impl<'a> Properties<'a> {
         } else {
             Ends::NONE
         }
+    }
+}
+
+/// The set from the least word of a set to its greatest.
+fn hull<V: Domain>(set: V) -> V
+    ensures { result ≡ hull V.operations set }
+{
+    V::between(set.lowest(), set.highest())
+}
+
+/// The number by which one is asked for: all that no property has have one.
+fn column(number: u16) -> u16
+    ensures value { result ≡ column number }
+    ensures small { result ≤ 32 }
+{
+    number.min(NUMBERS)
+}
+
+/// Adds those of a list.
+fn add_columns(all: &mut Gathered, numbers: &[u16])
+    ensures { all.new ≡ with_words (map column numbers.now) all.old }
+{
+    if let [first, rest @ ..] = numbers {
+        all.add(column(*first));
+        add_columns(all, rest);
     }
 }
 

@@ -1,5 +1,6 @@
 pub mod Reached
 pub mod Lying
+pub mod Summing
 mod Pieces
 mod Buffers
 mod Beginnings

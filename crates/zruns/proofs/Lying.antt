@@ -1,5 +1,7 @@
 -- Whatever element is read lies in the set of elements.
-use Rattle.std.proofs.Common.{◌≡◌, ◌⊎◌, inl, inr, ℕ, zero, suc, ◌+◌, ◌<◌, ◌≤◌, Bool, true, false, nat_le, if◌then◌else◌, List, Some, None, refl, sym, subst, ◌∙◌, arith}
+use Rattle.std.proofs.Common.{◌≡◌, ◌⊎◌, inl, inr, ℕ, zero, suc, ◌+◌, ◌<◌, ◌≤◌, Bool, true, false, nat_le, if◌then◌else◌, List, Option, Some, None, map, refl, sym, subst, ◌∙◌, arith}
+use Rattle.std.specs.Prelude.{IsTrue}
+use Rattle.std.specs.List.{list_all}
 use Rattle.std.proofs.lemmas.Bool.{cases_lt, and_parts}
 use Rattle.std.proofs.lemmas.Int.{ints}
 use Rattle.std.proofs.lemmas.Option.{same_Some}
@@ -8,18 +10,21 @@ use Rattle.zdomain.specs.Domain.{SetOperations, AreSound, In}
 use Rattle.zarray.specs.declared.width.Width.{Width}
 use Rattle.zarray.specs.declared.width.Width.TheVariants.{Byte, Word}
 use Rattle.zarray.specs.Arrays.{place_of, span, value_at, element_at}
-use Rattle.zdomain.specs.Few.{turned}
+use Rattle.zdomain.specs.Few.{turned, is_among, gathered, none_gathered}
+use Rattle.zdomain.specs.FewLaw.{all_new}
 use Rattle.zpairs.specs.Ends.{exactly}
 use Rattle.zpairs.specs.Frozen.{FrozenStory, frozen_by}
+use Rattle.zpairs.specs.Members.{both}
 use Rattle.zpairs.proofs.Hulls.{IsInside, IsPlace, inside_first, inside_second}
 use Rattle.zpairs.proofs.Lying.{low_end, high_end, exact}
 use Rattle.zplace.specs.Bytes.{IsFixed}
 use Rattle.zruns.specs.declared.run.Run.{Run}
 use Rattle.zruns.specs.declared.cell.Cell.{Cell}
 use Rattle.zpairs.specs.Fixed.{is_fixed}
-use Rattle.zruns.specs.Runs.{address, run_of, cell_at, merged, merged_below, run_cell, any_element, elements_in, elements}
+use Rattle.zruns.specs.Runs.{address, run_of, each_byte, cell_at, merged, merged_below, run_cell, any_element, elements_in, sums, elements_at, elements_of, elements}
 use Rattle.zpairs.proofs.Telling.{fixed_is}
-use Rattle.zruns.proofs.Reached.{reached}
+use Rattle.zruns.proofs.Reached.{in_run}
+use Rattle.zruns.proofs.Summing.{each_of, among_map, among_sums}
 
 -- ---- one of many
 
@@ -104,7 +109,34 @@ module _ {V : Type 0} (o : SetOperations V) (sound : AreSound o) where
         by true e = sound.between (turned (run_cell told width run).ends.least) (turned (run_cell told width run).ends.greatest) x (low_end (run_cell told width run).ends.least x word (inside e).above) (high_end (run_cell told width run).ends.greatest x word greatest (inside e).below) word
         by false e = any_lies width now (address run k) x bytes is
 
+  -- an element at one of some places
+  module _ (told : FrozenStory) (now : List ℕ) (width : Width) (places : List ℕ) (p x : ℕ) (there : IsTrue (is_among p places)) (stays : (q : ℕ) → is_fixed told q ≡ true → byte_at now q ≡ byte_at told.story.memory q) (bytes : AreBytes now) where
+    pub sum_lies : element_at width now p ≡ Some x → In o (elements_at o told width places) x
+    sum_lies read = by (list_all (each_byte width (is_fixed told)) places) refl
+      where
+        is : x ≡ value_at width now p
+        is = read_value width now p x read
+
+        word : x < 65536
+        word = value_small width now p x bytes is
+
+        values : List ℕ
+        values = map (value_at width told.story.memory) places
+
+        among : list_all (each_byte width (is_fixed told)) places ≡ true → IsTrue (is_among x values)
+        among e =
+            let same = same_value told now stays width p (each_of places (each_byte width (is_fixed told)) e p there) in
+            subst (λ (v : ℕ). IsTrue (is_among v values)) (sym (is ∙ same)) (among_map (value_at width told.story.memory) places p there)
+
+        by : (b : Bool) → list_all (each_byte width (is_fixed told)) places ≡ b → In o (if b then o.packed (gathered values) else any_element o width) x
+        by true e = sound.packed (gathered values) x (all_new values x none_gathered (omega arith) (among e)) word
+        by false e = any_lies width now p x bytes is
+
+  by_lists : (told : FrozenStory) (now : List ℕ) (width : Width) (run : Run) (few others : Option (List ℕ)) (a i x : ℕ) → ((words : List ℕ) → few ≡ Some words → IsTrue (is_among a words)) → ((words : List ℕ) → others ≡ Some words → IsTrue (is_among i words)) → (k : ℕ) × (k ≤ run.more) × (place_of width a i ≡ address run k) → ((p : ℕ) → is_fixed told p ≡ true → byte_at now p ≡ byte_at told.story.memory p) → AreBytes now → element_at width now (place_of width a i) ≡ Some x → In o (elements_of o told width run (both few others)) x
+  by_lists told now width run (Some xs) (Some ys) a i x first second found stays bytes read = sum_lies told now width (sums width xs ys) (place_of width a i) x (among_sums width xs ys a i (first xs refl) (second ys refl)) stays bytes read
+  by_lists told now width run (Some xs) None a i x first second found stays bytes read = read_lies told now width run found.0 x found.1 stays bytes (subst (λ (p : ℕ). element_at width now p ≡ Some x) found.2 read)
+  by_lists told now width run None others a i x first second found stays bytes read = read_lies told now width run found.0 x found.1 stays bytes (subst (λ (p : ℕ). element_at width now p ≡ Some x) found.2 read)
+
   pub elements_lie : (told : FrozenStory) (now : List ℕ) (width : Width) (arrays indices : V) (a i x : ℕ) → In o arrays a → In o indices i → ((p : ℕ) → IsFixed told.story (frozen_by told.ranges) p → byte_at now p ≡ byte_at told.story.memory p) → AreBytes now → element_at width now (place_of width a i) ≡ Some x → In o (elements o told width arrays indices) x
   elements_lie told now width arrays indices a i x of_arrays of_indices stays bytes read =
-      let found = reached o sound width arrays indices a i of_arrays of_indices in
-      read_lies told now width (run_of o width arrays indices) found.0 x found.1 (λ p fixed. stays p ((fixed_is told p).0 fixed)) bytes (subst (λ (p : ℕ). element_at width now p ≡ Some x) found.2 read)
+      by_lists told now width (run_of o width arrays indices) (o.few arrays) (o.few indices) a i x (λ words e. sound.few arrays words a e of_arrays) (λ words e. sound.few indices words i e of_indices) (in_run o sound width arrays indices a i of_arrays of_indices) (λ p fixed. stays p ((fixed_is told p).0 fixed)) bytes read

@@ -1,25 +1,26 @@
 -- What is known of runs, piece by piece.
-use Rattle.std.proofs.Common.{◌≡◌, ◌↔◌, ◌⊎◌, inl, inr, ℕ, zero, suc, ◌+◌, ◌-◌, ◌*◌, ◌<◌, ◌≤◌, min, Bool, true, false, ◌&&◌, not, List, length, refl, sym, subst, ap, ◌∙◌, arith}
+use Rattle.std.proofs.Common.{◌≡◌, ◌↔◌, ◌⊎◌, inl, inr, ℕ, zero, suc, ◌+◌, ◌-◌, ◌*◌, ◌<◌, ◌≤◌, min, Bool, true, false, ◌&&◌, not, Option, Some, None, List, length, refl, sym, subst, ap, ◌∙◌, arith}
 use Rattle.std.specs.Prelude.{IsTrue, nat_le, slice_index_or, slice_set}
+use Rattle.std.specs.List.{list_all}
 use Rattle.std.proofs.lemmas.Bool.{cases_lt, and_parts, and_from, le-leb, leb-true}
 use Rattle.std.proofs.lemmas.List.{get_or-set_same, get_or-set_other, get_or_past}
-use Rattle.zstory.specs.Bytes.{byte_at, readable_end}
+use Rattle.zstory.specs.Bytes.{byte_at}
 use Rattle.zstory.specs.LoadedStory.{LoadedStory, IsSound, static_base}
 use Rattle.zstory.specs.Objects.{IsObjectCount}
 use Rattle.zcert.specs.declared.parts.Range.{Range}
-use Rattle.zdomain.specs.Domain.{SetOperations}
 use Rattle.zarray.specs.declared.width.Width.{Width}
 use Rattle.zarray.specs.declared.width.Width.TheVariants.{Byte, Word}
-use Rattle.zarray.specs.Arrays.{span}
+use Rattle.zarray.specs.Arrays.{span, place_of}
 use Rattle.zpairs.specs.declared.ends.Ends.{Ends}
 use Rattle.zpairs.specs.Frozen.{FrozenStory, frozen_by}
 use Rattle.zplace.specs.Bytes.{IsOpen, static}
 use Rattle.zruns.specs.declared.run.Run.{Run}
 use Rattle.zruns.specs.declared.cell.Cell.{Cell}
 use Rattle.zpairs.specs.Fixed.{is_closed, is_fixed}
-use Rattle.zruns.specs.Runs.{address, run_of, EachAddress, AreReadable, AreOpen, each_byte, cell_at, no_cell, merged, merged_below, run_cell}
+use Rattle.zruns.specs.Runs.{address, EachAddress, EachSum, EachOf, each_byte, cell_at, no_cell, merged, merged_below, run_cell, sums}
 use Rattle.zruns.specs.Blocks.{AreBlocks, block_cell, piece_cell, step_length}
 use Rattle.zpairs.proofs.Telling.{closed_is, fixed_is, static_unchanging}
+use Rattle.zruns.proofs.Summing.{each_sum}
 
 -- a story and ranges are all that marks are told of
 pub same_told : (told : FrozenStory) (story : LoadedStory) (ranges : List Range) → story ≡ told.story → ranges ≡ told.ranges → record { story = story; ranges = ranges } ≡ told
@@ -251,13 +252,34 @@ module _ (told : FrozenStory) where
     λ each. all.1 (λ k below. (element_open width (address run k)).1 (each k (omega (arith, below)))),
   )
 
-pub open_of : {V : Type 0} (o : SetOperations V) (told : FrozenStory) (width : Width) (arrays indices : V) (run : Run) (cell : Cell) → run ≡ run_of o width arrays indices → cell ≡ run_cell told width run → IsTrue cell.is_open ↔ AreOpen o told.story (frozen_by told.ranges) width arrays indices
-open_of o told width arrays indices run cell is made =
-    let same : cell ≡ run_cell told width (run_of o width arrays indices) = made ∙ ap (run_cell told width) is in
-    let where_open = open_where told width (run_of o width arrays indices) in (
-      λ e. where_open.0 (sym (ap (λ (c : Cell). c.is_open) same) ∙ e),
-      λ all. ap (λ (c : Cell). c.is_open) same ∙ where_open.1 all,
-    )
+pub open_of : (told : FrozenStory) (width : Width) (run : Run) (cell : Cell) → cell ≡ run_cell told width run → IsTrue cell.is_open ↔ EachAddress run (λ p. (j : ℕ) → j < span width → IsOpen told.story (frozen_by told.ranges) (p + j))
+open_of told width run cell made = let all = open_where told width run in (
+  λ e. all.0 (sym (ap (λ (c : Cell). c.is_open) made) ∙ e),
+  λ each. ap (λ (c : Cell). c.is_open) made ∙ all.1 each,
+)
+
+module _ (told : FrozenStory) (width : Width) where
+  abbrev open_at : ℕ → Type 0
+  open_at p = (j : ℕ) → j < span width → IsOpen told.story (frozen_by told.ranges) (p + j)
+
+  abbrev tested : ℕ → Bool
+  tested p = each_byte width (λ q. not (is_closed told q)) p
+
+  sums_open : (arrays indices : List ℕ) → IsTrue (list_all tested (sums width arrays indices)) ↔ EachSum width arrays indices open_at
+  sums_open arrays indices = let all = each_sum width arrays indices tested in (
+    λ e a i of_arrays of_indices. (element_open told width (place_of width a i)).0 (all.0 e a i of_arrays of_indices),
+    λ each. all.1 (λ a i of_arrays of_indices. (element_open told width (place_of width a i)).1 (each a i of_arrays of_indices)),
+  )
+
+  -- by each sum, where both sets tell their words; and else by the run
+  pub open_by_sums : (marked : FrozenStory) (run : Run) (all : Option (List ℕ × List ℕ)) (few others xs ys : List ℕ) (result : Bool) → all ≡ Some (few, others) → xs ≡ few → ys ≡ others → marked ≡ told → result ≡ list_all (each_byte width (λ q. not (is_closed marked q))) (sums width xs ys) → IsTrue result ↔ EachOf width run all open_at
+  open_by_sums marked run all few others xs ys result are first second same is =
+      let one : result ≡ list_all tested (sums width xs ys) = is ∙ ap (λ (t : FrozenStory). list_all (each_byte width (λ q. not (is_closed t q))) (sums width xs ys)) same in
+      let lists : list_all tested (sums width xs ys) ≡ list_all tested (sums width few others) = ap (λ (zs : List ℕ). list_all tested (sums width zs ys)) first ∙ ap (λ (zs : List ℕ). list_all tested (sums width few zs)) second in
+      subst (λ (m : Option (List ℕ × List ℕ)). IsTrue result ↔ EachOf width run m open_at) (sym are) (subst (λ (b : Bool). IsTrue b ↔ EachSum width few others open_at) (sym (one ∙ lists)) (sums_open few others))
+
+  pub open_by_run : (run : Run) (all : Option (List ℕ × List ℕ)) (cell : Cell) → all ≡ None → cell ≡ run_cell told width run → IsTrue cell.is_open ↔ EachOf width run all open_at
+  open_by_run run all cell none made = subst (λ (m : Option (List ℕ × List ℕ)). IsTrue cell.is_open ↔ EachOf width run m open_at) (sym none) (open_of told width run cell made)
 
 -- ---- bytes that can be read
 
@@ -268,15 +290,21 @@ readable_where run size end low few = (
   λ below k is. omega (arith, below, low, few, is),
 )
 
-run_words : {V : Type 0} (o : SetOperations V) (width : Width) (arrays indices : V) → ((run_of o width arrays indices).first < 65536) × ((run_of o width arrays indices).more < 65536)
-run_words o width arrays indices = (omega arith, omega arith)
-
 -- by the sum of the greatest and what an element takes up
-pub all_readable : {V : Type 0} (o : SetOperations V) (story : LoadedStory) (width : Width) (arrays indices : V) (run : Run) (greatest size end : ℕ) → run ≡ run_of o width arrays indices → greatest ≡ min 65535 (run.first + run.more) → size ≡ span width → end ≡ readable_end story.memory → IsTrue (nat_le (greatest + size) end) ↔ AreReadable o story width arrays indices
-all_readable o story width arrays indices run greatest size end is most long last =
-    let words = run_words o width arrays indices in
-    let same = readable_where (run_of o width arrays indices) (span width) (readable_end story.memory) words.0 words.1 in
-    let most_is : greatest ≡ min 65535 ((run_of o width arrays indices).first + (run_of o width arrays indices).more) = subst (λ (r : Run). greatest ≡ min 65535 (r.first + r.more)) is most in (
-      λ e. let below = leb-true (greatest + size) end e in same.1 (omega (arith, below, most_is, long, last)),
-      λ each. let below = same.0 each in le-leb (greatest + size) end (omega (arith, below, most_is, long, last)),
-    )
+pub ends_by : (run : Run) (greatest size taken end : ℕ) → run.first < 65536 → run.more < 65536 → greatest ≡ min 65535 (run.first + run.more) → taken ≡ size → IsTrue (nat_le (greatest + taken) end) ↔ EachAddress run (λ p. p + size ≤ end)
+ends_by run greatest size taken end low few most long = let same = readable_where run size end low few in (
+  λ e. let below = leb-true (greatest + taken) end e in same.1 (omega (arith, below, most, long)),
+  λ each. let below = same.0 each in le-leb (greatest + taken) end (omega (arith, below, most, long)),
+)
+
+module _ (width : Width) where
+  sums_end : (end : ℕ) (arrays indices : List ℕ) → IsTrue (list_all (λ p. nat_le (p + span width) end) (sums width arrays indices)) ↔ EachSum width arrays indices (λ p. p + span width ≤ end)
+  sums_end end arrays indices = let all = each_sum width arrays indices (λ p. nat_le (p + span width) end) in (
+    λ e a i of_arrays of_indices. leb-true (place_of width a i + span width) end (all.0 e a i of_arrays of_indices),
+    λ each. all.1 (λ a i of_arrays of_indices. le-leb (place_of width a i + span width) end (each a i of_arrays of_indices)),
+  )
+
+  pub end_by_sums : (end last : ℕ) (run : Run) (all : Option (List ℕ × List ℕ)) (few others xs ys : List ℕ) (result : Bool) → all ≡ Some (few, others) → xs ≡ few → ys ≡ others → last ≡ end → result ≡ list_all (λ p. nat_le (p + span width) last) (sums width xs ys) → IsTrue result ↔ EachOf width run all (λ p. p + span width ≤ end)
+  end_by_sums end last run all few others xs ys result are first second same is =
+      let lists : result ≡ list_all (λ p. nat_le (p + span width) end) (sums width few others) = is ∙ ap (λ (n : ℕ). list_all (λ p. nat_le (p + span width) n) (sums width xs ys)) same ∙ ap (λ (zs : List ℕ). list_all (λ p. nat_le (p + span width) end) (sums width zs ys)) first ∙ ap (λ (zs : List ℕ). list_all (λ p. nat_le (p + span width) end) (sums width few zs)) second in
+      subst (λ (m : Option (List ℕ × List ℕ)). IsTrue result ↔ EachOf width run m (λ p. p + span width ≤ end)) (sym are) (subst (λ (b : Bool). IsTrue b ↔ EachSum width few others (λ p. p + span width ≤ end)) (sym lists) (sums_end end few others))

@@ -5,6 +5,9 @@ use Rattle.ztext.specs.Words.{text_at}
 use Rattle.zdomain.specs.Domain.{In}
 use Rattle.zdomain.specs.Interval.{interval_operations}
 use Rattle.zdomain.specs.IntervalLaw.{interval_sound}
+use Rattle.zdomain.specs.declared.values.Values.{Values}
+use Rattle.zdomain.specs.Values.{values_operations, packed}
+use Rattle.zdomain.specs.Few.{gathered, with_words, rises_behind, last_behind, place_in, is_scattered, words_from}
 use Rattle.zdomain.specs.declared.interval.Interval.{Interval}
 use Rattle.zstory.specs.Bytes.{readable_end}
 use Rattle.zstory.specs.LoadedStory.{LoadedStory}
@@ -13,9 +16,10 @@ use Rattle.zword.specs.declared.addressing.Addressing.TheVariants as addressings
 use Rattle.zword.specs.Addressing.{place_of}
 use Rattle.zpairs.specs.Frozen.{FrozenStory, frozen_by}
 use Rattle.zpairs.specs.Ends.{exactly}
+use Rattle.zpairs.specs.Members.{members}
 use Rattle.zplace.specs.Bytes.{IsChanging, IsFixed, IsOpen, static}
 use Rattle.zpairs.specs.Fixed.{any_below, is_in_abbreviation, is_size_place, is_in_text, is_closed, is_changing, is_fixed}
-use Rattle.zruns.specs.Runs.{AreOpen, AreReadable, run_of, address, cell_at, no_cell, merged, merged_below, any_element, elements}
+use Rattle.zruns.specs.Runs.{AreOpen, AreReadable, run_of, address, cell_at, no_cell, merged, merged_below, any_element, sums, elements}
 use Rattle.zruns.specs.Blocks.{step_length}
 use Rattle.zruns.specs.Texts.{HasFixedText, AreFixedTexts, begins_text}
 use Rattle.zruns.specs.Names.{AreFixedNames, HasFixedName}
@@ -23,9 +27,13 @@ use Rattle.zruns.specs.Buffers.{IsTextBuffer, IsParseBuffer, AreBuffers}
 use Rattle.zpairs.proofs.Telling.{fixed_is}
 use Rattle.zruns.proofs.Beginnings.{begins, none_is_some}
 use Rattle.zruns.proofs.Buffers.{piece_open}
+use Rattle.zruns.proofs.Pieces.{end_by_sums, open_by_sums}
 
 between : ℕ → ℕ → Interval
 between = interval_operations.between
+
+none_yes : (b : Bool) → b ≡ false → b ≡ true → ⊥
+none_yes b never always = let e = sym never ∙ always in cc
 
 -- ---- runs
 
@@ -154,6 +162,48 @@ any_elements = (refl, refl)
 read : (elements interval_operations told Byte (between 0x26C 0x26C) (between 0 3) ≡ between 0 0x80) × (elements interval_operations told Word (between 0x26C 0x26C) (between 0 1) ≡ between 0x8000 0x80) × (elements interval_operations told Word (between 0x270 0x270) (between 1 1) ≡ between 0x0102 0x0102) × (elements interval_operations told Byte (between 0x272 0x274) (between 0 0) ≡ between 0 255) × (elements interval_operations told Word (between 0x272 0x273) (between 0 0) ≡ interval_operations.any)
 unfolding between told story front tables any_below is_size_place merged_below
 read = (refl, refl, refl, refl, refl)
+
+-- ---- what is read of lists
+
+abbrev of : List ℕ → Values
+of words = packed (gathered words)
+
+abbrev many : Values
+many = values_operations.between 0 64
+
+-- of each array each index; round 65,535; of no arrays none
+sums_of : (sums Word (1000 ∷ 1003 ∷ []) (0 ∷ 3 ∷ []) ≡ 1000 ∷ 1006 ∷ 1003 ∷ 1009 ∷ []) × (sums Byte (65535 ∷ []) (0 ∷ 2 ∷ 65534 ∷ []) ≡ 65535 ∷ 1 ∷ 65533 ∷ []) × (sums Byte [] (0 ∷ 1 ∷ []) ≡ [])
+unfolding sums
+sums_of = (refl, refl, refl)
+
+-- both lists where both sets have at most 64 words, a run of them among these
+both_lists : (members values_operations (of (7 ∷ 5 ∷ [])) (values_operations.between 1 2) ≡ Some (5 ∷ 7 ∷ [], 1 ∷ 2 ∷ [])) × (members values_operations (of (7 ∷ 5 ∷ [])) many ≡ None) × (members values_operations many (of (7 ∷ 5 ∷ [])) ≡ None) × (members interval_operations (between 1 1) (between 2 2) ≡ None)
+unfolding between with_words rises_behind last_behind place_in is_scattered words_from
+both_lists = (refl, refl, refl, refl)
+
+-- What stands at each sum, in the place of all that lies between. One byte that may change makes a word unknown; and where one set has more
+-- words than are told, all are read from the least sum to the greatest
+read_of_lists :
+    (elements values_operations told Byte (of (0x272 ∷ 0x26E ∷ [])) (values_operations.single 0) ≡ of (0x01 ∷ 0x80 ∷ [])) × (elements values_operations told Word (values_operations.single 0x26C) (of (0 ∷ 3 ∷ [])) ≡ of (0x0000 ∷ 0x0102 ∷ [])) × (elements values_operations told Word (of (0x26C ∷ 0x272 ∷ [])) (of (0 ∷ 2 ∷ [])) ≡ values_operations.any)
+    × (elements values_operations told Byte (of (0x26E ∷ 0x271 ∷ [])) (values_operations.single 0) ≡ values_operations.between 0 255) × (elements values_operations told Byte (of (0x282 ∷ 0x280 ∷ [])) many ≡ values_operations.between 0 0x40)
+unfolding told story front tables any_below is_size_place merged_below sums between with_words rises_behind last_behind place_in is_scattered words_from
+read_of_lists = (refl, refl, refl, refl, refl)
+
+-- The last byte of memory, and the one behind it: a place between two that can't be read isn't asked
+readable_lists : AreReadable values_operations story Byte (of (0x283 ∷ 0x10 ∷ [])) (values_operations.single 0) × (AreReadable values_operations story Byte (of (0x10 ∷ 0x284 ∷ [])) (values_operations.single 0) → ⊥)
+unfolding between story front tables sums with_words rises_behind last_behind place_in is_scattered words_from
+readable_lists = (
+  (end_by_sums Byte 0x284 0x284 (run_of values_operations Byte (of (0x283 ∷ 0x10 ∷ [])) (values_operations.single 0)) _ (0x10 ∷ 0x283 ∷ []) (0 ∷ []) (0x10 ∷ 0x283 ∷ []) (0 ∷ []) true refl refl refl refl refl).0 refl,
+  λ are. none_yes _ refl ((end_by_sums Byte 0x284 0x284 (run_of values_operations Byte (of (0x10 ∷ 0x284 ∷ [])) (values_operations.single 0)) _ (0x10 ∷ 0x284 ∷ []) (0 ∷ []) (0x10 ∷ 0x284 ∷ []) (0 ∷ []) false refl refl refl refl refl).1 are),
+)
+
+-- the property's data and the word at 0x270, between which bytes are closed; not with one of these
+open_lists : AreOpen values_operations story (frozen_by told.ranges) Byte (values_operations.single 0x269) (of (0 ∷ 7 ∷ 8 ∷ [])) × (AreOpen values_operations story (frozen_by told.ranges) Byte (values_operations.single 0x269) (of (0 ∷ 6 ∷ 8 ∷ [])) → ⊥)
+unfolding between told story front tables any_below is_size_place sums with_words rises_behind last_behind place_in is_scattered words_from
+open_lists = (
+  (open_by_sums told Byte told (run_of values_operations Byte (values_operations.single 0x269) (of (0 ∷ 7 ∷ 8 ∷ []))) _ (0x269 ∷ []) (0 ∷ 7 ∷ 8 ∷ []) (0x269 ∷ []) (0 ∷ 7 ∷ 8 ∷ []) true refl refl refl refl refl).0 refl,
+  λ are. none_yes _ refl ((open_by_sums told Byte told (run_of values_operations Byte (values_operations.single 0x269) (of (0 ∷ 6 ∷ 8 ∷ []))) _ (0x269 ∷ []) (0 ∷ 6 ∷ 8 ∷ []) (0x269 ∷ []) (0 ∷ 6 ∷ 8 ∷ []) false refl refl refl refl refl).1 are),
+)
 
 -- ---- texts
 
@@ -291,9 +341,6 @@ TextAt at t = IsTextBuffer t.story (frozen_by t.ranges) at
 
 abbrev ParseAt : ℕ → FrozenStory → Type 0
 ParseAt at t = IsParseBuffer t.story (frozen_by t.ranges) at
-
-none_yes : (b : Bool) → b ≡ false → b ≡ true → ⊥
-none_yes b never always = let e = sym never ∙ always in cc
 
 -- two bytes behind a 2 that is frozen; not where the second of them is frozen, behind a 1, or where the 2 isn't frozen
 text_buffers : TextAt 0x273 (freezing 0x273 0x276) × (TextAt 0x273 (freezing 0x273 0x275) → ⊥) × (TextAt 0x272 (freezing 0x272 0x280) → ⊥) × (TextAt 0x273 (freezing 0x272 0x276) → ⊥)

@@ -34,6 +34,7 @@ pub(crate) fn are_fixed(marked: Marked<'_>, width: Width, place: usize) -> bool
 }
 
 /// The element at a place, where memory may have ended.
+#[inline(always)]
 pub(crate) fn value_at(width: Width, memory: &[u8], place: usize) -> u16
     requires { place < 65536 }
     ensures { result ≡ value_at width memory.now place }
@@ -45,6 +46,7 @@ pub(crate) fn value_at(width: Width, memory: &[u8], place: usize) -> u16
 }
 
 /// The byte at a place, and 0 outside memory.
+#[inline(always)]
 pub(crate) fn byte_at(memory: &[u8], place: usize) -> u8
     ensures { result ≡ byte_at memory.now place }
 {

@@ -9,6 +9,7 @@ mod piece;
 mod room;
 mod run;
 mod runs;
+mod sums;
 mod tables;
 mod text_marks;
 mod texts;

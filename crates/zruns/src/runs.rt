@@ -1,8 +1,9 @@
 //! What is known of the elements at any array and any index of two sets.
 
-ghost use Rattle.std.specs.Prelude.{◌≡◌, ◌<◌, ◌↔◌, IsTrue};
+ghost use Rattle.std.specs.Prelude.{◌≡◌, ◌<◌, ◌≤◌, ◌+◌, ◌↔◌, IsTrue};
+ghost use Rattle.zarray.specs.Arrays.{span};
 ghost use Rattle.zruns.specs.Blocks.{step_length};
-ghost use Rattle.zruns.specs.Runs.{AreReadable, any_element};
+ghost use Rattle.zruns.specs.Runs.{AreReadable, EachAddress, any_element};
 
 use crate::blocks::{BLOCK_LENGTH, BLOCKS, cell_in, fill_blocks};
 use crate::cell::Cell;
@@ -10,10 +11,11 @@ use crate::element::byte_at;
 use crate::piece::piece_cell;
 use crate::room::RunRoom;
 use crate::run::Run;
+use crate::sums::{add_sums, are_sums_open, end_sums_by};
 use std::marker::Model;
 use zarray::Width;
-use zdomain::{Domain, turned};
-use zpairs::{PLACES, Properties};
+use zdomain::{Domain, Gathered, turned};
+use zpairs::{Marked, PLACES, Properties, members};
 use zstory::Story;
 
 /// The least size of a text buffer: room for a letter, and for the zero behind it (own).
@@ -52,7 +54,7 @@ impl<'a> Runs<'a> {
     ghost use Rattle.zpairs.specs.Frozen.{frozen_by};
     ghost use Rattle.zruns.specs.Blocks.{block_cell, piece_cell, step_length};
     ghost use Rattle.zpairs.specs.Fixed.{is_fixed};
-    ghost use Rattle.zruns.specs.Runs.{AreOpen, elements, run_cell};
+    ghost use Rattle.zruns.specs.Runs.{AreOpen, elements, elements_at, elements_in, run_cell, sums};
     ghost use Rattle.std.specs.Prelude.{◌*◌, ℕ};
     ghost use Rattle.zstory.specs.Bytes.{byte_at};
     ghost use Rattle.zplace.specs.Bytes.{IsOpen, IsWithin};
@@ -84,21 +86,58 @@ impl<'a> Runs<'a> {
     pub fn are_open<V: Domain>(&self, width: Width, arrays: V, indices: V) -> bool
         ensures { IsTrue result ↔ AreOpen V.operations self.now.story (frozen_by self.now.ranges) width arrays indices }
     {
-        self.run_cell(width, Run::of(width, arrays, indices))
-            .is_open
+        match members(arrays, indices) {
+            Some((few, others)) => {
+                are_sums_open(&self.marked(), width, few.as_slice(), others.as_slice())
+            }
+            None => {
+                self.run_cell(width, Run::of(width, arrays, indices))
+                    .is_open
+            }
+        }
     }
 
-    /// A set of whatever may be read at any array and any index of two sets: the words from the least element to the greatest, by their
-    /// signed readings, where no play changes a byte of any.
+    /// A set of whatever may be read at any array and any index of two sets: what stands there, where both tell their words, and else the words
+    /// from the least element to the greatest, by their signed readings. It is known where no play changes a byte of any.
     pub fn elements<V: Domain>(&self, width: Width, arrays: V, indices: V) -> V
         ensures { result ≡ elements V.operations self.now width arrays indices }
     {
-        let cell = self.run_cell(width, Run::of(width, arrays, indices));
+        match members(arrays, indices) {
+            Some((few, others)) => self.elements_at(width, few.as_slice(), others.as_slice()),
+            None => self.elements_in(width, Run::of(width, arrays, indices)),
+        }
+    }
+
+    /// That of each array of one list and each index of another.
+    fn elements_at<V: Domain>(&self, width: Width, arrays: &[u16], indices: &[u16]) -> V
+        ensures { result ≡ elements_at V.operations self.now width (sums width arrays.now indices.now) }
+    {
+        let mut all = Gathered::none();
+        let memory = self.properties.story().memory();
+        if add_sums(&mut all, &self.marked(), memory, width, arrays, indices) {
+            V::packed(&all)
+        } else {
+            any_element(width)
+        }
+    }
+
+    /// That of a run.
+    fn elements_in<V: Domain>(&self, width: Width, run: Run) -> V
+        ensures { result ≡ elements_in V.operations width (run_cell self.now width run) }
+    {
+        let cell = self.run_cell(width, run);
         if cell.fixed {
             V::between(turned(cell.ends.least), turned(cell.ends.greatest))
         } else {
             any_element(width)
         }
+    }
+
+    /// The story and the ranges, with the marks of closed bytes.
+    fn marked(&self) -> Marked<'_>
+        ensures { record { story = result.story.now; ranges = result.ranges.now } ≡ self.now }
+    {
+        self.properties.marked()
     }
 
     /// Whether each of two sets has but one word, and a text buffer begins at that of the first, a parse buffer at that of the second, in
@@ -143,7 +182,7 @@ impl<'a> Runs<'a> {
     fn is_fixed(&self, address: u16) -> bool
         ensures { result ≡ is_fixed self.now address }
     {
-        self.properties.marked().is_fixed(usize::from(address))
+        self.marked().is_fixed(usize::from(address))
     }
 
     /// Whether so many bytes from a place on are open. Behind the last byte address none is.
@@ -219,7 +258,7 @@ impl<'a> Runs<'a> {
         requires { from + size ≤ 65536 }
         ensures { result ≡ piece_cell self.now width from size }
     {
-        piece_cell(self.properties.marked(), width, from, size)
+        piece_cell(self.marked(), width, from, size)
     }
 }
 
@@ -245,6 +284,16 @@ fn any_element<V: Domain>(width: Width) -> V
 pub fn are_readable<V: Domain>(story: &Story, width: Width, arrays: V, indices: V) -> bool
     ensures { IsTrue result ↔ AreReadable V.operations story.now width arrays indices }
 {
-    let greatest = Run::of(width, arrays, indices).greatest();
-    usize::from(greatest) + usize::from(width.span()) <= story.length().min(PLACES)
+    let end = story.length().min(PLACES);
+    match members(arrays, indices) {
+        Some((few, others)) => end_sums_by(end as u32, width, few.as_slice(), others.as_slice()),
+        None => ends_run_by(end, width, Run::of(width, arrays, indices)),
+    }
+}
+
+/// Whether each element of a run ends no later than a place.
+fn ends_run_by(end: usize, width: Width, run: Run) -> bool
+    ensures { IsTrue result ↔ EachAddress run (λ p. p + span width ≤ end) }
+{
+    usize::from(run.greatest()) + usize::from(width.span()) <= end
 }

@@ -1,8 +1,12 @@
-use Rattle.std.proofs.Common.{◌∙◌, ap}
+use Rattle.std.proofs.Common.{◌≡◌, rules, ap, sym, ◌∙◌}
 use Rattle.std.specs.Prelude.{min}
-use Rattle.zruns.proofs.Pieces.{all_readable}
+use Rattle.zstory.specs.Bytes.{readable_end}
+use Rattle.zruns.specs.Runs.{run_of}
+use Rattle.zruns.proofs.Pieces.{end_by_sums}
 use Rattle.zruns.proofs.runs.are_readable.Goals as goal
 
-pub returns : goal.returns
-returns g c =
-    all_readable g.V.Domain.operations c.args.story.now c.args.width c.args.arrays c.args.indices c.of.result c.from.result c.from-2.result c.min.result c.of.ensures (c.from.ensures ∙ c.greatest-greatest.ensures) (c.from-2.ensures ∙ c.span.ensures) (c.min.ensures ∙ ap (λ n. min n 65536) c.length.ensures.value)
+pub returns-in-Some : goal.returns-in-Some
+returns-in-Some g c =
+    let first : c.as_slice.result.now ≡ c.in-Some.few = search rules in
+    let second : c.as_slice-in-Some.result.now ≡ c.in-Some.others = search rules in
+    end_by_sums c.args.width (readable_end c.args.story.now.memory) c.min-end.result (run_of g.V.Domain.operations c.args.width c.args.arrays c.args.indices) _ c.in-Some.few c.in-Some.others c.as_slice.result.now c.as_slice-in-Some.result.now c.end_sums_by.result (sym c.members.ensures ∙ c.in-Some.is) first second (c.min-end.ensures ∙ ap (λ n. min n 65536) c.length.ensures.value) c.end_sums_by.ensures

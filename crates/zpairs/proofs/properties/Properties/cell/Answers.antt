@@ -1,12 +1,13 @@
-use Rattle.std.proofs.Common.{◌-◌, ◌∙◌, ℕ, ap}
+use Rattle.std.proofs.Common.{◌+◌, ◌-◌, ◌*◌, arith, subst}
 use Rattle.zpairs.specs.Frozen.{FrozenStory}
-use Rattle.zpairs.specs.Blocks.{object_cell}
+use Rattle.zpairs.specs.Blocks.{AreCells}
 use Rattle.zpairs.proofs.Regrouped.{object_read}
 use Rattle.zpairs.proofs.properties.Properties.cell.Goals as goal
 
 pub returns : goal.returns
 returns c =
-    c.object_cell.ensures
-    ∙ ap (λ (n : ℕ). object_cell (record { story = c.self.inside.story.now; ranges = c.self.inside.ranges.now }) (n - 1) c.args.number) c.from.ensures
-    ∙ ap (λ (told : FrozenStory). object_cell told (c.args.object - 1) c.args.number) c.self.view_is
-    ∙ object_read c.args.self.now c.args.object c.args.number c.requires.least c.requires.most
+    let are = subst (λ (told : FrozenStory). AreCells told c.self.inside.cells.now) c.self.view_is c.self.invariant.2 in
+    let object = c.from.ensures in
+    let number = c.from-2.ensures in
+    let small = c.requires.small in
+    object_read c.args.self.now c.self.inside.cells.now c.args.object c.args.number (33 * (c.from.result - 1) + c.from-2.result) are c.requires.least c.requires.most (omega (arith, small)) (omega (arith, object, number))

@@ -5,7 +5,7 @@ use Rattle.zpairs.specs.Blocks.{EachInBlock}
 use Rattle.zpairs.specs.Cells.{cell_at, passes}
 use Rattle.zpairs.proofs.Each.{one_more_below}
 use Rattle.zpairs.proofs.Regrouped.{each_object, in_block}
-use Rattle.zpairs.proofs.properties.Properties.pass.Goals as goal
+use Rattle.zpairs.proofs.properties.Properties.blocks_pass.Goals as goal
 
 pub loop-block-preserved : goal.loop-block-preserved
 loop-block-preserved g c = one_more_below (λ b. EachInBlock c.args.self.now b (λ x. In g.V.Domain.operations c.args.objects x → (n : ℕ) → In g.V.Domain.operations c.args.numbers n → IsTrue (passes c.args.test n (cell_at c.args.self.now x n)))) c.loop-block.block c.loop-block.invariant (c.if-not-block_passes.ensures.0 refl)

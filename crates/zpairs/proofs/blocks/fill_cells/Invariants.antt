@@ -1,0 +1,10 @@
+use Rattle.std.proofs.Common.{◌≡◌, ℕ, ◌+◌, ◌<◌, ◌/◌, ◌%◌, length}
+use Rattle.std.specs.Prelude.{slice_index_or}
+use Rattle.zpairs.specs.Cells.{blank_cell, cell_at}
+use Rattle.zpairs.proofs.blocks.fill_cells.Given as goal
+
+abbrev pub invariant-loop-k : goal.invariant-loop-k
+invariant-loop-k l = record {
+  long : length l.cells ≡ 8448;
+  made : (j : ℕ) → j < l.k → slice_index_or l.cells j blank_cell ≡ cell_at (record { story = l.marked.story.now; ranges = l.marked.ranges.now }) (j / 33 + 1) (j % 33);
+}

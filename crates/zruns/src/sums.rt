@@ -1,0 +1,116 @@
+//! What is known of the elements at each array of one list and each index of another.
+
+ghost use Rattle.std.specs.Prelude.{◌≡◌, ◌+◌, ◌≤◌, ◌&&◌, map, nat_le, not, IsTrue};
+ghost use Rattle.std.specs.List.{list_all};
+ghost use Rattle.zarray.specs.Arrays.{place_of, span, value_at};
+ghost use Rattle.zdomain.specs.Few.{with_words};
+ghost use Rattle.zpairs.specs.Fixed.{is_closed, is_fixed};
+ghost use Rattle.zruns.specs.Runs.{each_byte, sums};
+
+use crate::element::{are_fixed, are_open, value_at};
+use zarray::Width;
+use zdomain::Gathered;
+use zpairs::Marked;
+
+/// Whether each byte of each of them is open.
+#[tactic(auto, unfolding(crate::specs::Runs::sums), using(crate::proofs::Summing::all_append))]
+pub(crate) fn are_sums_open(
+    marked: &Marked<'_>,
+    width: Width,
+    arrays: &[u16],
+    indices: &[u16],
+) -> bool
+    ensures { result ≡ list_all (each_byte width (λ q. not (is_closed (record { story = marked.now.story.now; ranges = marked.now.ranges.now }) q))) (sums width arrays.now indices.now) }
+{
+    match arrays {
+        [] => true,
+        [first, rest @ ..] => {
+            is_row_open(marked, width, *first, indices)
+                && are_sums_open(marked, width, rest, indices)
+        }
+    }
+}
+
+/// Whether each byte of each of those of one array is.
+fn is_row_open(marked: &Marked<'_>, width: Width, array: u16, indices: &[u16]) -> bool
+    ensures { result ≡ list_all (each_byte width (λ q. not (is_closed (record { story = marked.now.story.now; ranges = marked.now.ranges.now }) q))) (map (place_of width array) indices.now) }
+{
+    match indices {
+        [] => true,
+        [first, rest @ ..] => {
+            are_open(*marked, width, usize::from(width.place(array, *first)))
+                && is_row_open(marked, width, array, rest)
+        }
+    }
+}
+
+/// Whether each of them ends no later than a place.
+#[tactic(auto, unfolding(crate::specs::Runs::sums), using(crate::proofs::Summing::all_append))]
+pub(crate) fn end_sums_by(end: u32, width: Width, arrays: &[u16], indices: &[u16]) -> bool
+    ensures { result ≡ list_all (λ p. nat_le (p + span width) end) (sums width arrays.now indices.now) }
+{
+    match arrays {
+        [] => true,
+        [first, rest @ ..] => {
+            ends_row_by(true, end, width, *first, indices) && end_sums_by(end, width, rest, indices)
+        }
+    }
+}
+
+/// Whether something holds and each of those of one array does. All are gone over, without a way out, so that several take one step.
+fn ends_row_by(so_far: bool, end: u32, width: Width, array: u16, indices: &[u16]) -> bool
+    ensures { result ≡ (so_far && list_all (λ p. nat_le (p + span width) end) (map (place_of width array) indices.now)) }
+{
+    match indices {
+        [] => so_far,
+        [first, rest @ ..] => {
+            let ends = u32::from(width.place(array, *first)) + u32::from(width.span()) <= end;
+            ends_row_by(so_far && ends, end, width, array, rest)
+        }
+    }
+}
+
+/// Adds what they are, as far as no play changes a byte of one, and tells whether that is so of all.
+#[tactic(auto, unfolding(crate::specs::Runs::sums), using(crate::proofs::Summing::all_append))]
+pub(crate) fn add_sums(
+    all: &mut Gathered,
+    marked: &Marked<'_>,
+    memory: &[u8],
+    width: Width,
+    arrays: &[u16],
+    indices: &[u16],
+) -> bool
+    ensures fixed { result ≡ list_all (each_byte width (is_fixed (record { story = marked.now.story.now; ranges = marked.now.ranges.now }))) (sums width arrays.now indices.now) }
+    ensures words { IsTrue result → all.new ≡ with_words (map (value_at width memory.now) (sums width arrays.now indices.now)) all.old }
+{
+    match arrays {
+        [] => true,
+        [first, rest @ ..] => {
+            add_row(all, marked, memory, width, *first, indices)
+                && add_sums(all, marked, memory, width, rest, indices)
+        }
+    }
+}
+
+/// The same of those of one array.
+fn add_row(
+    all: &mut Gathered,
+    marked: &Marked<'_>,
+    memory: &[u8],
+    width: Width,
+    array: u16,
+    indices: &[u16],
+) -> bool
+    ensures fixed { result ≡ list_all (each_byte width (is_fixed (record { story = marked.now.story.now; ranges = marked.now.ranges.now }))) (map (place_of width array) indices.now) }
+    ensures words { IsTrue result → all.new ≡ with_words (map (value_at width memory.now) (map (place_of width array) indices.now)) all.old }
+{
+    let [first, rest @ ..] = indices else {
+        return true;
+    };
+    let place = usize::from(width.place(array, *first));
+    if !are_fixed(*marked, width, place) {
+        return false;
+    }
+    all.add(value_at(width, memory, place));
+    add_row(all, marked, memory, width, array, rest)
+}
