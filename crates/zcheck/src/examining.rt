@@ -22,8 +22,9 @@ pub fn examine<V: Spelled>(story: &Story, certificate: &Certificate<V>) -> Optio
     let mut room = Room::new();
     let tables = Tables::new(story, certificate.ranges(), &mut room);
     let mut ends = TextEnds::new(story.memory());
+    let mut sets = V::room();
     for index in 0..certificate.instruction_count() {
-        let listed = certificate.instruction(index);
+        let listed = certificate.instruction(index, &mut sets);
         if let Err(rule) = judge(
             story,
             &tables,

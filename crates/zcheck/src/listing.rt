@@ -77,8 +77,9 @@ fn each_judged<V: Spelled>(
     let mut room = Room::new();
     let tables = Tables::new(story, certificate.ranges(), &mut room);
     let mut ends = TextEnds::new(story.memory());
+    let mut sets = V::room();
     for index in 0..certificate.instruction_count() {
-        let listed = certificate.instruction(index);
+        let listed = certificate.instruction(index, &mut sets);
         let instruction = match judge(
             story,
             &tables,

@@ -62,7 +62,8 @@ fn keeps<V: Spelled>(story: &Story, certificate: &Certificate<V>, rule: StoryRul
 fn has_first_place<V: Spelled>(story: &Story, certificate: &Certificate<V>) -> bool
     ensures { IsTrue result ↔ HasFirstPlace V.operations (claims_of V.operations certificate.now) story.now }
 {
-    match certificate.instruction_at(first_place(story)) {
+    let mut room = V::room();
+    match certificate.instruction_at(first_place(story), &mut room) {
         Some(first) => is_bare(&first),
         None => false,
     }

@@ -2,7 +2,7 @@
 
 ghost use Rattle.std.specs.Prelude.{◌≡◌, ℕ, ◌++◌, List, [], None, Some, Ok, Err, IfOk, IfErr, OnOk};
 ghost use Rattle.zcert.specs.Reading.{reading};
-ghost use Rattle.zcert.specs.Streaming.{unfed, IsFed, IsOpen, IsRefusal};
+ghost use Rattle.zcert.specs.Streaming.{unfed, IsFed, IsOpen, IsRefusal, IsUnread};
 ghost use Rattle.zcert.specs.declared.error.CertError.{CertError as AnError};
 ghost use Rattle.zcheck.specs.Acceptance.{IsListingOf, NeverChanges, NeverFaults, PlaysAlike, PlaysSafely};
 ghost use Rattle.zcheck.specs.Passes.{Passes};
@@ -13,7 +13,7 @@ use crate::checking::check;
 use crate::refusal::StreamRefusal;
 use std::alloc::Global;
 use std::marker::Model;
-use zcert::{CertError, CertStream, Spelled};
+use zcert::{CertError, CertStream, Certificate, Spelled};
 use zdomain::Interval;
 use zstory::Story;
 
@@ -81,5 +81,17 @@ impl<V: Spelled> CheckStream<V> {
         let CheckStream { story, stream } = self;
         let certificate = stream.finish()?;
         Ok(check(alloc, story, certificate)?)
+    }
+
+    /// The story, and the certificate that all bytes spell that were fed, which needn't be accepted with it; else why they are
+    /// refused, or that they are cut off.
+    pub fn read(self) -> Result<(Story, Certificate<V>), CertError>
+        ensures story { IfOk result (λ parts. parts.0 ≡ self.story) }
+        ensures read { IfOk result (λ parts. (fed : List ℕ) → IsFed V.format self.stream fed → reading V.format fed ≡ Ok parts.1) }
+        ensures unread { IfErr result (λ e. (fed : List ℕ) → IsFed V.format self.stream fed → IsUnread V.format fed e) }
+        ensures stays { (e : AnError) → self.stream.refused ≡ Some e → result ≡ Err e }
+    {
+        let CheckStream { story, stream } = self;
+        Ok((story, stream.finish()?))
     }
 }

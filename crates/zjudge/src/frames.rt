@@ -11,7 +11,7 @@ ghost use Rattle.zstate.specs.Saves.{taken_frame};
 ghost use Rattle.zrule.specs.Claims.{Entry, claims_of, entry_of};
 ghost use Rattle.zrule.specs.Described.{Fits, FitsWith};
 ghost use Rattle.zjudge.specs.Frames.{AreDescribed, AreDescribedFrom, GoesOnAt, IsCalled};
-ghost use Rattle.zjudge.specs.View.{waiting_of};
+ghost use Rattle.zjudge.specs.View.{entry_at, waiting_of};
 
 use crate::words::{are_in, are_in_with, has_word};
 use zcert::{Certificate, Instruction, Spelled};
@@ -21,10 +21,10 @@ use zquetzal::{Frames, SavedFrame, word_count};
 /// The least variable that is a global (Z 4.2.2).
 const FIRST_GLOBAL: u8 = 16;
 
-/// A frame that waits for what the routine above it gives, with what is listed at the place to which that returns.
+/// A frame that waits for what the routine above it gives, with the index of what is listed at the place to which that returns.
 #[derive(Clone, Copy)]
-pub(crate) struct Caller<'a, V> {
-    listed: Instruction<'a, V>,
+pub(crate) struct Caller<'a> {
+    index: usize,
     frame: SavedFrame<'a>,
 }
 
@@ -43,11 +43,13 @@ pub(crate) fn are_frames_described<V: Spelled>(
         return false;
     };
     let mut below = None;
+    let mut room = V::room();
     while let Some(next) = above.next() {
-        let Some(listed) = going_on_at(certificate, below, frame, next.return_place) else {
+        let place = next.return_place;
+        let Some(index) = going_on_at(certificate, below, frame, place, &mut room) else {
             return false;
         };
-        below = Some(Caller { listed, frame });
+        below = Some(Caller { index, frame });
         frame = next;
     }
     is_newest_described(certificate, below, frame, place)
@@ -56,36 +58,39 @@ pub(crate) fn are_frames_described<V: Spelled>(
 /// Whether the newest frame is described at a place.
 fn is_newest_described<V: Spelled>(
     certificate: &Certificate<V>,
-    below: Option<Caller<'_, V>>,
+    below: Option<Caller<'_>>,
     frame: SavedFrame<'_>,
     place: u32,
 ) -> bool
-    requires height { IfSome below (λ c. length c.listed.slots.now ≤ 64) }
+    requires { IfSome below (λ c. c.index < length certificate.now.instructions) }
     ensures low { IsTrue result → IfSome below.entry (λ c. length (words_of c.frame.stack.now) ≤ 64) × (length (words_of frame.entry.stack.now) ≤ 64) }
-    ensures value { IsTrue result ↔ AreDescribedFrom V.operations (claims_of V.operations certificate.now) (option_map waiting_of below.entry) (taken_frame (seen_frame frame.entry)) [] place }
+    ensures value { IsTrue result ↔ AreDescribedFrom V.operations (claims_of V.operations certificate.now) (option_map (waiting_of certificate.now.instructions) below.entry) (taken_frame (seen_frame frame.entry)) [] place }
 {
-    match going_on_at(certificate, below, frame, place) {
-        Some(listed) => fits(&listed, frame),
+    let mut room = V::room();
+    match going_on_at(certificate, below, frame, place, &mut room) {
+        Some(index) => fits(&certificate.instruction(index, &mut room), frame),
         None => false,
     }
 }
 
-/// What is listed at a place where a frame goes on, if it may have been called in that routine.
-fn going_on_at<'a, V: Spelled>(
-    certificate: &'a Certificate<V>,
-    below: Option<Caller<'_, V>>,
+/// The index of what is listed at a place where a frame goes on, if it may have been called in that routine.
+fn going_on_at<V: Spelled>(
+    certificate: &Certificate<V>,
+    below: Option<Caller<'_>>,
     frame: SavedFrame<'_>,
     place: u32,
-) -> Option<Instruction<'a, V>>
-    requires height { IfSome below (λ c. length c.listed.slots.now ≤ 64) }
-    ensures height { IfSome result (λ i. length i.slots.now ≤ 64) }
+    room: &mut V::Room,
+) -> Option<usize>
+    requires { IfSome below (λ c. c.index < length certificate.now.instructions) }
+    ensures there { IfSome result (λ i. i < length certificate.now.instructions) }
     ensures low { IfSome result (λ i. IfSome below.entry (λ c. length (words_of c.frame.stack.now) ≤ 64)) }
-    ensures some { IfSome result (λ i. GoesOnAt V.operations (claims_of V.operations certificate.now) (option_map waiting_of below.entry) (taken_frame (seen_frame frame.entry)) place (entry_of (seen i))) }
-    ensures none { IfNone result ((e : Entry V) → GoesOnAt V.operations (claims_of V.operations certificate.now) (option_map waiting_of below.entry) (taken_frame (seen_frame frame.entry)) place e → ⊥) }
+    ensures some { IfSome result (λ i. GoesOnAt V.operations (claims_of V.operations certificate.now) (option_map (waiting_of certificate.now.instructions) below.entry) (taken_frame (seen_frame frame.entry)) place (entry_at certificate.now.instructions i)) }
+    ensures none { IfNone result ((e : Entry V) → GoesOnAt V.operations (claims_of V.operations certificate.now) (option_map (waiting_of certificate.now.instructions) below.entry) (taken_frame (seen_frame frame.entry)) place e → ⊥) }
 {
-    let listed = certificate.instruction_at(place)?;
+    let index = certificate.instruction_index(place)?;
+    let listed = certificate.instruction(index, room);
     if is_called(certificate, below, frame.result, listed.routine) {
-        Some(listed)
+        Some(index)
     } else {
         None
     }
@@ -94,25 +99,36 @@ fn going_on_at<'a, V: Spelled>(
 /// Whether a frame of a routine, whose result goes to a variable, may stand above another, or above none.
 fn is_called<V: Spelled>(
     certificate: &Certificate<V>,
-    below: Option<Caller<'_, V>>,
+    below: Option<Caller<'_>>,
     variable: u8,
     routine: u16,
 ) -> bool
-    ensures low { IsTrue result → IfSome below.entry (λ c. length (words_of c.frame.stack.now) ≤ length c.listed.slots.now) }
-    ensures value { IsTrue result ↔ IsCalled V.operations (claims_of V.operations certificate.now) (option_map waiting_of below.entry) variable routine }
+    requires { IfSome below (λ c. c.index < length certificate.now.instructions) }
+    ensures low { IsTrue result → IfSome below.entry (λ c. length (words_of c.frame.stack.now) ≤ 64) }
+    ensures value { IsTrue result ↔ IsCalled V.operations (claims_of V.operations certificate.now) (option_map (waiting_of certificate.now.instructions) below.entry) variable routine }
 {
     match below {
-        Some(caller) => {
-            routine > 0
-                && fits_with(
-                    certificate,
-                    &caller,
-                    variable,
-                    result_of(certificate, usize::from(routine) - 1),
-                )
-        }
+        Some(caller) => routine > 0 && calls(certificate, caller, variable, routine),
         None => routine == 0,
     }
+}
+
+/// Whether a frame waits so that a routine may give any of its values to a variable.
+fn calls<V: Spelled>(
+    certificate: &Certificate<V>,
+    caller: Caller<'_>,
+    variable: u8,
+    routine: u16,
+) -> bool
+    requires there { caller.index < length certificate.now.instructions }
+    requires some { 0 < routine }
+    ensures low { IsTrue result → length (words_of caller.entry.frame.stack.now) ≤ 64 }
+    ensures value { IsTrue result ↔ ((x : ℕ) → In V.operations ((claims_of V.operations certificate.now).result routine) x → FitsWith V.operations (claims_of V.operations certificate.now) variable x (waiting_of certificate.now.instructions caller.entry).entry.shape (waiting_of certificate.now.instructions caller.entry).frame) }
+{
+    let mut room = V::room();
+    let listed = certificate.instruction(caller.index, &mut room);
+    let values = result_of(certificate, usize::from(routine) - 1);
+    fits_with(certificate, &listed, caller.frame, variable, values)
 }
 
 /// The values that a routine may give, by its index: any, where there is none of the index.
@@ -136,45 +152,38 @@ fn fits<V: Spelled>(listed: &Instruction<'_, V>, frame: SavedFrame<'_>) -> bool
 /// Whether a caller fits, whichever value of a set goes to a variable, and a global that takes it has it in its set.
 fn fits_with<V: Spelled>(
     certificate: &Certificate<V>,
-    caller: &Caller<'_, V>,
+    listed: &Instruction<'_, V>,
+    frame: SavedFrame<'_>,
     variable: u8,
     values: V,
 ) -> bool
-    ensures low { IsTrue result → length (words_of caller.now.frame.stack.now) ≤ length caller.now.listed.slots.now }
-    ensures value { IsTrue result ↔ ((x : ℕ) → In V.operations values x → FitsWith V.operations (claims_of V.operations certificate.now) variable x (waiting_of caller.now).entry.shape (waiting_of caller.now).frame) }
+    ensures low { IsTrue result → length (words_of frame.entry.stack.now) ≤ length listed.now.slots.now }
+    ensures value { IsTrue result ↔ ((x : ℕ) → In V.operations values x → FitsWith V.operations (claims_of V.operations certificate.now) variable x (entry_of (seen listed.now)).shape (taken_frame (seen_frame frame.entry))) }
 {
     if variable == 0 {
-        fits_pushed(&caller.listed, caller.frame, values)
+        fits_pushed(listed, frame, values)
     } else if variable < FIRST_GLOBAL {
-        fits_stored(
-            &caller.listed,
-            caller.frame,
-            usize::from(variable) - 1,
-            values,
-        )
+        fits_stored(listed, frame, usize::from(variable) - 1, values)
     } else {
-        fits_beside(
-            certificate,
-            caller,
-            usize::from(variable - FIRST_GLOBAL),
-            values,
-        )
+        let global = usize::from(variable - FIRST_GLOBAL);
+        fits_beside(certificate, listed, frame, global, values)
     }
 }
 
 /// Whether a frame fits, and a global has each value of a set in its own.
 fn fits_beside<V: Spelled>(
     certificate: &Certificate<V>,
-    caller: &Caller<'_, V>,
+    listed: &Instruction<'_, V>,
+    frame: SavedFrame<'_>,
     global: usize,
     values: V,
 ) -> bool
     requires { global < 240 }
-    ensures low { IsTrue result → length (words_of caller.now.frame.stack.now) ≤ length caller.now.listed.slots.now }
-    ensures value { IsTrue result ↔ ((x : ℕ) → In V.operations values x → FitsWith V.operations (claims_of V.operations certificate.now) (global + 16) x (waiting_of caller.now).entry.shape (waiting_of caller.now).frame) }
+    ensures low { IsTrue result → length (words_of frame.entry.stack.now) ≤ length listed.now.slots.now }
+    ensures value { IsTrue result ↔ ((x : ℕ) → In V.operations values x → FitsWith V.operations (claims_of V.operations certificate.now) (global + 16) x (entry_of (seen listed.now)).shape (taken_frame (seen_frame frame.entry))) }
 {
     has_word(values);
-    values.is_within(certificate.globals()[global]) && fits(&caller.listed, caller.frame)
+    values.is_within(certificate.globals()[global]) && fits(listed, frame)
 }
 
 /// Whether a frame fits with any value of a set on top of its stack.

@@ -14,7 +14,7 @@ use Rattle.zobj.proofs.Puts.{value_differs}
 use Rattle.zdomain.specs.Domain.{SetOperations, AreSound, In}
 use Rattle.zstate.specs.Step.{are_writable, is_writable}
 use Rattle.zplace.specs.Bytes.{IsOpen, header, static}
-use Rattle.zruns.specs.Runs.{AreOpen, AreReadable, address, elements, run_of}
+use Rattle.zruns.specs.Runs.{AreOpen, AreReadable, EachPlace, elements}
 use Rattle.zruns.proofs.Reached.{reached}
 use Rattle.zruns.proofs.Lying.{elements_lie}
 use Rattle.zrule.specs.Claims.{Claims, frozen_in, told_of}
@@ -64,14 +64,14 @@ module _ {V : Type 0} (o : SetOperations V) (lawful : AreSound o) (claims : Clai
   abbrev place : ℕ
   place = place_of width a i
 
-  abbrev at_run : (k : ℕ) × (k ≤ (run_of o width arrays indices).more) × (place_of width a i ≡ address (run_of o width arrays indices) k)
-  at_run = reached o lawful width arrays indices a i in_arrays in_indices
+  -- what holds of each place where an element may lie holds of this one
+  at_place : (Holds : ℕ → Type 0) → EachPlace o width arrays indices Holds → Holds place
+  at_place Holds each = reached o lawful width arrays indices Holds a i in_arrays in_indices each
 
   -- an element can be read where it could be in the story, and lies in the set of what may be read
   pub element_there : AreReadable o story width arrays indices → (x : ℕ) × (element_at width now place ≡ Some x)
   element_there readable =
-      let r = at_run in
-      let inside : place + span width ≤ readable_end story.memory = subst (λ (p : ℕ). p + span width ≤ readable_end story.memory) (sym r.2) (readable r.0 r.1) in
+      let inside : place + span width ≤ readable_end story.memory = at_place (λ p. p + span width ≤ readable_end story.memory) readable in
       let here : place + span width ≤ readable_end now = subst (λ (n : ℕ). place + span width ≤ min n 65536) (sym d.long) inside in
       let one = le-leb (place + span width) (readable_end now) here in
       (value_at width now place, rw one refl)
@@ -82,7 +82,7 @@ module _ {V : Type 0} (o : SetOperations V) (lawful : AreSound o) (claims : Clai
   -- an element that is open may be written
   module _ (free : AreOpen o story (frozen_in claims) width arrays indices) where
     byte_open : (j : ℕ) → j < span width → IsOpen story (frozen_in claims) (place + j)
-    byte_open j less = let r = at_run in subst (λ (p : ℕ). IsOpen story (frozen_in claims) (p + j)) (sym r.2) (free r.0 r.1 j less)
+    byte_open j less = at_place (λ p. (k : ℕ) → k < span width → IsOpen story (frozen_in claims) (p + k)) free j less
 
     pub element_writable : are_writable story place (span width) ≡ true
     element_writable = all_writable story (frozen_in claims) (span width) place byte_open

@@ -120,15 +120,18 @@ pub(crate) fn begins<V: Spelled>(
 ) -> bool
     ensures { IsTrue result ↔ Begins V.operations (claims_of V.operations certificate.now) story.now (sets_of arguments) (unpacked packed) }
 {
-    begins_at(story, certificate, arguments, 2 * u32::from(packed))
+    let mut room = V::room();
+    let place = 2 * u32::from(packed);
+    begins_at(story, certificate, arguments, place, &mut room)
 }
 
-/// Whether a routine begins at a place, with these arguments.
+/// Whether a routine begins at a place, with these arguments. The sets that it begins with may be made in the room.
 fn begins_at<V: Spelled>(
     story: &Story,
     certificate: &Certificate<V>,
     arguments: Arguments<V>,
     place: u32,
+    room: &mut V::Room,
 ) -> bool
     requires { place ≤ 131070 }
     ensures { IsTrue result ↔ Begins V.operations (claims_of V.operations certificate.now) story.now (sets_of arguments) place }
@@ -140,7 +143,7 @@ fn begins_at<V: Spelled>(
         return false;
     };
     let code = place + 1 + 2 * u32::from(count);
-    let Some(first) = certificate.instruction_at(code) else {
+    let Some(first) = certificate.instruction_at(code, room) else {
         return false;
     };
     opens(&first, index) && starts(memory, arguments, at + 1, count, first.locals)

@@ -40,7 +40,8 @@ fn common_with<V: Spelled>(
 {
     certificate.routine_index(place)?;
     let words = u32::from(byte_at(story.memory(), place as usize));
-    let first = certificate.instruction_at(place + 1 + 2 * words)?;
+    let mut room = V::room();
+    let first = certificate.instruction_at(place + 1 + 2 * words, &mut room)?;
     match first.locals.get(index) {
         Some(local) => set.meet(*local),
         None => Some(set),

@@ -1,11 +1,11 @@
 //! What rules ask of an edge of an instruction.
 
-ghost use Rattle.std.specs.Prelude.{◌≡◌, ◌↔◌, ◌*◌, ◌+◌, ◌<◌, ◌≤◌, ℕ, IfSome, IsTrue, Some, length, option_map};
+ghost use Rattle.std.specs.Prelude.{◌≡◌, ◌↔◌, ◌*◌, ◌+◌, ◌<◌, ◌≤◌, ℕ, IfSome, IsTrue, Some, length, slice_get};
 ghost use Rattle.zdomain.specs.Domain.{In, Within};
 ghost use Rattle.zcode.specs.Operation.{target};
 ghost use Rattle.zflow.specs.declared.parts.Lead.TheVariants.{Ahead, Entering, Returning};
 ghost use Rattle.zflow.specs.Transfer.{Shape, argument_sets, with_result};
-ghost use Rattle.zcert.specs.Listed.{listed_at, seen};
+ghost use Rattle.zcert.specs.Listed.{Finds, seen};
 ghost use Rattle.zrule.specs.Blocks.{AreBlocks};
 ghost use Rattle.zrule.specs.Claims.{Claims, claims_of, entry_of};
 ghost use Rattle.zrule.specs.Edges.{StaysLow, stated_for};
@@ -110,7 +110,9 @@ fn stated_behind<V: Spelled>(site: Site<'_, V>) -> Option<V>
     requires { site.listed.now.address + site.instruction.now.size ≤ 131072 }
     ensures { result ≡ stated_for (target site.entry.instruction.now) ((claims_of V.operations site.entry.certificate.now).entry (site.entry.listed.now.address + site.entry.instruction.now.size)) }
 {
-    let next = listed_near(site.certificate, site.near, site.next())?;
+    let mut room = V::room();
+    let index = index_near(site.certificate, site.near, site.next())?;
+    let next = site.certificate.instruction(index, &mut room);
     match site.target() {
         0 => next.slots.last().copied(),
         variable if variable < 16 => next.locals.get(usize::from(variable) - 1).copied(),
@@ -133,10 +135,20 @@ fn leads_ahead<V: Spelled>(site: Site<'_, V>, after: &Known<'_, V>, distance: i3
 fn leads<V: Spelled>(site: Site<'_, V>, after: &Known<'_, V>, to: u32) -> bool
     ensures { IsTrue result ↔ Leads V.operations (claims_of V.operations site.entry.certificate.now) site.entry.listed.now.routine after.now to }
 {
-    match listed_near(site.certificate, site.near, to) {
-        Some(next) => next.routine == site.listed.routine && covers(after, &next),
+    match index_near(site.certificate, site.near, to) {
+        Some(index) => leads_to(site, after, index),
         None => false,
     }
+}
+
+/// Whether what is listed at an index is in the routine, at equal height, with sets that contain what is known.
+fn leads_to<V: Spelled>(site: Site<'_, V>, after: &Known<'_, V>, index: usize) -> bool
+    requires { index < length site.certificate.now.instructions }
+    ensures { IfSome (slice_get site.entry.certificate.now.instructions index) (λ i. IsTrue result ↔ ((i.routine ≡ site.entry.listed.now.routine) × Covers V.operations after.now (entry_of i).shape)) }
+{
+    let mut room = V::room();
+    let next = site.certificate.instruction(index, &mut room);
+    next.routine == site.listed.routine && covers(after, &next)
 }
 
 /// Whether the place behind the instruction is, once its result variable is given a value of the set.
@@ -144,29 +156,30 @@ fn leads_given<V: Spelled>(site: Site<'_, V>, after: &Known<'_, V>, set: V) -> b
     requires { site.listed.now.address + site.instruction.now.size ≤ 131072 }
     ensures { IsTrue result ↔ Leads V.operations (claims_of V.operations site.entry.certificate.now) site.entry.listed.now.routine (with_result (Some set) (target site.entry.instruction.now) after.now) (site.entry.listed.now.address + site.entry.instruction.now.size) }
 {
-    match listed_near(site.certificate, site.near, site.next()) {
-        Some(next) => {
-            next.routine == site.listed.routine && covers_given(after, set, site.target(), &next)
-        }
+    match index_near(site.certificate, site.near, site.next()) {
+        Some(index) => leads_to_given(site, after, set, index),
         None => false,
     }
 }
 
-/// The instruction that is listed at an address, if one is. No search is made where it has the index `near`.
-fn listed_near<V: Spelled>(
-    certificate: &Certificate<V>,
-    near: usize,
-    address: u32,
-) -> Option<Instruction<'_, V>>
-    ensures { option_map seen result ≡ listed_at certificate.now.instructions address }
+/// Whether what is listed at an index is, once the result variable is given a value of the set.
+fn leads_to_given<V: Spelled>(site: Site<'_, V>, after: &Known<'_, V>, set: V, index: usize) -> bool
+    requires { index < length site.certificate.now.instructions }
+    ensures { IfSome (slice_get site.entry.certificate.now.instructions index) (λ i. IsTrue result ↔ ((i.routine ≡ site.entry.listed.now.routine) × Covers V.operations (with_result (Some set) (target site.entry.instruction.now) after.now) (entry_of i).shape)) }
 {
-    if near < certificate.instruction_count() {
-        let listed = certificate.instruction(near);
-        if listed.address == address {
-            return Some(listed);
-        }
+    let mut room = V::room();
+    let next = site.certificate.instruction(index, &mut room);
+    next.routine == site.listed.routine && covers_given(after, set, site.target(), &next)
+}
+
+/// The index of the instruction that is listed at an address, if one is. No search is made where that is `near`.
+fn index_near<V: Spelled>(certificate: &Certificate<V>, near: usize, address: u32) -> Option<usize>
+    ensures { Finds certificate.now.instructions address result }
+{
+    if near < certificate.instruction_count() && certificate.address_of(near) == address {
+        return Some(near);
     }
-    certificate.instruction_at(address)
+    certificate.instruction_index(address)
 }
 
 /// Whether the sets of a place contain what is known.

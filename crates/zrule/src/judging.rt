@@ -349,6 +349,7 @@ pub fn rule_at<V: Spelled>(
     ensures kept { IfNone result ((entry : Entry V) → (claims_of V.operations certificate.now).entry address ≡ Some entry → (rule : ARule) → Keeps V.operations (claims_of V.operations certificate.now) story.now address entry rule) }
     ensures broken { IfSome result (λ rule. (entry : Entry V) × ((claims_of V.operations certificate.now).entry address ≡ Some entry) × IsLowestBroken V.operations (claims_of V.operations certificate.now) story.now address entry rule) }
 {
-    let listed = certificate.instruction_at(address)?;
+    let mut room = V::room();
+    let listed = certificate.instruction_at(address, &mut room)?;
     broken_rule(story, certificate, &listed)
 }

@@ -11,7 +11,7 @@ pub returns-then-is_within-clause-value : goal.returns-then-is_within-clause-val
 returns-then-is_within-clause-value g c =
     let claims = claims_of g.V.Domain.operations c.args.certificate.now in
     let at : slice_get c.args.certificate.now.globals c.args.global ≡ Some c.index-globals-global.result = search (rules, slice_get_read, arith) in
-    let taken = global_where g.V.Domain.operations claims (seen c.args.caller.now.listed) (seen_frame c.args.caller.now.frame) c.args.values c.has_word.ensures c.args.global c.index-globals-global.result c.requires at in
+    let taken = global_where g.V.Domain.operations claims (seen c.args.listed.now) (seen_frame c.args.frame) c.args.values c.has_word.ensures c.args.global c.index-globals-global.result c.requires at in
     let fits = c.fits.ensures.value c.args.certificate.now in
     (λ t. taken.0 (c.if-is_within.ensures.0 refl, fits.0 t), λ all. fits.1 (taken.1 all).1)
 
@@ -19,5 +19,5 @@ pub returns-else-is_within-clause-value : goal.returns-else-is_within-clause-val
 returns-else-is_within-clause-value g c =
     let claims = claims_of g.V.Domain.operations c.args.certificate.now in
     let at : slice_get c.args.certificate.now.globals c.args.global ≡ Some c.index-globals-global.result = search (rules, slice_get_read, arith) in
-    let taken = global_where g.V.Domain.operations claims (seen c.args.caller.now.listed) (seen_frame c.args.caller.now.frame) c.args.values c.has_word.ensures c.args.global c.index-globals-global.result c.requires at in
+    let taken = global_where g.V.Domain.operations claims (seen c.args.listed.now) (seen_frame c.args.frame) c.args.values c.has_word.ensures c.args.global c.index-globals-global.result c.requires at in
     (λ t. absurd (let no = c.if-is_within.false in cc), λ all. c.is_within.ensures.1 (taken.1 all).0)

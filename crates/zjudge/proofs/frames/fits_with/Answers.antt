@@ -9,11 +9,11 @@ pub returns-then-variable-eq0-clause-value : goal.returns-then-variable-eq0-clau
 returns-then-variable-eq0-clause-value g c =
     let o = g.V.Domain.operations in
     let certificate = c.args.certificate.now in
-    with_same o (claims_of o certificate) (seen c.args.caller.now.listed) (seen_frame c.args.caller.now.frame) c.args.values c.fits_pushed.result 0 c.args.variable c.if-variable-eq0.true (c.fits_pushed.ensures.value certificate)
+    with_same o (claims_of o certificate) (seen c.args.listed.now) (seen_frame c.args.frame) c.args.values c.fits_pushed.result 0 c.args.variable c.if-variable-eq0.true (c.fits_pushed.ensures.value certificate)
 
 pub returns-then-variable-lt-FIRST_GLOBAL-clause-value : goal.returns-then-variable-lt-FIRST_GLOBAL-clause-value
 returns-then-variable-lt-FIRST_GLOBAL-clause-value g c =
     let o = g.V.Domain.operations in
     let certificate = c.args.certificate.now in
     let one_more : c.args.variable ≡ c.from.result - 1 + 1 = search (rules, arith) in
-    with_same o (claims_of o certificate) (seen c.args.caller.now.listed) (seen_frame c.args.caller.now.frame) c.args.values c.fits_stored.result (c.from.result - 1 + 1) c.args.variable one_more (c.fits_stored.ensures.value certificate)
+    with_same o (claims_of o certificate) (seen c.args.listed.now) (seen_frame c.args.frame) c.args.values c.fits_stored.result (c.from.result - 1 + 1) c.args.variable one_more (c.fits_stored.ensures.value certificate)
