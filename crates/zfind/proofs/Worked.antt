@@ -1,6 +1,16 @@
 -- Values of the definitions, computed.
 use Rattle.std.proofs.Common.{◌≡◌, ◌⊎◌, [], ◌∷◌, false, inl, inr, Some, None, arith, refl, true, pos, negsuc, ℕ}
 use Rattle.zstory.specs.LoadedStory.{LoadedStory}
+use Rattle.zdomain.specs.Domain.{SetOperations}
+use Rattle.zdomain.specs.Interval.{interval_operations}
+use Rattle.zdomain.specs.Values.{values_operations}
+use Rattle.zdomain.specs.declared.interval.Interval.{Interval}
+use Rattle.zdomain.specs.declared.values.Values.{Values}
+use Rattle.zcert.specs.Certificate.{Certificate}
+use Rattle.zcert.specs.Format.{interval_format}
+use Rattle.zcert.specs.Lists.{values_format}
+use Rattle.zcert.specs.Spelling.{spelling}
+use Rattle.zcheck.specs.Passes.{Passes}
 use Rattle.zcode.specs.Reading.{branch_if, checked_head, head_at, instruction_at, operands_at, short_head, store_if, text_if}
 use Rattle.zcode.specs.declared.error.DecodeError.TheVariants.{Truncated}
 use Rattle.zlist.specs.declared.list_error.ListError.TheVariants as faults
@@ -11,7 +21,9 @@ use Rattle.zfind.specs.declared.error.FindError.TheVariants.{NotFound, RoundLimi
 use Rattle.zfind.specs.declared.error.Obstacle.TheVariants.{Place, Story}
 use Rattle.zfind.specs.declared.error.Obstacle.{Obstacle}
 use Rattle.zfind.specs.declared.visits.Allowance.{Allowance}
-use Rattle.zfind.specs.Finding.{HasNone, IsAtStart, IsBrokenAt, IsFailure, IsFaulty, IsFaultyElsewhere, IsLasting, IsLess, IsListable, IsMet, IsStopped, IsTold, IsTried, IsWalkFailure, number_of, refused_for, told_of}
+use Rattle.zfind.specs.Finding.{HasNone, HasNoneOf, IsAtStart, IsBrokenAt, IsFailure, IsFailureOf, IsFaulty, IsFaultyElsewhere, IsLasting, IsLess, IsListable, IsMet, IsStopped, IsTold, IsTried, IsUnlisted, IsWalkFailure, IsWithoutIntervals, number_of, refused_for, told_of}
+use Rattle.zfind.specs.Found.{IsFound, spelling_of}
+use Rattle.zfind.specs.declared.found.Found.TheVariants.{Intervals, Lists}
 
 numbers : (number_of (NotFound (Story Tree)) ≡ 1) × (number_of RoundLimit ≡ 2) × (number_of OutOfMemory ≡ 3)
 numbers = (refl, refl, refl)
@@ -49,14 +61,32 @@ starts_alone = ((λ start. absurd (let e : Place (pos 11) Height ≡ Place (pos 
 
 -- what is wrong with a story, or with a certificate of one that is listed; the limit is of such a story, and memory may always be refused
 failures :
-    (story : LoadedStory) (o : Obstacle)
-    → (IsFaulty story (NotFound o) → IsFailure story (NotFound o)) × (IsListable story → IsTried story o → IsFailure story (NotFound o)) × (IsFailure story (NotFound o) → IsFaulty story (NotFound o) ⊎ IsListable story)
-    × (IsFailure story RoundLimit → IsListable story) × IsFailure story OutOfMemory
-failures story o = (inl, (λ listable tried. inr (listable, tried)), by_case, (λ failure. failure), tt)
+    {V : Type 0} (s : SetOperations V) (story : LoadedStory) (o : Obstacle)
+    → (IsFaulty story (NotFound o) → IsFailureOf s story (NotFound o)) × (IsListable story → IsTried s story o → IsFailureOf s story (NotFound o)) × (IsFailureOf s story (NotFound o) → IsFaulty story (NotFound o) ⊎ IsListable story)
+    × (IsFailureOf s story RoundLimit → IsListable story) × IsFailureOf s story OutOfMemory
+failures s story o = (inl, (λ listable tried. inr (listable, tried)), by_case, (λ failure. failure), tt)
   where
-    by_case : IsFaulty story (NotFound o) ⊎ (IsListable story × IsTried story o) → IsFaulty story (NotFound o) ⊎ IsListable story
+    by_case : IsFaulty story (NotFound o) ⊎ (IsListable story × IsTried s story o) → IsFaulty story (NotFound o) ⊎ IsListable story
     by_case (inl faulty) = inl faulty
     by_case (inr tried) = inr tried.0
+
+-- of what is found none is told for what stands in the way of intervals alone, nor for what stands in that of lists alone; the limit may be that of either
+unfound :
+    (story : LoadedStory) (o : Obstacle)
+    → (IsFailure story (NotFound o) → IsFailureOf values_operations story (NotFound o)) × (IsFailure story (NotFound o) → IsWithoutIntervals story) × ((other : Obstacle) → IsFailureOf interval_operations story (NotFound other) → IsFailureOf values_operations story (NotFound o) → IsFailure story (NotFound o))
+    × (IsFailure story RoundLimit → IsListable story) × IsFailure story OutOfMemory
+unfound story o = ((λ failure. failure.1), (λ failure. failure.0), (λ other intervals lists. ((other, intervals), lists)), (λ failure. failure), tt)
+
+-- one of intervals passes; so does one of lists, which comes only where none of intervals was found
+founds :
+    (story : LoadedStory) (c : Certificate Interval) (l : Certificate Values)
+    → (Passes interval_operations story c → IsFound story (Intervals c)) × (IsFound story (Lists l) → Passes values_operations story l × IsWithoutIntervals story)
+    × (spelling_of (Intervals c) ≡ spelling interval_format c) × (spelling_of (Lists l) ≡ spelling values_format l)
+founds story c l = ((λ passes. passes), (λ found. found), refl, refl)
+
+-- what is at fault with a story that has no listing; no limit is met by that
+unlisted : (story : LoadedStory) (o : Obstacle) → (IsUnlisted story (NotFound o) → IsFaulty story (NotFound o)) × (IsUnlisted story RoundLimit → ⊥) × IsUnlisted story OutOfMemory
+unlisted story o = ((λ faulty. faulty), (λ never. never), tt)
 
 abbrev left : ℕ → ℕ → Allowance
 left v w = record { visits = v; work = w }
@@ -67,10 +97,10 @@ some_left (inr e) = omega (arith, e)
 
 -- a walk has a limit where no visit is left or no work, and what it doesn't find was tried
 walks :
-    (story : LoadedStory) (o : Obstacle)
-    → IsWalkFailure story (left 0 1) RoundLimit × IsWalkFailure story (left 1 0) RoundLimit × (IsWalkFailure story (left 1 1) RoundLimit → ⊥) × (IsWalkFailure story (left 0 0) (NotFound o) → IsTried story o)
-    × IsWalkFailure story (left 1 1) OutOfMemory
-walks story o = (inl refl, inr refl, some_left, (λ failure. failure), tt)
+    {V : Type 0} (s : SetOperations V) (story : LoadedStory) (o : Obstacle)
+    → IsWalkFailure s story (left 0 1) RoundLimit × IsWalkFailure s story (left 1 0) RoundLimit × (IsWalkFailure s story (left 1 1) RoundLimit → ⊥) × (IsWalkFailure s story (left 0 0) (NotFound o) → IsTried s story o)
+    × IsWalkFailure s story (left 1 1) OutOfMemory
+walks s story o = (inl refl, inr refl, some_left, (λ failure. failure), tt)
 
 stopped : (o : Obstacle) → IsStopped (left 0 1) RoundLimit × IsStopped (left 1 0) RoundLimit × (IsStopped (left 1 1) RoundLimit → ⊥) × (IsStopped (left 0 0) (NotFound o) → ⊥) × IsStopped (left 1 1) OutOfMemory
 stopped o = (inl refl, inr refl, some_left, (λ never. never), tt)
@@ -79,10 +109,14 @@ stopped o = (inl refl, inr refl, some_left, (λ never. never), tt)
 less : IsLess (left 3 5) (left 3 5) × IsLess (left 2 4) (left 3 5) × (IsLess (left 4 5) (left 3 5) → ⊥) × (IsLess (left 3 6) (left 3 5) → ⊥)
 less = (record { visits = omega (arith); work = omega (arith) }, record { visits = omega (arith); work = omega (arith) }, (λ it. omega (arith, it.visits)), (λ it. omega (arith, it.work)))
 
+-- no certificate of either kind passes
+none : (story : LoadedStory) → HasNone story → HasNoneOf interval_operations story × HasNoneOf values_operations story
+none story has_none = has_none
+
 -- what stands where play begins, or what a certificate was tried with; nothing, where nothing was found or what is at fault is elsewhere
 tells :
     (story : LoadedStory) (o : Obstacle)
-    → (IsFaulty story (NotFound o) → IsAtStart story o → HasNone story → IsTold story (Some o)) × (IsListable story → IsTried story o → IsTold story (Some o)) × (IsListable story → IsBrokenAt story o → IsTold story (Some o))
+    → (IsFaulty story (NotFound o) → IsAtStart story o → HasNone story → IsTold story (Some o)) × (IsListable story → IsTried values_operations story o → IsTold story (Some o)) × (IsListable story → IsBrokenAt story o → IsTold story (Some o))
     × (IsTold story (Some o) → (IsAtStart story o × HasNone story) ⊎ IsMet story o) × (IsListable story → IsTold story None) × (IsFaultyElsewhere story → IsTold story None)
 tells story o = ((λ faulty start none. inl (faulty, start, none)), (λ listable tried. inr (listable, inl tried)), (λ listable broken. inr (listable, inr broken)), by_case, inl, inr)
   where

@@ -7,8 +7,10 @@ use Rattle.zlist.specs.declared.list_error.ListError.{ListError}
 use Rattle.zlist.specs.declared.list_error.ListError.TheVariants as faults
 use Rattle.zlist.specs.Listing.{ListedCode}
 use Rattle.zlist.specs.Listed.{IsLowestFault, Lists}
-use Rattle.zdomain.specs.declared.interval.Interval.{Interval}
+use Rattle.zdomain.specs.Domain.{SetOperations}
 use Rattle.zdomain.specs.Interval.{interval_operations}
+use Rattle.zdomain.specs.declared.values.Values.{Values}
+use Rattle.zdomain.specs.Values.{values_operations}
 use Rattle.zcert.specs.Certificate.{Certificate}
 use Rattle.zrule.specs.declared.rule.Rule.{Rule}
 use Rattle.zrule.specs.declared.rule.Rule.TheVariants.{Decodes, Successor, Returned, Stored}
@@ -73,21 +75,29 @@ module _ (story : LoadedStory) where
     pub listing : ListedCode
     pub lists : Lists story listing
 
+  -- why a story has no listing: what is at fault, or want of memory
+  abbrev pub IsUnlisted : FindError → Type 0
+  IsUnlisted (NotFound obstacle) = IsFaulty (NotFound obstacle)
+  IsUnlisted RoundLimit = ⊥
+  IsUnlisted OutOfMemory = ⊤
+
+-- of certificates with a kind of sets
+module _ {V : Type 0} (o : SetOperations V) (story : LoadedStory) where
   -- this is wrong first with a certificate
-  pub record IsWrongWith (certificate : Certificate Interval) (obstacle : Obstacle) : Type 0 where
+  pub record IsWrongWith (certificate : Certificate V) (obstacle : Obstacle) : Type 0 where
     pub refusal : Refusal
-    pub cause : IsCause interval_operations story certificate refusal
+    pub cause : IsCause o story certificate refusal
     pub told : refused_for refusal ≡ NotFound obstacle
 
   -- a certificate was tried, and this is wrong with it first
   abbrev pub IsTried : Obstacle → Type 0
-  IsTried obstacle = (certificate : Certificate Interval) × IsWrongWith certificate obstacle
+  IsTried obstacle = (certificate : Certificate V) × IsWrongWith certificate obstacle
 
-  -- Why no certificate is found: a story that lists something at fault is refused for that, and for nothing else but want of memory.
-  abbrev pub IsFailure : FindError → Type 0
-  IsFailure (NotFound obstacle) = IsFaulty (NotFound obstacle) ⊎ (IsListable × IsTried obstacle)
-  IsFailure RoundLimit = IsListable
-  IsFailure OutOfMemory = ⊤
+  -- Why none is found: a story that lists something at fault is refused for that, and for nothing else but want of memory.
+  abbrev pub IsFailureOf : FindError → Type 0
+  IsFailureOf (NotFound obstacle) = IsFaulty story (NotFound obstacle) ⊎ (IsListable story × IsTried obstacle)
+  IsFailureOf RoundLimit = IsListable story
+  IsFailureOf OutOfMemory = ⊤
 
   -- why none is found of a story that lists nothing at fault, where so much may be done yet
   abbrev pub IsWalkFailure : Allowance → FindError → Type 0
@@ -97,40 +107,55 @@ module _ (story : LoadedStory) where
 
   -- At a place that a certificate lists this rule is broken, of those that are the one with the lowest number, and more that is found can't
   -- mend it.
-  pub record IsBrokenIn (certificate : Certificate Interval) (obstacle : Obstacle) : Type 0 where
+  pub record IsBrokenIn (certificate : Certificate V) (obstacle : Obstacle) : Type 0 where
     pub place : ℕ
-    pub entry : Entry Interval
+    pub entry : Entry V
     pub rule : Rule
-    pub listed : (claims_of interval_operations certificate).entry place ≡ Some entry
-    pub lowest : IsLowestBroken interval_operations (claims_of interval_operations certificate) story place entry rule
+    pub listed : (claims_of o certificate).entry place ≡ Some entry
+    pub lowest : IsLowestBroken o (claims_of o certificate) story place entry rule
     pub lasting : IsLasting rule
     pub told : obstacle ≡ obstacles.Place (cast_signed w32 place) rule
 
-  -- a certificate was tried that breaks a rule so
-  abbrev pub IsBrokenAt : Obstacle → Type 0
-  IsBrokenAt obstacle = (certificate : Certificate Interval) × IsBrokenIn certificate obstacle
+  -- none passes
+  abbrev pub HasNoneOf : Type 0
+  HasNoneOf = (certificate : Certificate V) → Passes o story certificate → ⊥
 
-  -- a certificate was tried that this is wrong with
+module _ (story : LoadedStory) where
+  -- none of intervals is found, since something stands in the way
+  abbrev pub IsWithoutIntervals : Type 0
+  IsWithoutIntervals = (obstacle : Obstacle) × IsFailureOf interval_operations story (NotFound obstacle)
+
+  -- Why no certificate is found: one of intervals is tried first, and where something stands in its way one of lists, which says what is told.
+  abbrev pub IsFailure : FindError → Type 0
+  IsFailure (NotFound obstacle) = IsWithoutIntervals × IsFailureOf values_operations story (NotFound obstacle)
+  IsFailure RoundLimit = IsListable story
+  IsFailure OutOfMemory = ⊤
+
+  -- a certificate of lists was tried that breaks a rule so
+  abbrev pub IsBrokenAt : Obstacle → Type 0
+  IsBrokenAt obstacle = (certificate : Certificate Values) × IsBrokenIn values_operations story certificate obstacle
+
+  -- one was tried that this is wrong with
   abbrev pub IsMet : Obstacle → Type 0
-  IsMet obstacle = IsTried obstacle ⊎ IsBrokenAt obstacle
+  IsMet obstacle = IsTried values_operations story obstacle ⊎ IsBrokenAt obstacle
 
   -- no instruction stands where play begins, which each certificate lists
   abbrev pub IsAtStart : Obstacle → Type 0
   IsAtStart obstacle = (obstacle ≡ obstacles.Place (pos (first_instruction story)) Decodes) × IsErr (instruction_at (drop (first_instruction story) story.memory))
 
-  -- no certificate of it passes
+  -- no certificate of it passes, neither of intervals nor of lists
   abbrev pub HasNone : Type 0
-  HasNone = (certificate : Certificate Interval) → Passes interval_operations story certificate → ⊥
+  HasNone = HasNoneOf interval_operations story × HasNoneOf values_operations story
 
   -- What stands in the way of certificates: that none can list where play begins, and so none passes, and else what one was tried with.
   abbrev pub IsObstacleOf : Obstacle → Type 0
-  IsObstacleOf obstacle = (IsFaulty (NotFound obstacle) × IsAtStart obstacle × HasNone) ⊎ (IsListable × IsMet obstacle)
+  IsObstacleOf obstacle = (IsFaulty story (NotFound obstacle) × IsAtStart obstacle × HasNone) ⊎ (IsListable story × IsMet obstacle)
 
   -- the story lists something at fault that a certificate may leave out, since its sets may say that play never comes there
   abbrev pub IsFaultyElsewhere : Type 0
-  IsFaultyElsewhere = (fault : Obstacle) × IsFaulty (NotFound fault) × (IsAtStart fault → ⊥)
+  IsFaultyElsewhere = (fault : Obstacle) × IsFaulty story (NotFound fault) × (IsAtStart fault → ⊥)
 
   -- what is told to stand in the way; nothing only where nothing was found, or where that is listed at fault elsewhere
   abbrev pub IsTold : Option Obstacle → Type 0
   IsTold (Some obstacle) = IsObstacleOf obstacle
-  IsTold None = IsListable ⊎ IsFaultyElsewhere
+  IsTold None = IsListable story ⊎ IsFaultyElsewhere

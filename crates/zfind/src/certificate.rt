@@ -5,12 +5,13 @@ ghost use Rattle.zfind.specs.declared.error.FindError.TheVariants.{OutOfMemory};
 
 use crate::code::Code;
 use crate::error::FindError;
+use crate::kind::Kind;
 use crate::walk::Walk;
 use std::alloc::Global;
-use zcert::{CertBuilder, CertError, Certificate, Field, Spelled};
+use zcert::{CertBuilder, CertError, Certificate, Field};
 
 /// The certificate that says what a walk found.
-pub(crate) fn certificate_of<V: Spelled>(
+pub(crate) fn certificate_of<V: Kind>(
     alloc: Global,
     code: &Code<'_>,
     walk: &mut Walk<'_, V>,
@@ -22,15 +23,12 @@ pub(crate) fn certificate_of<V: Spelled>(
     take_ranges(alloc, &mut builder, walk)?;
     take_globals(&mut builder, walk)?;
     let numbers = take_routines(alloc, &mut builder, code, walk)?;
-    take_instructions(&mut builder, code, walk, &numbers)?;
+    take_instructions(alloc, &mut builder, code, walk, &numbers)?;
     Ok(builder.finish()?)
 }
 
 /// The story that it speaks of.
-fn take_identity<V: Spelled>(
-    builder: &mut CertBuilder<V>,
-    code: &Code<'_>,
-) -> Result<(), CertError> {
+fn take_identity<V: Kind>(builder: &mut CertBuilder<V>, code: &Code<'_>) -> Result<(), CertError> {
     let identity = code.story.identity();
     builder.take(Field::Release(identity.release))?;
     builder.take(Field::Serial(identity.serial))?;
@@ -39,7 +37,7 @@ fn take_identity<V: Spelled>(
 }
 
 /// The ranges of frozen bytes.
-fn take_ranges<V: Spelled>(
+fn take_ranges<V: Kind>(
     alloc: Global,
     builder: &mut CertBuilder<V>,
     walk: &mut Walk<'_, V>,
@@ -54,7 +52,7 @@ fn take_ranges<V: Spelled>(
 }
 
 /// The values of the globals.
-fn take_globals<V: Spelled>(
+fn take_globals<V: Kind>(
     builder: &mut CertBuilder<V>,
     walk: &Walk<'_, V>,
 ) -> Result<(), CertError> {
@@ -65,7 +63,7 @@ fn take_globals<V: Spelled>(
 }
 
 /// The routines that were entered. Answers the number of each among them.
-fn take_routines<V: Spelled>(
+fn take_routines<V: Kind>(
     alloc: Global,
     builder: &mut CertBuilder<V>,
     code: &Code<'_>,
@@ -84,7 +82,7 @@ fn take_routines<V: Spelled>(
 }
 
 /// How many routines were entered up to each, by their numbers in the listing.
-fn entered_numbers<V: Spelled>(
+fn entered_numbers<V: Kind>(
     alloc: Global,
     code: &Code<'_>,
     walk: &Walk<'_, V>,
@@ -101,7 +99,7 @@ fn entered_numbers<V: Spelled>(
 }
 
 /// What is said of a routine. One that gives nothing is said to give 0.
-fn take_routine<V: Spelled>(
+fn take_routine<V: Kind>(
     builder: &mut CertBuilder<V>,
     code: &Code<'_>,
     walk: &Walk<'_, V>,
@@ -118,7 +116,8 @@ fn take_routine<V: Spelled>(
 }
 
 /// The instructions that were reached.
-fn take_instructions<V: Spelled>(
+fn take_instructions<V: Kind>(
+    alloc: Global,
     builder: &mut CertBuilder<V>,
     code: &Code<'_>,
     walk: &Walk<'_, V>,
@@ -127,14 +126,14 @@ fn take_instructions<V: Spelled>(
     builder.take(Field::InstructionCount(reached_count(code, walk)))?;
     for (index, record) in code.records().iter().enumerate() {
         if walk.state.is_reached(index) {
-            take_instruction(builder, walk, index, record.address, numbers)?;
+            take_instruction(alloc, builder, walk, index, record.address, numbers)?;
         }
     }
     Ok(())
 }
 
 /// How many were reached.
-fn reached_count<V: Spelled>(code: &Code<'_>, walk: &Walk<'_, V>) -> u32 {
+fn reached_count<V: Kind>(code: &Code<'_>, walk: &Walk<'_, V>) -> u32 {
     let mut count = 0u32;
     for index in 0..code.records().len() {
         if walk.state.is_reached(index) {
@@ -145,14 +144,15 @@ fn reached_count<V: Spelled>(code: &Code<'_>, walk: &Walk<'_, V>) -> u32 {
 }
 
 /// What is said of an instruction.
-fn take_instruction<V: Spelled>(
+fn take_instruction<V: Kind>(
+    alloc: Global,
     builder: &mut CertBuilder<V>,
     walk: &Walk<'_, V>,
     index: usize,
     address: u32,
     numbers: &[u16],
 ) -> Result<(), CertError> {
-    let Some((locals, slots)) = walk.state.sets_at(index) else {
+    let Some(frame) = walk.state.frame_at(alloc, index)? else {
         return Ok(());
     };
     let routine = numbers
@@ -161,13 +161,12 @@ fn take_instruction<V: Spelled>(
         .unwrap_or(0);
     builder.take(Field::InstructionAddress(address))?;
     builder.take(Field::RoutineNumber(routine))?;
-    builder.take(Field::Height(slots.len().min(64) as u8))?;
-    take_values(builder, locals)?;
-    take_values(builder, slots)
+    builder.take(Field::Height(frame.height().min(64) as u8))?;
+    take_values(builder, frame.sets())
 }
 
-/// The values of locals or slots.
-fn take_values<V: Spelled>(builder: &mut CertBuilder<V>, sets: &[V]) -> Result<(), CertError> {
+/// The values of locals, and behind them those of slots.
+fn take_values<V: Kind>(builder: &mut CertBuilder<V>, sets: &[V]) -> Result<(), CertError> {
     for set in sets {
         builder.take(Field::Value(*set))?;
     }

@@ -1,7 +1,9 @@
 //! What an instruction does to what is known.
 
-use crate::code::Code;
+use crate::code::{Code, short};
 use crate::frame::{Frame, MOST_HEIGHT};
+use crate::kind::Kind;
+use crate::span::span;
 use crate::state::State;
 use std::alloc::{AllocError, Global};
 use zdomain::Domain;
@@ -34,37 +36,57 @@ pub(crate) struct Effect<V> {
     pub(crate) calls: Option<Calls<V>>,
 }
 
-/// A call of each routine at a packed address of a set, with its arguments.
+/// A call of each routine at a packed address of a set, with its arguments. The sets may be those that are kept.
 #[derive(Clone, Copy)]
-pub(crate) struct Calls<V> {
-    pub(crate) callees: V,
+pub(crate) struct Calls<S> {
+    pub(crate) callees: S,
     /// Whether they are listed.
     pub(crate) naming: Naming,
-    first: Option<V>,
-    second: Option<V>,
-    third: Option<V>,
+    first: Option<S>,
+    second: Option<S>,
+    third: Option<S>,
     /// What comes back, as far as is known.
-    given: Option<V>,
+    given: Option<S>,
     /// How often results had grown when that was asked.
     growths: u32,
     /// How many routines were asked for it.
     pub(crate) asked: u32,
 }
 
-impl<V: Domain> Calls<V> {
-    /// How many packed addresses lie from the least to the greatest.
-    pub(crate) fn span(&self) -> u32 {
-        let least = i32::from(self.callees.lowest().cast_signed());
-        let greatest = i32::from(self.callees.highest().cast_signed());
-        greatest
-            .saturating_sub(least)
-            .unsigned_abs()
-            .saturating_add(1)
-    }
-
+impl<S> Calls<S> {
     /// Whether it is known of anything that it comes back.
     pub(crate) fn comes_back(&self) -> bool {
         self.given.is_some()
+    }
+}
+
+impl<V: Kind> Calls<V> {
+    /// Keeps its sets.
+    pub(crate) fn keep(self, shelf: &mut V::Shelf) -> Result<Calls<V::Kept>, AllocError> {
+        Ok(Calls {
+            callees: self.callees.shelve(shelf)?,
+            naming: self.naming,
+            first: keep_any(self.first, shelf)?,
+            second: keep_any(self.second, shelf)?,
+            third: keep_any(self.third, shelf)?,
+            given: keep_any(self.given, shelf)?,
+            growths: self.growths,
+            asked: self.asked,
+        })
+    }
+
+    /// The call whose sets are kept so.
+    pub(crate) fn kept(calls: &Calls<V::Kept>, shelf: &V::Shelf) -> Calls<V> {
+        Calls {
+            callees: V::kept(calls.callees, shelf),
+            naming: calls.naming,
+            first: kept_any(calls.first, shelf),
+            second: kept_any(calls.second, shelf),
+            third: kept_any(calls.third, shelf),
+            given: kept_any(calls.given, shelf),
+            growths: calls.growths,
+            asked: calls.asked,
+        }
     }
 
     /// Whether what comes back of these routines is known by this call, where results have grown so often.
@@ -102,7 +124,7 @@ impl<V: Domain> Calls<V> {
 
 /// An instruction, with what is known where it is visited.
 #[derive(Clone, Copy)]
-pub(crate) struct Visit<'a, V> {
+pub(crate) struct Visit<'a, V: Kind> {
     pub(crate) alloc: Global,
     pub(crate) code: &'a Code<'a>,
     pub(crate) state: &'a State<V>,
@@ -113,7 +135,7 @@ pub(crate) struct Visit<'a, V> {
     pub(crate) before: Option<&'a Calls<V>>,
 }
 
-impl<'a, V: Domain> Visit<'a, V> {
+impl<'a, V: Kind> Visit<'a, V> {
     /// What may come of the instruction.
     pub(crate) fn flow(self, tables: &Tables<'_>) -> Flow<'a, V> {
         flow_of(
@@ -243,6 +265,27 @@ impl<'a, V: Domain> Visit<'a, V> {
     }
 }
 
+/// How many routines a set of packed addresses names.
+pub(crate) fn callee_count<V: Kind>(callees: V) -> u32 {
+    match callees.told() {
+        0 => span(callees),
+        told => short(told),
+    }
+}
+
+/// Keeps a set, if there is one.
+fn keep_any<V: Kind>(set: Option<V>, shelf: &mut V::Shelf) -> Result<Option<V::Kept>, AllocError> {
+    match set {
+        Some(set) => Ok(Some(set.shelve(shelf)?)),
+        None => Ok(None),
+    }
+}
+
+/// The set that is kept so, if there is one.
+fn kept_any<V: Kind>(kept: Option<V::Kept>, shelf: &V::Shelf) -> Option<V> {
+    Some(V::kept(kept?, shelf))
+}
+
 /// What is stored in place, if that is to a global.
 fn assigned_global<V: Domain>(assigns: Option<(u8, V)>) -> Option<(u8, V)> {
     match assigns {
@@ -283,7 +326,7 @@ pub(crate) fn naming_of<V: Domain>(code: &Code<'_>, callees: V) -> Naming {
 
 /// What the routines at the packed addresses of a set give, as far as is known: anything, where one of them is none, and nothing yet,
 /// where they are still to be listed. And how many were asked.
-fn given_by<V: Domain>(code: &Code<'_>, state: &State<V>, callees: V) -> (Option<V>, u32) {
+fn given_by<V: Kind>(code: &Code<'_>, state: &State<V>, callees: V) -> (Option<V>, u32) {
     match naming_of(code, callees) {
         Naming::Listed => returned_by(code, state, callees),
         Naming::Listable if code.waits() => (None, 0),
@@ -292,7 +335,7 @@ fn given_by<V: Domain>(code: &Code<'_>, state: &State<V>, callees: V) -> (Option
 }
 
 /// What those routines gave so far, and how many there are.
-fn returned_by<V: Domain>(code: &Code<'_>, state: &State<V>, callees: V) -> (Option<V>, u32) {
+fn returned_by<V: Kind>(code: &Code<'_>, state: &State<V>, callees: V) -> (Option<V>, u32) {
     let mut given = None;
     let mut asked = 0u32;
     let mut callee = callees.least_from(1);
@@ -310,7 +353,7 @@ fn returned_by<V: Domain>(code: &Code<'_>, state: &State<V>, callees: V) -> (Opt
 }
 
 /// Whether nothing is known that one of those routines gives.
-pub(crate) fn is_awaited<V: Domain>(code: &Code<'_>, state: &State<V>, callees: V) -> bool {
+pub(crate) fn is_awaited<V: Kind>(code: &Code<'_>, state: &State<V>, callees: V) -> bool {
     let mut callee = callees.least_from(1);
     for _ in 0..WORDS {
         let Some(packed) = callee else {
@@ -358,6 +401,7 @@ fn with_more<V: Domain>(outcome: Outcome<V>, more: Option<V>) -> Outcome<V> {
 /// The words of either, where there are some.
 fn joined<V: Domain>(one: Option<V>, other: Option<V>) -> Option<V> {
     match (one, other) {
+        (Some(one), Some(other)) if other.is_within(one) => Some(one),
         (Some(one), Some(other)) => Some(one.join(other)),
         (Some(set), None) | (None, Some(set)) => Some(set),
         (None, None) => None,

@@ -1,26 +1,28 @@
 //! Certificates found.
 
-ghost use Rattle.std.specs.Prelude.{◌≡◌, IfErr, IfOk, Err};
-ghost use Rattle.zdomain.specs.Interval.{interval_operations};
+ghost use Rattle.std.specs.Prelude.{◌≡◌, IfErr, IfOk};
 ghost use Rattle.zlist.specs.Listed.{Lists};
 ghost use Rattle.zcheck.specs.Passes.{Passes};
 ghost use Rattle.zfind.specs.Attempts.{IsAttempt, IsRound, IsSearch, IsSearchWrong};
-ghost use Rattle.zfind.specs.Finding.{IsFailure, IsLess, IsStopped, IsWalkFailure, IsWrongWith};
-ghost use Rattle.zfind.specs.declared.error.FindError.TheVariants.{NotFound, RoundLimit};
+ghost use Rattle.zfind.specs.Finding.{IsFailure, IsFailureOf, IsUnlisted, IsLess, IsStopped, IsWalkFailure, IsWrongWith};
+ghost use Rattle.zfind.specs.Found.{IsFound};
+ghost use Rattle.zfind.specs.declared.error.FindError.TheVariants.{NotFound};
 ghost use Rattle.zfind.specs.declared.error.Obstacle.{Obstacle as AnObstacle};
 
 use crate::certificate::certificate_of;
 use crate::code::Code;
 use crate::error::FindError;
 use crate::extending::{cost_of_listing, extended};
+use crate::found::Found;
+use crate::kind::Kind;
 use crate::settling::settled;
 use crate::state::Plan;
-use crate::visits::{Allowance, MOST_VISITS, MOST_WORK, count_work};
+use crate::visits::{Allowance, MOST_LIST_WORK, MOST_VISITS, MOST_WORK, count_work};
 use crate::walk::Walk;
 use std::alloc::Global;
 use zcert::Certificate;
 use zcheck::examine;
-use zdomain::{Domain, Interval};
+use zdomain::{Interval, Values};
 use zlist::{Listing, list_story};
 use zstory::Story;
 
@@ -36,31 +38,31 @@ pub(crate) const MOST_EXTENSIONS: usize = 16;
 /// What a routine is said to give that never returns, where that it gives 0 leads to no certificate: the callers may bear one of these.
 const OTHERS_GIVEN: [u16; 2] = [1, 16];
 
-/// What comes of a walk.
+/// What comes of a walk, by what it makes and how the next one goes.
 #[derive(Drop)]
-enum Attempt {
+enum Attempt<C, P> {
     /// Its certificate passes.
-    Passed(Certificate),
+    Passed(C),
     /// It doesn't, and this is how the next one goes.
-    Failed(Plan<Interval>),
+    Failed(P),
     /// It doesn't, and more is to be listed first.
     Wanting(Failure),
 }
 
 /// What comes of the walks over what is listed.
 #[derive(Drop)]
-enum Search {
+enum Search<C> {
     /// A certificate passes.
-    Passed(Certificate),
+    Passed(C),
     /// None does.
     Failed(Failure),
 }
 
 /// What comes of the walks over a listing.
 #[derive(Drop)]
-enum Round {
+enum Round<C> {
     /// A certificate passes.
-    Passed(Certificate),
+    Passed(C),
     /// None does, for this.
     Failed(FindError),
     /// None does, and this is listed next.
@@ -78,29 +80,43 @@ struct Failure {
     has_ended: bool,
 }
 
-/// A certificate that passes for a story, if one is found (own).
+/// A certificate that passes for a story, if one is found (own): of intervals, and where the walks with these end with G1, of lists.
 ///
 /// Nothing is promised of whether one is found: a story that has a certificate may be refused. One that lists something at fault is
 /// refused for that (G1): no certificate was found, and what stood in its way is told; it is the lister's fault, or what the checker says
-/// first of a certificate that was tried. G2 comes where the 4,000,001st instruction would be visited, or more work done than `MOST_WORK`,
-/// before a first round of walks is done, G3 where memory was refused.
-pub fn find(alloc: Global, story: &Story) -> Result<Certificate, FindError>
-    ensures passes { IfOk result (Passes interval_operations story.now) }
+/// first of a certificate with lists that was tried. G2 comes where the 4,000,001st instruction would be visited, or more work done than
+/// `MOST_WORK`, before a first round of walks is done; the walks with lists have counts of their own. G3 comes where memory was refused.
+#[tactic(auto, using(crate::proofs::Failures::of_lists))]
+pub fn find(alloc: Global, story: &Story) -> Result<Found, FindError>
+    ensures passes { IfOk result (IsFound story.now) }
     ensures failed { IfErr result (IsFailure story.now) }
 {
-    let mut left = Allowance {
+    match listed::<Interval>(alloc, story, &mut allowed(MOST_WORK)) {
+        Ok(certificate) => Ok(Found::Intervals(certificate)),
+        Err(FindError::NotFound(_)) => {
+            match listed::<Values>(alloc, story, &mut allowed(MOST_LIST_WORK)) {
+                Ok(certificate) => Ok(Found::Lists(certificate)),
+                Err(error) => Err(error),
+            }
+        }
+        Err(FindError::RoundLimit) => Err(FindError::RoundLimit),
+        Err(FindError::OutOfMemory) => Err(FindError::OutOfMemory),
+    }
+}
+
+/// What the walks with a kind of sets may do.
+fn allowed(work: u32) -> Allowance {
+    Allowance {
         visits: MOST_VISITS,
-        work: MOST_WORK,
-    };
-    listed(alloc, story, &mut left)
+        work,
+    }
 }
 
 /// The listing of a story, or what is at fault with it.
-#[tactic(auto, using(crate::proofs::Failures::told, crate::proofs::Failures::not_limit))]
+#[tactic(auto, using(crate::proofs::Failures::told))]
 pub(crate) fn listing_of(alloc: Global, story: &Story) -> Result<Listing, FindError>
     ensures lists { IfOk result (Lists story.now) }
-    ensures failed { IfErr result (IsFailure story.now) }
-    ensures plain { result ≡ Err RoundLimit → ⊥ }
+    ensures failed { IfErr result (IsUnlisted story.now) }
 {
     match list_story(alloc, story) {
         Ok(listing) => Ok(listing),
@@ -109,10 +125,14 @@ pub(crate) fn listing_of(alloc: Global, story: &Story) -> Result<Listing, FindEr
 }
 
 /// A certificate of a story, if it has a listing. So many visits are left.
-#[tactic(auto, using(crate::proofs::Failures::of_walk))]
-fn listed(alloc: Global, story: &Story, left: &mut Allowance) -> Result<Certificate, FindError>
-    ensures passes { IfOk result (Passes interval_operations story.now) }
-    ensures failed { IfErr result (IsFailure story.now) }
+#[tactic(auto, using(crate::proofs::Failures::of_listing, crate::proofs::Failures::of_walk))]
+fn listed<V: Kind>(
+    alloc: Global,
+    story: &Story,
+    left: &mut Allowance,
+) -> Result<Certificate<V>, FindError>
+    ensures passes { IfOk result (Passes V.operations story.now) }
+    ensures failed { IfErr result (IsFailureOf V.operations story.now) }
     ensures less { IsLess left.new left.old }
 {
     let listing = listing_of(alloc, story)?;
@@ -120,14 +140,14 @@ fn listed(alloc: Global, story: &Story, left: &mut Allowance) -> Result<Certific
 }
 
 /// A certificate over what is listed and, where routines are called through variables alone, over these too.
-fn searched(
+fn searched<V: Kind>(
     alloc: Global,
     story: &Story,
     first: Listing,
     left: &mut Allowance,
-) -> Result<Certificate, FindError>
-    ensures passes { IfOk result (Passes interval_operations story.now) }
-    ensures failed { IfErr result (IsWalkFailure story.now left.new) }
+) -> Result<Certificate<V>, FindError>
+    ensures passes { IfOk result (Passes V.operations story.now) }
+    ensures failed { IfErr result (IsWalkFailure V.operations story.now left.new) }
     ensures less { IsLess left.new left.old }
 {
     let mut listing = first;
@@ -143,14 +163,14 @@ fn searched(
 
 /// What comes of the walks over a listing, which wait for routines that aren't listed.
 #[tactic(auto, using(crate::proofs::Failures::walk_failure, crate::proofs::Failures::of_stopped))]
-fn search_of(
+fn search_of<V: Kind>(
     alloc: Global,
     story: &Story,
     listing: &Listing,
     left: &mut Allowance,
-) -> Result<Round, FindError>
-    ensures round { IfOk result (IsRound story.now left.new) }
-    ensures failed { IfErr result (IsWalkFailure story.now left.new) }
+) -> Result<Round<Certificate<V>>, FindError>
+    ensures round { IfOk result (IsRound V.operations story.now left.new) }
+    ensures failed { IfErr result (IsWalkFailure V.operations story.now left.new) }
     ensures less { IsLess left.new left.old }
 {
     let code = Code::new(alloc, story, listing)?.waiting();
@@ -183,14 +203,14 @@ pub(crate) fn wider(
 
 /// The certificate of the walks over a listing, in which routines that aren't listed may give anything.
 #[tactic(auto, using(crate::proofs::Failures::walk_failure, crate::proofs::Failures::of_stopped))]
-fn last_search(
+fn last_search<V: Kind>(
     alloc: Global,
     story: &Story,
     listing: &Listing,
     left: &mut Allowance,
-) -> Result<Certificate, FindError>
-    ensures passes { IfOk result (Passes interval_operations story.now) }
-    ensures failed { IfErr result (IsWalkFailure story.now left.new) }
+) -> Result<Certificate<V>, FindError>
+    ensures passes { IfOk result (Passes V.operations story.now) }
+    ensures failed { IfErr result (IsWalkFailure V.operations story.now left.new) }
     ensures less { IsLess left.new left.old }
 {
     let code = Code::new(alloc, story, listing)?;
@@ -202,13 +222,13 @@ fn last_search(
 
 /// What comes of walks in which routines that never return are said to give 0, and of those that say otherwise, where the first don't find
 /// a certificate. What stood in the way is that of the first.
-fn walked_by_each(
+fn walked_by_each<V: Kind>(
     alloc: Global,
     story: &Story,
     code: &Code<'_>,
     left: &mut Allowance,
-) -> Result<Search, FindError>
-    ensures search { IfOk result (IsSearch story.now) }
+) -> Result<Search<Certificate<V>>, FindError>
+    ensures search { IfOk result (IsSearch V.operations story.now) }
     ensures less { IsLess left.new left.old }
     ensures stopped { IfErr result (IsStopped left.new) }
 {
@@ -230,18 +250,18 @@ fn walked_by_each(
 
 /// What comes of several walks, of which each is kept from widening beyond what the one before left. A routine that never returns is said to
 /// give this word.
-fn walked(
+fn walked<V: Kind>(
     alloc: Global,
     story: &Story,
     code: &Code<'_>,
     given: u16,
     left: &mut Allowance,
-) -> Result<Search, FindError>
-    ensures search { IfOk result (IsSearch story.now) }
+) -> Result<Search<Certificate<V>>, FindError>
+    ensures search { IfOk result (IsSearch V.operations story.now) }
     ensures less { IsLess left.new left.old }
     ensures stopped { IfErr result (IsStopped left.new) }
 {
-    let mut plan = Plan::widening(code.thresholds(alloc)?, Interval::single(given));
+    let mut plan = Plan::widening(code.thresholds(alloc)?, V::single(given));
     for delay in DELAYS {
         if plan.is_settled && plan.delay == delay {
             continue;
@@ -263,9 +283,13 @@ fn walked(
 
 /// The certificate of the last walk, if it passes.
 #[tactic(auto, using(crate::proofs::Failures::met_by))]
-fn last_tried(story: &Story, walk: Walk<'_, Interval>, certificate: Certificate) -> Search
-    ensures search { IsSearch story.now result }
-    ensures wrong { IsSearchWrong story.now certificate result }
+fn last_tried<V: Kind>(
+    story: &Story,
+    walk: Walk<'_, V>,
+    certificate: Certificate<V>,
+) -> Search<Certificate<V>>
+    ensures search { IsSearch V.operations story.now result }
+    ensures wrong { IsSearchWrong V.operations story.now certificate result }
 {
     match tried(story, certificate) {
         Ok(certificate) => Search::Passed(certificate),
@@ -274,7 +298,7 @@ fn last_tried(story: &Story, walk: Walk<'_, Interval>, certificate: Certificate)
 }
 
 /// Why a walk's certificate doesn't pass.
-fn failure_of(walk: Walk<'_, Interval>, error: FindError) -> Failure
+fn failure_of<V: Kind>(walk: Walk<'_, V>, error: FindError) -> Failure
     ensures { result.error ≡ error }
 {
     Failure {
@@ -286,14 +310,14 @@ fn failure_of(walk: Walk<'_, Interval>, error: FindError) -> Failure
 
 /// A walk, and whether its certificate passes.
 #[tactic(auto, using(crate::proofs::Failures::met_by))]
-fn make_attempt(
+fn make_attempt<V: Kind>(
     alloc: Global,
     story: &Story,
     code: &Code<'_>,
-    plan: Plan<Interval>,
+    plan: Plan<V>,
     left: &mut Allowance,
-) -> Result<Attempt, FindError>
-    ensures passes { IfOk result (IsAttempt story.now) }
+) -> Result<Attempt<Certificate<V>, Plan<V>>, FindError>
+    ensures passes { IfOk result (IsAttempt V.operations story.now) }
     ensures less { IsLess left.new left.old }
     ensures stopped { IfErr result (IsStopped left.new) }
 {
@@ -318,9 +342,12 @@ fn make_attempt(
 
 /// A certificate, if it passes, and else what is wrong with it first. A function of its own, since a check's tables lie on the stack.
 #[inline(never)]
-pub(crate) fn tried(story: &Story, certificate: Certificate) -> Result<Certificate, FindError>
-    ensures passes { IfOk result (λ passed. (passed ≡ certificate) × Passes interval_operations story.now certificate) }
-    ensures failed { IfErr result (λ error. (obstacle : AnObstacle) × (error ≡ NotFound obstacle) × IsWrongWith story.now certificate obstacle) }
+pub(crate) fn tried<V: Kind>(
+    story: &Story,
+    certificate: Certificate<V>,
+) -> Result<Certificate<V>, FindError>
+    ensures passes { IfOk result (λ passed. (passed ≡ certificate) × Passes V.operations story.now certificate) }
+    ensures failed { IfErr result (λ error. (obstacle : AnObstacle) × (error ≡ NotFound obstacle) × IsWrongWith V.operations story.now certificate obstacle) }
 {
     match examine(story, &certificate) {
         None => Ok(certificate),

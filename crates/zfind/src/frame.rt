@@ -23,6 +23,11 @@ impl<V: Domain> Frame<V> {
         }
     }
 
+    /// One of so many locals, with their sets, and behind them those of the slots.
+    pub(crate) fn of(locals: usize, sets: Vec<V>) -> Frame<V> {
+        Frame { locals, sets }
+    }
+
     /// Makes it one of no local and no slot, which keeps its room.
     pub(crate) fn clear(&mut self) {
         self.locals = 0;
@@ -123,8 +128,13 @@ impl<V: Domain> Frame<V> {
     }
 
     /// The sets of the locals.
-    fn locals(&self) -> &[V] {
+    pub(crate) fn locals(&self) -> &[V] {
         self.sets.as_slice().get(..self.locals).unwrap_or(&[])
+    }
+
+    /// The sets of the slots.
+    pub(crate) fn slots(&self) -> &[V] {
+        self.sets.as_slice().get(self.locals..).unwrap_or(&[])
     }
 
     /// How many locals there are.

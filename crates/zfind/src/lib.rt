@@ -1,7 +1,8 @@
 //! The finder of certificates.
 //!
 //! `find` walks over what a story lists, and keeps for each place a set of the values of each local and slot, as it does for each global
-//! and for what each routine gives. What it answers was accepted by the checker.
+//! and for what each routine gives. These are intervals, and where they lead to no certificate lists as well. What it answers was accepted
+//! by the checker.
 #![tactic(auto)]
 
 mod bytes;
@@ -11,9 +12,11 @@ mod effects;
 mod error;
 mod extending;
 mod finding;
+mod found;
 mod frame;
 mod gaps;
 mod groups;
+mod kind;
 mod looking;
 mod obstacles;
 mod opened;
@@ -21,6 +24,8 @@ mod openings;
 mod queue;
 mod recursion;
 mod settling;
+mod shelf;
+mod span;
 mod state;
 mod thresholds;
 mod visits;
@@ -28,5 +33,6 @@ mod walk;
 
 pub use error::{FindError, Obstacle};
 pub use finding::find;
+pub use found::Found;
 pub use obstacles::broken_in_all;
-pub use visits::{MOST_VISITS, MOST_WORK};
+pub use visits::{MOST_LIST_WORK, MOST_VISITS, MOST_WORK};

@@ -3,15 +3,19 @@
 use crate::bytes::Span;
 use crate::code::Code;
 use crate::effects::{Calls, Effect, Effects, Naming, Visit, WORDS, naming_of, next_callee};
+use crate::kind::Kind;
 use crate::opened::Opened;
 use crate::openings::reach_of;
 use crate::state::State;
 use std::alloc::{AllocError, Global};
 use zcode::{Operand, Operation};
 use zdomain::Domain;
-use zflow::{Demands, Lead, first_known};
+use zflow::{Demands, first_known};
 use zlist::Record;
 use zruns::Tables;
+
+/// How many pairs of words are gone over in a step of work.
+const PAIRS_OF_STEP: usize = 4;
 
 /// What is seen of an instruction.
 #[derive(Drop)]
@@ -22,6 +26,8 @@ pub(crate) struct Seen<V> {
     /// Where it looks for values.
     pub(crate) reach: Option<Span>,
     pub(crate) demands: Demands<V>,
+    /// How much work it is to go over each two words of its first two operands, where both tell their words.
+    pub(crate) work: usize,
 }
 
 /// What is known of bytes: what tables say, and which bytes were opened since they were made.
@@ -32,7 +38,7 @@ pub(crate) struct Known<'a, 'b, 'c> {
 }
 
 /// What is seen of an instruction of an index, where that was reached; and what it called when it was visited last.
-pub(crate) fn look<V: Domain>(
+pub(crate) fn look<V: Kind>(
     alloc: Global,
     code: &Code<'_>,
     known: Known<'_, '_, '_>,
@@ -41,8 +47,17 @@ pub(crate) fn look<V: Domain>(
     index: usize,
     before: Option<&Calls<V>>,
 ) -> Result<Option<Seen<V>>, AllocError> {
-    let Some(visit) = visit_at(alloc, code, state, record, index, before) else {
+    let Some(frame) = state.frame_at(alloc, index)? else {
         return Ok(None);
+    };
+    let visit = Visit {
+        alloc,
+        code,
+        state,
+        record,
+        locals: frame.locals(),
+        slots: frame.slots(),
+        before,
     };
     let flow = visit.flow(known.tables);
     let more = known.opened.more_read(&flow.demands);
@@ -51,45 +66,8 @@ pub(crate) fn look<V: Domain>(
         learned: learned_at(visit),
         reach: reach_of(code, &flow.demands),
         demands: flow.demands,
+        work: work_of_pairs(visit),
     }))
-}
-
-/// An instruction of an index, with what is known there, where that was reached.
-fn visit_at<'a, V: Domain>(
-    alloc: Global,
-    code: &'a Code<'a>,
-    state: &'a State<V>,
-    record: &'a Record,
-    index: usize,
-    before: Option<&'a Calls<V>>,
-) -> Option<Visit<'a, V>> {
-    let (locals, slots) = state.sets_at(index)?;
-    Some(Visit {
-        alloc,
-        code,
-        state,
-        record,
-        locals,
-        slots,
-        before,
-    })
-}
-
-/// The packed addresses of the routines that it calls.
-pub(crate) fn callees_at<V: Domain>(
-    alloc: Global,
-    code: &Code<'_>,
-    tables: &Tables<'_>,
-    state: &State<V>,
-    record: &Record,
-    index: usize,
-    before: Option<&Calls<V>>,
-) -> Option<V> {
-    let visit = visit_at(alloc, code, state, record, index, before)?;
-    match visit.flow(tables).held?.lead {
-        Lead::Entering(callees) => Some(callees),
-        _ => None,
-    }
 }
 
 /// How many routines are followed by what an instruction does, behind the first.
@@ -127,7 +105,7 @@ fn followed<V: Domain>(code: &Code<'_>, callees: V) -> u32 {
 }
 
 /// The words that an instruction compares with what else it compares, where they are known of variables.
-fn learned_at<V: Domain>(visit: Visit<'_, V>) -> [Option<u16>; 2] {
+fn learned_at<V: Kind>(visit: Visit<'_, V>) -> [Option<u16>; 2] {
     let instruction = &visit.record.instruction;
     let inputs = instruction.inputs();
     let [first, second, ..] = inputs.as_slice() else {
@@ -141,7 +119,7 @@ fn learned_at<V: Domain>(visit: Visit<'_, V>) -> [Option<u16>; 2] {
 }
 
 /// The word that a first operand has, if it is a variable of which one is known.
-fn first_word<V: Domain>(visit: Visit<'_, V>, operand: Operand) -> Option<u16> {
+fn first_word<V: Kind>(visit: Visit<'_, V>, operand: Operand) -> Option<u16> {
     match operand {
         Operand::Constant(_) => None,
         Operand::Variable(_) => first_known(
@@ -154,9 +132,37 @@ fn first_word<V: Domain>(visit: Visit<'_, V>, operand: Operand) -> Option<u16> {
 }
 
 /// The word that a second one has.
-fn second_word<V: Domain>(visit: Visit<'_, V>, operand: Operand) -> Option<u16> {
+fn second_word<V: Kind>(visit: Visit<'_, V>, operand: Operand) -> Option<u16> {
     match operand {
         Operand::Constant(_) => None,
         Operand::Variable(_) => visit.argument(0)?.known(),
+    }
+}
+
+/// How many steps of work it is to go over each two words of the first two operands, where both tell their words.
+fn work_of_pairs<V: Kind>(visit: Visit<'_, V>) -> usize {
+    let inputs = visit.record.instruction.inputs();
+    match (inputs.as_slice().first(), visit.argument(0)) {
+        (Some(first), Some(second)) => {
+            first_told(visit, *first).saturating_mul(second.told()) / PAIRS_OF_STEP
+        }
+        _ => 0,
+    }
+}
+
+/// How many words a first operand has, where it tells them.
+fn first_told<V: Kind>(visit: Visit<'_, V>, operand: Operand) -> usize {
+    let place = match operand {
+        Operand::Constant(_) => return 1,
+        Operand::Variable(variable) => usize::from(variable),
+    };
+    let set = match place {
+        0 => visit.slots.last(),
+        1..16 => visit.locals.get(place.saturating_sub(1)),
+        _ => visit.state.globals().get(place.saturating_sub(16)),
+    };
+    match set {
+        Some(set) => (*set).told(),
+        None => 0,
     }
 }

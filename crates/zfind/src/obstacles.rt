@@ -1,9 +1,10 @@
 //! What stands in the way of every certificate.
 
 ghost use Rattle.std.specs.Prelude.{◌≡◌, IfErr, IfOk, IfSome, IsTrue};
+ghost use Rattle.zdomain.specs.Values.{values_operations};
 ghost use Rattle.zfind.specs.Attempts.{IsSight};
-ghost use Rattle.zfind.specs.Finding.{IsAtStart, IsBrokenIn, IsFailure, IsLasting, IsMet, IsTold, IsWrongWith};
-ghost use Rattle.zfind.specs.declared.error.FindError.TheVariants.{OutOfMemory, RoundLimit};
+ghost use Rattle.zfind.specs.Finding.{IsAtStart, IsBrokenIn, IsLasting, IsMet, IsTold, IsUnlisted, IsWrongWith};
+ghost use Rattle.zfind.specs.declared.error.FindError.TheVariants.{OutOfMemory};
 
 use crate::certificate::certificate_of;
 use crate::code::Code;
@@ -12,10 +13,10 @@ use crate::finding::{MOST_EXTENSIONS, listing_of, wider};
 use crate::visits::{Allowance, count_work};
 use crate::walk::Walk;
 use std::alloc::Global;
-use zcert::Certificate;
+use zcert::{Certificate, Spelled};
 use zcheck::examine;
 use zcode::decode;
-use zdomain::Interval;
+use zdomain::Values;
 use zlist::Listing;
 use zrule::{Rule, judge};
 use zruns::{Room, Tables};
@@ -63,8 +64,7 @@ pub fn broken_in_all(alloc: Global, story: &Story) -> Result<Option<Obstacle>, F
 /// What a lister finds at fault, where no certificate can leave it out.
 #[tactic(auto, using(crate::proofs::Telling::told_at_start, crate::proofs::Telling::untold_elsewhere))]
 fn certain_fault(story: &Story, error: FindError) -> Result<Option<Obstacle>, FindError>
-    requires failure { IsFailure story.now error }
-    requires plain { error ≡ RoundLimit → ⊥ }
+    requires { IsUnlisted story.now error }
     ensures told { IfOk result (IsTold story.now) }
     ensures memory { IfErr result (λ error. error ≡ OutOfMemory) }
 {
@@ -148,7 +148,7 @@ fn broken_in_code(
     alloc: Global,
     story: &Story,
     code: &Code<'_>,
-    walk: &mut Walk<'_, Interval>,
+    walk: &mut Walk<'_, Values>,
     left: &mut Allowance,
 ) -> Result<Option<Obstacle>, FindError>
     ensures told { IfOk result (λ obstacle. IfSome obstacle (IsMet story.now)) }
@@ -180,13 +180,13 @@ fn broken_in_code(
 fn obstacle_at_end(
     story: &Story,
     code: &Code<'_>,
-    walk: &Walk<'_, Interval>,
-    certificate: &Certificate,
+    walk: &Walk<'_, Values>,
+    certificate: &Certificate<Values>,
 ) -> Option<Obstacle>
     ensures { IfSome result (IsMet story.now) }
 {
     let first = obstacle_for(story, certificate)?;
-    if is_known_at_end(story, code, walk, certificate, first) {
+    if is_known_at_end(code, walk, first) {
         return Some(first);
     }
     certain_obstacle(story, code, walk, certificate)
@@ -194,8 +194,8 @@ fn obstacle_at_end(
 
 /// What the checker says first of a certificate. A function of its own, since a check's tables lie on the stack.
 #[inline(never)]
-fn obstacle_for(story: &Story, certificate: &Certificate) -> Option<Obstacle>
-    ensures { IfSome result (IsWrongWith story.now certificate.now) }
+fn obstacle_for(story: &Story, certificate: &Certificate<Values>) -> Option<Obstacle>
+    ensures { IfSome result (IsWrongWith values_operations story.now certificate.now) }
 {
     match FindError::from(examine(story, certificate)?) {
         FindError::NotFound(obstacle) => Some(obstacle),
@@ -204,22 +204,12 @@ fn obstacle_for(story: &Story, certificate: &Certificate) -> Option<Obstacle>
 }
 
 /// Whether all is known at the end of a walk that this speaks of: it isn't said of a call of which it is waited for what comes back.
-/// A function of its own, since its tables lie on the stack.
-#[inline(never)]
-fn is_known_at_end(
-    story: &Story,
-    code: &Code<'_>,
-    walk: &Walk<'_, Interval>,
-    certificate: &Certificate,
-    obstacle: Obstacle,
-) -> bool {
+fn is_known_at_end(code: &Code<'_>, walk: &Walk<'_, Values>, obstacle: Obstacle) -> bool {
     let Obstacle::Place(place, _) = obstacle else {
         return true;
     };
-    let mut room = Room::new();
-    let tables = Tables::new(story, certificate.ranges(), &mut room);
     match code.index_behind(0, place) {
-        Some(index) => !walk.awaits_at(&tables, index),
+        Some(index) => !walk.awaits_at(index),
         None => true,
     }
 }
@@ -231,16 +221,17 @@ fn is_known_at_end(
 fn certain_obstacle(
     story: &Story,
     code: &Code<'_>,
-    walk: &Walk<'_, Interval>,
-    certificate: &Certificate,
+    walk: &Walk<'_, Values>,
+    certificate: &Certificate<Values>,
 ) -> Option<Obstacle>
-    ensures { IfSome result (IsBrokenIn story.now certificate.now) }
+    ensures { IfSome result (IsBrokenIn values_operations story.now certificate.now) }
 {
     let mut room = Room::new();
     let tables = Tables::new(story, certificate.ranges(), &mut room);
     let mut ends = TextEnds::new(story.memory());
+    let mut sets = Values::room();
     for index in 0..certificate.instruction_count() {
-        let listed = certificate.instruction(index);
+        let listed = certificate.instruction(index, &mut sets);
         let judged = judge(
             story,
             &tables,
@@ -251,7 +242,7 @@ fn certain_obstacle(
             None,
         );
         if let Err(rule) = judged
-            && is_certain(rule, is_waiting(code, walk, &tables, listed.address))
+            && is_certain(rule, is_waiting(code, walk, listed.address))
         {
             return Some(Obstacle::Place(listed.address.cast_signed(), rule));
         }
@@ -260,14 +251,9 @@ fn certain_obstacle(
 }
 
 /// Whether the instruction at an address is to be visited, or calls a routine that is to be listed yet.
-fn is_waiting(
-    code: &Code<'_>,
-    walk: &Walk<'_, Interval>,
-    tables: &Tables<'_>,
-    address: u32,
-) -> bool {
+fn is_waiting(code: &Code<'_>, walk: &Walk<'_, Values>, address: u32) -> bool {
     match code.index_behind(address as usize, 0) {
-        Some(index) => walk.is_waiting(index) || walk.waits_at(tables, index),
+        Some(index) => walk.is_waiting(index) || walk.waits_at(index),
         None => true,
     }
 }

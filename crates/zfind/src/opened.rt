@@ -184,9 +184,35 @@ impl Opened {
 
     /// Whether a byte of elements is marked.
     fn meets<V: Domain>(&self, elements: Elements<V>) -> bool {
-        let run = Run::of(elements.width, elements.arrays, elements.indices);
-        let first = usize::from(run.first);
-        let end = first.saturating_add(run_length(elements.width, run));
+        let width = elements.width;
+        let run = Run::of(width, elements.arrays, elements.indices);
+        if !self.meets_places(usize::from(run.first), run_length(width, run)) {
+            return false;
+        }
+        match (elements.arrays.few(), elements.indices.few()) {
+            (Some(arrays), Some(indices)) => {
+                self.meets_any(width, arrays.as_slice(), indices.as_slice())
+            }
+            _ => true,
+        }
+    }
+
+    /// Whether a byte of the element at an array and an index of two lists is marked.
+    fn meets_any(&self, width: Width, arrays: &[u16], indices: &[u16]) -> bool {
+        for array in arrays {
+            for index in indices {
+                let first = usize::from(width.place(*array, *index));
+                if self.meets_places(first, usize::from(width.span())) {
+                    return true;
+                }
+            }
+        }
+        false
+    }
+
+    /// Whether one of so many places from one on is marked, of which the first follows the last byte address.
+    fn meets_places(&self, first: usize, count: usize) -> bool {
+        let end = first.saturating_add(count);
         self.meets_piece(first, end.min(PLACES)) || self.meets_piece(0, end.saturating_sub(PLACES))
     }
 

@@ -44,10 +44,28 @@ pub(crate) fn open_written<V: Domain>(
 fn open_elements<V: Domain>(bytes: &mut Bytes, elements: Elements<V>) -> usize {
     let run = Run::of(elements.width, elements.arrays, elements.indices);
     let length = run_length(elements.width, run);
-    match elements.access {
-        Access::Reading => length.min(PLACES / RUN_PIECES),
-        Access::Writing => open_places(bytes, usize::from(run.first), length),
+    if let Access::Reading = elements.access {
+        return length.min(PLACES / RUN_PIECES);
     }
+    match (elements.arrays.few(), elements.indices.few()) {
+        (Some(arrays), Some(indices)) => {
+            open_each(bytes, elements.width, arrays.as_slice(), indices.as_slice())
+        }
+        _ => open_places(bytes, usize::from(run.first), length),
+    }
+}
+
+/// Opens the element at each array and each index of two lists.
+fn open_each(bytes: &mut Bytes, width: Width, arrays: &[u16], indices: &[u16]) -> usize {
+    let mut passed = 0usize;
+    for array in arrays {
+        for index in indices {
+            let first = usize::from(width.place(*array, *index));
+            let length = usize::from(width.span());
+            passed = passed.saturating_add(open_places(bytes, first, length));
+        }
+    }
+    passed
 }
 
 /// How many bytes the elements of a run have.

@@ -5,19 +5,19 @@ ghost use Rattle.zfind.specs.Finding.{IsLess, IsStopped};
 
 use crate::code::Code;
 use crate::error::FindError;
+use crate::kind::Kind;
 use crate::looking::{Known, look};
 use crate::opened::Opened;
 use crate::state::State;
 use crate::visits::{Allowance, count_visit, count_work};
 use crate::walk::Walk;
 use std::alloc::Global;
-use zdomain::Domain;
 use zruns::{Room, Tables};
 
 /// What each place, global and routine is given by all that leads there, where this is known of each place. Where it is less than that,
 /// a set was widened too far. A function of its own, since its tables lie on the stack.
 #[inline(never)]
-pub(crate) fn settled<V: Domain>(
+pub(crate) fn settled<V: Kind>(
     alloc: Global,
     code: &Code<'_>,
     walk: &mut Walk<'_, V>,
@@ -42,7 +42,7 @@ pub(crate) fn settled<V: Domain>(
 }
 
 /// Does what an instruction does by what is known, to what is found anew, if it was reached.
-fn settle<V: Domain>(
+fn settle<V: Kind>(
     alloc: Global,
     code: &Code<'_>,
     known: Known<'_, '_, '_>,
@@ -57,19 +57,12 @@ fn settle<V: Domain>(
     let Some(record) = code.records().get(index) else {
         return Ok(());
     };
-    let Some(seen) = look(
-        alloc,
-        code,
-        known,
-        state,
-        record,
-        index,
-        next.calls_at(index),
-    )?
-    else {
+    let before = next.calls_at(index);
+    let Some(seen) = look(alloc, code, known, state, record, index, before.as_ref())? else {
         return Ok(());
     };
     count_visit(left)?;
+    next.note_pairs(index, seen.work);
     next.apply(index, state.routine_at(index), &seen.effects)?;
     count_work(left, next.take_work())
 }

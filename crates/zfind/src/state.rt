@@ -2,9 +2,9 @@
 
 use crate::code::{Code, short};
 use crate::frame::Frame;
+use crate::kind::Kind;
 use crate::thresholds::Thresholds;
 use std::alloc::{AllocError, Global};
-use zdomain::Domain;
 
 /// How many globals there are, from variable 16 on (Z 6.2).
 const GLOBALS: usize = 240;
@@ -40,28 +40,30 @@ const NO_GROWTHS: Growths = Growths {
     widening: 0,
 };
 
-/// A set of a global or of a routine's result.
+/// A set of a routine's result.
 #[derive(Clone, Copy)]
-struct Cell<V> {
-    set: Option<V>,
+struct Cell<K> {
+    set: Option<K>,
     growths: Growths,
 }
 
 /// What is known: the sets of each place that was reached, of each global, and of what each routine gives.
 #[derive(Drop)]
-pub(crate) struct State<V> {
+pub(crate) struct State<V: Kind> {
     spots: Vec<Spot>,
-    sets: Vec<V>,
+    sets: Vec<V::Kept>,
     globals: Vec<V>,
     global_growths: Vec<Growths>,
-    results: Vec<Cell<V>>,
+    results: Vec<Cell<V::Kept>>,
     /// How often a result has grown.
     result_growths: u32,
+    /// What is kept once of all sets.
+    shelf: V::Shelf,
 }
 
 /// How sets grow.
 #[derive(Drop)]
-pub(crate) struct Plan<V> {
+pub(crate) struct Plan<V: Kind> {
     pub(crate) thresholds: Thresholds,
     /// What nothing has to be widened beyond.
     pub(crate) caps: Option<State<V>>,
@@ -85,12 +87,14 @@ impl Growths {
     }
 
     /// Whether a thing is widened that grows now.
-    fn are_enough<V>(self, may_widen: bool, plan: &Plan<V>) -> bool {
+    fn are_enough<V: Kind>(self, may_widen: bool, plan: &Plan<V>) -> bool {
         plan.widens && (may_widen && self.widening >= plan.delay || self.all >= MOST_GROWTHS)
     }
 }
 
-impl<V: Domain> Plan<V> {
+impl<V: Kind> Plan<V> {
+    ghost use Rattle.std.specs.Prelude.{◌≡◌, ℕ, List, Some, false};
+
     /// Sets are widened to these thresholds, and a routine that never returns is said to give this.
     pub(crate) fn widening(thresholds: Thresholds, unreturned: V) -> Plan<V> {
         Plan {
@@ -115,10 +119,13 @@ impl<V: Domain> Plan<V> {
         }
     }
 
-    /// A set with the words of another, widened or not.
-    fn grown(&self, before: V, more: V, widens: bool, cap: Option<V>) -> V {
+    /// A set with the words of another, widened or not. It isn't where it tells its words one by one: then it grows but as often as it has words.
+    fn grown(&self, before: V, more: V, widens: bool, cap: Option<V>) -> V
+        ensures joined { widens ≡ false → result ≡ V.operations.join before more }
+        ensures told { (words : List ℕ) → V.operations.few (V.operations.join before more) ≡ Some words → result ≡ V.operations.join before more }
+    {
         let joined = before.join(more);
-        if !widens {
+        if !widens || joined.few().is_some() {
             return joined;
         }
         let wide = self.thresholds.widened(before, joined);
@@ -129,7 +136,7 @@ impl<V: Domain> Plan<V> {
     }
 }
 
-impl<V: Domain> State<V> {
+impl<V: Kind> State<V> {
     /// Nothing is reached, and each global has the value that is loaded.
     pub(crate) fn new(alloc: Global, code: &Code<'_>) -> Result<State<V>, AllocError> {
         let spot = Spot {
@@ -151,6 +158,7 @@ impl<V: Domain> State<V> {
             global_growths: vec![in alloc; NO_GROWTHS; GLOBALS]?,
             results: vec![in alloc; cell; code.routines().len()]?,
             result_growths: 0,
+            shelf: V::shelf(alloc),
         })
     }
 
@@ -162,7 +170,7 @@ impl<V: Domain> State<V> {
     /// What a routine gives, as far as is known, by its number.
     pub(crate) fn result(&self, number: u16) -> Option<V> {
         let index = usize::from(number).checked_sub(1)?;
-        self.results.get(index)?.set
+        Some(self.set(self.results.get(index)?.set?))
     }
 
     /// How often a result has grown.
@@ -184,12 +192,42 @@ impl<V: Domain> State<V> {
         }
     }
 
-    /// The sets of the locals and those of the slots of a place that was reached.
-    pub(crate) fn sets_at(&self, index: usize) -> Option<(&[V], &[V])> {
-        let spot = self.reached_spot(index)?;
-        let sets = self.sets_of(spot);
+    /// The set that is kept so.
+    fn set(&self, kept: V::Kept) -> V {
+        V::kept(kept, &self.shelf)
+    }
+
+    /// What is kept once of all sets.
+    pub(crate) fn shelf(&self) -> &V::Shelf {
+        &self.shelf
+    }
+
+    /// The same, where more is to be kept.
+    pub(crate) fn shelf_mut(&mut self) -> &mut V::Shelf {
+        &mut self.shelf
+    }
+
+    /// Whether there was no room for a set.
+    pub(crate) fn is_full(&self) -> bool {
+        V::is_full(&self.shelf)
+    }
+
+    /// What is known of the frame at a place that was reached.
+    pub(crate) fn frame_at(
+        &self,
+        alloc: Global,
+        index: usize,
+    ) -> Result<Option<Frame<V>>, AllocError> {
+        let Some(spot) = self.reached_spot(index) else {
+            return Ok(None);
+        };
+        let kept = self.sets_of(spot);
+        let mut sets = Vec::with_capacity(alloc, kept.len())?;
+        for set in kept {
+            sets.push(self.set(*set))?;
+        }
         let locals = usize::from(spot.locals).min(sets.len());
-        Some(sets.split_at(locals))
+        Ok(Some(Frame::of(locals, sets)))
     }
 
     /// A place, if it was reached.
@@ -199,7 +237,7 @@ impl<V: Domain> State<V> {
     }
 
     /// The sets of a place.
-    fn sets_of(&self, spot: Spot) -> &[V] {
+    fn sets_of(&self, spot: Spot) -> &[V::Kept] {
         let count = usize::from(spot.locals) + usize::from(spot.height);
         let end = spot.start.saturating_add(count);
         self.sets.as_slice().get(spot.start..end).unwrap_or(&[])
@@ -208,7 +246,7 @@ impl<V: Domain> State<V> {
     /// A set of a place, by its index there.
     fn set_at(&self, index: usize, offset: usize) -> Option<V> {
         let spot = self.reached_spot(index)?;
-        self.sets_of(spot).get(offset).copied()
+        Some(self.set(*self.sets_of(spot).get(offset)?))
     }
 
     /// The number of the routine whose code a place is, where it was reached.
@@ -239,7 +277,7 @@ impl<V: Domain> State<V> {
         let widens = spot.growths.are_enough(may_widen, plan);
         let mut is_new = false;
         for (offset, more) in frame.sets().iter().enumerate() {
-            is_new |= self.raise(plan, index, offset, spot.start, *more, widens);
+            is_new |= self.raise(plan, index, offset, spot.start, *more, widens)?;
         }
         if is_new {
             self.count_growth(index, may_widen);
@@ -250,7 +288,9 @@ impl<V: Domain> State<V> {
     /// Says of a place what is known on the first way to it, by the code of a routine.
     fn reach(&mut self, index: usize, routine: u16, frame: &Frame<V>) -> Result<(), AllocError> {
         let start = self.sets.len();
-        self.sets.extend_from_slice(frame.sets())?;
+        for set in frame.sets() {
+            self.sets.push((*set).shelve(&mut self.shelf)?)?;
+        }
         if let Some(spot) = self.spots.get_mut(index) {
             *spot = Spot {
                 start,
@@ -280,15 +320,17 @@ impl<V: Domain> State<V> {
         start: usize,
         more: V,
         widens: bool,
-    ) -> bool {
-        let Some(set) = self.sets.get_mut(start.saturating_add(offset)) else {
-            return false;
+    ) -> Result<bool, AllocError> {
+        let Some(kept) = self.sets.get_mut(start.saturating_add(offset)) else {
+            return Ok(false);
         };
-        if more.is_within(*set) {
-            return false;
+        let set = V::kept(*kept, &self.shelf);
+        if more.is_within(set) {
+            return Ok(false);
         }
-        *set = plan.grown(*set, more, widens, plan.cap_at(index, offset));
-        true
+        let grown = plan.grown(set, more, widens, plan.cap_at(index, offset));
+        *kept = grown.shelve(&mut self.shelf)?;
+        Ok(true)
     }
 
     /// Gives a global, counted from variable 16, the words of a set, and says whether any was new.
@@ -315,27 +357,29 @@ impl<V: Domain> State<V> {
         number: u16,
         more: V,
         may_widen: bool,
-    ) -> bool {
+    ) -> Result<bool, AllocError> {
         let cap = plan.result_cap(number);
         let Some(index) = usize::from(number).checked_sub(1) else {
-            return false;
+            return Ok(false);
         };
         let Some(cell) = self.results.get_mut(index) else {
-            return false;
+            return Ok(false);
         };
-        let Some(set) = cell.set else {
-            cell.set = Some(more);
+        let Some(kept) = cell.set else {
+            cell.set = Some(more.shelve(&mut self.shelf)?);
             self.result_growths = self.result_growths.saturating_add(1);
-            return true;
+            return Ok(true);
         };
+        let set = V::kept(kept, &self.shelf);
         if more.is_within(set) {
-            return false;
+            return Ok(false);
         }
         self.result_growths = self.result_growths.saturating_add(1);
         let widens = cell.growths.are_enough(may_widen, plan);
-        cell.set = Some(plan.grown(set, more, widens, cap));
+        let grown = plan.grown(set, more, widens, cap);
+        cell.set = Some(grown.shelve(&mut self.shelf)?);
         cell.growths = cell.growths.after(may_widen);
-        true
+        Ok(true)
     }
 
     /// Whether all that is known of each place here is known there too.
@@ -347,8 +391,12 @@ impl<V: Domain> State<V> {
 
     /// Whether what each routine gives is known there too. Of one that never returns something is said all the same.
     fn has_results_within(&self, other: &State<V>) -> bool {
-        let mut both = self.results.iter().zip(other.results.iter());
-        both.all(|(inner, outer)| is_option_within(inner.set, outer.set))
+        for number in 1..=self.results.len().min(0xffff) {
+            if !is_option_within(self.result(number as u16), other.result(number as u16)) {
+                return false;
+            }
+        }
+        true
     }
 
     /// Whether what is known of each place is known there too.
@@ -365,13 +413,20 @@ impl<V: Domain> State<V> {
     fn has_place_within(&self, other: &State<V>, index: usize) -> bool {
         match (self.reached_spot(index), other.reached_spot(index)) {
             (None, _) => true,
-            (Some(inner), Some(outer)) => are_within(self.sets_of(inner), other.sets_of(outer)),
+            (Some(inner), Some(outer)) => self.has_sets_within(inner, other, outer),
             (Some(_), None) => false,
         }
     }
+
+    /// Whether each set of a place is within its own of a place there.
+    fn has_sets_within(&self, inner: Spot, other: &State<V>, outer: Spot) -> bool {
+        let (sets, others) = (self.sets_of(inner), other.sets_of(outer));
+        let mut both = sets.iter().zip(others.iter());
+        sets.len() == others.len() && both.all(|(a, b)| self.set(*a).is_within(other.set(*b)))
+    }
 }
 
-impl<V: Domain> Plan<V> {
+impl<V: Kind> Plan<V> {
     /// What a set of a place isn't widened beyond.
     fn cap_at(&self, index: usize, offset: usize) -> Option<V> {
         match &self.caps {
@@ -398,7 +453,7 @@ impl<V: Domain> Plan<V> {
 }
 
 /// The globals as they are loaded.
-fn loaded_globals<V: Domain>(alloc: Global, code: &Code<'_>) -> Result<Vec<V>, AllocError> {
+fn loaded_globals<V: Kind>(alloc: Global, code: &Code<'_>) -> Result<Vec<V>, AllocError> {
     let mut globals = Vec::with_capacity(alloc, GLOBALS)?;
     for global in 0..GLOBALS {
         globals.push(V::single(code.loaded(global)))?;
@@ -407,17 +462,17 @@ fn loaded_globals<V: Domain>(alloc: Global, code: &Code<'_>) -> Result<Vec<V>, A
 }
 
 /// Whether a frame has as many locals and slots as a place.
-fn has_shape<V: Domain>(spot: Spot, frame: &Frame<V>) -> bool {
+fn has_shape<V: Kind>(spot: Spot, frame: &Frame<V>) -> bool {
     frame.local_count() == usize::from(spot.locals) && frame.height() == usize::from(spot.height)
 }
 
 /// Whether there are as many sets, and each is within its own.
-fn are_within<V: Domain>(inner: &[V], outer: &[V]) -> bool {
+fn are_within<V: Kind>(inner: &[V], outer: &[V]) -> bool {
     inner.len() == outer.len() && inner.iter().zip(outer.iter()).all(|(a, b)| a.is_within(*b))
 }
 
 /// Whether a set is within another, where there are both.
-fn is_option_within<V: Domain>(inner: Option<V>, outer: Option<V>) -> bool {
+fn is_option_within<V: Kind>(inner: Option<V>, outer: Option<V>) -> bool {
     match (inner, outer) {
         (Some(inner), Some(outer)) => inner.is_within(outer),
         _ => true,

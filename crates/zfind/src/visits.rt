@@ -12,6 +12,9 @@ pub const MOST_VISITS: u32 = 4_000_000;
 /// that is gone over, counts as one, and each byte of a story as eight where more of it is listed (own).
 pub const MOST_WORK: u32 = 400_000_000;
 
+/// How much with lists (own).
+pub const MOST_LIST_WORK: u32 = 100_000_000;
+
 /// What a search may do yet.
 #[derive(Clone, Copy)]
 pub(crate) struct Allowance {

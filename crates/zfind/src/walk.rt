@@ -5,18 +5,20 @@ ghost use Rattle.zfind.specs.Finding.{IsLess, IsStopped};
 
 use crate::bytes::{Bytes, Span};
 use crate::code::{Code, short};
-use crate::effects::{Calls, Effect, Effects, Naming, WORDS, is_awaited, naming_of, next_callee};
+use crate::effects::{
+    Calls, Effect, Effects, Naming, WORDS, callee_count, is_awaited, next_callee,
+};
 use crate::error::FindError;
 use crate::frame::Frame;
 use crate::groups::Groups;
-use crate::looking::{Known, Seen, callees_at, followed_by, look};
+use crate::kind::Kind;
+use crate::looking::{Known, Seen, followed_by, look};
 use crate::opened::Opened;
 use crate::openings::open_written;
 use crate::queue::Queue;
 use crate::state::{Plan, State};
 use crate::visits::{Allowance, count_more, count_visit, count_work};
 use std::alloc::{AllocError, Global};
-use zdomain::Domain;
 use zruns::{Room, Tables};
 
 /// How often routines that never return are told from those that wait for them, so that each walk ends soon.
@@ -27,7 +29,7 @@ const COST_OF_CALLEE: u32 = 16;
 
 /// A walk: what is known so far, and which instructions are to be visited since that grew.
 #[derive(Drop)]
-pub(crate) struct Walk<'a, V> {
+pub(crate) struct Walk<'a, V: Kind> {
     alloc: Global,
     code: &'a Code<'a>,
     pub(crate) plan: Plan<V>,
@@ -45,7 +47,9 @@ pub(crate) struct Walk<'a, V> {
     /// How often each instruction was visited, where those come first that were visited least.
     visits: Option<Vec<u32>>,
     /// What each instruction called when it was visited last.
-    calls: Vec<Option<Calls<V>>>,
+    calls: Vec<Option<Calls<V::Kept>>>,
+    /// How much work it was to go over its operands.
+    pairs: Vec<u16>,
     /// What was called last.
     last: Option<Calls<V>>,
     /// Whether a routine is called at each packed address that isn't listed yet, once there is one.
@@ -60,7 +64,7 @@ pub(crate) struct Walk<'a, V> {
     is_still: bool,
 }
 
-impl<'a, V: Domain> Walk<'a, V> {
+impl<'a, V: Kind> Walk<'a, V> {
     /// A walk that is at the first instruction.
     pub(crate) fn new(
         alloc: Global,
@@ -81,6 +85,7 @@ impl<'a, V: Domain> Walk<'a, V> {
             found: 0,
             visits: None,
             calls: vec![in alloc; None; count]?,
+            pairs: vec![in alloc; 0; count]?,
             last: None,
             wanted: Vec::new(alloc),
             waits: false,
@@ -192,9 +197,24 @@ impl<'a, V: Domain> Walk<'a, V> {
     pub(crate) fn cost_of_check(&self) -> u32 {
         let mut cost = self.state.size();
         for calls in &self.calls {
-            cost = cost.saturating_add(cost_of_calls(calls));
+            cost = cost.saturating_add(self.cost_of_calls(calls));
+        }
+        for pairs in &self.pairs {
+            cost = cost.saturating_add(u32::from(*pairs));
         }
         cost
+    }
+
+    /// How much work it is to check calls.
+    fn cost_of_calls(&self, calls: &Option<Calls<V::Kept>>) -> u32 {
+        match calls {
+            Some(calls) => {
+                callee_count(V::kept(calls.callees, self.state.shelf())).saturating_mul(
+                    COST_OF_CALLEE,
+                )
+            }
+            None => 0,
+        }
     }
 
     /// Notes that so much was done.
@@ -202,11 +222,11 @@ impl<'a, V: Domain> Walk<'a, V> {
         self.work = self.work.saturating_add(short(work));
     }
 
-    /// How much was done since this was last asked.
+    /// How much was done since this was last asked: more than is ever left, where there was no room for a set.
     pub(crate) fn take_work(&mut self) -> u32 {
         let work = self.work;
         self.work = 0;
-        work
+        if self.state.is_full() { u32::MAX } else { work }
     }
 
     /// Has those visited that were put off: what looked where bytes were opened, and, where there is none, what waits for a routine that
@@ -305,7 +325,16 @@ impl<'a, V: Domain> Walk<'a, V> {
             return Ok(());
         };
         let before = self.calls_at(index);
-        let Some(seen) = look(self.alloc, code, known, &self.state, record, index, before)? else {
+        let Some(seen) = look(
+            self.alloc,
+            code,
+            known,
+            &self.state,
+            record,
+            index,
+            before.as_ref(),
+        )?
+        else {
             return Ok(());
         };
         if self.visits.is_some() {
@@ -319,14 +348,16 @@ impl<'a, V: Domain> Walk<'a, V> {
     }
 
     /// What an instruction called when it was visited last.
-    pub(crate) fn calls_at(&self, index: usize) -> Option<&Calls<V>> {
-        self.calls.get(index)?.as_ref()
+    pub(crate) fn calls_at(&self, index: usize) -> Option<Calls<V>> {
+        let calls = self.calls.get(index)?.as_ref()?;
+        Some(Calls::kept(calls, self.state.shelf()))
     }
 
     /// Does what is seen of an instruction.
     fn take_seen(&mut self, index: usize, seen: &Seen<V>) -> Result<(), AllocError> {
         let code = self.code;
         self.note_visit(index, seen.reach);
+        self.note_pairs(index, seen.work);
         let passed = open_written(code, &mut self.bytes, &seen.demands);
         self.spend(passed);
         self.note_loaders();
@@ -347,6 +378,14 @@ impl<'a, V: Domain> Walk<'a, V> {
             if let Some(count) = visits.get_mut(index) {
                 *count = count.saturating_add(1);
             }
+        }
+    }
+
+    /// Notes how much work it was to go over the operands of an instruction.
+    pub(crate) fn note_pairs(&mut self, index: usize, work: usize) {
+        self.spend(work);
+        if let Some(pairs) = self.pairs.get_mut(index) {
+            *pairs = work.min(0xffff) as u16;
         }
     }
 
@@ -413,7 +452,7 @@ impl<'a, V: Domain> Walk<'a, V> {
     /// Gives the callers of a routine what it returns.
     fn give_back(&mut self, routine: u16, set: V) -> Result<(), AllocError> {
         let may_widen = self.code.is_recursive(routine);
-        if self.state.join_result(&self.plan, routine, set, may_widen) {
+        if self.state.join_result(&self.plan, routine, set, may_widen)? {
             self.wake_callers(routine)?;
             self.wake_wanderers()?;
         }
@@ -423,13 +462,15 @@ impl<'a, V: Domain> Walk<'a, V> {
     /// Calls routines, but those that were called so before, here or by the last instruction that called.
     fn call(&mut self, index: usize, calls: &Calls<V>) -> Result<(), AllocError> {
         self.spend(calls.asked as usize);
-        let here = calls.entered_by(self.calls_at(index));
+        let before = self.calls_at(index);
+        let here = calls.entered_by(before.as_ref());
         let last = calls.entered_by(self.last.as_ref());
         if !has_all(here, calls.callees) && !has_all(last, calls.callees) {
             self.enter_each(calls, here, last)?;
         }
+        let kept = calls.keep(self.state.shelf_mut())?;
         if let Some(noted) = self.calls.get_mut(index) {
-            *noted = Some(*calls);
+            *noted = Some(kept);
         }
         self.last = Some(*calls);
         Ok(())
@@ -535,41 +576,17 @@ impl<'a, V: Domain> Walk<'a, V> {
     }
 
     /// Whether an instruction calls a routine that is to be listed yet.
-    pub(crate) fn waits_at(&self, tables: &Tables<'_>, index: usize) -> bool {
-        let Some(record) = self.code.records().get(index) else {
-            return false;
-        };
-        let before = self.calls_at(index);
-        match callees_at(
-            self.alloc,
-            self.code,
-            tables,
-            &self.state,
-            record,
-            index,
-            before,
-        ) {
-            Some(callees) => naming_of(self.code, callees) == Naming::Listable,
+    pub(crate) fn waits_at(&self, index: usize) -> bool {
+        match self.calls_at(index) {
+            Some(calls) => calls.naming == Naming::Listable,
             None => false,
         }
     }
 
     /// Whether an instruction calls a routine of which nothing is known that it gives.
-    pub(crate) fn awaits_at(&self, tables: &Tables<'_>, index: usize) -> bool {
-        let Some(record) = self.code.records().get(index) else {
-            return false;
-        };
-        let before = self.calls_at(index);
-        match callees_at(
-            self.alloc,
-            self.code,
-            tables,
-            &self.state,
-            record,
-            index,
-            before,
-        ) {
-            Some(callees) => is_awaited(self.code, &self.state, callees),
+    pub(crate) fn awaits_at(&self, index: usize) -> bool {
+        match self.calls_at(index) {
+            Some(calls) => is_awaited(self.code, &self.state, calls.callees),
             None => false,
         }
     }
@@ -687,7 +704,7 @@ impl<'a, V: Domain> Walk<'a, V> {
 }
 
 /// Whether a word is one of a set, if there is one.
-fn has<V: Domain>(set: Option<V>, word: u16) -> bool {
+fn has<V: Kind>(set: Option<V>, word: u16) -> bool {
     match set {
         Some(set) => set.contains(word),
         None => false,
@@ -695,23 +712,15 @@ fn has<V: Domain>(set: Option<V>, word: u16) -> bool {
 }
 
 /// Whether all words are of a set, if there is one.
-fn has_all<V: Domain>(set: Option<V>, words: V) -> bool {
+fn has_all<V: Kind>(set: Option<V>, words: V) -> bool {
     match set {
         Some(set) => words.is_within(set),
         None => false,
     }
 }
 
-/// How much work it is to check calls.
-fn cost_of_calls<V: Domain>(calls: &Option<Calls<V>>) -> u32 {
-    match calls {
-        Some(calls) => calls.span().saturating_mul(COST_OF_CALLEE),
-        None => 0,
-    }
-}
-
 /// Whether nothing is known to come back of calls.
-fn is_stuck<V: Domain>(calls: &Option<Calls<V>>) -> bool {
+fn is_stuck<S>(calls: &Option<Calls<S>>) -> bool {
     match calls {
         Some(calls) => !calls.comes_back(),
         None => false,

@@ -2,4 +2,4 @@ use Rattle.zfind.specs.Finding.{IsLess}
 use Rattle.zfind.proofs.finding.searched.Given as goal
 
 abbrev pub invariant-loop : goal.invariant-loop
-invariant-loop l = IsLess l.left l.fn.left
+invariant-loop g l = IsLess l.left l.fn.left

@@ -1,0 +1,22 @@
+-- A certificate that is found (own).
+use Rattle.std.specs.Prelude.{ℕ, List}
+use Rattle.zstory.specs.LoadedStory.{LoadedStory}
+use Rattle.zdomain.specs.Interval.{interval_operations}
+use Rattle.zdomain.specs.Values.{values_operations}
+use Rattle.zcert.specs.Format.{interval_format}
+use Rattle.zcert.specs.Lists.{values_format}
+use Rattle.zcert.specs.Spelling.{spelling}
+use Rattle.zcheck.specs.Passes.{Passes}
+use Rattle.zfind.specs.declared.found.Found.{Found}
+use Rattle.zfind.specs.declared.found.Found.TheVariants.{Intervals, Lists}
+use Rattle.zfind.specs.Finding.{IsWithoutIntervals}
+
+-- it passes, and lists are told only where none of intervals was found
+abbrev pub IsFound : LoadedStory → Found → Type 0
+IsFound story (Intervals certificate) = Passes interval_operations story certificate
+IsFound story (Lists certificate) = Passes values_operations story certificate × IsWithoutIntervals story
+
+-- its bytes, by the version of the format that has its kind of sets
+abbrev pub spelling_of : Found → List ℕ
+spelling_of (Intervals certificate) = spelling interval_format certificate
+spelling_of (Lists certificate) = spelling values_format certificate
