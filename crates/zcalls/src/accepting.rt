@@ -2,19 +2,32 @@
 
 use std::fs;
 use std::io::{self, ErrorKind};
-use zcert::{CertError, Certificate};
+use zcert::{CertError, Certificate, LIST_VERSION, Spelled};
 use zcheck::{Accepted, Refusal, check};
 use zstory::{LoadError, Story};
 
+/// Whether the file of a certificate is of version 2.
+pub fn has_lists(file: &[u8]) -> bool {
+    file.get(4) == Some(&LIST_VERSION)
+}
+
 /// Accepts the story of a file with the certificate of another.
-pub fn accept(rt: &HostRuntime, story: &str, certificate: &str) -> io::Result<Accepted> {
+pub fn accept<V: Spelled>(
+    rt: &HostRuntime,
+    story: &str,
+    certificate: &str,
+) -> io::Result<Accepted<V>> {
     let story = file(rt, story)?;
     let certificate = file(rt, certificate)?;
     checked(rt, &story, &certificate)
 }
 
 /// Checks what the two files hold.
-fn checked(rt: &HostRuntime, story: &[u8], certificate: &[u8]) -> io::Result<Accepted> {
+fn checked<V: Spelled>(
+    rt: &HostRuntime,
+    story: &[u8],
+    certificate: &[u8],
+) -> io::Result<Accepted<V>> {
     match attempt(rt, story, certificate)? {
         Err(Refusal::OutOfMemory) => {
             println!(rt; "refused: check")?;
@@ -25,11 +38,11 @@ fn checked(rt: &HostRuntime, story: &[u8], certificate: &[u8]) -> io::Result<Acc
 }
 
 /// What one call of the checker answers.
-fn attempt(
+fn attempt<V: Spelled>(
     rt: &HostRuntime,
     story: &[u8],
     certificate: &[u8],
-) -> io::Result<Result<Accepted, Refusal>> {
+) -> io::Result<Result<Accepted<V>, Refusal>> {
     let story = load(rt, story)?;
     let certificate = read(rt, certificate)?;
     Ok(check(rt.alloc(), story, certificate))
@@ -72,7 +85,7 @@ pub fn load(rt: &HostRuntime, file: &[u8]) -> io::Result<Story> {
 }
 
 /// Reads a certificate.
-fn read(rt: &HostRuntime, file: &[u8]) -> io::Result<Certificate> {
+fn read<V: Spelled>(rt: &HostRuntime, file: &[u8]) -> io::Result<Certificate<V>> {
     match zcert::read(rt.alloc(), file) {
         Err(CertError::OutOfMemory) => {
             println!(rt; "refused: read")?;

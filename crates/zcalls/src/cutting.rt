@@ -1,9 +1,10 @@
 //! Certificates that come in pieces, by the names of their files: piece by piece, and cut in many ways.
 
-use crate::accepting::load;
+use crate::accepting::{has_lists, load};
 use std::{fs, io};
-use zcert::{CertError, Certificate, read, write};
+use zcert::{CertError, Certificate, Spelled, read, write};
 use zcheck::{Accepted, CheckStream, Refusal, StreamRefusal, check};
+use zdomain::{Interval, Values};
 use zstory::Story;
 
 /// The most bytes of a piece.
@@ -12,7 +13,25 @@ const MOST: usize = 9;
 /// Feeds files to a stream that checks a story, one after another, and says what it answers of each, and at the end.
 pub fn feed_files(rt: &HostRuntime, story: &str, pieces: &[String]) -> io::Result<()> {
     let story = fs::read(rt, story)?;
-    let mut stream = CheckStream::new(rt.alloc(), load(rt, &story)?);
+    let mut whole = Vec::new(rt.alloc());
+    for name in pieces {
+        whole.extend_from_slice(&fs::read(rt, name)?)?;
+    }
+    if has_lists(&whole) {
+        let stream: CheckStream<Values> = CheckStream::new(rt.alloc(), load(rt, &story)?);
+        feed(rt, stream, pieces)
+    } else {
+        let stream: CheckStream<Interval> = CheckStream::new(rt.alloc(), load(rt, &story)?);
+        feed(rt, stream, pieces)
+    }
+}
+
+/// Feeds them to a stream of either kind.
+fn feed<V: Spelled>(
+    rt: &HostRuntime,
+    mut stream: CheckStream<V>,
+    pieces: &[String],
+) -> io::Result<()> {
     for name in pieces {
         match stream.feed(&fs::read(rt, name)?) {
             Ok(()) => println!(rt; "open")?,
@@ -27,32 +46,60 @@ pub fn compare_cuts(rt: &HostRuntime, story: &str, certificates: &[String]) -> i
     let story = fs::read(rt, story)?;
     for name in certificates {
         let file = fs::read(rt, name)?;
-        let whole = whole(rt, load(rt, &story)?, &file);
-        tell(rt, &whole)?;
-        for size in 1..=MOST {
-            let cut = cut(rt, load(rt, &story)?, &file, size);
-            if !is_same(rt, &whole, &cut)? {
-                println!(rt; "another answer, in pieces of {size}")?;
-                tell(rt, &cut)?;
-            }
+        if has_lists(&file) {
+            let whole: Result<Accepted<Values>, StreamRefusal> = whole(
+                rt,
+                load(rt, &story)?,
+                &file,
+            );
+            compare_each(rt, &story, &file, &whole)?;
+        } else {
+            let whole: Result<Accepted<Interval>, StreamRefusal> = whole(
+                rt,
+                load(rt, &story)?,
+                &file,
+            );
+            compare_each(rt, &story, &file, &whole)?;
+        }
+    }
+    Ok(())
+}
+
+/// Says what was answered of a certificate, and where another answer comes of it in pieces.
+fn compare_each<V: Spelled>(
+    rt: &HostRuntime,
+    story: &[u8],
+    file: &[u8],
+    whole: &Result<Accepted<V>, StreamRefusal>,
+) -> io::Result<()> {
+    tell(rt, whole)?;
+    for size in 1..=MOST {
+        let cut = cut(rt, load(rt, story)?, file, size);
+        if !is_same(rt, whole, &cut)? {
+            println!(rt; "another answer, in pieces of {size}")?;
+            tell(rt, &cut)?;
         }
     }
     Ok(())
 }
 
 /// What is answered of a certificate that is read whole.
-fn whole(rt: &HostRuntime, story: Story, file: &[u8]) -> Result<Accepted, StreamRefusal> {
-    let certificate: Certificate = read(rt.alloc(), file)?;
+fn whole<V: Spelled>(
+    rt: &HostRuntime,
+    story: Story,
+    file: &[u8],
+) -> Result<Accepted<V>, StreamRefusal> {
+    let certificate: Certificate<V> = read(rt.alloc(), file)?;
     Ok(check(rt.alloc(), story, certificate)?)
 }
 
 /// What is answered of one that comes in pieces of a size, with an empty one behind each.
-fn cut(
+fn cut<V: Spelled>(
     rt: &HostRuntime,
     story: Story,
     file: &[u8],
     size: usize,
-) -> Result<Accepted, StreamRefusal> {
+) -> Result<Accepted<V>, StreamRefusal> {
     let mut stream = CheckStream::new(rt.alloc(), story);
     for piece in file.chunks(size.max(1)) {
         let _ = stream.feed(piece);
@@ -62,10 +109,10 @@ fn cut(
 }
 
 /// Whether both are the same answer: the same certificate, or the same refusal.
-fn is_same(
+fn is_same<V: Spelled>(
     rt: &HostRuntime,
-    one: &Result<Accepted, StreamRefusal>,
-    other: &Result<Accepted, StreamRefusal>,
+    one: &Result<Accepted<V>, StreamRefusal>,
+    other: &Result<Accepted<V>, StreamRefusal>,
 ) -> io::Result<bool> {
     match (one, other) {
         (Ok(one), Ok(other)) => {
@@ -78,7 +125,10 @@ fn is_same(
 }
 
 /// Says what was answered.
-fn tell(rt: &HostRuntime, answer: &Result<Accepted, StreamRefusal>) -> io::Result<()> {
+fn tell<V: Spelled>(
+    rt: &HostRuntime,
+    answer: &Result<Accepted<V>, StreamRefusal>,
+) -> io::Result<()> {
     match answer {
         Ok(_) => println!(rt; "accepted"),
         Err(StreamRefusal::Cert(error)) => tell_error(rt, *error),

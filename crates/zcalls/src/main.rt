@@ -17,15 +17,16 @@ mod saving;
 mod single;
 mod streams;
 
-use crate::accepting::accept;
+use crate::accepting::{accept, has_lists};
 use crate::cutting::{compare_cuts, feed_files};
 use crate::pair::compare;
 use crate::pieces::{Way, go};
 use crate::saving::{save_and_restore, write_parts};
 use crate::single::call_each;
 use std::alloc::AllocError;
-use std::{env, io};
+use std::{env, fs, io};
 use zcheck::Accepted;
+use zdomain::{Interval, Values};
 use zplay::Session;
 use zref::{CheckedMachine, Scope};
 use zstory::Story;
@@ -51,13 +52,29 @@ fn main(rt: HostRuntime) -> io::Result<()> {
             &rt, story, files,
         ),
         [story, certificate, saves @ ..] => {
-            return compare(&rt, &accept(&rt, story, certificate)?, saves);
+            return compare_files(&rt, story, certificate, saves);
         }
         _ => {}
     }
     let accepted = accept(&rt, "story.z3", "story.cert")?;
     call_each(&rt, &accepted)?;
     on_both(&rt, &accepted)
+}
+
+/// Compares both machines over a story that is accepted with a certificate of either version.
+fn compare_files(
+    rt: &HostRuntime,
+    story: &str,
+    certificate: &str,
+    saves: &[String],
+) -> io::Result<()> {
+    if has_lists(&fs::read(rt, certificate)?) {
+        let accepted: Accepted<Values> = accept(rt, story, certificate)?;
+        compare(rt, &accepted, saves)
+    } else {
+        let accepted: Accepted<Interval> = accept(rt, story, certificate)?;
+        compare(rt, &accepted, saves)
+    }
 }
 
 /// The words behind the program's name, asked for once more where that is refused memory.

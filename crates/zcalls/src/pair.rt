@@ -3,6 +3,7 @@
 use crate::pieces::sum;
 use std::alloc::{AllocError, Global};
 use std::{fs, io};
+use zcert::Spelled;
 use zcheck::Accepted;
 use zfault::{Event, Items, Need, Pause};
 use zplay::Session;
@@ -14,7 +15,11 @@ use zstate::{Frame, State, Stop};
 const STEPS: u32 = 1000;
 
 /// Plays a story on both, from its opening, or from each of the saves.
-pub fn compare(rt: &HostRuntime, accepted: &Accepted, saves: &[String]) -> io::Result<()> {
+pub fn compare<V: Spelled>(
+    rt: &HostRuntime,
+    accepted: &Accepted<V>,
+    saves: &[String],
+) -> io::Result<()> {
     if saves.is_empty() {
         return tell(rt, &mut Pair::open(rt.alloc(), accepted)?);
     }
@@ -26,7 +31,7 @@ pub fn compare(rt: &HostRuntime, accepted: &Accepted, saves: &[String]) -> io::R
 }
 
 /// Says how a save is answered by each, 0 where play goes on from it, and where it does so on both, how.
-fn restore(rt: &HostRuntime, mut pair: Pair<'_>, save: &[u8]) -> io::Result<()> {
+fn restore<V: Spelled>(rt: &HostRuntime, mut pair: Pair<'_, V>, save: &[u8]) -> io::Result<()> {
     pair.go_to_restore(rt.alloc())?;
     let session = pair.session_restores(save);
     let checked = pair.machine_restores(rt.alloc(), save);
@@ -38,7 +43,7 @@ fn restore(rt: &HostRuntime, mut pair: Pair<'_>, save: &[u8]) -> io::Result<()> 
 }
 
 /// Says how both go on.
-fn tell(rt: &HostRuntime, pair: &mut Pair<'_>) -> io::Result<()> {
+fn tell<V: Spelled>(rt: &HostRuntime, pair: &mut Pair<'_, V>) -> io::Result<()> {
     let stop = pair.play(rt.alloc())?;
     let (place, sum) = (pair.session.place(), sum(pair.session.memory()));
     match stop {
@@ -49,14 +54,14 @@ fn tell(rt: &HostRuntime, pair: &mut Pair<'_>) -> io::Result<()> {
 
 /// A session, and a checked machine that may play anywhere, of the same story.
 #[derive(Drop)]
-struct Pair<'a> {
-    session: Session<'a>,
+struct Pair<'a, V: Spelled> {
+    session: Session<'a, V>,
     machine: CheckedMachine<'a>,
 }
 
-impl<'a> Pair<'a> {
+impl<'a, V: Spelled> Pair<'a, V> {
     /// Both at the opening.
-    fn open(alloc: Global, accepted: &'a Accepted) -> Result<Pair<'a>, AllocError> {
+    fn open(alloc: Global, accepted: &'a Accepted<V>) -> Result<Pair<'a, V>, AllocError> {
         Ok(Pair {
             session: Session::start(alloc, accepted)?,
             machine: CheckedMachine::new(alloc, accepted.story(), Scope::All)?,
@@ -137,7 +142,7 @@ fn are_alike(here: &Items, there: &Items) -> bool {
 }
 
 /// Whether there are as many frames, and the newest two are the same.
-fn are_frames_alike(session: &Session<'_>, state: &State) -> bool {
+fn are_frames_alike<V: Spelled>(session: &Session<'_, V>, state: &State) -> bool {
     let parts = session.parts();
     let count = parts.frame_count();
     if count == 0

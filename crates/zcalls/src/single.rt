@@ -7,7 +7,7 @@ use std::alloc::AllocError;
 use std::{io, str};
 use zcert::{Certificate, write};
 use zcheck::Accepted;
-use zfind::{FindError, find};
+use zfind::{FindError, Found, find};
 use zlist::{ListError, Listing, list_story};
 use zplay::Session;
 use zstory::Story;
@@ -20,7 +20,7 @@ pub fn call_each(rt: &HostRuntime, accepted: &Accepted) -> io::Result<()> {
     let listed = list(rt, story)?.records().len();
     println!(rt; "listed {listed}")?;
     let found = search(rt, story)?;
-    tell(rt, "found", &written(rt, &found)?)?;
+    tell(rt, "found", &written_found(rt, &found)?)?;
     let certificate = written(rt, accepted.certificate())?;
     tell(rt, "accepted", &certificate)?;
     feed_each(rt, story.memory(), &certificate)
@@ -65,13 +65,24 @@ fn list(rt: &HostRuntime, story: &Story) -> io::Result<Listing> {
 }
 
 /// Searches a certificate.
-fn search(rt: &HostRuntime, story: &Story) -> io::Result<Certificate> {
+fn search(rt: &HostRuntime, story: &Story) -> io::Result<Found> {
     match find(rt.alloc(), story) {
         Err(FindError::OutOfMemory) => {
             println!(rt; "refused: find")?;
             wanted(find(rt.alloc(), story))
         }
         answer => wanted(answer),
+    }
+}
+
+/// The bytes of a certificate that was found.
+fn written_found(rt: &HostRuntime, found: &Found) -> io::Result<Vec<u8>> {
+    match found.write(rt.alloc()) {
+        Ok(bytes) => Ok(bytes),
+        Err(AllocError) => {
+            println!(rt; "refused: write")?;
+            Ok(found.write(rt.alloc())?)
+        }
     }
 }
 

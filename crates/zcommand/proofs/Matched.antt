@@ -17,7 +17,7 @@ use Rattle.clap.specs.Words.{ReadsOne, Row, Text, first_of, first_value, one_tex
 use Rattle.clap.specs.declared.parser.matches.ArgMatches.{ArgMatches}
 use Rattle.clap.specs.declared.parser.matches.ArgMatches.TheViews.{out-ArgMatches, out-SubCommand}
 use Rattle.clap.specs.Simple.{subcommand_rows}
-use Rattle.zcommand.specs.CommandLine.{certificate_of, code_of, is_asked, number_in, number_of, save_of, story_of}
+use Rattle.zcommand.specs.CommandLine.{address_of, certificate_of, code_of, is_asked, number_in, number_of, save_of, story_of}
 
 digits_pass : (ds : List ℕ) → AllDigits 10 ds → list_all (λ d. nat_lt (digit_value d) 10) ds ≡ true
 digits_pass [] h = refl
@@ -70,6 +70,10 @@ code_read = text_read (codes "CODE")
 -- what the getter of texts gives of a certificate, and else the empty text
 pub certificate_given : (found : Found) (o : Option (Bor Text)) → option_map (λ s. s.now) o ≡ first_value found (codes "CERT") → option_map (λ s. s.now) o ≡ certificate_of (rows_of found)
 certificate_given found o given = given ∙ first_value-rows found (codes "CERT")
+
+-- of an address
+pub address_given : (found : Found) (o : Option (Bor Text)) → option_map (λ s. s.now) o ≡ first_value found (codes "ADDRESS") → option_map (λ s. s.now) o ≡ address_of (rows_of found)
+address_given found o given = given ∙ first_value-rows found (codes "ADDRESS")
 
 -- and of a file for saves
 pub save_given : (found : Found) (o : Option (Bor Text)) → option_map (λ s. s.now) o ≡ first_value found (codes "save") → option_map (λ s. s.now) o ≡ save_of (rows_of found)

@@ -62,6 +62,10 @@ certificate_rule required = word_rule (codes "CERT") required
 abbrev pub code_rule : Rule
 code_rule = word_rule (codes "CODE") true
 
+-- `ADDRESS`, which may be there
+abbrev pub address_rule : Rule
+address_rule = word_rule (codes "ADDRESS") false
+
 -- a command on a story, and on a certificate, which has to be there or may be
 abbrev pub files_app : Text → Bool → App
 files_app name required = with_rule (with_rule (new_app name) story_rule) (certificate_rule required)
@@ -77,6 +81,10 @@ find_app = with_rule (files_app (codes "find") true) force_rule
 -- `check STORY CERT`
 abbrev pub check_app : App
 check_app = files_app (codes "check") true
+
+-- `show STORY CERT [ADDRESS]`
+abbrev pub show_app : App
+show_app = with_rule (files_app (codes "show") true) address_rule
 
 -- `play STORY [CERT] --seed N --budget N --status`
 abbrev pub saveless_app : App
@@ -101,11 +109,11 @@ certifying_app = with_subcommand (with_subcommand (with_subcommand bare_app list
 
 -- the program
 abbrev pub zpc_app : App
-zpc_app = with_subcommand (with_subcommand certifying_app play_app.top) explain_app.top
+zpc_app = with_subcommand (with_subcommand (with_subcommand certifying_app show_app.top) play_app.top) explain_app.top
 
 -- the name of one of its commands
 abbrev pub IsCommand : Text → Type 0
-IsCommand name = (name ≡ codes "list") ⊎ (name ≡ codes "find") ⊎ (name ≡ codes "check") ⊎ (name ≡ codes "play") ⊎ (name ≡ codes "explain")
+IsCommand name = (name ≡ codes "list") ⊎ (name ≡ codes "find") ⊎ (name ≡ codes "check") ⊎ (name ≡ codes "show") ⊎ (name ≡ codes "play") ⊎ (name ≡ codes "explain")
 
 -- the number that a text says in decimal digits, with or without a plus before them, where it has at most so many bits; else 0
 abbrev pub number_in : ℕ → Text → ℕ
@@ -149,6 +157,10 @@ is_force_asked rows = is_asked (codes "force") rows
 abbrev pub certificate_of : List Row → Option Text
 certificate_of rows = first_of (codes "CERT") rows
 
+-- the address among the matches of `show`, if there is one
+abbrev pub address_of : List Row → Option Text
+address_of rows = first_of (codes "ADDRESS") rows
+
 -- the name of the file for saves among the matches of `play`, if there is one
 abbrev pub save_of : List Row → Option Text
 save_of rows = first_of (codes "save") rows
@@ -162,6 +174,7 @@ pub data Request : Type 0 where
   ListStory : (story : Text) (certificate : Option Text) → Request
   Find : (story certificate : Text) (force : Bool) → Request
   Check : (story certificate : Text) → Request
+  Show : (story certificate : Text) (address : Option Text) → Request
   Play : (story : Text) (certificate : Option Text) (seed budget : ℕ) (status : Bool) (save : Option Text) (tell force : Bool) → Request
   Explain : (code : Text) → Request
 
@@ -172,6 +185,8 @@ Asks matches (Find story certificate force) =
     (matches.0 ≡ codes "find") × (story ≡ story_of matches.1) × (certificate ≡ unwrap_or (certificate_of matches.1) []) × (force ≡ is_force_asked matches.1)
 Asks matches (Check story certificate) =
     (matches.0 ≡ codes "check") × (story ≡ story_of matches.1) × (certificate ≡ unwrap_or (certificate_of matches.1) [])
+Asks matches (Show story certificate address) =
+    (matches.0 ≡ codes "show") × (story ≡ story_of matches.1) × (certificate ≡ unwrap_or (certificate_of matches.1) []) × (address ≡ address_of matches.1)
 Asks matches (Play story certificate seed budget status save tell force) =
     (matches.0 ≡ codes "play") × (story ≡ story_of matches.1) × (certificate ≡ certificate_of matches.1) × (seed ≡ seed_of matches.1) × (budget ≡ budget_of matches.1)
     × (status ≡ is_status_asked matches.1) × (save ≡ save_of matches.1) × (tell ≡ is_tell_asked matches.1) × (force ≡ is_force_asked matches.1)
@@ -182,6 +197,7 @@ abbrev pub request_of : Command → Request
 request_of (commands.List story certificate) = ListStory story.now (option_map (λ c. c.now) certificate)
 request_of (commands.Find story certificate force) = Find story.now certificate.now force
 request_of (commands.Check story certificate) = Check story.now certificate.now
+request_of (commands.Show story certificate address) = Show story.now certificate.now (option_map (λ a. a.now) address)
 request_of (commands.Play story certificate seed budget status save tell force) = Play story.now (option_map (λ c. c.now) certificate) seed budget status (option_map (λ f. f.now) save) tell force
 request_of (commands.Explain code) = Explain code.now
 

@@ -4,7 +4,7 @@ ghost use Rattle.std.specs.Prelude.{◌≡◌, IfOk, IsSomeAnd, codes, false};
 ghost use Rattle.clap.specs.Walk.{texts};
 ghost use Rattle.clap.specs.Words.{FailsBy, app_of, fault_of, found_of, rows_of, rule_of, subcommand_name_of, subcommand_of, subcommand_rows_of};
 ghost use Rattle.clap.specs.declared.builder.command.Command.TheViews.{out-Command as fields_of};
-ghost use Rattle.zcommand.specs.CommandLine.{IsCommand, IsReadFrom, bare_app, budget_rule, certificate_rule, certifying_app, check_app, code_rule, explain_app, files_app, find_app, force_rule, list_app, play_app, save_rule, saveless_app, seed_rule, status_rule, story_rule, tell_rule, word_rule, zpc_app};
+ghost use Rattle.zcommand.specs.CommandLine.{IsCommand, IsReadFrom, bare_app, budget_rule, certificate_rule, address_rule, certifying_app, check_app, code_rule, explain_app, files_app, find_app, force_rule, list_app, play_app, save_rule, saveless_app, seed_rule, show_app, status_rule, story_rule, tell_rule, word_rule, zpc_app};
 
 use clap::builder::ValueParser;
 use clap::{Arg, ArgAction, ArgMatches, Error, value_parser};
@@ -44,6 +44,15 @@ pub enum Command<'a> {
         story: &'a str,
         /// The name of the certificate's file.
         certificate: &'a str,
+    },
+    /// Shows what a certificate says.
+    Show {
+        /// The name of the story's file.
+        story: &'a str,
+        /// The name of the certificate's file.
+        certificate: &'a str,
+        /// The address of the instruction that is looked at, if one is; the word needn't be one.
+        address: Option<&'a str>,
     },
     /// Plays a story.
     Play {
@@ -94,6 +103,9 @@ fn command_of<'a>(matches: &ArgMatches<'a>) -> Command<'a>
     if let Some(check) = matches.subcommand_matches("check") {
         return check_of(check);
     }
+    if let Some(show) = matches.subcommand_matches("show") {
+        return show_of(show);
+    }
     if let Some(play) = matches.subcommand_matches("play") {
         return play_of(play);
     }
@@ -135,6 +147,20 @@ fn check_of<'a>(matches: &ArgMatches<'a>) -> Command<'a>
     Command::Check { story, certificate }
 }
 
+/// `show`, with the values that are among its matches.
+fn show_of<'a>(matches: &ArgMatches<'a>) -> Command<'a>
+    ensures { IsReadFrom (codes "show", rows_of (found_of matches.now)) result }
+{
+    let story = matches.get_str("STORY").unwrap_or("");
+    let certificate = matches.get_str("CERT").unwrap_or("");
+    let address = matches.get_str("ADDRESS");
+    Command::Show {
+        story,
+        certificate,
+        address,
+    }
+}
+
 /// `play`, with the values that are among its matches.
 fn play_of<'a>(matches: &ArgMatches<'a>) -> Command<'a>
     ensures { IsReadFrom (codes "play", rows_of (found_of matches.now)) result }
@@ -172,6 +198,7 @@ fn program<'a>(alloc: Global) -> Result<clap::Command<'a>, AllocError>
     ensures { IfOk result (λ program. app_of program ≡ zpc_app) }
 {
     let program = certifying_program(alloc)?;
+    let program = program.subcommand(show(alloc)?)?;
     let program = program.subcommand(play(alloc)?)?;
     program.subcommand(explain(alloc)?)
 }
@@ -223,6 +250,14 @@ fn check<'a>(alloc: Global) -> Result<clap::Command<'a>, AllocError>
     ensures local { IfOk result (λ check. (fields_of check).has_globals ≡ false) }
 {
     on_files(alloc, "check", "Checks a certificate of a story", true)
+}
+
+fn show<'a>(alloc: Global) -> Result<clap::Command<'a>, AllocError>
+    ensures app { IfOk result (λ show. app_of show ≡ show_app) }
+    ensures local { IfOk result (λ show. (fields_of show).has_globals ≡ false) }
+{
+    let show = on_files(alloc, "show", "Shows what a certificate says", true)?;
+    show.arg(address(alloc))
 }
 
 fn play<'a>(alloc: Global) -> Result<clap::Command<'a>, AllocError>
@@ -290,6 +325,18 @@ fn certificate<'a>(alloc: Global, required: bool) -> Arg<'a>
     ensures local { result.global ≡ false }
 {
     word(alloc, "CERT", "The certificate's file", required)
+}
+
+fn address<'a>(alloc: Global) -> Arg<'a>
+    ensures rule { rule_of result ≡ address_rule }
+    ensures local { result.global ≡ false }
+{
+    word(
+        alloc,
+        "ADDRESS",
+        "The address of an instruction, as zpc list writes it: 00325",
+        false,
+    )
 }
 
 fn code<'a>(alloc: Global) -> Arg<'a>

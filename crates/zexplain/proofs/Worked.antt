@@ -16,12 +16,12 @@ unfolding beginning
 first_of_each = (refl, refl, refl, refl, refl, refl, refl, refl, refl, refl, refl, refl)
 
 -- a code isn't told by its beginning
-longer : (beginning 4 (codes "L11") ≡ Some (codes "L11:")) × (beginning 4 (codes "I18") ≡ Some (codes "I18:")) × (beginning 4 (codes "F16") ≡ Some (codes "F16:"))
+longer : (beginning 4 (codes "L11") ≡ Some (codes "L11:")) × (beginning 4 (codes "I18") ≡ Some (codes "I18:")) × (beginning 4 (codes "F16") ≡ Some (codes "F16:")) × (beginning 3 (codes "K9") ≡ Some (codes "K9:"))
 unfolding beginning
-longer = (refl, refl, refl)
+longer = (refl, refl, refl, refl)
 
 -- what is no code has no text
 none :
     (explanation_of [] ≡ None) × (explanation_of (codes "L") ≡ None) × (explanation_of (codes "L0") ≡ None) × (explanation_of (codes "L13") ≡ None) × (explanation_of (codes "i5") ≡ None) × (explanation_of (codes "I05") ≡ None)
-    × (explanation_of (codes "I19") ≡ None) × (explanation_of (codes "X1") ≡ None) × (explanation_of (codes "N3") ≡ None)
-none = (refl, refl, refl, refl, refl, refl, refl, refl, refl)
+    × (explanation_of (codes "I19") ≡ None) × (explanation_of (codes "X1") ≡ None) × (explanation_of (codes "N3") ≡ None) × (explanation_of (codes "K10") ≡ None)
+none = (refl, refl, refl, refl, refl, refl, refl, refl, refl, refl)

@@ -1,7 +1,7 @@
 //! What is said of certificates that aren't read, that don't fit a story, or that aren't found.
 
 /// A file that is no certificate.
-pub const READING: [(&str, &str); 8] = [
+pub const READING: [(&str, &str); 9] = [
     (
         "K1",
         "K1: the file is no certificate.
@@ -12,7 +12,7 @@ Do: name the certificate behind the story, or find one anew with zpc find.
     (
         "K2",
         "K2: the certificate is of another version.
-Rule: its fifth byte is 1 (own).
+Rule: its fifth byte is 1 or 2 (own).
 Do: find a certificate anew with this program's zpc find.
 ",
     ),
@@ -33,7 +33,7 @@ Do: get it again, or find one anew with zpc find.
     (
         "K5",
         "K5: the certificate's parts are out of order.
-Rule: addresses rise, and so do frozen ranges, which don't touch each other (own).
+Rule: addresses rise, and so do the numbers of a list, and frozen ranges, which don't touch each other (own).
 Do: find a certificate anew with zpc find; a tool that writes them by itself is wrong.
 ",
     ),
@@ -56,6 +56,13 @@ Do: find a certificate anew with zpc find; a tool that writes them by itself is 
         "K8: memory was refused while a certificate was read.
 Rule: it is said as \"failed: memory\" where nothing is wrong with the file itself (own).
 Do: give the program more memory, and try again.
+",
+    ),
+    (
+        "K9",
+        "K9: a set of values is spelled in no known way.
+Rule: it is of kind 0, an interval, or of kind 1, a list of 2 to 64 numbers, which isn't every number from its first to its last (own).
+Do: find a certificate anew with zpc find; a tool that writes them by itself is wrong.
 ",
     ),
 ];
@@ -86,7 +93,7 @@ Do: find a certificate anew with zpc find.
     (
         "S4",
         "S4: a global begins with a value that the certificate doesn't state.
-Rule: the loaded value of each global lies in its interval (Z 6.2).
+Rule: the loaded value of each global is one that is stated for it (Z 6.2).
 Do: find a certificate anew with zpc find.
 ",
     ),

@@ -95,7 +95,7 @@ Do: call routines by name, and choose among them by switch: between two routines
     (
         "I13",
         "I13: what is returned isn't known, or there is nothing to return to.
-Rule: the main code doesn't return, and what a routine returns lies in its stated interval (Z 5.5, 6.4).
+Rule: the main code doesn't return, and what a routine returns is a value that is stated for it (Z 5.5, 6.4).
 Do: in a story, end the main routine with quit. Else find the certificate anew.
 ",
     ),
@@ -117,7 +117,7 @@ Do: assign the number to a local right before it is used: ptr = 2; @inc [ptr];
     (
         "I16",
         "I16: a global may get a value that the certificate doesn't state.
-Rule: what is stored to a global lies in its interval (own).
+Rule: what is stored to a global is a value that is stated for it (own).
 Do: find the certificate anew with zpc find.
 ",
     ),

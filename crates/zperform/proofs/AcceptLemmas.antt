@@ -1,19 +1,20 @@
 -- What was read of files, as what is known of them.
-use Rattle.std.proofs.Common.{◌≡◌, ◌≢◌, ℕ, Bool, List, Option, Some, None, ◌<◌, refl, sym, ap, subst, take, length, length-take, arith}
-use Rattle.std.specs.Prelude.{IfOk, IfErr, IsErr, IsErrAnd, Result, Ok, Err}
+use Rattle.std.proofs.Common.{◌≡◌, ◌≢◌, ◌⊎◌, inl, inr, ◌∙◌, true≢false, ℕ, Bool, List, Option, Some, None, ◌<◌, refl, sym, ap, subst, take, length, length-take, arith}
+use Rattle.std.specs.Prelude.{IfOk, IfErr, IfSome, IsErr, IsErrAnd, IsErrOf, Result, Ok, Err}
 use Rattle.zstory.specs.LoadedStory.{LoadedStory}
 use Rattle.zperform.specs.declared.outcome.Failure.TheVariants.{File, Read, Write, Memory}
 use Rattle.zperform.specs.declared.outcome.Problem.{Problem}
 use Rattle.zperform.specs.declared.outcome.Problem.TheVariants.{Refused, Unreadable, BreaksStory, BreaksInstruction, Unlisted, Unfound, Occupied, Failed}
 use Rattle.zstory.specs.Refusal.{HasNone, IsCause}
 use Rattle.zstory.specs.declared.load_error.LoadError.TheVariants.{TooShort}
-use Rattle.zdomain.specs.declared.interval.Interval.{Interval}
+use Rattle.zdomain.specs.Domain.{SetOperations}
 use Rattle.zcert.specs.Certificate.{Certificate}
-use Rattle.zdomain.specs.Interval.{interval_operations}
+use Rattle.zcert.specs.Format.{Format}
 use Rattle.zcheck.specs.Passes.{IsRefused as IsRefusedBy}
 use Rattle.zcheck.specs.declared.refusal.Refusal.{Refusal}
 use Rattle.zcheck.specs.declared.refusal.Refusal.TheVariants as refusals
 use Rattle.zperform.specs.Report.{problem_of_checking}
+use Rattle.zfault.specs.Devices.{RisesByOne}
 use Rattle.zperform.specs.Contents.{HasBytes}
 use Rattle.zperform.specs.Devices.{ReadsUnless}
 use Rattle.zperform.specs.Playing.{Holds, IsRefused, IsUnloaded}
@@ -36,45 +37,65 @@ pub story_bytes : (known : Option (List ℕ)) (story : LoadedStory) → HoldsSto
 story_bytes None story held = tt
 story_bytes (Some file) story (same_file, same, holds) = subst (λ (bytes : List ℕ). 0 < length bytes) same (sound_bytes same_file holds.no_cause)
 
--- what is refused of a story and a certificate is refused of their files
-pub refused_of : (story_known certificate_known : Option (List ℕ)) (story : LoadedStory) (c : Certificate Interval) → HoldsStory story_known story → HoldsCertificate certificate_known c
-    → (refusal : Refusal) → IsRefusedBy interval_operations story c refusal → IsUnaccepted story_known certificate_known (problem_of_checking refusal)
-refused_of story_known certificate_known story c held read (refusals.Story rule) why = record { story = story; certificate = c; held = held; read = read; why = why }
-refused_of story_known certificate_known story c held read (refusals.Instruction address rule) why = record { story = story; certificate = c; held = held; read = read; why = why }
-refused_of story_known certificate_known story c held read refusals.OutOfMemory why = story_bytes story_known story held
+module _ {V : Type 0} (o : SetOperations V) (format : Format V) (story_known certificate_known : Option (List ℕ)) where
+  -- what is refused of a story and a certificate is refused of their files
+  pub refused_of : (story : LoadedStory) (c : Certificate V) → HoldsStory story_known story → HoldsCertificate format certificate_known c
+      → (refusal : Refusal) → IsRefusedBy o story c refusal → IsUnaccepted o format story_known certificate_known (problem_of_checking refusal)
+  refused_of story c held read (refusals.Story rule) why = record { story = story; certificate = c; held = held; read = read; why = why }
+  refused_of story c held read (refusals.Instruction address rule) why = record { story = story; certificate = c; held = held; read = read; why = why }
+  refused_of story c held read refusals.OutOfMemory why = story_bytes story_known story held
 
--- no story is a story that isn't accepted
-pub no_story_refuses : (story_known certificate_known : Option (List ℕ)) (problem : Problem) → IsNoStory story_known problem → IsUnaccepted story_known certificate_known problem
-no_story_refuses story_known certificate_known (Refused error) h = h
-no_story_refuses story_known certificate_known (Unreadable error) h = absurd h
-no_story_refuses story_known certificate_known (BreaksStory rule) h = absurd h
-no_story_refuses story_known certificate_known (BreaksInstruction address rule) h = absurd h
-no_story_refuses story_known certificate_known (Unlisted error) h = absurd h
-no_story_refuses story_known certificate_known (Unfound error broken) h = absurd h
-no_story_refuses story_known certificate_known (Occupied purpose) h = absurd h
-no_story_refuses story_known certificate_known (Failed File) h = tt
-no_story_refuses story_known certificate_known (Failed Read) h = absurd h
-no_story_refuses story_known certificate_known (Failed Write) h = absurd h
-no_story_refuses story_known certificate_known (Failed Memory) h = h
+  -- no story is a story that isn't accepted
+  pub no_story_refuses : (problem : Problem) → IsNoStory story_known problem → IsUnaccepted o format story_known certificate_known problem
+  no_story_refuses (Refused error) h = h
+  no_story_refuses (Unreadable error) h = absurd h
+  no_story_refuses (BreaksStory rule) h = absurd h
+  no_story_refuses (BreaksInstruction address rule) h = absurd h
+  no_story_refuses (Unlisted error) h = absurd h
+  no_story_refuses (Unfound error broken) h = absurd h
+  no_story_refuses (Occupied purpose) h = absurd h
+  no_story_refuses (Failed File) h = tt
+  no_story_refuses (Failed Read) h = absurd h
+  no_story_refuses (Failed Write) h = absurd h
+  no_story_refuses (Failed Memory) h = h
 
--- nor is one with no certificate
-pub no_certificate_refuses : (story_known certificate_known : Option (List ℕ)) (story : LoadedStory) → HoldsStory story_known story → (problem : Problem) → IsNoCertificate certificate_known problem → IsUnaccepted story_known certificate_known problem
-no_certificate_refuses story_known certificate_known story held (Refused error) h = absurd h
-no_certificate_refuses story_known certificate_known story held (Unreadable error) h = ((story, held), h)
-no_certificate_refuses story_known certificate_known story held (BreaksStory rule) h = absurd h
-no_certificate_refuses story_known certificate_known story held (BreaksInstruction address rule) h = absurd h
-no_certificate_refuses story_known certificate_known story held (Unlisted error) h = absurd h
-no_certificate_refuses story_known certificate_known story held (Unfound error broken) h = absurd h
-no_certificate_refuses story_known certificate_known story held (Occupied purpose) h = absurd h
-no_certificate_refuses story_known certificate_known story held (Failed File) h = tt
-no_certificate_refuses story_known certificate_known story held (Failed Read) h = absurd h
-no_certificate_refuses story_known certificate_known story held (Failed Write) h = absurd h
-no_certificate_refuses story_known certificate_known story held (Failed Memory) h = story_bytes story_known story held
+  -- nor is one with no certificate
+  pub no_certificate_refuses : (story : LoadedStory) → HoldsStory story_known story → (problem : Problem) → IsNoCertificate format certificate_known problem → IsUnaccepted o format story_known certificate_known problem
+  no_certificate_refuses story held (Refused error) h = absurd h
+  no_certificate_refuses story held (Unreadable error) h = ((story, held), h)
+  no_certificate_refuses story held (BreaksStory rule) h = absurd h
+  no_certificate_refuses story held (BreaksInstruction address rule) h = absurd h
+  no_certificate_refuses story held (Unlisted error) h = absurd h
+  no_certificate_refuses story held (Unfound error broken) h = absurd h
+  no_certificate_refuses story held (Occupied purpose) h = absurd h
+  no_certificate_refuses story held (Failed File) h = tt
+  no_certificate_refuses story held (Failed Read) h = absurd h
+  no_certificate_refuses story held (Failed Write) h = absurd h
+  no_certificate_refuses story held (Failed Memory) h = story_bytes story_known story held
+
+-- the first bytes of a certificate's file, which were read
+pub first_read : (before after : List ℕ → Option (List ℕ)) (name items first : List ℕ) → after ≡ before → items ≡ first → ((bytes : List ℕ) → before name ≡ Some bytes → items ≡ take 5 bytes) → IfSome (after name) (λ file. first ≡ take 5 file)
+first_read before after name items first same is read = go (after name) refl
+  where
+    go : (known : Option (List ℕ)) → after name ≡ known → IfSome known (λ file. first ≡ take 5 file)
+    go None e = tt
+    go (Some file) e = sym is ∙ read file (ap (λ (known : List ℕ → Option (List ℕ)). known name) (sym same) ∙ e)
+
+module _ {V : Type 0} (o : SetOperations V) (format : Format V) (story_known certificate_known : Option (List ℕ)) where
+  -- they failed to be read
+  pub first_unread : (story : LoadedStory) → HoldsStory story_known story → (problem : Problem) → (problem ≡ Failed File) ⊎ (problem ≡ Failed Memory) → IsUnaccepted o format story_known certificate_known problem
+  first_unread story held problem (inl is) = subst (IsUnaccepted o format story_known certificate_known) (sym is) tt
+  first_unread story held problem (inr is) = subst (IsUnaccepted o format story_known certificate_known) (sym is) (story_bytes story_known story held)
 
 -- an error that is handed on
 pub handed_on : {T : Type 0} (P : Problem → Type 0) (r : Result T Problem) (problem : Problem) → IsErr r × IsErrAnd r (λ q. q ≡ problem) → P problem → IfErr r P
 handed_on P (Ok x) problem (is, same) h = tt
 handed_on P (Err q) problem (is, same) h = subst P (sym same) h
+
+-- what holds of a value, of what follows from it
+pub for_value : {T E : Type 0} (P Q : T → Type 0) (r : Result T E) → ((value : T) → P value → Q value) → IfOk r P → IfOk r Q
+for_value P Q (Ok value) follows h = follows value h
+for_value P Q (Err e) follows h = tt
 
 -- another reason for an error
 pub for_reason : {T : Type 0} (P Q : Problem → Type 0) (r : Result T Problem) → ((problem : Problem) → P problem → Q problem) → IfErr r P → IfErr r Q
@@ -89,6 +110,28 @@ no_reason P problem (Err other) none h e = none (subst P (let is : other ≡ pro
 -- files that were read, and then nothing more of them
 pub read_on : {F : Type 0} (known : F → List ℕ → Option (List ℕ)) (failures : F → ℕ) (can_fail : F → List ℕ → Bool) (old new : F) (failed fails : Type 0) → ReadsUnless known failures can_fail old new failed → ¬ failed → ¬ fails → ReadsUnless known failures can_fail old new fails
 read_on known failures can_fail old new failed fails files well still = record { blamed = ((λ is. absurd (still is)), λ other. files.blamed.1 well); kept = files.kept; alike = files.alike }
+
+-- files of which nothing failed
+pub read_so_far : {F : Type 0} (known : F → List ℕ → Option (List ℕ)) (failures : F → ℕ) (can_fail : F → List ℕ → Bool) (old new : F) (fails : Type 0) → known new ≡ known old → failures new ≡ failures old → can_fail new ≡ can_fail old → ¬ fails → ReadsUnless known failures can_fail old new fails
+read_so_far known failures can_fail old new fails kept unfailed alike still = record { blamed = ((λ is. absurd (still is)), λ other. unfailed); kept = kept; alike = alike }
+
+-- files of which nothing failed so far, and then more of them
+module _ {F : Type 0} (known : F → List ℕ → Option (List ℕ)) (failures : F → ℕ) (can_fail : F → List ℕ → Bool) (old mid new : F) (kept : known mid ≡ known old) (unfailed : failures mid ≡ failures old) (alike : can_fail mid ≡ can_fail old) where
+  read_behind : (failed fails : Type 0) → ReadsUnless known failures can_fail mid new failed → (fails → failed) → (failed → fails) → ReadsUnless known failures can_fail old new fails
+  read_behind failed fails files on back = record {
+    blamed = ((λ is. subst (λ (n : ℕ). RisesByOne n (failures new)) unfailed (files.blamed.0 (on is))), λ other. files.blamed.1 (λ is. other (back is)) ∙ unfailed);
+    kept = files.kept ∙ kept;
+    alike = files.alike ∙ alike;
+  }
+
+  -- with no failure
+  pub read_well : (failed fails : Type 0) → ReadsUnless known failures can_fail mid new failed → ¬ failed → ¬ fails → ReadsUnless known failures can_fail old new fails
+  read_well failed fails files well still = read_behind failed fails files (λ is. absurd (still is)) (λ is. absurd (well is))
+
+  -- an error that is handed on
+  pub read_and_handed : {A T : Type 0} (r : Result T Problem) (problem : Problem) → IsErr r × IsErrAnd r (λ q. q ≡ problem) → ReadsUnless known failures can_fail mid new (IsErrOf {T = A} (Err problem) (Failed File)) → ReadsUnless known failures can_fail old new (IsErrOf r (Failed File))
+  read_and_handed (Ok x) problem (is, same) files = absurd (true≢false (sym is))
+  read_and_handed (Err q) problem (is, same) files = read_behind _ _ files (λ e. ap Err (sym same ∙ (let file : q ≡ Failed File = cc in file))) (λ e. ap Err (same ∙ (let file : problem ≡ Failed File = cc in file)))
 
 module _ (known : Option (List ℕ)) (taken : List ℕ) (part : (file : List ℕ) → known ≡ Some file → taken ≡ take 131073 file) where
   -- the part that was read holds a story, and so does the file

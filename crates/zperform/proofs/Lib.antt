@@ -6,5 +6,8 @@ mod AcceptLemmas
 mod FeedLemmas
 mod EndLemmas
 mod SessionLemmas
+mod AddressLemmas
+mod ShowLemmas
 mod Worked
 mod WorkedClaims
+mod WorkedShowing

@@ -4,9 +4,10 @@ use Rattle.std.specs.Prelude.{ℤ, Bool, Option, Result, Ok, Err, IfOk, IsErr, I
 use Rattle.zfault.specs.declared.fault.Fault.{Fault}
 use Rattle.zquetzal.specs.declared.error.SaveError.{SaveError}
 use Rattle.zstate.specs.State.{State, opening}
-use Rattle.zdomain.specs.Interval.{interval_operations}
-use Rattle.zcheck.specs.Acceptance.{Acceptance}
-use Rattle.zplay.specs.Session.{Playing, setting_of}
+use Rattle.zdomain.specs.Domain.{SetOperations}
+use Rattle.zcert.specs.Format.{Format}
+use Rattle.zcheck.specs.Acceptance.{AcceptanceOver}
+use Rattle.zplay.specs.Session.{PlayingOver, setting_of}
 use Rattle.zplayer.specs.declared.end.End.{End}
 use Rattle.zplayer.specs.declared.end.End.TheVariants as ends
 use Rattle.zplayer.specs.declared.end.Options.{Options}
@@ -20,8 +21,9 @@ use Rattle.zperform.specs.declared.outcome.Failure.{Failure}
 use Rattle.zperform.specs.declared.outcome.Failure.TheVariants.{File, Read, Write, Memory}
 use Rattle.zperform.specs.declared.outcome.Problem.{Problem}
 use Rattle.zperform.specs.declared.outcome.Problem.TheVariants.{Refused, Unreadable, BreaksStory, BreaksInstruction, Unlisted, Unfound, Occupied, Failed}
+use Rattle.zperform.specs.declared.outcome.Outcome.{Outcome}
 use Rattle.zperform.specs.declared.outcome.Outcome.TheVariants.{Played, Stopped}
-use Rattle.zperform.specs.Accepting.{Accepts, IsAccepted, IsPlayedBy, IsUnaccepted, PlayComesTo}
+use Rattle.zperform.specs.Accepting.{Accepts, IsAccepted, IsPlayedBy, IsUnaccepted, IsUnacceptedStory, PlayComesTo, PlayEnds}
 use Rattle.zperform.specs.Playing.{StaysEmpty}
 use Rattle.zperform.specs.Report.{outcome_of, problem_of_play}
 use Rattle.zperform.specs.Contents.{HasBytes}
@@ -80,57 +82,66 @@ pub was_no_file : (r : Result End Problem) (error : PlayError) → IsErr r × Is
 was_no_file (Ok end) error (is, same) e = absurd cc
 was_no_file (Err q) error (is, same) e = no_file error (sym same ∙ (let file : q ≡ Failed File = cc in file))
 
-module _ (story certificate : Option (List ℕ)) where
+-- what is handed on of a problem that stopped a play
+pub handed_on : (P : Outcome → Type 0) (r : Result End Problem) (problem : Problem) → IsErr r × IsErrAnd r (λ q. q ≡ problem) → P (Stopped problem) → P (outcome_of r)
+handed_on P (Ok end) problem (is, same) h = absurd (true≢false (sym is))
+handed_on P (Err q) problem (is, same) h = subst (λ (x : Problem). P (Stopped x)) (sym same) h
+
+module _ {V : Type 0} (o : SetOperations V) (format : Format V) (story certificate : Option (List ℕ)) where
   -- neither the writer nor the reader is blamed for what isn't accepted
-  pub unblamed : (problem : Problem) → IsUnaccepted story certificate problem → (problem ≢ Failed Write) × (problem ≢ Failed Read)
-  unblamed (Refused error) h = (λ e. cc, λ e. cc)
-  unblamed (Unreadable error) h = (λ e. cc, λ e. cc)
-  unblamed (BreaksStory rule) h = (λ e. cc, λ e. cc)
-  unblamed (BreaksInstruction address rule) h = (λ e. cc, λ e. cc)
-  unblamed (Unlisted error) h = absurd h
-  unblamed (Unfound error broken) h = absurd h
-  unblamed (Occupied purpose) h = absurd h
-  unblamed (Failed File) h = (λ e. cc, λ e. cc)
-  unblamed (Failed Memory) h = (λ e. cc, λ e. cc)
-  unblamed (Failed Read) h = absurd h
-  unblamed (Failed Write) h = absurd h
+  blameless : (problem : Problem) → IsUnaccepted o format story certificate problem → (problem ≢ Failed Write) × (problem ≢ Failed Read)
+  blameless (Refused error) h = (λ e. cc, λ e. cc)
+  blameless (Unreadable error) h = (λ e. cc, λ e. cc)
+  blameless (BreaksStory rule) h = (λ e. cc, λ e. cc)
+  blameless (BreaksInstruction address rule) h = (λ e. cc, λ e. cc)
+  blameless (Unlisted error) h = absurd h
+  blameless (Unfound error broken) h = absurd h
+  blameless (Occupied purpose) h = absurd h
+  blameless (Failed File) h = (λ e. cc, λ e. cc)
+  blameless (Failed Memory) h = (λ e. cc, λ e. cc)
+  blameless (Failed Read) h = absurd h
+  blameless (Failed Write) h = absurd h
 
--- what isn't accepted isn't played, and no save is refused
-pub unplayed : (story certificate : Option (List ℕ)) (options : Options) (given : World) (before : Option (List ℕ)) (problem : Problem) → IsUnaccepted story certificate problem
-    → PlayComesTo story certificate options given [] before before (Stopped problem)
-unplayed story certificate options given before (Refused error) h = (h, refl, refl)
-unplayed story certificate options given before (Unreadable error) h = (h, refl, refl)
-unplayed story certificate options given before (BreaksStory rule) h = (h, refl, refl)
-unplayed story certificate options given before (BreaksInstruction address rule) h = (h, refl, refl)
-unplayed story certificate options given before (Unlisted error) h = absurd h
-unplayed story certificate options given before (Unfound error broken) h = absurd h
-unplayed story certificate options given before (Occupied purpose) h = absurd h
-unplayed story certificate options given before (Failed File) h = (h, refl, refl)
-unplayed story certificate options given before (Failed Memory) h = inl (refl, refl, h)
-unplayed story certificate options given before (Failed Read) h = absurd h
-unplayed story certificate options given before (Failed Write) h = absurd h
-
-module _ (story certificate : Option (List ℕ)) (options : Options) (given : World) (refusals : List SaveError) (before : Option (List ℕ)) where
-  pub handed_on : (now : Option (List ℕ)) (r : Result End Problem) (problem : Problem) → IsErr r × IsErrAnd r (λ q. q ≡ problem)
-      → PlayComesTo story certificate options given refusals before now (Stopped problem) → PlayComesTo story certificate options given refusals before now (outcome_of r)
-  handed_on now (Ok end) problem (is, same) h = absurd (true≢false (sym is))
-  handed_on now (Err q) problem (is, same) h = subst (λ (x : Problem). PlayComesTo story certificate options given refusals before now (Stopped x)) (sym same) h
+  -- what isn't accepted isn't played, and no save is refused
+  unplayed_with : (options : Options) (given : World) (before : Option (List ℕ)) (problem : Problem) → IsUnaccepted o format story certificate problem → PlayEnds o format story certificate options given [] before before (Stopped problem)
+  unplayed_with options given before (Refused error) h = (h, refl, refl)
+  unplayed_with options given before (Unreadable error) h = (h, refl, refl)
+  unplayed_with options given before (BreaksStory rule) h = (h, refl, refl)
+  unplayed_with options given before (BreaksInstruction address rule) h = (h, refl, refl)
+  unplayed_with options given before (Unlisted error) h = absurd h
+  unplayed_with options given before (Unfound error broken) h = absurd h
+  unplayed_with options given before (Occupied purpose) h = absurd h
+  unplayed_with options given before (Failed File) h = (h, refl, refl)
+  unplayed_with options given before (Failed Memory) h = inl (refl, refl, h)
+  unplayed_with options given before (Failed Read) h = absurd h
+  unplayed_with options given before (Failed Write) h = absurd h
 
   -- memory for the session was refused
-  pub unopened : (a : Acceptance) → IsAccepted story certificate a → HasBytes story
+  pub unopened : (a : AcceptanceOver V) → IsAccepted o format story certificate a → HasBytes story
   unopened a accepted = story_bytes story a.story accepted.story
 
   -- a session that opened
-  module _ (a : Acceptance) (accepted : IsAccepted story certificate a) (p : Playing) (opened : p ≡ record { accepted = a; state = opening a.story }) (now : Option (List ℕ)) (state : State) (words : Option Coming) (store : Store) (unsaved : StaysEmpty given.store store) (refused : store.refusals ≡ refusals) where
-    by : (result : Result End PlayError) → PlayComes (setting_of p.accepted) (Describes interval_operations p.accepted) (GivesOrSaves (setting_of p.accepted)) options given p.state state words store before now result → IfOk result (λ end. (fault : Fault) (place : ℤ) → end ≢ ends.Fault fault place)
-        → Accepts story certificate (λ a. IsPlayedBy a options given refusals before now result)
+  module _ (options : Options) (given : World) (refusals : List SaveError) (before : Option (List ℕ)) (a : AcceptanceOver V) (accepted : IsAccepted o format story certificate a) (p : PlayingOver V) (opened : p ≡ record { accepted = a; state = opening a.story }) (now : Option (List ℕ)) (state : State) (words : Option Coming) (store : Store) (unsaved : StaysEmpty given.store store) (refused : store.refusals ≡ refusals) where
+    by : (result : Result End PlayError) → PlayComes (setting_of p.accepted) (Describes o p.accepted) (GivesOrSaves (setting_of p.accepted)) options given p.state state words store before now result → IfOk result (λ end. (fault : Fault) (place : ℤ) → end ≢ ends.Fault fault place)
+        → Accepts o format story certificate (λ a. IsPlayedBy o a options given refusals before now result)
     by result comes safe =
-        (a, accepted, record { state = state; words = words; store = store; comes = subst (λ (q : Playing). PlayComes (setting_of q.accepted) (Describes interval_operations q.accepted) (GivesOrSaves (setting_of q.accepted)) options given q.state state words store before now result) opened comes; unsaved = unsaved; refused = refused; safe = safe })
+        (a, accepted, record { state = state; words = words; store = store; comes = subst (λ (q : PlayingOver V). PlayComes (setting_of q.accepted) (Describes o q.accepted) (GivesOrSaves (setting_of q.accepted)) options given q.state state words store before now result) opened comes; unsaved = unsaved; refused = refused; safe = safe })
 
-    pub played : (end : End) → PlayComes (setting_of p.accepted) (Describes interval_operations p.accepted) (GivesOrSaves (setting_of p.accepted)) options given p.state state words store before now (Ok end) → ((fault : Fault) (place : ℤ) → end ≢ ends.Fault fault place) → PlayComesTo story certificate options given refusals before now (Played end)
+    pub played : (end : End) → PlayComes (setting_of p.accepted) (Describes o p.accepted) (GivesOrSaves (setting_of p.accepted)) options given p.state state words store before now (Ok end) → ((fault : Fault) (place : ℤ) → end ≢ ends.Fault fault place)
+        → PlayEnds o format story certificate options given refusals before now (Played end)
     played end comes safe = by (Ok end) comes safe
 
-    pub broken : (error : PlayError) → PlayComes (setting_of p.accepted) (Describes interval_operations p.accepted) (GivesOrSaves (setting_of p.accepted)) options given p.state state words store before now (Err error) → PlayComesTo story certificate options given refusals before now (Stopped (problem_of_play error))
+    pub broken : (error : PlayError) → PlayComes (setting_of p.accepted) (Describes o p.accepted) (GivesOrSaves (setting_of p.accepted)) options given p.state state words store before now (Err error) → PlayEnds o format story certificate options given refusals before now (Stopped (problem_of_play error))
     broken errors.Read comes = by (Err errors.Read) comes tt
     broken errors.Write comes = by (Err errors.Write) comes tt
     broken errors.OutOfMemory comes = inr (by (Err errors.OutOfMemory) comes tt)
+
+-- with a certificate of either version
+module _ (story certificate : Option (List ℕ)) where
+  pub unblamed : (problem : Problem) → IsUnacceptedStory story certificate problem → (problem ≢ Failed Write) × (problem ≢ Failed Read)
+  unblamed problem (inl h) = blameless _ _ story certificate problem h
+  unblamed problem (inr h) = blameless _ _ story certificate problem h
+
+  pub unplayed : (options : Options) (given : World) (before : Option (List ℕ)) (problem : Problem) → IsUnacceptedStory story certificate problem → PlayComesTo story certificate options given [] before before (Stopped problem)
+  unplayed options given before problem (inl h) = inl (unplayed_with _ _ story certificate options given before problem h)
+  unplayed options given before problem (inr h) = inr (unplayed_with _ _ story certificate options given before problem h)

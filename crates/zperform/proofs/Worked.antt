@@ -8,13 +8,16 @@ use Rattle.zstory.specs.LoadedStory.{LoadedStory}
 use Rattle.zstory.specs.Refusal.{number_of}
 use Rattle.zstory.specs.declared.load_error.LoadError.{LoadError}
 use Rattle.zstory.specs.declared.load_error.LoadError.TheVariants as loads
+use Rattle.zcert.specs.declared.error.CertError.{CertError}
 use Rattle.zcert.specs.declared.error.CertError.TheVariants as readings
 use Rattle.zcert.specs.Format.{interval_format}
-use Rattle.zcert.specs.Reading.{heading_at, magic_at, reading}
+use Rattle.zcert.specs.Lists.{values_format}
+use Rattle.zcert.specs.Reading.{heading_at, identity_at, magic_at, reading, version_at}
 use Rattle.zcert.specs.Streaming.{Stream, IsFed}
 use Rattle.zdomain.specs.declared.interval.Interval.{Interval}
 use Rattle.zrule.specs.declared.rule.Rule.TheVariants as rules
-use Rattle.zcheck.specs.Acceptance.{Acceptance}
+use Rattle.zdomain.specs.Domain.{SetOperations}
+use Rattle.zcheck.specs.Acceptance.{AcceptanceOver}
 use Rattle.zcheck.specs.declared.refusal.StoryRule.TheVariants as story_rules
 use Rattle.zcheck.specs.declared.refusal.Refusal.TheVariants as refusals
 use Rattle.zcheck.specs.declared.refusal.StreamRefusal.TheVariants as streams
@@ -43,8 +46,8 @@ use Rattle.zlist.specs.declared.list_error.ListError.TheVariants as listings
 use Rattle.zlist.specs.declared.record.Record.{Record}
 use Rattle.zperform.specs.Listing.{IsNoListing, listing_text}
 use Rattle.zperform.specs.Contents.{GivesPart, IsBeginning}
-use Rattle.zperform.specs.Accepting.{CheckComesTo, HoldsStory, IsFedTo, IsNoCertificate, IsPlayedBy, PlayComesTo, Stops}
-use Rattle.zcommand.specs.CommandLine.{ListStory, Find, Check, Play, Explain}
+use Rattle.zperform.specs.Accepting.{CheckComesTo, HoldsStory, IsFedTo, IsNoCertificate, IsPlayedBy, IsUnread, PlayComesTo, Stops, version_of}
+use Rattle.zcommand.specs.CommandLine.{ListStory, Find, Check, Show, Play, Explain}
 use Rattle.zplayer.specs.World.{World}
 use Rattle.zperform.specs.Devices.{Breaks, Ends, FlushesUnless, Held, ReadsUnless, Says, Seen, Takes, UsesUnless}
 use Rattle.zperform.specs.Performing.{IsBlamed, given, is_quiet, is_request, store_of, written_by}
@@ -213,8 +216,23 @@ stores : (store_of None ≡ record { kept = Some None; failures = 0; refusals = 
 stores = (refl, refl)
 
 -- a certificate's file may fail, is cut off where it is empty, and wants memory only where it has bytes
-unread : IsNoCertificate (Some []) (Failed File) × IsNoCertificate (Some []) (Unreadable readings.Truncated) × (IsNoCertificate (Some []) (Failed Memory) → ⊥) × IsNoCertificate (Some (90 ∷ [])) (Failed Memory) × (IsNoCertificate None (Failed Read) → ⊥)
-unread = (tt, ([], refl, empty_certificate), (λ bytes. omega (arith, bytes)), omega arith, λ never. never)
+unread :
+    IsNoCertificate interval_format (Some []) (Failed File) × IsNoCertificate interval_format (Some []) (Unreadable readings.Truncated) × (IsNoCertificate interval_format (Some []) (Failed Memory) → ⊥) × IsNoCertificate interval_format (Some (90 ∷ [])) (Failed Memory)
+    × (IsNoCertificate interval_format None (Failed Read) → ⊥)
+unread = (tt, ([], refl, (refl, empty_certificate)), (λ bytes. omega (arith, bytes)), omega arith, λ never. never)
+
+-- the fifth byte tells the version: 2 is version 2, and all else version 1, also where it isn't there
+versions :
+    (version_of [] ≡ 1) × (version_of (codes "ZPCC") ≡ 1) × (version_of (codes "ZPCC" ++ 0 ∷ []) ≡ 1) × (version_of (codes "ZPCC" ++ 1 ∷ []) ≡ 1) × (version_of (codes "ZPCC" ++ 2 ∷ []) ≡ 2) × (version_of (codes "ZPCC" ++ 3 ∷ []) ≡ 1)
+    × (version_of (2 ∷ 2 ∷ 2 ∷ 2 ∷ 1 ∷ 2 ∷ []) ≡ 1) × (version_of (1 ∷ 1 ∷ 1 ∷ 1 ∷ 2 ∷ 1 ∷ []) ≡ 2) × (interval_format.version ≡ 1) × (values_format.version ≡ 2)
+versions = (refl, refl, refl, refl, refl, refl, refl, refl, refl, refl)
+
+-- so version 3 is refused in version 1, and a file of version 2 that is cut off in its own
+refused_versions :
+    IsUnread interval_format (codes "ZPCC" ++ 3 ∷ []) readings.Version × IsUnread values_format (codes "ZPCC" ++ 2 ∷ []) readings.Truncated × ((error : CertError) → IsUnread interval_format (codes "ZPCC" ++ 2 ∷ []) error → ⊥)
+    × ((error : CertError) → IsUnread values_format (codes "ZPCC" ++ 1 ∷ []) error → ⊥)
+unfolding reading heading_at magic_at version_at identity_at
+refused_versions = ((refl, refl), (refl, refl), (λ error unread. omega (arith, unread.0)), λ error unread. omega (arith, unread.0))
 
 -- of a file of three bytes a buffer with room for three gets the last two from place 1 on, and none from its end on
 part_given : GivesPart (10 ∷ 20 ∷ 30 ∷ []) 1 2 (20 ∷ 30 ∷ 99 ∷ []) × GivesPart (10 ∷ 20 ∷ 30 ∷ []) 3 0 (99 ∷ [])
@@ -229,10 +247,10 @@ begun : IsBeginning (10 ∷ 20 ∷ []) (10 ∷ 20 ∷ 30 ∷ []) × IsBeginning 
 begun = (refl, refl, λ e. absurd cc, λ e. absurd cc)
 
 -- a stream was fed the first two bytes of three; not two bytes of one, nor two at the count of one
-fed_to : (s : Stream Interval) → IsFed interval_format s (90 ∷ 80 ∷ []) → IsFedTo (Some (90 ∷ 80 ∷ 67 ∷ [])) 2 s
-fed_to s came = record { fed = 90 ∷ 80 ∷ []; first = refl; counted = refl; came = came }
+fed_to : (s : Stream Interval) → IsFed interval_format s (90 ∷ 80 ∷ []) → IsFedTo interval_format (Some (90 ∷ 80 ∷ 67 ∷ [])) 2 s
+fed_to s came = record { fed = 90 ∷ 80 ∷ []; version = refl; first = refl; counted = refl; came = came }
 
-not_fed_to : (s : Stream Interval) → (IsFedTo (Some (90 ∷ [])) 2 s → ⊥) × ((to : IsFedTo (Some (90 ∷ 80 ∷ [])) 1 s) → IsFed interval_format s (90 ∷ []))
+not_fed_to : (s : Stream Interval) → (IsFedTo interval_format (Some (90 ∷ [])) 2 s → ⊥) × ((to : IsFedTo interval_format (Some (90 ∷ 80 ∷ [])) 1 s) → IsFed interval_format s (90 ∷ []))
 not_fed_to s = (
   λ to. omega (arith, to.counted, ap length to.first, length-take {A = ℕ} (length to.fed) (90 ∷ [])),
   λ to. subst (IsFed interval_format s) (to.first ∙ ap (λ (n : ℕ). take n (90 ∷ 80 ∷ [])) to.counted) to.came,
@@ -319,6 +337,7 @@ blamed :
     × IsBlamed (Play (5 ∷ []) None 1 100 false (Some (6 ∷ [])) false false) (drawer 0 [] [] (5 ∷ [])) × (IsBlamed (Play (5 ∷ []) None 1 100 false (Some (6 ∷ [])) false false) (drawer 0 [] [] (6 ∷ [])) → ⊥)
     × IsBlamed (Check (5 ∷ []) (6 ∷ [])) (drawer 0 [] [] (5 ∷ [])) × (IsBlamed (Check (5 ∷ []) (6 ∷ [])) (drawer 0 (5 ∷ []) [] (6 ∷ [])) → ⊥) × (IsBlamed (Check (5 ∷ []) (6 ∷ [])) (drawer 0 [] [] (7 ∷ [])) → ⊥)
     × IsBlamed (Play (5 ∷ []) (Some (6 ∷ [])) 1 100 false None false false) (drawer 0 [] [] (5 ∷ [])) × (IsBlamed (Play (5 ∷ []) (Some (6 ∷ [])) 1 100 false None false false) (drawer 0 (5 ∷ []) [] (6 ∷ [])) → ⊥)
+    × IsBlamed (Show (5 ∷ []) (6 ∷ []) None) (drawer 0 [] [] (5 ∷ [])) × (IsBlamed (Show (5 ∷ []) (6 ∷ []) None) (drawer 0 (5 ∷ []) [] (6 ∷ [])) → ⊥)
     × IsBlamed (Find (5 ∷ []) (6 ∷ []) false) (drawer 0 [] [] (5 ∷ [])) × (IsBlamed (Find (5 ∷ []) (6 ∷ []) false) (drawer 0 (5 ∷ []) [] (6 ∷ [])) → ⊥) × (IsBlamed (Explain (5 ∷ [])) (drawer 0 [] [] (5 ∷ [])) → ⊥)
 unfolding drawer
 blamed = (
@@ -332,6 +351,8 @@ blamed = (
   inl refl,
   of_none,
   of_another,
+  inl refl,
+  of_none,
   inl refl,
   of_none,
   inl refl,
@@ -363,7 +384,11 @@ unlisted_empty (inr (story, holds, why)) = omega (arith, story_bytes (Some []) s
 never : (story certificate before now : Option (List ℕ)) (options : Options) (outside : World) →
     (ComesTo story options outside [] before now Accepted → ⊥) × (PlayComesTo story certificate options outside [] before now Accepted → ⊥)
     × (CheckComesTo story certificate before now (Played ends.Quit) → ⊥) × (CheckComesTo story certificate before now (Stopped (Failed Read)) → ⊥)
-never story certificate before now options outside = (λ no. no, λ no. no, λ no. no, λ no. no.0)
+never story certificate before now options outside = (λ no. no, none, λ no. no, λ no. none no.0)
+  where
+    none : ⊥ ⊎ ⊥ → ⊥
+    none (inl accepts) = accepts
+    none (inr accepts) = accepts
 
 -- input is read for a play alone
 input_read : (is_quiet (ListStory (codes "hello.z3") None) ≡ true) × (is_quiet (ListStory (codes "hello.z3") (Some (codes "hello.cert"))) ≡ true) × (is_quiet (Find (codes "hello.z3") (codes "hello.cert") false) ≡ true) × (is_quiet (Explain (codes "I5")) ≡ true) × (is_quiet (Check (codes "hello.z3") (codes "hello.cert")) ≡ true) × (is_quiet (Play (codes "hello.z3") None 1 100 false None false false) ≡ false)
@@ -381,10 +406,10 @@ kept_whole = (refl, λ e. omega (arith, ap length e))
 
 -- where saves are kept nowhere, none is kept by a play of either machine, whatever comes of it
 kept_nowhere :
-    (input before now : Option (List ℕ)) (seed : ℕ) (options : Options) (result : Result End PlayError)
+    {V : Type 0} (o : SetOperations V) (input before now : Option (List ℕ)) (seed : ℕ) (options : Options) (result : Result End PlayError)
     → ((file : List ℕ) (p : IsPlayed file options (given input seed (store_of None)) [] before now result) → p.store.kept ≡ Some None)
-    × ((a : Acceptance) (p : IsPlayedBy a options (given input seed (store_of None)) [] before now result) → p.store.kept ≡ Some None)
-kept_nowhere input before now seed options result = (λ file p. p.unsaved refl, λ a p. p.unsaved refl)
+    × ((a : AcceptanceOver V) (p : IsPlayedBy o a options (given input seed (store_of None)) [] before now result) → p.store.kept ≡ Some None)
+kept_nowhere o input before now seed options result = (λ file p. p.unsaved refl, λ a p. p.unsaved refl)
 
 -- ---- files that are to be written over
 

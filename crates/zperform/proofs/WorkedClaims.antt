@@ -8,12 +8,13 @@ use Rattle.zfault.specs.Devices.{AppendsBeginning}
 use Rattle.zstory.specs.LoadedStory.{LoadedStory}
 use Rattle.zstory.specs.declared.load_error.LoadError.{LoadError}
 use Rattle.zstate.specs.State.{Setting, State}
-use Rattle.zdomain.specs.declared.interval.Interval.{Interval}
+use Rattle.zdomain.specs.Domain.{SetOperations}
 use Rattle.zcert.specs.Certificate.{Certificate}
-use Rattle.zcert.specs.Format.{interval_format}
+use Rattle.zcert.specs.Format.{Format}
 use Rattle.zcert.specs.Reading.{heading_at, magic_at, reading}
+use Rattle.zlist.specs.declared.record.Record.{Record}
 use Rattle.zrule.specs.declared.rule.Rule.{Rule}
-use Rattle.zcheck.specs.Acceptance.{Acceptance}
+use Rattle.zcheck.specs.Acceptance.{AcceptanceOver}
 use Rattle.zcheck.specs.declared.refusal.StoryRule.{StoryRule}
 use Rattle.zcommand.specs.CommandLine.{ListStory, Find, Check, Play, Explain}
 use Rattle.zref.specs.Machine.{setting_of}
@@ -27,15 +28,17 @@ use Rattle.zplayer.specs.Outside.{Blames, Coming}
 use Rattle.zquetzal.specs.declared.error.SaveError.TheVariants.{Compressed, Length, NotDescribed, NotForm}
 use Rattle.zplayer.specs.Playing.{GivesOrSaves, WantsOrSaves, ComesTo as PlayComes}
 use Rattle.zplayer.specs.World.{Store, World}
+use Rattle.zperform.specs.declared.accepting.AcceptedStory.{AcceptedStory}
+use Rattle.zperform.specs.declared.accepting.AcceptedStory.TheVariants.{Intervals, Lists}
 use Rattle.zperform.specs.declared.outcome.Failure.TheVariants.{File, Read, Write, Memory}
 use Rattle.zperform.specs.declared.outcome.Problem.TheVariants.{Refused, BreaksStory, BreaksInstruction, Failed}
 use Rattle.zperform.specs.declared.outcome.Outcome.{Outcome}
 use Rattle.zperform.specs.declared.outcome.Outcome.TheVariants.{Listed, Found, Accepted, Explained, NoSuchCode, Played, Stopped}
-use Rattle.zperform.specs.Accepting.{CheckComesTo, HoldsCertificate, HoldsStory, IsAccepted, IsPlayedBy, IsUnaccepted, PlayComesTo}
+use Rattle.zperform.specs.Accepting.{CheckComesTo, HoldsCertificate, HoldsStory, IsAccepted, IsAcceptedStory, IsPlayedBy, IsUnaccepted, IsUnacceptedStory, PlayComesTo, PlayEnds}
 use Rattle.zperform.specs.Contents.{CountsNone, ReadsPart, SparesOthers}
 use Rattle.zperform.specs.Devices.{Breaks, Devices, Ends, FlushesUnless, Held, ReadsUnless, Says, Seen, Takes, Told, UsesUnless, Writes, devices}
 use Rattle.zperform.specs.Finding.{ExplainComesTo, FindComesTo, FindEnds, HasAlone, IsFound, IsNotFound, found_line}
-use Rattle.zperform.specs.Listing.{HoldsListed, HoldsListedBy, IsNoListing, ListByComesTo, ListComesTo, listing_text}
+use Rattle.zperform.specs.Listing.{HoldsListed, IsNoListing, ListByComesTo, ListComesTo, listing_text}
 use Rattle.zperform.specs.Performing.{Begins, Comes, Does, Explains, IsBlamed, Lacks, Performs, Reports, Shows, Tells, given, is_quiet, said_by, save_in, store_of, written_by}
 use Rattle.zperform.specs.Report.{line_of}
 use Rattle.zperform.specs.Telling.{SaysEach, refusal_text, said_of}
@@ -195,6 +198,11 @@ module _ (story certificate : List ℕ) (held holds : List ℕ → Option (List 
       × (Comes (Play story (Some certificate) seed budget status save tell force) held holds input [] before now outcome → PlayComesTo (held story) (held certificate) (record { budget = budget; status = status }) (given input seed (store_of save)) [] before now outcome)
   comes_of_plays seed budget status save tell force = (λ comes. comes, λ comes. comes)
 
+-- what holds with a certificate of neither version
+neither : {A B : Type 0} → (A → ⊥) → (B → ⊥) → A ⊎ B → ⊥
+neither not_a not_b (inl a) = not_a a
+neither not_a not_b (inr b) = not_b b
+
 -- nothing is written where a file isn't read, is no story, or wants memory
 abbrev IsUnwritten : (Option (List ℕ) → Option (List ℕ) → Outcome → Type 0) → Outcome → Type 0
 IsUnwritten ComesSo outcome = ComesSo (Some (1 ∷ [])) (Some (1 ∷ 2 ∷ [])) outcome → ⊥
@@ -211,9 +219,9 @@ unwritten options outside error = (
   λ comes. longer comes.0,
   λ comes. longer comes.1,
   no_memory,
-  λ comes. longer comes.1,
-  λ comes. longer comes.1,
-  no_memory_to_accept,
+  neither (λ comes. longer comes.1) (λ comes. longer comes.1),
+  neither (λ comes. longer comes.1) (λ comes. longer comes.1),
+  neither (no_memory_to_accept _ _) (no_memory_to_accept _ _),
   λ comes. longer comes.1,
   λ comes. longer comes.1,
   λ comes. longer comes.1,
@@ -225,9 +233,9 @@ unwritten options outside error = (
     no_memory (inl (same, none, some)) = longer same
     no_memory (inr (file, same, played)) = omega (arith, story_bytes (Some []) played.story (file, same, played.holds))
 
-    no_memory_to_accept : IsUnwritten (PlayComesTo (Some []) (Some []) options outside []) (Stopped (Failed Memory))
-    no_memory_to_accept (inl (same, none, some)) = longer same
-    no_memory_to_accept (inr (a, accepted, played)) = omega (arith, story_bytes (Some []) a.story accepted.story)
+    no_memory_to_accept : {V : Type 0} (o : SetOperations V) (format : Format V) → IsUnwritten (PlayEnds o format (Some []) (Some []) options outside []) (Stopped (Failed Memory))
+    no_memory_to_accept o format (inl (same, none, some)) = longer same
+    no_memory_to_accept o format (inr (a, accepted, played)) = omega (arith, story_bytes (Some []) a.story accepted.story)
 
 -- what was written before is never taken back, in one part or in two
 never_less : (between : Option (List ℕ)) (first rest : List ℕ) → Appends (Some (1 ∷ [])) between first → Appends between (Some []) rest → ⊥
@@ -243,8 +251,8 @@ loses m T W options given s t words store (Err errors.OutOfMemory) (left, input,
 of_play : (options : Options) (outside : World) (file : List ℕ) (result : Result End PlayError) → IsPlayed file options outside [] (Some (1 ∷ [])) (Some []) result → ⊥
 of_play options outside file result played = loses _ _ (WantsOrSaves (setting_of played.story All)) _ _ _ _ _ _ result played.comes
 
-of_accepted : (options : Options) (outside : World) (a : Acceptance) (result : Result End PlayError) → IsPlayedBy a options outside [] (Some (1 ∷ [])) (Some []) result → ⊥
-of_accepted options outside a result played = loses _ _ (GivesOrSaves (session_of a)) _ _ _ _ _ _ result played.comes
+of_accepted : {V : Type 0} (o : SetOperations V) (options : Options) (outside : World) (a : AcceptanceOver V) (result : Result End PlayError) → IsPlayedBy o a options outside [] (Some (1 ∷ [])) (Some []) result → ⊥
+of_accepted o options outside a result played = loses _ _ (GivesOrSaves (session_of a)) _ _ _ _ _ _ result played.comes
 
 abbrev Loses : (Option (List ℕ) → Option (List ℕ) → Outcome → Type 0) → Outcome → Type 0
 Loses ComesSo outcome = ComesSo (Some (1 ∷ [])) (Some []) outcome → ⊥
@@ -258,10 +266,10 @@ played_on options outside end = (
   λ comes. of_play options outside comes.0 (Err errors.Read) comes.2,
   λ comes. of_play options outside comes.0 (Err errors.Write) comes.2,
   no_memory,
-  λ comes. of_accepted options outside comes.0 (Ok end) comes.2,
-  λ comes. of_accepted options outside comes.0 (Err errors.Read) comes.2,
-  λ comes. of_accepted options outside comes.0 (Err errors.Write) comes.2,
-  no_memory_to_accept,
+  neither (λ comes. of_accepted _ options outside comes.0 (Ok end) comes.2) (λ comes. of_accepted _ options outside comes.0 (Ok end) comes.2),
+  neither (λ comes. of_accepted _ options outside comes.0 (Err errors.Read) comes.2) (λ comes. of_accepted _ options outside comes.0 (Err errors.Read) comes.2),
+  neither (λ comes. of_accepted _ options outside comes.0 (Err errors.Write) comes.2) (λ comes. of_accepted _ options outside comes.0 (Err errors.Write) comes.2),
+  neither (no_memory_to_accept _ _) (no_memory_to_accept _ _),
 )
   where
     empty : ◌≡◌ {A = Option (List ℕ)} (Some []) (Some (1 ∷ [])) → ⊥
@@ -271,22 +279,30 @@ played_on options outside end = (
     no_memory (inl (same, none, some)) = empty same
     no_memory (inr (file, same, played)) = of_play options outside file (Err errors.OutOfMemory) played
 
-    no_memory_to_accept : Loses (PlayComesTo None None options outside []) (Stopped (Failed Memory))
-    no_memory_to_accept (inl (same, none, some)) = empty same
-    no_memory_to_accept (inr (a, accepted, played)) = of_accepted options outside a (Err errors.OutOfMemory) played
-
--- nothing comes of an empty file, whatever the other one is
-module _ (a : Acceptance) (certificate : Option (List ℕ)) where
-  no_story : IsAccepted (Some []) certificate a → ⊥
-  no_story accepted = omega (arith, story_bytes (Some []) a.story accepted.story)
+    no_memory_to_accept : {V : Type 0} (o : SetOperations V) (format : Format V) → Loses (PlayEnds o format None None options outside []) (Stopped (Failed Memory))
+    no_memory_to_accept o format (inl (same, none, some)) = empty same
+    no_memory_to_accept o format (inr (a, accepted, played)) = of_accepted o options outside a (Err errors.OutOfMemory) played
 
 -- no bytes are no certificate
-unread : (c : Certificate Interval) → HoldsCertificate (Some []) c → ⊥
+unread : {V : Type 0} (format : Format V) (c : Certificate V) → HoldsCertificate format (Some []) c → ⊥
 unfolding reading heading_at magic_at
-unread c held = absurd (let none = subst (λ (file : List ℕ). reading interval_format file ≡ Ok c) held.1 held.2 in cc)
+unread format c held = absurd (let none = subst (λ (file : List ℕ). reading format file ≡ Ok c) held.1 held.2 in cc)
 
-no_certificate : (story : Option (List ℕ)) (a : Acceptance) → IsAccepted story (Some []) a → ⊥
-no_certificate story a accepted = unread a.certificate accepted.certificate
+-- nothing comes of an empty file, whatever the other one is
+module _ {V : Type 0} (o : SetOperations V) (format : Format V) where
+  no_story_with : (certificate : Option (List ℕ)) (a : AcceptanceOver V) → IsAccepted o format (Some []) certificate a → ⊥
+  no_story_with certificate a accepted = omega (arith, story_bytes (Some []) a.story accepted.story)
+
+  no_certificate_with : (story : Option (List ℕ)) (a : AcceptanceOver V) → IsAccepted o format story (Some []) a → ⊥
+  no_certificate_with story a accepted = unread format a.certificate accepted.certificate
+
+no_story : (a : AcceptedStory) (certificate : Option (List ℕ)) → IsAcceptedStory (Some []) certificate a → ⊥
+no_story (Intervals a) certificate accepted = no_story_with _ _ certificate a accepted
+no_story (Lists a) certificate accepted = no_story_with _ _ certificate a accepted
+
+no_certificate : (story : Option (List ℕ)) (a : AcceptedStory) → IsAcceptedStory story (Some []) a → ⊥
+no_certificate story (Intervals a) accepted = no_certificate_with _ _ story a accepted
+no_certificate story (Lists a) accepted = no_certificate_with _ _ story a accepted
 
 abbrev ComesOfNone : (Option (List ℕ) → Option (List ℕ) → Outcome → Type 0) → Outcome → Type 0
 ComesOfNone ComesSo outcome = ComesSo None None outcome → ⊥
@@ -301,57 +317,67 @@ accepted_of_files :
 accepted_of_files options outside end = (
   λ comes. no_story comes.0.0 _ comes.0.1,
   λ comes. no_story comes.0.0 _ comes.0.1,
-  λ comes. no_story comes.0 _ comes.1,
-  λ comes. no_story comes.0 _ comes.1,
-  λ comes. no_story comes.0 _ comes.1,
-  no_memory,
+  neither (λ comes. no_story_with _ _ _ comes.0 comes.1) (λ comes. no_story_with _ _ _ comes.0 comes.1),
+  neither (λ comes. no_story_with _ _ _ comes.0 comes.1) (λ comes. no_story_with _ _ _ comes.0 comes.1),
+  neither (λ comes. no_story_with _ _ _ comes.0 comes.1) (λ comes. no_story_with _ _ _ comes.0 comes.1),
+  neither (no_memory _ _) (no_memory _ _),
   λ comes. no_certificate _ comes.0.0 comes.0.1,
   λ comes. no_certificate _ comes.0.0 comes.0.1,
-  λ comes. no_certificate _ comes.0 comes.1,
-  λ comes. no_story comes.1.0 _ comes.1.1,
-  λ comes. no_certificate _ comes.1.0 comes.1.1,
-  λ comes. no_certificate _ comes.1.0 comes.1.1,
+  neither (λ comes. no_certificate_with _ _ _ comes.0 comes.1) (λ comes. no_certificate_with _ _ _ comes.0 comes.1),
+  λ comes. neither (λ held. no_story_with _ _ _ held.0 held.1) (λ held. no_story_with _ _ _ held.0 held.1) comes.1,
+  λ comes. neither (λ held. no_certificate_with _ _ _ held.0 held.1) (λ held. no_certificate_with _ _ _ held.0 held.1) comes.1,
+  λ comes. neither (λ held. no_certificate_with _ _ _ held.0 held.1) (λ held. no_certificate_with _ _ _ held.0 held.1) comes.1,
 )
   where
-    no_memory : ComesOfNone (PlayComesTo (Some []) (Some (1 ∷ [])) options outside []) (Stopped (Failed Memory))
-    no_memory (inl (same, none, some)) = omega (arith, some)
-    no_memory (inr (a, accepted, played)) = no_story a _ accepted
+    no_memory : {V : Type 0} (o : SetOperations V) (format : Format V) → ComesOfNone (PlayEnds o format (Some []) (Some (1 ∷ [])) options outside []) (Stopped (Failed Memory))
+    no_memory o format (inl (same, none, some)) = omega (arith, some)
+    no_memory o format (inr (a, accepted, played)) = no_story_with o format _ a accepted
 
 -- an acceptance that was begun to be written isn't taken back either
 begun_on : Loses (CheckComesTo None None) (Stopped (Failed Write)) × ((code : List ℕ) → Loses (ExplainComesTo code) Explained × Loses (ExplainComesTo code) (Stopped (Failed Write)))
 begun_on = ((λ comes. absurd (let e = comes.1.grown in cc)), λ code. ((λ comes. absurd (let e = comes.2 in cc)), λ comes. absurd (let e = comes.2.grown in cc)))
 
 -- of a certificate that is accepted each instruction has its line, as its listing has it, behind what was written before
+abbrev records_of : AcceptedStory → List Record
+records_of (Intervals a) = a.listing.records
+records_of (Lists a) = a.listing.records
+
 module _ (story certificate : Option (List ℕ)) (before now : Option (List ℕ)) where
   listed_by_files :
-      (ListByComesTo story certificate before now Listed → (a : Acceptance) × IsAccepted story certificate a × Appends before now (listing_text a.listing.records))
-      × (ListByComesTo story certificate before now (Stopped (Failed Write)) → (a : Acceptance) × IsAccepted story certificate a × AppendsBeginning before now (listing_text a.listing.records))
-      × (ListByComesTo story certificate before now (Stopped (Failed Memory)) → IsUnaccepted story certificate (Failed Memory) × (now ≡ before))
-  listed_by_files = (
-    λ comes. (comes.1.0, comes.1.1, subst (λ (text : List ℕ). Appends before now text) comes.1.2 comes.2),
-    λ comes. (comes.1.0, comes.1.1, subst (λ (text : List ℕ). AppendsBeginning before now text) comes.1.2 comes.2),
-    λ comes. comes,
-  )
+      (ListByComesTo story certificate before now Listed → (a : AcceptedStory) × IsAcceptedStory story certificate a × Appends before now (listing_text (records_of a)))
+      × (ListByComesTo story certificate before now (Stopped (Failed Write)) → (a : AcceptedStory) × IsAcceptedStory story certificate a × AppendsBeginning before now (listing_text (records_of a)))
+      × (ListByComesTo story certificate before now (Stopped (Failed Memory)) → IsUnacceptedStory story certificate (Failed Memory) × (now ≡ before))
+  listed_by_files = (listed, begun, λ comes. comes)
+    where
+      listed : ListByComesTo story certificate before now Listed → (a : AcceptedStory) × IsAcceptedStory story certificate a × Appends before now (listing_text (records_of a))
+      listed (text, inl (a, accepted, is), took) = (Intervals a, accepted, subst (λ (t : List ℕ). Appends before now t) is took)
+      listed (text, inr (a, accepted, is), took) = (Lists a, accepted, subst (λ (t : List ℕ). Appends before now t) is took)
+
+      begun : ListByComesTo story certificate before now (Stopped (Failed Write)) → (a : AcceptedStory) × IsAcceptedStory story certificate a × AppendsBeginning before now (listing_text (records_of a))
+      begun (text, inl (a, accepted, is), took) = (Intervals a, accepted, subst (λ (t : List ℕ). AppendsBeginning before now t) is took)
+      begun (text, inr (a, accepted, is), took) = (Lists a, accepted, subst (λ (t : List ℕ). AppendsBeginning before now t) is took)
 
 -- memory is wanted for a story's file alone
-unaccepted : (IsUnaccepted (Some []) (Some (1 ∷ [])) (Failed Memory) → ⊥) × (CheckComesTo (Some []) (Some (1 ∷ [])) None None (Stopped (Failed Memory)) → ⊥)
-unaccepted = ((λ some. omega (arith, some)), λ comes. omega (arith, comes.0))
+unaccepted : (IsUnacceptedStory (Some []) (Some (1 ∷ [])) (Failed Memory) → ⊥) × (CheckComesTo (Some []) (Some (1 ∷ [])) None None (Stopped (Failed Memory)) → ⊥)
+unaccepted = (neither (λ some. omega (arith, some)) (λ some. omega (arith, some)), λ comes. neither (λ some. omega (arith, some)) (λ some. omega (arith, some)) comes.0)
 
 -- what is refused is the story that its file holds, with the certificate of the other
-module _ (story certificate : Option (List ℕ)) (rule : StoryRule) (address : ℕ) (broken : Rule) where
+module _ {V : Type 0} (o : SetOperations V) (format : Format V) (story certificate : Option (List ℕ)) (rule : StoryRule) (address : ℕ) (broken : Rule) where
   broken_of_files :
-      (IsUnaccepted story certificate (BreaksStory rule) → (s : LoadedStory) × (c : Certificate Interval) × HoldsStory story s × HoldsCertificate certificate c)
-      × (IsUnaccepted story certificate (BreaksInstruction address broken) → (s : LoadedStory) × (c : Certificate Interval) × HoldsStory story s × HoldsCertificate certificate c)
-      × ((options : Options) (outside : World) (before now : Option (List ℕ)) → PlayComesTo story certificate options outside [] before now (Stopped (BreaksStory rule)) → (s : LoadedStory) × (c : Certificate Interval) × HoldsStory story s × HoldsCertificate certificate c)
+      (IsUnaccepted o format story certificate (BreaksStory rule) → (s : LoadedStory) × (c : Certificate V) × HoldsStory story s × HoldsCertificate format certificate c)
+      × (IsUnaccepted o format story certificate (BreaksInstruction address broken) → (s : LoadedStory) × (c : Certificate V) × HoldsStory story s × HoldsCertificate format certificate c)
+      × ((options : Options) (outside : World) (before now : Option (List ℕ)) → PlayEnds o format story certificate options outside [] before now (Stopped (BreaksStory rule)) → (s : LoadedStory) × (c : Certificate V) × HoldsStory story s × HoldsCertificate format certificate c)
   broken_of_files = (λ b. (b.story, b.certificate, b.held, b.read), λ b. (b.story, b.certificate, b.held, b.read), λ options outside before now comes. (comes.0.story, comes.0.certificate, comes.0.held, comes.0.read))
 
 -- `check` tells of no rule where the certificate's file holds no certificate, whatever was written before
 unread_at_check : (rule : StoryRule) (address : ℕ) (broken : Rule) → (CheckComesTo None (Some []) None None (Stopped (BreaksStory rule)) → ⊥) × (CheckComesTo None (Some []) None None (Stopped (BreaksInstruction address broken)) → ⊥)
-unread_at_check rule address unkept = (λ comes. unread _ comes.0.read, λ comes. unread _ comes.0.read)
+unread_at_check rule address unkept =
+    (λ comes. neither (λ b. unread _ b.certificate b.read) (λ b. unread _ b.certificate b.read) comes.0, λ comes. neither (λ b. unread _ b.certificate b.read) (λ b. unread _ b.certificate b.read) comes.0)
 
 -- a story is refused for its own file
-refused_story : (story certificate : Option (List ℕ)) (error : LoadError) → IsUnaccepted story certificate (Refused error) → (file : List ℕ) × IfSome story (λ bytes. file ≡ bytes) × IsRefused file error
-refused_story story certificate error refused = refused
+refused_story : (story certificate : Option (List ℕ)) (error : LoadError) → IsUnacceptedStory story certificate (Refused error) → (file : List ℕ) × IfSome story (λ bytes. file ≡ bytes) × IsRefused file error
+refused_story story certificate error (inl refused) = refused
+refused_story story certificate error (inr refused) = refused
 
 -- a certificate that is found is of the story as it was, and stands in its file now; where none is found no file changes
 module _ (story certificate : List ℕ) (held holds : List ℕ → Option (List ℕ)) (before now : Option (List ℕ)) where

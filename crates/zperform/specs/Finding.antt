@@ -3,13 +3,9 @@ use Rattle.std.specs.Prelude.{◌≡◌, ◌≢◌, ◌⊎◌, ⊤, ℕ, true, �
 use Rattle.std.specs.Io.KnownBytes.{Appends}
 use Rattle.zfault.specs.Devices.{AppendsBeginning}
 use Rattle.zstory.specs.LoadedStory.{LoadedStory}
-use Rattle.zdomain.specs.declared.interval.Interval.{Interval}
-use Rattle.zdomain.specs.Interval.{interval_operations}
-use Rattle.zcert.specs.Certificate.{Certificate}
-use Rattle.zcert.specs.Format.{interval_format}
-use Rattle.zcert.specs.Spelling.{spelling}
-use Rattle.zcheck.specs.Passes.{Passes}
 use Rattle.zfind.specs.Finding.{IsFailure, IsTold}
+use Rattle.zfind.specs.Found.{IsFound as IsFoundFor, spelling_of}
+use Rattle.zfind.specs.declared.found.Found.{Found as FoundCertificate}
 use Rattle.zfind.specs.declared.error.FindError.TheVariants.{OutOfMemory as NoMemoryToFind}
 use Rattle.zexplain.specs.Texts.{explanation_of}
 use Rattle.zperform.specs.Contents.{SparesOthers}
@@ -21,11 +17,11 @@ use Rattle.zperform.specs.declared.outcome.Problem.TheVariants.{Unfound, Failed}
 use Rattle.zperform.specs.declared.outcome.Outcome.{Outcome}
 use Rattle.zperform.specs.declared.outcome.Outcome.TheVariants.{Explained, Found, NoSuchCode, Stopped}
 
--- the bytes spell a certificate that passes for a story
+-- the bytes spell a certificate that passes for a story, of intervals or, where none of these is found, of lists
 pub record IsCertificateOf (story : LoadedStory) (bytes : List ℕ) : Type 0 where
-  pub certificate : Certificate Interval
-  pub passes : Passes interval_operations story certificate
-  pub spelled : bytes ≡ spelling interval_format certificate
+  pub certificate : FoundCertificate
+  pub found : IsFoundFor story certificate
+  pub spelled : bytes ≡ spelling_of certificate
 
 -- why none is found for a story, but for want of memory, and what is told to stand in the way of every one
 abbrev pub IsUnfound : LoadedStory → Problem → Type 0

@@ -1,5 +1,5 @@
 -- Whether a file that is there may be written over (own).
-use Rattle.std.specs.Prelude.{◌≡◌, ℕ, Bool, false, List, Option, Some, None, IfSome, codes, length, take}
+use Rattle.std.specs.Prelude.{◌≡◌, ℕ, false, List, Option, Some, None, IfSome, codes, length, take}
 use Rattle.clap.specs.Words.{Text}
 use Rattle.zcommand.specs.CommandLine.{Request, Find, Play}
 use Rattle.zperform.specs.declared.outcome.Purpose.{Purpose}

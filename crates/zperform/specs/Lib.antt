@@ -7,5 +7,6 @@ pub mod Playing
 pub mod Accepting
 pub mod Keeping
 pub mod Listing
+pub mod Showing
 pub mod Finding
 pub mod Performing

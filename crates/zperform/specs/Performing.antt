@@ -4,7 +4,7 @@ use Rattle.clap.specs.Kinds.{IsAmong, Kinds}
 use Rattle.clap.specs.Words.{Row, Text, subcommand_of}
 use Rattle.clap.specs.declared.error.kind.ErrorKind.{ErrorKind}
 use Rattle.clap.specs.declared.error.kind.ErrorKind.TheVariants.{DisplayHelp, DisplayVersion}
-use Rattle.zcommand.specs.CommandLine.{Asks, Request, ListStory, Find, Check, Play, Explain, zpc_app}
+use Rattle.zcommand.specs.CommandLine.{Asks, Request, ListStory, Find, Check, Show, Play, Explain, zpc_app}
 use Rattle.zquetzal.specs.declared.error.SaveError.{SaveError}
 use Rattle.zplayer.specs.Outside.{Blames, words_of}
 use Rattle.zplayer.specs.World.{Store, World, world}
@@ -14,6 +14,7 @@ use Rattle.zperform.specs.Accepting.{CheckComesTo, IsOfEither, PlayComesTo}
 use Rattle.zperform.specs.Finding.{ExplainComesTo, FindComesTo, IsOfStoryOrFound}
 use Rattle.zperform.specs.Keeping.{IsOccupied, MayWrite}
 use Rattle.zperform.specs.Listing.{ListByComesTo, ListComesTo}
+use Rattle.zperform.specs.Showing.{ShowComesTo}
 use Rattle.zperform.specs.Report.{line_of, status_of, text_of}
 use Rattle.zperform.specs.Telling.{SaysEach, said_of}
 use Rattle.zperform.specs.declared.outcome.Failure.TheVariants.{File, Read, Write, Memory}
@@ -76,6 +77,7 @@ Comes (ListStory story None) held holds input refusals before now outcome = List
 Comes (ListStory story (Some certificate)) held holds input refusals before now outcome = ListByComesTo (held story) (held certificate) before now outcome
 Comes (Find story certificate force) held holds input refusals before now outcome = FindComesTo story certificate held holds before now outcome
 Comes (Check story certificate) held holds input refusals before now outcome = CheckComesTo (held story) (held certificate) before now outcome
+Comes (Show story certificate address) held holds input refusals before now outcome = ShowComesTo (held story) (held certificate) address before now outcome
 Comes (Play story None seed budget status save tell force) held holds input refusals before now outcome =
     ComesTo (held story) (record { budget = budget; status = status }) (given input seed (store_of save)) refusals before now outcome
 Comes (Play story (Some certificate) seed budget status save tell force) held holds input refusals before now outcome =
@@ -114,6 +116,7 @@ IsBlamed (ListStory story None) files = files.can_fail story ≡ true
 IsBlamed (ListStory story (Some certificate)) files = IsOfEither files story certificate
 IsBlamed (Find story certificate force) files = IsOfStoryOrFound files story certificate
 IsBlamed (Check story certificate) files = IsOfEither files story certificate
+IsBlamed (Show story certificate address) files = IsOfEither files story certificate
 IsBlamed (Play story None seed budget status save tell force) files = files.can_fail story ≡ true
 IsBlamed (Play story (Some certificate) seed budget status save tell force) files = IsOfEither files story certificate
 IsBlamed (Explain code) files = ⊥

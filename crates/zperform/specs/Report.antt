@@ -32,7 +32,7 @@ use Rattle.zperform.specs.declared.outcome.Failure.TheVariants.{File, Read, Writ
 use Rattle.zperform.specs.declared.outcome.Problem.{Problem}
 use Rattle.zperform.specs.declared.outcome.Problem.TheVariants.{Refused, Unreadable, BreaksStory, BreaksInstruction, Unlisted, Unfound, Occupied, Failed}
 use Rattle.zperform.specs.declared.outcome.Outcome.{Outcome}
-use Rattle.zperform.specs.declared.outcome.Outcome.TheVariants.{Listed, Found, Accepted, Explained, NoSuchCode, Played, Stopped}
+use Rattle.zperform.specs.declared.outcome.Outcome.TheVariants.{Listed, Found, Accepted, Shown, NoAddress, Explained, NoSuchCode, Played, Stopped}
 
 -- a story that isn't loaded is refused, but for want of memory
 abbrev pub problem_of_load : LoadError → Problem
@@ -73,6 +73,8 @@ status_of (Played end) = 0
 status_of Listed = 0
 status_of Found = 0
 status_of Accepted = 0
+status_of Shown = 0
+status_of NoAddress = 2
 status_of Explained = 0
 status_of NoSuchCode = 2
 status_of (Stopped (Failed failure)) = 4
@@ -120,13 +122,20 @@ broken_text (Some (obstacles.Place place rule)) = codes "no certificate: I" ++ d
 -- what is said of a code that there isn't, as clap says it of words: three lines with empty ones between
 abbrev pub no_code : List ℕ
 no_code =
-    codes "error: there is no such code; there are L1 to L12, K1 to K8, S1 to S8, I1 to I18, U1 to U4, G1 to G3, F1 to F16, J1 to J5, E1 to E3, Q1 to Q11, P1 to P3 and N1 to N2"
+    codes "error: there is no such code; there are L1 to L12, K1 to K9, S1 to S8, I1 to I18, U1 to U4, G1 to G3, F1 to F16, J1 to J5, E1 to E3, Q1 to Q11, P1 to P3 and N1 to N2"
     ++ 10 ∷ 10 ∷ codes "Usage: zpc explain <CODE>" ++ 10 ∷ 10 ∷ codes "For more information, try '--help'."
+
+-- what is said of a word that is no address, in the same form
+abbrev pub no_address : List ℕ
+no_address =
+    codes "error: an address has one to five hexadecimal digits, as 00325" ++ 10 ∷ 10 ∷ codes "Usage: zpc show <STORY> <CERT> [ADDRESS]" ++ 10 ∷ 10 ∷ codes "For more information, try '--help'."
 
 abbrev pub text_of : Outcome → List ℕ
 text_of Listed = []
 text_of Found = []
 text_of Accepted = []
+text_of Shown = []
+text_of NoAddress = no_address
 text_of Explained = []
 text_of NoSuchCode = no_code
 text_of (Played end) = end_text end

@@ -1,5 +1,5 @@
 -- Refusals that are told one after another, in proofs.
-use Rattle.std.proofs.Common.{◌≡◌, ◌≢◌, ◌∙◌, ℕ, Bool, true, false, List, [], ◌∷◌, ◌++◌, Option, None, Some, refl, sym, subst}
+use Rattle.std.proofs.Common.{◌≡◌, ◌≢◌, ◌∙◌, ℕ, Bool, true, false, List, [], ◌∷◌, ◌++◌, Option, None, refl, sym, subst}
 use Rattle.zquetzal.specs.declared.error.SaveError.{SaveError}
 use Rattle.zperform.specs.Contents.{SparesOthers}
 use Rattle.zperform.specs.Devices.{Seen, seen}

@@ -1,19 +1,35 @@
 //! Stories and certificates from files.
 
-ghost use Rattle.std.specs.Prelude.{◌≡◌, true, IfErr, IfOk, IsErrOf};
+ghost use Rattle.std.specs.Prelude.{◌≡◌, ◌==◌, ◌≤◌, ℕ, true, List, Option, IfErr, IfOk, IfSome, IsErrOf, length, take};
+ghost use Rattle.zcert.specs.declared.limits.TheConstants.{LIST_VERSION as version_with_lists};
+ghost use Rattle.zstory.specs.Bytes.{byte_at};
 ghost use Rattle.zperform.specs.Devices.{ReadsUnless, held};
 ghost use Rattle.zperform.specs.Playing.{Holds, IsUnloaded};
-ghost use Rattle.zperform.specs.Accepting.{HoldsStory, IsAccepted, IsNoStory, IsOfEither, IsUnaccepted};
+ghost use Rattle.zperform.specs.Accepting.{HoldsStory, IsAccepted, IsAcceptedStory, IsNoStory, IsOfEither, IsUnaccepted, IsUnacceptedStory, version_of};
 
-use crate::feeding::feed_certificate;
+use crate::feeding::{HEADING, feed_certificate};
 use crate::files::{Files, read_file};
 use crate::outcome::{Failure, Problem};
 use std::alloc::Global;
+use zcert::{LIST_VERSION, Spelled};
 use zcheck::Accepted;
+use zdomain::{Interval, Values};
 use zstory::Story;
 
 /// The most bytes that are read of a story: one more than the longest has, so that a longer file is told from it.
 pub const STORY_LIMIT: usize = 131_073;
+
+/// The place of the byte that tells the version of a certificate's file.
+const VERSION_AT: usize = 4;
+
+/// A story that is accepted with a certificate of either version.
+#[derive(Drop)]
+pub enum AcceptedStory {
+    /// Version 1.
+    Intervals(Accepted<Interval>),
+    /// Version 2.
+    Lists(Accepted<Values>),
+}
 
 /// Accepts the story of a file with the certificate of another, and else says why not: the story is looked at first,
 /// then the certificate's file, of which no more is read than decides it, then whether it holds.
@@ -22,14 +38,47 @@ pub fn accept<F: Files>(
     story: &str,
     certificate: &str,
     files: &mut F,
-) -> Result<Accepted, Problem>
-    ensures accepted { IfOk result (IsAccepted (F.known files.old story.now) (F.known files.old certificate.now)) }
-    ensures refused { IfErr result (IsUnaccepted (F.known files.old story.now) (F.known files.old certificate.now)) }
+) -> Result<AcceptedStory, Problem>
+    ensures accepted { IfOk result (IsAcceptedStory (F.known files.old story.now) (F.known files.old certificate.now)) }
+    ensures refused { IfErr result (IsUnacceptedStory (F.known files.old story.now) (F.known files.old certificate.now)) }
     ensures files { ReadsUnless F.known F.failures F.can_fail files.old files.new (IsErrOf result (Problem.Failed Failure.File)) }
     ensures could { IsErrOf result (Problem.Failed Failure.File) → IsOfEither (held F.known F.failures F.can_fail files.old) story.now certificate.now }
 {
     let story = open_story(alloc, story, files)?;
-    let stream = feed_certificate(alloc, story, certificate, files)?;
+    let first = read_file(alloc, files, certificate, HEADING)?;
+    if has_lists(&first) {
+        let accepted = accept_story(alloc, story, certificate, &first, files)?;
+        Ok(AcceptedStory::Lists(accepted))
+    } else {
+        let accepted = accept_story(alloc, story, certificate, &first, files)?;
+        Ok(AcceptedStory::Intervals(accepted))
+    }
+}
+
+/// Whether a certificate's file that begins so is of the version that has lists.
+pub fn has_lists(first: &[u8]) -> bool
+    ensures { result ≡ (byte_at first.now 4 == version_with_lists) }
+{
+    first.get(VERSION_AT) == Some(&LIST_VERSION)
+}
+
+/// Accepts a story with the certificate of a file, of which the first bytes were read and tell the version.
+fn accept_story<V: Spelled, F: Files>(
+    alloc: Global,
+    story: Story,
+    certificate: &str,
+    first: &[u8],
+    files: &mut F,
+) -> Result<Accepted<V>, Problem>
+    requires first { IfSome (F.known files.old certificate.now) (λ file. first.now ≡ take 5 file) }
+    requires few { length first.now ≤ 5 }
+    requires version { version_of first.now ≡ V.format.version }
+    ensures accepted { IfOk result (λ a. (known : Option (List ℕ)) → HoldsStory known story → IsAccepted V.operations V.format known (F.known files.old certificate.now) a) }
+    ensures refused { IfErr result (λ problem. (known : Option (List ℕ)) → HoldsStory known story → IsUnaccepted V.operations V.format known (F.known files.old certificate.now) problem) }
+    ensures files { ReadsUnless F.known F.failures F.can_fail files.old files.new (IsErrOf result (Problem.Failed Failure.File)) }
+    ensures could { IsErrOf result (Problem.Failed Failure.File) → F.can_fail files.old certificate.now ≡ true }
+{
+    let stream = feed_certificate(alloc, story, certificate, first, files)?;
     Ok(stream.finish(alloc)?)
 }
 

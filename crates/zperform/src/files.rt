@@ -286,6 +286,7 @@ pub fn read_file<F: Files>(
     most: usize,
 ) -> Result<Vec<u8>, Problem>
     ensures read { (bytes : List ℕ) → F.known files.old name.now ≡ Some bytes → IfOk result (λ file. file.items ≡ take most bytes) }
+    ensures bound { IfOk result (λ file. vec_len file ≤ most) }
     ensures failed { IfErr result (λ problem. (problem ≡ Problem.Failed Failure.File) ⊎ (problem ≡ Problem.Failed Failure.Memory)) }
     ensures wanted { result ≡ Err (Problem.Failed Failure.Memory) → HasBytes (F.known files.old name.now) }
     ensures files { ReadsUnless F.known F.failures F.can_fail files.old files.new (IsErrOf result (Problem.Failed Failure.File)) }

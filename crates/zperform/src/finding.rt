@@ -60,7 +60,7 @@ fn spelled_certificate(alloc: Global, story: &Story) -> Result<Vec<u8>, Problem>
     ensures refused { IfErr result (IsUnfound story.now) }
 {
     match zfind::find(alloc, story) {
-        Ok(certificate) => Ok(zcert::write(alloc, &certificate)?),
+        Ok(found) => Ok(found.write(alloc)?),
         Err(error) => Err(unfound(alloc, story, error)),
     }
 }

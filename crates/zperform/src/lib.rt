@@ -2,6 +2,7 @@
 #![tactic(auto)]
 
 mod accepting;
+mod claims;
 mod feeding;
 mod files;
 mod finding;
@@ -10,6 +11,8 @@ mod message;
 mod outcome;
 mod performing;
 mod saves;
+mod showing;
+mod told;
 
 pub use files::{Disk, Files};
 pub use outcome::{Failure, Outcome, Problem};

@@ -1,18 +1,19 @@
 //! The listing of a story's file, or of a certificate's, as lines.
 
 ghost use Rattle.std.specs.Prelude.{◌≡◌, ◌++◌, true, IfErr, IfOk, IsErrOf, pos};
-ghost use Rattle.zperform.specs.Accepting.{IsOfEither, IsUnaccepted};
+ghost use Rattle.zperform.specs.Accepting.{IsOfEither, IsUnacceptedStory};
 ghost use Rattle.zperform.specs.Devices.{FlushesUnless, ReadsUnless, held};
-ghost use Rattle.zperform.specs.Listing.{HoldsListed, HoldsListedBy, IsListedAs, IsNoListing, IsUnlisted, ListByComesTo, ListComesTo, listing_text, record_line};
+ghost use Rattle.zperform.specs.Listing.{HoldsListed, HoldsListedByEither, IsListedAs, IsNoListing, IsUnlisted, ListByComesTo, ListComesTo, listing_text, record_line};
 ghost use Rattle.zperform.specs.Report.{place_text};
 
-use crate::accepting::{accept, open_story};
+use crate::accepting::{AcceptedStory, accept, open_story};
 use crate::files::Files;
 use crate::message::address_text;
 use crate::outcome::{Failure, Outcome, Problem};
 use crate::performing::write_done;
 use itoa::Buffer;
 use std::alloc::{AllocError, Global};
+use zcert::Spelled;
 use zcheck::Accepted;
 use zfault::Sink;
 use zlist::{Record, list_story};
@@ -84,17 +85,19 @@ fn listing_by<F: Files>(
     certificate: &str,
     files: &mut F,
 ) -> Result<Vec<u8>, Problem>
-    ensures listed { IfOk result (λ text. HoldsListedBy (F.known files.old story.now) (F.known files.old certificate.now) text.items) }
-    ensures refused { IfErr result (IsUnaccepted (F.known files.old story.now) (F.known files.old certificate.now)) }
+    ensures listed { IfOk result (λ text. HoldsListedByEither (F.known files.old story.now) (F.known files.old certificate.now) text.items) }
+    ensures refused { IfErr result (IsUnacceptedStory (F.known files.old story.now) (F.known files.old certificate.now)) }
     ensures files { ReadsUnless F.known F.failures F.can_fail files.old files.new (IsErrOf result (Problem.Failed Failure.File)) }
     ensures could { IsErrOf result (Problem.Failed Failure.File) → IsOfEither (held F.known F.failures F.can_fail files.old) story.now certificate.now }
 {
-    let accepted = accept(alloc, story, certificate, files)?;
-    list_accepted(alloc, &accepted)
+    match accept(alloc, story, certificate, files)? {
+        AcceptedStory::Intervals(accepted) => list_accepted(alloc, &accepted),
+        AcceptedStory::Lists(accepted) => list_accepted(alloc, &accepted),
+    }
 }
 
 /// The lines of the instructions of a certificate that was accepted.
-fn list_accepted(alloc: Global, accepted: &Accepted) -> Result<Vec<u8>, Problem>
+fn list_accepted<V: Spelled>(alloc: Global, accepted: &Accepted<V>) -> Result<Vec<u8>, Problem>
     ensures listed { IfOk result (λ text. text.items ≡ listing_text accepted.now.listing.records) }
     ensures wanted { IfErr result (λ problem. problem ≡ Problem.Failed Failure.Memory) }
 {
@@ -114,7 +117,7 @@ fn lines_of(alloc: Global, records: &[Record]) -> Result<Vec<u8>, AllocError>
 }
 
 /// Adds the line of an instruction: address, number of the routine, and name, with single spaces.
-fn add_line(listed: &Record, text: &mut Vec<u8>) -> Result<(), AllocError>
+pub fn add_line(listed: &Record, text: &mut Vec<u8>) -> Result<(), AllocError>
     ensures { IfOk result (λ _. text.new.items ≡ text.old.items ++ record_line listed.now) }
 {
     add_address(listed.address, text)?;
@@ -127,7 +130,7 @@ fn add_line(listed: &Record, text: &mut Vec<u8>) -> Result<(), AllocError>
 }
 
 /// Adds an address.
-fn add_address(address: u32, text: &mut Vec<u8>) -> Result<(), AllocError>
+pub fn add_address(address: u32, text: &mut Vec<u8>) -> Result<(), AllocError>
     ensures { IfOk result (λ _. text.new.items ≡ text.old.items ++ place_text (pos address)) }
 {
     if address < 0x100000 {

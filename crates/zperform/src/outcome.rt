@@ -87,6 +87,10 @@ pub enum Outcome {
     Found,
     /// The certificate was accepted.
     Accepted,
+    /// The certificate was shown.
+    Shown,
+    /// The word is no address.
+    NoAddress,
     /// The code was explained.
     Explained,
     /// There is no such code.
@@ -107,9 +111,10 @@ impl Outcome {
             Outcome::Listed
             | Outcome::Found
             | Outcome::Accepted
+            | Outcome::Shown
             | Outcome::Explained
             | Outcome::Played(_) => 0,
-            Outcome::NoSuchCode => 2,
+            Outcome::NoAddress | Outcome::NoSuchCode => 2,
             Outcome::Stopped(Problem::Failed(_)) => 4,
             Outcome::Stopped(_) => 1,
         }

@@ -7,7 +7,7 @@ ghost use Rattle.clap.specs.Words.{fault_of};
 ghost use Rattle.zcommand.specs.CommandLine.{request_of, zpc_app};
 ghost use Rattle.zplayer.specs.Outside.{Blames};
 ghost use Rattle.zplayer.specs.World.{told as told_store};
-ghost use Rattle.zperform.specs.Accepting.{CheckComesTo, IsAccepted, IsOfEither, PlayComesTo};
+ghost use Rattle.zperform.specs.Accepting.{CheckComesTo, IsAccepted, IsOfEither, PlayComesTo, PlayEnds};
 ghost use Rattle.zperform.specs.Devices.{Ends, FlushesUnless, Held, ReadsUnless, Says, Told, UsesUnless, Writes, devices, held, seen, told};
 ghost use Rattle.zperform.specs.Keeping.{IsOccupied, MayWrite, kept_in};
 ghost use Rattle.zperform.specs.Performing.{Begins, Comes, Explains, IsBlamed, Performs, given, is_quiet, said_by, save_in, store_of, written_by};
@@ -16,16 +16,18 @@ ghost use Rattle.zperform.specs.Report.{failure_text, line_of, no_text, outcome_
 ghost use Rattle.zperform.specs.Telling.{SaysEach, said_of};
 ghost use Rattle.zquetzal.specs.declared.error.SaveError.{SaveError as ARefusal};
 
-use crate::accepting::{STORY_LIMIT, accept, load};
+use crate::accepting::{AcceptedStory, STORY_LIMIT, accept, load};
 use crate::files::{Files, read_file};
 use crate::finding::{explain_code, find_file};
 use crate::listing::{list_certificate, list_file};
 use crate::message::Message;
 use crate::outcome::{Failure, Outcome, Problem, Purpose};
 use crate::saves::{FileSaves, NoSaves};
+use crate::showing::show_files;
 use clap::Error;
 use clap::error::ErrorKind;
 use std::alloc::Global;
+use zcert::Spelled;
 use zcheck::Accepted;
 use zcommand::{Command, read_words};
 use zfault::{Failed, Sink, Source, write_whole};
@@ -161,6 +163,11 @@ fn fulfil<F: Files, R: Source, W: Sink, E: Sink>(
         Command::Check { story, certificate } => {
             check_files(alloc, story, certificate, files, writer)
         }
+        Command::Show {
+            story,
+            certificate,
+            address,
+        } => show_files(alloc, story, certificate, address, files, writer),
         Command::Play {
             story,
             certificate: None,
@@ -358,16 +365,20 @@ fn play_by_certificate<F: Files, R: Source, W: Sink, E: Sink>(
     ensures could { IsErrOf result (Problem.Failed Failure.File) → IsOfEither (held F.known F.failures F.can_fail files.old) story.now certificate.now }
     ensures reader { Blames (IsErrOf result (Problem.Failed Failure.Read)) (R.failures reader.old) (R.failures reader.new) }
 {
-    let accepted = accept(alloc, story, certificate, files)?;
-    play_accepted(
-        alloc, &accepted, seed, options, save, tell, files, reader, writer, errors,
-    )
+    match accept(alloc, story, certificate, files)? {
+        AcceptedStory::Intervals(accepted) => play_accepted(
+            alloc, &accepted, seed, options, save, tell, files, reader, writer, errors,
+        ),
+        AcceptedStory::Lists(accepted) => play_accepted(
+            alloc, &accepted, seed, options, save, tell, files, reader, writer, errors,
+        ),
+    }
 }
 
 /// Plays an accepted story from its opening, with its saves in the file of a name, or nowhere.
-fn play_accepted<F: Files, R: Source, W: Sink, E: Sink>(
+fn play_accepted<V: Spelled, F: Files, R: Source, W: Sink, E: Sink>(
     alloc: Global,
-    accepted: &Accepted,
+    accepted: &Accepted<V>,
     seed: u64,
     options: Options,
     save: Option<&str>,
@@ -377,7 +388,7 @@ fn play_accepted<F: Files, R: Source, W: Sink, E: Sink>(
     writer: &mut W,
     errors: &mut E,
 ) -> Result<End, Problem>
-    ensures comes { (refusals : List ARefusal) × ((story certificate : Option (List ℕ)) → IsAccepted story certificate accepted.now → PlayComesTo story certificate options (given (R.remaining reader.old) seed (store_of (option_map (λ n. n.now) save.entry))) refusals (W.contents writer.old) (W.contents writer.new) (outcome_of result)) × SaysEach (said_of tell (option_map (λ n. n.now) save.entry) refusals) (seen E.contents E.failures E.waits errors.old) (seen E.contents E.failures E.waits errors.new) }
+    ensures comes { (refusals : List ARefusal) × ((story certificate : Option (List ℕ)) → IsAccepted V.operations V.format story certificate accepted.now → PlayEnds V.operations V.format story certificate options (given (R.remaining reader.old) seed (store_of (option_map (λ n. n.now) save.entry))) refusals (W.contents writer.old) (W.contents writer.new) (outcome_of result)) × SaysEach (said_of tell (option_map (λ n. n.now) save.entry) refusals) (seen E.contents E.failures E.waits errors.old) (seen E.contents E.failures E.waits errors.new) }
     ensures writer { FlushesUnless W.failures W.waits writer.old writer.new (IsErrOf result (Problem.Failed Failure.Write)) }
     ensures no_file { ¬ IsErrOf result (Problem.Failed Failure.File) }
     ensures reader { Blames (IsErrOf result (Problem.Failed Failure.Read)) (R.failures reader.old) (R.failures reader.new) }
@@ -402,16 +413,16 @@ fn play_accepted<F: Files, R: Source, W: Sink, E: Sink>(
 }
 
 /// Plays an accepted story from its opening, with its saves in a store.
-fn play_accepted_keeping<S: SaveStore, R: Source, W: Sink>(
+fn play_accepted_keeping<V: Spelled, S: SaveStore, R: Source, W: Sink>(
     alloc: Global,
-    accepted: &Accepted,
+    accepted: &Accepted<V>,
     seed: u64,
     options: Options,
     store: &mut S,
     reader: &mut R,
     writer: &mut W,
 ) -> Result<End, Problem>
-    ensures comes { (refusals : List ARefusal) × ((story certificate : Option (List ℕ)) → IsAccepted story certificate accepted.now → (S.kept store.old ≡ Some None → S.kept store.new ≡ Some None) → PlayComesTo story certificate options (given (R.remaining reader.old) seed (told_store S.kept S.failures store.old [])) refusals (W.contents writer.old) (W.contents writer.new) (outcome_of result)) × S.Follows store.old store.new refusals }
+    ensures comes { (refusals : List ARefusal) × ((story certificate : Option (List ℕ)) → IsAccepted V.operations V.format story certificate accepted.now → (S.kept store.old ≡ Some None → S.kept store.new ≡ Some None) → PlayEnds V.operations V.format story certificate options (given (R.remaining reader.old) seed (told_store S.kept S.failures store.old [])) refusals (W.contents writer.old) (W.contents writer.new) (outcome_of result)) × S.Follows store.old store.new refusals }
     ensures writer { FlushesUnless W.failures W.waits writer.old writer.new (IsErrOf result (Problem.Failed Failure.Write)) }
     ensures no_file { ¬ IsErrOf result (Problem.Failed Failure.File) }
     ensures reader { Blames (IsErrOf result (Problem.Failed Failure.Read)) (R.failures reader.old) (R.failures reader.new) }

@@ -12,7 +12,10 @@ pub returns-in-Some-subcommand_matches-2 : goal.returns-in-Some-subcommand_match
 returns-in-Some-subcommand_matches-2 c = rw (rows_named _ _ _ (c.in-Some-subcommand_matches-2.ensures.found.0 refl) c.in-Some-subcommand_matches-2.ensures.rows) c.check_of.ensures
 
 pub returns-in-Some-subcommand_matches-3 : goal.returns-in-Some-subcommand_matches-3
-returns-in-Some-subcommand_matches-3 c = rw (rows_named _ _ _ (c.in-Some-subcommand_matches-3.ensures.found.0 refl) c.in-Some-subcommand_matches-3.ensures.rows) c.play_of.ensures
+returns-in-Some-subcommand_matches-3 c = rw (rows_named _ _ _ (c.in-Some-subcommand_matches-3.ensures.found.0 refl) c.in-Some-subcommand_matches-3.ensures.rows) c.show_of.ensures
+
+pub returns-in-Some-subcommand_matches-4 : goal.returns-in-Some-subcommand_matches-4
+returns-in-Some-subcommand_matches-4 c = rw (rows_named _ _ _ (c.in-Some-subcommand_matches-4.ensures.found.0 refl) c.in-Some-subcommand_matches-4.ensures.rows) c.play_of.ensures
 
 pub returns : goal.returns
-returns c = rw (rows_named _ _ _ (c.in-Some-subcommand_matches-4.ensures.found.0 refl) c.in-Some-subcommand_matches-4.ensures.rows) c.explain_of.ensures
+returns c = rw (rows_named _ _ _ (c.in-Some-subcommand_matches-5.ensures.found.0 refl) c.in-Some-subcommand_matches-5.ensures.rows) c.explain_of.ensures

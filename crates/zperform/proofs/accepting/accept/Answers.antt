@@ -1,47 +1,68 @@
-use Rattle.std.proofs.Common.{rules}
-use Rattle.zperform.specs.Accepting.{IsUnaccepted}
-use Rattle.zperform.proofs.AcceptLemmas.{handed_on, no_certificate_refuses, no_story_refuses}
-use Rattle.zperform.proofs.FeedLemmas.{accepted, unaccepted, unaccepted_reads}
+use Rattle.std.proofs.Common.{◌≡◌, ◌∙◌, inl, inr, List, Option, ℕ, rules, subst}
+use Rattle.zdomain.specs.Interval.{interval_operations}
+use Rattle.zdomain.specs.Values.{values_operations}
+use Rattle.zcert.specs.Format.{interval_format}
+use Rattle.zcert.specs.Lists.{values_format}
+use Rattle.zperform.specs.Accepting.{IsAccepted, IsUnaccepted, IsUnacceptedStory}
+use Rattle.zperform.proofs.AcceptLemmas.{first_read, first_unread, handed_on, no_story_refuses, read_well}
 use Rattle.zperform.proofs.accepting.accept.Goals as goal
 
 pub returns-in_err-story-clause-refused : goal.returns-in_err-story-clause-refused
 returns-in_err-story-clause-refused g c =
     let story_known = g.F.Files.known c.args.files.now c.args.story.now in
     let certificate_known = g.F.Files.known c.args.files.now c.args.certificate.now in
-    handed_on (IsUnaccepted story_known certificate_known) c.from_residual.result _ c.from_residual.ensures
-    (no_story_refuses story_known certificate_known c.in_err-story.field-0.0 c.in_err-story.ensures.refused)
+    handed_on (IsUnacceptedStory story_known certificate_known) c.from_residual.result _ c.from_residual.ensures
+    (inl (no_story_refuses interval_operations interval_format story_known certificate_known c.in_err-story.field-0.0 c.in_err-story.ensures.refused))
 
-pub returns-in_err-stream-clause-refused : goal.returns-in_err-stream-clause-refused
-returns-in_err-stream-clause-refused g c =
+pub returns-in_err-first-clause-refused : goal.returns-in_err-first-clause-refused
+returns-in_err-first-clause-refused g c =
     let story_known = g.F.Files.known c.args.files.now c.args.story.now in
     let certificate_known = g.F.Files.known c.args.files.now c.args.certificate.now in
-    handed_on (IsUnaccepted story_known certificate_known) c.from_residual-in_err-stream.result _ c.from_residual-in_err-stream.ensures
-    (no_certificate_refuses story_known certificate_known _ c.in_ok-story.ensures.held c.in_err-stream.field-0.0 (rw c.open_story.ensures.files.kept at c.in_err-stream.ensures.refused))
+    handed_on (IsUnacceptedStory story_known certificate_known) c.from_residual-in_err-first.result _ c.from_residual-in_err-first.ensures
+    (inl (first_unread interval_operations interval_format story_known certificate_known _ c.in_ok-story.ensures.held c.in_err-first.field-0.0 c.in_err-first.ensures.failed))
 
-pub returns-in_err-finish-clause-files : goal.returns-in_err-finish-clause-files
-returns-in_err-finish-clause-files g c = record {
-  blamed = ((λ e. absurd (unaccepted_reads c.from_residual-in_err-finish.result _ c.from_residual-in_err-finish.ensures e)), search rules);
-  kept = search rules;
-  alike = search rules;
-}
+pub accept_story-requires-clause-first : goal.accept_story-requires-clause-first
+accept_story-requires-clause-first g c =
+    let same : c.in_ok-first.first.items ≡ c.deref-then-has_lists.result.now = search rules in
+    first_read _ _ c.args.certificate.now _ _ c.read_file.ensures.files.kept same c.in_ok-first.ensures.read
 
-pub returns-in_err-finish-clause-refused : goal.returns-in_err-finish-clause-refused
-returns-in_err-finish-clause-refused g c =
+pub accept_story-requires-else-has_lists-clause-first : goal.accept_story-requires-else-has_lists-clause-first
+accept_story-requires-else-has_lists-clause-first g c =
+    let same : c.in_ok-first.first.items ≡ c.deref-else-has_lists.result.now = search rules in
+    first_read _ _ c.args.certificate.now _ _ c.read_file.ensures.files.kept same c.in_ok-first.ensures.read
+
+pub returns-in_err-accepted-clause-refused : goal.returns-in_err-accepted-clause-refused
+returns-in_err-accepted-clause-refused g c =
     let story_known = g.F.Files.known c.args.files.now c.args.story.now in
-    let certificate_known = g.F.Files.known c.args.files.now c.args.certificate.now in
-    handed_on (IsUnaccepted story_known certificate_known) c.from_residual-in_err-finish.result _ c.from_residual-in_err-finish.ensures
-    (unaccepted story_known certificate_known _ _ c.in_err-finish.field-0.0 (rw c.in_ok-stream.ensures.story c.in_ok-story.ensures.held) (rw c.open_story.ensures.files.kept at c.in_ok-stream.ensures.fed) c.in_err-finish.ensures.refused)
+    let problem = c.in_err-accepted.field-0.0 in
+    handed_on (IsUnacceptedStory story_known (g.F.Files.known c.args.files.now c.args.certificate.now)) c.from_residual-in_err-accepted.result _ c.from_residual-in_err-accepted.ensures
+    (inr (subst (λ (known : List ℕ → Option (List ℕ)). IsUnaccepted values_operations values_format story_known (known c.args.certificate.now) problem) (c.read_file.ensures.files.kept ∙ c.open_story.ensures.files.kept) (c.in_err-accepted.ensures.refused story_known c.in_ok-story.ensures.held)))
+
+pub returns-in_err-accepted-2-clause-refused : goal.returns-in_err-accepted-2-clause-refused
+returns-in_err-accepted-2-clause-refused g c =
+    let story_known = g.F.Files.known c.args.files.now c.args.story.now in
+    let problem = c.in_err-accepted-2.field-0.0 in
+    handed_on (IsUnacceptedStory story_known (g.F.Files.known c.args.files.now c.args.certificate.now)) c.from_residual-in_err-accepted-2.result _ c.from_residual-in_err-accepted-2.ensures
+    (inl (subst (λ (known : List ℕ → Option (List ℕ)). IsUnaccepted interval_operations interval_format story_known (known c.args.certificate.now) problem) (c.read_file.ensures.files.kept ∙ c.open_story.ensures.files.kept) (c.in_err-accepted-2.ensures.refused story_known c.in_ok-story.ensures.held)))
+
+pub returns-then-has_lists-clause-accepted : goal.returns-then-has_lists-clause-accepted
+returns-then-has_lists-clause-accepted g c =
+    let story_known = g.F.Files.known c.args.files.now c.args.story.now in
+    subst (λ (known : List ℕ → Option (List ℕ)). IsAccepted values_operations values_format story_known (known c.args.certificate.now) c.in_ok-accepted.accepted) (c.read_file.ensures.files.kept ∙ c.open_story.ensures.files.kept) (c.in_ok-accepted.ensures.accepted story_known c.in_ok-story.ensures.held)
 
 pub returns-clause-accepted : goal.returns-clause-accepted
 returns-clause-accepted g c =
     let story_known = g.F.Files.known c.args.files.now c.args.story.now in
-    let certificate_known = g.F.Files.known c.args.files.now c.args.certificate.now in
-    let known = c.in_ok-finish.ensures in
-    accepted story_known certificate_known _ _ c.in_ok-finish.field-0 (rw c.in_ok-stream.ensures.story c.in_ok-story.ensures.held) (rw c.open_story.ensures.files.kept at c.in_ok-stream.ensures.fed) known.story known.read known.passes known.lists
+    subst (λ (known : List ℕ → Option (List ℕ)). IsAccepted interval_operations interval_format story_known (known c.args.certificate.now) c.in_ok-accepted-2.accepted) (c.read_file.ensures.files.kept ∙ c.open_story.ensures.files.kept) (c.in_ok-accepted-2.ensures.accepted story_known c.in_ok-story.ensures.held)
+
+pub returns-then-has_lists-clause-files : goal.returns-then-has_lists-clause-files
+returns-then-has_lists-clause-files g c =
+    let opened = c.in_ok-story.ensures.files in
+    let begun = c.in_ok-first.ensures.files in
+    read_well _ _ _ _ _ _ (begun.kept ∙ opened.kept) (begun.blamed.1 (λ e. cc) ∙ opened.blamed.1 (λ e. cc)) (begun.alike ∙ opened.alike) _ _ c.in_ok-accepted.ensures.files (λ e. cc) (λ e. cc)
 
 pub returns-clause-files : goal.returns-clause-files
-returns-clause-files g c = record {
-  blamed = ((λ e. absurd cc), search rules);
-  kept = search rules;
-  alike = search rules;
-}
+returns-clause-files g c =
+    let opened = c.in_ok-story.ensures.files in
+    let begun = c.in_ok-first.ensures.files in
+    read_well _ _ _ _ _ _ (begun.kept ∙ opened.kept) (begun.blamed.1 (λ e. cc) ∙ opened.blamed.1 (λ e. cc)) (begun.alike ∙ opened.alike) _ _ c.in_ok-accepted-2.ensures.files (λ e. cc) (λ e. cc)

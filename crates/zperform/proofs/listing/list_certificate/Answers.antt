@@ -1,6 +1,6 @@
 use Rattle.std.proofs.Common.{◌≡◌, ◌≢◌, inr, refl, rules, subst, ℕ, List}
-use Rattle.zperform.specs.Accepting.{IsUnaccepted}
-use Rattle.zperform.specs.Listing.{HoldsListedBy, ListByComesTo}
+use Rattle.zperform.specs.Accepting.{IsUnacceptedStory}
+use Rattle.zperform.specs.Listing.{HoldsListedByEither, ListByComesTo}
 use Rattle.zperform.specs.declared.outcome.Failure.TheVariants.{File, Write}
 use Rattle.zperform.specs.declared.outcome.Problem.TheVariants.{Failed}
 use Rattle.zperform.specs.declared.outcome.Outcome.{Outcome}
@@ -14,14 +14,14 @@ pub returns-in-Ok-clause-comes : goal.returns-in-Ok-clause-comes
 returns-in-Ok-clause-comes g c =
     let known = g.F.Files.known c.args.files.now in
     let same : c.in-Ok.text.items ≡ c.deref.result.now = search rules in
-    let listed = subst (λ (text : List ℕ). HoldsListedBy (known c.args.story.now) (known c.args.certificate.now) text) same c.in-Ok.ensures.listed in
+    let listed = subst (λ (text : List ℕ). HoldsListedByEither (known c.args.story.now) (known c.args.certificate.now) text) same c.in-Ok.ensures.listed in
     ends_so _ _ _ _ _ (λ (o : Outcome). ListByComesTo (known c.args.story.now) (known c.args.certificate.now) (g.W.Sink.contents c.args.writer.now) (g.W.Sink.contents c.write_done.new.writer) o) c.write_done.ensures.ends (λ written. (_, listed, written)) (λ begun. (_, listed, begun))
 
 pub returns-in-Ok-clause-files : goal.returns-in-Ok-clause-files
 returns-in-Ok-clause-files g c = read_on _ _ _ _ _ _ _ c.in-Ok.ensures.files (λ e. cc) (ends_so _ _ _ _ _ (λ (o : Outcome). o ≢ Stopped (Failed File)) c.write_done.ensures.ends (λ _ e. cc) (λ _ e. cc))
 
 pub returns-in-Err-clause-comes : goal.returns-in-Err-clause-comes
-returns-in-Err-clause-comes g c = stops _ (IsUnaccepted _ _) _ c.in-Err.problem (unblamed _ _ c.in-Err.problem c.in-Err.ensures.refused).0 c.in-Err.ensures.refused
+returns-in-Err-clause-comes g c = stops _ (IsUnacceptedStory _ _) _ c.in-Err.problem (unblamed _ _ c.in-Err.problem c.in-Err.ensures.refused).0 c.in-Err.ensures.refused
 
 pub returns-in-Err-clause-writer : goal.returns-in-Err-clause-writer
 returns-in-Err-clause-writer g c = record {

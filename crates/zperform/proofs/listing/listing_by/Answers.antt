@@ -1,21 +1,36 @@
-use Rattle.std.proofs.Common.{◌≡◌, subst, sym}
-use Rattle.zperform.specs.Accepting.{IsUnaccepted}
+use Rattle.std.proofs.Common.{◌≡◌, inl, inr, sym, subst}
+use Rattle.zdomain.specs.Interval.{interval_operations}
+use Rattle.zdomain.specs.Values.{values_operations}
+use Rattle.zcert.specs.Format.{interval_format}
+use Rattle.zcert.specs.Lists.{values_format}
+use Rattle.zperform.specs.Accepting.{IsAccepted, IsAcceptedStory, IsUnacceptedStory}
+use Rattle.zperform.specs.Listing.{HoldsListedByEither, listing_text}
 use Rattle.zperform.specs.declared.outcome.Failure.TheVariants.{File, Memory}
 use Rattle.zperform.specs.declared.outcome.Problem.{Problem}
 use Rattle.zperform.specs.declared.outcome.Problem.TheVariants.{Failed}
-use Rattle.zperform.proofs.AcceptLemmas.{for_reason, handed_on, no_reason, read_on, story_bytes}
+use Rattle.zperform.proofs.AcceptLemmas.{for_reason, for_value, no_reason, read_on, story_bytes}
 use Rattle.zperform.proofs.listing.listing_by.Goals as goal
 
-pub returns-in_err-accepted-clause-refused : goal.returns-in_err-accepted-clause-refused
-returns-in_err-accepted-clause-refused g c =
-    handed_on (IsUnaccepted (g.F.Files.known c.args.files.now c.args.story.now) (g.F.Files.known c.args.files.now c.args.certificate.now)) c.from_residual.result _ c.from_residual.ensures c.in_err-accepted.ensures.refused
-
-pub returns-clause-refused : goal.returns-clause-refused
-returns-clause-refused g c =
+pub returns-in-Intervals-clause-refused : goal.returns-in-Intervals-clause-refused
+returns-in-Intervals-clause-refused g c =
     let story_known = g.F.Files.known c.args.files.now c.args.story.now in
     let certificate_known = g.F.Files.known c.args.files.now c.args.certificate.now in
-    for_reason (λ (p : Problem). p ≡ Failed Memory) (IsUnaccepted story_known certificate_known) c.list_accepted.result
-    (λ problem is. subst (IsUnaccepted story_known certificate_known) (sym is) (story_bytes story_known _ c.in_ok-accepted.ensures.accepted.story)) c.list_accepted.ensures.wanted
+    let has : IsAccepted interval_operations interval_format story_known certificate_known c.in-Intervals.accepted = subst (IsAcceptedStory story_known certificate_known) c.in-Intervals.is c.in_ok-accepted.ensures.accepted in
+    for_reason (λ (p : Problem). p ≡ Failed Memory) (IsUnacceptedStory story_known certificate_known) c.list_accepted.result (λ p why. subst (IsUnacceptedStory story_known certificate_known) (sym why) (inl (story_bytes story_known _ has.story))) c.list_accepted.ensures.wanted
 
-pub returns-clause-files : goal.returns-clause-files
-returns-clause-files g c = read_on _ _ _ _ _ _ _ c.in_ok-accepted.ensures.files (λ e. cc) (no_reason (λ (p : Problem). p ≡ Failed Memory) (Failed File) c.list_accepted.result (λ e. cc) c.list_accepted.ensures.wanted)
+pub returns-in-Lists-clause-listed : goal.returns-in-Lists-clause-listed
+returns-in-Lists-clause-listed g c =
+    let story_known = g.F.Files.known c.args.files.now c.args.story.now in
+    let certificate_known = g.F.Files.known c.args.files.now c.args.certificate.now in
+    let has : IsAccepted values_operations values_format story_known certificate_known c.in-Lists.accepted = subst (IsAcceptedStory story_known certificate_known) c.in-Lists.is c.in_ok-accepted.ensures.accepted in
+    for_value (λ text. text.items ≡ listing_text c.in-Lists.accepted.listing.records) (λ text. HoldsListedByEither story_known certificate_known text.items) c.list_accepted-in-Lists.result (λ text e. inr (c.in-Lists.accepted, has, e)) c.list_accepted-in-Lists.ensures.listed
+
+pub returns-in-Lists-clause-refused : goal.returns-in-Lists-clause-refused
+returns-in-Lists-clause-refused g c =
+    let story_known = g.F.Files.known c.args.files.now c.args.story.now in
+    let certificate_known = g.F.Files.known c.args.files.now c.args.certificate.now in
+    let has : IsAccepted values_operations values_format story_known certificate_known c.in-Lists.accepted = subst (IsAcceptedStory story_known certificate_known) c.in-Lists.is c.in_ok-accepted.ensures.accepted in
+    for_reason (λ (p : Problem). p ≡ Failed Memory) (IsUnacceptedStory story_known certificate_known) c.list_accepted-in-Lists.result (λ p why. subst (IsUnacceptedStory story_known certificate_known) (sym why) (inl (story_bytes story_known _ has.story))) c.list_accepted-in-Lists.ensures.wanted
+
+pub returns-in-Lists-clause-files : goal.returns-in-Lists-clause-files
+returns-in-Lists-clause-files g c = read_on _ _ _ _ _ _ _ c.in_ok-accepted.ensures.files (λ e. cc) (no_reason (λ (p : Problem). p ≡ Failed Memory) (Failed File) c.list_accepted-in-Lists.result (λ e. cc) c.list_accepted-in-Lists.ensures.wanted)

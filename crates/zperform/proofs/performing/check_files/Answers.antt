@@ -1,5 +1,5 @@
 use Rattle.std.proofs.Common.{◌≡◌, ◌≢◌, inr, refl}
-use Rattle.zperform.specs.Accepting.{CheckComesTo, IsUnaccepted}
+use Rattle.zperform.specs.Accepting.{CheckComesTo, IsUnacceptedStory}
 use Rattle.zperform.specs.declared.outcome.Failure.TheVariants.{File, Write}
 use Rattle.zperform.specs.declared.outcome.Problem.TheVariants.{Failed}
 use Rattle.zperform.specs.declared.outcome.Outcome.{Outcome}
@@ -10,7 +10,7 @@ use Rattle.zperform.proofs.SessionLemmas.{unblamed}
 use Rattle.zperform.proofs.performing.check_files.Goals as goal
 
 pub returns-in-Err-clause-comes : goal.returns-in-Err-clause-comes
-returns-in-Err-clause-comes g c = stops _ (IsUnaccepted _ _) _ c.in-Err.problem (unblamed _ _ c.in-Err.problem c.in-Err.ensures.refused).0 c.in-Err.ensures.refused
+returns-in-Err-clause-comes g c = stops _ (IsUnacceptedStory _ _) _ c.in-Err.problem (unblamed _ _ c.in-Err.problem c.in-Err.ensures.refused).0 c.in-Err.ensures.refused
 
 pub returns-in-Err-clause-writer : goal.returns-in-Err-clause-writer
 returns-in-Err-clause-writer g c = record {

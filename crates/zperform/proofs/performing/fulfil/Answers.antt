@@ -28,3 +28,6 @@ returns-in-List-default-Some-clause-comes g c = rw c.in-List-default-Some.is ([]
 
 pub returns-in-Check-clause-comes : goal.returns-in-Check-clause-comes
 returns-in-Check-clause-comes g c = rw c.in-Check.is ([], c.check_files.ensures.comes, refl)
+
+pub returns-in-Show-clause-comes : goal.returns-in-Show-clause-comes
+returns-in-Show-clause-comes g c = rw c.in-Show.is ([], c.show_files.ensures.comes, refl)

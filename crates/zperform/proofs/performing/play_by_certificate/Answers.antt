@@ -1,5 +1,7 @@
-use Rattle.std.proofs.Common.{◌∙◌, ℕ, List, [], ap, refl, rules}
+use Rattle.std.proofs.Common.{◌∙◌, inl, inr, ℕ, List, [], ap, refl, rules, subst}
 use Rattle.std.specs.Prelude.{Option, option_map}
+use Rattle.zperform.specs.Accepting.{IsAcceptedStory, PlayComesTo}
+use Rattle.zperform.specs.declared.accepting.AcceptedStory.{AcceptedStory}
 use Rattle.zperform.specs.Performing.{given, store_of}
 use Rattle.zperform.proofs.SessionLemmas.{handed_on, unplayed}
 use Rattle.zperform.proofs.performing.play_by_certificate.Goals as goal
@@ -11,17 +13,34 @@ returns-in_err-accepted-clause-comes g c =
     let world = given (g.R.Source.remaining c.args.reader.now) c.args.seed (store_of (option_map (λ n. n.now) c.args.save)) in
     let taken = g.W.Sink.contents c.args.writer.now in
     let problem = c.in_err-accepted.field-0.0 in
-    ([], handed_on story certificate c.args.options world [] taken taken c.from_residual.result problem c.from_residual.ensures (unplayed story certificate c.args.options world taken problem c.in_err-accepted.ensures.refused), refl)
+    ([], handed_on (λ outcome. PlayComesTo story certificate c.args.options world [] taken taken outcome) c.from_residual.result problem c.from_residual.ensures (unplayed story certificate c.args.options world taken problem c.in_err-accepted.ensures.refused), refl)
 
-pub returns-clause-comes : goal.returns-clause-comes
-returns-clause-comes g c =
+pub returns-in-Intervals-clause-comes : goal.returns-in-Intervals-clause-comes
+returns-in-Intervals-clause-comes g c =
+    let known = g.F.Files.known c.args.files.now in
     let came = c.play_accepted.ensures.comes in
-    (came.0, came.1 _ _ c.in_ok-accepted.ensures.accepted, came.2)
+    let accepted = subst (λ (a : AcceptedStory). IsAcceptedStory (known c.args.story.now) (known c.args.certificate.now) a) c.in-Intervals.is c.in_ok-accepted.ensures.accepted in
+    (came.0, inl (came.1 _ _ accepted), came.2)
 
-pub returns-clause-files : goal.returns-clause-files
-returns-clause-files g c = record {
+pub returns-in-Intervals-clause-files : goal.returns-in-Intervals-clause-files
+returns-in-Intervals-clause-files g c = record {
   unread = search rules;
   unfailed = search rules;
   kept = search rules;
   spared = λ other another. c.play_accepted.ensures.spared other another ∙ ap (λ (known : List ℕ → Option (List ℕ)). known other) c.in_ok-accepted.ensures.files.kept;
+}
+
+pub returns-in-Lists-clause-comes : goal.returns-in-Lists-clause-comes
+returns-in-Lists-clause-comes g c =
+    let known = g.F.Files.known c.args.files.now in
+    let came = c.play_accepted-in-Lists.ensures.comes in
+    let accepted = subst (λ (a : AcceptedStory). IsAcceptedStory (known c.args.story.now) (known c.args.certificate.now) a) c.in-Lists.is c.in_ok-accepted.ensures.accepted in
+    (came.0, inr (came.1 _ _ accepted), came.2)
+
+pub returns-in-Lists-clause-files : goal.returns-in-Lists-clause-files
+returns-in-Lists-clause-files g c = record {
+  unread = search rules;
+  unfailed = search rules;
+  kept = search rules;
+  spared = λ other another. c.play_accepted-in-Lists.ensures.spared other another ∙ ap (λ (known : List ℕ → Option (List ℕ)). known other) c.in_ok-accepted.ensures.files.kept;
 }

@@ -1,4 +1,4 @@
-use Rattle.std.proofs.Common.{◌∙◌, None, Some, [], refl, rules}
+use Rattle.std.proofs.Common.{◌∙◌, None, Some, refl, rules}
 use Rattle.zplayer.specs.World.{Store}
 use Rattle.zperform.specs.Playing.{ComesTo}
 use Rattle.zperform.specs.Performing.{given}

@@ -1,0 +1,17 @@
+use Rattle.std.proofs.Common.{◌≡◌, ◌++◌, sym, rules}
+use Rattle.zcert.specs.Listed.{seen}
+use Rattle.zperform.specs.Showing.{answer_line, frame_text, spelled_line}
+use Rattle.zperform.proofs.ShowLemmas.{three_added, told_there}
+use Rattle.zperform.proofs.claims.add_place.Goals as goal
+
+pub returns : goal.returns
+returns g c =
+    let i = seen c.in-Some.listed in
+    let there = c.instruction_there.ensures in
+    let answer = c.rule_at.ensures in
+    let set_text = g.V.Told.set_text in
+    let old = c.args.text.now.items in
+    let spelled : c.add_spelled.new.text.items ≡ old ++ spelled_line i c.instruction_there.result = search rules in
+    let frame : c.add_frame.new.text.items ≡ c.add_spelled.new.text.items ++ frame_text set_text i = search rules in
+    let answered : c.add_answer.new.text.items ≡ c.add_frame.new.text.items ++ answer_line c.rule_at.result = search rules in
+    (_, told_there g.V.Domain.operations set_text c.args.story.now c.args.certificate.now c.args.address i (sym c.in-Some.ensures.value) c.instruction_there.result c.rule_at.result there.none there.some answer.kept answer.broken, rw (answered, frame, spelled) (three_added old (spelled_line i c.instruction_there.result) (frame_text set_text i) (answer_line c.rule_at.result)))
