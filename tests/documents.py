@@ -7,12 +7,8 @@ import os
 import re
 import sys
 
-TOP = os.path.join(os.path.dirname(os.path.abspath(__file__)), "..")
-
-
-def text_of(path):
-    with open(os.path.join(TOP, path), encoding="utf-8") as file:
-        return file.read()
+from believe import differences
+from definitions import TOP, text_of
 
 
 def files(pattern):
@@ -126,9 +122,11 @@ def wrong_codes():
 
 
 def wrong_authors():
-    """docs/AUTHORS.md names the stories of tests/authors, with the rules that tests/program/authors.py has."""
-    told = set(re.findall(r"(?m)^\| [^|]+ \| (\w+) \| (I\d+) \|$", text_of("docs/AUTHORS.md")))
-    tried = set(re.findall(r'(?m)^    \("(\w+)", "(I\d+)", b"', text_of("tests/program/authors.py")))
+    """docs/AUTHORS.md names the stories of tests/authors, with the rules that tests/program/authors.py has, or none where a certificate
+    of lists is found."""
+    told = set(re.findall(r"(?m)^\| [^|]+ \| (\w+) \| (I\d+|none: lists) \|$", text_of("docs/AUTHORS.md")))
+    forms = re.findall(r'(?m)^    \("(\w+)", (?:"(I\d+)"|None), b"', text_of("tests/program/authors.py"))
+    tried = {(name, rule or "none: lists") for name, rule in forms}
     for name, rule in sorted(told ^ tried):
         yield f"AUTHORS: {name} with {rule} is {'told and not tried' if (name, rule) in told else 'tried and not told'}"
     stories = {re.sub(r"_(before|after)\.(inf|z3)$", "", os.path.basename(path)) for path in files(r"^tests/authors/")}
@@ -177,6 +175,12 @@ def wrong_edits():
                 source = source.replace(old, text)
 
 
+def wrong_belief():
+    """docs/BELIEVE.md is what tests/believe.py writes."""
+    for line in differences():
+        yield f"BELIEVE: {line}"
+
+
 def wrong_shape():
     if len(text_of("README.md").split("\n")) > 250:
         yield "README.md has over 250 lines"
@@ -189,7 +193,8 @@ def wrong_shape():
 
 def main():
     passed = failed = 0
-    for check in (wrong_bugs, wrong_clauses, wrong_crates, wrong_names, wrong_codes, wrong_authors, wrong_tested, wrong_edits, wrong_shape):
+    asked = (wrong_bugs, wrong_clauses, wrong_crates, wrong_names, wrong_codes, wrong_authors, wrong_tested, wrong_edits, wrong_belief, wrong_shape)
+    for check in asked:
         found = list(check())
         for line in found:
             print(f"documents: {line}")

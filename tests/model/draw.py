@@ -17,6 +17,7 @@ from walking import Walk
 ROOT = os.path.join(os.path.dirname(os.path.abspath(__file__)), "../..")
 FOLDERS = ["crates/zpc/data", "tests/authors", "benches/stories"]
 LINES = [b"look", b"go north", b"take lamp, at", b"", b"  ", b"save", b"restore", b"quit", b"LOOK \xe9 at\r", b"n", b"x" * 300, b"\"at.\"", b"e", b"1"]
+INTERVALS = 1  # the version of certificates of intervals
 POOL = 40  # stories with a certificate that is found, for each seed
 
 
@@ -122,15 +123,17 @@ class Drawer:
 
     def found(self, number):
         if number >= POOL:
-            story = self.stories[number - POOL]
-            certificate = self.program.found(story)[1]
-            return (story, certificate) if certificate else None
+            return self.of_intervals(self.stories[number - POOL])
         for attempt in range(8):
-            story = worlds.story(random.Random(f"{self.seed}-pool-{number}-{attempt}"), 0, number % 3 == 0)
-            certificate = self.program.found(story)[1]
-            if certificate:
-                return story, certificate
+            made = self.of_intervals(worlds.story(random.Random(f"{self.seed}-pool-{number}-{attempt}"), 0, number % 3 == 0))
+            if made:
+                return made
         return None
+
+    def of_intervals(self, story):
+        """The story with the certificate that is found, if that is one of intervals: the model knows no lists."""
+        certificate = self.program.found(story)[1]
+        return (story, certificate) if certificate and certificate[4] == INTERVALS else None
 
     def with_certificate(self, draw):
         story, certificate = self.sound(draw)

@@ -14,6 +14,7 @@ import sys
 
 from program import Answer, Count, Program, side_by_side
 from calls import PRINT_FIRST, RET_POPPED, call
+from lists import LISTED, NAMED, NAMINGS, TABLE, alterations, damaged, drawn_certificate, list_of, table_listed
 from samples import CODE, HELLO, NOP, QUIT, certificate, changed, interval, story
 
 REFUSED = re.compile(rb"refused: [LKSI][0-9]{1,2}( at [0-9a-f]{5})?\n")
@@ -98,10 +99,30 @@ IN_PIECES = [
 ]
 
 
-def see_pieces(calls, count):
-    for name, pieces, refused, end in IN_PIECES:
+# Of version 2: sets are cut within their kind, count and words.
+SETS_AT = LISTED.index(list_of(411, 413))
+FALLS, HAS_ALL = (changed(LISTED, SETS_AT + 4, *word) for word in (b"\x01\x9a", b"\x01\x9c"))
+LISTS_IN_PIECES = [
+    ("whole", [LISTED], None, "accepted"),
+    ("a byte at a time", by(1, LISTED), None, "accepted"),
+    ("by three, with empty ones between", with_empty(by(3, LISTED)), None, "accepted"),
+    ("cut behind its kind", [LISTED[: SETS_AT + 1], LISTED[SETS_AT + 1 :]], None, "accepted"),
+    ("cut within a word", [LISTED[: SETS_AT + 3], LISTED[SETS_AT + 3 : SETS_AT + 5], LISTED[SETS_AT + 5 :]], None, "accepted"),
+    ("all but the last byte", by(400, LISTED[:-1]), None, "K3"),
+    ("a byte behind it", [LISTED, b"\0"], (1, "K4"), "K4"),
+    ("kind 2", [LISTED[:SETS_AT], b"\2", LISTED[SETS_AT + 1 :]], (1, "K9"), "K9"),
+    ("a count of 1", [LISTED[: SETS_AT + 1], b"\1", LISTED[SETS_AT + 2 :]], (1, "K9"), "K9"),
+    ("a count of 65", [LISTED[: SETS_AT + 1], b"\x41", LISTED[SETS_AT + 2 :]], (1, "K9"), "K9"),
+    ("a list that falls", [FALLS[: SETS_AT + 5], FALLS[SETS_AT + 5 : SETS_AT + 6], FALLS[SETS_AT + 6 :]], (1, "K5"), "K5"),
+    ("a list that is an interval", [HAS_ALL[: SETS_AT + 5], HAS_ALL[SETS_AT + 5 : SETS_AT + 6], HAS_ALL[SETS_AT + 6 :]], (1, "K9"), "K9"),
+    ("a routine less", by(9, table_listed(routines=list_of(411, 415))), None, "I4 at 00328"),
+]
+
+
+def see_pieces(calls, count, made, given):
+    for name, pieces, refused, end in given:
         files = {f"piece {number}": piece for number, piece in enumerate(pieces)}
-        answer = calls.run(["pieces", "story", *files], {"story": PLAIN, **files})
+        answer = calls.run(["pieces", "story", *files], {"story": made, **files})
         at, code = refused or (len(pieces), "")
         wanted = ["open"] * at + [code] * (len(pieces) - at) + [end]
         count.is_answer(f"in pieces, {name}", answer, Answer(0, "".join(f"{line}\n" for line in wanted).encode(), b""))
@@ -125,10 +146,16 @@ def see_cuts(program, calls, count):
     long_listed = certificate(long, range(CODE, CODE + 701))
     assert len(long_listed) > 5000
     at_edge = [listed for at in range(4093, 4100) for listed in (long_listed[:at], changed(long_listed, at, long_listed[at] ^ 128))]
-    for name, made, listed, others in [("plain", PLAIN, PLAIN_LISTED, []), ("calling", CALLING, CALLING_LISTED, []), ("long", long, long_listed, at_edge)]:
+    with_lists = [files["certificate"] for _, files, _ in NAMINGS]
+    for name, made, listed, others in [
+        ("plain", PLAIN, PLAIN_LISTED, []), ("calling", CALLING, CALLING_LISTED, []), ("long", long, long_listed, at_edge), ("lists", NAMED, with_lists[0], with_lists[1:]),
+    ]:
         see_group(program, calls, count, f"cuts, {name}", made, [listed, *others])
         for group in range(10):
             see_group(program, calls, count, f"cuts, {name}, at random {group}", made, [at_random(listed, chosen) for _ in range(15)])
+    for group in range(5):
+        drawn = [drawn_certificate(chosen) for _ in range(5)]
+        see_group(program, calls, count, f"cuts, any lists, at random {group}", TABLE, [*drawn, *(damaged(it, chosen) for it in drawn)])
 
 
 def see_group(program, calls, count, name, made, listed):
@@ -175,11 +202,18 @@ def see_lengths(program, count):
         count.is_answer(f"a byte more, {words}", program.run(words, longer), HELLO_IS_PRINTED)
 
 
+def altered_at(file, places):
+    """The file with each of these bytes altered in four ways."""
+    for at in places:
+        for new in sorted({0, 255, file[at] ^ 1, file[at] ^ 128} - {file[at]}):
+            yield changed(file, at, new)
+
+
 def changes(file):
     """The file with each byte altered in four ways, and each beginning of it, with a name for each."""
-    for at, byte in enumerate(file):
-        for new in sorted({0, 255, byte ^ 1, byte ^ 128} - {byte}):
-            yield f"byte {at} as {new}", file[:at] + bytes([new]) + file[at + 1 :]
+    for at in range(len(file)):
+        for made in altered_at(file, [at]):
+            yield f"byte {at} as {made[at]}", made
     for length in range(len(file)):
         yield f"the first {length} bytes", file[:length]
 
@@ -218,16 +252,27 @@ def see_each(program, calls, count, name, made, listed):
         count.see(not wrong, f"{what}: {wrong}")
 
 
+def see_lists(program, calls, count):
+    """A table of routines by a certificate of version 2: each byte of the code altered, and of the certificate but in the midst of the globals."""
+    altered = Altered(program, calls, TABLE)
+    files = [{"story": made, "certificate": LISTED} for made in altered_at(TABLE, range(CODE, len(TABLE)))]
+    files += [{"story": TABLE, "certificate": listed} for listed in alterations(LISTED) if len(listed) == len(LISTED)]
+    for number, wrong in enumerate(side_by_side(altered.what_is_wrong, files)):
+        count.see(not wrong, f"lists, altered {number}: {wrong}")
+
+
 def main():
     program, calls = Program(sys.argv[1]), Program(sys.argv[2])
     count = Count("altered")
     assert (len(PLAIN), len(PLAIN_LISTED), PLAIN[0x1C:0x1E].hex(), PLAIN[CODE:].hex()) == (810, 1001, "3a7a", "b23551c685ba")
     see_bytes(program, count)
     see_lengths(program, count)
-    see_pieces(calls, count)
+    see_pieces(calls, count, PLAIN, IN_PIECES)
+    see_pieces(calls, count, TABLE, LISTS_IN_PIECES)
     see_cuts(program, calls, count)
     see_each(program, calls, count, "plain", PLAIN, PLAIN_LISTED)
     see_each(program, calls, count, "calling", CALLING, CALLING_LISTED)
+    see_lists(program, calls, count)
     count.end()
 
 

@@ -68,7 +68,7 @@ def one_by_one_everywhere(count, routines, constants, locals_):
 
 def stored_anywhere(stores):
     """A local is counted without end, and before each count a byte is stored so far behind a table: storeb TABLE 2 1. No bound of a place keeps
-    the last stores from other bytes."""
+    the last stores from other bytes, which intervals find; with lists each count is a word more, and the work that they may take ends first."""
     loop = (b"\x54\x02\x01\x02" + b"\xe2\x2b" + word(STATIC) + b"\x02\x01") * stores
     return in_routine(loop + b"\x8c" + struct.pack(">h", -len(loop) - 1), 2, 20000)
 
@@ -116,7 +116,7 @@ def see_searches(program, count):
     ):
         answer, listed = within_time(program, ["find", "story", "certificate"], {"story": made})
         if wanted is None:
-            count.is_answer(name, answer, Answer(1, b"", b"refused: G1 at 05153\nno certificate: I9 at 05153\n"))
+            count.is_answer(name, answer, Answer(1, b"", b"refused: G2\nno certificate: I9 at 05153\n"))
             continue
         count.is_answer(name, answer, Answer(0, wanted, b""))
         answer, _ = within_time(program, ["check", "story", "made"], {"story": made, "made": listed})

@@ -10,6 +10,7 @@ import subprocess
 import sys
 import tempfile
 
+from lists import NAMINGS
 from program import Answer, Count, Program
 from samples import HELLO, QUIT, certificate, changed, printed, story, with_objects
 from saves import SAVES, SAVES_LISTED, THAT_SAVE
@@ -176,10 +177,12 @@ def main():
     with tempfile.TemporaryDirectory(prefix="devices-") as folder:
         devices = Devices(program, shim(folder), folder)
         for settings in ({}, {"SHORT": 1000}):
-            for words in (["list", "story"], ["list", "story", "certificate"], ["play", "story"], ["play", "story", "certificate"], ["check", "story", "certificate"], ["play", "absent"]):
+            for words in (["list", "story"], ["list", "story", "certificate"], ["play", "story"], ["play", "story", "certificate"], ["check", "story", "certificate"], ["show", "story", "certificate"], ["show", "story", "certificate", "00324"], ["play", "absent"]):
                 see_each(devices, count, words, files, settings)
-            for words in (["--help"], ["--version"], ["play"], ["list"], ["explain", "I5"], ["explain", "I19"], ["check", "story", "story"]):
+            for words in (["--help"], ["--version"], ["play"], ["list"], ["explain", "I5"], ["explain", "I19"], ["show", "story", "certificate", "x"], ["check", "story", "story"]):
                 see_each(devices, count, words, files, settings)
+        for words in (["list", "story", "certificate"], ["play", "story", "certificate"], ["check", "story", "certificate"], ["show", "story", "certificate"]):
+            see_each(devices, count, words, NAMINGS[0][1], {"SHORT": 400})
         see_lines(devices, count)
         see_prompt(devices, count)
         see_writers(devices, count)

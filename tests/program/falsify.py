@@ -7,7 +7,8 @@ Small random stories are made, and of each it is asked what `find` answers. Wher
 made by other means, with sets of a small grid, and none may be accepted: `check` decides. They are made by a walk of this script's own,
 after docs/CERTIFICATE.md alone, which takes for what routines give, for globals and for the locals that a routine begins with sets of the
 grid beside what comes of the code; and of each that it makes also copies with other sets here and there. So of a story with few variables most
-sets of the grid are tried. Every certificate that `find` writes is checked too.
+sets of the grid are tried. Each is tried once more as one of version 2, in which sets are lists here and there. Every certificate that `find`
+writes is checked too.
 
 It ends with how many stories and certificates were tried, and of how many stories that `find` answers otherwise the walk here has a
 certificate.
@@ -646,6 +647,64 @@ def grid_certificates(made, draw, most):
         )
 
 
+# ---- certificates of lists
+
+class Pieces:
+    """The parts of a certificate of version 1, taken from its front and put down as parts of one of version 2."""
+
+    def __init__(self, file, draw, rate):
+        self.file, self.at, self.draw, self.rate = file, 5, draw, rate
+        self.parts = [b"ZPCC\x02"]
+
+    def take(self, form):
+        """A part that is spelled alike in both."""
+        length = struct.calcsize(form)
+        here = self.file[self.at : self.at + length]
+        self.at += length
+        self.parts.append(here)
+        return struct.unpack(form, here)
+
+    def take_sets(self, count):
+        for _ in range(count):
+            least, greatest = struct.unpack_from(">hh", self.file, self.at)
+            self.at += 4
+            self.parts.append(self.set_within(least, greatest))
+
+    def set_within(self, least, greatest):
+        """The interval, or both its ends with some of the words between them."""
+        if greatest - least < 2 or self.draw.random() >= self.rate:
+            return b"\0" + struct.pack(">hh", least, greatest)
+        inner = {self.draw.randint(least + 1, greatest - 1) for _ in range(self.draw.choice([0, 0, 1, 2, 4]))}
+        words = sorted({least, greatest} | inner)
+        if len(words) == greatest - least + 1:
+            words.remove(least + 1)
+        return b"\x01" + bytes([len(words)]) + struct.pack(f">{len(words)}h", *words)
+
+
+def with_lists(file, draw, rate):
+    """A certificate of version 1 as one of version 2, in which sets are lists at this rate."""
+    pieces = Pieces(file, draw, rate)
+    pieces.take(">H6s2sI")
+    for _ in range(pieces.take(">H")[0]):
+        pieces.take(">HH")
+    pieces.take_sets(240)
+    local_counts = [0]
+    for _ in range(pieces.take(">H")[0]):
+        local_counts.append(pieces.take(">IB")[1])
+        pieces.take_sets(1)
+    for _ in range(pieces.take(">I")[0]):
+        _, routine, height = pieces.take(">IHB")
+        pieces.take_sets(local_counts[routine] + height)
+    return b"".join(pieces.parts)
+
+
+def of_both_kinds(files, draw):
+    """Each certificate, and behind it one of lists that it becomes."""
+    for file in files:
+        yield file
+        yield with_lists(file, draw, draw.choice([0, 0.2, 1.0]))
+
+
 # ---- runs
 
 def run_in(room, path, *words):
@@ -674,7 +733,7 @@ def judged(case):
             return made, "found", 1, None if is_accepted(room, path, "found") else b"found"
         lines = errors.decode().splitlines()
         said = lines[1] if len(lines) > 1 else f"status {status}"
-        tries = itertools.chain(certificates(made, draw, most), grid_certificates(made, draw, most // 4))
+        tries = of_both_kinds(itertools.chain(certificates(made, draw, most), grid_certificates(made, draw, most // 4)), draw)
         tried = 0
         for it in tries:
             put(room, "certificate", it)

@@ -178,6 +178,21 @@ NONE = [
     ("a division by 0", story(b"\x37\x01\x10\x11" + QUIT), ("G1 at 00324", "no certificate: I8 at 00324")),
 ]
 
+# random 2 -> stack; loadw 33c that -> stack: one of the two routines of a table; call that -> stack; print_num that; quit; at 336 a routine that
+# returns 5, at 33a one that returns 7; and behind 33c the table
+TABLE = b"\xe7\x7f\x02\0\xcf\x2f\x03\x3c\0\0\xe0\xbf\0\0\xe6\xbf\0" + QUIT + b"\0\x9b\x05\0\0\x9b\x07\0"
+CALLS_BY_TABLE = story(TABLE + word(0x19B) + word(0x19D))
+
+# the same of a table with a third word, which is no routine, and is never asked for
+CALLS_OF_TABLE = story(TABLE + word(0x19B) + word(0x19D) + word(0))
+
+# ---- stories that are found with lists alone: name, story, what play may show
+
+BY_LISTS = [
+    ("a call of what a table has", CALLS_BY_TABLE, {b"5", b"7"}),
+    ("a call of the first two that a table has", CALLS_OF_TABLE, {b"5", b"7"}),
+]
+
 EXPLAINED = b"""I5: an operand that has to be an object may be none, most often 0.
 Rule: each value of such an operand is 1 to the count of the story's objects (Z 12.3, 15).
 Do: test the local that is then used: p = parent(o); if (p == 0) rfalse; o = p; and keep no 0 or -1 in a global that
@@ -185,7 +200,7 @@ names an object. Of a table: o = things-->k; if (o >= First && o <= Last) print 
 """
 
 
-CODES = [f"{letter}{number}" for letter, last in zip("LUJEKSIGFQPN", (12, 4, 5, 3, 8, 8, 18, 3, 16, 11, 3, 2)) for number in range(1, last + 1)]
+CODES = [f"{letter}{number}" for letter, last in zip("LUJEKSIGFQPN", (12, 4, 5, 3, 9, 8, 18, 3, 16, 11, 3, 2)) for number in range(1, last + 1)]
 
 
 def explained():
@@ -240,6 +255,20 @@ def see_found(program, count):
         count.see(plain == listed and (shown is None or plain.output == shown), f"{name}: {plain}; by what was found: {listed}; wanted was {shown}")
 
 
+def see_lists(program, count):
+    """With intervals each breaks a rule, and what is found is of version 2."""
+    for name, made, shown in BY_LISTS:
+        answer, written = program.found(made)
+        count.is_answer(f"{name}, find", answer, Answer(0, b"found\n", b""))
+        count.see(written is not None and written[4] == 2, f"{name}, find: no certificate of version 2 was written")
+        if written is None:
+            continue
+        files = {"story": made, "certificate": written}
+        count.is_answer(f"{name}, check of what was found", program.run(["check", "story", "certificate"], files), Answer(0, b"accepted\n", b""))
+        plays = [[program.run(["play", "--seed", f"{seed}", *words], files) for seed in range(1, 9)] for words in (["story"], ["story", "certificate"])]
+        count.see(plays[0] == plays[1] and {it.output for it in plays[0]} == shown, f"{name}: {plays[0]}; by what was found: {plays[1]}; wanted was {shown}")
+
+
 def see_families(program, count):
     """Each is found, and what was found is played as the whole of its answer says, on both machines."""
 
@@ -282,5 +311,6 @@ def see_finding(program, count):
     see_explaining(program, count)
     see_none(program, count)
     see_found(program, count)
+    see_lists(program, count)
     see_families(program, count)
     see_files(program, count)

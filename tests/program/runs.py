@@ -17,11 +17,13 @@ from dear import see_dear
 from finding import see_finding
 from game import see_game
 from lines import see_lines
+from lists import see_lists
 from objects import see_objects
 from plays import see_plays
 from program import Answer, Count, Program
 from properties import see_properties
 from samples import CODE, HELLO, NEW_LINE, NOP, QUIT, certificate, changed, interval, story, with_objects
+from showing import see_showing
 from texts import see_texts
 
 HERE = os.path.dirname(os.path.abspath(__file__))
@@ -112,6 +114,8 @@ WORDS = [
     ("help of find, as a command", ["help", "find"], done(help_text("find.txt"))),
     ("help of check", ["check", "--help"], done(help_text("check.txt"))),
     ("help of check, as a command", ["help", "check"], done(help_text("check.txt"))),
+    ("help of show", ["show", "--help"], done(help_text("show.txt"))),
+    ("help of show, as a command", ["help", "show"], done(help_text("show.txt"))),
     ("help of play", ["play", "--help"], done(help_text("play.txt"))),
     ("help of play, as a command", ["help", "play"], done(help_text("play.txt"))),
     ("help of explain", ["explain", "--help"], done(help_text("explain.txt"))),
@@ -123,6 +127,7 @@ WORDS = [
     ("no story", ["play"], Answer(2, b"", help_text("no_story.txt"))),
     ("no story to list", ["list"], Answer(2, b"", help_text("no_story_to_list.txt"))),
     ("no certificate to find", ["find", "story"], Answer(2, b"", help_text("no_certificate.txt").replace(b"check", b"find"))),
+    ("no certificate to show", ["show", "story"], Answer(2, b"", help_text("no_certificate_to_show.txt"))),
     ("no code", ["explain"], Answer(2, b"", help_text("no_code.txt"))),
     ("a code that there isn't", ["explain", "I19"], Answer(2, b"", help_text("unknown_code.txt"))),
     ("a code in small letters", ["explain", "i5"], Answer(2, b"", help_text("unknown_code.txt"))),
@@ -132,6 +137,7 @@ WORDS = [
     ("too many words to find", ["find", "a", "b", "c"], Answer(2, b"", help_text("too_many_to_check.txt").replace(b"check", b"find [OPTIONS]"))),
     ("too many words to explain", ["explain", "a", "b"], Answer(2, b"", help_text("too_many_to_explain.txt"))),
     ("too many words to check", ["check", "a", "b", "c"], Answer(2, b"", help_text("too_many_to_check.txt"))),
+    ("too many words to show", ["show", "a", "b", "c", "d"], Answer(2, b"", help_text("too_many_to_show.txt"))),
     ("too many words to play", ["play", "a", "b", "c"], Answer(2, b"", help_text("too_many_to_play.txt"))),
     ("a budget that is no number", ["play", "--budget", "x", "story"], Answer(2, b"", help_text("no_number.txt"))),
     ("a seed that is no number", ["play", "--seed", "x", "story"], Answer(2, b"", help_text("no_number.txt").replace(b"--budget", b"--seed"))),
@@ -373,6 +379,9 @@ def see_streams(program, count):
         ("a list to a closed output", '"$1" list "$2/hello.z3" >&-', failed("write")),
         ("a list of a story by its certificate, from pipes", '"$1" list <(cat "$2/hello.z3") <(cat "$2/hello.cert")', done(lines([(0x324, "print"), (0x329, "quit")]))),
         ("a certificate's list to a full device", '"$1" list "$2/hello.z3" "$2/hello.cert" >/dev/full', failed("write")),
+        ("a certificate shown from pipes", '"$1" show <(cat "$2/hello.z3") <(cat "$2/hello.cert") 325 | tail -n 1', done(b"00325 isn't listed\n")),
+        ("an endless certificate to show", '"$1" show "$2/hello.z3" <(yes)', refused("K1")),
+        ("a certificate shown to a full device", '"$1" show "$2/hello.z3" "$2/hello.cert" >/dev/full', failed("write")),
         ("help to a full device", '"$1" --help >/dev/full', failed("write")),
         ("version to a full device", '"$1" --version >/dev/full', failed("write")),
         ("an output that nobody reads", '"$1" play "$2/hello.z3" > >(exec <&-; sleep 0.2)', None),
@@ -434,6 +443,8 @@ def main():
     see_arrays(program, count)
     see_texts(program, count)
     see_lines(program, count)
+    see_lists(program, count, COMMANDS)
+    see_showing(program, count, help_text("no_address.txt"))
     see_finding(program, count)
     see_dear(program, count)
     see_game(program, count)

@@ -410,6 +410,8 @@ GROWTH = [
     ("zfind find", "instructions", searched),
     ("zfind find", "routines", many_routines),
     ("zfind find", "objects and properties", many_objects),
+    ("zfind write", "instructions", searched),
+    ("zfind write", "routines", many_routines),
     ("zfind broken_in_all", "what `find` grows by: the walk is the same", searched),
     ("zref new", "bytes of memory", longest),
     ("zref run", "text of a step, and of a turn", long_texts),
@@ -455,7 +457,7 @@ def on_small_machines(program, count):
     """Each command on the sample games, with a stack of 512 KB: it does the same. And in 4 MB of address space, of which the C library takes
     3.3: it does the same, or tells that memory was refused."""
     data = os.path.join(os.path.dirname(os.path.abspath(__file__)), "../../crates/zpc/data")
-    commands = ["explain I5", "list story", "check story certificate", "find story found", "play story", "play story certificate"]
+    commands = ["explain I5", "list story", "check story certificate", "show story certificate", "show story certificate 324", "find story found", "play story", "play story certificate"]
     for name in ["hello", "bell"]:
         made = {}
         for file, ending in [("story", "z3"), ("certificate", "cert")]:

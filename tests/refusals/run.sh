@@ -13,6 +13,14 @@ for name, contents in files(deep(3), [LEVELS]).items():
     with open(f"{sys.argv[1]}/{name}", "wb") as file:
         file.write(contents)
 ' "$work") || exit 1
+# A story that calls one of two routines, with a certificate of version 2.
+(cd "$here/../program" && python3 -c '
+import sys
+from lists import NAMINGS
+for name, contents in NAMINGS[0][1].items():
+    with open(f"{sys.argv[1]}/{name}.lists", "wb") as file:
+        file.write(contents)
+' "$work") || exit 1
 # A story that saves, one that restores, a save of that, and their certificates.
 (cd "$here/../program" && python3 -c '
 import sys
@@ -95,12 +103,22 @@ refuse_each explain I19
 refuse_each check hello.z3 hello.cert
 refuse_each check hello.z3 hello.z3
 refuse_each check hello.z3 absent.cert
+refuse_each show hello.z3 hello.cert
+refuse_each show hello.z3 hello.cert 00324
+refuse_each show hello.z3 hello.cert 00325
+refuse_each show hello.z3 hello.cert x
+refuse_each show hello.z3 hello.z3
+refuse_each show hello.z3 absent.cert
 refuse_each play hello.z3 hello.cert
 refuse_each play --budget 0 hello.z3 hello.cert
 refuse_each play "$work/story"
 refuse_each play "$work/story" "$work/certificate"
 refuse_each check "$work/story" "$work/certificate"
 refuse_each list "$work/story"
+refuse_each list "$work/story.lists" "$work/certificate.lists"
+refuse_each check "$work/story.lists" "$work/certificate.lists"
+refuse_each show "$work/story.lists" "$work/certificate.lists"
+refuse_each play "$work/story.lists" "$work/certificate.lists"
 refuse_each play --save "$work/new" "$work/saves"
 refuse_each play --save "$work/new" "$work/saves" "$work/saves.cert"
 unrestored=0
