@@ -17,7 +17,7 @@ Each story is accepted with its certificate.
 import struct
 import sys
 
-from straight import CODE, GLOBALS, QUIT, RELEASE, SERIAL, certificate, story
+from straight import CODE, GLOBALS, QUIT, RELEASE, SERIAL, certificate, story, write
 
 LONGEST = 131070
 END_WORD = b"\x94\xa5"
@@ -107,11 +107,7 @@ KINDS = {
 def main():
     if len(sys.argv) != 4 or sys.argv[1] not in KINDS:
         sys.exit(__doc__)
-    made, its_certificate = KINDS[sys.argv[1]]()
-    with open(sys.argv[2], "wb") as file:
-        file.write(made)
-    with open(sys.argv[3], "wb") as file:
-        file.write(its_certificate)
+    write(KINDS[sys.argv[1]](), *sys.argv[2:])
 
 
 if __name__ == "__main__":

@@ -18,7 +18,7 @@ import struct
 import sys
 
 import objects
-from straight import CODE, GLOBALS, QUIT, RELEASE, SERIAL, story
+from straight import CODE, GLOBALS, QUIT, RELEASE, SERIAL, story, write
 
 LONGEST = 131070
 ADD, MUL, LOADW, GET_PROP, NOP = 0x74, 0x76, 0x6F, 0x71, 0xB4
@@ -111,11 +111,7 @@ KINDS = {
 def main():
     if len(sys.argv) != 4 or sys.argv[1] not in KINDS:
         sys.exit(__doc__)
-    made, its_certificate = KINDS[sys.argv[1]]()
-    with open(sys.argv[2], "wb") as file:
-        file.write(made)
-    with open(sys.argv[3], "wb") as file:
-        file.write(its_certificate)
+    write(KINDS[sys.argv[1]](), *sys.argv[2:])
 
 
 if __name__ == "__main__":
