@@ -8,34 +8,35 @@ ghost use Rattle.zpairs.specs.Frozen.{FrozenStory, frozen_by};
 ghost use Rattle.zdomain.specs.Few.{with_words};
 ghost use Rattle.zpairs.specs.Pairs.{EachPair, all_ends, column, hull, is_asked, may_exceed, may_have, object_ends, pair_ends};
 
-use crate::blocks::{BLOCK_CELLS, BLOCK_LENGTH, COLUMNS, OBJECT_CELLS, fill_blocks, fill_cells};
+use crate::blocks::{BLOCK_CELLS, BLOCK_LENGTH, COLUMNS, OBJECT_CELLS, fill_blocks};
 use crate::cell::{Cell, Test};
 use crate::closed::mark_closed;
 use crate::ends::Ends;
+use crate::finding::{answer_ends, passes};
 use crate::fixed::mark_fixed;
 use crate::frozen::MARK_BYTES;
 use crate::marked::Marked;
 use crate::room::PropertyRoom;
-use crate::rows::place_objects;
+use crate::rows::{place_objects, property_in};
 use crate::told::members;
 use std::marker::Model;
 use zcert::Range;
 use zdomain::{Domain, Gathered, Marks, turned};
-use zobj::PropertyQuestion;
+use zobj::{Property, PropertyQuestion};
 use zstory::Story;
 
 /// How many numbers a size byte can have (Z 12.4.1).
 const NUMBERS: u16 = 32;
 
-/// The properties of a story's objects, with the ranges of bytes that stay as they are. What is known of each object and each number is kept in
-/// a room, and of 16 objects side by side, so that a question about many is answered by blocks.
+/// The properties of a story's objects, with the ranges of bytes that stay as they are. Where each object has each number is kept in a room,
+/// and what is known of 16 objects side by side, so that a question about many is answered by blocks.
 #[derive(Drop)]
 pub struct Properties<'a> {
     story: &'a Story,
     ranges: &'a [Range],
     closed: &'a Marks<MARK_BYTES>,
     fixed: &'a Marks<MARK_BYTES>,
-    cells: &'a [Cell; OBJECT_CELLS],
+    places: &'a [u16; OBJECT_CELLS],
     blocks: &'a [Cell; BLOCK_CELLS],
 }
 
@@ -46,16 +47,19 @@ impl<'a> Model for Properties<'a> {
 
     ghost view = { λ p. record { story = p.story.now; ranges = p.ranges.now } };
 
-    ghost use Rattle.zpairs.specs.Blocks.{AreBlocks, AreCells};
+    ghost use Rattle.zpairs.specs.Blocks.{AreBlocks};
+    ghost use Rattle.zpairs.specs.Rows.{ArePlaces};
     ghost use Rattle.zpairs.specs.Fixed.{AreClosed, AreFixed};
 
-    ghost invariant = { λ p. AreClosed (record { story = p.story.now; ranges = p.ranges.now }) p.closed.now × AreFixed p.story.now p.closed.now p.fixed.now × AreCells (record { story = p.story.now; ranges = p.ranges.now }) p.cells.now × AreBlocks (record { story = p.story.now; ranges = p.ranges.now }) p.blocks.now };
+    ghost invariant = { λ p. AreClosed (record { story = p.story.now; ranges = p.ranges.now }) p.closed.now × AreFixed p.story.now p.closed.now p.fixed.now × ArePlaces p.story.now p.places.now × AreBlocks (record { story = p.story.now; ranges = p.ranges.now }) p.blocks.now };
 }
 
 impl<'a> Properties<'a> {
     ghost use Rattle.std.specs.Prelude.{◌≡◌, ◌↔◌, ◌≤◌, ◌<◌, ◌+◌, ◌*◌, ℕ, IsTrue, nat_lt, if◌then◌else◌, map};
     ghost use Rattle.std.specs.List.{list_all};
+    ghost use Rattle.std.specs.Prelude.{IfSome};
     ghost use Rattle.zdomain.specs.Few.{is_among, with_words};
+    ghost use Rattle.zobj.specs.Properties.{IsReadable, property_of};
     ghost use Rattle.zpairs.specs.Members.{members};
     ghost use Rattle.zdomain.specs.Domain.{In};
     ghost use Rattle.zpairs.specs.Blocks.{EachInBlock, block_cell, block_ends, row_end};
@@ -63,7 +67,7 @@ impl<'a> Properties<'a> {
     ghost use Rattle.zpairs.specs.Ends.{no_word};
     ghost use Rattle.zpairs.specs.Fixed.{AreClosed};
     ghost use Rattle.zpairs.specs.Frozen.{frozen_by};
-    ghost use Rattle.zpairs.specs.Pairs.{AreAnswered, HaveOpenData, CanBePut, EachPair, EachWord, all_ends, answers, between_ends, column, column_words, columns, ends_below, ends_of, hull_answers, is_exact, known_answers, number_ends, object_ends, pair_ends, pairs, row, told_words, word_of, words_if};
+    ghost use Rattle.zpairs.specs.Pairs.{AreAnswered, HaveOpenData, CanBePut, EachPair, EachWord, all_ends, answer_ends, answers, between_ends, column, column_words, columns, ends_below, ends_of, hull_answers, is_exact, known_answers, number_ends, object_ends, pair_ends, pairs, row, told_words, word_of, words_if};
 
     /// Those of a story, of which the bytes in some ranges stay as they are, in a room. Each of the story's own tables is gone over once, and
     /// each place of each range.
@@ -80,14 +84,13 @@ impl<'a> Properties<'a> {
             closed: &room.closed,
             fixed: &room.fixed,
         };
-        fill_cells(&mut room.cells, marked, &room.places);
-        fill_blocks(&mut room.blocks, marked, &room.cells);
+        fill_blocks(&mut room.blocks, marked, &room.places);
         Properties {
             story,
             ranges,
             closed: &room.closed,
             fixed: &room.fixed,
-            cells: &room.cells,
+            places: &room.places,
             blocks: &room.blocks,
         }
     }
@@ -274,7 +277,7 @@ impl<'a> Properties<'a> {
         let [first, rest @ ..] = columns else {
             return true;
         };
-        let ends = self.cell(object, column(*first)).answer_ends(question);
+        let ends = self.answer_ends(question, object, column(*first));
         all.add(turned(ends.least));
         self.add_ends(all, question, object, rest) && ends.least == ends.greatest
     }
@@ -342,7 +345,7 @@ impl<'a> Properties<'a> {
             return true;
         };
         let number = column(*first);
-        self.cell(object, number).passes(test, number) && self.columns_pass(test, object, rest)
+        self.passes(test, object, number) && self.columns_pass(test, object, rest)
     }
 
     /// Whether each object of a set passes a test with each number of a set, by blocks.
@@ -486,20 +489,47 @@ impl<'a> Properties<'a> {
         ensures { IsTrue result ↔ (In V.operations numbers number → IsTrue (passes test number (cell_at self.now object number))) }
     {
         if numbers.contains(number) {
-            self.cell(object, number).passes(test, number)
+            self.passes(test, object, number)
         } else {
             true
         }
     }
 
-    /// What is known of an object and a number.
-    fn cell(&self, object: u8, number: u16) -> Cell
+    /// Whether an object passes a test with a number.
+    fn passes(&self, test: Test, object: u8, number: u16) -> bool
         requires least { 1 ≤ object }
         requires most { object ≤ self.now.story.objects }
         requires small { number ≤ 32 }
-        ensures { result ≡ cell_at self.now object number }
+        ensures { result ≡ passes test number (cell_at self.now object number) }
     {
-        self.cells[COLUMNS * (usize::from(object) - 1) + usize::from(number)]
+        passes(self.marked(), test, number, self.property(object, number))
+    }
+
+    /// The ends of what it may answer of one.
+    fn answer_ends(&self, question: PropertyQuestion, object: u8, number: u16) -> Ends
+        requires least { 1 ≤ object }
+        requires most { object ≤ self.now.story.objects }
+        requires small { number ≤ 32 }
+        ensures { result ≡ answer_ends question (cell_at self.now object number) }
+    {
+        answer_ends(
+            self.marked(),
+            question,
+            number,
+            self.property(object, number),
+        )
+    }
+
+    /// The first property of an object that has a number.
+    fn property(&self, object: u8, number: u16) -> Option<Property>
+        requires least { 1 ≤ object }
+        requires most { object ≤ self.now.story.objects }
+        requires small { number ≤ 32 }
+        ensures found { result ≡ property_of self.now.story.memory object number }
+        ensures readable { IfSome result (IsReadable self.now.story.memory) }
+    {
+        let place = self.places[COLUMNS * (usize::from(object) - 1) + usize::from(number)];
+        property_in(self.story.memory(), place)
     }
 
     /// The ends of what may be answered of objects and numbers of two sets.
@@ -652,7 +682,7 @@ impl<'a> Properties<'a> {
         ensures { result ≡ pair_ends V.operations self.now question numbers object number }
     {
         if is_asked(numbers, number) {
-            self.cell(object, number).answer_ends(question)
+            self.answer_ends(question, object, number)
         } else {
             Ends::NONE
         }
