@@ -1,5 +1,5 @@
 -- What an operation makes of one word and one is one word.
-use Rattle.std.proofs.Common.{◌≡◌, ℕ, ◌+◌, ◌%◌, ◌<◌, ◌≤◌, true, Some, List, [], ◌∷◌, length, get_or, min, max, arith, refl, ap, ◌∙◌}
+use Rattle.std.proofs.Common.{◌≡◌, ℕ, ◌<◌, true, Some, List, [], ◌∷◌, length, get_or, min, max, arith, refl, ap, ◌∙◌}
 use Rattle.std.specs.Prelude.{unwrap_or}
 use Rattle.zword.specs.Binary.{apply, is_defined}
 use Rattle.zword.specs.declared.binary.BinaryOp.{BinaryOp}

@@ -12,7 +12,8 @@ use std::marker::Model;
 const WORD_BYTES: usize = 8_192;
 
 /// Words that were gathered: from which to which they go in the order of signed readings, and which they are, where there are at most 64.
-/// As long as they aren't more, those that are among them are marked, so that one that came before costs no search.
+/// As long as they aren't more, those that are among them are marked, so that one that came before costs a look at its mark: it lies between
+/// the ends.
 #[derive(Drop)]
 pub struct Gathered {
     least: u16,
@@ -25,18 +26,18 @@ pub struct Gathered {
 impl Model for Gathered {
     ghost use Rattle.std.specs.Prelude.{◌≡◌, if◌then◌else◌, Some, None};
     ghost use Rattle.zdomain.specs.Few.{Gathering};
-    ghost use Rattle.zdomain.specs.Gathering.{AreMarked};
+    ghost use Rattle.zdomain.specs.Gathering.{AreMarked, LieBetween};
 
     ghost Value = { Gathering };
 
     ghost view = { λ g. record { least = g.least; greatest = g.greatest; few = if g.are_many then None else Some g.few.items } };
 
-    ghost invariant = { λ g. AreMarked g.are_many g.marks g.few.items };
+    ghost invariant = { λ g. AreMarked g.are_many g.marks g.few.items × LieBetween g.least g.greatest g.marks };
 }
 
 impl Gathered {
     ghost use Rattle.std.specs.Prelude.{◌≡◌, ◌≤◌, length, option_map, false, IfSome};
-    ghost use Rattle.zdomain.specs.Few.{added, is_among, with_word, with_words, none_gathered};
+    ghost use Rattle.zdomain.specs.Few.{added, is_among, turned, with_word, with_words, none_gathered};
 
     /// No words.
     pub fn none() -> Gathered
@@ -56,19 +57,26 @@ impl Gathered {
     pub fn add(&mut self, word: u16)
         ensures { self.new ≡ with_word word self.old }
     {
+        if self.marks.has(usize::from(word)) {
+            return;
+        }
         let place = turned(word);
         self.least = self.least.min(place);
         self.greatest = self.greatest.max(place);
-        if !self.are_many && !self.marks.has(usize::from(word)) {
-            self.put(word);
-        }
+        self.put(word);
     }
 
     /// One that isn't among them, as long as they are few. It lies between the ends.
+    #[inline(always)]
     fn put(&mut self, word: u16)
-        requires { IfSome self.old.few (λ words. is_among word words ≡ false) }
+        requires least { self.old.least ≤ turned word }
+        requires greatest { turned word ≤ self.old.greatest }
+        requires apart { IfSome self.old.few (λ words. is_among word words ≡ false) }
         ensures { self.new ≡ record { least = self.old.least; greatest = self.old.greatest; few = added word self.old.few } }
     {
+        if self.are_many {
+            return;
+        }
         if self.few.len() == MOST_FEW {
             self.are_many = true;
             return;

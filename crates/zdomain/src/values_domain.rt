@@ -188,7 +188,7 @@ fn gathered_results(operation: BinaryOp, words: &[u16], more: &[u16]) -> Values
     ensures { result ≡ packed (gathered (rows operation words.now more.now)) }
 {
     let mut all = Gathered::none();
-    add_rows(&mut all, operation, words, more);
+    add_results(&mut all, operation, words, more);
     packed(&all)
 }
 
@@ -434,8 +434,24 @@ fn add_turned(all: &mut Gathered, operation: UnaryOp, words: &[u16])
     }
 }
 
+/// Adds what an operation makes of those of two lists. Each has a loop of its own, in which nothing asks which it is.
+fn add_results(all: &mut Gathered, operation: BinaryOp, words: &[u16], others: &[u16])
+    ensures { all.new ≡ with_words (rows operation words.now others.now) all.old }
+{
+    match operation {
+        BinaryOp::Add => add_rows(all, BinaryOp::Add, words, others),
+        BinaryOp::Sub => add_rows(all, BinaryOp::Sub, words, others),
+        BinaryOp::Mul => add_rows(all, BinaryOp::Mul, words, others),
+        BinaryOp::Div => add_rows(all, BinaryOp::Div, words, others),
+        BinaryOp::Mod => add_rows(all, BinaryOp::Mod, words, others),
+        BinaryOp::Or => add_rows(all, BinaryOp::Or, words, others),
+        BinaryOp::And => add_rows(all, BinaryOp::And, words, others),
+    }
+}
+
 /// Adds what it makes of a word and those of a list by which it is defined.
 #[tactic(auto, unfolding(crate::specs::Few::with_words))]
+#[inline(always)]
 fn add_row(all: &mut Gathered, operation: BinaryOp, word: u16, others: &[u16])
     ensures { all.new ≡ with_words (row operation word others.now) all.old }
 {
@@ -449,6 +465,7 @@ fn add_row(all: &mut Gathered, operation: BinaryOp, word: u16, others: &[u16])
 
 /// Adds what it makes of those of two lists.
 #[tactic(auto, unfolding(crate::specs::Few::with_words, crate::specs::Values::rows), using(crate::proofs::Gathering::one_by_one))]
+#[inline(always)]
 fn add_rows(all: &mut Gathered, operation: BinaryOp, words: &[u16], others: &[u16])
     ensures { all.new ≡ with_words (rows operation words.now others.now) all.old }
 {
