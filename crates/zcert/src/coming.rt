@@ -1,12 +1,14 @@
 //! Lists of which some words have come.
 
-ghost use Rattle.std.specs.Prelude.{◌≡◌, ◌≢◌, ◌++◌, [], ◌∷◌, Ok, Err, None, IfOk, IfErr, IfSome};
+ghost use Rattle.std.specs.Prelude.{◌≡◌, ◌≢◌, ◌≤◌, ◌++◌, [], ◌∷◌, length, Ok, Err, None, IfOk, IfErr, IfSome};
 ghost use Rattle.zdomain.specs.declared.values.Values.TheVariants.{List as AList};
 ghost use Rattle.zcert.specs.Numbers.{Word, number};
 ghost use Rattle.zcert.specs.Lists.{values_format};
 ghost use Rattle.zcert.specs.Coming.{list_bytes, IsComing};
 
 use crate::error::CertError;
+use crate::limits::WORD_BYTES;
+use crate::steps::word_of;
 use arrayvec::ArrayVec;
 use zdomain::{MOST_FEW, Scattered, turned};
 
@@ -61,5 +63,24 @@ impl Coming {
             Some(list) => Ok(Some(list)),
             None => Err(CertError::ListForm),
         }
+    }
+
+    /// Takes the words at the front of bytes that rise, as long as another is to come behind them, and answers what it leaves.
+    pub fn take_more<'a>(&mut self, bytes: &'a [u8]) -> &'a [u8]
+        ensures came { list_bytes self.new.count self.new.words.items ++ result.now ≡ list_bytes self.old.count self.old.words.items ++ bytes.now }
+        ensures fits { length result.now ≤ length bytes.now }
+    {
+        if bytes.len() < WORD_BYTES || self.words.len() + 1 >= usize::from(self.count) {
+            return bytes;
+        }
+        let (front, rest) = bytes.split_at(WORD_BYTES);
+        let word = word_of(front);
+        let place = u32::from(turned(word));
+        if place < self.floor {
+            return bytes;
+        }
+        self.words.push(word);
+        self.floor = place + 1;
+        self.take_more(rest)
     }
 }

@@ -79,6 +79,10 @@ impl Spelled for Interval {
         }
     }
 
+    fn read_more<'a>(_partial: &mut Begun, bytes: &'a [u8]) -> &'a [u8] {
+        bytes
+    }
+
     fn length(self) -> usize {
         VALUE_BYTES
     }

@@ -100,7 +100,7 @@ impl<V: Spelled> Reader<V> {
         }
         let (number, rest) = bytes.split_at(width);
         self.step(number)?;
-        Ok(Some(rest))
+        Ok(Some(V::read_more(&mut self.partial, rest)))
     }
 
     /// Reads on as long as what comes next is whole, and answers what is left.

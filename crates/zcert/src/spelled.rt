@@ -55,6 +55,13 @@ pub trait Spelled: Domain {
         ensures whole { IfOk result (λ found. IfSome found (λ set. (format.value_at (turns.came partial.old ++ number.now) ≡ Ok (set, [])) × (turns.came partial.new ≡ []))) }
         ensures refused { IfErr result (λ e. (format.value_at (turns.came partial.old ++ number.now) ≡ Err e) × (e ≢ CertError.Truncated)) };
 
+    /// Reads further numbers of an unfinished set at the front of bytes, as many as it likes but for the last, and answers what it leaves.
+    /// None of them is wrong.
+    fn read_more<'a>(partial: &mut Self::Partial, bytes: &'a [u8]) -> &'a [u8]
+        ensures came { turns.came partial.new ++ result.now ≡ turns.came partial.old ++ bytes.now }
+        ensures fits { length result.now ≤ length bytes.now }
+        ensures unbegun { turns.came partial.old ≡ [] → turns.came partial.new ≡ [] };
+
     /// How many bytes the set takes.
     fn length(self) -> usize
         ensures { result ≡ length (format.spelled self) };

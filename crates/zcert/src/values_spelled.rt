@@ -169,6 +169,13 @@ impl Spelled for Values {
         }
     }
 
+    fn read_more<'a>(partial: &mut Unfinished, bytes: &'a [u8]) -> &'a [u8] {
+        match partial {
+            Unfinished::Words(list) => list.take_more(bytes),
+            _ => bytes,
+        }
+    }
+
     fn length(self) -> usize {
         match self {
             Values::Run(run) => KIND_BYTES + run.length(),
