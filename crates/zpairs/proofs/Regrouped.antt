@@ -1,12 +1,16 @@
 -- Blocks of objects in the place of objects.
-use Rattle.std.proofs.Common.{◌≡◌, ◌↔◌, ◌⊎◌, inl, inr, ℕ, zero, suc, ◌+◌, ◌-◌, ◌*◌, ◌/◌, ◌%◌, ◌<◌, ◌≤◌, Bool, true, false, ◌==◌, ◌&&◌, ◌||◌, if◌then◌else◌, List, length, refl, sym, subst, ap, ◌∙◌, arith}
+use Rattle.std.proofs.Common.{◌≡◌, ◌↔◌, ◌⊎◌, inl, inr, ℕ, zero, suc, ◌+◌, ◌-◌, ◌*◌, ◌/◌, ◌%◌, ◌<◌, ◌≤◌, Bool, true, false, ◌==◌, ◌&&◌, ◌||◌, if◌then◌else◌, List, length, Option, refl, sym, subst, ap, ◌∙◌, arith}
 use Rattle.std.specs.Prelude.{IsTrue, nat_lt, slice_index_or, slice_set}
 use Rattle.std.proofs.lemmas.Bool.{cases_lt, lt-ltb, ltb-true}
 use Rattle.std.proofs.lemmas.List.{get_or-set_same, get_or-set_other}
+use Rattle.zstory.specs.LoadedStory.{LoadedStory}
+use Rattle.zcert.specs.declared.parts.Range.{Range}
 use Rattle.zdomain.specs.Domain.{SetOperations, AreSound, In}
 use Rattle.zobj.specs.declared.answers.PropertyQuestion.{PropertyQuestion}
 use Rattle.zobj.specs.declared.answers.PropertyQuestion.TheVariants.{Value, Address, Next}
-use Rattle.zobj.specs.Answers.{is_property_number}
+use Rattle.zobj.specs.declared.property.Property.{Property}
+use Rattle.zobj.specs.Properties.{property_of}
+use Rattle.zobj.specs.Answers.{address_of, is_property_number}
 use Rattle.zpairs.specs.declared.ends.Ends.{Ends}
 use Rattle.zpairs.specs.declared.cell.Cell.{Cell}
 use Rattle.zpairs.specs.declared.cell.Test.{Test}
@@ -17,7 +21,7 @@ use Rattle.zpairs.specs.Rows.{ArePlaces, property_in}
 use Rattle.zpairs.specs.Ends.{joined, no_word}
 use Rattle.zpairs.specs.Cells.{blank_cell, cell_at, cell_of, no_cell, merged, passes}
 use Rattle.zpairs.specs.Pairs.{ends_below, may_have, is_asked, answer_ends, pair_ends, number_ends, object_ends, all_ends}
-use Rattle.zpairs.specs.Blocks.{AreBlocks, AreCells, merged_below, object_in, object_cell, place_cell, block_cell, EachInBlock, place_ends, block_ends, row_end}
+use Rattle.zpairs.specs.Blocks.{AreBlocks, merged_below, object_in, object_cell, place_cell, block_cell, EachInBlock, place_ends, block_ends, row_end}
 use Rattle.zpairs.proofs.Each.{one_more_below}
 use Rattle.zpairs.proofs.Found.{in_again}
 use Rattle.zpairs.proofs.Lying.{may}
@@ -52,24 +56,25 @@ module _ (told : FrozenStory) where
       by place false e = refl
 
   -- by where its property is
-  pub made_here : (places : List ℕ) (k : ℕ) (cell : Cell) → ArePlaces told.story places → k < 33 * told.story.objects → cell ≡ cell_of (is_closed told) (is_fixed told) told.story.memory (k % 33) (property_in told.story.memory (slice_index_or places k 0)) → cell ≡ cell_at told (k / 33 + 1) (k % 33)
-  made_here places k cell are inside e = e ∙ ap (cell_of (is_closed told) (is_fixed told) told.story.memory (k % 33)) (in_again told.story.memory (k / 33 + 1) (k % 33) (slice_index_or places k 0) (are k inside))
-
-  cell_read : (cells : List Cell) (below number k : ℕ) → AreCells told cells → below < told.story.objects → number < 33 → k ≡ 33 * below + number → slice_index_or cells k blank_cell ≡ cell_at told (below + 1) number
-  cell_read cells below number k are inside small at =
+  pub cell_here : (places : List ℕ) (below number k : ℕ) (found : Option Property) (cell : Cell) → ArePlaces told.story places → below < told.story.objects → number < 33 → k ≡ 33 * below + number → found ≡ property_in told.story.memory (slice_index_or places k 0) → cell ≡ cell_of (is_closed told) (is_fixed told) told.story.memory number found → cell ≡ object_cell told below number
+  cell_here places below number k found cell are inside small at is e =
       let row : k / 33 ≡ below = omega (arith, at, small) in
       let column : k % 33 ≡ number = omega (arith, at, small) in
-      are k (omega (arith, at, inside, small)) ∙ ap (λ (b : ℕ). cell_at told (b + 1) (k % 33)) row ∙ ap (cell_at told (below + 1)) column
-
-  pub cell_here : (cells : List Cell) (below number k : ℕ) → AreCells told cells → below < told.story.objects → number < 33 → k ≡ 33 * below + number → slice_index_or cells k blank_cell ≡ object_cell told below number
-  cell_here cells below number k are inside small at =
       let there : nat_lt below told.story.objects ≡ true = lt-ltb below told.story.objects inside in
-      cell_read cells below number k are inside small at ∙ sym (rw there refl)
+      let place : slice_index_or places k 0 ≡ address_of (property_of told.story.memory (below + 1) number) =
+      are k (omega (arith, at, inside, small)) ∙ ap (λ (b : ℕ). address_of (property_of told.story.memory (b + 1) (k % 33))) row ∙ ap (λ (n : ℕ). address_of (property_of told.story.memory (below + 1) n)) column in
+      e ∙ ap (cell_of (is_closed told) (is_fixed told) told.story.memory number) (is ∙ in_again told.story.memory (below + 1) number (slice_index_or places k 0) place) ∙ sym (rw there refl)
 
-  pub object_read : (cells : List Cell) (object number k : ℕ) → AreCells told cells → 1 ≤ object → object ≤ told.story.objects → number < 33 → k ≡ 33 * (object - 1) + number → slice_index_or cells k blank_cell ≡ cell_at told object number
-  object_read cells object number k are first last small at =
-      let same : object - 1 + 1 ≡ object = omega (arith, first) in
-      cell_read cells (object - 1) number k are (omega (arith, first, last)) small at ∙ ap (λ (x : ℕ). cell_at told x number) same
+  -- the place of an object's property is read
+  pub place_read : (places : List ℕ) (object number k : ℕ) → ArePlaces told.story places → 1 ≤ object → object ≤ told.story.objects → number < 33 → k ≡ 33 * (object - 1) + number → property_in told.story.memory (slice_index_or places k 0) ≡ property_of told.story.memory object number
+  place_read places object number k are first last small at =
+      let row : k / 33 + 1 ≡ object = omega (arith, at, small, first) in
+      let column : k % 33 ≡ number = omega (arith, at, small) in
+      in_again told.story.memory object number (slice_index_or places k 0) (are k (omega (arith, at, first, last, small)) ∙ ap (λ (x : ℕ). address_of (property_of told.story.memory x (k % 33))) row ∙ ap (λ (n : ℕ). address_of (property_of told.story.memory object n)) column)
+
+-- what is known of an object's property, by a story and ranges that are these
+pub cell_told : (told : FrozenStory) (story : LoadedStory) (ranges : List Range) (object number : ℕ) (found : Option Property) → story ≡ told.story → ranges ≡ told.ranges → found ≡ property_of told.story.memory object number → cell_of (is_closed (record { story = story; ranges = ranges })) (is_fixed (record { story = story; ranges = ranges })) story.memory number found ≡ cell_at told object number
+cell_told told story ranges object number found same alike is = rw (same, alike, is) refl
 
 -- a block is read
 pub block_read : (told : FrozenStory) (cells : List Cell) (block number k : ℕ) → AreBlocks told cells → block < 16 → number ≤ 32 → k ≡ 33 * block + number → slice_index_or cells k blank_cell ≡ block_cell told block number

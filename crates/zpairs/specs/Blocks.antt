@@ -9,10 +9,6 @@ use Rattle.zpairs.specs.Ends.{no_word}
 use Rattle.zpairs.specs.Cells.{blank_cell, cell_at, no_cell, merged}
 use Rattle.zpairs.specs.Pairs.{ends_below, is_asked, answer_ends, object_ends}
 
--- a table of what is known of each object of a story and each number
-abbrev pub AreCells : FrozenStory → List Cell → Type 0
-AreCells told cells = (k : ℕ) → k < 33 * told.story.objects → slice_index_or cells k blank_cell ≡ cell_at told (k / 33 + 1) (k % 33)
-
 -- what is known of all that a function says, below a number
 unfoldable pub merged_below : ℕ → (ℕ → Cell) → Cell
 merged_below zero f = no_cell

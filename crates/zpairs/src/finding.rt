@@ -3,14 +3,15 @@
 ghost use Rattle.std.specs.Prelude.{◌≡◌, ◌<◌, ◌+◌, IfSome, length};
 ghost use Rattle.zobj.specs.Answers.{address_of};
 ghost use Rattle.zobj.specs.Properties.{IsReadable};
-ghost use Rattle.zpairs.specs.Cells.{asked_values, cell_of, has_none, has_open_data, is_short};
+ghost use Rattle.zpairs.specs.Cells.{asked_values, cell_of, has_none, has_open_data, is_short, passes};
+ghost use Rattle.zpairs.specs.Pairs.{answer_ends};
 ghost use Rattle.zpairs.specs.Ends.{byte_ends, data_ends, word_ends};
 ghost use Rattle.zpairs.specs.Fixed.{is_closed, is_fixed};
 
-use crate::cell::Cell;
+use crate::cell::{Cell, Test};
 use crate::ends::Ends;
 use crate::marked::Marked;
-use zobj::{Property, default_word};
+use zobj::{Property, PropertyQuestion, default_word};
 
 /// What is known of an object's property of a number, by the one that it has.
 pub(crate) fn cell_of(marked: Marked<'_>, number: u16, found: Option<Property>) -> Cell
@@ -23,6 +24,37 @@ pub(crate) fn cell_of(marked: Marked<'_>, number: u16, found: Option<Property>) 
         is_open: has_open_data(marked, found),
         values: asked_values(marked, number, found),
         addresses: Ends::exactly(address_of(found)),
+    }
+}
+
+/// Whether an object passes a test with a number, by its property of that number: no more is asked of it than the test does.
+pub(crate) fn passes(marked: Marked<'_>, test: Test, number: u16, found: Option<Property>) -> bool
+    requires { IfSome found (IsReadable marked.story.now.memory) }
+    ensures { result ≡ passes test number (cell_of (is_closed (record { story = marked.entry.story.now; ranges = marked.entry.ranges.now })) (is_fixed (record { story = marked.entry.story.now; ranges = marked.entry.ranges.now })) marked.entry.story.now.memory number found) }
+{
+    match test {
+        Test::Answered(PropertyQuestion::Value) => 0 < number && number < 32 && is_short(found),
+        Test::Answered(PropertyQuestion::Address) => true,
+        Test::Answered(PropertyQuestion::Next) => number == 0 || found.is_some(),
+        Test::Put => found.is_some() && is_short(found),
+        Test::Open => has_open_data(marked, found),
+    }
+}
+
+/// The ends of what may be answered of an object and a number, by its property of that number.
+pub(crate) fn answer_ends(
+    marked: Marked<'_>,
+    question: PropertyQuestion,
+    number: u16,
+    found: Option<Property>,
+) -> Ends
+    requires { IfSome found (IsReadable marked.story.now.memory) }
+    ensures { result ≡ answer_ends question (cell_of (is_closed (record { story = marked.entry.story.now; ranges = marked.entry.ranges.now })) (is_fixed (record { story = marked.entry.story.now; ranges = marked.entry.ranges.now })) marked.entry.story.now.memory number found) }
+{
+    match question {
+        PropertyQuestion::Value => asked_values(marked, number, found),
+        PropertyQuestion::Address => Ends::exactly(address_of(found)),
+        PropertyQuestion::Next => Ends::NONE,
     }
 }
 

@@ -1,15 +1,18 @@
 //! What comes of asking any object of a set for the property of any number of a set.
 #![tactic(auto)]
 
+mod answering;
 mod blocks;
 mod cell;
 mod closed;
+mod columns;
 mod ends;
 mod finding;
 mod fixed;
 mod frozen;
 mod laws;
 mod marked;
+mod passing;
 mod properties;
 mod room;
 mod rows;

@@ -5,14 +5,13 @@ use crate::cell::Cell;
 use crate::frozen::MARK_BYTES;
 use zdomain::Marks;
 
-/// Room for what is known of a story's properties, some 140 KB. It is made once and filled where it stands: to move it would cost more than
+/// Room for what is known of a story's properties, some 39 KB. It is made once and filled where it stands: to move it would cost more than
 /// all else that is done for a small story.
 #[derive(Drop)]
 pub struct PropertyRoom {
     pub(crate) closed: Marks<MARK_BYTES>,
     pub(crate) fixed: Marks<MARK_BYTES>,
     pub(crate) places: [u16; OBJECT_CELLS],
-    pub(crate) cells: [Cell; OBJECT_CELLS],
     pub(crate) blocks: [Cell; BLOCK_CELLS],
 }
 
@@ -23,7 +22,6 @@ impl PropertyRoom {
             closed: Marks::none(),
             fixed: Marks::none(),
             places: [0; OBJECT_CELLS],
-            cells: [Cell::BLANK; OBJECT_CELLS],
             blocks: [Cell::BLANK; BLOCK_CELLS],
         }
     }

@@ -10,6 +10,6 @@ loop-k-preserved c =
     let long = i.long in
     let below = c.loop-k-test.true in
     record {
-      long = length-set c.loop-k.blocks c.loop-k.k c.block_cell.result ∙ i.long;
-      made = one_more_cell c.loop-k.blocks (λ j. block_cell (record { story = c.args.marked.story.now; ranges = c.args.marked.ranges.now }) (j / 33) (j % 33)) c.loop-k.k c.block_cell.result (omega (arith, long, below)) c.block_cell.ensures i.made;
+      long = length-set c.loop-k.cells c.loop-k.k c.block_cell.result ∙ i.long;
+      made = one_more_cell c.loop-k.cells (λ j. block_cell (record { story = c.args.marked.story.now; ranges = c.args.marked.ranges.now }) (j / 33) (j % 33)) c.loop-k.k c.block_cell.result (omega (arith, long, below)) c.block_cell.ensures i.made;
     }

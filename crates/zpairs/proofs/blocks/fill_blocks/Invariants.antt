@@ -6,6 +6,6 @@ use Rattle.zpairs.proofs.blocks.fill_blocks.Given as goal
 
 abbrev pub invariant-loop-k : goal.invariant-loop-k
 invariant-loop-k l = record {
-  long : length l.blocks ≡ 528;
-  made : (j : ℕ) → j < l.k → slice_index_or l.blocks j blank_cell ≡ block_cell (record { story = l.marked.story.now; ranges = l.marked.ranges.now }) (j / 33) (j % 33);
+  long : length l.cells ≡ 528;
+  made : (j : ℕ) → j < l.k → slice_index_or l.cells j blank_cell ≡ block_cell (record { story = l.marked.story.now; ranges = l.marked.ranges.now }) (j / 33) (j % 33);
 }

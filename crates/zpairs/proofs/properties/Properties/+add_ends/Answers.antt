@@ -12,12 +12,12 @@ pub returns-then-add_ends-clause-words : goal.returns-then-add_ends-clause-words
 returns-then-add_ends-clause-words t c =
     let columns = c.args.columns.now in
     c.add_ends.ensures.words
-    ∙ ap (λ (g : Gathering). with_words (map word_of (map (ends_of c.args.self.now c.args.question c.args.object) (take (length columns - 1) (drop 1 columns)))) g) (c.add.ensures ∙ ap (λ (v : ℕ). with_word v c.args.all.now) (c.turned.ensures ∙ ap word_of (c.answer_ends-ends.ensures ∙ ap (answer_ends c.args.question) (c.cell.ensures ∙ ap (cell_at c.args.self.now c.args.object) c.column.ensures.value))))
+    ∙ ap (λ (g : Gathering). with_words (map word_of (map (ends_of c.args.self.now c.args.question c.args.object) (take (length columns - 1) (drop 1 columns)))) g) (c.add.ensures ∙ ap (λ (v : ℕ). with_word v c.args.all.now) (c.turned.ensures ∙ ap word_of (c.answer_ends-ends.ensures ∙ ap (λ (n : ℕ). answer_ends c.args.question (cell_at c.args.self.now c.args.object n)) c.column.ensures.value)))
     ∙ ends_by_ends (ends_of c.args.self.now c.args.question c.args.object) columns c.args.all.now c.in-len1-up.len_at_least
 
 pub returns-else-add_ends-clause-words : goal.returns-else-add_ends-clause-words
 returns-else-add_ends-clause-words t c =
     let columns = c.args.columns.now in
     c.add_ends.ensures.words
-    ∙ ap (λ (g : Gathering). with_words (map word_of (map (ends_of c.args.self.now c.args.question c.args.object) (take (length columns - 1) (drop 1 columns)))) g) (c.add.ensures ∙ ap (λ (v : ℕ). with_word v c.args.all.now) (c.turned.ensures ∙ ap word_of (c.answer_ends-ends.ensures ∙ ap (answer_ends c.args.question) (c.cell.ensures ∙ ap (cell_at c.args.self.now c.args.object) c.column.ensures.value))))
+    ∙ ap (λ (g : Gathering). with_words (map word_of (map (ends_of c.args.self.now c.args.question c.args.object) (take (length columns - 1) (drop 1 columns)))) g) (c.add.ensures ∙ ap (λ (v : ℕ). with_word v c.args.all.now) (c.turned.ensures ∙ ap word_of (c.answer_ends-ends.ensures ∙ ap (λ (n : ℕ). answer_ends c.args.question (cell_at c.args.self.now c.args.object n)) c.column.ensures.value)))
     ∙ ends_by_ends (ends_of c.args.self.now c.args.question c.args.object) columns c.args.all.now c.in-len1-up.len_at_least

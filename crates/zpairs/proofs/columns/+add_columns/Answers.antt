@@ -2,7 +2,7 @@ use Rattle.std.proofs.Common.{ℕ, ◌-◌, length, take, drop, map, ap, ◌∙�
 use Rattle.zdomain.specs.Few.{Gathering, with_word, with_words}
 use Rattle.zpairs.specs.Pairs.{column}
 use Rattle.zpairs.proofs.Listed.{no_columns, column_by_column}
-use Rattle.zpairs.proofs.properties.+add_columns.Goals as goal
+use Rattle.zpairs.proofs.columns.+add_columns.Goals as goal
 
 pub returns-in_default : goal.returns-in_default
 returns-in_default t c = no_columns column c.args.numbers.now c.args.all.now c.in_default.len_below
