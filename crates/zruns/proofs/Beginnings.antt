@@ -150,14 +150,6 @@ module _ (told : FrozenStory) where
       back : Begins told.story (frozen_by told.ranges) p → IsTrue (begins_text told p behind)
       back parts = and_from inside_test rest_test (lt-ltb (p + 1) (length told.story.memory) parts.inside) (and_from fixed_test word_test (and_from (is_fixed told p) (is_fixed told (p + 1)) ((fixed_is told p).1 parts.high) ((fixed_is told (p + 1)).1 parts.low)) (of_word parts.rest))
 
-  -- by what was asked of memory and of both bytes of its first word
-  pub begins_by : (memory : List ℕ) (at next : ℕ) (fixed next_fixed behind mark : Bool) → memory ≡ told.story.memory → next ≡ at + 1 → fixed ≡ is_fixed told at → next_fixed ≡ is_fixed told next → mark ≡ (nat_lt (at + 1) (length memory) && ((fixed && next_fixed) && (nat_le 128 (byte_at memory at) || behind))) → mark ≡ begins_text told at behind
-  begins_by memory at next fixed next_fixed behind mark read one here there is =
-      is
-      ∙ ap (λ (m : List ℕ). nat_lt (at + 1) (length m) && ((fixed && next_fixed) && (nat_le 128 (byte_at m at) || behind))) read
-      ∙ ap (λ (b : Bool). nat_lt (at + 1) (length told.story.memory) && ((b && next_fixed) && (nat_le 128 (byte_at told.story.memory at) || behind))) here
-      ∙ ap (λ (b : Bool). nat_lt (at + 1) (length told.story.memory) && ((is_fixed told at && b) && (nat_le 128 (byte_at told.story.memory at) || behind))) (there ∙ ap (is_fixed told) one)
-
   -- marks tell of each place from one on, and there is none before it
   pub record AreMarkedFrom (from : ℕ) (marks : List ℕ) : Type 0 where
     pub each : (p : ℕ) → from ≤ p → IsTrue (is_marked marks p) ↔ Has p

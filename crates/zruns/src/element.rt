@@ -1,7 +1,7 @@
 //! What is known of a single element.
 
 ghost use Rattle.std.specs.Prelude.{◌≡◌, ◌<◌, not};
-ghost use Rattle.zstory.specs.Bytes.{byte_at};
+ghost use Rattle.zstory.specs.Bytes.{byte_at, word_at};
 ghost use Rattle.zarray.specs.Arrays.{value_at};
 ghost use Rattle.zpairs.specs.Fixed.{is_closed, is_fixed};
 ghost use Rattle.zruns.specs.Runs.{each_byte};
@@ -41,8 +41,20 @@ pub(crate) fn value_at(width: Width, memory: &[u8], place: usize) -> u16
 {
     match width {
         Width::Byte => u16::from(byte_at(memory, place)),
-        Width::Word => u16::from_be_bytes([byte_at(memory, place), byte_at(memory, place + 1)]),
+        Width::Word => word_at(memory, place),
     }
+}
+
+/// The word at a place, where memory may have ended. It is one test where it hasn't.
+#[inline(always)]
+fn word_at(memory: &[u8], place: usize) -> u16
+    requires { place < 65536 }
+    ensures { result ≡ word_at memory.now place }
+{
+    if place + 1 < memory.len() {
+        return u16::from_be_bytes([memory[place], memory[place + 1]]);
+    }
+    u16::from_be_bytes([byte_at(memory, place), byte_at(memory, place + 1)])
 }
 
 /// The byte at a place, and 0 outside memory.

@@ -44,20 +44,32 @@ fn is_row_open(marked: &Marked<'_>, width: Width, array: u16, indices: &[u16]) -
     }
 }
 
-/// Whether each of them ends no later than a place.
-#[tactic(auto, unfolding(crate::specs::Runs::sums), using(crate::proofs::Summing::all_append))]
+/// Whether each of them ends no later than a place. Each width has a loop of its own, in which nothing asks which it is.
 pub(crate) fn end_sums_by(end: u32, width: Width, arrays: &[u16], indices: &[u16]) -> bool
+    ensures { result ≡ list_all (λ p. nat_le (p + span width) end) (sums width arrays.now indices.now) }
+{
+    match width {
+        Width::Byte => end_rows_by(end, Width::Byte, arrays, indices),
+        Width::Word => end_rows_by(end, Width::Word, arrays, indices),
+    }
+}
+
+/// The same, array by array.
+#[tactic(auto, unfolding(crate::specs::Runs::sums), using(crate::proofs::Summing::all_append))]
+#[inline(always)]
+fn end_rows_by(end: u32, width: Width, arrays: &[u16], indices: &[u16]) -> bool
     ensures { result ≡ list_all (λ p. nat_le (p + span width) end) (sums width arrays.now indices.now) }
 {
     match arrays {
         [] => true,
         [first, rest @ ..] => {
-            ends_row_by(true, end, width, *first, indices) && end_sums_by(end, width, rest, indices)
+            ends_row_by(true, end, width, *first, indices) && end_rows_by(end, width, rest, indices)
         }
     }
 }
 
 /// Whether something holds and each of those of one array does. All are gone over, without a way out, so that several take one step.
+#[inline(always)]
 fn ends_row_by(so_far: bool, end: u32, width: Width, array: u16, indices: &[u16]) -> bool
     ensures { result ≡ (so_far && list_all (λ p. nat_le (p + span width) end) (map (place_of width array) indices.now)) }
 {
@@ -70,9 +82,29 @@ fn ends_row_by(so_far: bool, end: u32, width: Width, array: u16, indices: &[u16]
     }
 }
 
-/// Adds what they are, as far as no play changes a byte of one, and tells whether that is so of all.
-#[tactic(auto, unfolding(crate::specs::Runs::sums), using(crate::proofs::Summing::all_append))]
+/// Adds what they are, as far as no play changes a byte of one, and tells whether that is so of all. Each width has a loop of its own, in
+/// which nothing asks which it is.
 pub(crate) fn add_sums(
+    all: &mut Gathered,
+    marked: &Marked<'_>,
+    memory: &[u8],
+    width: Width,
+    arrays: &[u16],
+    indices: &[u16],
+) -> bool
+    ensures fixed { result ≡ list_all (each_byte width (is_fixed (record { story = marked.now.story.now; ranges = marked.now.ranges.now }))) (sums width arrays.now indices.now) }
+    ensures words { IsTrue result → all.new ≡ with_words (map (value_at width memory.now) (sums width arrays.now indices.now)) all.old }
+{
+    match width {
+        Width::Byte => add_rows(all, marked, memory, Width::Byte, arrays, indices),
+        Width::Word => add_rows(all, marked, memory, Width::Word, arrays, indices),
+    }
+}
+
+/// The same, array by array.
+#[tactic(auto, unfolding(crate::specs::Runs::sums), using(crate::proofs::Summing::all_append))]
+#[inline(always)]
+fn add_rows(
     all: &mut Gathered,
     marked: &Marked<'_>,
     memory: &[u8],
@@ -87,12 +119,13 @@ pub(crate) fn add_sums(
         [] => true,
         [first, rest @ ..] => {
             add_row(all, marked, memory, width, *first, indices)
-                && add_sums(all, marked, memory, width, rest, indices)
+                && add_rows(all, marked, memory, width, rest, indices)
         }
     }
 }
 
 /// The same of those of one array.
+#[inline(always)]
 fn add_row(
     all: &mut Gathered,
     marked: &Marked<'_>,

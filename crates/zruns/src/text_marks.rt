@@ -1,9 +1,9 @@
 //! Where texts begin that no play changes.
 
-ghost use Rattle.std.specs.Prelude.{◌≡◌, ◌<◌, ◌+◌, ◌&&◌, ◌||◌, ◌==◌, ℕ, length, nat_le, nat_lt};
-ghost use Rattle.zstory.specs.Bytes.{byte_at};
+ghost use Rattle.std.specs.Prelude.{◌≡◌, ◌<◌, ◌+◌, ◌&&◌, ◌||◌, ◌==◌, ℕ};
 ghost use Rattle.zdomain.specs.Marks.{is_marked};
-ghost use Rattle.zruns.specs.Texts.{AreTextMarks};
+ghost use Rattle.zpairs.specs.Fixed.{is_fixed};
+ghost use Rattle.zruns.specs.Texts.{AreTextMarks, begins_text};
 
 use zdomain::Marks;
 use zpairs::Marked;
@@ -19,13 +19,12 @@ pub(crate) fn mark_texts(marks: &mut Marks<MARK_BYTES>, marked: Marked<'_>)
     ensures { AreTextMarks (record { story = marked.entry.story.now; ranges = marked.entry.ranges.now }) marks.new }
 {
     *marks = Marks::none();
-    let memory = marked.story.memory();
-    let mut at = memory.len();
+    let mut at = marked.story.length();
     let mut behind_fixed = marked.is_fixed(at);
     while at > 0 {
         at -= 1;
         let fixed = marked.is_fixed(at);
-        let begins = begins_text(memory, at, fixed, behind_fixed, marks.has(at + 2));
+        let begins = begins_text(marked, at, fixed, behind_fixed, marks.has(at + 2));
         mark_if(marks, at, begins);
         behind_fixed = fixed;
     }
@@ -43,9 +42,18 @@ fn mark_if(marks: &mut Marks<MARK_BYTES>, place: usize, holds: bool)
 
 /// Whether such a text begins at a place, by whether no play changes its first byte and its second, and whether one begins behind its first
 /// word.
-fn begins_text(memory: &[u8], place: usize, fixed: bool, next_fixed: bool, behind: bool) -> bool
-    requires { place < 131072 }
-    ensures { result ≡ (nat_lt (place + 1) (length memory.now) && ((fixed && next_fixed) && (nat_le 128 (byte_at memory.now place) || behind))) }
+fn begins_text(
+    marked: Marked<'_>,
+    place: usize,
+    fixed: bool,
+    next_fixed: bool,
+    behind: bool,
+) -> bool
+    requires place { place < 131072 }
+    requires first { fixed ≡ is_fixed (record { story = marked.story.now; ranges = marked.ranges.now }) place }
+    requires second { next_fixed ≡ is_fixed (record { story = marked.story.now; ranges = marked.ranges.now }) (place + 1) }
+    ensures { result ≡ begins_text (record { story = marked.entry.story.now; ranges = marked.entry.ranges.now }) place behind }
 {
+    let memory = marked.story.memory();
     place + 1 < memory.len() && (fixed && next_fixed) && (memory[place] >= END || behind)
 }
