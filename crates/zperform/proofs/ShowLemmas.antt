@@ -189,8 +189,3 @@ story_unwritten o format p other story_known certificate_known problem (inr h) =
 pub memory_reads : {T : Type 0} (r : Result T Problem) → IsErr r × IsErrAnd r (λ q. q ≡ Failed Memory) → r ≢ Err (Failed File)
 memory_reads (Ok x) (is, same) e = cc
 memory_reads (Err q) (is, same) e = cc
-
--- another property of a value
-pub for_value : {T E : Type 0} (P Q : T → Type 0) (r : Result T E) → ((x : T) → P x → Q x) → IfOk r P → IfOk r Q
-for_value P Q (Ok x) follows h = follows x h
-for_value P Q (Err e) follows h = tt

@@ -67,6 +67,7 @@ fn add_ranges(ranges: &[Range], text: &mut Vec<u8>) -> Result<(), AllocError>
     Ok(())
 }
 
+/// Adds the line of a range.
 fn add_range(range: Range, text: &mut Vec<u8>) -> Result<(), AllocError>
     ensures { IfOk result (λ _. text.new.items ≡ text.old.items ++ range_line range) }
 {
@@ -94,6 +95,7 @@ fn add_sets<V: Told>(
     Ok(())
 }
 
+/// Adds the line of a set, which has a name and a number.
 fn add_set<V: Told>(name: &[u8], number: u128, set: V, text: &mut Vec<u8>) -> Result<(), AllocError>
     ensures { IfOk result (λ _. text.new.items ≡ text.old.items ++ set_line V.set_text name.now number set) }
 {
@@ -115,6 +117,7 @@ fn add_routines<V: Told>(routines: &[Routine<V>], text: &mut Vec<u8>) -> Result<
     Ok(())
 }
 
+/// Adds the line of a routine of a number: where it stands, how many locals it has, and what it may give.
 fn add_routine<V: Told>(
     number: usize,
     routine: Routine<V>,
@@ -131,6 +134,7 @@ fn add_routine<V: Told>(
     Ok(())
 }
 
+/// Adds the number of a routine and where it stands.
 fn add_routine_place(number: usize, address: u32, text: &mut Vec<u8>) -> Result<(), AllocError>
     ensures { IfOk result (λ _. text.new.items ≡ text.old.items ++ routine_place number address) }
 {

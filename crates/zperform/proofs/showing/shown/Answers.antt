@@ -4,8 +4,8 @@ use Rattle.zdomain.specs.Values.{values_operations}
 use Rattle.zcert.specs.Format.{interval_format}
 use Rattle.zcert.specs.Lists.{values_format}
 use Rattle.zperform.specs.Showing.{HoldsShownBy, IsUnshown, IsUnshownStory, interval_kind, interval_text, values_kind, values_text}
-use Rattle.zperform.proofs.AcceptLemmas.{first_read, for_reason, handed_on}
-use Rattle.zperform.proofs.ShowLemmas.{first_unshown, for_value}
+use Rattle.zperform.proofs.AcceptLemmas.{first_read, for_reason, for_value, handed_on}
+use Rattle.zperform.proofs.ShowLemmas.{first_unshown}
 use Rattle.zperform.proofs.showing.shown.Goals as goal
 
 pub returns-in_err-first-clause-refused : goal.returns-in_err-first-clause-refused
