@@ -7,3 +7,4 @@ pub mod Reading
 pub mod Operation
 pub use Rattle.zstory.specs.Bytes
 pub use Rattle.ztext.specs.Words
+pub mod Profile

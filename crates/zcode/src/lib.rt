@@ -10,6 +10,7 @@ mod names;
 mod opcode;
 mod operands;
 mod operation;
+mod profile;
 mod reading;
 mod table;
 mod types;

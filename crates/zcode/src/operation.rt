@@ -1,10 +1,9 @@
-//! What opcodes do, by families: the one table from which every layer takes what an opcode does.
+//! What opcodes do, by families.
 
-ghost use Rattle.std.specs.Prelude.{◌≡◌, ◌≤◌, length, option_to_list};
-ghost use Rattle.zcode.specs.Operation.{implied, inputs, operation_of, target};
+ghost use Rattle.std.specs.Prelude.{◌≡◌, ◌≤◌, length};
+ghost use Rattle.zcode.specs.Operation.{inputs, target};
 
 use crate::instr::{Instr, Operand};
-use crate::opcode::Opcode;
 use arrayvec::ArrayVec;
 use zarray::Width;
 use zobj::{Link, PropertyQuestion};
@@ -87,86 +86,6 @@ pub enum Operation {
     Restore,
     /// The story begins anew.
     Restart,
-}
-
-impl Opcode {
-    /// What the opcode does.
-    #[tactic(auto, unfolding(crate::specs::Operation::operation_of))]
-    pub fn operation(self) -> Operation
-        ensures { result ≡ operation_of self }
-    {
-        match self {
-            Opcode::Je | Opcode::Jz => Operation::Compare(Question::Equal),
-            Opcode::Jl => Operation::Compare(Question::Less),
-            Opcode::Jg => Operation::Compare(Question::Greater),
-            Opcode::Test => Operation::Compare(Question::Test),
-            Opcode::DecChk => Operation::Count(CountOp::Down, Some(Question::Less)),
-            Opcode::IncChk => Operation::Count(CountOp::Up, Some(Question::Greater)),
-            Opcode::Dec => Operation::Count(CountOp::Down, None),
-            Opcode::Inc => Operation::Count(CountOp::Up, None),
-            Opcode::Or => Operation::Binary(BinaryOp::Or),
-            Opcode::And => Operation::Binary(BinaryOp::And),
-            Opcode::Add => Operation::Binary(BinaryOp::Add),
-            Opcode::Sub => Operation::Binary(BinaryOp::Sub),
-            Opcode::Mul => Operation::Binary(BinaryOp::Mul),
-            Opcode::Div => Operation::Binary(BinaryOp::Div),
-            Opcode::Mod => Operation::Binary(BinaryOp::Mod),
-            Opcode::Not => Operation::Unary(UnaryOp::Not),
-            Opcode::Push => Operation::Unary(UnaryOp::Keep),
-            Opcode::Store | Opcode::Pull => Operation::Store,
-            Opcode::Load => Operation::Load,
-            Opcode::Jump => Operation::Jump,
-            Opcode::Verify => Operation::Verify,
-            Opcode::PrintChar => Operation::PrintChar,
-            Opcode::PrintNum => Operation::PrintNumber,
-            Opcode::Print => Operation::Print,
-            Opcode::NewLine => Operation::NewLine,
-            Opcode::Nop | Opcode::Pop => Operation::Nop,
-            Opcode::Quit => Operation::Quit,
-            Opcode::Ret | Opcode::Rtrue | Opcode::Rfalse | Opcode::RetPopped => Operation::Return,
-            Opcode::PrintRet => Operation::PrintReturn,
-            Opcode::Call => Operation::Call,
-            Opcode::Jin => Operation::Inside,
-            Opcode::TestAttr => Operation::TestAttribute,
-            Opcode::GetSibling => Operation::Follow(Link::Sibling),
-            Opcode::GetChild => Operation::Follow(Link::Child),
-            Opcode::GetParent => Operation::Follow(Link::Parent),
-            Opcode::SetAttr => Operation::SetAttribute,
-            Opcode::ClearAttr => Operation::ClearAttribute,
-            Opcode::InsertObj => Operation::Insert,
-            Opcode::RemoveObj => Operation::Remove,
-            Opcode::GetProp => Operation::Property(PropertyQuestion::Value),
-            Opcode::GetPropAddr => Operation::Property(PropertyQuestion::Address),
-            Opcode::GetNextProp => Operation::Property(PropertyQuestion::Next),
-            Opcode::GetPropLen => Operation::PropertyLength,
-            Opcode::PutProp => Operation::SetProperty,
-            Opcode::PrintObj => Operation::PrintObject,
-            Opcode::PrintAddr => Operation::PrintAt(Addressing::Byte),
-            Opcode::PrintPaddr => Operation::PrintAt(Addressing::Packed),
-            Opcode::ShowStatus => Operation::ShowStatus,
-            Opcode::Loadw => Operation::LoadArray(Width::Word),
-            Opcode::Loadb => Operation::LoadArray(Width::Byte),
-            Opcode::Storew => Operation::StoreArray(Width::Word),
-            Opcode::Storeb => Operation::StoreArray(Width::Byte),
-            Opcode::Random => Operation::Random,
-            Opcode::Sread => Operation::ReadLine,
-            Opcode::Save => Operation::Save,
-            Opcode::Restore => Operation::Restore,
-            Opcode::Restart => Operation::Restart,
-        }
-    }
-
-    /// What the opcode takes that isn't spelled, behind its operands: at most one.
-    fn implied(self) -> Option<Operand>
-        ensures { option_to_list result ≡ implied self }
-    {
-        match self {
-            Opcode::Jz | Opcode::Rfalse => Some(Operand::Constant(0)),
-            Opcode::Rtrue => Some(Operand::Constant(1)),
-            Opcode::Pull | Opcode::Pop | Opcode::RetPopped => Some(Operand::Variable(0)),
-            _ => None,
-        }
-    }
 }
 
 impl Instr {
