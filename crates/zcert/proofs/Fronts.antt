@@ -1,5 +1,5 @@
 -- What is kept is found: how the bytes of sets lie.
-use Rattle.std.proofs.Common.{◌≡◌, ℕ, suc, ◌+◌, ◌-◌, ◌*◌, ◌/◌, ◌%◌, ◌<◌, ◌≤◌, get_or, List, [], ◌∷◌, ◌++◌, length, take, drop, Ok, refl, sym, ap, subst, ◌∙◌, append_assoc, length-append, arith}
+use Rattle.std.proofs.Common.{◌≡◌, ℕ, suc, ◌+◌, ◌-◌, ◌*◌, ◌/◌, ◌%◌, ◌<◌, ◌≤◌, get_or, List, [], ◌∷◌, ◌++◌, length, take, drop, refl, sym, ap, subst, ◌∙◌, append_assoc, length-append, arith}
 use Rattle.std.specs.List.{flat_map, AllByRecursion}
 use Rattle.zdomain.specs.declared.interval.Interval.{Interval}
 use Rattle.std.proofs.Math.Seq.{take-append_seam, drop-append_seam}
@@ -14,7 +14,7 @@ use Rattle.zcert.specs.FormatLaw.Sets.{is_true, listed_by, one_way}
 use Rattle.zcert.specs.FormatLaw.Kept.{values_are_kept}
 use Rattle.zcert.specs.Keeping.{Front, Holds, IsRunAt, Spell, intervals_kept, values_kept, words_in}
 use Rattle.zcert.specs.Lists.{HasBytes, set_bytes, values_format}
-use Rattle.zcert.specs.Numbers.{Word, WordCount, number, HasRoom}
+use Rattle.zcert.specs.Numbers.{Word, number, HasRoom}
 use Rattle.zcert.proofs.Words.{words_length}
 
 -- as many intervals are kept as are asked for

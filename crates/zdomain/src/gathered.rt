@@ -66,8 +66,9 @@ impl Gathered {
         self.put(word);
     }
 
-    /// One that isn't among them, as long as they are few. It lies between the ends.
-    #[inline(always)]
+    /// One that isn't among them, as long as they are few. It lies between the ends. Few words are put, and it stands apart so that the look
+    /// at a mark, which each word costs, stays short.
+    #[inline(never)]
     fn put(&mut self, word: u16)
         requires least { self.old.least ≤ turned word }
         requires greatest { turned word ≤ self.old.greatest }

@@ -1,39 +1,30 @@
 -- Properties that are found in a list.
-use Rattle.std.proofs.Common.{Bool, List, None, Option, Some, [], ap, arith, false, if◌then◌else◌, refl, subst, suc, sym, true, zero, ℕ, ◌+◌, ◌-◌, ◌<◌, ◌∙◌, ◌==◌, ◌∷◌, ◌≡◌, ◌≤◌}
+use Rattle.std.proofs.Common.{Bool, List, None, Option, Some, [], arith, false, if◌then◌else◌, refl, subst, suc, sym, true, zero, ℕ, ◌+◌, ◌-◌, ◌<◌, ◌==◌, ◌∷◌, ◌≡◌, ◌≤◌}
 use Rattle.std.specs.Prelude.{IfSome, is_some, option_map}
 use Rattle.std.specs.List.{find}
-use Rattle.std.proofs.lemmas.Bool.{eqb-true, ne_eqb}
+use Rattle.std.proofs.lemmas.Bool.{eqb-true}
 use Rattle.std.proofs.lemmas.Option.{same_Some}
 use Rattle.zstory.specs.Bytes.{readable_end}
 use Rattle.zstory.specs.Objects.{property_table}
 use Rattle.zobj.specs.declared.property.Property.{Property}
 use Rattle.zobj.specs.Properties.{IsReadable, is_property, property_there, data_end, first_properties, properties_from, properties, has_number, property_of, after_number, first_number, next_in, list_place}
-use Rattle.zobj.specs.Answers.{address_of}
-use Rattle.zpairs.specs.Rows.{property_in}
 use Rattle.zobj.proofs.Lists.{property_inside}
 
--- a number that a size byte can have, at least a byte of data, and an address that is a word, behind the size byte
+-- a number that a size byte can have, at least a byte of data, and an address that is a word
 pub record IsSmall (memory : List ℕ) (property : Property) : Type 0 where
   pub number : property.number < 32
   pub some : 1 ≤ property.length
-  pub first : 1 ≤ property.place
   pub place : property.place < 65536
   pub within : property.place + property.length ≤ readable_end memory
-  pub there : is_property memory (property.place - 1) ≡ true
-  pub same : property_there memory (property.place - 1) ≡ property
 
 small_there : (memory : List ℕ) (at : ℕ) → is_property memory at ≡ true → IsSmall memory (property_there memory at)
 small_there memory at e =
     let inside = property_inside memory at e in
-    let back : at ≡ at + 1 - 1 = omega arith in
     record {
       number = omega arith;
       some = omega arith;
-      first = omega arith;
       place = omega (arith, inside.0, inside.1);
       within = omega (arith, inside.1);
-      there = subst (λ (p : ℕ). is_property memory p ≡ true) back e;
-      same = subst (λ (p : ℕ). property_there memory p ≡ property_there memory at) back refl;
     }
 
 -- the first that has a number is small and has it
@@ -129,23 +120,3 @@ followed number (property ∷ rest) = by (has_number number property) (followed 
 pub found_readable : (memory : List ℕ) (object number : ℕ) (found : Option Property) → found ≡ property_of memory object number → IfSome found (IsReadable memory)
 found_readable memory object number None e = tt
 found_readable memory object number (Some property) e = let small = (found_small memory object number property (sym e)).0 in record { some = small.some; within = small.within }
-
--- ---- a property by the address of its data
-
-read_in : (memory : List ℕ) (property : Property) → IsSmall memory property → property_in memory property.place ≡ Some property
-read_in memory property small =
-    let first = small.first in
-    let some : (property.place == 0) ≡ false = ne_eqb property.place 0 (λ e. omega (arith, e, first)) in
-    let there = small.there in
-    rw (some, there) (ap Some small.same)
-
-pub in_again : (memory : List ℕ) (object number place : ℕ) → place ≡ address_of (property_of memory object number) → property_in memory place ≡ property_of memory object number
-in_again memory object number place at = by (property_of memory object number) refl
-  where
-    by : (found : Option Property) → property_of memory object number ≡ found → property_in memory place ≡ property_of memory object number
-    by None e =
-        let zero : place ≡ 0 = at ∙ ap address_of e in
-        subst (λ (p : ℕ). property_in memory p ≡ property_of memory object number) (sym zero) (sym e)
-    by (Some property) e =
-        let is : place ≡ property.place = at ∙ ap address_of e in
-        subst (λ (p : ℕ). property_in memory p ≡ property_of memory object number) (sym is) (read_in memory property (found_small memory object number property e).0 ∙ sym e)

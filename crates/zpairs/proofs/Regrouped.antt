@@ -1,5 +1,5 @@
 -- Blocks of objects in the place of objects.
-use Rattle.std.proofs.Common.{◌≡◌, ◌↔◌, ◌⊎◌, inl, inr, ℕ, zero, suc, ◌+◌, ◌-◌, ◌*◌, ◌/◌, ◌%◌, ◌<◌, ◌≤◌, Bool, true, false, ◌==◌, ◌&&◌, ◌||◌, if◌then◌else◌, List, length, Option, refl, sym, subst, ap, ◌∙◌, arith}
+use Rattle.std.proofs.Common.{◌≡◌, ◌↔◌, ◌⊎◌, inl, inr, ℕ, zero, suc, ◌+◌, ◌-◌, ◌*◌, ◌/◌, ◌%◌, ◌<◌, ◌≤◌, Bool, true, false, ◌==◌, ◌&&◌, ◌||◌, if◌then◌else◌, List, length, Option, None, refl, sym, subst, ap, ◌∙◌, arith}
 use Rattle.std.specs.Prelude.{IsTrue, nat_lt, slice_index_or, slice_set}
 use Rattle.std.proofs.lemmas.Bool.{cases_lt, lt-ltb, ltb-true}
 use Rattle.std.proofs.lemmas.List.{get_or-set_same, get_or-set_other}
@@ -10,20 +10,19 @@ use Rattle.zobj.specs.declared.answers.PropertyQuestion.{PropertyQuestion}
 use Rattle.zobj.specs.declared.answers.PropertyQuestion.TheVariants.{Value, Address, Next}
 use Rattle.zobj.specs.declared.property.Property.{Property}
 use Rattle.zobj.specs.Properties.{property_of}
-use Rattle.zobj.specs.Answers.{address_of, is_property_number}
+use Rattle.zobj.specs.Answers.{is_property_number}
 use Rattle.zpairs.specs.declared.ends.Ends.{Ends}
 use Rattle.zpairs.specs.declared.cell.Cell.{Cell}
 use Rattle.zpairs.specs.declared.cell.Test.{Test}
 use Rattle.zpairs.specs.declared.cell.Test.TheVariants.{Answered, Put, Open}
 use Rattle.zpairs.specs.Frozen.{FrozenStory}
 use Rattle.zpairs.specs.Fixed.{is_closed, is_fixed}
-use Rattle.zpairs.specs.Rows.{ArePlaces, property_in}
+use Rattle.zpairs.specs.Rows.{AreFound}
 use Rattle.zpairs.specs.Ends.{joined, no_word}
 use Rattle.zpairs.specs.Cells.{blank_cell, cell_at, cell_of, no_cell, merged, passes}
 use Rattle.zpairs.specs.Pairs.{ends_below, may_have, is_asked, answer_ends, pair_ends, number_ends, object_ends, all_ends}
 use Rattle.zpairs.specs.Blocks.{AreBlocks, merged_below, object_in, object_cell, place_cell, block_cell, EachInBlock, place_ends, block_ends, row_end}
 use Rattle.zpairs.proofs.Each.{one_more_below}
-use Rattle.zpairs.proofs.Found.{in_again}
 use Rattle.zpairs.proofs.Lying.{may}
 
 -- ---- the table
@@ -34,8 +33,8 @@ all_merged k m f cell same is = subst (λ (n : ℕ). cell ≡ merged_below n f) 
 pub one_more_cell : (cells : List Cell) (f : ℕ → Cell) (k : ℕ) (cell : Cell) → k < length cells → cell ≡ f k → ((j : ℕ) → j < k → slice_index_or cells j blank_cell ≡ f j) → (j : ℕ) → j < k + 1 → slice_index_or (slice_set cells k cell) j blank_cell ≡ f j
 one_more_cell cells f k cell inside is before = one_more_below (λ j. slice_index_or (slice_set cells k cell) j blank_cell ≡ f j) k (λ j below. get_or-set_other cells k j cell blank_cell (λ e. omega (arith, e, below)) ∙ before j below) (get_or-set_same cells k cell blank_cell inside ∙ is)
 
-pub one_more_place : (places : List ℕ) (f : ℕ → ℕ) (k place : ℕ) → k < length places → place ≡ f k → ((j : ℕ) → j < k → slice_index_or places j 0 ≡ f j) → (j : ℕ) → j < k + 1 → slice_index_or (slice_set places k place) j 0 ≡ f j
-one_more_place places f k place inside is before = one_more_below (λ j. slice_index_or (slice_set places k place) j 0 ≡ f j) k (λ j below. get_or-set_other places k j place 0 (λ e. omega (arith, e, below)) ∙ before j below) (get_or-set_same places k place 0 inside ∙ is)
+pub one_more_found : (found : List (Option Property)) (f : ℕ → Option Property) (k : ℕ) (property : Option Property) → k < length found → property ≡ f k → ((j : ℕ) → j < k → slice_index_or found j None ≡ f j) → (j : ℕ) → j < k + 1 → slice_index_or (slice_set found k property) j None ≡ f j
+one_more_found found f k property inside is before = one_more_below (λ j. slice_index_or (slice_set found k property) j None ≡ f j) k (λ j below. get_or-set_other found k j property None (λ e. omega (arith, e, below)) ∙ before j below) (get_or-set_same found k property None inside ∙ is)
 
 pub one_merged : (k : ℕ) (f : ℕ → Cell) (cell next all : Cell) → cell ≡ merged_below k f → next ≡ f k → all ≡ merged cell next → all ≡ merged_below (k + 1) f
 unfolding merged_below
@@ -55,22 +54,18 @@ module _ (told : FrozenStory) where
       by place true e = absurd (let there = ltb-true (16 * block + place) told.story.objects e in omega (arith, there, few))
       by place false e = refl
 
-  -- by where its property is
-  pub cell_here : (places : List ℕ) (below number k : ℕ) (found : Option Property) (cell : Cell) → ArePlaces told.story places → below < told.story.objects → number < 33 → k ≡ 33 * below + number → found ≡ property_in told.story.memory (slice_index_or places k 0) → cell ≡ cell_of (is_closed told) (is_fixed told) told.story.memory number found → cell ≡ object_cell told below number
-  cell_here places below number k found cell are inside small at is e =
-      let row : k / 33 ≡ below = omega (arith, at, small) in
-      let column : k % 33 ≡ number = omega (arith, at, small) in
-      let there : nat_lt below told.story.objects ≡ true = lt-ltb below told.story.objects inside in
-      let place : slice_index_or places k 0 ≡ address_of (property_of told.story.memory (below + 1) number) =
-      are k (omega (arith, at, inside, small)) ∙ ap (λ (b : ℕ). address_of (property_of told.story.memory (b + 1) (k % 33))) row ∙ ap (λ (n : ℕ). address_of (property_of told.story.memory (below + 1) n)) column in
-      e ∙ ap (cell_of (is_closed told) (is_fixed told) told.story.memory number) (is ∙ in_again told.story.memory (below + 1) number (slice_index_or places k 0) place) ∙ sym (rw there refl)
-
-  -- the place of an object's property is read
-  pub place_read : (places : List ℕ) (object number k : ℕ) → ArePlaces told.story places → 1 ≤ object → object ≤ told.story.objects → number < 33 → k ≡ 33 * (object - 1) + number → property_in told.story.memory (slice_index_or places k 0) ≡ property_of told.story.memory object number
-  place_read places object number k are first last small at =
+  -- an object's property is read
+  pub found_read : (found : List (Option Property)) (object number k : ℕ) → AreFound told.story found → 1 ≤ object → object ≤ told.story.objects → number < 33 → k ≡ 33 * (object - 1) + number → slice_index_or found k None ≡ property_of told.story.memory object number
+  found_read found object number k are first last small at =
       let row : k / 33 + 1 ≡ object = omega (arith, at, small, first) in
       let column : k % 33 ≡ number = omega (arith, at, small) in
-      in_again told.story.memory object number (slice_index_or places k 0) (are k (omega (arith, at, first, last, small)) ∙ ap (λ (x : ℕ). address_of (property_of told.story.memory x (k % 33))) row ∙ ap (λ (n : ℕ). address_of (property_of told.story.memory object n)) column)
+      are k (omega (arith, at, first, last, small)) ∙ ap (λ (x : ℕ). property_of told.story.memory x (k % 33)) row ∙ ap (property_of told.story.memory object) column
+
+  -- what is known of an object, by its property
+  pub cell_here : (found : List (Option Property)) (below number k : ℕ) (cell : Cell) → AreFound told.story found → below < told.story.objects → number < 33 → k ≡ 33 * below + number → cell ≡ cell_of (is_closed told) (is_fixed told) told.story.memory number (slice_index_or found k None) → cell ≡ object_cell told below number
+  cell_here found below number k cell are inside small at e =
+      let there : nat_lt below told.story.objects ≡ true = lt-ltb below told.story.objects inside in
+      e ∙ ap (cell_of (is_closed told) (is_fixed told) told.story.memory number) (found_read found (below + 1) number k are (omega arith) (omega (arith, inside)) small (omega (arith, at))) ∙ sym (rw there refl)
 
 -- what is known of an object's property, by a story and ranges that are these
 pub cell_told : (told : FrozenStory) (story : LoadedStory) (ranges : List Range) (object number : ℕ) (found : Option Property) → story ≡ told.story → ranges ≡ told.ranges → found ≡ property_of told.story.memory object number → cell_of (is_closed (record { story = story; ranges = ranges })) (is_fixed (record { story = story; ranges = ranges })) story.memory number found ≡ cell_at told object number

@@ -12,7 +12,6 @@ use Rattle.zobj.specs.Properties.{first_properties, property_of}
 use Rattle.zpairs.specs.declared.cell.Test.TheVariants.{Answered, Put, Open}
 use Rattle.zdomain.specs.Marks.{is_marked}
 use Rattle.zpairs.specs.Frozen.{FrozenStory, frozen_by}
-use Rattle.zpairs.specs.Rows.{property_in}
 use Rattle.zdomain.specs.declared.values.Values.{Values}
 use Rattle.zdomain.specs.Values.{values_operations, packed}
 use Rattle.zdomain.specs.Few.{turned, gathered, with_words, rises_behind, last_behind, place_in, is_scattered, words_from}
@@ -100,11 +99,6 @@ numbered = (refl, refl, refl, refl, refl)
 found : (property_of story.memory 1 5 ≡ Some (record { number = 5; place = 0x274; length = 1 })) × (property_of story.memory 1 3 ≡ Some (record { number = 3; place = 0x276; length = 2 })) × (property_of story.memory 1 2 ≡ Some (record { number = 2; place = 0x279; length = 3 })) × (property_of story.memory 2 5 ≡ Some (record { number = 5; place = 0x281; length = 1 })) × (property_of story.memory 2 3 ≡ None)
 unfolding story story_above front tables first_properties
 found = (refl, refl, refl, refl, refl)
-
--- by where their data are
-placed : (property_in story.memory 0x276 ≡ property_of story.memory 1 3) × (property_in story.memory 0x281 ≡ property_of story.memory 2 5) × (property_in story.memory 0 ≡ None) × (property_in story.memory 0x27D ≡ None)
-unfolding story story_above front tables first_properties
-placed = (refl, refl, refl, refl)
 
 -- what is known of a pair, and of both objects with a number
 cells : (cell_at told 1 3 ≡ record { has = true; short = true; is_open = false; values = exactly 0x1234; addresses = exactly 0x276 }) × (cell_at told 2 3 ≡ record { has = false; short = true; is_open = true; values = exactly 0xFFFE; addresses = exactly 0 }) × (cell_at told 1 2 ≡ record { has = true; short = false; is_open = true; values = any_word; addresses = exactly 0x279 }) × (cell_at told 1 0 ≡ record { has = false; short = true; is_open = true; values = no_word; addresses = exactly 0 }) × (cell_at told 1 32 ≡ cell_at told 1 0)

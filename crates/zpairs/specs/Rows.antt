@@ -1,10 +1,9 @@
 -- The properties of an object by their numbers (own).
-use Rattle.std.specs.Prelude.{◌≡◌, ℕ, ◌+◌, ◌-◌, ◌*◌, ◌/◌, ◌%◌, ◌<◌, ◌==◌, List, Option, Some, None, if◌then◌else◌, slice_index_or}
+use Rattle.std.specs.Prelude.{◌≡◌, ℕ, ◌+◌, ◌*◌, ◌/◌, ◌%◌, ◌<◌, List, Option, Some, None, if◌then◌else◌, slice_index_or}
 use Rattle.std.specs.List.{find}
 use Rattle.zstory.specs.LoadedStory.{LoadedStory}
 use Rattle.zobj.specs.declared.property.Property.{Property}
-use Rattle.zobj.specs.Answers.{address_of}
-use Rattle.zobj.specs.Properties.{is_property, property_there, properties_from, property_of, has_number}
+use Rattle.zobj.specs.Properties.{properties_from, property_of, has_number}
 
 -- the first answer, where there is one
 abbrev pub first_of : Option Property → Option Property → Option Property
@@ -23,10 +22,6 @@ IsRow memory first row = (n : ℕ) → n < 33 → slice_index_or row n None ≡ 
 abbrev pub IsObjectRow : LoadedStory → ℕ → List (Option Property) → Type 0
 IsObjectRow story below row = below < story.objects → (n : ℕ) → n < 33 → slice_index_or row n None ≡ property_of story.memory (below + 1) n
 
--- a table of where the data of each object's property of each number are, 0 where it has none
-abbrev pub ArePlaces : LoadedStory → List ℕ → Type 0
-ArePlaces story places = (k : ℕ) → k < 33 * story.objects → slice_index_or places k 0 ≡ address_of (property_of story.memory (k / 33 + 1) (k % 33))
-
--- the property whose data are at a place, and none at 0
-abbrev pub property_in : List ℕ → ℕ → Option Property
-property_in memory place = if place == 0 then None else (if is_property memory (place - 1) then Some (property_there memory (place - 1)) else None)
+-- a table of each object's property of each number
+abbrev pub AreFound : LoadedStory → List (Option Property) → Type 0
+AreFound story found = (k : ℕ) → k < 33 * story.objects → slice_index_or found k None ≡ property_of story.memory (k / 33 + 1) (k % 33)

@@ -10,6 +10,7 @@ use zdomain::Gathered;
 pub(crate) const NUMBERS: u16 = 32;
 
 /// The number by which one is asked for: all that no property has have one.
+#[inline(always)]
 pub(crate) fn column(number: u16) -> u16
     ensures value { result ≡ column number }
     ensures small { result ≤ 32 }

@@ -28,6 +28,7 @@ pub(crate) fn cell_of(marked: Marked<'_>, number: u16, found: Option<Property>) 
 }
 
 /// Whether an object passes a test with a number, by its property of that number: no more is asked of it than the test does.
+#[inline(always)]
 pub(crate) fn passes(marked: Marked<'_>, test: Test, number: u16, found: Option<Property>) -> bool
     requires { IfSome found (IsReadable marked.story.now.memory) }
     ensures { result ≡ passes test number (cell_of (is_closed (record { story = marked.entry.story.now; ranges = marked.entry.ranges.now })) (is_fixed (record { story = marked.entry.story.now; ranges = marked.entry.ranges.now })) marked.entry.story.now.memory number found) }
@@ -42,6 +43,7 @@ pub(crate) fn passes(marked: Marked<'_>, test: Test, number: u16, found: Option<
 }
 
 /// The ends of what may be answered of an object and a number, by its property of that number.
+#[inline(always)]
 pub(crate) fn answer_ends(
     marked: Marked<'_>,
     question: PropertyQuestion,
@@ -59,6 +61,7 @@ pub(crate) fn answer_ends(
 }
 
 /// Whether a property, if there is one, has at most two bytes of data.
+#[inline(always)]
 fn is_short(found: Option<Property>) -> bool
     ensures { result ≡ is_short found }
 {
@@ -103,6 +106,7 @@ fn are_open(marked: Marked<'_>, place: usize, size: u8) -> bool
 
 /// The ends of what the value of a property may be: of no word, where the number isn't that of a property.
 #[tactic(auto, using(crate::proofs::Tables::defaults_there))]
+#[inline(always)]
 fn asked_values(marked: Marked<'_>, number: u16, found: Option<Property>) -> Ends
     requires { IfSome found (IsReadable marked.story.now.memory) }
     ensures { result ≡ asked_values (is_fixed (record { story = marked.entry.story.now; ranges = marked.entry.ranges.now })) marked.entry.story.now.memory number found }
@@ -117,6 +121,7 @@ fn asked_values(marked: Marked<'_>, number: u16, found: Option<Property>) -> End
 }
 
 /// The ends of what a property's data may be.
+#[inline(always)]
 fn data_ends(marked: Marked<'_>, property: Property) -> Ends
     requires { IsReadable marked.story.now.memory property }
     ensures { result ≡ data_ends (is_fixed (record { story = marked.entry.story.now; ranges = marked.entry.ranges.now })) marked.entry.story.now.memory property }
@@ -130,6 +135,7 @@ fn data_ends(marked: Marked<'_>, property: Property) -> Ends
 }
 
 /// Those of a byte.
+#[inline(always)]
 fn byte_ends(marked: Marked<'_>, place: usize) -> Ends
     requires { place < length marked.story.now.memory }
     ensures { result ≡ byte_ends (is_fixed (record { story = marked.entry.story.now; ranges = marked.entry.ranges.now })) marked.entry.story.now.memory place }
@@ -141,6 +147,7 @@ fn byte_ends(marked: Marked<'_>, place: usize) -> Ends
 }
 
 /// Those of two bytes.
+#[inline(always)]
 fn word_ends(marked: Marked<'_>, place: usize) -> Ends
     requires { place + 1 < length marked.story.now.memory }
     ensures { result ≡ word_ends (is_fixed (record { story = marked.entry.story.now; ranges = marked.entry.ranges.now })) marked.entry.story.now.memory place }

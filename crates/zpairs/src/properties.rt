@@ -10,22 +10,22 @@ use crate::fixed::mark_fixed;
 use crate::frozen::MARK_BYTES;
 use crate::marked::Marked;
 use crate::room::PropertyRoom;
-use crate::rows::{place_objects, property_in};
+use crate::rows::find_properties;
 use std::marker::Model;
 use zcert::Range;
 use zdomain::{Domain, Marks};
 use zobj::{Property, PropertyQuestion};
 use zstory::Story;
 
-/// The properties of a story's objects, with the ranges of bytes that stay as they are. Where each object has each number is kept in a room,
-/// and what is known of 16 objects side by side, so that a question about many is answered by blocks.
+/// The properties of a story's objects, with the ranges of bytes that stay as they are. Each object's property of each number is kept in a
+/// room, and what is known of 16 objects side by side, so that a question about many is answered by blocks.
 #[derive(Drop)]
 pub struct Properties<'a> {
     pub(crate) story: &'a Story,
     ranges: &'a [Range],
     closed: &'a Marks<MARK_BYTES>,
     fixed: &'a Marks<MARK_BYTES>,
-    places: &'a [u16; OBJECT_CELLS],
+    found: &'a [Option<Property>; OBJECT_CELLS],
     blocks: &'a [Cell; BLOCK_CELLS],
 }
 
@@ -37,10 +37,10 @@ impl<'a> Model for Properties<'a> {
     ghost view = { λ p. record { story = p.story.now; ranges = p.ranges.now } };
 
     ghost use Rattle.zpairs.specs.Blocks.{AreBlocks};
-    ghost use Rattle.zpairs.specs.Rows.{ArePlaces};
+    ghost use Rattle.zpairs.specs.Rows.{AreFound};
     ghost use Rattle.zpairs.specs.Fixed.{AreClosed, AreFixed};
 
-    ghost invariant = { λ p. AreClosed (record { story = p.story.now; ranges = p.ranges.now }) p.closed.now × AreFixed p.story.now p.closed.now p.fixed.now × ArePlaces p.story.now p.places.now × AreBlocks (record { story = p.story.now; ranges = p.ranges.now }) p.blocks.now };
+    ghost invariant = { λ p. AreClosed (record { story = p.story.now; ranges = p.ranges.now }) p.closed.now × AreFixed p.story.now p.closed.now p.fixed.now × AreFound p.story.now p.found.now × AreBlocks (record { story = p.story.now; ranges = p.ranges.now }) p.blocks.now };
 }
 
 impl<'a> Properties<'a> {
@@ -60,7 +60,7 @@ impl<'a> Properties<'a> {
     {
         mark_closed(&mut room.closed, story, ranges);
         mark_fixed(&mut room.fixed, story, &room.closed);
-        place_objects(&mut room.places, story);
+        find_properties(&mut room.found, story);
         let marked = Marked {
             story,
             base: story.static_base(),
@@ -68,13 +68,13 @@ impl<'a> Properties<'a> {
             closed: &room.closed,
             fixed: &room.fixed,
         };
-        fill_blocks(&mut room.blocks, marked, &room.places);
+        fill_blocks(&mut room.blocks, marked, &room.found);
         Properties {
             story,
             ranges,
             closed: &room.closed,
             fixed: &room.fixed,
-            places: &room.places,
+            found: &room.found,
             blocks: &room.blocks,
         }
     }
@@ -171,6 +171,7 @@ impl<'a> Properties<'a> {
     }
 
     /// Whether an object passes a test with a number.
+    #[inline(always)]
     pub(crate) fn passes(&self, test: Test, object: u8, number: u16) -> bool
         requires least { 1 ≤ object }
         requires most { object ≤ self.now.story.objects }
@@ -181,6 +182,7 @@ impl<'a> Properties<'a> {
     }
 
     /// The ends of what it may answer of one.
+    #[inline(always)]
     pub(crate) fn answer_ends(&self, question: PropertyQuestion, object: u8, number: u16) -> Ends
         requires least { 1 ≤ object }
         requires most { object ≤ self.now.story.objects }
@@ -196,6 +198,7 @@ impl<'a> Properties<'a> {
     }
 
     /// The first property of an object that has a number.
+    #[inline(always)]
     pub(crate) fn property(&self, object: u8, number: u16) -> Option<Property>
         requires least { 1 ≤ object }
         requires most { object ≤ self.now.story.objects }
@@ -203,7 +206,6 @@ impl<'a> Properties<'a> {
         ensures found { result ≡ property_of self.now.story.memory object number }
         ensures readable { IfSome result (IsReadable self.now.story.memory) }
     {
-        let place = self.places[COLUMNS * (usize::from(object) - 1) + usize::from(number)];
-        property_in(self.story.memory(), place)
+        self.found[COLUMNS * (usize::from(object) - 1) + usize::from(number)]
     }
 }

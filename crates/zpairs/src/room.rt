@@ -4,14 +4,15 @@ use crate::blocks::{BLOCK_CELLS, OBJECT_CELLS};
 use crate::cell::Cell;
 use crate::frozen::MARK_BYTES;
 use zdomain::Marks;
+use zobj::Property;
 
-/// Room for what is known of a story's properties, some 39 KB. It is made once and filled where it stands: to move it would cost more than
+/// Room for what is known of a story's properties, some 73 KB. It is made once and filled where it stands: to move it would cost more than
 /// all else that is done for a small story.
 #[derive(Drop)]
 pub struct PropertyRoom {
     pub(crate) closed: Marks<MARK_BYTES>,
     pub(crate) fixed: Marks<MARK_BYTES>,
-    pub(crate) places: [u16; OBJECT_CELLS],
+    pub(crate) found: [Option<Property>; OBJECT_CELLS],
     pub(crate) blocks: [Cell; BLOCK_CELLS],
 }
 
@@ -21,7 +22,7 @@ impl PropertyRoom {
         PropertyRoom {
             closed: Marks::none(),
             fixed: Marks::none(),
-            places: [0; OBJECT_CELLS],
+            found: [None; OBJECT_CELLS],
             blocks: [Cell::BLANK; BLOCK_CELLS],
         }
     }

@@ -2,10 +2,9 @@
 
 ghost use Rattle.std.specs.Prelude.{◌≡◌, ◌+◌, ◌/◌, ◌%◌, ◌<◌, ℕ, Some, None, slice_index_or};
 ghost use Rattle.zobj.specs.Properties.{list_place};
-ghost use Rattle.zpairs.specs.Rows.{ArePlaces, IsObjectRow, IsRow, first_of, if_number, property_in};
+ghost use Rattle.zpairs.specs.Rows.{AreFound, IsObjectRow, IsRow, first_of, if_number};
 
 use crate::blocks::{COLUMNS, OBJECT_CELLS};
-use crate::finding::address_of;
 use zobj::{Property, list_place, property_at};
 use zstory::Story;
 
@@ -57,23 +56,13 @@ fn renew(story: &Story, row: &mut [Option<Property>; COLUMNS], k: usize)
     }
 }
 
-/// Makes places those where the data of each object's property of each number are, 0 where it has none.
-pub(crate) fn place_objects(places: &mut [u16; OBJECT_CELLS], story: &Story)
-    ensures { ArePlaces story.now places.new }
+/// Makes a table that of each object's property of each number.
+pub(crate) fn find_properties(found: &mut [Option<Property>; OBJECT_CELLS], story: &Story)
+    ensures { AreFound story.now found.new }
 {
     let mut row = [None; COLUMNS];
     for k in 0..COLUMNS * usize::from(story.objects()) {
         renew(story, &mut row, k);
-        places[k] = address_of(row[k % COLUMNS]);
+        found[k] = row[k % COLUMNS];
     }
-}
-
-/// The property whose data are at a place, and none at 0.
-pub(crate) fn property_in(memory: &[u8], place: u16) -> Option<Property>
-    ensures { result ≡ property_in memory.now place }
-{
-    if place == 0 {
-        return None;
-    }
-    property_at(memory, usize::from(place) - 1)
 }

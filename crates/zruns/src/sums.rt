@@ -12,8 +12,7 @@ use zarray::Width;
 use zdomain::Gathered;
 use zpairs::Marked;
 
-/// Whether each byte of each of them is open.
-#[tactic(auto, unfolding(crate::specs::Runs::sums), using(crate::proofs::Summing::all_append))]
+/// Whether each byte of each of them is open. Each width has a loop of its own, in which nothing asks which it is.
 pub(crate) fn are_sums_open(
     marked: &Marked<'_>,
     width: Width,
@@ -22,16 +21,29 @@ pub(crate) fn are_sums_open(
 ) -> bool
     ensures { result ≡ list_all (each_byte width (λ q. not (is_closed (record { story = marked.now.story.now; ranges = marked.now.ranges.now }) q))) (sums width arrays.now indices.now) }
 {
+    match width {
+        Width::Byte => are_rows_open(marked, Width::Byte, arrays, indices),
+        Width::Word => are_rows_open(marked, Width::Word, arrays, indices),
+    }
+}
+
+/// The same, array by array.
+#[tactic(auto, unfolding(crate::specs::Runs::sums), using(crate::proofs::Summing::all_append))]
+#[inline(always)]
+fn are_rows_open(marked: &Marked<'_>, width: Width, arrays: &[u16], indices: &[u16]) -> bool
+    ensures { result ≡ list_all (each_byte width (λ q. not (is_closed (record { story = marked.now.story.now; ranges = marked.now.ranges.now }) q))) (sums width arrays.now indices.now) }
+{
     match arrays {
         [] => true,
         [first, rest @ ..] => {
             is_row_open(marked, width, *first, indices)
-                && are_sums_open(marked, width, rest, indices)
+                && are_rows_open(marked, width, rest, indices)
         }
     }
 }
 
-/// Whether each byte of each of those of one array is.
+/// The same of those of one array.
+#[inline(always)]
 fn is_row_open(marked: &Marked<'_>, width: Width, array: u16, indices: &[u16]) -> bool
     ensures { result ≡ list_all (each_byte width (λ q. not (is_closed (record { story = marked.now.story.now; ranges = marked.now.ranges.now }) q))) (map (place_of width array) indices.now) }
 {

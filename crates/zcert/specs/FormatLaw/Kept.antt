@@ -1,11 +1,11 @@
 -- A proof of the law that sets are found as they were kept.
-use Rattle.std.proofs.Common.{◌≡◌, ℕ, List, [], ◌∷◌, ◌++◌, length, take, Result, Ok, refl, ap, ◌∙◌, append_assoc, arith}
+use Rattle.std.proofs.Common.{◌≡◌, ℕ, List, [], ◌∷◌, ◌++◌, length, take, refl, ap, ◌∙◌, append_assoc, arith}
 use Rattle.std.specs.List.{flat_map, AllByRecursion}
 use Rattle.zdomain.specs.declared.interval.Interval.{Interval}
 use Rattle.zcert.specs.Format.{Format, interval_format}
 use Rattle.zcert.specs.FormatLaw.{IsFormat}
 use Rattle.zcert.specs.FormatLaw.Sets.{values_is_format}
-use Rattle.zcert.specs.Keeping.{Keeping, AreKept, intervals_kept, and_more, spelled_sets, values_kept}
+use Rattle.zcert.specs.Keeping.{AreKept, intervals_kept, and_more, spelled_sets, values_kept}
 use Rattle.zcert.specs.Lists.{values_format}
 
 intervals_again : (is : List Interval) (rest : List Interval) → take (length is) (flat_map intervals_kept.cells is ++ rest) ≡ is

@@ -1,7 +1,6 @@
-use Rattle.std.proofs.Common.{rules, ◌≡◌, ◌≤◌, ◌<◌, ◌+◌, ◌-◌, ◌++◌, ◌∷◌, [], List, ℕ, length, arith, sym, ap, ◌∙◌, append_assoc}
-use Rattle.std.proofs.lemmas.List.{append-nil}
+use Rattle.std.proofs.Common.{rules, ◌-◌, ◌++◌, ◌∷◌, [], List, sym, ap, ◌∙◌, append_assoc}
 use Rattle.zdomain.specs.declared.values.Values.{Values}
-use Rattle.zcert.proofs.Fronts.{others_held, none_held, held_from}
+use Rattle.zcert.proofs.Fronts.{others_held, held_from}
 use Rattle.zcert.proofs.making.+make_sets.Goals as goal
 
 pub set_of-set-requires : goal.set_of-set-requires

@@ -1,7 +1,5 @@
-use Rattle.std.proofs.Common.{◌≡◌, ◌≤◌, ◌*◌, ◌+◌, List, ℕ, length, take, drop, get_or, arith, sym, ap, subst, ◌∙◌}
+use Rattle.std.proofs.Common.{◌≡◌, ◌*◌, List, ℕ, length, take, drop, get_or, arith, sym, ap, subst, ◌∙◌}
 use Rattle.std.proofs.lemmas.List.{length-drop}
-use Rattle.zdomain.specs.declared.interval.Interval.{Interval}
-use Rattle.zdomain.specs.declared.values.Scattered.{Scattered}
 use Rattle.zdomain.specs.declared.values.Values.TheVariants.{Run, List as AList}
 use Rattle.zcert.specs.Keeping.{IsRunAt, Spell}
 use Rattle.zcert.proofs.Fronts.{run_front, list_front, first_of_front, second_of_front}

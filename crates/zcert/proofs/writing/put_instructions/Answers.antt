@@ -1,4 +1,3 @@
-use Rattle.std.proofs.Common.{◌≡◌}
 use Rattle.zcert.specs.Listed.{seen}
 use Rattle.zcert.specs.Spelling.{instruction_bytes}
 use Rattle.zcert.proofs.Taken.{one_more_taken}

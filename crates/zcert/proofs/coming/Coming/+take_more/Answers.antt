@@ -1,4 +1,4 @@
-use Rattle.std.proofs.Common.{rules, ◌≡◌, ◌<◌, ◌≤◌, ◌+◌, [], ◌∷◌, ◌++◌, length}
+use Rattle.std.proofs.Common.{rules, ◌≡◌, ◌<◌, ◌≤◌, [], ◌∷◌, ◌++◌, length}
 use Rattle.zdomain.specs.Few.{turned}
 use Rattle.zcert.specs.Numbers.{Word, HasRoom}
 use Rattle.zcert.proofs.Words.{still_coming}

@@ -1,5 +1,5 @@
-use Rattle.std.proofs.Common.{rules, ◌≡◌, ◌<◌, ◌++◌, ◌+◌, ◌∷◌, [], length, drop, arith, ap, subst, sym, ◌∙◌}
-use Rattle.zcert.specs.Contents.{Kept, AreHeld, stored_instruction}
+use Rattle.std.proofs.Common.{rules, ◌<◌, ◌++◌, ◌+◌, ◌∷◌, [], length, arith, ap, subst, sym, ◌∙◌}
+use Rattle.zcert.specs.Contents.{Kept, AreHeld}
 use Rattle.zcert.proofs.Stores.{newest_few, more_held, more_values, instructions_stay}
 use Rattle.zcert.proofs.instructions.Instructions.push.Goals as goal
 

@@ -1,6 +1,6 @@
-use Rattle.std.proofs.Common.{◌≡◌, ◌+◌, ◌++◌, ◌∷◌, [], length, ap, subst, sym, ◌∙◌}
+use Rattle.std.proofs.Common.{◌≡◌, ◌+◌, ◌++◌, ◌∷◌, [], length, ap, sym, ◌∙◌}
 use Rattle.zcert.specs.Building.{instruction_of}
-use Rattle.zcert.specs.Contents.{Kept, AreHeld, stored_instruction}
+use Rattle.zcert.specs.Contents.{Kept}
 use Rattle.zcert.proofs.Stores.{newest_count, stored_held, stored_instructions}
 use Rattle.zcert.proofs.instructions.Instructions.store.Goals as goal
 

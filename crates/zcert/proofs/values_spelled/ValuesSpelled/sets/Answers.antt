@@ -1,4 +1,4 @@
-use Rattle.std.proofs.Common.{◌≡◌, ◌++◌, List, sym, ap, ◌∙◌}
+use Rattle.std.proofs.Common.{◌++◌, List, sym, ap, ◌∙◌}
 use Rattle.zdomain.specs.declared.values.Values.{Values}
 use Rattle.zcert.proofs.Fronts.{sets_found}
 use Rattle.zcert.proofs.values_spelled.ValuesSpelled.sets.Goals as goal
