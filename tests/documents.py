@@ -32,25 +32,12 @@ def crates():
 
 
 def wrong_bugs():
-    """docs/HUNT.md: each bug that is kept is an edit of its crate, each edit is a bug that is kept, and the counts are right."""
-    kept_edits = {crate: set() for crate in crates()}
+    """Each must-fail edit says in its first line what the mistake is, which is its name, at which function it is refused, and by what."""
     for path in files(r"^crates/\w+/edits/\w+\.edit$"):
-        kept_edits[path.split("/")[1]].add(os.path.basename(path)[: -len(".edit")])
-    told = set()
-    for crate, heading, body in sections(text_of("docs/HUNT.md"), "###"):
-        if crate not in kept_edits:
-            continue
-        told.add(crate)
-        rows = re.findall(r"(?m)^\| ([^|]+) \| [^|]+ \| [^|]+ \| (yes|no) \|$", body)
-        names = [bug.replace("`", "").replace(" ", "_") for bug, is_kept in rows if is_kept == "yes"]
-        for name in sorted(set(names) ^ kept_edits[crate]):
-            yield f"HUNT: {crate}: {name} is {'kept there but no edit' if name in names else 'an edit but not kept there'}"
-        counts = re.search(r"\((\d+), (\d+|none) of them kept\)", heading)
-        if not counts or int(counts[1]) != len(rows) or (counts[2] if counts[2] != "none" else "0") != str(len(names)):
-            yield f"HUNT: {crate}: the heading is {heading}, and there are {len(rows)} rows, {len(names)} of them kept"
-    for crate, edits in kept_edits.items():
-        if edits and crate not in told:
-            yield f"HUNT: {crate} has edits and no table"
+        name = os.path.basename(path)[: -len(".edit")]
+        told = re.fullmatch(r"# (.+): refused at (.*`\w+(?:::\w+)*`.*) by (.+)", text_of(path).partition("\n")[0])
+        if not told or told[1].replace("`", "").replace(" ", "_") != name:
+            yield f"{path}: its first line doesn't say what the mistake is and what refuses it"
 
 
 def wrong_clauses():
@@ -160,9 +147,9 @@ def files_of_run(ran):
 
 
 def wrong_edits():
-    """Each text that a must-fail edit replaces stands once in its file, after those that it replaced before."""
+    """Each must-fail edit replaces something, and each text that it replaces stands once in its file, after those that it replaced before."""
     for path in files(r"^crates/\w+/edits/\w+\.edit$"):
-        source = old = ""
+        source, old, replaced = "", "", 0
         for line in text_of(path).split("\n"):
             key, _, text = line.partition(": ")
             if key == "file":
@@ -171,8 +158,10 @@ def wrong_edits():
                 old = text
                 if source.count(old) != 1:
                     yield f"{path}: its text is {source.count(old)} times in its file: {old}"
-            elif key == "new":
-                source = source.replace(old, text)
+            elif line.startswith("new:"):
+                source, replaced = source.replace(old, line[len("new:") :].removeprefix(" ")), replaced + 1
+        if not replaced:
+            yield f"{path}: it replaces nothing"
 
 
 def wrong_belief():

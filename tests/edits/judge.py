@@ -2,10 +2,12 @@
 """Plants the edits crates/NAME/edits/*.edit and sees that the prover refuses each.
 
     judge.py [--jobs N] [--folder NAME] [--times] [--harmless] [CRATE ..]
+    judge.py --table [CRATE ..]
 
 It runs at the top of a repository whose libraries are built (`rt ci` leaves them so), and counts on its last line. An edit is a
-file of lines `file: PATH` and then pairs of `old: TEXT` and `new: TEXT`, as `rt must-fail` reads it. --times says what each check took,
-in processor seconds, and its dearest functions. --harmless plants nothing and counts the functions that are still as they should be.
+file of lines `file: PATH` and then pairs of `old: TEXT` and `new: TEXT`, as `rt must-fail` reads it, behind a line `# MISTAKE: refused at
+FUNCTION by CLAUSE`. --times says what each check took, in processor seconds, and its dearest functions. --harmless plants nothing and
+counts the functions that are still as they should be. --table plants nothing and writes the first lines as a table.
 
 `rt must-fail` checks a crate once for each edit. Here many edits are planted in one copy, one in each function and the further ones in
 twins of it, and only the edited functions are checked; each has to be refused by a line of its own. All other functions are emptied in the copy, and have a hole
@@ -160,8 +162,9 @@ class Edit:
         return self.arm is not None or self.is_halved
 
 
-# The words that begin the lines of an edit.
+# The words that begin the lines of an edit, behind its first line, which says what the mistake is and what refuses it.
 FORM = re.compile(r"(?:file:(?:old:new:)+)+")
+TOLD = re.compile(r"# (.+): refused at (.+) by (.+)")
 
 
 def read_edit(folder, path, functions, texts):
@@ -172,6 +175,7 @@ def read_edit(folder, path, functions, texts):
         return Edit(name, why, [], set())
     with open(path, encoding="utf-8") as file:
         lines = file.read().removesuffix("\n").split("\n")
+    lines = lines[1:] if TOLD.fullmatch(lines[0]) else lines
     # What goes on in a further line would be planted by its first line alone.
     if not FORM.fullmatch("".join(f"{line.partition(':')[0]}:" for line in lines)):
         return Edit(name, "a text goes over several lines, or a line is none of file:, old: and new: in turn", [], set())
@@ -639,16 +643,30 @@ def print_times(crate):
         print(f"times: {crate}: a check of {len(functions)} functions took {seconds:.1f} s: {dearest}", flush=True)
 
 
+def print_table(crates, folder):
+    """What the first lines of the edits say."""
+    print("| Crate | Mistake | Refused at | By |\n|---|---|---|---|")
+    for crate in sorted(crates, key=lambda it: it.name):
+        where = f"{crate.folder}/{folder}"
+        for name in sorted(os.listdir(where)) if os.path.isdir(where) else []:
+            told = TOLD.fullmatch(RT.rtlib.text_of(f"{where}/{name}").partition("\n")[0])
+            print(f"| {crate.name} | {' | '.join(told.groups()) if told else f'{name} | | '} |")
+
+
 def main():
     words = argparse.ArgumentParser()
     words.add_argument("--jobs", type=int, default=os.cpu_count() or 1)
     words.add_argument("--folder", default="edits")
     words.add_argument("--times", action="store_true")
     words.add_argument("--harmless", action="store_true")
+    words.add_argument("--table", action="store_true")
     words.add_argument("crates", nargs="*")
     given = words.parse_args()
     root = os.getcwd()
     crates = [it for it in RT.rtlib.crates_below(root) if not given.crates or it.name in given.crates]
+    if given.table:
+        print_table(crates, given.folder)
+        return 0
     for name in stale(crates):
         print(f"edits: {name} isn't built from these sources: rt all check, or rt ci in a clone of its own, builds it")
         print("edits: 0 passed, 1 failed")
