@@ -1,8 +1,9 @@
-"""Certificates of version 1 as docs/CERTIFICATE.md spells them: how a file is read, and its first refusal (K1 to K7).
+"""Certificates of versions 1 and 2 as docs/CERTIFICATE.md spells them: how a file is read, and its first refusal (K1 to K7, K9).
 
 Each number of the table there is a field by itself, also of a row that has several."""
 import struct
 
+from sets import SMALL, Numbers
 from stories import Refused
 
 PLACES, LOCALS, HEIGHT, INSTRUCTIONS = 131072, 15, 64, 131072
@@ -14,13 +15,18 @@ class Certificate:
     def __init__(self):
         self.ranges, self.globals, self.routines, self.instructions = [], [], [], {}
         self.header = self.length = None
+        self.version = 1
+
+    @property
+    def has_lists(self):
+        return self.version == 2
 
 
 class Fields:
     """Reads the fields of a file from its front."""
 
     def __init__(self, file):
-        self.file, self.at = file, 0
+        self.file, self.at, self.has_lists = file, 0, False
 
     def take(self, form):
         size = struct.calcsize(form)
@@ -35,6 +41,26 @@ class Fields:
         require(lower <= upper, "K6")
         return lower, upper
 
+    def numbers(self):
+        """A list: its words are fields by themselves."""
+        count = self.take(">B")
+        require(2 <= count <= SMALL, "K9")
+        found = []
+        for _ in range(count):
+            word = self.take(">h")
+            require(not found or word > found[-1], "K5")
+            found.append(word)
+        require(found[-1] - found[0] + 1 > count, "K9")
+        return Numbers(found)
+
+    def set(self):
+        """A set, as the version spells it."""
+        if not self.has_lists:
+            return self.interval()
+        kind = self.take(">B")
+        require(kind <= 1, "K9")
+        return self.numbers() if kind else self.interval()
+
 
 def require(holds, code):
     if not holds:
@@ -45,10 +71,12 @@ def read(file):
     """The certificate that a file spells, or Refused."""
     fields, made = Fields(file), Certificate()
     require(fields.take(">4s") == b"ZPCC", "K1")
-    require(fields.take(">B") == 1, "K2")
+    made.version = fields.take(">B")
+    require(made.version in (1, 2), "K2")
+    fields.has_lists = made.has_lists
     made.header, made.length = fields.take(">10s"), fields.take(">I")
     read_ranges(fields, made)
-    made.globals = [fields.interval() for _ in range(240)]
+    made.globals = [fields.set() for _ in range(240)]
     read_routines(fields, made)
     read_instructions(fields, made)
     require(fields.at == len(file), "K4")
@@ -69,7 +97,7 @@ def read_routines(fields, made):
         require(address < PLACES, "K7")
         count = fields.take(">B")
         require(count <= LOCALS, "K7")
-        made.routines.append((address, count, fields.interval()))
+        made.routines.append((address, count, fields.set()))
 
 
 def read_instructions(fields, made):
@@ -83,6 +111,6 @@ def read_instructions(fields, made):
         require(number <= len(made.routines), "K7")
         height = fields.take(">B")
         require(height <= HEIGHT, "K7")
-        values = [fields.interval() for _ in range(made.routines[number - 1][1] if number else 0)]
-        made.instructions[address] = (number, values, [fields.interval() for _ in range(height)])
+        values = [fields.set() for _ in range(made.routines[number - 1][1] if number else 0)]
+        made.instructions[address] = (number, values, [fields.set() for _ in range(height)])
         before = address

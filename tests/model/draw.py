@@ -17,7 +17,6 @@ from walking import Walk
 ROOT = os.path.join(os.path.dirname(os.path.abspath(__file__)), "../..")
 FOLDERS = ["crates/zpc/data", "tests/authors", "benches/stories"]
 LINES = [b"look", b"go north", b"take lamp, at", b"", b"  ", b"save", b"restore", b"quit", b"LOOK \xe9 at\r", b"n", b"x" * 300, b"\"at.\"", b"e", b"1"]
-INTERVALS = 1  # the version of certificates of intervals
 POOL = 40  # stories with a certificate that is found, for each seed
 
 
@@ -123,17 +122,17 @@ class Drawer:
 
     def found(self, number):
         if number >= POOL:
-            return self.of_intervals(self.stories[number - POOL])
+            return self.certified(self.stories[number - POOL])
         for attempt in range(8):
-            made = self.of_intervals(worlds.story(random.Random(f"{self.seed}-pool-{number}-{attempt}"), 0, number % 3 == 0))
+            made = self.certified(worlds.story(random.Random(f"{self.seed}-pool-{number}-{attempt}"), 0, number % 3 == 0))
             if made:
                 return made
         return None
 
-    def of_intervals(self, story):
-        """The story with the certificate that is found, if that is one of intervals: the model knows no lists."""
+    def certified(self, story):
+        """The story with the certificate that is found, if one is."""
         certificate = self.program.found(story)[1]
-        return (story, certificate) if certificate and certificate[4] == INTERVALS else None
+        return (story, certificate) if certificate else None
 
     def with_certificate(self, draw):
         story, certificate = self.sound(draw)
@@ -157,7 +156,7 @@ class Drawer:
             story = spoiling.tables_of(draw, story)
         try:
             loaded = Story(story)
-            certificate = spoiling.spelled(Walk(loaded, frozen(draw, loaded)).made)
+            certificate = spoiling.spelled(Walk(loaded, draw.choice([1, 2]), frozen(draw, loaded)).made)
         except Refused:
             return Case(["list", "story"], {"story": story})
         return accepting(draw, story, certificate if draw.random() < 0.5 else spoiling.certificate_of(draw, certificate))

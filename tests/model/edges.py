@@ -1,6 +1,7 @@
 """What may come of an instruction: its edges that can be taken, each with what is known after it (docs/CERTIFICATE.md, "What is known after
 an instruction")."""
-from intervals import ALL, BYTE, RESULTS, counted, has, hull, meet, single, told
+from intervals import ALL, BYTE, by_ends, hull, single, told, worked_out
+from sets import has, left_of, packed
 from stories import signed, word_at
 
 NEVER_TAKEN = {"quit", "restart"}
@@ -60,7 +61,7 @@ def plain(site):
     elif name == "push":
         edge.slots.append(site.values[0])
     elif name in ("inc", "dec"):
-        edge.assign(site.named, counted(site.in_place(), name == "inc"))
+        edge.assign(site.named, worked_out(site.has_lists, name, [site.in_place()]))
     elif name in ("store", "pull"):
         edge.assign(site.named, site.values[1] if name == "store" else site.taken)
     elif site.it.to is not None:
@@ -69,23 +70,36 @@ def plain(site):
 
 
 def result(site):
-    """The interval of what an instruction gives."""
+    """The set of what an instruction gives."""
     name = site.it.name
     if name == "load":
         return site.in_place()
     if name == "get_parent":
         return 0, site.story.count
-    if name == "get_prop":
-        return hull(end for number in site.objects() for it in site.property_numbers() for end in answer(site, number, it))
-    if name == "get_prop_addr":
-        return hull(it for number in site.objects() for it in data_addresses(site, number))
+    if name in ("get_prop", "get_prop_addr"):
+        return asked(site, answer if name == "get_prop" else data_address)
     if name in ("loadw", "loadb"):
         return loaded(site)
-    return RESULTS[name](*site.values)
+    return worked_out(site.has_lists, name, site.values)
+
+
+def asked(site, of):
+    """What is answered of the objects and the numbers that the operands may be: word by word where both are small and each two answer one."""
+    pairs, count = site.pairs(), site.story.count
+    if pairs:
+        found = [of(site, number, it) for number in pairs[0] if 1 <= number <= count for it in pairs[1]]
+        if found and all(it is not None and it[0] == it[1] for it in found):
+            return packed(it[0] for it in found)
+    (a, b), (c, d) = site.values[:2]
+    numbers = [it for it in range(1, 32) if c <= it <= d] + [0] * (c < 1 or d > 31)  # 0 for all that no property has
+    found = (of(site, number, it) for number in range(max(a, 1), min(b, count) + 1) for it in numbers)
+    return hull(end for it in found if it is not None for end in it)
 
 
 def answer(site, number, which):
-    """What `get_prop` may answer of an object and a number."""
+    """What `get_prop` may answer of an object and a number, which is nothing where no property has it."""
+    if not 1 <= which <= 31:
+        return None
     known, found = site.known, site.known.sizes(number).get(which)
     if found is None:
         return single(site.story.default(site.story.memory, which))
@@ -95,12 +109,9 @@ def answer(site, number, which):
     return single(known.loaded_byte(place) if size == 1 else word_at(site.story.memory, place))
 
 
-def data_addresses(site, number):
-    """The addresses that `get_prop_addr` may answer of an object."""
-    sizes, numbers = site.known.sizes(number), site.property_numbers()
-    found = [signed(sizes[it][0]) for it in numbers if it in sizes]
-    lower, upper = site.values[1]
-    return found if len(found) == upper - lower + 1 else found + [0]
+def data_address(site, number, which):
+    """The address that `get_prop_addr` answers of an object and a number."""
+    return single(site.known.sizes(number).get(which, (0, 0))[0])
 
 
 def loaded(site):
@@ -108,7 +119,8 @@ def loaded(site):
     if not all(site.known.all_fixed(it) for it in site.elements()):
         return ALL if wide else BYTE
     byte = site.known.loaded_byte
-    return hull(signed(byte(it) * 256 + byte(it + 1)) if wide else byte(it) for places in site.addresses() for it in places)
+    found = (signed(byte(it) * 256 + byte(it + 1)) if wide else byte(it) for places in site.addresses() for it in places)
+    return packed(found) if site.pairs() else hull(found)
 
 
 def calls(site):
@@ -119,8 +131,8 @@ def calls(site):
     return found + ([behind(site, (0, 0))] if has(called, 0) else [])
 
 
-def has_word(interval, word):
-    return has(interval, signed(word))
+def has_word(some, word):
+    return has(some, signed(word))
 
 
 def behind(site, value):
@@ -140,7 +152,7 @@ def branch(site, holds):
         possible = not holds or site.story.count > 0
         edge.give(site.it.to, (1, site.story.count) if holds else (0, 0))
     else:
-        possible = narrow(site, edge, told(name, site.values, holds))
+        possible = narrow(site, edge, told(name, [by_ends(it) for it in site.values], holds))
     if not possible:
         return None
     if holds == site.it.branch[0]:
@@ -160,9 +172,11 @@ def narrow(site, edge, left):
     """Keeps what is told of locals; False where nothing is left of a value."""
     if None in left:
         return False
-    for (is_variable, number), kept in zip(site.it.operands, left):
+    for (is_variable, number), value, kept in zip(site.it.operands, site.values, left):
+        if left_of(value, kept) is None:
+            return False
         if is_variable and 0 < number < 16:
-            both = meet(edge.locals[number - 1], kept)
+            both = left_of(edge.locals[number - 1], kept)
             if both is None:
                 return False
             edge.locals[number - 1] = both
@@ -172,12 +186,12 @@ def narrow(site, edge, left):
 def count(site, edge, holds):
     """What `inc_chk` and `dec_chk` make of a variable, and tell of a local."""
     up, bound = site.it.name == "inc_chk", site.values[1]
-    value = counted(site.in_place(), up)
+    value = worked_out(site.has_lists, "inc" if up else "dec", [site.in_place()])
     if 0 < site.named < 16:
         if up:
-            value = meet(value, (bound[0] + 1, 32768) if holds else (-32769, bound[1]))
+            value = left_of(value, (bound[0] + 1, 32768) if holds else (-32769, bound[1]))
         else:
-            value = meet(value, (-32769, bound[1] - 1) if holds else (bound[0], 32768))
+            value = left_of(value, (-32769, bound[1] - 1) if holds else (bound[0], 32768))
         if value is None:
             return False
     edge.assign(site.named, value)

@@ -1,4 +1,9 @@
-"""Intervals of signed numbers, and what is known after an instruction, as docs/CERTIFICATE.md has it: results, and what a branch tells."""
+"""Intervals of signed numbers, and what is known after an instruction, as docs/CERTIFICATE.md has it: results, and what a branch tells. Of
+lists all of this is asked by their ends, but where each two numbers are worked out."""
+import itertools
+
+from operations import SUMS
+from sets import has, numbers_of, packed
 from stories import signed
 
 ALL = (-32768, 32767)
@@ -11,14 +16,6 @@ def fitting(lower, upper):
 
 def single(word):
     return signed(word), signed(word)
-
-
-def has(interval, number):
-    return interval[0] <= number <= interval[1]
-
-
-def within(inner, outer):
-    return outer[0] <= inner[0] and inner[1] <= outer[1]
 
 
 def is_single(interval):
@@ -44,16 +41,6 @@ def without(interval, number):
     elif upper == number:
         upper -= 1
     return (lower, upper) if lower <= upper else None
-
-
-def words_in(interval):
-    """The words of an interval as one or two ranges of places."""
-    lower, upper = interval
-    if lower >= 0:
-        return [range(lower, upper + 1)]
-    if upper < 0:
-        return [range(lower + 65536, upper + 65537)]
-    return [range(0, upper + 1), range(lower + 65536, 65536)]
 
 
 # ---- results
@@ -105,14 +92,28 @@ RESULTS = {
     "and": conjunction,
     "or": disjunction,
     "random": drawn,
+    "inc": lambda a: fitting(a[0] + 1, a[1] + 1),
+    "dec": lambda a: fitting(a[0] - 1, a[1] - 1),
     "get_next_prop": lambda a, b: (0, 31),
     "get_prop_len": lambda a: (0, 8),
 }
 
 
-def counted(interval, up):
-    step = 1 if up else -1
-    return fitting(interval[0] + step, interval[1] + step)
+# What is worked out word by word, where sets are small.
+EACH = {**SUMS, "not": lambda a: 65535 - a, "inc": lambda a: a + 1, "dec": lambda a: a - 1}
+
+
+def by_ends(some):
+    return some[0], some[1]
+
+
+def worked_out(lists, name, values):
+    """The set of what an operation makes of sets."""
+    numbers = [numbers_of(it) for it in values]
+    if lists and name in EACH and None not in numbers:
+        each = [it for it in itertools.product(*numbers) if name not in ("div", "mod") or it[1]]
+        return packed(signed(EACH[name](*(n % 65536 for n in it)) % 65536) for it in each) if each else ALL
+    return RESULTS[name](*map(by_ends, values))
 
 
 # ---- what a branch tells: what is left of each value where the condition holds, and where it fails; None where nothing is
@@ -132,7 +133,7 @@ def equal(a, b, holds):
 
 
 def told(name, values, holds):
-    """What is left of the values that a branch compares."""
+    """What is left of the intervals that a branch compares."""
     if name == "jz":
         return [meet(values[0], (0, 0)) if holds else without(values[0], 0)]
     if name == "je" and len(values) == 2:

@@ -2,8 +2,9 @@
 (I1 to I18), in the order that docs/CERTIFICATE.md says."""
 from edges import edges_of
 from instructions import NoInstruction, decode
-from intervals import has, is_single, within, words_in
+from intervals import is_single
 from known import Known
+from sets import has, within, within_ends, words_in
 from sites import NAMING, OBJECTS, Site
 from stories import Refused
 
@@ -43,7 +44,7 @@ def has_routines(known):
 
 def has_globals(known):
     values = (known.loaded_word(known.story.globals + 2 * it) for it in range(240))
-    return all(has(interval, value) for interval, value in zip(known.certificate.globals, values))
+    return all(has(some, value) for some, value in zip(known.certificate.globals, values))
 
 
 def has_links(known):
@@ -139,14 +140,14 @@ def names_properties(site):
 
 def is_answered(site, name, number):
     lower, upper = site.values[1]
-    sizes = site.known.sizes(number)
+    sizes, numbers = site.known.sizes(number), within_ends(site.values[1], 0, 31)
     if name == "get_prop":
-        return 1 <= lower and upper <= 31 and all(sizes.get(it, (0, 1))[1] <= 2 for it in range(lower, upper + 1))
+        return 1 <= lower and upper <= 31 and all(sizes.get(it, (0, 1))[1] <= 2 for it in numbers)
     if lower < 0 or upper > 31:
         return False
     if name == "get_next_prop":
-        return all(it == 0 or it in sizes for it in range(lower, upper + 1))
-    return all(it in sizes and sizes[it][1] <= 2 for it in range(lower, upper + 1))
+        return all(it == 0 or it in sizes for it in numbers)
+    return all(it in sizes and sizes[it][1] <= 2 for it in numbers)
 
 
 def divides(site):

@@ -21,8 +21,8 @@ from program import Program, shown
 
 AT_ONCE = 2
 MOST_TOLD = 20
-LAST = {"F": 16, "L": 11, "U": 3, "K": 7, "S": 8, "I": 18, "Q": 9}
-CODES = [f"{letter}{number}" for letter, last in LAST.items() for number in range(1, last + 1)] + ["N2"]
+LAST = {"F": 16, "L": 11, "U": 3, "K": 7, "S": 8, "I": 18, "Q": 9}  # K9 is beside them; K8 is want of memory
+CODES = [f"{letter}{number}" for letter, last in LAST.items() for number in range(1, last + 1)] + ["K9", "N2"]
 
 
 class Tally:

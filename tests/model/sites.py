@@ -1,5 +1,6 @@
-"""A listed instruction with what a certificate says before it: the intervals of its operands, and what they name."""
+"""A listed instruction with what a certificate says before it: the sets of its operands, and what they name."""
 from intervals import single
+from sets import numbers_of, within_ends
 
 NAMING = {"inc", "dec", "inc_chk", "dec_chk", "store", "load", "pull"}
 POPPING = {"pull", "pop", "ret_popped"}
@@ -13,7 +14,7 @@ class Site:
     """The values of the operands, what is left on the stack behind them, the variable that an operand names, and what is lacking."""
 
     def __init__(self, known, it):
-        self.known, self.story, self.it = known, known.story, it
+        self.known, self.story, self.it, self.has_lists = known, known.story, it, known.certificate.has_lists
         self.routine, values, slots = known.certificate.instructions[it.place]
         self.locals, self.slots = list(values), list(slots)
         self.lacks_slot = self.lacks_local = False
@@ -33,7 +34,7 @@ class Site:
         return self.kept(number)
 
     def kept(self, number):
-        """The interval of a local or a global, or None where there is no such local."""
+        """The set of a local or a global, or None where there is no such local."""
         if number >= 16:
             return self.known.certificate.globals[number - 16]
         if number > len(self.locals):
@@ -42,18 +43,21 @@ class Site:
         return self.locals[number - 1]
 
     def in_place(self):
-        """The interval of the variable that an operand names."""
+        """The set of the variable that an operand names."""
         return self.slots[-1] if self.named == 0 else self.kept(self.named)
 
     def objects(self):
         """The objects of the story that the first operand may name."""
-        lower, upper = self.values[0]
-        return range(max(lower, 1), min(upper, self.story.count) + 1)
+        return within_ends(self.values[0], 1, self.story.count)
 
     def property_numbers(self):
         """The numbers that a property may have and the second operand may name."""
-        lower, upper = self.values[1]
-        return range(max(lower, 1), min(upper, 31) + 1)
+        return within_ends(self.values[1], 1, 31)
+
+    def pairs(self):
+        """The numbers of the first two operands, where both tell them in version 2, else None."""
+        found = [numbers_of(it) for it in self.values[:2]]
+        return found if self.has_lists and None not in found else None
 
     def elements(self):
         """The places of all bytes that a load or store may reach, as ranges: a word at 65,535 has one at 65,536."""
@@ -62,7 +66,9 @@ class Site:
 
     def addresses(self):
         """The addresses at which an element may begin, as ranges."""
-        times = 2 if self.it.name in ("loadw", "storew") else 1
+        times, pairs = 2 if self.it.name in ("loadw", "storew") else 1, self.pairs()
+        if pairs:
+            return [range(it, it + 1) for it in sorted({(a + times * b) % 65536 for a in pairs[0] for b in pairs[1]})]
         (a, b), (c, d) = self.values[:2]
         lower, upper = a + times * c, b + times * d
         if upper - lower >= 65535:

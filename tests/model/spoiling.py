@@ -4,6 +4,7 @@ import struct
 import certificates
 from instructions import Listing
 from intervals import ALL
+from sets import SMALL, is_list, numbers_of, packed
 from saves import chunk, chunks_of
 from stories import Refused, Story, word_at
 
@@ -90,6 +91,25 @@ def header_of(draw, file):
 # ---- certificates
 
 
+def set_of(draw, some, lists):
+    """Another set: wider, narrower, or any; a list too, where the version has them."""
+    return list_of(draw, some) if lists and draw.random() < 0.6 else interval_of(draw, some)
+
+
+def list_of(draw, some):
+    """A set with one number more, or one less, or with a gap, or some few numbers."""
+    numbers = list(numbers_of(some) or range(some[0], some[0] + 9))
+    way = draw.random()
+    if way < 0.4 and len(numbers) > 2:
+        numbers.pop(draw.randrange(len(numbers)))
+    elif way < 0.8:
+        numbers.append(draw.choice([some[0] - 2, some[1] + 2, some[0] - 1, some[1] + 1, 0, 1, draw.randint(-32768, 32767)]))
+    else:
+        numbers = [draw.randint(-3, 300) for _ in range(draw.randint(2, 9))]
+    numbers = sorted({it for it in numbers if ALL[0] <= it <= ALL[1]})[:SMALL]
+    return packed(numbers) if numbers else ALL
+
+
 def interval_of(draw, interval):
     """Another interval: wider, narrower, or any."""
     lower, upper = interval
@@ -99,10 +119,12 @@ def interval_of(draw, interval):
 
 
 def narrower(draw, interval):
-    """The interval without one of its ends, where it has two."""
+    """The set without one of its ends, or of a list without one of its numbers, where it has two."""
     lower, upper = interval
     if lower == upper:
         return interval
+    if is_list(interval):
+        return packed(draw.sample(interval.numbers, len(interval.numbers) - 1))
     return draw.choice([(lower + 1, upper), (lower, upper - 1)])
 
 
@@ -127,13 +149,13 @@ def one_interval(draw, made):
         number, values, slots = made.instructions[draw.choice(fit)]
         several = values if values and (not slots or draw.random() < 0.7) else slots
         at = draw.randrange(len(several))
-        several[at] = interval_of(draw, several[at])
+        several[at] = set_of(draw, several[at], made.has_lists)
 
 
 def one_global(draw, made):
     used = [it for it, value in enumerate(made.globals) if value[0] != value[1]] + list(range(9))
     at = draw.choice(used)
-    made.globals[at] = interval_of(draw, made.globals[at])
+    made.globals[at] = set_of(draw, made.globals[at], made.has_lists)
 
 
 def one_place(draw, made):
@@ -172,7 +194,7 @@ def one_routine(draw, made):
         at = draw.randrange(len(made.routines))
         address, count, result = made.routines[at]
         if draw.random() < 0.8:
-            made.routines[at] = (address, count, interval_of(draw, result))
+            made.routines[at] = (address, count, set_of(draw, result, made.has_lists))
         elif draw.random() < 0.5:
             made.routines[at] = (address + draw.choice([1, 2]), count, result)
         else:
@@ -197,20 +219,55 @@ def certificate_of(draw, file):
     made = certificates.read(file)
     for _ in range(draw.choice([1, 1, 1, 2])):
         draw.choice(CHANGES)(draw, made)
+    if made.has_lists and draw.random() < 0.1:
+        misspell(draw, made)
     return spelled(made)
+
+
+# Sets that none has: of another kind, a list of one word and of 65, words that don't rise, a list that is an interval, and one of two kinds at once.
+MISSPELLED = [
+    b"\2\0\0\0\5",
+    b"\1\1\0\5",
+    b"\1\x41" + struct.pack(">65h", *range(0, 130, 2)),
+    b"\1\2\0\5\0\5",
+    b"\1\3\0\5\0\6\0\7",
+    b"\1\2\0\6\0\5",
+    b"\0\0\5\0\4",
+    b"\xff\2\0\5\0\7",
+]
+
+
+def misspell(draw, made):
+    """Spells a set of a global or of an instruction as none is spelled."""
+    several = [it for _, values, slots in made.instructions.values() for it in (values, slots) if it] + [made.globals]
+    chosen = draw.choice(several)
+    chosen[draw.randrange(len(chosen))] = draw.choice(MISSPELLED)
 
 
 def spelled(made):
     """The file of a certificate."""
-    parts = [b"ZPCC\x01", made.header, struct.pack(">IH", made.length, len(made.ranges))]
-    parts += [struct.pack(">HH", *it) for it in made.ranges] + [struct.pack(">hh", *it) for it in made.globals]
+    spell = spelled_set if made.has_lists else spelled_interval
+    parts = [b"ZPCC", bytes([made.version]), made.header, struct.pack(">IH", made.length, len(made.ranges))]
+    parts += [struct.pack(">HH", *it) for it in made.ranges] + [spell(it) for it in made.globals]
     parts.append(struct.pack(">H", len(made.routines)))
-    parts += [struct.pack(">IBhh", at, count, *result) for at, count, result in made.routines]
+    parts += [struct.pack(">IB", at, count) + spell(result) for at, count, result in made.routines]
     parts.append(struct.pack(">I", len(made.instructions)))
     for place, (number, values, slots) in sorted(made.instructions.items()):
         parts.append(struct.pack(">IHB", place, number, len(slots)))
-        parts += [struct.pack(">hh", *it) for it in values + slots]
+        parts += [spell(it) for it in values + slots]
     return b"".join(parts)
+
+
+def spelled_interval(some):
+    return struct.pack(">hh", *some)
+
+
+def spelled_set(some):
+    if isinstance(some, bytes):
+        return some
+    if not is_list(some):
+        return b"\0" + spelled_interval(some)
+    return struct.pack(f">BB{len(some.numbers)}h", 1, len(some.numbers), *some.numbers)
 
 
 # ---- saves

@@ -3,13 +3,14 @@ then mostly all that is wrong with such a certificate."""
 from certificates import Certificate
 from edges import edges_of
 from instructions import Listing, NoInstruction, decode
-from intervals import ALL, single, words_in
+from intervals import ALL, single
 from known import Known
 from rules import finds_slots, has_variables, names_variable
+from sets import both, words_in
 from sites import Site
 from stories import word_at
 
-ROUNDS, MOST_JOINS, MOST_CALLED = 12, 3, 20
+ROUNDS, MOST_JOINS, MOST_GROWN, MOST_CALLED = 12, 3, 6, 20
 
 
 def ranges_of(places):
@@ -22,8 +23,9 @@ def ranges_of(places):
 class Walk:
     """A certificate that grows until it holds what comes of each instruction."""
 
-    def __init__(self, story, frozen=()):
+    def __init__(self, story, version, frozen=()):
         self.story, self.made, self.joins, self.changed = story, Certificate(), {}, False
+        self.made.version = version
         memory = story.memory
         self.made.header, self.made.length = memory[2:4] + memory[0x12:0x18] + memory[0x1C:0x1E], story.length
         self.made.globals = [single(word_at(memory, story.globals + 2 * it)) for it in range(240)]
@@ -46,13 +48,13 @@ class Walk:
         return [value for it in found for is_variable, value in it.operands if not is_variable and 64 <= value < self.story.static]
 
     def join(self, key, old, new):
-        """The least interval with both, or all words where it has grown too often."""
-        both = (min(old[0], new[0]), max(old[1], new[1]))
-        if both == old:
+        """The least set with both, or all words where it has grown too often."""
+        joined = both(old, new) if self.made.has_lists else (min(old[0], new[0]), max(old[1], new[1]))
+        if joined == old:
             return old
         self.changed = True
         self.joins[key] = self.joins.get(key, 0) + 1
-        return both if self.joins[key] <= MOST_JOINS else ALL
+        return joined if self.joins[key] <= (MOST_GROWN if self.made.has_lists else MOST_JOINS) else ALL
 
     def follow(self, place):
         try:
