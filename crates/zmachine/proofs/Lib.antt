@@ -1,0 +1,5 @@
+mod Longer
+mod Going
+mod Course
+mod Walking
+mod Beginning
