@@ -3,3 +3,4 @@ mod Going
 mod Course
 mod Walking
 mod Beginning
+mod Telling

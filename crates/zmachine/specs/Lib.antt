@@ -3,3 +3,4 @@ pub mod Room
 pub mod Rows
 pub mod Lying
 pub mod Opening
+pub mod Machine

@@ -4,6 +4,7 @@
 mod advancing;
 mod copying;
 mod lying;
+mod machine;
 mod opening;
 mod room;
 mod rows;
@@ -12,6 +13,7 @@ mod stepping;
 mod stuck;
 
 pub use lying::Lying;
+pub use machine::Machine;
 pub use opening::opened;
 pub use room::make_room;
 pub use rows::Rows;
