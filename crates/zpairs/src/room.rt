@@ -6,7 +6,7 @@ use crate::frozen::MARK_BYTES;
 use zdomain::Marks;
 use zobj::Property;
 
-/// Room for what is known of a story's properties, some 73 KB. It is made once and filled where it stands: to move it would cost more than
+/// Room for what is known of a story's properties, some 90 KB. It is made once and filled where it stands: to move it would cost more than
 /// all else that is done for a small story.
 #[derive(Drop)]
 pub struct PropertyRoom {
