@@ -32,12 +32,18 @@ def crates():
 
 
 def wrong_bugs():
-    """Each must-fail edit says in its first line what the mistake is, which is its name, at which function it is refused, and by what."""
+    """Each must-fail edit says in its first line what the mistake is, which is its name, at which function of its crate it is refused, and by
+    what."""
+    sources = {crate: "".join(text_of(it) for it in files(rf"^crates/{crate}/src/.*\.rt$")) for crate in crates()}
     for path in files(r"^crates/\w+/edits/\w+\.edit$"):
         name = os.path.basename(path)[: -len(".edit")]
         told = re.fullmatch(r"# (.+): refused at (.*`\w+(?:::\w+)*`.*) by (.+)", text_of(path).partition("\n")[0])
         if not told or told[1].replace("`", "").replace(" ", "_") != name:
             yield f"{path}: its first line doesn't say what the mistake is and what refuses it"
+            continue
+        for place in re.findall(r"`(?:\w+::)*(\w+)`", told[2]):
+            if not re.search(rf"\b(?:fn|const|struct|enum|trait) {place}\b", sources[path.split("/")[1]]):
+                yield f"{path}: it names {place}, which isn't there"
 
 
 def wrong_clauses():
