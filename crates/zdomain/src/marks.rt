@@ -1,6 +1,7 @@
 //! Marks of places.
 
-ghost use Rattle.std.specs.Prelude.{◌≡◌, ◌<◌, ◌*◌, ◌&&◌, ◌||◌, ◌==◌, ℕ, false, not, slice_index_or};
+ghost use Rattle.std.specs.Prelude.{◌≡◌, ◌<◌, ◌+◌, ◌%◌, ◌*◌, ◌&&◌, ◌||◌, ◌==◌, ℕ, false, nat_lt, not, if◌then◌else◌, slice_index_or};
+ghost use Rattle.std.specs.Int.{bit_at};
 ghost use Rattle.zdomain.specs.Marks.{is_marked, rest_of};
 
 use std::marker::Model;
@@ -20,7 +21,7 @@ impl<const BYTES: usize> Model for Marks<BYTES> {
 }
 
 impl<const BYTES: usize> Marks<BYTES> {
-    ghost use Rattle.std.specs.Prelude.{◌≡◌, ◌<◌, ◌*◌, ◌&&◌, ◌||◌, ◌==◌, ℕ, false, not};
+    ghost use Rattle.std.specs.Prelude.{◌≡◌, ◌<◌, ◌+◌, ◌*◌, ◌&&◌, ◌||◌, ◌==◌, ℕ, false, not};
     ghost use Rattle.zdomain.specs.Marks.{is_marked};
 
     /// No marks.
@@ -41,6 +42,15 @@ impl<const BYTES: usize> Marks<BYTES> {
         }
     }
 
+    /// Whether a place and the next one are marked: one look at the two bytes that have their marks.
+    #[inline(always)]
+    pub fn has_both(&self, place: usize) -> bool
+        requires { place + 8 < 8 * BYTES }
+        ensures { result ≡ (is_marked self.now place && is_marked self.now (place + 1)) }
+    {
+        are_both_set(self.bytes[place / 8], self.bytes[place / 8 + 1], place % 8)
+    }
+
     /// Marks a place.
     #[inline(always)]
     pub fn add(&mut self, place: usize)
@@ -49,12 +59,22 @@ impl<const BYTES: usize> Marks<BYTES> {
     {
         self.bytes[place / 8] |= 1 << (place % 8);
     }
+
     /// Makes the marks those of a whole that weren't here.
     pub fn turn_within(&mut self, whole: &Marks<BYTES>)
         ensures { (p : ℕ) → is_marked self.new p ≡ (is_marked whole.now p && not (is_marked self.old p)) }
     {
         turn_within(&mut self.bytes, &whole.bytes);
     }
+}
+
+/// Whether a bit of the first of two bytes is set, and the one above it, which is the lowest of the second where the first has no more.
+#[inline(always)]
+fn are_both_set(first: u8, second: u8, bit: usize) -> bool
+    requires { bit < 8 }
+    ensures { result ≡ ((bit_at first bit == 1) && (bit_at (if nat_lt bit 7 then first else second) ((bit + 1) % 8) == 1)) }
+{
+    (u16::from_le_bytes([first, second]) >> bit) & 3 == 3
 }
 
 /// Makes each byte the bits of one of a whole that it hasn't.

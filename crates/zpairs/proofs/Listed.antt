@@ -70,21 +70,13 @@ module _ (told : FrozenStory) (question : PropertyQuestion) (columns : List ℕ)
       ∙ ap (λ (b : Bool). list_all is_exact (row told question x columns) && b) (rest ∙ ap (λ (xs : List ℕ). list_all is_exact (pairs told question xs columns)) (less_one x objects))
       ∙ sym (list_all-append is_exact (row told question x columns) (pairs told question objects columns))
 
-pub by_others : (here others all : Bool) → others ≡ true → (here && others) ≡ all → here ≡ all
-by_others here true all e is = with_true here ∙ is
-  where
-    with_true : (b : Bool) → b ≡ (b && true)
-    with_true true = refl
-    with_true false = refl
-by_others here false all e is = absurd cc
+pub by_first : (here others all : Bool) → here ≡ true → (here && others) ≡ all → others ≡ all
+by_first true others all e is = is
+by_first false others all e is = absurd cc
 
-pub not_others : (here others all : Bool) → others ≡ false → (here && others) ≡ all → others ≡ all
-not_others here true all e is = absurd cc
-not_others here false all e is = with_false here ∙ is
-  where
-    with_false : (b : Bool) → false ≡ (b && false)
-    with_false true = refl
-    with_false false = refl
+pub not_first : (here others all : Bool) → here ≡ false → (here && others) ≡ all → here ≡ all
+not_first false others all e is = is
+not_first true others all e is = absurd cc
 
 -- an object that the story hasn't
 pub outside_row : (told : FrozenStory) (question : PropertyQuestion) (x : ℕ) (columns : List ℕ) (g : Gathering) → (x < 1) ⊎ (told.story.objects < x) → g ≡ with_words (map word_of (row told question x columns)) g

@@ -21,3 +21,6 @@ pub record AreMarked (ranges : List Range) (marks : List ℕ) : Type 0 where
 pub record FrozenStory : Type 0 where
   pub story : LoadedStory
   pub ranges : List Range
+
+abbrev pub told_by : LoadedStory → List Range → FrozenStory
+told_by story ranges = record { story = story; ranges = ranges }

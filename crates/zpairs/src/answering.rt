@@ -6,19 +6,22 @@ ghost use Rattle.zpairs.specs.Pairs.{hull, is_asked, may_exceed, may_have};
 use crate::blocks::BLOCK_LENGTH;
 use crate::columns::{NUMBERS, add_columns, column};
 use crate::ends::Ends;
+use crate::finding::answer_ends;
+use crate::marked::Marked;
 use crate::properties::Properties;
 use crate::told::members;
 use zdomain::{Domain, Gathered, turned};
 use zobj::PropertyQuestion;
 
 impl<'a> Properties<'a> {
-    ghost use Rattle.std.specs.Prelude.{◌≡◌, ◌≤◌, ◌<◌, ◌+◌, nat_lt, if◌then◌else◌, map};
+    ghost use Rattle.std.specs.Prelude.{◌≡◌, ◌≤◌, ◌<◌, ◌+◌, IsTrue, nat_lt, if◌then◌else◌, map};
     ghost use Rattle.std.specs.List.{list_all};
     ghost use Rattle.zdomain.specs.Few.{with_words};
     ghost use Rattle.zpairs.specs.Members.{members};
     ghost use Rattle.zpairs.specs.Blocks.{block_ends, row_end};
     ghost use Rattle.zpairs.specs.Ends.{no_word};
     ghost use Rattle.zpairs.specs.Pairs.{all_ends, between_ends, column_words, columns, ends_below, ends_of, is_exact, known_answers, number_ends, object_ends, pair_ends, pairs, row, told_words, word_of, words_if};
+    ghost use Rattle.zpairs.specs.Frozen.{told_by};
 
     /// Values, or addresses: the words themselves, where they are told, and else those from the least to the greatest of two hulls, by their
     /// signed readings.
@@ -86,15 +89,16 @@ impl<'a> Properties<'a> {
         ensures { result ≡ words_if V.operations (pairs self.now question objects.now columns.now) }
     {
         let mut all = Gathered::none();
-        if self.add_pairs(&mut all, question, objects, columns) {
+        if self.add_answers(&mut all, question, objects, columns) {
             Some(V::packed(&all))
         } else {
             None
         }
     }
 
-    /// Adds the least that each pair answers, and tells whether each answers one word.
-    fn add_pairs(
+    /// Adds what each pair answers, as far as each answers one word, and tells whether all do. What a value is has a loop of its own, in which
+    /// nothing asks which question it is.
+    fn add_answers(
         &self,
         all: &mut Gathered,
         question: PropertyQuestion,
@@ -102,52 +106,87 @@ impl<'a> Properties<'a> {
         columns: &[u16],
     ) -> bool
         ensures exact { result ≡ list_all is_exact (pairs self.now question objects.now columns.now) }
-        ensures words { all.new ≡ with_words (map word_of (pairs self.now question objects.now columns.now)) all.old }
+        ensures words { IsTrue result → all.new ≡ with_words (map word_of (pairs self.now question objects.now columns.now)) all.old }
+    {
+        let marked = self.marked();
+        match question {
+            PropertyQuestion::Value => {
+                self.add_pairs(all, &marked, PropertyQuestion::Value, objects, columns)
+            }
+            PropertyQuestion::Address | PropertyQuestion::Next => {
+                self.add_pairs(all, &marked, question, objects, columns)
+            }
+        }
+    }
+
+    /// The same, object by object.
+    #[inline(always)]
+    fn add_pairs(
+        &self,
+        all: &mut Gathered,
+        marked: &Marked<'_>,
+        question: PropertyQuestion,
+        objects: &[u16],
+        columns: &[u16],
+    ) -> bool
+        requires { told_by marked.now.story.now marked.now.ranges.now ≡ self.now }
+        ensures exact { result ≡ list_all is_exact (pairs self.now question objects.now columns.now) }
+        ensures words { IsTrue result → all.new ≡ with_words (map word_of (pairs self.now question objects.now columns.now)) all.old }
     {
         let [first, rest @ ..] = objects else {
             return true;
         };
-        let exact = self.add_row(all, question, *first, columns);
-        self.add_pairs(all, question, rest, columns) && exact
+        self.add_row(all, marked, question, *first, columns)
+            && self.add_pairs(all, marked, question, rest, columns)
     }
 
     /// The same of one object, if the story has it.
+    #[inline(always)]
     fn add_row(
         &self,
         all: &mut Gathered,
+        marked: &Marked<'_>,
         question: PropertyQuestion,
         object: u16,
         columns: &[u16],
     ) -> bool
+        requires { told_by marked.now.story.now marked.now.ranges.now ≡ self.now }
         ensures exact { result ≡ list_all is_exact (row self.now question object columns.now) }
-        ensures words { all.new ≡ with_words (map word_of (row self.now question object columns.now)) all.old }
+        ensures words { IsTrue result → all.new ≡ with_words (map word_of (row self.now question object columns.now)) all.old }
     {
-        if 1 <= object && object <= u16::from(self.story.objects()) {
-            self.add_ends(all, question, object as u8, columns)
+        if 1 <= object && object <= u16::from(marked.story.objects()) {
+            self.add_ends(all, marked, question, object as u8, columns)
         } else {
             true
         }
     }
 
     /// The same of an object of the story.
+    #[inline(always)]
     fn add_ends(
         &self,
         all: &mut Gathered,
+        marked: &Marked<'_>,
         question: PropertyQuestion,
         object: u8,
         columns: &[u16],
     ) -> bool
+        requires told { told_by marked.now.story.now marked.now.ranges.now ≡ self.now }
         requires least { 1 ≤ object }
         requires most { object ≤ self.now.story.objects }
         ensures exact { result ≡ list_all is_exact (map (ends_of self.now question object) columns.now) }
-        ensures words { all.new ≡ with_words (map word_of (map (ends_of self.now question object) columns.now)) all.old }
+        ensures words { IsTrue result → all.new ≡ with_words (map word_of (map (ends_of self.now question object) columns.now)) all.old }
     {
         let [first, rest @ ..] = columns else {
             return true;
         };
-        let ends = self.answer_ends(question, object, column(*first));
+        let number = column(*first);
+        let ends = answer_ends(marked, question, number, self.property(object, number));
+        if ends.least != ends.greatest {
+            return false;
+        }
         all.add(turned(ends.least));
-        self.add_ends(all, question, object, rest) && ends.least == ends.greatest
+        self.add_ends(all, marked, question, object, rest)
     }
 
     /// The ends of what may be answered of objects and numbers of two sets.

@@ -34,7 +34,11 @@ pub(crate) fn object_cell(
     ensures { result ≡ object_cell (record { story = marked.entry.story.now; ranges = marked.entry.ranges.now }) below number }
 {
     if below < usize::from(marked.story.objects()) {
-        cell_of(marked, number, found[COLUMNS * below + usize::from(number)])
+        cell_of(
+            &marked,
+            number,
+            &found[COLUMNS * below + usize::from(number)],
+        )
     } else {
         Cell::NONE
     }

@@ -7,6 +7,7 @@ ghost use Rattle.zpairs.specs.Cells.{asked_values, cell_of, has_none, has_open_d
 ghost use Rattle.zpairs.specs.Pairs.{answer_ends};
 ghost use Rattle.zpairs.specs.Ends.{byte_ends, data_ends, word_ends};
 ghost use Rattle.zpairs.specs.Fixed.{is_closed, is_fixed};
+ghost use Rattle.zpairs.specs.Frozen.{told_by};
 
 use crate::cell::{Cell, Test};
 use crate::ends::Ends;
@@ -14,9 +15,9 @@ use crate::marked::Marked;
 use zobj::{Property, PropertyQuestion, default_word};
 
 /// What is known of an object's property of a number, by the one that it has.
-pub(crate) fn cell_of(marked: Marked<'_>, number: u16, found: Option<Property>) -> Cell
-    requires { IfSome found (IsReadable marked.story.now.memory) }
-    ensures { result ≡ cell_of (is_closed (record { story = marked.entry.story.now; ranges = marked.entry.ranges.now })) (is_fixed (record { story = marked.entry.story.now; ranges = marked.entry.ranges.now })) marked.entry.story.now.memory number found }
+pub(crate) fn cell_of(marked: &Marked<'_>, number: u16, found: &Option<Property>) -> Cell
+    requires { IfSome found.now (IsReadable marked.now.story.now.memory) }
+    ensures { result ≡ cell_of (is_closed (told_by marked.now.story.now marked.now.ranges.now)) (is_fixed (told_by marked.now.story.now marked.now.ranges.now)) marked.now.story.now.memory number found.now }
 {
     Cell {
         has: found.is_some(),
@@ -29,9 +30,9 @@ pub(crate) fn cell_of(marked: Marked<'_>, number: u16, found: Option<Property>) 
 
 /// Whether an object passes a test with a number, by its property of that number: no more is asked of it than the test does.
 #[inline(always)]
-pub(crate) fn passes(marked: Marked<'_>, test: Test, number: u16, found: Option<Property>) -> bool
-    requires { IfSome found (IsReadable marked.story.now.memory) }
-    ensures { result ≡ passes test number (cell_of (is_closed (record { story = marked.entry.story.now; ranges = marked.entry.ranges.now })) (is_fixed (record { story = marked.entry.story.now; ranges = marked.entry.ranges.now })) marked.entry.story.now.memory number found) }
+pub(crate) fn passes(marked: &Marked<'_>, test: Test, number: u16, found: &Option<Property>) -> bool
+    requires { IfSome found.now (IsReadable marked.now.story.now.memory) }
+    ensures { result ≡ passes test number (cell_of (is_closed (told_by marked.now.story.now marked.now.ranges.now)) (is_fixed (told_by marked.now.story.now marked.now.ranges.now)) marked.now.story.now.memory number found.now) }
 {
     match test {
         Test::Answered(PropertyQuestion::Value) => 0 < number && number < 32 && is_short(found),
@@ -45,13 +46,13 @@ pub(crate) fn passes(marked: Marked<'_>, test: Test, number: u16, found: Option<
 /// The ends of what may be answered of an object and a number, by its property of that number.
 #[inline(always)]
 pub(crate) fn answer_ends(
-    marked: Marked<'_>,
+    marked: &Marked<'_>,
     question: PropertyQuestion,
     number: u16,
-    found: Option<Property>,
+    found: &Option<Property>,
 ) -> Ends
-    requires { IfSome found (IsReadable marked.story.now.memory) }
-    ensures { result ≡ answer_ends question (cell_of (is_closed (record { story = marked.entry.story.now; ranges = marked.entry.ranges.now })) (is_fixed (record { story = marked.entry.story.now; ranges = marked.entry.ranges.now })) marked.entry.story.now.memory number found) }
+    requires { IfSome found.now (IsReadable marked.now.story.now.memory) }
+    ensures { result ≡ answer_ends question (cell_of (is_closed (told_by marked.now.story.now marked.now.ranges.now)) (is_fixed (told_by marked.now.story.now marked.now.ranges.now)) marked.now.story.now.memory number found.now) }
 {
     match question {
         PropertyQuestion::Value => asked_values(marked, number, found),
@@ -62,8 +63,8 @@ pub(crate) fn answer_ends(
 
 /// Whether a property, if there is one, has at most two bytes of data.
 #[inline(always)]
-fn is_short(found: Option<Property>) -> bool
-    ensures { result ≡ is_short found }
+fn is_short(found: &Option<Property>) -> bool
+    ensures { result ≡ is_short found.now }
 {
     match found {
         Some(property) => property.length <= 2,
@@ -72,8 +73,8 @@ fn is_short(found: Option<Property>) -> bool
 }
 
 /// The address of a property's data, 0 where there is none.
-pub(crate) fn address_of(found: Option<Property>) -> u16
-    ensures { result ≡ address_of found }
+pub(crate) fn address_of(found: &Option<Property>) -> u16
+    ensures { result ≡ address_of found.now }
 {
     match found {
         Some(property) => property.place,
@@ -82,8 +83,8 @@ pub(crate) fn address_of(found: Option<Property>) -> u16
 }
 
 /// Whether each byte of a property's data is open, if there is one.
-fn has_open_data(marked: Marked<'_>, found: Option<Property>) -> bool
-    ensures { result ≡ has_open_data (is_closed (record { story = marked.entry.story.now; ranges = marked.entry.ranges.now })) found }
+fn has_open_data(marked: &Marked<'_>, found: &Option<Property>) -> bool
+    ensures { result ≡ has_open_data (is_closed (told_by marked.now.story.now marked.now.ranges.now)) found.now }
 {
     match found {
         Some(property) => are_open(marked, usize::from(property.place), property.length),
@@ -93,9 +94,9 @@ fn has_open_data(marked: Marked<'_>, found: Option<Property>) -> bool
 
 /// Whether so many bytes from a place on are open.
 #[tactic(auto, unfolding(crate::specs::Cells::has_none))]
-fn are_open(marked: Marked<'_>, place: usize, size: u8) -> bool
+fn are_open(marked: &Marked<'_>, place: usize, size: u8) -> bool
     requires { place < 65536 }
-    ensures { result ≡ has_none (is_closed (record { story = marked.entry.story.now; ranges = marked.entry.ranges.now })) place size }
+    ensures { result ≡ has_none (is_closed (told_by marked.now.story.now marked.now.ranges.now)) place size }
 {
     let mut free = true;
     for behind in 0..size {
@@ -107,24 +108,24 @@ fn are_open(marked: Marked<'_>, place: usize, size: u8) -> bool
 /// The ends of what the value of a property may be: of no word, where the number isn't that of a property.
 #[tactic(auto, using(crate::proofs::Tables::defaults_there))]
 #[inline(always)]
-fn asked_values(marked: Marked<'_>, number: u16, found: Option<Property>) -> Ends
-    requires { IfSome found (IsReadable marked.story.now.memory) }
-    ensures { result ≡ asked_values (is_fixed (record { story = marked.entry.story.now; ranges = marked.entry.ranges.now })) marked.entry.story.now.memory number found }
+fn asked_values(marked: &Marked<'_>, number: u16, found: &Option<Property>) -> Ends
+    requires { IfSome found.now (IsReadable marked.now.story.now.memory) }
+    ensures { result ≡ asked_values (is_fixed (told_by marked.now.story.now marked.now.ranges.now)) marked.now.story.now.memory number found.now }
 {
     if number == 0 || number >= 32 {
         return Ends::NONE;
     }
     match found {
-        Some(property) => data_ends(marked, property),
+        Some(property) => data_ends(marked, *property),
         None => Ends::exactly(default_word(marked.story.memory(), number)),
     }
 }
 
 /// The ends of what a property's data may be.
 #[inline(always)]
-fn data_ends(marked: Marked<'_>, property: Property) -> Ends
-    requires { IsReadable marked.story.now.memory property }
-    ensures { result ≡ data_ends (is_fixed (record { story = marked.entry.story.now; ranges = marked.entry.ranges.now })) marked.entry.story.now.memory property }
+fn data_ends(marked: &Marked<'_>, property: Property) -> Ends
+    requires { IsReadable marked.now.story.now.memory property }
+    ensures { result ≡ data_ends (is_fixed (told_by marked.now.story.now marked.now.ranges.now)) marked.now.story.now.memory property }
 {
     let place = usize::from(property.place);
     match property.length {
@@ -136,9 +137,9 @@ fn data_ends(marked: Marked<'_>, property: Property) -> Ends
 
 /// Those of a byte.
 #[inline(always)]
-fn byte_ends(marked: Marked<'_>, place: usize) -> Ends
-    requires { place < length marked.story.now.memory }
-    ensures { result ≡ byte_ends (is_fixed (record { story = marked.entry.story.now; ranges = marked.entry.ranges.now })) marked.entry.story.now.memory place }
+fn byte_ends(marked: &Marked<'_>, place: usize) -> Ends
+    requires { place < length marked.now.story.now.memory }
+    ensures { result ≡ byte_ends (is_fixed (told_by marked.now.story.now marked.now.ranges.now)) marked.now.story.now.memory place }
 {
     if !marked.is_fixed(place) {
         return Ends::BYTE;
@@ -148,12 +149,13 @@ fn byte_ends(marked: Marked<'_>, place: usize) -> Ends
 
 /// Those of two bytes.
 #[inline(always)]
-fn word_ends(marked: Marked<'_>, place: usize) -> Ends
-    requires { place + 1 < length marked.story.now.memory }
-    ensures { result ≡ word_ends (is_fixed (record { story = marked.entry.story.now; ranges = marked.entry.ranges.now })) marked.entry.story.now.memory place }
+fn word_ends(marked: &Marked<'_>, place: usize) -> Ends
+    requires small { place < 65536 }
+    requires within { place + 1 < length marked.now.story.now.memory }
+    ensures { result ≡ word_ends (is_fixed (told_by marked.now.story.now marked.now.ranges.now)) marked.now.story.now.memory place }
 {
     let memory = marked.story.memory();
-    if !marked.is_fixed(place) || !marked.is_fixed(place + 1) {
+    if !marked.is_word_fixed(place) {
         return Ends::ANY;
     }
     Ends::exactly(u16::from_be_bytes([memory[place], memory[place + 1]]))

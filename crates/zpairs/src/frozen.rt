@@ -10,8 +10,8 @@ use zdomain::Marks;
 /// How many places ranges can reach.
 pub const PLACES: usize = 65_536;
 
-/// How many bytes have a bit for each of them.
-pub(crate) const MARK_BYTES: usize = 8_192;
+/// How many bytes have a bit for each of them, and for the place behind: so that each place has a next one.
+pub(crate) const MARK_BYTES: usize = 8_193;
 
 /// Marks the places of ranges, and no others. Each place of each range is gone over once.
 pub(crate) fn mark_ranges(marks: &mut Marks<MARK_BYTES>, ranges: &[Range])

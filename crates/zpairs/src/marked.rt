@@ -25,8 +25,9 @@ pub struct Marked<'a> {
 }
 
 impl<'a> Marked<'a> {
-    ghost use Rattle.std.specs.Prelude.{◌≡◌};
+    ghost use Rattle.std.specs.Prelude.{◌≡◌, ◌<◌, ◌+◌, ◌&&◌};
     ghost use Rattle.zpairs.specs.Fixed.{is_closed, is_fixed};
+    ghost use Rattle.zpairs.specs.Frozen.{told_by};
 
     /// Whether the byte at a place is closed, so that no store may write it. All of static memory is.
     #[inline(always)]
@@ -42,5 +43,17 @@ impl<'a> Marked<'a> {
         ensures { result ≡ is_fixed (record { story = self.entry.story.now; ranges = self.entry.ranges.now }) place }
     {
         place >= self.base || self.fixed.has(place)
+    }
+
+    /// Whether no play changes the bytes of the word at a place. One look at the marks tells it where both lie in dynamic memory.
+    #[inline(always)]
+    pub fn is_word_fixed(self, place: usize) -> bool
+        requires { place < 65536 }
+        ensures { result ≡ (is_fixed (told_by self.entry.story.now self.entry.ranges.now) place && is_fixed (told_by self.entry.story.now self.entry.ranges.now) (place + 1)) }
+    {
+        if place + 1 < self.base {
+            return self.fixed.has_both(place);
+        }
+        self.is_fixed(place) && self.is_fixed(place + 1)
     }
 }

@@ -178,7 +178,7 @@ impl<'a> Properties<'a> {
         requires small { number ≤ 32 }
         ensures { result ≡ passes test number (cell_at self.now object number) }
     {
-        passes(self.marked(), test, number, self.property(object, number))
+        passes(&self.marked(), test, number, self.property(object, number))
     }
 
     /// The ends of what it may answer of one.
@@ -190,7 +190,7 @@ impl<'a> Properties<'a> {
         ensures { result ≡ answer_ends question (cell_at self.now object number) }
     {
         answer_ends(
-            self.marked(),
+            &self.marked(),
             question,
             number,
             self.property(object, number),
@@ -199,13 +199,13 @@ impl<'a> Properties<'a> {
 
     /// The first property of an object that has a number.
     #[inline(always)]
-    pub(crate) fn property(&self, object: u8, number: u16) -> Option<Property>
+    pub(crate) fn property(&self, object: u8, number: u16) -> &Option<Property>
         requires least { 1 ≤ object }
         requires most { object ≤ self.now.story.objects }
         requires small { number ≤ 32 }
-        ensures found { result ≡ property_of self.now.story.memory object number }
-        ensures readable { IfSome result (IsReadable self.now.story.memory) }
+        ensures found { result.now ≡ property_of self.now.story.memory object number }
+        ensures readable { IfSome result.now (IsReadable self.now.story.memory) }
     {
-        self.found[COLUMNS * (usize::from(object) - 1) + usize::from(number)]
+        &self.found[COLUMNS * (usize::from(object) - 1) + usize::from(number)]
     }
 }

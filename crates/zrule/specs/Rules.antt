@@ -294,6 +294,10 @@ module _ {V : Type 0} (o : SetOperations V) (claims : Claims V) where
   abbrev pub KnowsAnswers : LoadedStory → Instruction → Shape V → Type 0
   KnowsAnswers story i e = IfSome (demands_at i e).property (λ p. OnTrue (gives_by_property p.asked) (NamesObject story i e × FindsProperty story i e))
 
+  -- it is known what an instruction gives
+  abbrev pub GivesKnown : LoadedStory → Instruction → Shape V → Type 0
+  GivesKnown story i e = Divides i e × Reads story i e × KnowsAnswers story i e
+
   -- ---- the rules on a listed place
 
   -- what a rule asks of an instruction that is there

@@ -17,14 +17,14 @@ ghost use Rattle.zrule.specs.Claims.{claims_of, entry_of, Entry, told_of};
 ghost use Rattle.zobj.specs.Values.{length_before};
 ghost use Rattle.zpairs.specs.Frozen.{frozen_by};
 ghost use Rattle.zruns.specs.Texts.{HasFixedText};
-ghost use Rattle.zrule.specs.Rules.{AreRead, AreWritten, Asks, Divides, FillsOpen, KnowsAnswers, Reads, IsThere, Keeps, IsLowestBroken};
+ghost use Rattle.zrule.specs.Rules.{AreRead, AreWritten, Asks, FillsOpen, GivesKnown, IsThere, Keeps, IsLowestBroken};
 
 use crate::arrays::{reads_elements, takes_line, writes_open};
 use crate::blocks::Blocks;
 use crate::edges::{enters, goes_on, is_low, returns, stores};
 use crate::objects::{names_attribute, names_object};
 use crate::operands::{has_height, has_locals, is_known};
-use crate::properties::{finds_property, knows_answers, puts_open, reads_length};
+use crate::properties::{finds_property, gives_property, knows_answers, puts_open, reads_length};
 use crate::rule::Rule;
 use crate::site::Site;
 use crate::texts::{has_line_object, prints_fixed};
@@ -152,10 +152,7 @@ fn texts_are_fixed(story: &Story)
 fn gives_known<V: Spelled>(site: Site<'_, V>, flow: &Flow<'_, V>) -> bool
     requires tables { site.tables.now ≡ record { story = site.story.now; ranges = site.certificate.now.ranges } }
     requires flow { IsFlow V.operations site.certificate.now.globals (told_of (claims_of V.operations site.certificate.now) site.story.now) site.instruction.now (entry_of (seen site.listed.now)).shape flow.now }
-    ensures divides { IsTrue result → Divides V.operations (claims_of V.operations site.entry.certificate.now) site.entry.instruction.now (entry_of (seen site.entry.listed.now)).shape }
-    ensures reads { IsTrue result → Reads V.operations (claims_of V.operations site.entry.certificate.now) site.entry.story.now site.entry.instruction.now (entry_of (seen site.entry.listed.now)).shape }
-    ensures knows { IsTrue result → KnowsAnswers V.operations (claims_of V.operations site.entry.certificate.now) site.entry.story.now site.entry.instruction.now (entry_of (seen site.entry.listed.now)).shape }
-    ensures none { result ≡ false → Divides V.operations (claims_of V.operations site.entry.certificate.now) site.entry.instruction.now (entry_of (seen site.entry.listed.now)).shape → Reads V.operations (claims_of V.operations site.entry.certificate.now) site.entry.story.now site.entry.instruction.now (entry_of (seen site.entry.listed.now)).shape → KnowsAnswers V.operations (claims_of V.operations site.entry.certificate.now) site.entry.story.now site.entry.instruction.now (entry_of (seen site.entry.listed.now)).shape → ⊥ }
+    ensures { IsTrue result ↔ GivesKnown V.operations (claims_of V.operations site.entry.certificate.now) site.entry.story.now site.entry.instruction.now (entry_of (seen site.entry.listed.now)).shape }
 {
     let demands = &flow.demands;
     if !divides(demands) {
@@ -169,15 +166,16 @@ fn gives_known<V: Spelled>(site: Site<'_, V>, flow: &Flow<'_, V>) -> bool
 
 /// Whether each edge of an instruction that is there leads on, as far as that is asked: not where it isn't known what the instruction
 /// gives, or what it calls doesn't begin as is said.
-fn has_successors<V: Spelled>(site: Site<'_, V>, flow: &Flow<'_, V>) -> bool
+fn has_successors<V: Spelled>(site: Site<'_, V>, flow: &Flow<'_, V>, known: bool) -> bool
     requires there { IsThere site.story.now site.listed.now.address site.instruction.now }
     requires near { site.listed.now.address + site.instruction.now.size ≤ 131072 }
     requires tables { site.tables.now ≡ record { story = site.story.now; ranges = site.certificate.now.ranges } }
     requires flow { IsFlow V.operations site.certificate.now.globals (told_of (claims_of V.operations site.certificate.now) site.story.now) site.instruction.now (entry_of (seen site.listed.now)).shape flow.now }
     requires told { IfSome site.blocks (λ b. AreBlocks V.operations (claims_of V.operations site.certificate.now) site.story.now b.now) }
+    requires known { IsTrue known ↔ GivesKnown V.operations (claims_of V.operations site.certificate.now) site.story.now site.instruction.now (entry_of (seen site.listed.now)).shape }
     ensures { IsTrue result ↔ Asks V.operations (claims_of V.operations site.entry.certificate.now) site.entry.story.now site.entry.listed.now.address (entry_of (seen site.entry.listed.now)) site.entry.instruction.now Successor }
 {
-    if !gives_known(site, flow) {
+    if !known {
         return true;
     }
     if !edges_keep(site, flow, Rule::Called) {
@@ -186,13 +184,15 @@ fn has_successors<V: Spelled>(site: Site<'_, V>, flow: &Flow<'_, V>) -> bool
     flow.demands.certain && edges_keep(site, flow, Rule::Successor)
 }
 
-/// Whether an instruction that is there does what a rule asks of it.
-fn asks<V: Spelled>(site: Site<'_, V>, flow: &Flow<'_, V>, rule: Rule) -> bool
+/// Whether an instruction that is there does what a rule asks of it. `known` says whether it is known what it gives, so that of loads and
+/// properties nothing is asked twice.
+fn asks<V: Spelled>(site: Site<'_, V>, flow: &Flow<'_, V>, known: bool, rule: Rule) -> bool
     requires there { IsThere site.story.now site.listed.now.address site.instruction.now }
     requires near { site.listed.now.address + site.instruction.now.size ≤ 131072 }
     requires tables { site.tables.now ≡ record { story = site.story.now; ranges = site.certificate.now.ranges } }
     requires flow { IsFlow V.operations site.certificate.now.globals (told_of (claims_of V.operations site.certificate.now) site.story.now) site.instruction.now (entry_of (seen site.listed.now)).shape flow.now }
     requires told { IfSome site.blocks (λ b. AreBlocks V.operations (claims_of V.operations site.certificate.now) site.story.now b.now) }
+    requires known { IsTrue known ↔ GivesKnown V.operations (claims_of V.operations site.certificate.now) site.story.now site.instruction.now (entry_of (seen site.listed.now)).shape }
     ensures { IsTrue result ↔ Asks V.operations (claims_of V.operations site.entry.certificate.now) site.entry.story.now site.entry.listed.now.address (entry_of (seen site.entry.listed.now)) site.entry.instruction.now rule }
 {
     let Site {
@@ -215,13 +215,15 @@ fn asks<V: Spelled>(site: Site<'_, V>, flow: &Flow<'_, V>, rule: Rule) -> bool
             !is_known(certificate, listed, instruction, demands)
                 || has_locals(certificate, listed, instruction, demands)
         }
-        Rule::Successor => has_successors(site, flow),
+        Rule::Successor => has_successors(site, flow, known),
         Rule::Object => names_object(story, demands),
         Rule::Attribute => names_attribute(demands),
-        Rule::Property => finds_property(site.tables.properties(), demands),
-        Rule::Divisor => divides(demands),
+        Rule::Property => {
+            (known && gives_property(demands)) || finds_property(site.tables.properties(), demands)
+        }
+        Rule::Divisor => known || divides(demands),
         Rule::Write => writes(site.tables, demands),
-        Rule::Read => reads(story, demands),
+        Rule::Read => known || reads(story, demands),
         Rule::Text => {
             texts_are_fixed(story);
             prints_fixed(site.tables, demands)
@@ -237,15 +239,16 @@ fn asks<V: Spelled>(site: Site<'_, V>, flow: &Flow<'_, V>, rule: Rule) -> bool
 }
 
 /// Whether a place where an instruction is keeps a rule.
-fn keeps<V: Spelled>(site: Site<'_, V>, flow: &Flow<'_, V>, rule: Rule) -> bool
+fn keeps<V: Spelled>(site: Site<'_, V>, flow: &Flow<'_, V>, known: bool, rule: Rule) -> bool
     requires there { IsThere site.story.now site.listed.now.address site.instruction.now }
     requires near { site.listed.now.address + site.instruction.now.size ≤ 131072 }
     requires tables { site.tables.now ≡ record { story = site.story.now; ranges = site.certificate.now.ranges } }
     requires flow { IsFlow V.operations site.certificate.now.globals (told_of (claims_of V.operations site.certificate.now) site.story.now) site.instruction.now (entry_of (seen site.listed.now)).shape flow.now }
     requires told { IfSome site.blocks (λ b. AreBlocks V.operations (claims_of V.operations site.certificate.now) site.story.now b.now) }
+    requires known { IsTrue known ↔ GivesKnown V.operations (claims_of V.operations site.certificate.now) site.story.now site.instruction.now (entry_of (seen site.listed.now)).shape }
     ensures { IsTrue result ↔ Keeps V.operations (claims_of V.operations site.entry.certificate.now) site.entry.story.now site.entry.listed.now.address (entry_of (seen site.entry.listed.now)) rule }
 {
-    asks(site, flow, rule)
+    asks(site, flow, known, rule)
 }
 
 /// The lowest rule that an instruction breaks of those that are asked where one is, and `None` where it keeps all (own).
@@ -258,8 +261,9 @@ fn first_broken<V: Spelled>(site: Site<'_, V>, flow: &Flow<'_, V>) -> Option<Rul
     ensures kept { IfNone result ((rule : ARule) → Keeps V.operations (claims_of V.operations site.entry.certificate.now) site.entry.story.now site.entry.listed.now.address (entry_of (seen site.entry.listed.now)) rule) }
     ensures broken { IfSome result (IsLowestBroken V.operations (claims_of V.operations site.entry.certificate.now) site.entry.story.now site.entry.listed.now.address (entry_of (seen site.entry.listed.now))) }
 {
+    let known = gives_known(site, flow);
     for rule in RULES {
-        if !keeps(site, flow, rule) {
+        if !keeps(site, flow, known, rule) {
             return Some(rule);
         }
     }

@@ -1,6 +1,6 @@
 //! What rules ask of properties of objects.
 
-ghost use Rattle.std.specs.Prelude.{◌≡◌, ◌↔◌, ℕ, IfSome, IsTrue, is_some};
+ghost use Rattle.std.specs.Prelude.{◌≡◌, ◌↔◌, ℕ, false, IfSome, IsTrue, MatchOption, is_some};
 ghost use Rattle.std.specs.Bool.{OnTrue};
 ghost use Rattle.zdomain.specs.Domain.{In};
 ghost use Rattle.zobj.specs.Values.{length_before};
@@ -85,13 +85,18 @@ fn lie_behind_bytes<V: Spelled>(story: &Story, set: V) -> bool
 pub(crate) fn knows_answers<V: Spelled>(properties: &Properties<'_>, demands: &Demands<V>) -> bool
     ensures { IsTrue result ↔ IfSome demands.now.property (λ p. OnTrue (gives_by_property p.asked) ((IfSome demands.now.object (AreObjects V.operations properties.now.story) × IfSome demands.now.under (AreObjects V.operations properties.now.story)) × IfSome demands.now.property (λ q. Finds V.operations properties.now.story q.asked q.objects q.numbers))) }
 {
-    let Some(pairs) = demands.property else {
-        return true;
-    };
-    if !gives_by_property(pairs.asked) {
-        return true;
+    !gives_property(demands)
+        || (names_object(properties.story(), demands) && finds_property(properties, demands))
+}
+
+/// Whether what is given is what is found of a property, if one is asked for.
+pub(crate) fn gives_property<V: Spelled>(demands: &Demands<V>) -> bool
+    ensures { MatchOption demands.now.property (result ≡ false) (λ p. result ≡ gives_by_property p.asked) }
+{
+    match demands.property {
+        Some(pairs) => gives_by_property(pairs.asked),
+        None => false,
     }
-    names_object(properties.story(), demands) && finds_property(properties, demands)
 }
 
 /// Whether what is given is what is found of a property.

@@ -1,5 +1,5 @@
 -- What is known of runs, piece by piece.
-use Rattle.std.proofs.Common.{◌≡◌, ◌↔◌, ◌⊎◌, inl, inr, ℕ, zero, suc, ◌+◌, ◌-◌, ◌*◌, ◌<◌, ◌≤◌, min, Bool, true, false, ◌&&◌, not, Option, Some, None, List, length, refl, sym, subst, ap, ◌∙◌, arith}
+use Rattle.std.proofs.Common.{◌≡◌, ◌↔◌, ◌⊎◌, inl, inr, ℕ, zero, suc, ◌+◌, ◌-◌, ◌*◌, ◌<◌, ◌≤◌, min, Bool, true, false, ◌&&◌, not, Option, Some, None, List, [], ◌∷◌, length, refl, sym, subst, ap, ◌∙◌, arith}
 use Rattle.std.specs.Prelude.{IsTrue, nat_le, slice_index_or, slice_set}
 use Rattle.std.specs.List.{list_all}
 use Rattle.std.proofs.lemmas.Bool.{cases_lt, and_parts, and_from, le-leb, leb-true}
@@ -297,6 +297,15 @@ ends_by run greatest size taken end low few most long = let same = readable_wher
   λ each. let below = same.0 each in le-leb (greatest + taken) end (omega (arith, below, most, long)),
 )
 
+by_last : (size end last p : ℕ) → last + size ≡ end → nat_le p last ≡ nat_le (p + size) end
+by_last size end last p same = grind (arith, same)
+
+all_by_last : (size end last : ℕ) → last + size ≡ end → (places : List ℕ) → list_all (λ p. nat_le p last) places ≡ list_all (λ p. nat_le (p + size) end) places
+all_by_last size end last same [] = refl
+all_by_last size end last same (p ∷ places) =
+    ap (λ (b : Bool). b && list_all (λ q. nat_le q last) places) (by_last size end last p same)
+    ∙ ap (λ (b : Bool). nat_le (p + size) end && b) (all_by_last size end last same places)
+
 module _ (width : Width) where
   sums_end : (end : ℕ) (arrays indices : List ℕ) → IsTrue (list_all (λ p. nat_le (p + span width) end) (sums width arrays indices)) ↔ EachSum width arrays indices (λ p. p + span width ≤ end)
   sums_end end arrays indices = let all = each_sum width arrays indices (λ p. nat_le (p + span width) end) in (
@@ -304,7 +313,7 @@ module _ (width : Width) where
     λ each. all.1 (λ a i of_arrays of_indices. le-leb (place_of width a i + span width) end (each a i of_arrays of_indices)),
   )
 
-  pub end_by_sums : (end last : ℕ) (run : Run) (all : Option (List ℕ × List ℕ)) (few others xs ys : List ℕ) (result : Bool) → all ≡ Some (few, others) → xs ≡ few → ys ≡ others → last ≡ end → result ≡ list_all (λ p. nat_le (p + span width) last) (sums width xs ys) → IsTrue result ↔ EachOf width run all (λ p. p + span width ≤ end)
+  pub end_by_sums : (end last : ℕ) (run : Run) (all : Option (List ℕ × List ℕ)) (few others xs ys : List ℕ) (result : Bool) → all ≡ Some (few, others) → xs ≡ few → ys ≡ others → last + span width ≡ end → result ≡ list_all (λ p. nat_le p last) (sums width xs ys) → IsTrue result ↔ EachOf width run all (λ p. p + span width ≤ end)
   end_by_sums end last run all few others xs ys result are first second same is =
-      let lists : result ≡ list_all (λ p. nat_le (p + span width) end) (sums width few others) = is ∙ ap (λ (n : ℕ). list_all (λ p. nat_le (p + span width) n) (sums width xs ys)) same ∙ ap (λ (zs : List ℕ). list_all (λ p. nat_le (p + span width) end) (sums width zs ys)) first ∙ ap (λ (zs : List ℕ). list_all (λ p. nat_le (p + span width) end) (sums width few zs)) second in
+      let lists : result ≡ list_all (λ p. nat_le (p + span width) end) (sums width few others) = is ∙ ap (λ (zs : List ℕ). list_all (λ p. nat_le p last) (sums width zs ys)) first ∙ ap (λ (zs : List ℕ). list_all (λ p. nat_le p last) (sums width few zs)) second ∙ all_by_last (span width) end last same (sums width few others) in
       subst (λ (m : Option (List ℕ × List ℕ)). IsTrue result ↔ EachOf width run m (λ p. p + span width ≤ end)) (sym are) (subst (λ (b : Bool). IsTrue b ↔ EachSum width few others (λ p. p + span width ≤ end)) (sym lists) (sums_end end few others))

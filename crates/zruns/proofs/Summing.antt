@@ -1,16 +1,16 @@
 -- Sums of words of two lists, one by one.
-use Rattle.std.proofs.Common.{◌≡◌, ◌↔◌, ℕ, ◌-◌, ◌<◌, ◌≤◌, Bool, true, ◌&&◌, List, [], ◌∷◌, ◌++◌, length, map, take, drop, get_or, refl, sym, subst, ap, ◌∙◌, arith}
+use Rattle.std.proofs.Common.{◌≡◌, ◌↔◌, ℕ, ◌-◌, ◌<◌, ◌≤◌, Bool, true, false, ◌&&◌, Some, None, List, [], ◌∷◌, ◌++◌, length, map, take, drop, get_or, refl, sym, subst, ap, ◌∙◌, arith}
 use Rattle.std.proofs.Math.Seq.{take-length}
-use Rattle.std.specs.Prelude.{IsTrue}
+use Rattle.std.specs.Prelude.{IsTrue, if◌then◌else◌}
 use Rattle.std.specs.List.{list_all}
 use Rattle.std.proofs.lemmas.Bool.{and_parts, and_from}
 use Rattle.std.proofs.lemmas.List.Folds.{list_all-append}
 use Rattle.zarray.specs.declared.width.Width.{Width}
-use Rattle.zarray.specs.Arrays.{place_of}
+use Rattle.zarray.specs.Arrays.{place_of, value_at}
 use Rattle.zdomain.specs.Few.{is_among, Gathering, with_word, with_words}
 use Rattle.zdomain.specs.FewLaw.{among_cons, among_front, among_behind}
 use Rattle.zdomain.proofs.Gathering.{one_by_one}
-use Rattle.zruns.specs.Runs.{EachSum, sums}
+use Rattle.zruns.specs.Runs.{EachSum, each_byte, fixed_value, sums}
 
 -- ---- lists
 
@@ -98,3 +98,11 @@ row_by_row width f (a ∷ arrays) indices g some =
     ap (λ (xs : List ℕ). with_words (map f (sums width xs indices)) (with_words (map f (map (place_of width a) indices)) g)) (less_one a arrays)
     ∙ sym (one_by_one (map f (map (place_of width a) indices)) (map f (sums width arrays indices)) g)
     ∙ ap (λ (xs : List ℕ). with_words xs g) (sym (map_append f (map (place_of width a) indices) (sums width arrays indices)))
+
+-- what is read where no play changes it
+pub known_value : (fixed : ℕ → Bool) (width : Width) (memory : List ℕ) (p v : ℕ) → Some v ≡ fixed_value fixed width memory p → v ≡ value_at width memory p
+known_value fixed width memory p v = by (each_byte width fixed p)
+  where
+    by : (b : Bool) → Some v ≡ (if b then Some (value_at width memory p) else None) → v ≡ value_at width memory p
+    by true e = cc
+    by false e = absurd cc

@@ -193,8 +193,8 @@ read_of_lists = (refl, refl, refl, refl, refl)
 readable_lists : AreReadable values_operations story Byte (of (0x283 ∷ 0x10 ∷ [])) (values_operations.single 0) × (AreReadable values_operations story Byte (of (0x10 ∷ 0x284 ∷ [])) (values_operations.single 0) → ⊥)
 unfolding between story front tables sums with_words rises_behind last_behind place_in is_scattered words_from
 readable_lists = (
-  (end_by_sums Byte 0x284 0x284 (run_of values_operations Byte (of (0x283 ∷ 0x10 ∷ [])) (values_operations.single 0)) _ (0x10 ∷ 0x283 ∷ []) (0 ∷ []) (0x10 ∷ 0x283 ∷ []) (0 ∷ []) true refl refl refl refl refl).0 refl,
-  λ are. none_yes _ refl ((end_by_sums Byte 0x284 0x284 (run_of values_operations Byte (of (0x10 ∷ 0x284 ∷ [])) (values_operations.single 0)) _ (0x10 ∷ 0x284 ∷ []) (0 ∷ []) (0x10 ∷ 0x284 ∷ []) (0 ∷ []) false refl refl refl refl refl).1 are),
+  (end_by_sums Byte 0x284 0x283 (run_of values_operations Byte (of (0x283 ∷ 0x10 ∷ [])) (values_operations.single 0)) _ (0x10 ∷ 0x283 ∷ []) (0 ∷ []) (0x10 ∷ 0x283 ∷ []) (0 ∷ []) true refl refl refl refl refl).0 refl,
+  λ are. none_yes _ refl ((end_by_sums Byte 0x284 0x283 (run_of values_operations Byte (of (0x10 ∷ 0x284 ∷ [])) (values_operations.single 0)) _ (0x10 ∷ 0x284 ∷ []) (0 ∷ []) (0x10 ∷ 0x284 ∷ []) (0 ∷ []) false refl refl refl refl refl).1 are),
 )
 
 -- the property's data and the word at 0x270, between which bytes are closed; not with one of these

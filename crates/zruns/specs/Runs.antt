@@ -78,6 +78,10 @@ abbrev pub each_byte : Width → (ℕ → Bool) → ℕ → Bool
 each_byte Byte holds p = holds p
 each_byte Word holds p = holds p && holds (p + 1)
 
+-- the element at a place, if no play changes a byte of it
+abbrev pub fixed_value : (ℕ → Bool) → Width → List ℕ → ℕ → Option ℕ
+fixed_value fixed width memory p = if each_byte width fixed p then Some (value_at width memory p) else None
+
 abbrev pub cell_at : FrozenStory → Width → ℕ → Cell
 cell_at told width p = record {
   is_open = each_byte width (λ q. not (is_closed told q)) p;

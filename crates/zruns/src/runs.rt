@@ -11,7 +11,7 @@ use crate::element::byte_at;
 use crate::piece::piece_cell;
 use crate::room::RunRoom;
 use crate::run::Run;
-use crate::sums::{add_sums, are_sums_open, end_sums_by};
+use crate::sums::{add_sums, are_sums_open, begin_sums_by};
 use std::marker::Model;
 use zarray::Width;
 use zdomain::{Domain, Gathered, turned};
@@ -286,9 +286,21 @@ pub fn are_readable<V: Domain>(story: &Story, width: Width, arrays: V, indices: 
 {
     let end = story.length().min(PLACES);
     match members(arrays, indices) {
-        Some((few, others)) => end_sums_by(end as u32, width, few.as_slice(), others.as_slice()),
+        Some((few, others)) => {
+            let last = last_place(end, width);
+            begin_sums_by(last, width, few.as_slice(), others.as_slice())
+        }
         None => ends_run_by(end, width, Run::of(width, arrays, indices)),
     }
+}
+
+/// The last place at which an element may begin, so that it ends no later than another.
+fn last_place(end: usize, width: Width) -> u16
+    requires least { 2 ≤ end }
+    requires greatest { end ≤ 65536 }
+    ensures { result + span width ≡ end }
+{
+    (end - usize::from(width.span())) as u16
 }
 
 /// Whether each element of a run ends no later than a place.

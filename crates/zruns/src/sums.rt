@@ -1,13 +1,14 @@
 //! What is known of the elements at each array of one list and each index of another.
 
-ghost use Rattle.std.specs.Prelude.{◌≡◌, ◌+◌, ◌≤◌, ◌&&◌, map, nat_le, not, IsTrue};
+ghost use Rattle.std.specs.Prelude.{◌≡◌, ◌+◌, ◌≤◌, ◌&&◌, length, map, nat_le, not, IsTrue};
 ghost use Rattle.std.specs.List.{list_all};
+ghost use Rattle.zstory.specs.LoadedStory.{static_base};
 ghost use Rattle.zarray.specs.Arrays.{place_of, span, value_at};
 ghost use Rattle.zdomain.specs.Few.{with_words};
 ghost use Rattle.zpairs.specs.Fixed.{is_closed, is_fixed};
 ghost use Rattle.zruns.specs.Runs.{each_byte, sums};
 
-use crate::element::{are_fixed, are_open, value_at};
+use crate::element::{are_open, fixed_value};
 use zarray::Width;
 use zdomain::Gathered;
 use zpairs::Marked;
@@ -56,40 +57,41 @@ fn is_row_open(marked: &Marked<'_>, width: Width, array: u16, indices: &[u16]) -
     }
 }
 
-/// Whether each of them ends no later than a place. Each width has a loop of its own, in which nothing asks which it is.
-pub(crate) fn end_sums_by(end: u32, width: Width, arrays: &[u16], indices: &[u16]) -> bool
-    ensures { result ≡ list_all (λ p. nat_le (p + span width) end) (sums width arrays.now indices.now) }
+/// Whether each of them begins no later than a place. Each width has a loop of its own, in which nothing asks which it is.
+pub(crate) fn begin_sums_by(last: u16, width: Width, arrays: &[u16], indices: &[u16]) -> bool
+    ensures { result ≡ list_all (λ p. nat_le p last) (sums width arrays.now indices.now) }
 {
     match width {
-        Width::Byte => end_rows_by(end, Width::Byte, arrays, indices),
-        Width::Word => end_rows_by(end, Width::Word, arrays, indices),
+        Width::Byte => begin_rows_by(last, Width::Byte, arrays, indices),
+        Width::Word => begin_rows_by(last, Width::Word, arrays, indices),
     }
 }
 
 /// The same, array by array.
 #[tactic(auto, unfolding(crate::specs::Runs::sums), using(crate::proofs::Summing::all_append))]
 #[inline(always)]
-fn end_rows_by(end: u32, width: Width, arrays: &[u16], indices: &[u16]) -> bool
-    ensures { result ≡ list_all (λ p. nat_le (p + span width) end) (sums width arrays.now indices.now) }
+fn begin_rows_by(last: u16, width: Width, arrays: &[u16], indices: &[u16]) -> bool
+    ensures { result ≡ list_all (λ p. nat_le p last) (sums width arrays.now indices.now) }
 {
     match arrays {
         [] => true,
         [first, rest @ ..] => {
-            ends_row_by(true, end, width, *first, indices) && end_rows_by(end, width, rest, indices)
+            begins_row_by(true, last, width, *first, indices)
+                && begin_rows_by(last, width, rest, indices)
         }
     }
 }
 
-/// Whether something holds and each of those of one array does. All are gone over, without a way out, so that several take one step.
+/// Whether something holds and each of those of one array does. All are gone over, without a way out, so that eight take one step.
 #[inline(always)]
-fn ends_row_by(so_far: bool, end: u32, width: Width, array: u16, indices: &[u16]) -> bool
-    ensures { result ≡ (so_far && list_all (λ p. nat_le (p + span width) end) (map (place_of width array) indices.now)) }
+fn begins_row_by(so_far: bool, last: u16, width: Width, array: u16, indices: &[u16]) -> bool
+    ensures { result ≡ (so_far && list_all (λ p. nat_le p last) (map (place_of width array) indices.now)) }
 {
     match indices {
         [] => so_far,
         [first, rest @ ..] => {
-            let ends = u32::from(width.place(array, *first)) + u32::from(width.span()) <= end;
-            ends_row_by(so_far && ends, end, width, array, rest)
+            let begins = width.place(array, *first) <= last;
+            begins_row_by(so_far && begins, last, width, array, rest)
         }
     }
 }
@@ -104,6 +106,7 @@ pub(crate) fn add_sums(
     arrays: &[u16],
     indices: &[u16],
 ) -> bool
+    requires { static_base marked.now.story.now ≤ length memory.now }
     ensures fixed { result ≡ list_all (each_byte width (is_fixed (record { story = marked.now.story.now; ranges = marked.now.ranges.now }))) (sums width arrays.now indices.now) }
     ensures words { IsTrue result → all.new ≡ with_words (map (value_at width memory.now) (sums width arrays.now indices.now)) all.old }
 {
@@ -124,6 +127,7 @@ fn add_rows(
     arrays: &[u16],
     indices: &[u16],
 ) -> bool
+    requires { static_base marked.now.story.now ≤ length memory.now }
     ensures fixed { result ≡ list_all (each_byte width (is_fixed (record { story = marked.now.story.now; ranges = marked.now.ranges.now }))) (sums width arrays.now indices.now) }
     ensures words { IsTrue result → all.new ≡ with_words (map (value_at width memory.now) (sums width arrays.now indices.now)) all.old }
 {
@@ -146,6 +150,7 @@ fn add_row(
     array: u16,
     indices: &[u16],
 ) -> bool
+    requires { static_base marked.now.story.now ≤ length memory.now }
     ensures fixed { result ≡ list_all (each_byte width (is_fixed (record { story = marked.now.story.now; ranges = marked.now.ranges.now }))) (map (place_of width array) indices.now) }
     ensures words { IsTrue result → all.new ≡ with_words (map (value_at width memory.now) (map (place_of width array) indices.now)) all.old }
 {
@@ -153,9 +158,9 @@ fn add_row(
         return true;
     };
     let place = usize::from(width.place(array, *first));
-    if !are_fixed(*marked, width, place) {
+    let Some(value) = fixed_value(marked, memory, width, place) else {
         return false;
-    }
-    all.add(value_at(width, memory, place));
+    };
+    all.add(value);
     add_row(all, marked, memory, width, array, rest)
 }

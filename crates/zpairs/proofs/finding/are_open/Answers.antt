@@ -22,7 +22,7 @@ next holds place k now = let more : suc k ≡ k + 1 = omega arith in subst (λ (
 
 pub loop-behind-preserved : goal.loop-behind-preserved
 loop-behind-preserved c =
-    let closed = is_closed (record { story = c.args.marked.story.now; ranges = c.args.marked.ranges.now }) in
+    let closed = is_closed (record { story = c.args.marked.now.story.now; ranges = c.args.marked.now.ranges.now }) in
     next closed c.args.place c.loop-behind.behind c.if-free.free (elim c.if-free.branch [
       | then-free w ↦ one_more closed c.args.place c.loop-behind.behind w.from.result c.loop-behind.free w.is_closed.result c.if-free.free c.loop-behind.invariant w.if-free.true w.from.ensures w.is_closed.ensures w.free-is
       | else-free w ↦ one_before closed c.args.place c.loop-behind.behind c.loop-behind.free c.if-free.free c.loop-behind.invariant w.if-free.false w.free-is
