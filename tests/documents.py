@@ -7,7 +7,8 @@ import os
 import re
 import sys
 
-from believe import differences
+import believe
+import proved
 from definitions import TOP, text_of
 
 
@@ -47,16 +48,22 @@ def wrong_bugs():
 
 
 def wrong_clauses():
-    """docs/PROVED.md: each clause that is named stands in the sources of its crate."""
-    for crate, _, body in sections(text_of("docs/PROVED.md"), "##"):
+    """Each crate has a README.md, the clauses and calls that it names stand in its sources, and docs/PROVED.md is their index."""
+    for crate in crates():
+        path = f"crates/{crate}/README.md"
+        if not os.path.exists(os.path.join(TOP, path)):
+            yield f"{path} isn't there"
+            continue
         sources = "".join(text_of(path) for path in files(rf"^crates/{crate}/src/.*\.rt$"))
-        for call, clauses in re.findall(r"(?m)^\| ([^|]*) \| ([^|]*) \|", body):
+        for call, clauses in proved.rows_of(text_of(path)):
             for clause in re.findall(r"`(\w+)`", clauses):
                 if not re.search(rf"ensures\*? {clause} ", sources) and not re.search(rf"ghost {clause}\b", sources):
-                    yield f"PROVED: {crate} has no clause {clause} of {call}"
+                    yield f"{path}: there is no clause {clause} of {call.strip()}"
             for name in re.findall(r"`(?:\w+::)*(\w+)[`(]", call):
                 if name not in sources:
-                    yield f"PROVED: {crate} has no {name}"
+                    yield f"{path}: there is no {name}"
+    for line in proved.differences():
+        yield f"PROVED: {line}"
 
 
 def wrong_crates():
@@ -102,7 +109,7 @@ def wrong_codes():
             yield f"zexplain: the text of {code} isn't its meaning, its rule and what can be done"
     letters = "".join(sorted({code[0] for code in codes}))
     named = {}
-    for path in [*files(r"^docs/\w+\.md$"), "README.md"]:
+    for path in [*files(r"^(docs|crates/\w+)/\w+\.md$"), "README.md"]:
         if path != "docs/HUNT.md":
             for code in re.findall(rf"\b[{letters}][1-9]\d?\b", text_of(path)):
                 named.setdefault(code, path)
@@ -172,7 +179,7 @@ def wrong_edits():
 
 def wrong_belief():
     """docs/BELIEVE.md is what tests/believe.py writes."""
-    for line in differences():
+    for line in believe.differences():
         yield f"BELIEVE: {line}"
 
 
