@@ -1,0 +1,7 @@
+//! The machine that tests everything, over rows of its story that are made when play first comes to them.
+#![tactic(auto)]
+
+mod machine;
+
+pub use machine::CheckedMachine;
+pub use zlink::Scope;

@@ -1,0 +1,183 @@
+-- A return is a step of the machine's definition.
+use Rattle.std.proofs.Common.{◌≡◌, ℕ, zero, suc, ◌+◌, ◌-◌, ◌<◌, ◌≤◌, Bool, true, false, List, [], ◌∷◌, length, take, Ok, Err, refl, sym, ap, subst, ◌∙◌, arith, if◌then◌else◌, pos}
+use Rattle.std.specs.Prelude.{ℤ, ◌+ℤ◌, ◌==◌}
+use Rattle.zfault.specs.declared.fault.Fault.TheVariants.{AbsentLocal, ReturnFromMain}
+use Rattle.zcode.specs.Instruction.{Instruction}
+use Rattle.zcode.specs.Operation.{operation_of, inputs}
+use Rattle.zstate.specs.declared.halt.Halt.TheVariants as halts
+use Rattle.zstate.specs.State.{Frame, State, at_place, exists, has_room, put, read_operands}
+use Rattle.zstate.specs.Step.{act, admits, came, changed, effect_of, fetch, left, pauses, place_of, returning, settle, step}
+use Rattle.zengine.specs.declared.board.Board.{Board}
+use Rattle.zengine.specs.declared.row.Row.{Row}
+use Rattle.zengine.specs.declared.row.Slot.{Slot}
+use Rattle.zengine.specs.declared.row.Slot.TheVariants.{Local, Global, Constant}
+use Rattle.zengine.specs.declared.row.Spot.{Spot}
+use Rattle.zengine.specs.Body.{Body, base_below, callers_at, frame_at, height_below, result_of, return_index, spot_at, standing}
+use Rattle.zengine.specs.Frames.{AreFrames, IsCalled, landing, row_at}
+use Rattle.zengine.specs.Slots.{is_place, value_of, with_slot}
+use Rattle.zengine.specs.Rows.{IsReturn, result_slot}
+use Rattle.zengine.specs.Play.{Game, IsLow, Made, state_in}
+use Rattle.zengine.specs.View.{body_of}
+use Rattle.zengine.proofs.Words.{callers_front, frame_front, frames_kept}
+use Rattle.zengine.proofs.Reading.{result_absent, result_exists, result_put}
+use Rattle.zengine.proofs.Families as families
+
+-- ---- what is asked of a return
+
+from_main : (limit : ℕ) (i : Instruction) (x : ℕ) (t : State) → t.callers ≡ [] → settle limit i (returning x) t ≡ Err (halts.Fault ReturnFromMain)
+unfolding admits pauses
+from_main limit i x t e = rw e refl
+
+no_variable : (limit : ℕ) (i : Instruction) (x : ℕ) (t : State) (f : Frame) (fs : List Frame) → t.callers ≡ f ∷ fs → exists t.frame.result f ≡ false → settle limit i (returning x) t ≡ Err (halts.Fault AbsentLocal)
+unfolding admits pauses
+no_variable limit i x t f fs e absent = rw e (rw absent refl)
+
+taken : (limit : ℕ) (i : Instruction) (x : ℕ) (t : State) (f : Frame) (fs : List Frame) → t.callers ≡ f ∷ fs → exists t.frame.result f ≡ true → has_room t.frame.result f ≡ true → settle limit i (returning x) t ≡ Ok tt
+unfolding admits pauses
+taken limit i x t f fs e there room = rw e (rw (there, room) refl)
+
+-- where a place is that of a slot, it is the slot's
+pub landing_place : (slot : Slot) (height : ℕ) → is_place slot ≡ true → landing slot height ≡ Ok (slot, height)
+landing_place (Local k) height e = refl
+landing_place (Global p) height e = refl
+landing_place (Constant x) height e = absurd cc
+
+pub landing_none : (slot : Slot) (height : ℕ) → is_place slot ≡ false → landing slot height ≡ Err (halts.Fault AbsentLocal)
+landing_none (Local k) height e = absurd cc
+landing_none (Global p) height e = absurd cc
+landing_none (Constant x) height e = refl
+
+pub place_back : (z : ℤ) (p : ℕ) → z ≡ pos p → pos (place_of z) ≡ z
+place_back z p e = rw e refl
+
+pub less_one : (spot : Spot) (v : ℕ) → height_below spot v ≤ spot.height
+less_one spot v = by (v == 0)
+  where
+    by : (c : Bool) → (if c then spot.height - 1 else spot.height) ≤ spot.height
+    by true = omega arith
+    by false = omega arith
+
+module _ (g : Game) (rows : List Row) (old new : Board) (row : Row) (framed : AreFrames g.setting.story g.spots rows old.above old.base old.words.items) (low : IsLow (spot_at g.spots old.at)) (all_low : (k : ℕ) → IsLow (spot_at g.spots k)) (head : 4 ≤ old.base) (room : old.base + 65536 ≤ length old.words.items) where
+  abbrev spot : Spot
+  spot = spot_at g.spots old.at
+
+  abbrev body : Body
+  body = body_of old
+
+  module _ (a : Slot) (r : IsReturn g.setting g.spots g.callees rows (body_of old).memory (fetch g.setting.scope spot.place body.memory) spot row a) where
+    abbrev x : ℕ
+    x = value_of a body
+
+    abbrev i : Instruction
+    i = r.instruction
+
+    abbrev t : State
+    t = standing g.spots (record { place = spot.place; count = spot.count; height = r.left }) body
+
+    does : effect_of g.setting (operation_of i.opcode) (x ∷ []) t ≡ Ok (returning x)
+    unfolding effect_of
+    does = rw r.operation_is refl
+
+    read : read_operands g.setting.story (inputs i) (state_in g old) ≡ Ok (x ∷ [], t)
+    read = families.read_all g rows old new row framed low head room (inputs r.instruction) (a ∷ []) r.left r.reads
+
+    -- nothing returns from the first frame
+    pub main_stuck : old.above ≡ zero → step g.setting (state_in g old) ≡ Err (halts.Fault ReturnFromMain)
+    unfolding callers_at
+    main_stuck none = families.unsettled g.setting (state_in g old) t i (x ∷ []) r.is read (returning x) (halts.Fault ReturnFromMain) does (from_main g.setting.limit i x t (rw none refl))
+
+    module _ (n : ℕ) (above : old.above ≡ suc n) where
+      abbrev index : ℕ
+      index = return_index old.base old.words.items
+
+      abbrev below : ℕ
+      below = base_below old.base old.words.items
+
+      abbrev result : ℕ
+      result = result_of old.base old.words.items
+
+      abbrev back : Spot
+      back = spot_at g.spots index
+
+      abbrev height : ℕ
+      height = height_below back result
+
+      framed_all : IsCalled g.setting.story g.spots rows old.base below index result × AreFrames g.setting.story g.spots rows n below old.words.items
+      unfolding AreFrames
+      framed_all = subst (λ (k : ℕ). AreFrames g.setting.story g.spots rows k old.base old.words.items) above framed
+
+      pub called : IsCalled g.setting.story g.spots rows old.base below index result
+      called = framed_all.0
+
+      -- the board with the newest frame left
+      abbrev after : Body
+      after = record body { base = below; above = n }
+
+      abbrev caller : Frame
+      caller = frame_at g.spots below back.count height old.words.items
+
+      callers_are : t.callers ≡ caller ∷ callers_at g.spots n below old.words.items
+      unfolding callers_at
+      callers_are =
+          let apart = called.apart in
+          rw above (ap (λ (f : Frame). f ∷ callers_at g.spots n below (take (old.base - 4) old.words.items)) (frame_front g.spots below (old.base - 4) old.words.items called.head back.count height (omega (arith, apart))) ∙ ap (λ (fs : List Frame). caller ∷ fs) (callers_front g.spots below (old.base - 4) old.words.items called.head n (omega (arith, apart))))
+
+      result_is : t.frame.result ≡ result
+      unfolding frame_at
+      result_is = refl
+
+      few : back.count + height ≤ 65531
+      few = let l = less_one back result in let h = all_low index in omega (arith, l, h)
+
+      room_below : below + 65536 ≤ length old.words.items
+      room_below = let apart = called.apart in omega (arith, apart, room)
+
+      pub none_stuck : is_place (row_at rows index).came ≡ false → step g.setting (state_in g old) ≡ Err (halts.Fault AbsentLocal)
+      none_stuck none =
+          let absent : exists result caller ≡ false = result_absent g.setting.story g.spots (pos 0) back.count after called.head room_below result height (halts.Fault AbsentLocal) (omega (arith, few)) (called.lands ∙ landing_none (row_at rows index).came back.height none) in
+          families.unsettled g.setting (state_in g old) t i (x ∷ []) r.is read (returning x) (halts.Fault AbsentLocal) does (no_variable g.setting.limit i x t caller (callers_at g.spots n below old.words.items) callers_are (rw result_is absent))
+
+      -- where the word goes
+      abbrev came_to : Slot
+      came_to = (row_at rows index).came
+
+      lands_there : is_place came_to ≡ true → result_slot g.setting.story back.count result height ≡ Ok (came_to, back.height)
+      lands_there place = called.lands ∙ landing_place came_to back.height place
+
+      framed_after : (slot : Slot) → AreFrames g.setting.story g.spots rows (with_slot slot x after).above (with_slot slot x after).base (with_slot slot x after).words
+      framed_after (Local k) = let h = called.head in frames_kept g.setting.story g.spots rows old.words.items (below + k) x n below (omega (arith, h)) (omega arith) framed_all.1
+      framed_after (Global p) = framed_all.1
+      framed_after (Constant y) = framed_all.1
+
+      -- the caller goes on
+      abbrev resumed : State
+      resumed = standing g.spots (record { place = pos (place_of back.place); count = back.count; height = height }) after
+
+      left_is : left g.setting.story x t.callers (at_place (spot.place +ℤ pos i.size) t) ≡ put g.setting.story result x resumed
+      unfolding frame_at
+      left_is = rw callers_are refl
+
+      acted_is : act g.setting.story i (returning x) t ≡ put g.setting.story result x resumed
+      unfolding act changed
+      acted_is = left_is
+
+      came_is : new.at ≡ index → body_of new ≡ with_slot came_to x after → is_place came_to ≡ true → came g.setting.story i (returning x) t (state_in g old) ≡ state_in g new
+      came_is at is place =
+          families.came_plain g.setting.story i (returning x) t (state_in g old) refl refl
+          ∙ acted_is
+          ∙ result_put g.setting.story g.spots (pos (place_of back.place)) back.count after called.head room_below result height x came_to back.height few (lands_there place)
+          ∙ ap (λ (z : ℤ). standing g.spots (record { place = z; count = back.count; height = back.height }) (with_slot came_to x after)) (place_back back.place called.place called.place_is)
+          ∙ ap (λ (b : Body). standing g.spots back b) (sym is)
+          ∙ ap (λ (k : ℕ). standing g.spots (spot_at g.spots k) (body_of new)) (sym at)
+
+      pub return_made : is_place (row_at rows index).came ≡ true → new.at ≡ index → body_of new ≡ with_slot (row_at rows index).came x after → Made g rows old new
+      return_made place at is = record {
+        is = families.made g.setting (state_in g old) t i (x ∷ []) r.is read (returning x) does settled ∙ ap (λ (s : State). Ok (record { state = s; items = [] })) (came_is at is place);
+        within = subst (λ (k : ℕ). k < length g.spots) (sym at) called.there;
+        size = ap (λ (b : Body). length b.memory) is ∙ families.with_size came_to x after;
+        words = ap (λ (b : Body). length b.words) is ∙ families.slot_words came_to x after;
+        frames = subst (λ (b : Body). AreFrames g.setting.story g.spots rows b.above b.base b.words) (sym is) (framed_after came_to);
+      }
+        where
+          settled : settle g.setting.limit i (returning x) t ≡ Ok tt
+          settled = taken g.setting.limit i x t caller (callers_at g.spots n below old.words.items) callers_are (rw result_is (result_exists g.setting.story g.spots (pos 0) back.count after called.head room_below result height (came_to, back.height) (omega (arith, few)) (lands_there place))) (rw result_is (families.room_for result g.spots below back.count height old.words.items (omega (arith, few))))

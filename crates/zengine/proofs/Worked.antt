@@ -1,0 +1,163 @@
+-- Values of the definitions, computed.
+use Rattle.std.proofs.Common.{pos, ◌≡◌, ℕ, false, List, [], ◌∷◌, ◌++◌, replicate, Some, None, Ok, Err, refl, take, arith}
+use Rattle.zword.specs.declared.binary.BinaryOp.TheVariants as binaries
+use Rattle.zword.specs.declared.count.CountOp.TheVariants as counts
+use Rattle.zfault.specs.declared.fault.Fault.TheVariants.{StackUnderflow, AbsentLocal, BadVariable, ZeroDivisor}
+use Rattle.zcode.specs.declared.opcode.Opcode.TheVariants as opcodes
+use Rattle.zcode.specs.declared.instr.Operand.TheVariants as operands
+use Rattle.zcode.specs.declared.operation.Operation.TheVariants as operations
+use Rattle.zcode.specs.Instruction.{Instruction}
+use Rattle.zcode.specs.Operation.{operation_of}
+use Rattle.zstory.specs.LoadedStory.{LoadedStory}
+use Rattle.zquetzal.specs.Saved.{Frame as SavedFrame}
+use Rattle.zstate.specs.declared.halt.Halt.TheVariants as halts
+use Rattle.zstate.specs.declared.mode.RandomMode.TheVariants.{Words}
+use Rattle.zstate.specs.InTurn.{in_turn}
+use Rattle.zstate.specs.State.{Setting, read_named, read_operand, read_variable, scope_all, put}
+use Rattle.zstate.specs.Step.{laid_over, act, admits, changed, effect_of, pauses}
+use Rattle.zengine.specs.Frames.{AreFrames, IsCalled}
+use Rattle.zengine.specs.Lying.{chain_of}
+use Rattle.zengine.specs.Play.{jumped_by}
+use Rattle.zengine.specs.Resuming.{AreBacks, HaveRows, all_laid, laid_frames, length_laid, newest_laid}
+use Rattle.zengine.specs.declared.doing.Aside.TheVariants as asides
+use Rattle.zengine.specs.declared.doing.Naming.TheVariants as namings
+use Rattle.zengine.specs.declared.row.Callee.{Callee}
+use Rattle.zengine.specs.declared.row.Row.{Row}
+use Rattle.zengine.specs.declared.row.Slot.TheVariants.{Local, Global, Constant}
+use Rattle.zengine.specs.declared.row.Spot.{Spot}
+use Rattle.zengine.specs.declared.row.Action.TheVariants as actions
+use Rattle.zengine.specs.Body.{Body, callers_at, frame_at, standing}
+use Rattle.zengine.specs.Rows.{IsGiving, IsNaming, held_slot, result_slot, slot_of, slots_of, step_by}
+use Rattle.zengine.specs.Slots.{value_of, with_slot}
+
+-- globals begin at 64: 258
+story : LoadedStory
+story = record { memory = replicate 13 0 ++ 64 ∷ replicate 50 0 ++ 1 ∷ 2 ∷ []; objects = 0 }
+
+setting : Setting
+setting = record { story = story; scope = scope_all story; limit = 9 }
+
+-- the first frame's head, and 5 and 6 on its stack; then that of a frame below which it lies 6 words, which returns to row 1 with its
+-- result to the stack and was supplied 1 argument, and has locals 7 and 8, and 9 on its stack
+words : List ℕ
+words = 0 ∷ 0 ∷ 0 ∷ 0 ∷ 5 ∷ 6 ∷ 1 ∷ 0 ∷ 6 ∷ 256 ∷ 7 ∷ 8 ∷ 9 ∷ 0 ∷ []
+
+-- row 1 follows the call; row 2 stands where one word is on the stack of the callee, and row 3 behind it
+spots : List Spot
+spots = record { place = pos 0; count = 0; height = 0 } ∷ record { place = pos 50; count = 0; height = 3 } ∷ record { place = pos 60; count = 2; height = 1 } ∷ record { place = pos 64; count = 2; height = 1 } ∷ []
+
+here : Spot
+here = record { place = pos 60; count = 2; height = 1 }
+
+body : Body
+body = record { words = words; base = 10; above = 1; memory = story.memory; outside = record { random = Words; prompted = false; waiting = None } }
+
+stands : (standing spots here body).frame ≡ record { return_place = 50; result = 0; supplied = 1; locals = 7 ∷ 8 ∷ []; stack = 9 ∷ [] }
+unfolding spots here body words frame_at
+stands = refl
+
+-- the caller has what was on its stack before the call's result
+below : (standing spots here body).callers ≡ record { return_place = 0; result = 0; supplied = 0; locals = []; stack = 6 ∷ 5 ∷ [] } ∷ []
+unfolding spots here body words frame_at callers_at
+below = refl
+
+-- both frames, the newest first
+lying : chain_of spots words 1 (record { base = 10; count = 2; height = 1 }) ≡ record { base = 10; count = 2; height = 1 } ∷ record { base = 4; count = 0; height = 2 } ∷ []
+unfolding spots words chain_of
+lying = refl
+
+-- the oldest returns to no row
+oldest : AreFrames story spots [] 0 4 (65535 ∷ 65535 ∷ 0 ∷ 0 ∷ [])
+unfolding AreFrames
+oldest = refl
+
+-- ---- slots
+
+operands_here : slots_of story 2 (operands.Variable 0 ∷ operands.Variable 2 ∷ operands.Variable 16 ∷ operands.Constant 9 ∷ []) 1 ≡ Ok (Local 2 ∷ Local 1 ∷ Global 64 ∷ Constant 9 ∷ [], 0)
+unfolding in_turn slot_of story
+operands_here = refl
+
+-- the stack has one word, and the frame two locals
+absent : (slots_of story 2 (operands.Variable 0 ∷ operands.Variable 0 ∷ []) 1 ≡ Err (halts.Fault StackUnderflow)) × (slots_of story 2 (operands.Variable 3 ∷ []) 1 ≡ Err (halts.Fault AbsentLocal))
+unfolding in_turn slot_of
+absent = (refl, refl)
+
+results : (result_slot story 2 0 1 ≡ Ok (Local 3, 2)) × (result_slot story 2 2 1 ≡ Ok (Local 1, 1)) × (result_slot story 2 17 1 ≡ Ok (Global 66, 1)) × (result_slot story 2 15 1 ≡ Err (halts.Fault AbsentLocal))
+unfolding result_slot story
+results = (refl, refl, refl, refl)
+
+in_place : (held_slot story 2 0 1 ≡ Ok (Local 2)) × (held_slot story 2 0 0 ≡ Err (halts.Fault StackUnderflow)) × (held_slot story 2 1 0 ≡ Ok (Local 0)) × (held_slot story 2 256 1 ≡ Err (halts.Fault BadVariable))
+unfolding held_slot
+in_place = (refl, refl, refl, refl)
+
+values : (value_of (Local 2) body ≡ 9) × (value_of (Local 0) body ≡ 7) × (value_of (Global 64) body ≡ 258) × (value_of (Constant 3) body ≡ 3)
+unfolding body words story
+values = (refl, refl, refl, refl)
+
+-- ---- a row
+
+-- div sp local 2 -> sp
+div : Instruction
+div = record { opcode = opcodes.Div; operands = operands.Variable 0 ∷ operands.Variable 2 ∷ []; store = Some 0; branch = None; size = 4 }
+
+row : Row
+row = record { action = actions.Binary binaries.Div; a = Local 2; b = Local 1; to = Local 2; target = 0; next = 3; came = Local 2 }
+
+is_row : IsGiving setting spots [] [] story.memory (Ok div) here row (operations.Binary binaries.Div) (Local 2 ∷ Local 1 ∷ []) (Local 2)
+unfolding setting spots here row div operation_of in_turn slot_of result_slot
+is_row = record { instruction = div; is = refl; operation_is = refl; left = 0; reads = refl; height = 1; puts = refl; on = refl }
+
+-- 9 by 8 is 1, and nothing is divided by 0
+steps : step_by setting (Ok div) (standing spots here body) ≡ Ok (record { state = standing spots (record { place = pos 64; count = 2; height = 1 }) (with_slot (Local 2) 1 body); items = [] })
+unfolding setting spots here div body words story step_by operation_of in_turn read_operand read_variable read_named effect_of admits pauses changed act put frame_at callers_at
+steps = refl
+
+halts_there : step_by setting (Ok div) (standing spots here (with_slot (Local 1) 0 body)) ≡ Err (halts.Fault ZeroDivisor)
+unfolding setting spots here div body words story step_by operation_of in_turn read_operand read_variable read_named effect_of frame_at
+halts_there = refl
+
+-- ---- a call and a return
+
+-- so many locals, and the words that they begin with: 3 and 4
+callee : Callee
+callee = record { count = 2; words = 3 ∷ 4 ∷ replicate 14 0 }
+
+-- the first is the argument 9
+laid : (laid_over (9 ∷ []) (take 2 callee.words) ≡ 9 ∷ 4 ∷ []) × (laid_over (9 ∷ 8 ∷ 7 ∷ []) (take 2 callee.words) ≡ 9 ∷ 8 ∷ [])
+unfolding callee laid_over
+laid = (refl, refl)
+
+-- the frame was called from row 1's place, where its result is pushed as the third word
+is_called : IsCalled story spots (row ∷ record row { came = Local 2 } ∷ []) 10 4 1 0
+unfolding spots row result_slot story
+is_called = record { there = omega arith; head = omega arith; apart = omega arith; place = 50; place_is = refl; lands = refl }
+
+-- ---- a save
+
+-- of the two frames above
+frames : List SavedFrame
+frames = record { return_place = 0; result = 0; supplied = 0; locals = []; stack = 5 ∷ 6 ∷ [] } ∷ record { return_place = 50; result = 0; supplied = 1; locals = 7 ∷ 8 ∷ []; stack = 9 ∷ [] } ∷ []
+
+-- it is laid as they lie, but for the oldest, which returns to no row
+words_of_save : (all_laid frames (1 ∷ []) ≡ 65535 ∷ 65535 ∷ 0 ∷ 0 ∷ 5 ∷ 6 ∷ 1 ∷ 0 ∷ 6 ∷ 256 ∷ 7 ∷ 8 ∷ 9 ∷ []) × (length_laid frames ≡ 13) × (newest_laid frames ≡ 10)
+unfolding frames laid_frames
+words_of_save = (refl, refl, refl)
+
+-- the second returns to row 1, and the save stands at row 2
+rows_of_save : HaveRows story spots (row ∷ record row { came = Local 2 } ∷ []) 2 (pos 60) frames (1 ∷ [])
+unfolding spots row story frames AreBacks result_slot
+rows_of_save = (record { leads = refl; lands = refl }, refl)
+
+-- ---- what is named by a value
+
+-- inc [sp]
+inc : Instruction
+inc = record { opcode = opcodes.Inc; operands = operands.Variable 0 ∷ []; store = None; branch = None; size = 2 }
+
+names : IsNaming setting spots [] [] story.memory (Ok inc) here (record row { action = actions.Aside (asides.Named (namings.Count counts.Up) 2 0) }) (namings.Count counts.Up) 2 0
+unfolding setting spots here row inc operation_of in_turn slot_of
+names = record { instruction = inc; is = refl; operation_is = refl; count_is = refl; reads = refl }
+
+-- a jump by -1 from behind the place 60, and by 9
+jumps : (jumped_by (record row { action = actions.JumpBy 2 1; target = 60 }) 65535 ≡ record { place = pos 57; count = 2; height = 1 }) × (jumped_by (record row { action = actions.JumpBy 2 1; target = 60 }) 9 ≡ record { place = pos 67; count = 2; height = 1 })
+jumps = (refl, refl)

@@ -1,0 +1,5 @@
+pub mod Steps
+pub mod Room
+pub mod Rows
+pub mod Machine
+pub mod Resuming
