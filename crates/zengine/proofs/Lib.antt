@@ -2,7 +2,8 @@ pub mod Words
 pub mod Longer
 pub mod Chain
 pub mod Kept
-pub mod Reading
+pub mod Slotted
+mod Reading
 pub mod Families
 pub mod Returns
 pub mod Backs
@@ -15,6 +16,7 @@ pub mod Steps
 pub mod Rarely
 pub mod Shown
 pub mod Titles
+pub mod Changed
 pub mod Outers
 pub mod Heard
 pub mod Tells
@@ -23,6 +25,7 @@ pub mod Restarts
 pub mod Opens
 pub mod Computed
 pub mod Named
+pub mod Judged
 pub mod Laying
 pub mod Going
 mod Worked

@@ -10,7 +10,7 @@ use Rattle.zstate.specs.Step.{act, admits, came, changed, effect_of, fetch, left
 use Rattle.zengine.specs.declared.board.Board.{Board}
 use Rattle.zengine.specs.declared.row.Row.{Row}
 use Rattle.zengine.specs.declared.row.Slot.{Slot}
-use Rattle.zengine.specs.declared.row.Slot.TheVariants.{Local, Global, Constant}
+use Rattle.zengine.specs.declared.row.Slot.TheVariants.{Local, High, Global, Constant}
 use Rattle.zengine.specs.declared.row.Spot.{Spot}
 use Rattle.zengine.specs.Body.{Body, base_below, callers_at, frame_at, height_below, result_of, return_index, spot_at, standing}
 use Rattle.zengine.specs.Frames.{AreFrames, IsCalled, landing, row_at}
@@ -39,11 +39,13 @@ taken limit i x t f fs e there room = rw e (rw (there, room) refl)
 -- where a place is that of a slot, it is the slot's
 pub landing_place : (slot : Slot) (height : ℕ) → is_place slot ≡ true → landing slot height ≡ Ok (slot, height)
 landing_place (Local k) height e = refl
+landing_place (High k) height e = refl
 landing_place (Global p) height e = refl
 landing_place (Constant x) height e = absurd cc
 
 pub landing_none : (slot : Slot) (height : ℕ) → is_place slot ≡ false → landing slot height ≡ Err (halts.Fault AbsentLocal)
 landing_none (Local k) height e = absurd cc
+landing_none (High k) height e = absurd cc
 landing_none (Global p) height e = absurd cc
 landing_none (Constant x) height e = refl
 
@@ -57,7 +59,7 @@ less_one spot v = by (v == 0)
     by true = omega arith
     by false = omega arith
 
-module _ (g : Game) (rows : List Row) (old new : Board) (row : Row) (framed : AreFrames g.setting.story g.spots rows old.above old.base old.words.items) (low : IsLow (spot_at g.spots old.at)) (all_low : (k : ℕ) → IsLow (spot_at g.spots k)) (head : 4 ≤ old.base) (room : old.base + 65536 ≤ length old.words.items) where
+module _ (g : Game) (rows : List Row) (old new : Board) (row : Row) (framed : AreFrames g.setting.story g.spots rows old.above old.base old.words.items) (low : IsLow (spot_at g.spots old.at)) (all_low : (k : ℕ) → IsLow (spot_at g.spots k)) (head : 5 ≤ old.base) (room : old.base + 65551 ≤ length old.words.items) where
   abbrev spot : Spot
   spot = spot_at g.spots old.at
 
@@ -79,7 +81,7 @@ module _ (g : Game) (rows : List Row) (old new : Board) (row : Row) (framed : Ar
     does = rw r.operation_is refl
 
     read : read_operands g.setting.story (inputs i) (state_in g old) ≡ Ok (x ∷ [], t)
-    read = families.read_all g rows old new row framed low head room (inputs r.instruction) (a ∷ []) r.left r.reads
+    read = families.read_all g rows old new row framed all_low head room (inputs r.instruction) (a ∷ []) r.left r.reads
 
     -- nothing returns from the first frame
     pub main_stuck : old.above ≡ zero → step g.setting (state_in g old) ≡ Err (halts.Fault ReturnFromMain)
@@ -120,16 +122,16 @@ module _ (g : Game) (rows : List Row) (old new : Board) (row : Row) (framed : Ar
       unfolding callers_at
       callers_are =
           let apart = called.apart in
-          rw above (ap (λ (f : Frame). f ∷ callers_at g.spots n below (take (old.base - 4) old.words.items)) (frame_front g.spots below (old.base - 4) old.words.items called.head back.count height (omega (arith, apart))) ∙ ap (λ (fs : List Frame). caller ∷ fs) (callers_front g.spots below (old.base - 4) old.words.items called.head n (omega (arith, apart))))
+          rw above (ap (λ (f : Frame). f ∷ callers_at g.spots n below (take (old.base - 5) old.words.items)) (frame_front g.spots below (old.base - 5) old.words.items called.head back.count height (omega (arith, apart))) ∙ ap (λ (fs : List Frame). caller ∷ fs) (callers_front g.spots below (old.base - 5) old.words.items called.head n (omega (arith, apart))))
 
       result_is : t.frame.result ≡ result
       unfolding frame_at
       result_is = refl
 
-      few : back.count + height ≤ 65531
-      few = let l = less_one back result in let h = all_low index in omega (arith, l, h)
+      few : back.count + height ≤ 65550
+      few = let l = less_one back result in let b = all_low index in let c = b.0 in let h = b.1 in omega (arith, l, c, h)
 
-      room_below : below + 65536 ≤ length old.words.items
+      room_below : below + 65551 ≤ length old.words.items
       room_below = let apart = called.apart in omega (arith, apart, room)
 
       pub none_stuck : is_place (row_at rows index).came ≡ false → step g.setting (state_in g old) ≡ Err (halts.Fault AbsentLocal)
@@ -146,6 +148,7 @@ module _ (g : Game) (rows : List Row) (old new : Board) (row : Row) (framed : Ar
 
       framed_after : (slot : Slot) → AreFrames g.setting.story g.spots rows (with_slot slot x after).above (with_slot slot x after).base (with_slot slot x after).words
       framed_after (Local k) = let h = called.head in frames_kept g.setting.story g.spots rows old.words.items (below + k) x n below (omega (arith, h)) (omega arith) framed_all.1
+      framed_after (High k) = let h = called.head in frames_kept g.setting.story g.spots rows old.words.items (below + (65536 + k)) x n below (omega (arith, h)) (omega arith) framed_all.1
       framed_after (Global p) = framed_all.1
       framed_after (Constant y) = framed_all.1
 
@@ -180,4 +183,4 @@ module _ (g : Game) (rows : List Row) (old new : Board) (row : Row) (framed : Ar
       }
         where
           settled : settle g.setting.limit i (returning x) t ≡ Ok tt
-          settled = taken g.setting.limit i x t caller (callers_at g.spots n below old.words.items) callers_are (rw result_is (result_exists g.setting.story g.spots (pos 0) back.count after called.head room_below result height (came_to, back.height) (omega (arith, few)) (lands_there place))) (rw result_is (families.room_for result g.spots below back.count height old.words.items (omega (arith, few))))
+          settled = taken g.setting.limit i x t caller (callers_at g.spots n below old.words.items) callers_are (rw result_is (result_exists g.setting.story g.spots (pos 0) back.count after called.head room_below result height (came_to, back.height) (omega (arith, few)) (lands_there place))) (rw result_is (families.room_for g.setting.story result g.spots below back.count height old.words.items (came_to, back.height) (lands_there place) (all_low index).1))

@@ -23,12 +23,12 @@ use Rattle.zengine.specs.declared.doing.Aside.TheVariants as asides
 use Rattle.zengine.specs.declared.doing.Naming.TheVariants as namings
 use Rattle.zengine.specs.declared.row.Callee.{Callee}
 use Rattle.zengine.specs.declared.row.Row.{Row}
-use Rattle.zengine.specs.declared.row.Slot.TheVariants.{Local, Global, Constant}
+use Rattle.zengine.specs.declared.row.Slot.TheVariants.{Local, High, Global, Constant}
 use Rattle.zengine.specs.declared.row.Spot.{Spot}
 use Rattle.zengine.specs.declared.row.Action.TheVariants as actions
 use Rattle.zengine.specs.Body.{Body, callers_at, frame_at, standing}
 use Rattle.zengine.specs.Rows.{IsGiving, IsNaming, held_slot, result_slot, slot_of, slots_of, step_by}
-use Rattle.zengine.specs.Slots.{value_of, with_slot}
+use Rattle.zengine.specs.Slots.{value_of, with_slot, word_slot}
 
 -- globals begin at 64: 258
 story : LoadedStory
@@ -37,10 +37,10 @@ story = record { memory = replicate 13 0 ++ 64 ∷ replicate 50 0 ++ 1 ∷ 2 ∷
 setting : Setting
 setting = record { story = story; scope = scope_all story; limit = 9 }
 
--- the first frame's head, and 5 and 6 on its stack; then that of a frame below which it lies 6 words, which returns to row 1 with its
+-- the first frame's head, and 5 and 6 on its stack; then that of a frame below which it lies 7 words, which returns to row 1 with its
 -- result to the stack and was supplied 1 argument, and has locals 7 and 8, and 9 on its stack
 words : List ℕ
-words = 0 ∷ 0 ∷ 0 ∷ 0 ∷ 5 ∷ 6 ∷ 1 ∷ 0 ∷ 6 ∷ 256 ∷ 7 ∷ 8 ∷ 9 ∷ 0 ∷ []
+words = 0 ∷ 0 ∷ 0 ∷ 0 ∷ 0 ∷ 5 ∷ 6 ∷ 1 ∷ 0 ∷ 7 ∷ 0 ∷ 256 ∷ 7 ∷ 8 ∷ 9 ∷ 0 ∷ []
 
 -- row 1 follows the call; row 2 stands where one word is on the stack of the callee, and row 3 behind it
 spots : List Spot
@@ -50,7 +50,7 @@ here : Spot
 here = record { place = pos 60; count = 2; height = 1 }
 
 body : Body
-body = record { words = words; base = 10; above = 1; memory = story.memory; outside = record { random = Words; prompted = false; waiting = None } }
+body = record { words = words; base = 12; above = 1; memory = story.memory; outside = record { random = Words; prompted = false; waiting = None } }
 
 stands : (standing spots here body).frame ≡ record { return_place = 50; result = 0; supplied = 1; locals = 7 ∷ 8 ∷ []; stack = 9 ∷ [] }
 unfolding spots here body words frame_at
@@ -62,19 +62,19 @@ unfolding spots here body words frame_at callers_at
 below = refl
 
 -- both frames, the newest first
-lying : chain_of spots words 1 (record { base = 10; count = 2; height = 1 }) ≡ record { base = 10; count = 2; height = 1 } ∷ record { base = 4; count = 0; height = 2 } ∷ []
+lying : chain_of spots words 1 (record { base = 12; count = 2; height = 1 }) ≡ record { base = 12; count = 2; height = 1 } ∷ record { base = 5; count = 0; height = 2 } ∷ []
 unfolding spots words chain_of
 lying = refl
 
 -- the oldest returns to no row
-oldest : AreFrames story spots [] 0 4 (65535 ∷ 65535 ∷ 0 ∷ 0 ∷ [])
+oldest : AreFrames story spots [] 0 5 (65535 ∷ 65535 ∷ 0 ∷ 0 ∷ 0 ∷ [])
 unfolding AreFrames
 oldest = refl
 
 -- ---- slots
 
 operands_here : slots_of story 2 (operands.Variable 0 ∷ operands.Variable 2 ∷ operands.Variable 16 ∷ operands.Constant 9 ∷ []) 1 ≡ Ok (Local 2 ∷ Local 1 ∷ Global 64 ∷ Constant 9 ∷ [], 0)
-unfolding in_turn slot_of story
+unfolding in_turn slot_of story word_slot
 operands_here = refl
 
 -- the stack has one word, and the frame two locals
@@ -83,16 +83,21 @@ unfolding in_turn slot_of
 absent = (refl, refl)
 
 results : (result_slot story 2 0 1 ≡ Ok (Local 3, 2)) × (result_slot story 2 2 1 ≡ Ok (Local 1, 1)) × (result_slot story 2 17 1 ≡ Ok (Global 66, 1)) × (result_slot story 2 15 1 ≡ Err (halts.Fault AbsentLocal))
-unfolding result_slot story
+unfolding result_slot story word_slot
 results = (refl, refl, refl, refl)
 
 in_place : (held_slot story 2 0 1 ≡ Ok (Local 2)) × (held_slot story 2 0 0 ≡ Err (halts.Fault StackUnderflow)) × (held_slot story 2 1 0 ≡ Ok (Local 0)) × (held_slot story 2 256 1 ≡ Err (halts.Fault BadVariable))
-unfolding held_slot
+unfolding held_slot word_slot
 in_place = (refl, refl, refl, refl)
 
 values : (value_of (Local 2) body ≡ 9) × (value_of (Local 0) body ≡ 7) × (value_of (Global 64) body ≡ 258) × (value_of (Constant 3) body ≡ 3)
 unfolding body words story
 values = (refl, refl, refl, refl)
+
+-- a frame may have 15 locals and 65,535 words on its stack, of which the last 14 lie behind its first 65,536
+high : (result_slot story 2 0 65533 ≡ Ok (Local 65535, 65534)) × (result_slot story 2 0 65534 ≡ Ok (High 0, 65535)) × (held_slot story 15 0 65535 ≡ Ok (High 13))
+unfolding result_slot held_slot word_slot
+high = (refl, refl, refl)
 
 -- ---- a row
 
@@ -104,7 +109,7 @@ row : Row
 row = record { action = actions.Binary binaries.Div; a = Local 2; b = Local 1; to = Local 2; target = 0; next = 3; came = Local 2 }
 
 is_row : IsGiving setting spots [] [] story.memory (Ok div) here row (operations.Binary binaries.Div) (Local 2 ∷ Local 1 ∷ []) (Local 2)
-unfolding setting spots here row div operation_of in_turn slot_of result_slot
+unfolding setting spots here row div operation_of in_turn slot_of result_slot word_slot
 is_row = record { instruction = div; is = refl; operation_is = refl; left = 0; reads = refl; height = 1; puts = refl; on = refl }
 
 -- 9 by 8 is 1, and nothing is divided by 0
@@ -128,8 +133,8 @@ unfolding callee laid_over
 laid = (refl, refl)
 
 -- the frame was called from row 1's place, where its result is pushed as the third word
-is_called : IsCalled story spots (row ∷ record row { came = Local 2 } ∷ []) 10 4 1 0
-unfolding spots row result_slot story
+is_called : IsCalled story spots (row ∷ record row { came = Local 2 } ∷ []) 12 5 1 0
+unfolding spots row result_slot story word_slot
 is_called = record { there = omega arith; head = omega arith; apart = omega arith; place = 50; place_is = refl; lands = refl }
 
 -- ---- a save
@@ -139,13 +144,13 @@ frames : List SavedFrame
 frames = record { return_place = 0; result = 0; supplied = 0; locals = []; stack = 5 ∷ 6 ∷ [] } ∷ record { return_place = 50; result = 0; supplied = 1; locals = 7 ∷ 8 ∷ []; stack = 9 ∷ [] } ∷ []
 
 -- it is laid as they lie, but for the oldest, which returns to no row
-words_of_save : (all_laid frames (1 ∷ []) ≡ 65535 ∷ 65535 ∷ 0 ∷ 0 ∷ 5 ∷ 6 ∷ 1 ∷ 0 ∷ 6 ∷ 256 ∷ 7 ∷ 8 ∷ 9 ∷ []) × (length_laid frames ≡ 13) × (newest_laid frames ≡ 10)
+words_of_save : (all_laid frames (1 ∷ []) ≡ 65535 ∷ 65535 ∷ 0 ∷ 0 ∷ 0 ∷ 5 ∷ 6 ∷ 1 ∷ 0 ∷ 7 ∷ 0 ∷ 256 ∷ 7 ∷ 8 ∷ 9 ∷ []) × (length_laid frames ≡ 15) × (newest_laid frames ≡ 12)
 unfolding frames laid_frames
 words_of_save = (refl, refl, refl)
 
 -- the second returns to row 1, and the save stands at row 2
 rows_of_save : HaveRows story spots (row ∷ record row { came = Local 2 } ∷ []) 2 (pos 60) frames (1 ∷ [])
-unfolding spots row story frames AreBacks result_slot
+unfolding spots row story frames AreBacks result_slot word_slot
 rows_of_save = (record { leads = refl; lands = refl }, refl)
 
 -- ---- what is named by a value
@@ -155,7 +160,7 @@ inc : Instruction
 inc = record { opcode = opcodes.Inc; operands = operands.Variable 0 ∷ []; store = None; branch = None; size = 2 }
 
 names : IsNaming setting spots [] [] story.memory (Ok inc) here (record row { action = actions.Aside (asides.Named (namings.Count counts.Up) 2 0) }) (namings.Count counts.Up) 2 0
-unfolding setting spots here row inc operation_of in_turn slot_of
+unfolding setting spots here row inc operation_of in_turn slot_of word_slot
 names = record { instruction = inc; is = refl; operation_is = refl; count_is = refl; reads = refl }
 
 -- a jump by -1 from behind the place 60, and by 9

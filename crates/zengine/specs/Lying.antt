@@ -34,7 +34,7 @@ chain_of spots words (suc n) l = l ∷ chain_of spots words n (below spots words
 -- so many frames have each a head that names a row, and below it lies another
 unfoldable pub AreHeads : List Spot → List ℕ → ℕ → ℕ → Type 0
 AreHeads spots words zero base = Unit {0}
-AreHeads spots words (suc n) base = (return_index base words < length spots) × (4 ≤ base_below base words) × (base_below base words + 4 ≤ base) × AreHeads spots words n (base_below base words)
+AreHeads spots words (suc n) base = (return_index base words < length spots) × (5 ≤ base_below base words) × (base_below base words + 5 ≤ base) × AreHeads spots words n (base_below base words)
 
 -- a frame returns to the row of a place in memory, or to none
 pub record Returns (spots : List Spot) (index : ℕ) : Type 0 where
@@ -45,7 +45,7 @@ pub record Returns (spots : List Spot) (index : ℕ) : Type 0 where
 
 -- it lies in words, and returns to a row or to none
 pub record Lies (spots : List Spot) (words : List ℕ) (l : Lying) : Type 0 where
-  pub head : 4 ≤ l.base
+  pub head : 5 ≤ l.base
   pub end : l.base + l.count + l.height ≤ length words
   pub back : Returns spots (return_index l.base words)
 

@@ -1,7 +1,7 @@
 //! Where frames lie in a board's words.
 
 ghost use Rattle.std.specs.Prelude.{◌≡◌, ◌<◌, ◌≤◌, ◌*◌, ◌+◌, length, List, OnOk, true};
-ghost use Rattle.zengine.specs.Body.{nowhere, return_index, spot_at};
+ghost use Rattle.zengine.specs.Body.{distance_below, nowhere, return_index, spot_at};
 ghost use Rattle.zengine.specs.Lying.{AreHeads, AreLying, below, chain_of, newest_of};
 ghost use Rattle.zengine.specs.Play.{Game, Stands};
 ghost use Rattle.zengine.specs.declared.row.Row.{Row as ARow};
@@ -35,22 +35,31 @@ pub trait Spots {
 
 /// The index of the row to which a frame returns.
 pub(crate) fn index_of(words: &[u16], base: usize) -> usize
-    requires head { 4 ≤ base }
+    requires head { 5 ≤ base }
     requires within { base ≤ length words.now }
     ensures { result ≡ return_index base words.now }
 {
-    usize::from(words[base - 4]) + 65_536 * usize::from(words[base - 3])
+    usize::from(words[base - 5]) + 65_536 * usize::from(words[base - 4])
+}
+
+/// How far below a frame's first local that of the frame below lies.
+fn distance_of(words: &[u16], base: usize) -> usize
+    requires head { 5 ≤ base }
+    requires within { base ≤ length words.now }
+    ensures { result ≡ distance_below base words.now }
+{
+    usize::from(words[base - 3]) + 65_536 * usize::from(words[base - 2])
 }
 
 /// Where the frame lies that called a frame.
 fn caller<S: Spots>(spots: &S, board: &Board, lying: Lying) -> Lying
-    requires head { 4 ≤ lying.base }
+    requires head { 5 ≤ lying.base }
     requires within { lying.base ≤ length board.now.words.items }
     requires there { return_index lying.base board.now.words.items < length (S.spots spots.now) }
     ensures { result ≡ below (S.spots spots.now) board.now.words.items lying }
 {
     let spot = spots.spot(index_of(&board.words, lying.base));
-    let distance = usize::from(board.words[lying.base - 2]);
+    let distance = distance_of(&board.words, lying.base);
     let on_stack = board.words[lying.base - 1] % 256 == 0;
     Lying {
         base: lying.base.saturating_sub(distance),

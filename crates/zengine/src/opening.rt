@@ -36,7 +36,7 @@ fn with_one_frame(alloc: Global, story: &Story, first: u32) -> Result<Board, All
     words[1] = NOWHERE;
     Ok(Board {
         words,
-        base: 4,
+        base: 5,
         above: 0,
         memory: story.memory().to_vec(alloc)?,
         at: first as usize,

@@ -1,9 +1,10 @@
 //! What comes to a game from outside: random numbers, lines of the player, and what is told of saves.
 
-ghost use Rattle.std.specs.Prelude.{◌≡◌, ◌<◌, ◌≤◌, None};
+ghost use Rattle.std.specs.Prelude.{◌≡◌, ◌<◌, ◌≤◌, ℕ, Some, None};
+ghost use Rattle.zstate.specs.declared.mode.RandomMode.TheVariants.{Words};
 ghost use Rattle.zstate.specs.State.{State};
 ghost use Rattle.zstate.specs.Step.{drawing, random_of};
-ghost use Rattle.zengine.specs.Outer.{IsDrawn};
+ghost use Rattle.zengine.specs.Outer.{IsDrawn, LacksWord};
 
 use zfault::Event;
 use zstate::RandomMode;
@@ -41,6 +42,38 @@ impl Outside {
         }
     }
 
+    /// Whether a number up to another can't be drawn, since a word is needed for it that isn't there.
+    pub(crate) fn lacks_word(&self, range: u16) -> bool
+        ensures { (s : State) → s.random ≡ self.now.random → s.waiting ≡ self.now.waiting → LacksWord result (random_of range s) }
+    {
+        match range {
+            1..=32767 => self.lacks_number(range),
+            _ => false,
+        }
+    }
+
+    /// The same of a number from 1 to another.
+    fn lacks_number(&self, range: u16) -> bool
+        requires least { 1 ≤ range }
+        requires most { range < 32768 }
+        ensures { LacksWord result (drawing range self.now.random self.now.waiting) }
+    {
+        match self.random {
+            RandomMode::Counting { .. } => false,
+            RandomMode::Words => self.lacks_event(range),
+        }
+    }
+
+    /// The same where numbers are made of words.
+    fn lacks_event(&self, range: u16) -> bool
+        ensures { LacksWord result (drawing range Words self.now.waiting) }
+    {
+        match self.waiting {
+            Some(event) => is_no_word(event),
+            None => true,
+        }
+    }
+
     /// The number from 1 to another that comes next.
     fn number(&mut self, range: u16) -> Option<u16>
         requires least { 1 ≤ range }
@@ -61,5 +94,15 @@ impl Outside {
             }
             (RandomMode::Words, _) => None,
         }
+    }
+}
+
+/// Whether an event is no word for a number.
+fn is_no_word(event: Event) -> bool
+    ensures { (range : ℕ) → LacksWord result (drawing range Words (Some event)) }
+{
+    match event {
+        Event::Random(_) => false,
+        _ => true,
     }
 }

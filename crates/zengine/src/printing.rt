@@ -9,7 +9,7 @@ ghost use Rattle.zword.specs.Binary.{signed};
 ghost use Rattle.zstory.specs.LoadedStory.{LoadedStory};
 ghost use Rattle.zstate.specs.State.{State, Setting, fault};
 ghost use Rattle.zstate.specs.Step.{effect_of, naming, of_object, printed, printing};
-ghost use Rattle.zengine.specs.Doing.{IsPrinted, IsTextAt, named_at, operation_printed, read_printed};
+ghost use Rattle.zengine.specs.Doing.{IsPrinted, IsTextAt, MayPrint, named_at, operation_printed, read_printed};
 ghost use Rattle.zengine.specs.declared.doing.Printing.TheVariants as printings;
 
 use crate::doing::Printing;
@@ -17,7 +17,7 @@ use crate::objects::object_of;
 use itoa::Buffer;
 use zfault::Fault;
 use zobj::{ShortName, short_name};
-use ztext::{TextError, decode_into, output_byte};
+use ztext::{TextError, decode_into, judge_text, output_byte};
 
 /// Why nothing is printed.
 #[derive(Clone, Copy)]
@@ -61,6 +61,50 @@ pub(crate) fn decoded(memory: &[u8], place: usize, text: &mut Vec<u8>) -> Result
         Ok(_) => Ok(()),
         Err(TextError::OutOfMemory) => Err(Unprinted::Memory),
         Err(_) => Err(Unprinted::Fault(Fault::TextOutside)),
+    }
+}
+
+/// Whether something can be printed, of which no byte is made.
+#[tactic(auto, unfolding(zstate::specs::Step::effect_of))]
+pub(crate) fn may_print(
+    printing: Printing,
+    memory: &[u8],
+    objects: u8,
+    at: usize,
+    word: u16,
+) -> Result<(), Fault>
+    requires table { HasTable memory.now objects }
+    ensures { (m : Setting) (t : State) → m.story.objects ≡ objects → t.memory ≡ memory.now → IsTextAt printing t.place at → MayPrint result (effect_of m (operation_printed printing) (read_printed printing word) t) }
+{
+    match printing {
+        Printing::Text => may_decode(memory, at),
+        Printing::Character => Ok(()),
+        Printing::Number => Ok(()),
+        Printing::Line => Ok(()),
+        Printing::Name => may_name(memory, objects, word),
+        Printing::At(addressing) => may_decode(memory, addressing.place(word)),
+    }
+}
+
+/// Whether the text at a place of memory can be decoded.
+pub(crate) fn may_decode(memory: &[u8], place: usize) -> Result<(), Fault>
+    ensures { MayPrint result (printed (output_at memory.now place)) }
+{
+    match judge_text(memory, place) {
+        Ok(()) => Ok(()),
+        Err(_) => Err(Fault::TextOutside),
+    }
+}
+
+/// Whether the short name of the object of a number can be decoded.
+pub(crate) fn may_name(memory: &[u8], objects: u8, number: u16) -> Result<(), Fault>
+    requires { HasTable memory.now objects }
+    ensures { (story : LoadedStory) → story.objects ≡ objects → MayPrint result (of_object story number (naming (short_name memory.now number) memory.now)) }
+{
+    match name_place(memory, objects, number) {
+        Ok(Some(place)) => may_decode(memory, place),
+        Ok(None) => Ok(()),
+        Err(fault) => Err(fault),
     }
 }
 

@@ -17,18 +17,18 @@ impl Board {
     /// The story begins anew, at the row of an index (Z 15 restart).
     pub(crate) fn begin_anew(&mut self, story: &Story, first: u32)
         requires { length self.old.memory.items ≡ length story.now.memory }
-        ensures body { body_of self.new ≡ record { words = self.new.words.items; base = 4; above = 0; memory = keeping_flags self.old.memory.items story.now.memory; outside = record self.old.outside.value { prompted = false; waiting = None } } }
+        ensures body { body_of self.new ≡ record { words = self.new.words.items; base = 5; above = 0; memory = keeping_flags self.old.memory.items story.now.memory; outside = record self.old.outside.value { prompted = false; waiting = None } } }
         ensures size { length self.new.words.items ≡ length self.old.words.items }
         ensures low { slice_index self.new.words.items 0 ≡ 65535 }
         ensures high { slice_index self.new.words.items 1 ≡ 65535 }
-        ensures marks { slice_index self.new.words.items 3 ≡ 0 }
+        ensures marks { slice_index self.new.words.items 4 ≡ 0 }
         ensures at { self.new.at ≡ first }
     {
         reload(&mut self.memory, story);
         self.words[0] = NOWHERE;
         self.words[1] = NOWHERE;
-        self.words[3] = 0;
-        self.base = 4;
+        self.words[4] = 0;
+        self.base = 5;
         self.above = 0;
         self.outside.prompted = false;
         self.outside.waiting = None;

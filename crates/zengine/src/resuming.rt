@@ -11,7 +11,7 @@ ghost use Rattle.zstate.specs.State.{keeping_flags};
 ghost use Rattle.zstate.specs.Saves.{taken_memory};
 ghost use Rattle.zstory.specs.LoadedStory.{static_base};
 ghost use Rattle.zengine.specs.Play.{Game, Plays, state_in};
-ghost use Rattle.zengine.specs.Resuming.{CanResume, IsShort, Resumes, all_laid, base_laid, headed, laid_frames, length_laid, newest_laid, words_wanted};
+ghost use Rattle.zengine.specs.Resuming.{CanResume, Resumes, all_laid, base_laid, headed, laid_frames, length_laid, newest_laid, words_wanted};
 ghost use Rattle.zengine.specs.View.{body_of};
 ghost use Rattle.zengine.specs.declared.row.Row.{Row as ARow};
 
@@ -31,7 +31,7 @@ const FLAGS: usize = 17;
 const NOWHERE: u32 = 0xFFFF_FFFF;
 
 /// How many words a newest frame may need behind its head.
-const ROOM: usize = 65_536;
+const ROOM: usize = 65_551;
 
 /// How many words a board needs to go on from a save.
 pub fn words_wanted(save: &SaveView<'_>) -> usize
@@ -46,11 +46,11 @@ fn count_words(mut rest: Frames<'_>) -> usize
     requires fit { AllByRecursion IsFrame (frames_left rest) }
     requires few { length (frames_left rest) ≤ 1025 }
     ensures value { result ≡ length_laid (frames_left rest.entry) }
-    ensures most { result ≤ 67192850 }
+    ensures most { result ≤ 67193875 }
 {
     let mut words = 0;
     while let Some(frame) = rest.next() {
-        words += 4 + word_count(frame.locals) + word_count(frame.stack);
+        words += 5 + word_count(frame.locals) + word_count(frame.stack);
     }
     words
 }
@@ -114,7 +114,6 @@ impl Board {
         requires size { length self.old.memory.items ≡ length story.now.memory }
         requires memory { length save.now.memory ≡ static_base story.now }
         requires room { words_wanted save.now ≤ length self.old.words.items }
-        requires short { AllByRecursion IsShort save.now.frames }
         requires backs { length backs.now + 1 ≡ length save.now.frames }
         ensures body { body_of self.new ≡ record { words = self.new.words.items; base = newest_laid save.now.frames; above = length backs.now; memory = keeping_flags self.old.memory.items (taken_memory story.now save.now.memory); outside = record self.old.outside.value { prompted = false; waiting = Some (events.Saved true) } } }
         ensures laid { take (length_laid save.now.frames) self.new.words.items ≡ all_laid save.now.frames backs.now }
@@ -162,12 +161,11 @@ fn put_bytes(memory: &mut [u8], place: usize, bytes: &[u8])
 /// Lays the frames of a save in words, and tells where the newest begins.
 fn lay_all(words: &mut [u16], save: &SaveView<'_>, backs: &[u32]) -> usize
     requires room { length_laid save.now.frames ≤ length words.old }
-    requires short { AllByRecursion IsShort save.now.frames }
     requires backs { length backs.now + 1 ≡ length save.now.frames }
     ensures laid { take (length_laid save.now.frames) words.new ≡ all_laid save.now.frames backs.now }
     ensures size { length words.new ≡ length words.old }
     ensures base { result ≡ newest_laid save.now.frames }
-    ensures least { 4 ≤ result }
+    ensures least { 5 ≤ result }
     ensures most { result ≤ length_laid save.now.frames }
     ensures saved { AreSaved save.now.frames }
 {
@@ -177,7 +175,7 @@ fn lay_all(words: &mut [u16], save: &SaveView<'_>, backs: &[u32]) -> usize
         Some(first) => {
             lay_frame(words, 0, NOWHERE, 0, first);
             let below = word_count(first.locals) + word_count(first.stack);
-            lay_frames(words, 4, below, rest, backs)
+            lay_frames(words, 5, below, rest, backs)
         }
         None => 0,
     }
@@ -193,8 +191,7 @@ fn lay_frames(
 ) -> usize
     requires room { base + below + length_laid (frames_left rest) ≤ length words.old }
     requires fit { AllByRecursion IsFrame (frames_left rest) }
-    requires short { AllByRecursion IsShort (frames_left rest) }
-    requires low { below ≤ 65531 }
+    requires low { below ≤ 65550 }
     requires backs { length backs.now ≡ length (frames_left rest) }
     ensures laid { take (base + below + length_laid (frames_left rest.entry)) words.new ≡ take (base + below) words.old ++ laid_frames below (frames_left rest.entry) backs.now }
     ensures size { length words.new ≡ length words.old }
@@ -207,8 +204,8 @@ fn lay_frames(
     let mut number = 0;
     while let Some(frame) = rest.next() {
         let top = base + below;
-        lay_frame(words, top, backs[number], below as u16 + 4, frame);
-        base = top + 4;
+        lay_frame(words, top, backs[number], below as u32 + 5, frame);
+        base = top + 5;
         below = word_count(frame.locals) + word_count(frame.stack);
         number += 1;
     }
@@ -216,18 +213,19 @@ fn lay_frames(
 }
 
 /// Lays a frame of a save in words from a place on, its head first.
-fn lay_frame(words: &mut [u16], top: usize, index: u32, distance: u16, frame: SavedFrame<'_>)
-    requires room { top + (4 + length (seen_frame frame).locals + length (seen_frame frame).stack) ≤ length words.old }
+fn lay_frame(words: &mut [u16], top: usize, index: u32, distance: u32, frame: SavedFrame<'_>)
+    requires room { top + (5 + length (seen_frame frame).locals + length (seen_frame frame).stack) ≤ length words.old }
     requires fit { IsFrame (seen_frame frame) }
-    ensures laid { take (top + (4 + length (seen_frame frame.entry).locals + length (seen_frame frame.entry).stack)) words.new ≡ take top words.old ++ headed index distance (seen_frame frame.entry) }
+    ensures laid { take (top + (5 + length (seen_frame frame.entry).locals + length (seen_frame frame.entry).stack)) words.new ≡ take top words.old ++ headed index distance (seen_frame frame.entry) }
     ensures size { length words.new ≡ length words.old }
 {
     words[top] = (index % 65536) as u16;
     words[top + 1] = (index / 65536) as u16;
-    words[top + 2] = distance;
-    words[top + 3] = u16::from(frame.result) + 256 * u16::from(frame.supplied);
-    put_words(words, top + 4, frame.locals);
-    put_words(words, top + 4 + word_count(frame.locals), frame.stack);
+    words[top + 2] = (distance % 65536) as u16;
+    words[top + 3] = (distance / 65536) as u16;
+    words[top + 4] = u16::from(frame.result) + 256 * u16::from(frame.supplied);
+    put_words(words, top + 5, frame.locals);
+    put_words(words, top + 5 + word_count(frame.locals), frame.stack);
 }
 
 /// Puts the words that these bytes are into words, from a place on.

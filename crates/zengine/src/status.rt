@@ -5,10 +5,10 @@ ghost use Rattle.zfault.specs.declared.item.Item.TheVariants.{Status as Line};
 ghost use Rattle.zfault.specs.declared.item.Status.{Status as StatusLine};
 ghost use Rattle.zobj.specs.Entries.{HasTable};
 ghost use Rattle.zstate.specs.Step.{global_word, line_of, showing, status_of, tells_time};
-ghost use Rattle.zengine.specs.Printed.{IsTitle};
+ghost use Rattle.zengine.specs.Printed.{IsTitle, MayTitle};
 ghost use Rattle.zstate.specs.State.{fault};
 
-use crate::printing::{Unprinted, name};
+use crate::printing::{Unprinted, may_name, name};
 use std::alloc::AllocError;
 use zfault::{Fault, Items, Name, Status};
 use zstory::Story;
@@ -71,6 +71,19 @@ pub(crate) fn title(story: &Story, memory: &[u8], text: &mut Vec<u8>) -> Result<
         return Ok(());
     }
     name(memory, story.objects(), number, text)
+}
+
+/// Whether the short name of the object that is shown can be decoded.
+pub(crate) fn may_title(story: &Story, memory: &[u8]) -> Result<(), Fault>
+    requires memory { length memory.now ≡ length story.now.memory }
+    requires objects { HasTable memory.now story.now.objects }
+    ensures { MayTitle story.now memory.now result }
+{
+    let shown = global(SHOWN, story, memory);
+    if shown == 0 {
+        return Ok(());
+    }
+    may_name(memory, story.objects(), shown)
 }
 
 /// The status line with a name. Want of memory is the only error.

@@ -18,7 +18,7 @@ loop-left-preserved g c =
     record {
       all = chain_on spots words loop.left loop.lying c.caller-lying.result loop.frames.items _ _ some step c.in_ok-push.ensures.items loop.invariant.all;
       heads = subst (λ (l : Lying). AreHeads spots words (loop.left - 1) l.base) (sym step) next.2;
-      head = subst (λ (l : Lying). 4 ≤ l.base) (sym step) next.0;
+      head = subst (λ (l : Lying). 5 ≤ l.base) (sym step) next.0;
       within = subst (λ (l : Lying). l.base ≤ length words) (sym step) (omega (arith, next.1, loop.invariant.within));
     }
 

@@ -6,7 +6,7 @@ abbrev pub invariant-loop-left : goal.invariant-loop-left
 invariant-loop-left g l = record {
   all : chain_of (g.S.Spots.spots l.spots) l.board.words.items l.board.above (newest_of (g.S.Spots.spots l.spots) l.board) ≡ l.frames.items ++ chain_of (g.S.Spots.spots l.spots) l.board.words.items l.left l.lying;
   heads : AreHeads (g.S.Spots.spots l.spots) l.board.words.items l.left l.lying.base;
-  head : 4 ≤ l.lying.base;
+  head : 5 ≤ l.lying.base;
   within : l.lying.base ≤ length l.board.words.items;
 }
 

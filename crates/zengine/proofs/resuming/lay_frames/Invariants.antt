@@ -2,14 +2,13 @@ use Rattle.std.proofs.Common.{◌≡◌, ◌+◌, ◌≤◌, ◌++◌, length, t
 use Rattle.std.specs.List.{AllByRecursion}
 use Rattle.zquetzal.specs.Saved.{IsFrame}
 use Rattle.zquetzal.specs.View.{frames_left}
-use Rattle.zengine.specs.Resuming.{IsShort, base_laid, laid_frames, length_laid}
+use Rattle.zengine.specs.Resuming.{base_laid, laid_frames, length_laid}
 use Rattle.zengine.proofs.resuming.lay_frames.Given as goal
 
 abbrev pub invariant-loop-frame : goal.invariant-loop-frame
 invariant-loop-frame l = record {
   fit : AllByRecursion IsFrame (frames_left l.rest);
-  short : AllByRecursion IsShort (frames_left l.rest);
-  low : l.below ≤ 65531;
+  low : l.below ≤ 65550;
   least : l.fn.base ≤ l.base;
   backs : l.number + length (frames_left l.rest) ≡ length l.backs;
   size : length l.words ≡ length l.fn.words;

@@ -3,9 +3,6 @@ use Rattle.zengine.specs.Body.{Body}
 use Rattle.zengine.proofs.Laying as by
 use Rattle.zengine.proofs.resuming.resume.Goals as goal
 
-pub lay_save-requires-clause-short : goal.lay_save-requires-clause-short
-lay_save-requires-clause-short c = by.shorts c.requires.fits.0 c.requires.fits.1 c.args.story.now c.args.save.now c.args.at c.args.backs.now c.requires.fits.2
-
 pub lay_save-requires-clause-backs : goal.lay_save-requires-clause-backs
 lay_save-requires-clause-backs c = by.many c.requires.fits.0 c.requires.fits.1 c.args.story.now c.args.save.now c.args.at c.args.backs.now c.requires.fits.2
 
