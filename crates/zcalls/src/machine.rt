@@ -4,7 +4,7 @@ use crate::outside::{Page, World};
 use std::alloc::{AllocError, Global};
 use zfault::{Event, Items, Need};
 use zplay::Session;
-use zplayer::{End, Options, PlayError, play_checked, play_story};
+use zplayer::{End, Options, PlayError, World as Devices, play_checked, play_story};
 use zquetzal::SaveError;
 use zref::CheckedMachine;
 use zstate::Stop;
@@ -74,15 +74,8 @@ impl<'a> Machine for Session<'a> {
         page: &mut Page,
         budget: u32,
     ) -> Result<End, PlayError> {
-        play_story(
-            alloc,
-            self,
-            &mut world.reader,
-            page,
-            &mut world.store,
-            &mut world.words,
-            options(budget),
-        )
+        let mut devices = Devices::new(&mut world.reader, page, &mut world.store, &mut world.words);
+        play_story(alloc, self, &mut devices, options(budget))
     }
 
     fn save(&self, alloc: Global) -> Result<Option<Vec<u8>>, AllocError> {
@@ -130,15 +123,8 @@ impl<'a> Machine for CheckedMachine<'a> {
         page: &mut Page,
         budget: u32,
     ) -> Result<End, PlayError> {
-        play_checked(
-            alloc,
-            self,
-            &mut world.reader,
-            page,
-            &mut world.store,
-            &mut world.words,
-            options(budget),
-        )
+        let mut devices = Devices::new(&mut world.reader, page, &mut world.store, &mut world.words);
+        play_checked(alloc, self, &mut devices, options(budget))
     }
 
     fn save(&self, alloc: Global) -> Result<Option<Vec<u8>>, AllocError> {

@@ -95,7 +95,7 @@ impl World {
     /// One whose reader gives at most so many bytes at once.
     pub fn new(most: usize) -> World {
         World {
-            reader: FromRead::new(Typed { left: LINES, most }),
+            reader: FromRead::new(Typed { place: 0, most }),
             store: Shelf {
                 save: ArrayVec::new(),
                 left: 2,
@@ -115,14 +115,18 @@ pub const LINE: usize = 8;
 /// A reader of lines that gives at most so many bytes at once.
 #[derive(Drop)]
 pub struct Typed {
-    left: &'static [u8],
+    /// Where in the lines it is.
+    place: usize,
     most: usize,
 }
 
 impl Read for Typed {
     fn read(&mut self, buffer: &mut [u8]) -> io::Result<usize> {
         let room = buffer.len().min(self.most);
-        self.left.read(&mut buffer[..room])
+        let mut left = LINES.get(self.place..).unwrap_or(&[]);
+        let count = left.read(&mut buffer[..room])?;
+        self.place = self.place.saturating_add(count);
+        Ok(count)
     }
 }
 

@@ -10,4 +10,5 @@ mod AddressLemmas
 mod ShowLemmas
 mod Worked
 mod WorkedClaims
+mod WorkedPlays
 mod WorkedShowing

@@ -21,15 +21,26 @@ use Rattle.zperform.specs.declared.outcome.Problem.{Problem}
 use Rattle.zperform.specs.declared.outcome.Problem.TheVariants.{Refused, Unreadable, BreaksStory, BreaksInstruction, Unlisted, Unfound, Occupied, Failed}
 use Rattle.zperform.specs.declared.outcome.Outcome.{Outcome}
 use Rattle.zperform.specs.declared.outcome.Outcome.TheVariants.{Listed, Found, Accepted, Shown, NoAddress, Explained, NoSuchCode, Played, Stopped}
+use Rattle.zperform.specs.Played.{Account, ComesOutOf}
 use Rattle.zperform.specs.Playing.{ComesTo, Holds, IsPlayed, IsRefused, IsUnloaded, Reads, StaysEmpty}
 use Rattle.zperform.specs.Report.{outcome_of, problem_of_load, problem_of_play}
 use Rattle.zperform.specs.Contents.{HasBytes}
 use Rattle.zperform.proofs.AcceptLemmas.{part_bytes, sound_bytes}
 use Rattle.zperform.proofs.StoryFiles.{holds_whole, reads, refused_whole}
 
--- what holds with the words of a generator holds with those of one in the same state
-pub with_words : (P : World → Type 0) (input : Option (List ℕ)) (store : Store) (s t : List ℕ) → s ≡ t → P (world input (Some (words_from s)) store) → P (world input (Some (words_from t)) store)
-with_words P input store s t is h = subst (λ (x : List ℕ). P (world input (Some (words_from x)) store)) is h
+-- how a play comes out with what it was lent, it does with that of which it was lent, and to which it comes back
+module _ {S : Type 0} (kept : S → Option Kept) (failures : S → ℕ) (Follows : S → S → List SaveError → Type 0) (account : Account) (result : Result End Problem) where
+  abbrev Out : Option (List ℕ) → List ℕ → S → S → Option (List ℕ) → Option (List ℕ) → Type 0
+  Out input state old new before now = ComesOutOf kept failures Follows (λ store. account (world input (Some (words_from state)) store)) old new before now result
+
+  pub lent_out : (input had : Option (List ℕ)) (state drawn : List ℕ) (old lent new back : S) (before begun now ended : Option (List ℕ)) → had ≡ input → drawn ≡ state → lent ≡ old → back ≡ new → begun ≡ before → ended ≡ now → Out had drawn lent new begun now → Out input state old back before ended
+  lent_out input had state drawn old lent new back before begun now ended same_input same_words given home same_before same_now out =
+      let heard = subst (λ (i : Option (List ℕ)). Out i drawn lent new begun now) same_input out in
+      let drew = subst (λ (i : List ℕ). Out input i lent new begun now) same_words heard in
+      let gave = subst (λ (i : S). Out input state i new begun now) given drew in
+      let got = subst (λ (i : S). Out input state old i begun now) (sym home) gave in
+      let began = subst (λ (i : Option (List ℕ)). Out input state old back i now) same_before got in
+      subst (λ (i : Option (List ℕ)). Out input state old back before i) (sym same_now) began
 
 -- what holds with a new store, which has failed so often, holds with one that hasn't
 pub with_store : (P : Store → Type 0) (kept : Option Kept) (n : ℕ) → n ≡ 0 → P (record { kept = kept; failures = n; refusals = [] }) → P (record { kept = kept; failures = 0; refusals = [] })

@@ -1,6 +1,6 @@
 -- What is shown of a certificate, and why one isn't.
 use Rattle.std.proofs.Common.{◌≡◌, ◌≢◌, ◌⊎◌, ◌==◌, inl, inr, ◌∙◌, ℕ, suc, ◌+◌, ◌<◌, ◌≤◌, false, not, List, [], ◌∷◌, ◌++◌, length, Option, Some, None, Ok, refl, sym, ap, subst, take, drop, get_or, add-one, append_assoc, arith}
-use Rattle.std.specs.Prelude.{IfNone, IfOk, IfSome, IsErr, IsErrAnd, Result, Err, option_map}
+use Rattle.std.specs.Prelude.{IfNone, IfSome, IsErr, IsErrAnd, Result, Err, option_map}
 use Rattle.std.specs.List.{prefix_len}
 use Rattle.std.proofs.Math.Seq.{drop-cons, take-suc}
 use Rattle.std.proofs.lemmas.List.{append-nil, length-take-le}

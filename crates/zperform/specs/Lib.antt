@@ -10,3 +10,4 @@ pub mod Listing
 pub mod Showing
 pub mod Finding
 pub mod Performing
+pub mod Played

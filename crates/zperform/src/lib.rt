@@ -10,6 +10,7 @@ mod listing;
 mod message;
 mod outcome;
 mod performing;
+mod playing;
 mod saves;
 mod showing;
 mod told;

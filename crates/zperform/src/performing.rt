@@ -1,40 +1,33 @@
 //! Doing what the words ask for.
 
-ghost use Rattle.std.specs.Prelude.{◌≡◌, ◌≢◌, [], ℕ, true, IfSome, IsErrOf, List, None, Option, Some, option_map};
+ghost use Rattle.std.specs.Prelude.{◌≡◌, ◌≢◌, [], true, IfSome, List, None, option_map};
 ghost use Rattle.clap.specs.Kinds.{HasKind, Kinds};
 ghost use Rattle.clap.specs.Walk.{texts};
 ghost use Rattle.clap.specs.Words.{fault_of};
 ghost use Rattle.zcommand.specs.CommandLine.{request_of, zpc_app};
 ghost use Rattle.zplayer.specs.Outside.{Blames};
-ghost use Rattle.zplayer.specs.World.{told as told_store};
-ghost use Rattle.zperform.specs.Accepting.{CheckComesTo, IsAccepted, IsOfEither, PlayComesTo, PlayEnds};
+ghost use Rattle.zperform.specs.Accepting.{CheckComesTo, IsOfEither};
 ghost use Rattle.zperform.specs.Devices.{Ends, FlushesUnless, Held, ReadsUnless, Says, Told, UsesUnless, Writes, devices, held, seen, told};
 ghost use Rattle.zperform.specs.Keeping.{IsOccupied, MayWrite, kept_in};
-ghost use Rattle.zperform.specs.Performing.{Begins, Comes, Explains, IsBlamed, Performs, given, is_quiet, said_by, save_in, store_of, written_by};
-ghost use Rattle.zperform.specs.Playing.{ComesTo, Holds};
+ghost use Rattle.zperform.specs.Performing.{Begins, Comes, Explains, IsBlamed, Performs, is_quiet, said_by, save_in, written_by};
 ghost use Rattle.zperform.specs.Report.{failure_text, line_of, no_text, outcome_of, status_of, text_of};
-ghost use Rattle.zperform.specs.Telling.{SaysEach, said_of};
+ghost use Rattle.zperform.specs.Telling.{SaysEach};
 ghost use Rattle.zquetzal.specs.declared.error.SaveError.{SaveError as ARefusal};
 
-use crate::accepting::{AcceptedStory, STORY_LIMIT, accept, load};
-use crate::files::{Files, read_file};
+use crate::accepting::accept;
+use crate::files::Files;
 use crate::finding::{explain_code, find_file};
 use crate::listing::{list_certificate, list_file};
 use crate::message::Message;
 use crate::outcome::{Failure, Outcome, Problem, Purpose};
-use crate::saves::{FileSaves, NoSaves};
+use crate::playing::{Asked, Devices, play, play_by_certificate};
 use crate::showing::show_files;
 use clap::Error;
 use clap::error::ErrorKind;
 use std::alloc::Global;
-use zcert::Spelled;
-use zcheck::Accepted;
 use zcommand::{Command, read_words};
 use zfault::{Failed, Sink, Source, write_whole};
-use zplay::Session;
-use zplayer::{End, Options, SaveStore, Seeded, play_checked};
-use zref::{CheckedMachine, Scope};
-use zstory::Story;
+use zplayer::{End, Options};
 
 /// The exit status where the words are wrong.
 const USAGE: u8 = 2;
@@ -170,47 +163,33 @@ fn fulfil<F: Files, R: Source, W: Sink, E: Sink>(
         } => show_files(alloc, story, certificate, address, files, writer),
         Command::Play {
             story,
-            certificate: None,
-            seed,
-            budget,
-            status,
-            save,
-            tell,
-            ..
-        } => outcome_of(play(
-            alloc,
-            story,
-            seed,
-            Options { budget, status },
-            save,
-            tell,
-            files,
-            reader,
-            writer,
-            errors,
-        )),
-        Command::Play {
-            story,
-            certificate: Some(certificate),
-            seed,
-            budget,
-            status,
-            save,
-            tell,
-            ..
-        } => outcome_of(play_by_certificate(
-            alloc,
-            story,
             certificate,
             seed,
-            Options { budget, status },
+            budget,
+            status,
             save,
             tell,
-            files,
-            reader,
-            writer,
-            errors,
-        )),
+            ..
+        } => {
+            let options = Options { budget, status };
+            let asked = Asked {
+                seed,
+                options,
+                save,
+                tell,
+            };
+            let mut devices = Devices::new(files, reader, writer, errors);
+            match certificate {
+                None => outcome_of(play(alloc, story, asked, &mut devices)),
+                Some(certificate) => outcome_of(play_by_certificate(
+                    alloc,
+                    story,
+                    certificate,
+                    asked,
+                    &mut devices,
+                )),
+            }
+        }
         Command::Explain { code } => explain_code(code, writer),
     }
 }
@@ -253,191 +232,6 @@ pub fn write_and_flush<W: Sink>(writer: &mut W, text: &[u8]) -> Result<(), Faile
 {
     write_whole(writer, text)?;
     writer.flush()
-}
-
-/// Plays a story from its file.
-fn play<F: Files, R: Source, W: Sink, E: Sink>(
-    alloc: Global,
-    name: &str,
-    seed: u64,
-    options: Options,
-    save: Option<&str>,
-    tell: bool,
-    files: &mut F,
-    reader: &mut R,
-    writer: &mut W,
-    errors: &mut E,
-) -> Result<End, Problem>
-    ensures comes { (refusals : List ARefusal) × ComesTo (F.known files.old name.now) options (given (R.remaining reader.old) seed (store_of (option_map (λ n. n.now) save.entry))) refusals (W.contents writer.old) (W.contents writer.new) (outcome_of result) × SaysEach (said_of tell (option_map (λ n. n.now) save.entry) refusals) (seen E.contents E.failures E.waits errors.old) (seen E.contents E.failures E.waits errors.new) }
-    ensures writer { FlushesUnless W.failures W.waits writer.old writer.new (IsErrOf result (Problem.Failed Failure.Write)) }
-    ensures files { UsesUnless F.known F.failures files.old files.new (option_map (λ n. n.now) save.entry) (option_map (λ n. n.now) save.entry) (IsErrOf result (Problem.Failed Failure.File)) }
-    ensures could { IsErrOf result (Problem.Failed Failure.File) → F.can_fail files.old name.now ≡ true }
-    ensures reader { Blames (IsErrOf result (Problem.Failed Failure.Read)) (R.failures reader.old) (R.failures reader.new) }
-{
-    let file = read_file(alloc, files, name, STORY_LIMIT)?;
-    let story = load(alloc, file)?;
-    play_story(
-        alloc, &story, seed, options, save, tell, files, reader, writer, errors,
-    )
-}
-
-/// Plays a story from its opening, with its saves in the file of a name, or nowhere.
-fn play_story<F: Files, R: Source, W: Sink, E: Sink>(
-    alloc: Global,
-    story: &Story,
-    seed: u64,
-    options: Options,
-    save: Option<&str>,
-    tell: bool,
-    files: &mut F,
-    reader: &mut R,
-    writer: &mut W,
-    errors: &mut E,
-) -> Result<End, Problem>
-    ensures comes { (refusals : List ARefusal) × ((file : List ℕ) → Holds file story.now → ComesTo (Some file) options (given (R.remaining reader.old) seed (store_of (option_map (λ n. n.now) save.entry))) refusals (W.contents writer.old) (W.contents writer.new) (outcome_of result)) × SaysEach (said_of tell (option_map (λ n. n.now) save.entry) refusals) (seen E.contents E.failures E.waits errors.old) (seen E.contents E.failures E.waits errors.new) }
-    ensures writer { FlushesUnless W.failures W.waits writer.old writer.new (IsErrOf result (Problem.Failed Failure.Write)) }
-    ensures no_file { ¬ IsErrOf result (Problem.Failed Failure.File) }
-    ensures reader { Blames (IsErrOf result (Problem.Failed Failure.Read)) (R.failures reader.old) (R.failures reader.new) }
-    ensures unsaved { option_map (λ n. n.now) save.entry ≡ None → files.new ≡ files.old }
-    ensures spared { (other : List ℕ) → option_map (λ n. n.now) save.entry ≢ Some other → F.known files.new other ≡ F.known files.old other }
-{
-    match save {
-        Some(name) => {
-            let mut store = FileSaves::new(alloc, files, name, tell, errors);
-            play_keeping(alloc, story, seed, options, &mut store, reader, writer)
-        }
-        None => play_keeping(
-            alloc,
-            story,
-            seed,
-            options,
-            &mut NoSaves::new(),
-            reader,
-            writer,
-        ),
-    }
-}
-
-/// Plays a story from its opening, with its saves in a store.
-fn play_keeping<S: SaveStore, R: Source, W: Sink>(
-    alloc: Global,
-    story: &Story,
-    seed: u64,
-    options: Options,
-    store: &mut S,
-    reader: &mut R,
-    writer: &mut W,
-) -> Result<End, Problem>
-    ensures comes { (refusals : List ARefusal) × ((file : List ℕ) → Holds file story.now → (S.kept store.old ≡ Some None → S.kept store.new ≡ Some None) → ComesTo (Some file) options (given (R.remaining reader.old) seed (told_store S.kept S.failures store.old [])) refusals (W.contents writer.old) (W.contents writer.new) (outcome_of result)) × S.Follows store.old store.new refusals }
-    ensures writer { FlushesUnless W.failures W.waits writer.old writer.new (IsErrOf result (Problem.Failed Failure.Write)) }
-    ensures no_file { ¬ IsErrOf result (Problem.Failed Failure.File) }
-    ensures reader { Blames (IsErrOf result (Problem.Failed Failure.Read)) (R.failures reader.old) (R.failures reader.new) }
-{
-    let mut machine = CheckedMachine::new(alloc, story, Scope::All)?;
-    Ok(play_checked(
-        alloc,
-        &mut machine,
-        reader,
-        writer,
-        store,
-        &mut Seeded::new(seed),
-        options,
-    )?)
-}
-
-/// Plays a story that is accepted with a certificate, each in its file.
-fn play_by_certificate<F: Files, R: Source, W: Sink, E: Sink>(
-    alloc: Global,
-    story: &str,
-    certificate: &str,
-    seed: u64,
-    options: Options,
-    save: Option<&str>,
-    tell: bool,
-    files: &mut F,
-    reader: &mut R,
-    writer: &mut W,
-    errors: &mut E,
-) -> Result<End, Problem>
-    ensures comes { (refusals : List ARefusal) × PlayComesTo (F.known files.old story.now) (F.known files.old certificate.now) options (given (R.remaining reader.old) seed (store_of (option_map (λ n. n.now) save.entry))) refusals (W.contents writer.old) (W.contents writer.new) (outcome_of result) × SaysEach (said_of tell (option_map (λ n. n.now) save.entry) refusals) (seen E.contents E.failures E.waits errors.old) (seen E.contents E.failures E.waits errors.new) }
-    ensures writer { FlushesUnless W.failures W.waits writer.old writer.new (IsErrOf result (Problem.Failed Failure.Write)) }
-    ensures files { UsesUnless F.known F.failures files.old files.new (option_map (λ n. n.now) save.entry) (option_map (λ n. n.now) save.entry) (IsErrOf result (Problem.Failed Failure.File)) }
-    ensures could { IsErrOf result (Problem.Failed Failure.File) → IsOfEither (held F.known F.failures F.can_fail files.old) story.now certificate.now }
-    ensures reader { Blames (IsErrOf result (Problem.Failed Failure.Read)) (R.failures reader.old) (R.failures reader.new) }
-{
-    match accept(alloc, story, certificate, files)? {
-        AcceptedStory::Intervals(accepted) => play_accepted(
-            alloc, &accepted, seed, options, save, tell, files, reader, writer, errors,
-        ),
-        AcceptedStory::Lists(accepted) => play_accepted(
-            alloc, &accepted, seed, options, save, tell, files, reader, writer, errors,
-        ),
-    }
-}
-
-/// Plays an accepted story from its opening, with its saves in the file of a name, or nowhere.
-fn play_accepted<V: Spelled, F: Files, R: Source, W: Sink, E: Sink>(
-    alloc: Global,
-    accepted: &Accepted<V>,
-    seed: u64,
-    options: Options,
-    save: Option<&str>,
-    tell: bool,
-    files: &mut F,
-    reader: &mut R,
-    writer: &mut W,
-    errors: &mut E,
-) -> Result<End, Problem>
-    ensures comes { (refusals : List ARefusal) × ((story certificate : Option (List ℕ)) → IsAccepted V.operations V.format story certificate accepted.now → PlayEnds V.operations V.format story certificate options (given (R.remaining reader.old) seed (store_of (option_map (λ n. n.now) save.entry))) refusals (W.contents writer.old) (W.contents writer.new) (outcome_of result)) × SaysEach (said_of tell (option_map (λ n. n.now) save.entry) refusals) (seen E.contents E.failures E.waits errors.old) (seen E.contents E.failures E.waits errors.new) }
-    ensures writer { FlushesUnless W.failures W.waits writer.old writer.new (IsErrOf result (Problem.Failed Failure.Write)) }
-    ensures no_file { ¬ IsErrOf result (Problem.Failed Failure.File) }
-    ensures reader { Blames (IsErrOf result (Problem.Failed Failure.Read)) (R.failures reader.old) (R.failures reader.new) }
-    ensures unsaved { option_map (λ n. n.now) save.entry ≡ None → files.new ≡ files.old }
-    ensures spared { (other : List ℕ) → option_map (λ n. n.now) save.entry ≢ Some other → F.known files.new other ≡ F.known files.old other }
-{
-    match save {
-        Some(name) => {
-            let mut store = FileSaves::new(alloc, files, name, tell, errors);
-            play_accepted_keeping(alloc, accepted, seed, options, &mut store, reader, writer)
-        }
-        None => play_accepted_keeping(
-            alloc,
-            accepted,
-            seed,
-            options,
-            &mut NoSaves::new(),
-            reader,
-            writer,
-        ),
-    }
-}
-
-/// Plays an accepted story from its opening, with its saves in a store.
-fn play_accepted_keeping<V: Spelled, S: SaveStore, R: Source, W: Sink>(
-    alloc: Global,
-    accepted: &Accepted<V>,
-    seed: u64,
-    options: Options,
-    store: &mut S,
-    reader: &mut R,
-    writer: &mut W,
-) -> Result<End, Problem>
-    ensures comes { (refusals : List ARefusal) × ((story certificate : Option (List ℕ)) → IsAccepted V.operations V.format story certificate accepted.now → (S.kept store.old ≡ Some None → S.kept store.new ≡ Some None) → PlayEnds V.operations V.format story certificate options (given (R.remaining reader.old) seed (told_store S.kept S.failures store.old [])) refusals (W.contents writer.old) (W.contents writer.new) (outcome_of result)) × S.Follows store.old store.new refusals }
-    ensures writer { FlushesUnless W.failures W.waits writer.old writer.new (IsErrOf result (Problem.Failed Failure.Write)) }
-    ensures no_file { ¬ IsErrOf result (Problem.Failed Failure.File) }
-    ensures reader { Blames (IsErrOf result (Problem.Failed Failure.Read)) (R.failures reader.old) (R.failures reader.new) }
-{
-    let mut session = Session::start(alloc, accepted)?;
-    let end = zplayer::play_story(
-        alloc,
-        &mut session,
-        reader,
-        writer,
-        store,
-        &mut Seeded::new(seed),
-        options,
-    )?;
-    Ok(end)
 }
 
 fn outcome_of(played: Result<End, Problem>) -> Outcome

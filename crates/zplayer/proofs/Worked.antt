@@ -23,6 +23,8 @@ use Rattle.zplayer.specs.declared.end.PlayError.TheVariants as errors
 use Rattle.zplayer.specs.declared.lines.LineEnd.TheVariants.{Newline, Input}
 use Rattle.zplayer.specs.declared.lines.TheConstants.{KEPT, PIECE}
 use Rattle.zplayer.specs.declared.turns.TheConstants.{TURN}
+use Rattle.zplayer.specs.declared.outside.World.{World as Devices}
+use Rattle.zplayer.specs.Devices.{SameDevices, seen}
 use Rattle.zplayer.specs.Lines.{BlamesReader, IsEnded, IsLast, ReadsLine, Hears, Takes, line_of, without_return}
 use Rattle.zplayer.specs.Outside.{Blames, BlamesWriter, Coming, CountsRefusal, words_of}
 use Rattle.zplayer.specs.Playing.{Breaks, GivesOrSaves, Leads, Meets, Plays, PlaysInPart, Stage, Walks, WantsOrSaves, Writes, WritesInPart, end_of, stage}
@@ -63,6 +65,14 @@ seen_to :
     BlamesWriter (λ (n : ℕ). n) (λ n. false) 3 3 ⊥ ⊤ × (BlamesWriter (λ (n : ℕ). n) (λ n. true) 3 3 ⊥ ⊤ → ⊥) × (BlamesWriter (λ (n : ℕ). n) (λ n. false) 3 4 ⊥ ⊤ → ⊥)
     × (BlamesReader (λ (n : ℕ). Some (1 ∷ [])) (λ (n : ℕ). n) 3 3 (record { held = []; ended = true }) ⊥ → ⊥)
 seen_to = (record { blamed = blamed.1; flushed = λ seen. refl }, (λ w. absurd (true≢false (w.flushed tt))), (λ w. blamed.2 w.blamed), λ r. absurd (let e : 1 ∷ [] ≡ [] = r.ended refl in cc))
+
+-- of a world is seen what its devices tell, behind what was read ahead; with another reader it isn't the same
+module _ {R W S G : Type 0} (devices : Devices R W S G) where
+  seen_behind : seen (λ _. Some (3 ∷ [])) (λ _. None) (λ _. Some None) (λ _. 2) (record { held = 1 ∷ 2 ∷ []; ended = false }) devices [] ≡ world (Some (1 ∷ 2 ∷ 3 ∷ [])) None (record { kept = Some None; failures = 2; refusals = [] })
+  seen_behind = refl
+
+  same : SameDevices devices devices × (SameDevices devices (record devices { reader = record devices.reader { ghost_name = suc devices.reader.ghost_name } }) → ⊥)
+  same = (record { reader = refl; writer = refl; store = refl; words = refl }, λ s. omega (arith, s.reader))
 
 -- ---- words
 

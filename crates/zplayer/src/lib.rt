@@ -13,6 +13,6 @@ mod turns;
 
 pub use end::{End, Options, PlayError};
 pub use laws::{plays_are_runs, story_plays_are_runs};
-pub use outside::{SaveStore, Words};
+pub use outside::{SaveStore, Words, World};
 pub use player::{play_checked, play_story};
 pub use seeded::Seeded;

@@ -1,4 +1,4 @@
-//! What a player asks of the world beside its reader and its writer.
+//! What a player has from outside.
 
 ghost use Rattle.std.specs.Prelude.{◌≡◌, ℕ, [], ◌∷◌, ◌++◌, List, None, Option, true};
 ghost use Rattle.zplayer.specs.Outside.{Coming, CountsRefusal};
@@ -6,6 +6,41 @@ ghost use Rattle.zplayer.specs.World.{Draws, Gets, Kept, Puts};
 ghost use Rattle.zquetzal.specs.declared.error.SaveError.{SaveError as ARefusal};
 
 use zquetzal::SaveError;
+
+/// What a play has from outside, all of it lent.
+#[derive(Drop)]
+pub struct World<'a, R, W, S, G> {
+    /// What it reads lines from.
+    pub reader: &'a mut R,
+    /// What it writes to.
+    pub writer: &'a mut W,
+    /// Where its saves go, and come from.
+    pub store: &'a mut S,
+    /// Its random words.
+    pub words: &'a mut G,
+}
+
+impl<'a, R, W, S, G> World<'a, R, W, S, G> {
+    /// The world of these devices.
+    pub fn new(
+        reader: &'a mut R,
+        writer: &'a mut W,
+        store: &'a mut S,
+        words: &'a mut G,
+    ) -> World<'a, R, W, S, G>
+        ensures reader { result.reader ≡ reader.entry }
+        ensures writer { result.writer ≡ writer.entry }
+        ensures store { result.store ≡ store.entry }
+        ensures words { result.words ≡ words.entry }
+    {
+        World {
+            reader,
+            writer,
+            store,
+            words,
+        }
+    }
+}
 
 /// Where saves are kept.
 pub trait SaveStore {

@@ -7,16 +7,17 @@ ghost use Rattle.zstate.specs.Run.{Stands, awaited};
 ghost use Rattle.zquetzal.specs.declared.error.SaveError.{SaveError as ARefusal};
 ghost use Rattle.zref.specs.Machine.{setting, SamePlay};
 ghost use Rattle.zplay.specs.Session.{setting_of};
+ghost use Rattle.zplayer.specs.Devices.{ComesOf, SameDevices, seen};
 ghost use Rattle.zplayer.specs.Lines.{BlamesReader, Hears, KnowsEnd, unused};
 ghost use Rattle.zplayer.specs.Outside.{Blames, BlamesWriter};
-ghost use Rattle.zplayer.specs.Playing.{ComesTo, GivesOrSaves, Supplies, WantsOrSaves};
+ghost use Rattle.zplayer.specs.Playing.{GivesOrSaves, Supplies, WantsOrSaves};
 ghost use Rattle.zplayer.specs.Stories.{Describes};
-ghost use Rattle.zplayer.specs.World.{Asks, told, world};
+ghost use Rattle.zplayer.specs.World.{Asks, told};
 
 use crate::end::{End, Options, PlayError};
 use crate::lines::Lines;
 use crate::machine::Machine;
-use crate::outside::{SaveStore, Words};
+use crate::outside::{SaveStore, Words, World};
 use crate::saving::{resume, save};
 use crate::turns::{HELD, flush, turn};
 use std::alloc::Global;
@@ -26,9 +27,9 @@ use zplay::Session;
 use zref::CheckedMachine;
 use zstate::Stop;
 
-/// Plays the machine from the state that it is in: makes at most the budget's steps, writes what they give out, with status
-/// lines where the options ask for them, and hands in what they need. A line comes from the reader, of which more may be read
-/// than was used, and before it is read all that was given out is written and flushed. A random word comes from `words`. A save goes
+/// Plays the machine from the state that it is in, with the devices of a world: makes at most the budget's steps, writes what they give out,
+/// with status lines where the options ask for them, and hands in what they need. A line comes from the reader, of which more may be read
+/// than was used, and before it is read all that was given out is written and flushed. A random word comes from the words. A save goes
 /// to the store, and comes from it: what doesn't go there, or from where the machine doesn't go on, the story is told, and plays on; of bytes that
 /// the machine refuses the store is told why.
 ///
@@ -44,18 +45,16 @@ use zstate::Stop;
 pub fn play_checked<R: Source, W: Sink, S: SaveStore, G: Words>(
     alloc: Global,
     machine: &mut CheckedMachine,
-    reader: &mut R,
-    writer: &mut W,
-    store: &mut S,
-    words: &mut G,
+    world: &mut World<'_, R, W, S, G>,
     options: Options,
 ) -> Result<End, PlayError>
     ensures play { SamePlay machine.old machine.new }
-    ensures comes { (refusals : List ARefusal) × ComesTo (setting machine.old) (λ _. ⊤) (WantsOrSaves (setting machine.old)) options (world (R.remaining reader.old) (G.coming words.old) (told S.kept S.failures store.old [])) machine.old.state machine.new.state (G.coming words.new) (told S.kept S.failures store.new refusals) (W.contents writer.old) (W.contents writer.new) result × S.Follows store.old store.new refusals }
-    ensures reads { Blames (IsErrOf result PlayError.Read) (R.failures reader.old) (R.failures reader.new) }
-    ensures writes { BlamesWriter W.failures W.waits writer.old writer.new (IsErrOf result PlayError.Write) (¬ IsErrOf result PlayError.Write) }
+    ensures devices { SameDevices world.old world.new }
+    ensures comes { ComesOf R.remaining G.coming S.kept S.failures W.contents S.Follows (setting machine.old) (λ _. ⊤) (WantsOrSaves (setting machine.old)) options world.old machine.old.state world.new machine.new.state result }
+    ensures reads { Blames (IsErrOf result PlayError.Read) (R.failures world.old.reader.now) (R.failures world.new.reader.now) }
+    ensures writes { BlamesWriter W.failures W.waits world.old.writer.now world.new.writer.now (IsErrOf result PlayError.Write) (¬ IsErrOf result PlayError.Write) }
 {
-    play_machine(alloc, machine, reader, writer, store, words, options)
+    play_machine(alloc, machine, world, options)
 }
 
 /// Plays the session from the state that it is in, as `play_checked` does a machine. It meets no fault. It goes on from those saves
@@ -63,19 +62,17 @@ pub fn play_checked<R: Source, W: Sink, S: SaveStore, G: Words>(
 pub fn play_story<V: Spelled, R: Source, W: Sink, S: SaveStore, G: Words>(
     alloc: Global,
     session: &mut Session<'_, V>,
-    reader: &mut R,
-    writer: &mut W,
-    store: &mut S,
-    words: &mut G,
+    world: &mut World<'_, R, W, S, G>,
     options: Options,
 ) -> Result<End, PlayError>
     ensures play { session.new.accepted ≡ session.old.accepted }
-    ensures comes { (refusals : List ARefusal) × ComesTo (setting_of session.old.accepted) (Describes V.operations session.old.accepted) (GivesOrSaves (setting_of session.old.accepted)) options (world (R.remaining reader.old) (G.coming words.old) (told S.kept S.failures store.old [])) session.old.state session.new.state (G.coming words.new) (told S.kept S.failures store.new refusals) (W.contents writer.old) (W.contents writer.new) result × S.Follows store.old store.new refusals }
+    ensures devices { SameDevices world.old world.new }
+    ensures comes { ComesOf R.remaining G.coming S.kept S.failures W.contents S.Follows (setting_of session.old.accepted) (Describes V.operations session.old.accepted) (GivesOrSaves (setting_of session.old.accepted)) options world.old session.old.state world.new session.new.state result }
     ensures no_fault { IfOk result (λ end. (fault : AFault) (place : ℤ) → end ≢ End.Fault fault place) }
-    ensures reads { Blames (IsErrOf result PlayError.Read) (R.failures reader.old) (R.failures reader.new) }
-    ensures writes { BlamesWriter W.failures W.waits writer.old writer.new (IsErrOf result PlayError.Write) (¬ IsErrOf result PlayError.Write) }
+    ensures reads { Blames (IsErrOf result PlayError.Read) (R.failures world.old.reader.now) (R.failures world.new.reader.now) }
+    ensures writes { BlamesWriter W.failures W.waits world.old.writer.now world.new.writer.now (IsErrOf result PlayError.Write) (¬ IsErrOf result PlayError.Write) }
 {
-    let played = play_machine(alloc, session, reader, writer, store, words, options);
+    let played = play_machine(alloc, session, world, options);
     session.never_faults();
     played
 }
@@ -84,22 +81,20 @@ pub fn play_story<V: Spelled, R: Source, W: Sink, S: SaveStore, G: Words>(
 fn play_machine<M: Machine, R: Source, W: Sink, S: SaveStore, G: Words>(
     alloc: Global,
     machine: &mut M,
-    reader: &mut R,
-    writer: &mut W,
-    store: &mut S,
-    words: &mut G,
+    world: &mut World<'_, R, W, S, G>,
     options: Options,
 ) -> Result<End, PlayError>
     ensures play { M.IsSamePlay machine.old machine.new }
-    ensures comes { (refusals : List ARefusal) × ComesTo (M.setting machine.old) (M.Takes machine.old) (M.Wants (M.setting machine.old)) options (world (R.remaining reader.old) (G.coming words.old) (told S.kept S.failures store.old [])) (M.state machine.old) (M.state machine.new) (G.coming words.new) (told S.kept S.failures store.new refusals) (W.contents writer.old) (W.contents writer.new) result × S.Follows store.old store.new refusals }
-    ensures reads { Blames (IsErrOf result PlayError.Read) (R.failures reader.old) (R.failures reader.new) }
-    ensures writes { BlamesWriter W.failures W.waits writer.old writer.new (IsErrOf result PlayError.Write) (¬ IsErrOf result PlayError.Write) }
+    ensures devices { SameDevices world.old world.new }
+    ensures comes { ComesOf R.remaining G.coming S.kept S.failures W.contents S.Follows (M.setting machine.old) (M.Takes machine.old) (M.Wants (M.setting machine.old)) options world.old (M.state machine.old) world.new (M.state machine.new) result }
+    ensures reads { Blames (IsErrOf result PlayError.Read) (R.failures world.old.reader.now) (R.failures world.new.reader.now) }
+    ensures writes { BlamesWriter W.failures W.waits world.old.writer.now world.new.writer.now (IsErrOf result PlayError.Write) (¬ IsErrOf result PlayError.Write) }
 {
-    match play_turns(alloc, machine, reader, writer, store, words, options) {
+    match play_turns(alloc, machine, world, options) {
         // At a failed read all was flushed before it.
         Err(error @ (PlayError::Write | PlayError::Read)) => Err(error),
         played => {
-            flush(writer)?;
+            flush(world.writer)?;
             played
         }
     }
@@ -109,25 +104,21 @@ fn play_machine<M: Machine, R: Source, W: Sink, S: SaveStore, G: Words>(
 fn play_turns<M: Machine, R: Source, W: Sink, S: SaveStore, G: Words>(
     alloc: Global,
     machine: &mut M,
-    reader: &mut R,
-    writer: &mut W,
-    store: &mut S,
-    words: &mut G,
+    world: &mut World<'_, R, W, S, G>,
     options: Options,
 ) -> Result<End, PlayError>
     ensures play { M.IsSamePlay machine.old machine.new }
-    ensures comes { (refusals : List ARefusal) × ComesTo (M.setting machine.old) (M.Takes machine.old) (M.Wants (M.setting machine.old)) options (world (R.remaining reader.old) (G.coming words.old) (told S.kept S.failures store.old [])) (M.state machine.old) (M.state machine.new) (G.coming words.new) (told S.kept S.failures store.new refusals) (W.contents writer.old) (W.contents writer.new) result × S.Follows store.old store.new refusals }
-    ensures reads { Blames (IsErrOf result PlayError.Read) (R.failures reader.old) (R.failures reader.new) }
-    ensures writes { BlamesWriter W.failures W.waits writer.old writer.new (IsErrOf result PlayError.Write) (IsErrOf result PlayError.Read) }
+    ensures devices { SameDevices world.old world.new }
+    ensures comes { ComesOf R.remaining G.coming S.kept S.failures W.contents S.Follows (M.setting machine.old) (M.Takes machine.old) (M.Wants (M.setting machine.old)) options world.old (M.state machine.old) world.new (M.state machine.new) result }
+    ensures reads { Blames (IsErrOf result PlayError.Read) (R.failures world.old.reader.now) (R.failures world.new.reader.now) }
+    ensures writes { BlamesWriter W.failures W.waits world.old.writer.now world.new.writer.now (IsErrOf result PlayError.Write) (IsErrOf result PlayError.Read) }
 {
     let mut items = Items::bounded(alloc, HELD);
     let mut lines = Lines::new();
     let mut left = options.budget;
     'turns: loop {
-        if let Some(stop) = turn(machine, writer, options.status, &mut left, &mut items)? {
-            if !supply(
-                alloc, stop, machine, &mut lines, reader, writer, store, words,
-            )? {
+        if let Some(stop) = turn(machine, world.writer, options.status, &mut left, &mut items)? {
+            if !supply(alloc, stop, machine, &mut lines, world)? {
                 return Ok(End::from(stop));
             }
         }
@@ -140,30 +131,28 @@ fn supply<M: Machine, R: Source, W: Sink, S: SaveStore, G: Words>(
     stop: Stop,
     machine: &mut M,
     lines: &mut Lines,
-    reader: &mut R,
-    writer: &mut W,
-    store: &mut S,
-    words: &mut G,
+    world: &mut World<'_, R, W, S, G>,
 ) -> Result<bool, PlayError>
     requires stands { Stands (M.setting machine.old) stop (M.state machine.old) }
-    requires ended { KnowsEnd lines.old (R.remaining reader.old) }
+    requires ended { KnowsEnd lines.old (R.remaining world.old.reader.now) }
     ensures play { M.IsSamePlay machine.old machine.new }
-    ensures supplied { IfOk result (λ some. (refusals : List ARefusal) × S.Follows store.old store.new refusals × ((before : List ARefusal) → Supplies (M.setting machine.old) (M.Takes machine.old) (M.state machine.old) (world (unused lines.old (R.remaining reader.old)) (G.coming words.old) (told S.kept S.failures store.old before)) some (M.state machine.new) (world (unused lines.new (R.remaining reader.new)) (G.coming words.new) (told S.kept S.failures store.new (refusals ++ before))))) }
-    ensures same { OnErr result ((M.state machine.new ≡ M.state machine.old) × (G.coming words.new ≡ G.coming words.old) × S.Follows store.old store.new [] × ((before : List ARefusal) → told S.kept S.failures store.new before ≡ told S.kept S.failures store.old before)) }
-    ensures kept { Keeps (W.contents writer.old) (W.contents writer.new) }
+    ensures devices { SameDevices world.old world.new }
+    ensures supplied { IfOk result (λ some. (refusals : List ARefusal) × S.Follows world.old.store.now world.new.store.now refusals × ((before : List ARefusal) → Supplies (M.setting machine.old) (M.Takes machine.old) (M.state machine.old) (seen R.remaining G.coming S.kept S.failures lines.old world.old before) some (M.state machine.new) (seen R.remaining G.coming S.kept S.failures lines.new world.new (refusals ++ before)))) }
+    ensures same { OnErr result ((M.state machine.new ≡ M.state machine.old) × (G.coming world.new.words.now ≡ G.coming world.old.words.now) × S.Follows world.old.store.now world.new.store.now [] × ((before : List ARefusal) → told S.kept S.failures world.new.store.now before ≡ told S.kept S.failures world.old.store.now before)) }
+    ensures kept { Keeps (W.contents world.old.writer.now) (W.contents world.new.writer.now) }
     ensures at_line { IsErrOf result PlayError.Read → awaited (M.setting machine.old) (M.state machine.old) ≡ Some Need.Line }
     ensures wanted { IsErrOf result PlayError.OutOfMemory → M.Wants (M.setting machine.old) (M.state machine.old) }
-    ensures reads { BlamesReader R.remaining R.failures reader.old reader.new lines.new (IsErrOf result PlayError.Read) }
-    ensures writes { BlamesWriter W.failures W.waits writer.old writer.new (IsErrOf result PlayError.Write) (IsErrOf result PlayError.Read) }
+    ensures reads { BlamesReader R.remaining R.failures world.old.reader.now world.new.reader.now lines.new (IsErrOf result PlayError.Read) }
+    ensures writes { BlamesWriter W.failures W.waits world.old.writer.now world.new.writer.now (IsErrOf result PlayError.Write) (IsErrOf result PlayError.Read) }
 {
     let Some(need) = machine.awaits(stop) else {
         return Ok(false);
     };
     if let Need::Restore = need {
-        resume(alloc, machine, store)?;
+        resume(alloc, machine, world.store)?;
         return Ok(true);
     }
-    match ask(alloc, need, machine, lines, reader, writer, store, words)? {
+    match ask(alloc, need, machine, lines, world)? {
         Some(event) => {
             machine.give(event);
             Ok(true)
@@ -178,31 +167,29 @@ fn ask<M: Machine, R: Source, W: Sink, S: SaveStore, G: Words>(
     need: Need,
     machine: &M,
     lines: &mut Lines,
-    reader: &mut R,
-    writer: &mut W,
-    store: &mut S,
-    words: &mut G,
+    world: &mut World<'_, R, W, S, G>,
 ) -> Result<Option<Event>, PlayError>
     requires awaits { awaited (M.setting machine.now) (M.state machine.now) ≡ Some need }
     requires event { need ≢ Need.Restore }
-    requires ended { KnowsEnd lines.old (R.remaining reader.old) }
-    ensures asked { IfOk result (λ event. (before : List ARefusal) → Asks (M.setting machine.now) (M.Takes machine.now) (M.state machine.now) need (world (unused lines.old (R.remaining reader.old)) (G.coming words.old) (told S.kept S.failures store.old before)) event (world (unused lines.new (R.remaining reader.new)) (G.coming words.new) (told S.kept S.failures store.new before))) }
-    ensures same { OnErr result ((G.coming words.new ≡ G.coming words.old) × (store.new ≡ store.old)) }
-    ensures kept { Keeps (W.contents writer.old) (W.contents writer.new) }
+    requires ended { KnowsEnd lines.old (R.remaining world.old.reader.now) }
+    ensures devices { SameDevices world.old world.new }
+    ensures asked { IfOk result (λ event. (before : List ARefusal) → Asks (M.setting machine.now) (M.Takes machine.now) (M.state machine.now) need (seen R.remaining G.coming S.kept S.failures lines.old world.old before) event (seen R.remaining G.coming S.kept S.failures lines.new world.new before)) }
+    ensures same { OnErr result ((G.coming world.new.words.now ≡ G.coming world.old.words.now) × (world.new.store.now ≡ world.old.store.now)) }
+    ensures kept { Keeps (W.contents world.old.writer.now) (W.contents world.new.writer.now) }
     ensures at_line { IsErrOf result PlayError.Read → need ≡ Need.Line }
     ensures wanted { IsErrOf result PlayError.OutOfMemory → M.Wants (M.setting machine.now) (M.state machine.now) }
-    ensures reads { BlamesReader R.remaining R.failures reader.old reader.new lines.new (IsErrOf result PlayError.Read) }
-    ensures writes { BlamesWriter W.failures W.waits writer.old writer.new (IsErrOf result PlayError.Write) (IsErrOf result PlayError.Read) }
-    ensures follows { S.Follows store.old store.new [] }
+    ensures reads { BlamesReader R.remaining R.failures world.old.reader.now world.new.reader.now lines.new (IsErrOf result PlayError.Read) }
+    ensures writes { BlamesWriter W.failures W.waits world.old.writer.now world.new.writer.now (IsErrOf result PlayError.Write) (IsErrOf result PlayError.Read) }
+    ensures follows { S.Follows world.old.store.now world.new.store.now [] }
 {
     match need {
         Need::Line => {
-            flush(writer)?;
-            let line = hear(lines, reader, writer)?;
+            flush(world.writer)?;
+            let line = hear(lines, world.reader, world.writer)?;
             Ok(line.map(Event::Line))
         }
-        Need::Random => Ok(Some(Event::Random(words.next()))),
-        Need::Saved => Ok(Some(Event::Saved(save(alloc, machine, store)?))),
+        Need::Random => Ok(Some(Event::Random(world.words.next()))),
+        Need::Saved => Ok(Some(Event::Saved(save(alloc, machine, world.store)?))),
         Need::Restore => unreachable!(),
     }
 }

@@ -18,7 +18,7 @@ returns-in_err-flush-in_default-clause-comes g c =
         told.0,
         told.1,
         handed_on _ _ _ _ c.from_residual.ensures
-            (subst (λ (e : PlayError). Breaks (g.M.Machine.setting c.args.machine.now) (g.M.Machine.Takes c.args.machine.now) (g.M.Machine.Wants (g.M.Machine.setting c.args.machine.now)) c.args.options.status (stage c.args.options.budget (g.M.Machine.state c.args.machine.now) (world (g.R.Source.remaining c.args.reader.now) (g.G.Words.coming c.args.words.now) (told_store g.S.SaveStore.kept g.S.SaveStore.failures c.args.store.now []))) (stage told.0 (g.M.Machine.state c.play_turns.new.machine) (world told.1 (g.G.Words.coming c.play_turns.new.words) (told_store g.S.SaveStore.kept g.S.SaveStore.failures c.play_turns.new.store comes.0))) (g.W.Sink.contents c.args.writer.now) (g.W.Sink.contents c.flush.new.writer) e) (sym c.in_err-flush-in_default.ensures.failed.0) part),
+            (subst (λ (e : PlayError). Breaks (g.M.Machine.setting c.args.machine.now) (g.M.Machine.Takes c.args.machine.now) (g.M.Machine.Wants (g.M.Machine.setting c.args.machine.now)) c.args.options.status (stage c.args.options.budget (g.M.Machine.state c.args.machine.now) (world (g.R.Source.remaining c.args.world.now.reader.now) (g.G.Words.coming c.args.world.now.words.now) (told_store g.S.SaveStore.kept g.S.SaveStore.failures c.args.world.now.store.now []))) (stage told.0 (g.M.Machine.state c.play_turns.new.machine) (world told.1 (g.G.Words.coming c.play_turns.new.world.words.now) (told_store g.S.SaveStore.kept g.S.SaveStore.failures c.play_turns.new.world.store.now comes.0))) (g.W.Sink.contents c.args.world.now.writer.now) (g.W.Sink.contents c.flush.new.writer) e) (sym c.in_err-flush-in_default.ensures.failed.0) part),
       ),
       comes.2,
     )

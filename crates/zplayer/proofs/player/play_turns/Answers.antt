@@ -1,12 +1,13 @@
 use Rattle.std.proofs.Common.{[], ◌++◌, refl, rules}
+use Rattle.zplayer.specs.Devices.{seen}
 use Rattle.zplayer.specs.Lines.{unused}
-use Rattle.zplayer.specs.World.{told, world}
 use Rattle.zplayer.proofs.Stages.{given_to_come, handed_on, starts, stood, supplied, supply_broke, turn_broke, turn_made}
 use Rattle.zplayer.proofs.player.play_turns.Goals as goal
 
 pub turns-init : goal.turns-init
 turns-init g c = record {
   play = g.met.M.Machine.itself _;
+  devices = record { reader = refl; writer = refl; store = refl; words = refl };
   so_far = ([], starts _ _ _ _ _ _ _ _ _ _ c.new-lines.ensures, g.met.S.SaveStore.itself _);
   ended = search rules;
   unread = refl;
@@ -19,6 +20,7 @@ turns-preserved g c =
     let same = g.met.M.Machine.same_setting _ _ so_far.play in
     record {
       play = g.met.M.Machine.through _ _ _ so_far.play c.in_ok-stop.ensures.play;
+      devices = search rules;
       so_far = (so_far.so_far.0, turn_made _ _ g.M.Machine.Wants _ _ _ _ _ _ _ so_far.so_far.1 _ same _ _ _ c.in_ok-stop.ensures.ok, so_far.so_far.2);
       ended = so_far.ended;
       unread = so_far.unread;
@@ -36,6 +38,7 @@ turns-preserved-else-not-branch g c =
     let had = rw c.if-not-branch.false at c.in_ok-supply.ensures.supplied in
     record {
       play = g.met.M.Machine.through _ _ _ turned c.in_ok-supply.ensures.play;
+      devices = search rules;
       so_far = (had.0 ++ so_far.so_far.0, supplied _ _ g.M.Machine.Wants _ _ _ _ _ _ _ _ _ made _ now _ takes _ _ c.in_ok-supply.ensures.kept _ (had.2 so_far.so_far.0), g.met.S.SaveStore.through _ _ _ _ _ so_far.so_far.2 had.1);
       ended = c.in_ok-supply.ensures.reads.ended;
       unread = search rules;
@@ -50,7 +53,7 @@ returns-in_err-stop-clause-comes g c =
       so_far.so_far.0,
       (
         c.turn.new.left,
-        unused c.turns.lines (g.R.Source.remaining c.turns.reader),
+        unused c.turns.lines (g.R.Source.remaining c.turns.world.reader.now),
         handed_on _ _ _ _ c.from_residual.ensures (turn_broke _ _ g.M.Machine.Wants _ _ _ _ _ _ _ so_far.so_far.1 _ same _ _ _ _ _ refl e.no_read e.finished e.wanted e.in_part),
       ),
       so_far.so_far.2,
@@ -69,7 +72,7 @@ returns-in_err-supply-clause-comes g c =
       r,
       (
         c.turn.new.left,
-        unused c.turns.lines (g.R.Source.remaining c.turns.reader),
+        unused c.turns.lines (g.R.Source.remaining c.turns.world.reader.now),
         handed_on _ _ _ _ c.from_residual-in_err-supply.ensures (supply_broke _ _ g.M.Machine.Wants _ _ _ _ _ _ _ _ _ made _ now _ takes _ _ e.kept _ _ _ _ refl (e.same.0, e.same.1, e.same.3 r) e.at_line e.wanted),
       ),
       g.met.S.SaveStore.through _ _ _ _ _ so_far.so_far.2 e.same.2,
@@ -89,9 +92,9 @@ returns-then-not-branch-clause-comes g c =
       r,
       (
         c.turn.new.left,
-        unused c.turns.lines (g.R.Source.remaining c.turns.reader),
+        unused c.turns.lines (g.R.Source.remaining c.turns.world.reader.now),
         rw c.from.ensures
-            (stood _ _ g.M.Machine.Wants _ _ _ _ _ _ _ _ _ made _ now _ takes _ _ c.in_ok-supply.ensures.kept _ _ c.in-Some.stop _ same still.0 still.1 (world (unused c.supply.new.lines (g.R.Source.remaining c.supply.new.reader)) (g.G.Words.coming c.supply.new.words) (told g.S.SaveStore.kept g.S.SaveStore.failures c.supply.new.store r)) refl refl (had.2 so_far.so_far.0)),
+            (stood _ _ g.M.Machine.Wants _ _ _ _ _ _ _ _ _ made _ now _ takes _ _ c.in_ok-supply.ensures.kept _ _ c.in-Some.stop _ same still.0 still.1 (seen g.R.Source.remaining g.G.Words.coming g.S.SaveStore.kept g.S.SaveStore.failures c.supply.new.lines c.supply.new.world r) refl refl (had.2 so_far.so_far.0)),
       ),
       g.met.S.SaveStore.through _ _ _ _ _ so_far.so_far.2 had.1,
     )

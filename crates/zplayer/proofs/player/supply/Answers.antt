@@ -1,6 +1,5 @@
-use Rattle.std.proofs.Common.{[], refl, rules}
-use Rattle.zplayer.specs.Lines.{unused}
-use Rattle.zplayer.specs.World.{told, world}
+use Rattle.std.proofs.Common.{[], rules}
+use Rattle.zplayer.specs.Devices.{seen}
 use Rattle.zplayer.proofs.Stages.{answer_fits, event_supplies, none_supplies, restores_supply}
 use Rattle.zplayer.proofs.player.supply.Goals as goal
 
@@ -15,8 +14,9 @@ returns-in-Restore-clause-supplied g c =
 pub give-requires : goal.give-requires
 give-requires g c =
     let asked = rw c.in-Some-2.is at c.in_ok-event.ensures.asked in
-    let old = world (unused c.args.lines.now (g.R.Source.remaining c.args.reader.now)) (g.G.Words.coming c.args.words.now) (told g.S.SaveStore.kept g.S.SaveStore.failures c.args.store.now []) in
-    let new = world (unused c.ask.new.lines (g.R.Source.remaining c.ask.new.reader)) (g.G.Words.coming c.ask.new.words) (told g.S.SaveStore.kept g.S.SaveStore.failures c.ask.new.store []) in (
+    let world = seen g.R.Source.remaining g.G.Words.coming g.S.SaveStore.kept g.S.SaveStore.failures in
+    let old = world c.args.lines.now c.args.world.now [] in
+    let new = world c.ask.new.lines c.ask.new.world [] in (
       c.in-Some.need,
       search (rules, c.awaits.ensures, c.in-Some.is),
       answer_fits (g.M.Machine.setting c.args.machine.now) (g.M.Machine.Takes c.args.machine.now) (g.M.Machine.state c.args.machine.now) old new c.in-Some.need c.in-Some-2.event (asked []),
@@ -30,11 +30,11 @@ returns-in-Some-2-clause-supplied g c =
 pub returns-in-None-clause-supplied : goal.returns-in-None-clause-supplied
 returns-in-None-clause-supplied g c =
     let asked = rw c.in-None.is at c.in_ok-event.ensures.asked in
-    let store = told g.S.SaveStore.kept g.S.SaveStore.failures in (
+    let world = seen g.R.Source.remaining g.G.Words.coming g.S.SaveStore.kept g.S.SaveStore.failures in (
       [],
       c.in_ok-event.ensures.follows,
       λ before.
-          let old = world (unused c.args.lines.now (g.R.Source.remaining c.args.reader.now)) (g.G.Words.coming c.args.words.now) (store c.args.store.now before) in
-          let new = world (unused c.ask.new.lines (g.R.Source.remaining c.ask.new.reader)) (g.G.Words.coming c.ask.new.words) (store c.ask.new.store before) in
+          let old = world c.args.lines.now c.args.world.now before in
+          let new = world c.ask.new.lines c.ask.new.world before in
           none_supplies (g.M.Machine.setting c.args.machine.now) (g.M.Machine.Takes c.args.machine.now) (g.M.Machine.state c.args.machine.now) c.in-Some.need old new (search (rules, c.awaits.ensures, c.in-Some.is)) (asked before),
     )

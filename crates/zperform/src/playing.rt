@@ -1,0 +1,217 @@
+//! Playing a story from its opening.
+
+ghost use Rattle.std.specs.Prelude.{◌≡◌, ◌≢◌, ℕ, true, IsErrOf, List, None, Option, Some};
+ghost use Rattle.zplayer.specs.Devices.{SameDevices as SameWorld};
+ghost use Rattle.zplayer.specs.Outside.{Blames};
+ghost use Rattle.zplayer.specs.declared.end.Options.{Options as HowToPlay};
+ghost use Rattle.zperform.specs.Accepting.{IsAccepted, IsOfEither, PlayComesTo, PlayEnds};
+ghost use Rattle.zperform.specs.Devices.{FlushesUnless, UsesUnless, held, seen};
+ghost use Rattle.zperform.specs.Performing.{given};
+ghost use Rattle.zperform.specs.Played.{Account, ComesOut, ComesOutIn, ComesOutOf, SameDevices, file_of};
+ghost use Rattle.zperform.specs.Playing.{ComesTo, Holds};
+ghost use Rattle.zperform.specs.Report.{outcome_of};
+
+use crate::accepting::{AcceptedStory, STORY_LIMIT, accept, load};
+use crate::files::{Files, read_file};
+use crate::outcome::{Failure, Problem};
+use crate::saves::{FileSaves, NoSaves};
+use std::alloc::Global;
+use zcert::Spelled;
+use zcheck::Accepted;
+use zfault::{Sink, Source};
+use zplay::Session;
+use zplayer::{End, Options, SaveStore, Seeded, Words, World, play_checked, play_story};
+use zref::{CheckedMachine, Scope};
+use zstory::Story;
+
+/// What is asked of a play.
+#[derive(Clone, Copy)]
+pub struct Asked<'a> {
+    /// What its random words come of.
+    pub seed: u64,
+    /// How it is played.
+    pub options: Options,
+    /// The name of the file for its saves. With none each save fails.
+    pub save: Option<&'a str>,
+    /// Whether it tells of saves that are refused.
+    pub tell: bool,
+}
+
+/// The devices of a command, all of them lent.
+#[derive(Drop)]
+pub struct Devices<'a, F, R, W, E> {
+    pub files: &'a mut F,
+    pub reader: &'a mut R,
+    pub writer: &'a mut W,
+    pub errors: &'a mut E,
+}
+
+impl<'a, F, R, W, E> Devices<'a, F, R, W, E> {
+    /// These devices.
+    pub fn new(
+        files: &'a mut F,
+        reader: &'a mut R,
+        writer: &'a mut W,
+        errors: &'a mut E,
+    ) -> Devices<'a, F, R, W, E>
+        ensures files { result.files ≡ files.entry }
+        ensures reader { result.reader ≡ reader.entry }
+        ensures writer { result.writer ≡ writer.entry }
+        ensures errors { result.errors ≡ errors.entry }
+    {
+        Devices {
+            files,
+            reader,
+            writer,
+            errors,
+        }
+    }
+}
+
+/// What can be played from its opening.
+pub trait Playable {
+    /// What is said of how a play of it comes out.
+    ghost Comes: { Self → HowToPlay → Account };
+
+    /// Plays it with the devices of a world.
+    fn play<R: Source, W: Sink, S: SaveStore, G: Words>(
+        &self,
+        alloc: Global,
+        options: Options,
+        world: &mut World<'_, R, W, S, G>,
+    ) -> Result<End, Problem>
+        ensures devices { SameWorld world.old world.new }
+        ensures comes { ComesOutIn R.remaining G.coming S.kept S.failures W.contents S.Follows (Comes self.now options) world.old world.new result }
+        ensures writer { FlushesUnless W.failures W.waits world.old.writer.now world.new.writer.now (IsErrOf result (Problem.Failed Failure.Write)) }
+        ensures no_file { ¬ IsErrOf result (Problem.Failed Failure.File) }
+        ensures reader { Blames (IsErrOf result (Problem.Failed Failure.Read)) (R.failures world.old.reader.now) (R.failures world.new.reader.now) };
+}
+
+/// A story is checked as it is played.
+impl Playable for Story {
+    ghost Comes = { λ story options given refusals before now outcome. (file : List ℕ) → Holds file story → ComesTo (Some file) options given refusals before now outcome };
+
+    fn play<R: Source, W: Sink, S: SaveStore, G: Words>(
+        &self,
+        alloc: Global,
+        options: Options,
+        world: &mut World<'_, R, W, S, G>,
+    ) -> Result<End, Problem> {
+        let mut machine = CheckedMachine::new(alloc, self, Scope::All)?;
+        let end = play_checked(alloc, &mut machine, world, options)?;
+        Ok(end)
+    }
+}
+
+/// One that is accepted meets no fault.
+impl<V: Spelled> Playable for Accepted<V> {
+    ghost Comes = { λ accepted options given refusals before now outcome. (story certificate : Option (List ℕ)) → IsAccepted V.operations V.format story certificate accepted → PlayEnds V.operations V.format story certificate options given refusals before now outcome };
+
+    fn play<R: Source, W: Sink, S: SaveStore, G: Words>(
+        &self,
+        alloc: Global,
+        options: Options,
+        world: &mut World<'_, R, W, S, G>,
+    ) -> Result<End, Problem> {
+        let mut session = Session::start(alloc, self)?;
+        let end = play_story(alloc, &mut session, world, options)?;
+        Ok(end)
+    }
+}
+
+/// Plays a story from its file.
+pub fn play<F: Files, R: Source, W: Sink, E: Sink>(
+    alloc: Global,
+    name: &str,
+    asked: Asked<'_>,
+    devices: &mut Devices<'_, F, R, W, E>,
+) -> Result<End, Problem>
+    ensures devices { SameDevices devices.old devices.new }
+    ensures comes { ComesOut R.remaining W.contents (seen E.contents E.failures E.waits) (ComesTo (F.known devices.old.files.now name.now) asked.entry.options) asked.entry devices.old devices.new result }
+    ensures writer { FlushesUnless W.failures W.waits devices.old.writer.now devices.new.writer.now (IsErrOf result (Problem.Failed Failure.Write)) }
+    ensures files { UsesUnless F.known F.failures devices.old.files.now devices.new.files.now (file_of asked.entry) (file_of asked.entry) (IsErrOf result (Problem.Failed Failure.File)) }
+    ensures could { IsErrOf result (Problem.Failed Failure.File) → F.can_fail devices.old.files.now name.now ≡ true }
+    ensures reader { Blames (IsErrOf result (Problem.Failed Failure.Read)) (R.failures devices.old.reader.now) (R.failures devices.new.reader.now) }
+{
+    let file = read_file(alloc, devices.files, name, STORY_LIMIT)?;
+    let story = load(alloc, file)?;
+    play_saving(alloc, &story, asked, devices)
+}
+
+/// Plays a story that is accepted with a certificate, each in its file.
+pub fn play_by_certificate<F: Files, R: Source, W: Sink, E: Sink>(
+    alloc: Global,
+    story: &str,
+    certificate: &str,
+    asked: Asked<'_>,
+    devices: &mut Devices<'_, F, R, W, E>,
+) -> Result<End, Problem>
+    ensures devices { SameDevices devices.old devices.new }
+    ensures comes { ComesOut R.remaining W.contents (seen E.contents E.failures E.waits) (PlayComesTo (F.known devices.old.files.now story.now) (F.known devices.old.files.now certificate.now) asked.entry.options) asked.entry devices.old devices.new result }
+    ensures writer { FlushesUnless W.failures W.waits devices.old.writer.now devices.new.writer.now (IsErrOf result (Problem.Failed Failure.Write)) }
+    ensures files { UsesUnless F.known F.failures devices.old.files.now devices.new.files.now (file_of asked.entry) (file_of asked.entry) (IsErrOf result (Problem.Failed Failure.File)) }
+    ensures could { IsErrOf result (Problem.Failed Failure.File) → IsOfEither (held F.known F.failures F.can_fail devices.old.files.now) story.now certificate.now }
+    ensures reader { Blames (IsErrOf result (Problem.Failed Failure.Read)) (R.failures devices.old.reader.now) (R.failures devices.new.reader.now) }
+{
+    match accept(alloc, story, certificate, devices.files)? {
+        AcceptedStory::Intervals(accepted) => play_saving(alloc, &accepted, asked, devices),
+        AcceptedStory::Lists(accepted) => play_saving(alloc, &accepted, asked, devices),
+    }
+}
+
+/// Plays from an opening, with the saves in the file of a name, or nowhere.
+fn play_saving<P: Playable, F: Files, R: Source, W: Sink, E: Sink>(
+    alloc: Global,
+    playable: &P,
+    asked: Asked<'_>,
+    devices: &mut Devices<'_, F, R, W, E>,
+) -> Result<End, Problem>
+    ensures devices { SameDevices devices.old devices.new }
+    ensures comes { ComesOut R.remaining W.contents (seen E.contents E.failures E.waits) (P.Comes playable.now asked.entry.options) asked.entry devices.old devices.new result }
+    ensures writer { FlushesUnless W.failures W.waits devices.old.writer.now devices.new.writer.now (IsErrOf result (Problem.Failed Failure.Write)) }
+    ensures no_file { ¬ IsErrOf result (Problem.Failed Failure.File) }
+    ensures reader { Blames (IsErrOf result (Problem.Failed Failure.Read)) (R.failures devices.old.reader.now) (R.failures devices.new.reader.now) }
+    ensures unsaved { file_of asked.entry ≡ None → devices.new.files.now ≡ devices.old.files.now }
+    ensures spared { (other : List ℕ) → file_of asked.entry ≢ Some other → F.known devices.new.files.now other ≡ F.known devices.old.files.now other }
+{
+    match asked.save {
+        Some(name) => {
+            let mut store = FileSaves::new(alloc, devices.files, name, asked.tell, devices.errors);
+            play_keeping(
+                alloc,
+                playable,
+                asked,
+                &mut store,
+                devices.reader,
+                devices.writer,
+            )
+        }
+        None => play_keeping(
+            alloc,
+            playable,
+            asked,
+            &mut NoSaves::new(),
+            devices.reader,
+            devices.writer,
+        ),
+    }
+}
+
+/// Plays from an opening, with the saves in a store, and with the words of the seed.
+fn play_keeping<P: Playable, S: SaveStore, R: Source, W: Sink>(
+    alloc: Global,
+    playable: &P,
+    asked: Asked<'_>,
+    store: &mut S,
+    reader: &mut R,
+    writer: &mut W,
+) -> Result<End, Problem>
+    ensures comes { ComesOutOf S.kept S.failures S.Follows (λ s. P.Comes playable.now asked.entry.options (given (R.remaining reader.old) asked.entry.seed s)) store.old store.new (W.contents writer.old) (W.contents writer.new) result }
+    ensures writer { FlushesUnless W.failures W.waits writer.old writer.new (IsErrOf result (Problem.Failed Failure.Write)) }
+    ensures no_file { ¬ IsErrOf result (Problem.Failed Failure.File) }
+    ensures reader { Blames (IsErrOf result (Problem.Failed Failure.Read)) (R.failures reader.old) (R.failures reader.new) }
+{
+    let mut words = Seeded::new(asked.seed);
+    let mut world = World::new(reader, writer, store, &mut words);
+    playable.play(alloc, asked.options, &mut world)
+}
