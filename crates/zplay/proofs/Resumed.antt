@@ -12,10 +12,10 @@ use Rattle.zquetzal.specs.declared.error.SaveError.TheVariants as errors
 use Rattle.zquetzal.specs.Reading.{reading}
 use Rattle.zquetzal.specs.Saved.{AreFrames, Saved}
 use Rattle.zjudge.specs.Judging.{IsJudged, listed_setting}
-use Rattle.zcert.specs.Certificate.{Certificate}
+use Rattle.zcert.specs.Certificate.{Certificate, frame_limit}
 use Rattle.zrule.specs.Claims.{claims_of}
 use Rattle.zframe.specs.Frames.{Frame}
-use Rattle.zstate.specs.State.{Frame as StateFrame, IsState, State, usual_limit}
+use Rattle.zstate.specs.State.{Frame as StateFrame, IsState, State}
 use Rattle.zstate.specs.Saves.{StatesAreSaved, going_on, restoring, resumed, save_place, taken_frame, with_frames}
 use Rattle.zboard.specs.declared.board.Board.{Board}
 use Rattle.zboard.specs.declared.row.Row.{Row}
@@ -32,7 +32,8 @@ use Rattle.zboard.proofs.Landing.{address_found, address_of_record, index_there,
 use Rattle.zboard.proofs.Laying.{resumed_by}
 use Rattle.zrule.specs.declared.rule.Rule.TheVariants as rules
 use Rattle.zrule.specs.Described.{Described}
-use Rattle.zcheck.specs.Acceptance.{AcceptanceOver}
+use Rattle.zcert.proofs.Limit.{frame_limit_most}
+use Rattle.zcheck.specs.Acceptance.{AcceptanceOver, limit_of}
 use Rattle.zplay.specs.Accepted.{IsAccepted, claims}
 use Rattle.zplay.specs.Session.{IsInPlay, IsPlayed, IsRefusedSave, game_of, setting_of, stands_in}
 use Rattle.zplay.proofs.Accepting.{listed_each, supported}
@@ -75,10 +76,10 @@ module _ {V : Type 0} (o : SetOperations V) (lawful : AreSound o) (format : Form
       let size = play.described.memory.long in
       record {
         inside = inside;
-        whole = law usual_limit a.story (state_at a.listing p) (address_at a.listing p.at) play.accepted.loaded.sound play.described.is_state (omega arith) refl (omega (arith, within, here, size));
+        whole = law (limit_of a) a.story (state_at a.listing p) (address_at a.listing p.at) play.accepted.loaded.sound play.described.is_state (frame_limit_most format a.certificate play.accepted.spelling) refl (omega (arith, within, here, size));
       }
 
-  module _ (rows : List Row) (heads : List Head) (p : Position) (play : IsInPlay o format a rows heads p) (saved : Saved) (are : AreFrames saved.frames) (d : Described o (claims o a) usual_limit a.story (resumed a.story saved (state_in (game_of o a) p))) where
+  module _ (rows : List Row) (heads : List Head) (p : Position) (play : IsInPlay o format a rows heads p) (saved : Saved) (are : AreFrames saved.frames) (d : Described o (claims o a) (limit_of a) a.story (resumed a.story saved (state_in (game_of o a) p))) where
     listed : IsListedAt a.listing (save_place saved)
     listed = record {
       place = d.at;
@@ -92,7 +93,7 @@ module _ {V : Type 0} (o : SetOperations V) (lawful : AreSound o) (format : Form
     pub in_play_resumed : IsInPlay o format a rows heads (resumed_at a.story a.listing saved p)
     in_play_resumed =
         let q : Position = resumed_at a.story a.listing saved p in
-        let described : Described o (claims o a) usual_limit a.story (state_in (game_of o a) q) = subst (Described o (claims o a) usual_limit a.story) (sym stands) d in
+        let described : Described o (claims o a) (limit_of a) a.story (state_in (game_of o a) q) = subst (Described o (claims o a) (limit_of a) a.story) (sym stands) d in
         let same_length : length rows ≡ length a.listing.records = sym (length-map rows deed_of) ∙ ap length play.playable.table ∙ length-map a.listing.records (deed_in (game_of o a)) in
         let inside = (lands a.listing (save_place saved) listed).within in
         record {
@@ -112,14 +113,15 @@ module _ {V : Type 0} (o : SetOperations V) (lawful : AreSound o) (format : Form
 -- ---- what is answered of a save
 
 -- a session stands in a described state
-pub described_in : {V : Type 0} (o : SetOperations V) (format : Format V) (a : AcceptanceOver V) (rows : List Row) (heads : List Head) (board : Option Board) → IsPlayed o format a rows heads board → Described o (claims o a) usual_limit a.story (stands_in o a board)
+pub described_in : {V : Type 0} (o : SetOperations V) (format : Format V) (a : AcceptanceOver V) (rows : List Row) (heads : List Head) (board : Option Board) → IsPlayed o format a rows heads board → Described o (claims o a) (limit_of a) a.story (stands_in o a board)
 described_in o format a rows heads None play = absurd play
 described_in o format a rows heads (Some board) play = play.described
 
 module _ {V : Type 0} (o : SetOperations V) (a : AcceptanceOver V) (s : State) (saved : Saved) (bytes : List ℕ) (is : reading a.story bytes ≡ Ok saved) where
   pub refused_is : (e : SaveError) → IsJudged o (claims o a) {X = Unit {0}} (setting_of a) saved s (Err e) → IsRefusedSave o (record { accepted = a; state = s }) bytes e
   refused_is errors.Place j = inl (rw is j)
-  refused_is errors.NotDescribed j = inr (refl, resumed a.story saved s, rw is j.0, j.1)
+  refused_is errors.NotDescribed (inl many) = inl (rw is many)
+  refused_is errors.NotDescribed (inr (goes, other)) = inr (refl, resumed a.story saved s, rw is goes, other)
   refused_is errors.NotForm j = absurd j
   refused_is errors.Length j = absurd j
   refused_is errors.ChunkMissing j = absurd j
@@ -131,11 +133,11 @@ module _ {V : Type 0} (o : SetOperations V) (a : AcceptanceOver V) (s : State) (
   refused_is errors.OutOfMemory j = absurd j
 
   -- where it was judged by what the session has
-  pub refused_by : (story : LoadedStory) (certificate : Certificate V) (listing : ListedCode) (e : SaveError) → story ≡ a.story → certificate ≡ a.certificate → listing ≡ a.listing → ((t : State) → IsState usual_limit story t → IsJudged o (claims_of o certificate) {X = Unit {0}} (listed_setting story listing) saved t (Err e)) → IsState usual_limit a.story s → IsRefusedSave o (record { accepted = a; state = s }) bytes e
+  pub refused_by : (story : LoadedStory) (certificate : Certificate V) (listing : ListedCode) (e : SaveError) → story ≡ a.story → certificate ≡ a.certificate → listing ≡ a.listing → ((t : State) → IsState (frame_limit certificate) story t → IsJudged o (claims_of o certificate) {X = Unit {0}} (listed_setting story listing (frame_limit certificate)) saved t (Err e)) → IsState (limit_of a) a.story s → IsRefusedSave o (record { accepted = a; state = s }) bytes e
   refused_by story certificate listing e of_story of_certificate of_listing judged is_state =
-      let one = subst (λ (x : LoadedStory). (t : State) → IsState usual_limit x t → IsJudged o (claims_of o certificate) {X = Unit {0}} (listed_setting x listing) saved t (Err e)) of_story judged in
-      let two = subst (λ (x : Certificate V). (t : State) → IsState usual_limit a.story t → IsJudged o (claims_of o x) {X = Unit {0}} (listed_setting a.story listing) saved t (Err e)) of_certificate one in
-      let three = subst (λ (x : ListedCode). (t : State) → IsState usual_limit a.story t → IsJudged o (claims_of o a.certificate) {X = Unit {0}} (listed_setting a.story x) saved t (Err e)) of_listing two in
+      let one = subst (λ (x : LoadedStory). (t : State) → IsState (frame_limit certificate) x t → IsJudged o (claims_of o certificate) {X = Unit {0}} (listed_setting x listing (frame_limit certificate)) saved t (Err e)) of_story judged in
+      let two = subst (λ (x : Certificate V). (t : State) → IsState (frame_limit x) a.story t → IsJudged o (claims_of o x) {X = Unit {0}} (listed_setting a.story listing (frame_limit x)) saved t (Err e)) of_certificate one in
+      let three = subst (λ (x : ListedCode). (t : State) → IsState (limit_of a) a.story t → IsJudged o (claims_of o a.certificate) {X = Unit {0}} (listed_setting a.story x (limit_of a)) saved t (Err e)) of_listing two in
       refused_is e (three s is_state)
 
   -- play goes on from one that wasn't

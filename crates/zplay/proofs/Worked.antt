@@ -29,6 +29,7 @@ either = record { lo = pos 3; hi = pos 4; ordered = omega arith }
 certificate : Certificate Interval
 certificate = record {
   identity = record { release = 0; serial = replicate 6 0; checksum = 0; length = 71 };
+  limit = None;
   ranges = [];
   globals = replicate 240 (point 3);
   routines = [];
@@ -43,7 +44,7 @@ firsts : (first_at interval_operations a 64 ≡ Some 5) × (first_at interval_op
 unfolding a certificate either story memory operation_of instruction_at head_at short_head checked_head operand_at operands_at store_if branch_if text_if
 firsts = (refl, refl, refl, refl)
 
--- only what is listed is played, with the usual limit of frames; where there is no board, it stands as it opens
+-- only what is listed is played, with 1,024 frames where the certificate names no limit; where there is no board, it stands as it opens
 games : ((game_of interval_operations a).setting.limit ≡ 1024) × ((game_of interval_operations a).setting.scope.instructions 70 ≡ false) × ((game_of interval_operations a).first 64 ≡ first_at interval_operations a 64) × (stands_in interval_operations a None ≡ opening story)
 unfolding a
 games = (refl, refl, refl, refl)

@@ -15,7 +15,7 @@ use Rattle.zflow.specs.Transfer.{read_set}
 use Rattle.zquetzal.specs.declared.error.SaveError.{SaveError}
 use Rattle.zquetzal.specs.declared.error.SaveError.TheVariants as errors
 use Rattle.zstate.specs.Saves.{restoring}
-use Rattle.zstate.specs.State.{State, Setting, opening, scope_only, usual_limit}
+use Rattle.zstate.specs.State.{State, Setting, opening, scope_only}
 use Rattle.zboard.specs.declared.row.Row.{Row}
 use Rattle.zboard.specs.declared.board.Board.{Board}
 use Rattle.zboard.specs.Position.{Position}
@@ -24,7 +24,7 @@ use Rattle.zboard.specs.Play.{Game, IsPlayable, state_in}
 use Rattle.zboard.specs.View.{position_of}
 use Rattle.zrule.specs.Claims.{entry_of}
 use Rattle.zrule.specs.Described.{Described, IsAcceptedIn}
-use Rattle.zcheck.specs.Acceptance.{AcceptanceOver}
+use Rattle.zcheck.specs.Acceptance.{AcceptanceOver, limit_of}
 use Rattle.zplay.specs.Accepted.{IsAccepted, claims}
 
 -- a session: what was accepted, over a type V of sets of words, and the state that it is in
@@ -36,16 +36,16 @@ pub record PlayingOver (V : Type 0) : Type 0 where
 abbrev pub Playing : Type 0
 Playing = PlayingOver Interval
 
--- what it is played in: the story, of which only what is listed is played
+-- what it is played in: the story, of which only what is listed is played, and as many frames as the certificate says
 abbrev pub setting_of : {V : Type 0} → AcceptanceOver V → Setting
-setting_of a = record { story = a.story; scope = scope_only a.listing; limit = usual_limit }
+setting_of a = record { story = a.story; scope = scope_only a.listing; limit = limit_of a }
 
 abbrev pub setting : {V : Type 0} → PlayingOver V → Setting
 setting p = setting_of p.accepted
 
 -- a session stands in a state that its certificate describes
 abbrev pub IsDescribed : {V : Type 0} → SetOperations V → PlayingOver V → Type 0
-IsDescribed o p = Described o (claims o p.accepted) usual_limit p.accepted.story p.state
+IsDescribed o p = Described o (claims o p.accepted) (limit_of p.accepted) p.accepted.story p.state
 
 -- what a session accepts: bytes of a save from which play goes on, and then in such a state
 abbrev pub Accepts : {V : Type 0} → SetOperations V → PlayingOver V → List ℕ → Type 0
@@ -55,7 +55,7 @@ Accepts o p bytes = IsAcceptedIn o (claims o p.accepted) (setting p) bytes p.sta
 abbrev pub IsRefusedSave : {V : Type 0} → SetOperations V → PlayingOver V → List ℕ → SaveError → Type 0
 IsRefusedSave o p bytes e =
     (restoring (setting p) bytes p.state ≡ Err e)
-    ⊎ ((e ≡ errors.NotDescribed) × (t : State) × (restoring (setting p) bytes p.state ≡ Ok t) × (Described o (claims o p.accepted) usual_limit p.accepted.story t → ⊥))
+    ⊎ ((e ≡ errors.NotDescribed) × (t : State) × (restoring (setting p) bytes p.state ≡ Ok t) × (Described o (claims o p.accepted) (limit_of p.accepted) p.accepted.story t → ⊥))
 
 -- ---- the board that it is played on
 
@@ -86,7 +86,7 @@ module _ {V : Type 0} (o : SetOperations V) where
     pub record IsInPlay (a : AcceptanceOver V) (rows : List Row) (heads : List Head) (p : Position) : Type 0 where
       pub accepted : IsAccepted o format a
       pub playable : IsPlayable (game_of a) rows heads p
-      pub described : Described o (claims o a) usual_limit a.story (state_in (game_of a) p)
+      pub described : Described o (claims o a) (limit_of a) a.story (state_in (game_of a) p)
 
     abbrev pub IsPlayed : AcceptanceOver V → List Row → List Head → Option Board → Type 0
     IsPlayed a rows heads None = ⊥

@@ -6,16 +6,16 @@ use Rattle.zcode.specs.Operation.{operation_of}
 use Rattle.zstory.specs.LoadedStory.{LoadedStory}
 use Rattle.zstate.specs.declared.halt.Halt.{Halt}
 use Rattle.zstate.specs.Run.{need_in}
-use Rattle.zstate.specs.State.{Scope, Setting, State}
+use Rattle.zstate.specs.State.{Setting, State}
 use Rattle.zstate.specs.Step.{Done, step}
 use Rattle.zstate.proofs.Quiet.{IsUnaided, waits_for_none}
 use Rattle.zref.specs.declared.plan.StepError.{StepError}
 use Rattle.zref.specs.declared.row.Row.{Row}
 use Rattle.zref.specs.Machine.{Judges}
-use Rattle.zref.specs.Row.{IsFetched, step_by, within}
+use Rattle.zref.specs.Row.{Bounds, IsFetched, step_by, within}
 use Rattle.zref.proofs.Stepping.{judged_by, step_alike}
 
-module _ (story : LoadedStory) (scope : Scope) (r : Row) (s : State) (found : IsFetched scope s.place s.memory r) where
+module _ (story : LoadedStory) (scope : Bounds) (r : Row) (s : State) (found : IsFetched scope.scope s.place s.memory r) where
   abbrev m : Setting
   m = within story scope
 

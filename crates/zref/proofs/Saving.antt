@@ -11,14 +11,14 @@ use Rattle.zstory.specs.Bytes.{byte_at}
 use Rattle.zstory.specs.LoadedStory.{LoadedStory, globals, static_base}
 use Rattle.zstate.specs.declared.halt.Halt.{Halt}
 use Rattle.zstate.specs.declared.halt.Halt.TheVariants as halts
-use Rattle.zstate.specs.State.{State, Scope, Setting, keeping_flags, popped, read_operands, restarted, usual_limit}
+use Rattle.zstate.specs.State.{State, Setting, keeping_flags, popped, read_operands, restarted}
 use Rattle.zstate.specs.Step.{act, admits, changed, course, effect_of, pauses, restarting, saving, settle, unrestored}
 use Rattle.zref.specs.declared.effect.Course.{Course}
 use Rattle.zref.specs.declared.effect.Course.TheVariants.{On, Back}
 use Rattle.zref.specs.declared.effect.Effect.{Effect as TheEffect}
 use Rattle.zref.specs.declared.row.Row.{Row}
 use Rattle.zref.specs.Plan.{IsOpenWay, IsReady, effect_with, move_of, proceeding, went}
-use Rattle.zref.specs.Row.{IsAsLoaded, StepsQuietly, inputs_of, plan_by, shape_of, within}
+use Rattle.zref.specs.Row.{Bounds, IsAsLoaded, StepsQuietly, inputs_of, plan_by, shape_of, within}
 use Rattle.zref.specs.Saves.{Asks, IsOfSaves, answered, told}
 use Rattle.zref.proofs.Doing.{went_is_act}
 use Rattle.zref.proofs.Fixed.{went_fixed}
@@ -68,16 +68,16 @@ pub ruleset telling = (kept_is, none_told, none_untold)
 -- ---- what is planned
 
 -- what wasn't told is needed
-needs_settled : (r : Row) (need : Need) (s : State) → settle usual_limit (shape_of r) (told need None) s ≡ Err (halts.Need need)
+needs_settled : {limit : ℕ} (r : Row) (need : Need) (s : State) → settle limit (shape_of r) (told need None) s ≡ Err (halts.Need need)
 unfolding admits pauses
 needs_settled r need s = refl
 
 -- that something is used up doesn't matter to what is settled
-settled_alike : (r : Row) (need : Need) (c : Bool) (s : State) → settle usual_limit (shape_of r) (told need (Some c)) s ≡ settle usual_limit (shape_of r) (effect_with (asks_of c) []) s
+settled_alike : {limit : ℕ} (r : Row) (need : Need) (c : Bool) (s : State) → settle limit (shape_of r) (told need (Some c)) s ≡ settle limit (shape_of r) (effect_with (asks_of c) []) s
 unfolding admits pauses
 settled_alike r need c s = refl
 
-module _ (story : LoadedStory) (scope : Scope) (r : Row) (s : State) (values : List ℕ) (n : ℕ) (read : read_operands story (inputs_of r) s ≡ Ok (values, popped n s)) where
+module _ (story : LoadedStory) (scope : Bounds) (r : Row) (s : State) (values : List ℕ) (n : ℕ) (read : read_operands story (inputs_of r) s ≡ Ok (values, popped n s)) where
   abbrev m : Setting
   m = within story scope
 
@@ -85,13 +85,13 @@ module _ (story : LoadedStory) (scope : Scope) (r : Row) (s : State) (values : L
     pub untold : condition ≡ None → plan_by m r s ≡ Err (halts.Need need)
     untold none = plan_settled m r s (values, popped n s) (told need condition) (Err (halts.Need need)) read (asks.effect scope values n) (rw none (needs_settled r need (popped n s)))
 
-    pub told_stuck : (c : Bool) (h : Halt) → condition ≡ Some c → settle usual_limit (shape_of r) (effect_with (asks_of c) []) (popped n s) ≡ Err h → plan_by m r s ≡ Err h
+    pub told_stuck : (c : Bool) (h : Halt) → condition ≡ Some c → settle scope.limit (shape_of r) (effect_with (asks_of c) []) (popped n s) ≡ Err h → plan_by m r s ≡ Err h
     told_stuck c h is stuck = plan_settled m r s (values, popped n s) (told need condition) (Err h) read (asks.effect scope values n) (rw is (settled_alike r need c (popped n s) ∙ stuck))
 
-    pub told_planned : (c : Bool) → condition ≡ Some c → settle usual_limit (shape_of r) (effect_with (asks_of c) []) (popped n s) ≡ Ok tt → plan_by m r s ≡ Ok (told need condition, popped n s)
+    pub told_planned : (c : Bool) → condition ≡ Some c → settle scope.limit (shape_of r) (effect_with (asks_of c) []) (popped n s) ≡ Ok tt → plan_by m r s ≡ Ok (told need condition, popped n s)
     told_planned c is able = plan_settled m r s (values, popped n s) (told need condition) (Ok tt) read (asks.effect scope values n) (rw is (settled_alike r need c (popped n s) ∙ able))
 
-  restart_settled : (t : State) → settle usual_limit (shape_of r) restarting t ≡ Ok tt
+  restart_settled : (t : State) → settle scope.limit (shape_of r) restarting t ≡ Ok tt
   unfolding admits pauses
   restart_settled t = refl
 
@@ -121,7 +121,7 @@ module _ (story : LoadedStory) (r : Row) (s : State) (need : Need) (n : ℕ) (c 
   ready : IsReady r.target (asks_of c) way n (answered s)
   ready = record { within = within_stack; target = low; assigns = tt; there = λ (none : is_some (asks_of c).gives ≡ true). absurd cc; apart = λ (none : is_some (asks_of c).gives ≡ true). absurd cc; way = open_still way s is_open }
 
-  pub told_made : (t : State) → globals story + 480 ≤ static_base story → ((scope : Scope) → plan_by (within story scope) r s ≡ Ok (told need (Some c), popped n s)) → t ≡ went story (shape_of r) proceeding way (popped n (answered s)) → StepsQuietly story r (Ok tt) s t
+  pub told_made : (t : State) → globals story + 480 ≤ static_base story → ((scope : Bounds) → plan_by (within story scope) r s ≡ Ok (told need (Some c), popped n s)) → t ≡ went story (shape_of r) proceeding way (popped n (answered s)) → StepsQuietly story r (Ok tt) s t
   told_made t dynamic plan is_t = record {
     steps = λ scope items. record {
       comes = (_, step_planned (within story scope) r s _ _ (plan scope), is_t ∙ went_is_act story (shape_of r) (asks_of c) way n (answered s) [] where_to ready ∙ used_first story r need c (popped n s) kind, sym (append-nil items));
@@ -132,7 +132,7 @@ module _ (story : LoadedStory) (r : Row) (s : State) (need : Need) (n : ℕ) (c 
 flags_fixed : (story : LoadedStory) (now : List ℕ) → globals story + 480 ≤ static_base story → drop (static_base story) (keeping_flags now story.memory) ≡ drop (static_base story) story.memory
 flags_fixed story now dynamic = drop-set-lt (static_base story) story.memory 17 (byte_at story.memory 17 / 4 * 4 + byte_at now 17 % 4) (omega (arith, dynamic))
 
-pub restart_made : (story : LoadedStory) (r : Row) (s t : State) → globals story + 480 ≤ static_base story → IsAsLoaded story s.memory → (n : ℕ) → ((scope : Scope) → plan_by (within story scope) r s ≡ Ok (restarting, popped n s)) → t ≡ restarted story s → StepsQuietly story r (Ok tt) s t
+pub restart_made : (story : LoadedStory) (r : Row) (s t : State) → globals story + 480 ≤ static_base story → IsAsLoaded story s.memory → (n : ℕ) → ((scope : Bounds) → plan_by (within story scope) r s ≡ Ok (restarting, popped n s)) → t ≡ restarted story s → StepsQuietly story r (Ok tt) s t
 restart_made story r s t dynamic loaded n plan is_t = record {
   steps = λ scope items. record {
     comes = (_, step_planned (within story scope) r s _ _ (plan scope), is_t, sym (append-nil items));

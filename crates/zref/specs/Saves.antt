@@ -8,10 +8,10 @@ use Rattle.zquetzal.specs.declared.error.SaveError.TheVariants.{OutOfMemory}
 use Rattle.zquetzal.specs.Reading.{reading}
 use Rattle.zquetzal.specs.Saved.{Saved}
 use Rattle.zstate.specs.Saves.{restoring}
-use Rattle.zstate.specs.State.{Scope, Setting, State, popped}
+use Rattle.zstate.specs.State.{Setting, State, popped}
 use Rattle.zstate.specs.Step.{Effect, effect_of, proceeds, testing}
 use Rattle.zref.specs.declared.row.Row.{Row}
-use Rattle.zref.specs.Row.{within}
+use Rattle.zref.specs.Row.{Bounds, within}
 
 -- the branch asks what was told, which is used up; without it the step can't be made
 abbrev pub told : Need → Option Bool → Effect
@@ -27,7 +27,7 @@ IsOfSaves need = ⊥
 -- a row's operation asks what was told of a save, if it was
 pub record Asks (story : LoadedStory) (r : Row) (s : State) (need : Need) (condition : Option Bool) : Type 0 where
   pub kind : IsOfSaves need
-  pub effect : (scope : Scope) (values : List ℕ) (n : ℕ) → effect_of (within story scope) r.operation values (popped n s) ≡ Ok (told need condition)
+  pub effect : (bounds : Bounds) (values : List ℕ) (n : ℕ) → effect_of (within story bounds) r.operation values (popped n s) ≡ Ok (told need condition)
 
 -- what was told is used up
 abbrev pub answered : State → State

@@ -9,7 +9,7 @@ ghost use Rattle.zstate.specs.Run.{need_in};
 ghost use Rattle.zstate.specs.State as spec;
 ghost use Rattle.zstate.specs.Step.{Done, fetch, step};
 ghost use Rattle.zref.specs.Machine.{Judges, scope_of, setting_of};
-ghost use Rattle.zref.specs.Row.{AreKept, IsAsLoaded, IsFetched, IsFit, within};
+ghost use Rattle.zref.specs.Row.{Bounds, AreKept, IsAsLoaded, IsFetched, IsFit, within};
 
 use crate::cache::{Cache, address_of, row_at};
 use crate::lines::need_of_line;
@@ -42,7 +42,7 @@ pub(crate) fn need_of(story: &Story, scope: &Scope, state: &State) -> Option<Nee
 /// The same, by the row of the instruction at the place. Few need anything: a random number, a line, what came of a save, or one.
 fn need_at(story: &Story, row: &Row, state: &State) -> Option<Need>
     requires { IsFit story.now row.now state.now }
-    ensures { (scope : spec.Scope) → IsFetched scope state.now.place state.now.memory row.now → result ≡ need_in (step (within story.now scope) state.now) }
+    ensures { (bounds : Bounds) → IsFetched bounds.scope state.now.place state.now.memory row.now → result ≡ need_in (step (within story.now bounds) state.now) }
 {
     match row.operation {
         Operation::Random => need_in(halt_random(story, row, state)),

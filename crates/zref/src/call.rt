@@ -5,8 +5,8 @@ ghost use Rattle.zstate.specs.Gives.{Gives};
 ghost use Rattle.zfault.specs.declared.item.Item.{Item};
 ghost use Rattle.zstate.specs.State.{has_head, popped};
 ghost use Rattle.zstate.specs.Step.{Called, arguments};
-ghost use Rattle.zref.specs.Machine.{Judges, scope_of, setting_of};
-ghost use Rattle.zref.specs.Row.{IsFit, StepsBy, call_judged, step_by};
+ghost use Rattle.zref.specs.Machine.{Judges, setting_of};
+ghost use Rattle.zref.specs.Row.{IsFit, StepsBy, bounds_of, call_judged, step_by};
 
 use crate::families::{arg, giving};
 use crate::plan::StepError;
@@ -59,7 +59,7 @@ fn judge_call(
     state: &State,
 ) -> Result<(), Halt>
     requires { length state.now.memory ≡ length story.now.memory }
-    ensures value { (called : Called) (n : ℕ) → Gives (λ _. tt) result (call_judged (scope_of story.now scope.now) place row.now called (popped n state.now)) }
+    ensures value { (called : Called) (n : ℕ) → Gives (λ _. tt) result (call_judged (bounds_of story.now scope.now) place row.now called (popped n state.now)) }
     ensures head { IfOk result (λ _. has_head state.now.memory place ≡ true) }
     ensures short { length state.now.memory ≤ 131072 }
 {
@@ -68,7 +68,7 @@ fn judge_call(
     if !scope.is_routine(story, place) || !has_head(memory, place) {
         return Err(Halt::Fault(Fault::UnlistedCall));
     }
-    settle_call(row, state)
+    settle_call(row, state, scope.limit())
 }
 
 /// A story isn't longer than 131,072 bytes.

@@ -3,11 +3,11 @@
 
 ghost use Rattle.std.specs.Prelude.{◌≡◌, ◌≤◌, ◌<◌, true, length, Some, IfOk};
 ghost use Rattle.zstate.specs.Gives.{Gives};
-ghost use Rattle.zstate.specs.State.{Scope, exists, popped, usual_limit};
+ghost use Rattle.zstate.specs.State.{exists, popped};
 ghost use Rattle.zstate.specs.Step.{drawn, in_range, next_of, random_of, settle, used};
 ghost use Rattle.zref.specs.Machine.{Judges};
 ghost use Rattle.zref.specs.Random.{drawing_of, uses_of};
-ghost use Rattle.zref.specs.Row.{IsFit, StepsQuietly, plan_by, shape_of, step_by, within};
+ghost use Rattle.zref.specs.Row.{Bounds, IsFit, StepsQuietly, plan_by, shape_of, step_by, within};
 
 use crate::act::globals_are_dynamic;
 use crate::families::arg;
@@ -53,7 +53,7 @@ pub(crate) fn step_random(story: &Story, row: &Row, state: &mut State) -> Result
 pub(crate) fn halt_random(story: &Story, row: &Row, state: &State) -> Result<(), StepError>
     requires fit { IsFit story.now row.now state.now }
     requires operation { row.now.operation ≡ Operation.Random }
-    ensures { (scope : Scope) → Judges (step_by (within story.now scope) row.now state.now) result state.now }
+    ensures { (bounds : Bounds) → Judges (step_by (within story.now bounds) row.now state.now) result state.now }
 {
     match plan_random(story, row, state) {
         Ok(_) => Ok(()),
@@ -65,7 +65,7 @@ pub(crate) fn halt_random(story: &Story, row: &Row, state: &State) -> Result<(),
 fn plan_random(story: &Story, row: &Row, state: &State) -> Result<(Draw, usize), Halt>
     requires fit { IsFit story.now row.now state.now }
     requires operation { row.now.operation ≡ Operation.Random }
-    ensures value { (scope : Scope) → Gives (λ p. (drawing_of (Some p.0), popped p.1 state.now)) result (plan_by (within story.now scope) row.now state.now) }
+    ensures value { (bounds : Bounds) → Gives (λ p. (drawing_of (Some p.0), popped p.1 state.now)) result (plan_by (within story.now bounds) row.now state.now) }
     ensures there { IfOk result (λ _. exists row.now.target state.now.frame ≡ true) }
     ensures within { IfOk result (λ p. p.1 ≤ length state.now.frame.stack) }
 {
@@ -137,7 +137,7 @@ fn next_of(seed: u16, next: u16) -> RandomMode
 #[tactic(auto, unfolding(zstate::specs::Step::admits, zstate::specs::Step::pauses))]
 fn settle_draw(draw: Option<Draw>, row: &Row, state: &State, before: usize) -> Result<Draw, Halt>
     requires within { before ≤ length state.now.frame.stack }
-    ensures value { Gives (λ _. tt) result (settle usual_limit (shape_of row.now) (drawing_of draw) (popped before state.now)) }
+    ensures value { (limit : ℕ) → Gives (λ _. tt) result (settle limit (shape_of row.now) (drawing_of draw) (popped before state.now)) }
     ensures drawn { IfOk result (λ d. draw ≡ Some d) }
     ensures there { IfOk result (λ _. exists row.now.target state.now.frame ≡ true) }
 {

@@ -3,11 +3,11 @@
 
 ghost use Rattle.std.specs.Prelude.{◌≡◌, ◌≤◌, [], Bool, length, Some, IfOk};
 ghost use Rattle.zstate.specs.Gives.{Gives};
-ghost use Rattle.zstate.specs.State.{Scope, popped};
+ghost use Rattle.zstate.specs.State.{popped};
 ghost use Rattle.zstate.specs.Step.{course, restarting, saving, unrestored};
 ghost use Rattle.zref.specs.Machine.{Judges};
 ghost use Rattle.zref.specs.Plan.{IsOpenWay, effect_with, move_of, proceeding, went};
-ghost use Rattle.zref.specs.Row.{IsAsLoaded, IsFit, StepsQuietly, plan_by, shape_of, step_by, within};
+ghost use Rattle.zref.specs.Row.{Bounds, IsAsLoaded, IsFit, StepsQuietly, plan_by, shape_of, step_by, within};
 ghost use Rattle.zref.specs.Saves.{Asks, told};
 
 use crate::act::{globals_are_dynamic, go_back};
@@ -63,7 +63,7 @@ pub(crate) fn step_restart(story: &Story, row: &Row, state: &mut State) -> Resul
 pub(crate) fn halt_save(story: &Story, row: &Row, state: &State) -> Result<(), StepError>
     requires fit { IsFit story.now row.now state.now }
     requires operation { row.now.operation ≡ Operation.Save }
-    ensures { (scope : Scope) → Judges (step_by (within story.now scope) row.now state.now) result state.now }
+    ensures { (bounds : Bounds) → Judges (step_by (within story.now bounds) row.now state.now) result state.now }
 {
     halt_told(Need::Saved, kept(state), story, row, state)
 }
@@ -72,7 +72,7 @@ pub(crate) fn halt_save(story: &Story, row: &Row, state: &State) -> Result<(), S
 pub(crate) fn halt_restore(story: &Story, row: &Row, state: &State) -> Result<(), StepError>
     requires fit { IsFit story.now row.now state.now }
     requires operation { row.now.operation ≡ Operation.Restore }
-    ensures { (scope : Scope) → Judges (step_by (within story.now scope) row.now state.now) result state.now }
+    ensures { (bounds : Bounds) → Judges (step_by (within story.now bounds) row.now state.now) result state.now }
 {
     halt_told(Need::Restore, restored(state), story, row, state)
 }
@@ -81,7 +81,7 @@ pub(crate) fn halt_restore(story: &Story, row: &Row, state: &State) -> Result<()
 pub(crate) fn halt_restart(story: &Story, row: &Row, state: &State) -> Result<(), StepError>
     requires fit { IsFit story.now row.now state.now }
     requires operation { row.now.operation ≡ Operation.Restart }
-    ensures { (scope : Scope) → Judges (step_by (within story.now scope) row.now state.now) result state.now }
+    ensures { (bounds : Bounds) → Judges (step_by (within story.now bounds) row.now state.now) result state.now }
 {
     match plan_restart(story, row, state) {
         Ok(_) => Ok(()),
@@ -138,7 +138,7 @@ fn halt_told(
 ) -> Result<(), StepError>
     requires fit { IsFit story.now row.now state.now }
     requires asks { Asks story.now row.now state.now need condition }
-    ensures { (scope : Scope) → Judges (step_by (within story.now scope) row.now state.now) result state.now }
+    ensures { (bounds : Bounds) → Judges (step_by (within story.now bounds) row.now state.now) result state.now }
 {
     match plan_told(need, condition, story, row, state) {
         Ok(_) => Ok(()),
@@ -156,7 +156,7 @@ fn plan_told(
 ) -> Result<(Course, usize), Halt>
     requires fit { IsFit story.now row.now state.now }
     requires asks { Asks story.now row.now state.now need condition }
-    ensures value { (scope : Scope) → Gives (λ p. (told need condition, popped p.1 state.now)) result (plan_by (within story.now scope) row.now state.now) }
+    ensures value { (bounds : Bounds) → Gives (λ p. (told need condition, popped p.1 state.now)) result (plan_by (within story.now bounds) row.now state.now) }
     ensures course { IfOk result (λ p. (c : Bool) × (condition ≡ Some c) × (move_of p.0 ≡ course (effect_with (record proceeding { tests = Some c }) []) row.now.branch)) }
     ensures way { IfOk result (λ p. IsOpenWay p.0 state.now) }
     ensures within { IfOk result (λ p. p.1 ≤ length state.now.frame.stack) }
@@ -191,7 +191,7 @@ fn lead(course: Course, taken: usize, story: &Story, row: &Row, state: &mut Stat
 fn plan_restart(story: &Story, row: &Row, state: &State) -> Result<usize, Halt>
     requires fit { IsFit story.now row.now state.now }
     requires operation { row.now.operation ≡ Operation.Restart }
-    ensures { (scope : Scope) → Gives (λ n. (restarting, popped n state.now)) result (plan_by (within story.now scope) row.now state.now) }
+    ensures { (bounds : Bounds) → Gives (λ n. (restarting, popped n state.now)) result (plan_by (within story.now bounds) row.now state.now) }
 {
     let values = state.read_operands(story, row.inputs())?;
     Ok(values.popped())

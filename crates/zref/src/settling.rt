@@ -2,7 +2,7 @@
 
 ghost use Rattle.std.specs.Prelude.{◌≡◌, ◌≤◌, ℕ, List, [], Option, None, true, length, is_some, IfOk};
 ghost use Rattle.zstate.specs.Gives.{Gives};
-ghost use Rattle.zstate.specs.State.{exists, popped, usual_limit};
+ghost use Rattle.zstate.specs.State.{exists, popped};
 ghost use Rattle.zstate.specs.Step.{admits, calling, course, is_roomy, pauses, settle, Called};
 ghost use Rattle.zref.specs.Row.{shape_of};
 ghost use Rattle.zref.specs.Plan.{IsApart, IsOpenWay, IsShortWay, effect_with, move_of};
@@ -13,10 +13,8 @@ use zcode::{Branch, Destination};
 use zfault::Fault;
 use zstate::{Halt, State};
 
-/// How many frames may stand above the first (own).
-const LIMIT: usize = 1024;
-
-/// Judges a plain effect, where so many words were taken off the stack before, and says where the step leads.
+/// Judges a plain effect, where so many words were taken off the stack before, and says where the step leads. No plain effect makes a
+/// frame, so that it makes no difference how many there may be.
 #[inline(always)]
 pub(crate) fn settle(
     row: &Row,
@@ -26,7 +24,7 @@ pub(crate) fn settle(
 ) -> Result<Course, Halt>
     requires within { before ≤ length state.now.frame.stack }
     requires apart { IsApart effect }
-    ensures value { (text : List ℕ) → Gives (λ _. tt) result (settle usual_limit (shape_of row.now) (effect_with effect text) (popped before state.now)) }
+    ensures value { (limit : ℕ) (text : List ℕ) → Gives (λ _. tt) result (settle limit (shape_of row.now) (effect_with effect text) (popped before state.now)) }
     ensures course { IfOk result (λ c. move_of c ≡ course (effect_with effect []) row.now.branch) }
     ensures way { IfOk result (λ c. IsOpenWay c state.now) }
     ensures there { IfOk result (λ _. is_some effect.gives ≡ true → exists row.now.target state.now.frame ≡ true) }
@@ -88,7 +86,7 @@ fn admit(target: u8, effect: Effect, course: Course, state: &State) -> Result<()
     }
 }
 
-/// The pauses: `quit`, a stack with no room for a word, and as many frames as there may be.
+/// The pauses: `quit`, and a stack with no room for a word.
 #[inline(always)]
 #[tactic(auto, unfolding(zstate::specs::Step::pauses))]
 fn pause(
@@ -99,7 +97,7 @@ fn pause(
     before: usize,
 ) -> Result<(), Halt>
     requires within { before ≤ length state.now.frame.stack }
-    ensures { (text : List ℕ) → Gives (λ _. tt) result (pauses usual_limit target (effect_with effect text) (move_of course) (popped before state.now)) }
+    ensures { (limit : ℕ) (text : List ℕ) → Gives (λ _. tt) result (pauses limit target (effect_with effect text) (move_of course) (popped before state.now)) }
 {
     if effect.quits {
         return Err(Halt::Quit);
@@ -117,7 +115,7 @@ fn pause(
 /// Whether there is room for what is returned.
 #[inline(always)]
 fn is_roomy(course: Course, state: &State) -> bool
-    ensures { result ≡ is_roomy usual_limit (move_of course) state.now.frame.result state.now.callers }
+    ensures { (limit : ℕ) → result ≡ is_roomy limit (move_of course) state.now.frame.result state.now.callers }
 {
     match course {
         Course::On(_) => true,
@@ -128,16 +126,16 @@ fn is_roomy(course: Course, state: &State) -> bool
     }
 }
 
-/// Judges a call, whose frame is one more and whose result goes to the row's variable.
+/// Judges a call, whose frame is one more, of so many at most above the first, and whose result goes to the row's variable.
 #[inline(always)]
 #[tactic(auto, unfolding(zstate::specs::Step::admits, zstate::specs::Step::pauses))]
-pub(crate) fn settle_call(row: &Row, state: &State) -> Result<(), Halt>
-    ensures value { (called : Called) (n : ℕ) → Gives (λ _. tt) result (settle usual_limit (shape_of row.now) (calling called) (popped n state.now)) }
+pub(crate) fn settle_call(row: &Row, state: &State, limit: usize) -> Result<(), Halt>
+    ensures value { (called : Called) (n : ℕ) → Gives (λ _. tt) result (settle limit (shape_of row.now) (calling called) (popped n state.now)) }
 {
     if !state.frame().has(row.target) {
         return Err(Halt::Fault(Fault::AbsentLocal));
     }
-    if state.depth() < LIMIT {
+    if state.depth() < limit {
         Ok(())
     } else {
         Err(Halt::FrameLimit)

@@ -14,9 +14,9 @@ returns-in_err-draw-clause-value c =
     let p = err_from_is_err_and c.from_residual-in_err-draw.result c.from_residual-in_err-draw.ensures.1 in
     λ scope. rw (p.1, p.2)
     (draw_halted c.args.story.now scope c.args.row.now c.args.state.now c.in_ok-values.values.words.items c.in_ok-values.values.popped c.draw_of-draw.result c.requires.operation
-    (rw c.inputs.ensures at c.in_ok-values.ensures.value) (rw (c.arg.ensures, c.words.ensures) at c.draw_of-draw.ensures) _ (rw c.popped.ensures at c.in_err-draw.ensures.value))
+    (rw c.inputs.ensures at c.in_ok-values.ensures.value) (rw (c.arg.ensures, c.words.ensures) at c.draw_of-draw.ensures) _ (rw c.popped.ensures at (c.in_err-draw.ensures.value scope.limit)))
 
 pub returns-clause-value : goal.returns-clause-value
 returns-clause-value c = λ scope. rw c.popped-2.ensures
     (draw_planned c.args.story.now scope c.args.row.now c.args.state.now c.in_ok-values.values.words.items c.in_ok-values.values.popped c.draw_of-draw.result c.requires.operation
-    (rw c.inputs.ensures at c.in_ok-values.ensures.value) (rw (c.arg.ensures, c.words.ensures) at c.draw_of-draw.ensures) c.in_ok-draw.draw c.in_ok-draw.ensures.drawn (rw c.popped.ensures at c.in_ok-draw.ensures.value))
+    (rw c.inputs.ensures at c.in_ok-values.ensures.value) (rw (c.arg.ensures, c.words.ensures) at c.draw_of-draw.ensures) c.in_ok-draw.draw c.in_ok-draw.ensures.drawn (rw c.popped.ensures at (c.in_ok-draw.ensures.value scope.limit)))

@@ -20,9 +20,9 @@ returns-in_err-course-clause-value c =
     let p = err_from_is_err_and c.from_residual-in_err-course.result c.from_residual-in_err-course.ensures.1 in
     λ scope. rw (p.1, p.2)
     (told_stuck c.args.story.now scope c.args.row.now c.args.state.now c.in_ok-values.values.words.items c.in_ok-values.values.popped (rw c.inputs.ensures at c.in_ok-values.ensures.value)
-    c.args.need c.args.condition c.requires.asks c.in-Some.condition _ c.in-Some.is (rw (c.testing.ensures, c.popped.ensures) at (c.in_err-course.ensures.value [])))
+    c.args.need c.args.condition c.requires.asks c.in-Some.condition _ c.in-Some.is (rw (c.testing.ensures, c.popped.ensures) at (c.in_err-course.ensures.value scope.limit [])))
 
 pub returns-clause-value : goal.returns-clause-value
 returns-clause-value c = λ scope. rw c.popped-2.ensures
     (told_planned c.args.story.now scope c.args.row.now c.args.state.now c.in_ok-values.values.words.items c.in_ok-values.values.popped (rw c.inputs.ensures at c.in_ok-values.ensures.value)
-    c.args.need c.args.condition c.requires.asks c.in-Some.condition c.in-Some.is (rw (c.testing.ensures, c.popped.ensures) at (c.in_ok-course.ensures.value [])))
+    c.args.need c.args.condition c.requires.asks c.in-Some.condition c.in-Some.is (rw (c.testing.ensures, c.popped.ensures) at (c.in_ok-course.ensures.value scope.limit [])))

@@ -1,11 +1,12 @@
 use Rattle.std.proofs.Common.{◌≡◌, ◌∙◌, Ok, Some, refl, ap, map, subst, sym}
 use Rattle.std.proofs.lemmas.Result.{err_from_is_err_and}
 use Rattle.zquetzal.specs.Reading.{reading}
-use Rattle.zstate.specs.State.{State, usual_limit}
+use Rattle.zstate.specs.State.{State}
 use Rattle.zrule.specs.Described.{Described}
 use Rattle.zboard.specs.Head.{head_of}
 use Rattle.zboard.specs.Play.{state_in}
 use Rattle.zboard.specs.View.{position_of}
+use Rattle.zcheck.specs.Acceptance.{limit_of}
 use Rattle.zplay.specs.Accepted.{claims}
 use Rattle.zplay.specs.Session.{IsInPlay, game_of, stands_in}
 use Rattle.zplay.proofs.Playing.{played_there}
@@ -57,7 +58,7 @@ returns-clause-ok g c =
     let now = ap (state_in (game_of o a)) moved ∙ stands o g.met.V.Domain.sound format a rows heads p play c.in_ok-view.view c.in_ok-view.ensures.found.saved.frames j.1 in
     rw (← c.self.view_is, there) (
       restored_is o a s c.in_ok-view.view c.args.save.now is (state_in (game_of o a) (position_of c.resume.new.self)) now j.0,
-      subst (Described o (claims o a) usual_limit a.story) (sym now) j.1,
+      subst (Described o (claims o a) (limit_of a) a.story) (sym now) j.1,
     )
 
 pub returns-in_err-judge_save-clause-exact : goal.returns-in_err-judge_save-clause-exact
