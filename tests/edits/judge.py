@@ -291,34 +291,8 @@ def rename(path, old, new):
 # The crates whose edits mostly leave the prover searching, and whose functions mostly are proved with half the counts of its searches too. The
 # functions that are named aren't, so that their edits needn't be tried with half.
 HALVED = {
-    "zboard": ("Board::global", "running::play", "table::target_of"),
     "zobj": (),
     "zplace": (),
-    "zref": (
-        "CheckedMachine::awaits",
-        "act::print_and_act",
-        "arrays::element",
-        "call::halt_call",
-        "call::step_call",
-        "changes::step_change",
-        "families::binary",
-        "families::count",
-        "families::name",
-        "families::number",
-        "lines::hearing_of",
-        "objects::follow",
-        "objects::following",
-        "objects::inside",
-        "objects::property",
-        "objects::property_length",
-        "plan::plan_row",
-        "settling::admit",
-        "settling::course_of",
-        "settling::settle",
-        "step::step_rest",
-        "ways::step_attribute",
-        "ways::step_set_element",
-    ),
 }
 
 

@@ -101,11 +101,11 @@ impl<'a> Machine for Session<'a> {
 
 impl<'a> Machine for CheckedMachine<'a> {
     fn place(&self) -> i32 {
-        self.state().place()
+        CheckedMachine::place(self)
     }
 
     fn memory(&self) -> &[u8] {
-        self.state().memory()
+        CheckedMachine::memory(self)
     }
 
     fn run(&mut self, budget: u32, items: &mut Items) -> Result<Stop, AllocError> {

@@ -9,7 +9,7 @@ use zfault::{Event, Items, Need, Pause};
 use zplay::Session;
 use zquetzal::{FrameParts, SaveError, SaveParts};
 use zref::{CheckedMachine, Scope};
-use zstate::{Frame, State, Stop};
+use zstate::Stop;
 
 /// How many steps are compared.
 const STEPS: u32 = 1000;
@@ -116,12 +116,31 @@ impl<'a, V: Spelled> Pair<'a, V> {
     /// Whether both are in the same state. The frames below the newest two were compared when they were these, and so they are when
     /// play comes back to them.
     fn is_alike(&self) -> bool {
-        let state = self.machine.state();
-        self.session.place() == state.place()
-            && self.session.memory() == state.memory()
+        self.session.place() == self.machine.place()
+            && self.session.memory() == self.machine.memory()
             && self.session.awaits() == self.machine.awaits()
-            && self.session.random() == state.random()
-            && are_frames_alike(&self.session, state)
+            && self.session.random() == self.machine.random()
+            && self.are_frames_alike()
+    }
+
+    /// Whether both are at a place in memory, with as many frames, of which the newest two are the same.
+    fn are_frames_alike(&self) -> bool {
+        let place = self.machine.place();
+        if place < 0 || place as usize >= self.machine.memory().len() {
+            return false;
+        }
+        let here = self.session.parts();
+        let there = self.machine.parts();
+        let count = here.frame_count();
+        if count != there.frame_count() {
+            return false;
+        }
+        for number in count.saturating_sub(2)..count {
+            if !is_frame(here.frame(number), there.frame(number)) {
+                return false;
+            }
+        }
+        true
     }
 }
 
@@ -141,27 +160,11 @@ fn are_alike(here: &Items, there: &Items) -> bool {
             && one.status == other.status)
 }
 
-/// Whether there are as many frames, and the newest two are the same.
-fn are_frames_alike<V: Spelled>(session: &Session<'_, V>, state: &State) -> bool {
-    let parts = session.parts();
-    let count = parts.frame_count();
-    if count == 0
-        || count - 1 != state.depth()
-        || !is_frame(parts.frame(count - 1), state.frame())
-    {
-        return false;
-    }
-    match state.caller() {
-        Some(caller) => count > 1 && is_frame(parts.frame(count - 2), caller),
-        None => true,
-    }
-}
-
 /// Whether they are the same frame.
-fn is_frame(one: FrameParts<'_>, other: Frame<'_>) -> bool {
-    one.return_place == other.return_place()
-        && one.result == other.result()
-        && one.supplied == other.supplied()
-        && one.locals == other.locals()
-        && one.stack == other.stack()
+fn is_frame(one: FrameParts<'_>, other: FrameParts<'_>) -> bool {
+    one.return_place == other.return_place
+        && one.result == other.result
+        && one.supplied == other.supplied
+        && one.locals == other.locals
+        && one.stack == other.stack
 }

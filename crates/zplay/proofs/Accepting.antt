@@ -1,19 +1,18 @@
 -- What an accepted story's listing and its certificate say of each other.
-use Rattle.std.proofs.Common.{◌≡◌, ℕ, zero, suc, ◌<◌, Bool, true, false, List, [], ◌∷◌, ◌++◌, ◌+◌, ◌∙◌, length, map, take, drop, get_or, Option, Some, Ok, refl, sym, ap, subst, arith, eq-eqb, if◌then◌else◌}
+use Rattle.std.proofs.Common.{◌≡◌, ℕ, zero, suc, ◌≤◌, Bool, true, false, List, [], ◌∷◌, drop, get_or, Option, Some, Ok, refl, sym, ap, subst, arith, eq-eqb, if◌then◌else◌}
 use Rattle.std.specs.Prelude.{◌==◌, ◌||◌, option_map, All}
 use Rattle.std.specs.List.{AllZip, list_any}
-use Rattle.std.proofs.lemmas.List.{map-append}
-use Rattle.std.proofs.Math.Seq.{take-suc}
-use Rattle.zstory.specs.LoadedStory.{LoadedStory}
+use Rattle.std.proofs.lemmas.Bool.{eqb-true}
+use Rattle.zstory.specs.LoadedStory.{LoadedStory, static_base}
 use Rattle.zcode.specs.Reading.{instruction_at}
 use Rattle.zlist.specs.declared.record.Record.{Record}
-use Rattle.zlist.specs.Listing.{is_routine}
+use Rattle.zlist.specs.Listing.{is_listed}
 use Rattle.zcert.specs.Certificate.{Instruction, Certificate}
-use Rattle.zcert.specs.declared.parts.Routine.{Routine}
-use Rattle.zcert.specs.Listed.{listed_at, routine_at}
+use Rattle.zcert.specs.Listed.{listed_at}
 use Rattle.zdomain.specs.Domain.{SetOperations, AreSound}
 use Rattle.zcert.specs.Format.{Format}
-use Rattle.zstate.specs.State.{has_head, scope_only}
+use Rattle.zstate.specs.State.{scope_only}
+use Rattle.zrule.specs.declared.rule.Rule.TheVariants as rules
 use Rattle.zrule.specs.Described.{IsListedIn}
 use Rattle.zrule.specs.Claims.{claims_of, entry_of}
 use Rattle.zrule.specs.Rules.{Supports}
@@ -21,24 +20,9 @@ use Rattle.zcheck.specs.Acceptance.{AcceptanceOver, IsRecordOf}
 use Rattle.zcheck.proofs.Headline.{lists_where, supports_where}
 use Rattle.zplay.specs.Accepted.{IsJudged, IsAccepted, claims}
 
--- ---- a certificate's routines
-
 or_right : (b : Bool) → (b || true) ≡ true
 or_right true = refl
 or_right false = refl
-
-routine_among : {V : Type 0} (rs : List (Routine V)) (p : ℕ) → list_any (λ q. q == p) (map (λ r. r.address) rs) ≡ true → (k : ℕ) × (routine_at rs p ≡ Some k)
-routine_among [] p there = absurd cc
-routine_among {V} (r ∷ rs) p there = by_test (r.address == p) (routine_among rs p) there
-  where
-    by_test : (b : Bool) → (list_any (λ q. q == p) (map (λ x. x.address) rs) ≡ true → (k : ℕ) × (routine_at rs p ≡ Some k)) → (b || list_any (λ q. q == p) (map (λ x. x.address) rs)) ≡ true → (k : ℕ) × ((if b then Some 0 else option_map (λ j. suc j) (routine_at rs p)) ≡ Some k)
-    by_test true rest there = (0, refl)
-    by_test false rest there = let found = rest there in (suc found.0, ap (option_map (λ j. suc j)) found.1)
-
-any_at : (xs : List ℕ) (k d : ℕ) → k < length xs → list_any (λ q. q == get_or xs k d) xs ≡ true
-any_at [] k d within = absurd (omega (arith, within))
-any_at (x ∷ xs) zero d within = rw (eq-eqb x x refl) refl
-any_at (x ∷ xs) (suc k) d within = let rest = any_at xs k d (omega (arith, within)) in rw rest (or_right (x == get_or xs k d))
 
 -- ---- a certificate's instructions and a listing's records, side by side
 
@@ -71,14 +55,14 @@ module _ {V : Type 0} (o : SetOperations V) (story : LoadedStory) (c : Certifica
   each_judged : (rs : List Record) → AllZip (IsRecordOf story) c.instructions rs → All (λ r. IsJudged story (claims_of o c) r) rs
   each_judged rs zip = judged_among c.instructions rs zip (λ p there. there)
 
--- one more of two lists that go side by side
-pub one_more : {A : Type 0} {B : Type 0} {C : Type 0} (f : A → C) (g : B → C) (ys zs : List B) (xs : List A) (k : ℕ) (d : A) (y : B) → zs ≡ ys ++ (y ∷ []) → map g ys ≡ map f (take k xs) → k < length xs → g y ≡ f (get_or xs k d) → map g zs ≡ map f (take (k + 1) xs)
-one_more {A} {B} {C} f g ys zs xs k d y more made within is =
-    let one : k + 1 ≡ suc k = omega arith in
-    let next : take (k + 1) xs ≡ take k xs ++ (get_or xs k d ∷ []) = ap (λ (n : ℕ). take n xs) one ∙ take-suc xs k d within in
-    let left : map g zs ≡ map g ys ++ (g y ∷ []) = ap (map g) more ∙ map-append g ys (y ∷ []) in
-    let right : map f (take (k + 1) xs) ≡ map f (take k xs) ++ (f (get_or xs k d) ∷ []) = ap (map f) next ∙ map-append f (take k xs) (get_or xs k d ∷ []) in
-    left ∙ ap (λ (cs : List C). cs ++ (g y ∷ [])) made ∙ ap (λ (c : C). map f (take k xs) ++ (c ∷ [])) is ∙ sym right
+-- what holds of each record holds where something is listed
+among : (P : ℕ → Type 0) (rs : List Record) (p : ℕ) → All (λ r. P r.address) rs → list_any (λ r. r.address == p) rs ≡ true → P p
+among P [] p all there = absurd cc
+among P (r ∷ rs) p all there = by_test (r.address == p) (among P rs p (λ k d within. all (suc k) d (omega (arith, within)))) refl there
+  where
+    by_test : (b : Bool) → (list_any (λ x. x.address == p) rs ≡ true → P p) → (r.address == p) ≡ b → (b || list_any (λ x. x.address == p) rs) ≡ true → P p
+    by_test true rest here there = subst P (eqb-true r.address p here) (all zero r (omega arith))
+    by_test false rest here there = rest there
 
 module _ {V : Type 0} (o : SetOperations V) (lawful : AreSound o) (format : Format V) (a : AcceptanceOver V) (accepted : IsAccepted o format a) where
   -- each record is of an instruction of which something is said,
@@ -92,11 +76,8 @@ module _ {V : Type 0} (o : SetOperations V) (lawful : AreSound o) (format : Form
   pub supported : Supports o (claims o a) a.story
   supported = supports_where o lawful format a.story a.certificate accepted.spelling accepted.passes
 
-  -- each routine that is listed is one of which something is said, and has a head
-  pub claimed : (p : ℕ) → is_routine a.listing p ≡ true → (k : ℕ) × ((claims o a).routine_at p ≡ Some k)
-  claimed p there = routine_among a.certificate.routines p (subst (λ (ps : List ℕ). list_any (λ q. q == p) ps ≡ true) accepted.lists.routines there)
-
-  pub each_headed : All (λ p. has_head a.story.memory p ≡ true) a.listing.routines
-  each_headed k d within =
-      let there = claimed (get_or a.listing.routines k d) (any_at a.listing.routines k d within) in
-      supported.heads.there (get_or a.listing.routines k d) there.0 there.1
+  -- every listed instruction stands in static memory
+  pub each_fixed : (p : ℕ) → is_listed a.listing p ≡ true → static_base a.story ≤ p
+  each_fixed p there = among (λ q. static_base a.story ≤ q) a.listing.records p (λ k d within.
+      let j = judged_each k d within in
+      (supported.each (get_or a.listing.records k d).address j.entry j.listed rules.Decodes).1.static) there

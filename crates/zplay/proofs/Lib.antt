@@ -1,6 +1,9 @@
 pub mod Accepting
 pub mod Playing
 pub mod Resumed
+mod Giving
+mod Short
+mod Asked
 mod Saving
 mod Machine
 mod Worked

@@ -1,10 +1,9 @@
 -- A session and the checked machine over one list.
-use Rattle.std.proofs.Common.{◌≡◌, ◌↔◌, ℕ, zero, suc, ◌+◌, Bool, true, false, List, [], ◌∷◌, ◌++◌, Some, None, Result, Ok, Err, if◌then◌else◌, refl, sym, ap, ◌∙◌, append_assoc, add-zero, arith}
-use Rattle.std.specs.Prelude.{IsTrue, is_some}
+use Rattle.std.proofs.Common.{◌≡◌, ◌↔◌, ℕ, zero, suc, ◌+◌, Bool, true, false, List, [], ◌∷◌, ◌++◌, Some, None, Ok, Err, if◌then◌else◌, refl, sym, ap, ◌∙◌, append_assoc, add-zero, arith}
+use Rattle.std.specs.Prelude.{IsTrue}
 use Rattle.std.proofs.lemmas.List.{append-nil}
 use Rattle.zfault.specs.Answers.{answers}
 use Rattle.zfault.specs.declared.item.Item.{Item}
-use Rattle.zfault.specs.declared.pause.Need.{Need}
 use Rattle.zfault.specs.declared.pause.Need.TheVariants as needs
 use Rattle.zfault.specs.declared.pause.Pause.{Pause}
 use Rattle.zfault.specs.declared.pause.Pause.TheVariants as pauses
@@ -16,7 +15,7 @@ use Rattle.zstate.specs.declared.halt.Stop.{Stop}
 use Rattle.zstate.specs.declared.halt.Stop.TheVariants.{Paused}
 use Rattle.zstate.specs.State.{Scope, Setting, State, give, scope_all, scope_only, usual_limit}
 use Rattle.zstate.specs.Step.{Done, step}
-use Rattle.zstate.specs.Run.{Ending, Given, Input, Restored, Stands, after, awaited, ends, handed, need_in, restored, run, stop_of, until}
+use Rattle.zstate.specs.Run.{Ending, Given, Input, Restored, Stands, after, ends, handed, restored, run, stop_of, until}
 use Rattle.zstate.proofs.Joins.{inputs_join, steps_join}
 use Rattle.zstate.proofs.Calls.{stands_still}
 use Rattle.zrule.specs.Described.{AreFine, Described, IsListedIn}
@@ -29,22 +28,9 @@ use Rattle.zplay.specs.Accepted.{IsAccepted, claims}
 use Rattle.zplay.specs.Calls.{AllDid, Call, Gave, IsMachinesRun, IsUnused, MovesAsMachine, Ran, Took, handed_in, steps_of}
 use Rattle.zplay.specs.Session.{Accepts, setting_of}
 use Rattle.zplay.proofs.Accepting.{listed_each, supported}
+use Rattle.zplay.proofs.Asked.{waits_for}
 
 -- ---- what is waited for
-
-need_found : (r : Result Done Halt) (n : Need) → need_in r ≡ Some n → r ≡ Err (halts.Need n)
-need_found (Ok d) n e = absurd cc
-need_found (Err (halts.Fault f)) n e = absurd cc
-need_found (Err (halts.Need need)) n e = cc
-need_found (Err halts.Quit) n e = absurd cc
-need_found (Err halts.FrameLimit) n e = absurd cc
-
-waits_for : (m : Setting) (s : State) (n : Need) → awaited m s ≡ Some n → step m s ≡ Err (halts.Need n)
-waits_for m s n e = by (is_some s.waiting) e
-  where
-    by : (b : Bool) → (if b then None else need_in (step m s)) ≡ Some n → step m s ≡ Err (halts.Need n)
-    by true e = absurd cc
-    by false e = need_found (step m s) n e
 
 given_there : (b : Bool) (t : State) → IsTrue b → (if b then Some t else None) ≡ Some t
 given_there true t is = refl

@@ -1,10 +1,9 @@
 -- A session goes on from a save that was judged.
-use Rattle.std.proofs.Common.{◌≡◌, inl, inr, ℕ, zero, suc, ◌<◌, ◌≤◌, true, List, [], ◌∷◌, length, map, reverse, Option, Some, None, Ok, Err, refl, sym, ap, subst, ◌∙◌, arith}
-use Rattle.std.specs.Prelude.{slice_get}
-use Rattle.std.proofs.lemmas.List.{length-map}
-use Rattle.zstory.specs.LoadedStory.{LoadedStory, static_base}
-use Rattle.zlist.specs.declared.record.Record.{Record}
-use Rattle.zlist.specs.Listing.{ListedCode, is_listed}
+use Rattle.std.proofs.Common.{◌≡◌, ◌⊎◌, inl, inr, ℕ, ◌<◌, ◌≤◌, List, length, Result, Ok, Err, refl, sym, subst, ◌∙◌, arith}
+use Rattle.std.specs.List.{AllByRecursion}
+use Rattle.zstory.specs.LoadedStory.{LoadedStory}
+use Rattle.zlist.specs.Listing.{ListedCode}
+use Rattle.zcert.specs.Certificate.{Certificate}
 use Rattle.zcert.specs.Format.{Format}
 use Rattle.zdomain.specs.Domain.{SetOperations, AreSound}
 use Rattle.zquetzal.specs.declared.error.SaveError.{SaveError}
@@ -12,109 +11,29 @@ use Rattle.zquetzal.specs.declared.error.SaveError.TheVariants as errors
 use Rattle.zquetzal.specs.Reading.{reading}
 use Rattle.zquetzal.specs.Saved.{AreFrames, Saved}
 use Rattle.zjudge.specs.Judging.{IsJudged, listed_setting}
-use Rattle.zcert.specs.Certificate.{Certificate}
 use Rattle.zrule.specs.Claims.{claims_of}
-use Rattle.zframe.specs.Frames.{Frame}
-use Rattle.zstate.specs.State.{Frame as StateFrame, IsState, State, usual_limit}
-use Rattle.zstate.specs.Saves.{StatesAreSaved, going_on, restoring, resumed, save_place, taken_frame, with_frames}
-use Rattle.zboard.specs.declared.board.Board.{Board}
-use Rattle.zboard.specs.declared.row.Row.{Row}
-use Rattle.zboard.specs.Deed.{deed_of}
-use Rattle.zboard.specs.Head.{Head}
-use Rattle.zboard.specs.Met.{IsListedAt}
-use Rattle.zboard.specs.Play.{deed_in, state_in}
-use Rattle.zboard.specs.Position.{Position}
-use Rattle.zboard.specs.Index.{address_at}
-use Rattle.zboard.specs.Resuming.{chain_of, resumed_at}
-use Rattle.zboard.specs.Saving.{IsWritable}
-use Rattle.zboard.specs.Table.{state_at}
-use Rattle.zboard.proofs.Landing.{address_found, address_of_record, index_there, lands}
-use Rattle.zboard.proofs.Laying.{resumed_by}
-use Rattle.zrule.specs.declared.rule.Rule.TheVariants as rules
 use Rattle.zrule.specs.Described.{Described}
+use Rattle.zstate.specs.State.{IsState, Setting, State, usual_limit}
+use Rattle.zstate.specs.Saves.{restoring, resumed}
 use Rattle.zcheck.specs.Acceptance.{AcceptanceOver}
-use Rattle.zplay.specs.Accepted.{IsAccepted, claims}
-use Rattle.zplay.specs.Session.{IsInPlay, IsPlayed, IsRefusedSave, game_of, setting_of, stands_in}
-use Rattle.zplay.proofs.Accepting.{listed_each, supported}
-use Rattle.zrule.proofs.Stepping.{read_within}
-use Rattle.zplay.proofs.Playing.{always_met, judged_at, within_listing}
-
-place_kept : (fs : List StateFrame) (s : State) → (with_frames fs s).place ≡ s.place
-place_kept [] s = refl
-place_kept (f ∷ fs) s = refl
-
-limit_kept : (limit : ℕ) (fs : List Frame) → (chain_of limit fs).limit ≡ limit
-limit_kept limit [] = refl
-limit_kept limit (f ∷ fs) = refl
-
-record_at : (rs : List Record) (k : ℕ) → k < length rs → (r : Record) × (slice_get rs k ≡ Some r)
-record_at [] k within = absurd (omega (arith, within))
-record_at (r ∷ rs) zero within = (r, refl)
-record_at (r ∷ rs) (suc k) within = record_at rs k (omega (arith, within))
-
-module _ {V : Type 0} (o : SetOperations V) (lawful : AreSound o) (format : Format V) (a : AcceptanceOver V) where
-  -- every listed instruction stands in static memory
-  pub each_fixed : IsAccepted o format a → (p : ℕ) → is_listed a.listing p ≡ true → static_base a.story ≤ p
-  each_fixed accepted p there =
-      let k = index_there a.listing p there in
-      let found = address_found p k.0 a.listing.records k.1 in
-      let r = record_at a.listing.records k.0 found.0 in
-      let j = judged_at o lawful format a accepted k.0 r.0 r.1 in
-      let static = ((supported o lawful format a accepted).each r.0.address j.entry j.listed rules.Decodes).1.static in
-      let same : r.0.address ≡ p = sym (address_of_record a.listing k.0 r.0 r.1) ∙ found.1 in
-      subst (λ (q : ℕ). static_base a.story ≤ q) same static
-
-  -- a save can be written of the board
-  pub writable : StatesAreSaved → (rows : List Row) (heads : List Head) (p : Position) → IsInPlay o format a rows heads p → IsWritable a.story a.listing p
-  writable law rows heads p play =
-      let inside = within_listing o lawful format a rows heads p play in
-      let r = record_at a.listing.records p.at inside in
-      let j = judged_at o lawful format a play.accepted p.at r.0 r.1 in
-      let within = (read_within a.story.memory r.0.address r.0.instruction j.decodes).1 in
-      let here : address_at a.listing p.at ≡ r.0.address = address_of_record a.listing p.at r.0 r.1 in
-      let size = play.described.memory.long in
-      record {
-        inside = inside;
-        whole = law usual_limit a.story (state_at a.listing p) (address_at a.listing p.at) play.accepted.loaded.sound play.described.is_state (omega arith) refl (omega (arith, within, here, size));
-      }
-
-  module _ (rows : List Row) (heads : List Head) (p : Position) (play : IsInPlay o format a rows heads p) (saved : Saved) (are : AreFrames saved.frames) (d : Described o (claims o a) usual_limit a.story (resumed a.story saved (state_in (game_of o a) p))) where
-    listed : IsListedAt a.listing (save_place saved)
-    listed = record {
-      place = d.at;
-      is = sym (place_kept (map taken_frame (reverse saved.frames)) _) ∙ d.place;
-      listed = (listed_each o lawful format a play.accepted).places d.at d.entry d.listed;
-    }
-
-    pub stands : state_in (game_of o a) (resumed_at a.story a.listing saved p) ≡ resumed a.story saved (state_in (game_of o a) p)
-    stands = resumed_by a.story a.listing saved p (resumed_at a.story a.listing saved p) are refl listed
-
-    pub in_play_resumed : IsInPlay o format a rows heads (resumed_at a.story a.listing saved p)
-    in_play_resumed =
-        let q : Position = resumed_at a.story a.listing saved p in
-        let described : Described o (claims o a) usual_limit a.story (state_in (game_of o a) q) = subst (Described o (claims o a) usual_limit a.story) (sym stands) d in
-        let same_length : length rows ≡ length a.listing.records = sym (length-map rows deed_of) ∙ ap length play.playable.table ∙ length-map a.listing.records (deed_in (game_of o a)) in
-        let inside = (lands a.listing (save_place saved) listed).within in
-        record {
-          accepted = play.accepted;
-          playable = record {
-            sound = play.playable.sound;
-            table = play.playable.table;
-            headed = play.playable.headed;
-            limit = limit_kept p.chain.limit _ ∙ play.playable.limit;
-            fit = play.playable.fit;
-            inside = omega (arith, same_length, inside);
-            met = always_met o lawful format a play.accepted (state_in (game_of o a) q) described;
-          };
-          described = described;
-        }
+use Rattle.zengine.specs.Resuming.{words_wanted}
+use Rattle.zmachine.specs.Resuming.{IsNarrow}
+use Rattle.zmachine.specs.Rows.{NeverFaults}
+use Rattle.zplay.specs.Accepted.{claims}
+use Rattle.zplay.specs.Session.{IsInPlay, IsRefusedSave, setting_of}
+use Rattle.zplay.proofs.Playing.{faults_never}
+use Rattle.zplay.proofs.Short.{laid_kept}
 
 -- ---- what is answered of a save
 
--- a session stands in a described state
-pub described_in : {V : Type 0} (o : SetOperations V) (format : Format V) (a : AcceptanceOver V) (rows : List Row) (heads : List Head) (board : Option Board) → IsPlayed o format a rows heads board → Described o (claims o a) usual_limit a.story (stands_in o a board)
-described_in o format a rows heads None play = absurd play
-described_in o format a rows heads (Some board) play = play.described
+ok_once : (r : Result State SaveError) (x y : State) → r ≡ Ok x → r ≡ Ok y → x ≡ y
+ok_once r x y is was = cc
+
+read_once : (r : Result Saved SaveError) (x y : Saved) → r ≡ Ok x → r ≡ Ok y → x ≡ y
+read_once r x y is was = cc
+
+ok_or_err : (r : Result State SaveError) (x : State) (e : SaveError) → r ≡ Ok x → r ≡ Err e → ⊥
+ok_or_err r x e is was = cc
 
 module _ {V : Type 0} (o : SetOperations V) (a : AcceptanceOver V) (s : State) (saved : Saved) (bytes : List ℕ) (is : reading a.story bytes ≡ Ok saved) where
   pub refused_is : (e : SaveError) → IsJudged o (claims o a) {X = Unit {0}} (setting_of a) saved s (Err e) → IsRefusedSave o (record { accepted = a; state = s }) bytes e
@@ -138,6 +57,42 @@ module _ {V : Type 0} (o : SetOperations V) (a : AcceptanceOver V) (s : State) (
       let three = subst (λ (x : ListedCode). (t : State) → IsState usual_limit a.story t → IsJudged o (claims_of o a.certificate) {X = Unit {0}} (listed_setting a.story x) saved t (Err e)) of_listing two in
       refused_is e (three s is_state)
 
-  -- play goes on from one that wasn't
-  pub restored_is : (t : State) → t ≡ resumed a.story saved s → going_on (setting_of a) saved s ≡ Ok (resumed a.story saved s) → restoring (setting_of a) bytes s ≡ Ok t
-  restored_is t same j = rw (is, same) j
+  -- ---- play goes on from one that wasn't
+
+  module _ (judged : IsJudged o (claims o a) {X = Unit {0}} (setting_of a) saved s (Ok tt)) where
+    pub restores : restoring (setting_of a) bytes s ≡ Ok (resumed a.story saved s)
+    restores = rw is judged.0
+
+    pub restored_described : (t : State) → restoring (setting_of a) bytes s ≡ Ok t → Described o (claims o a) usual_limit a.story t
+    restored_described t goes = subst (Described o (claims o a) usual_limit a.story) (ok_once (restoring (setting_of a) bytes s) (resumed a.story saved s) t restores goes) judged.1
+
+    pub not_refused : (e : SaveError) → restoring (setting_of a) bytes s ≡ Err e → ⊥
+    not_refused e refused = ok_or_err (restoring (setting_of a) bytes s) (resumed a.story saved s) e restores refused
+
+module _ {V : Type 0} (o : SetOperations V) (lawful : AreSound o) (format : Format V) (a : AcceptanceOver V) (m : Setting) (words : ℕ) (s : State) (play : IsInPlay o format a m words s) (saved : Saved) (bytes : List ℕ) (is : reading a.story bytes ≡ Ok saved) (judged : IsJudged o (claims o a) {X = Unit {0}} (setting_of a) saved s (Ok tt)) where
+  described_there : (t : State) → restoring m bytes s ≡ Ok t → Described o (claims o a) usual_limit a.story t
+  described_there t goes = restored_described o a s saved bytes is judged t (subst (λ (n : Setting). restoring n bytes s ≡ Ok t) play.played_in goes)
+
+  -- no step has a fault from there either
+  pub able_there : (t : State) → restoring m bytes s ≡ Ok t → NeverFaults m t
+  able_there t goes = subst (λ (n : Setting). NeverFaults n t) (sym play.played_in) (faults_never o lawful format a play.accepted t (described_there t goes))
+
+  pub gone_on : (t : State) → restoring m bytes s ≡ Ok t → (restoring (setting_of a) bytes s ≡ Ok t) × Described o (claims o a) usual_limit a.story t
+  gone_on t goes = (subst (λ (n : Setting). restoring n bytes s ≡ Ok t) play.played_in goes, described_there t goes)
+
+  -- and it isn't refused: there are words enough
+  pub never_refused : (e : SaveError) → AllByRecursion (λ f. length f.stack ≤ 64) saved.frames → AreFrames saved.frames → (restoring m bytes s ≡ Err e) ⊎ IsNarrow m bytes words → ⊥
+  never_refused e low are (inl refused) = not_refused o a s saved bytes is judged e (subst (λ (n : Setting). restoring n bytes s ≡ Err e) play.played_in refused)
+  never_refused e low are (inr (other, reads, less)) =
+      let there : reading a.story bytes ≡ Ok other = subst (λ (n : Setting). reading n.story bytes ≡ Ok other) play.played_in reads in
+      let same : other ≡ saved = read_once (reading a.story bytes) other saved there is in
+      laid_kept saved.frames words low are play.roomy (subst (λ (x : Saved). words < words_wanted x) same less)
+
+  pub in_play_there : (n : Setting) (more : ℕ) (t : State) → n ≡ m → words ≤ more → restoring m bytes s ≡ Ok t → IsInPlay o format a n more t
+  in_play_there n more t same longer goes = record {
+    accepted = play.accepted;
+    gives = play.gives;
+    played_in = same ∙ play.played_in;
+    roomy = (let kept = play.roomy in omega (arith, kept, longer));
+    described = described_there t goes;
+  }

@@ -7,34 +7,27 @@ use Rattle.zquetzal.specs.Grammar.{save_text}
 use Rattle.zquetzal.specs.Saved.{origin_of}
 use Rattle.zcert.specs.Format.{Format}
 use Rattle.zdomain.specs.Domain.{SetOperations, AreSound}
-use Rattle.zstate.specs.State.{Scope, State, usual_limit}
-use Rattle.zstate.specs.Saves.{is_save, restoring, saved_of, saves}
+use Rattle.zstate.specs.State.{Scope, Setting, State, usual_limit}
+use Rattle.zstate.specs.Saves.{restoring, saved_of, saves}
 use Rattle.zstate.specs.Step.{fetch}
 use Rattle.zstate.specs.Run.{awaited}
-use Rattle.zboard.specs.declared.row.Row.{Row}
-use Rattle.zboard.specs.Head.{Head}
-use Rattle.zboard.specs.Play.{state_in}
-use Rattle.zboard.specs.Position.{Position}
-use Rattle.zboard.proofs.Awaiting.{saves_there}
 use Rattle.zrule.specs.declared.rule.Rule.TheVariants as rules
 use Rattle.zrule.specs.Described.{AcceptedAreFine, Described, IsAcceptedIn, IsFineSave, SavedAreAccepted}
 use Rattle.zrule.proofs.Relied.{reads_it}
 use Rattle.zcheck.specs.Acceptance.{AcceptanceOver}
 use Rattle.zplay.specs.Accepted.{claims}
-use Rattle.zplay.specs.Session.{Accepts, IsDescribed, IsInPlay, IsRefusedSave, PlayingOver, game_of, setting, setting_of}
+use Rattle.zplay.specs.Session.{Accepts, IsDescribed, IsInPlay, IsRefusedSave, PlayingOver, setting, setting_of}
 use Rattle.zplay.proofs.Accepting.{listed_each, supported}
+use Rattle.zplay.proofs.Asked.{save_there}
 
-module _ {V : Type 0} (o : SetOperations V) (lawful : AreSound o) (format : Format V) (a : AcceptanceOver V) (rows : List Row) (heads : List Head) (p : Position) (play : IsInPlay o format a rows heads p) where
-  abbrev s : State
-  s = state_in (game_of o a) p
-
+module _ {V : Type 0} (o : SetOperations V) (lawful : AreSound o) (format : Format V) (a : AcceptanceOver V) (m : Setting) (words : ℕ) (s : State) (play : IsInPlay o format a m words s) where
   -- where a save is asked for, `save` is fetched
   asked : awaited (setting_of a) s ≡ Some needs.Saved → saves (fetch (setting_of a).scope s.place s.memory) ≡ true
   asked waits =
       let d = play.described in
       let found = (supported o lawful format a play.accepted).each d.at d.entry d.listed rules.Decodes in
       let fetched : fetch (setting_of a).scope s.place s.memory ≡ Ok found.0 = reads_it o lawful (claims o a) (setting_of a) s play.accepted.loaded (supported o lawful format a play.accepted) (listed_each o lawful format a play.accepted) d found.0 found.1.decodes in
-      ap saves fetched ∙ ap is_save (saves_there (setting_of a) s found.0 fetched waits)
+      ap saves fetched ∙ save_there (setting_of a) s found.0 fetched waits
 
   pub saved_taken : SavedAreAccepted o (claims o a) → awaited (setting_of a) s ≡ Some needs.Saved → (other : PlayingOver V) → other.accepted ≡ a → IsDescribed o other → Accepts o other (save_text (origin_of a.story) (saved_of a.story s))
   saved_taken law waits other same described =

@@ -1,52 +1,55 @@
 -- Values of the definitions, computed.
-use Rattle.std.proofs.Common.{◌≡◌, ℕ, false, List, [], ◌∷◌, ◌++◌, replicate, Some, None, refl, arith}
+use Rattle.std.proofs.Common.{◌≡◌, ℕ, false, List, [], ◌∷◌, ◌++◌, replicate, refl, arith}
 use Rattle.std.specs.Prelude.{pos}
 use Rattle.zstory.specs.LoadedStory.{LoadedStory}
-use Rattle.zcode.specs.Reading.{instruction_at, head_at, short_head, checked_head, operand_at, operands_at, store_if, branch_if, text_if}
-use Rattle.zcode.specs.Operation.{operation_of}
 use Rattle.zcert.specs.Certificate.{Certificate}
 use Rattle.zdomain.specs.declared.interval.Interval.{Interval}
 use Rattle.zdomain.specs.Interval.{point, interval_operations}
 use Rattle.zcheck.specs.Acceptance.{Acceptance}
 use Rattle.zfault.specs.declared.event.Event.TheVariants.{Random}
-use Rattle.zstate.specs.State.{Setting, State, opening}
+use Rattle.zstate.specs.State.{Setting, State}
 use Rattle.zstate.specs.Run.{Given, Restored}
+use Rattle.zengine.specs.Frames.{base_of}
+use Rattle.zplay.specs.Accepted.{claims}
 use Rattle.zplay.specs.Calls.{AllDid, Call, Gave, IsUnused, Ran, Took, handed_in, steps_of}
-use Rattle.zplay.specs.Session.{first_at, game_of, stands_in}
+use Rattle.zplay.specs.Session.{setting_of, words_kept}
 
--- a jump by the word on the stack at 64, 66 and 68, and `nop` at 70, where the story begins; its globals would begin at 71
 memory : List ℕ
-memory = replicate 7 0 ++ 70 ∷ replicate 5 0 ++ 71 ∷ replicate 50 0 ++ 0xAC ∷ 0 ∷ 0xAC ∷ 0 ∷ 0xAC ∷ 0 ∷ 0xB4 ∷ []
+memory = replicate 7 0 ++ 64 ∷ replicate 56 0 ++ 0xBA ∷ []
 
+-- `quit` at 64, where the story begins
 story : LoadedStory
 story = record { memory = memory; objects = 0 }
 
--- 3 or 4
+-- a routine that gives 3 or 4
 either : Interval
 either = record { lo = pos 3; hi = pos 4; ordered = omega arith }
 
--- 5 is the topmost of two slots at 64, one of two words at 66, and 68 isn't listed
 certificate : Certificate Interval
 certificate = record {
-  identity = record { release = 0; serial = replicate 6 0; checksum = 0; length = 71 };
+  identity = record { release = 0; serial = replicate 6 0; checksum = 0; length = 65 };
   ranges = [];
   globals = replicate 240 (point 3);
-  routines = [];
-  instructions = record { address = 64; routine = 0; locals = []; slots = point 4 ∷ point 5 ∷ [] } ∷ record { address = 66; routine = 0; locals = []; slots = either ∷ [] } ∷ record { address = 70; routine = 0; locals = []; slots = point 6 ∷ [] } ∷ [];
+  routines = record { address = 60; locals = 0; result = either } ∷ [];
+  instructions = record { address = 64; routine = 0; locals = []; slots = [] } ∷ [];
 }
 
 a : Acceptance
 a = record { story = story; certificate = certificate; listing = record { records = []; routines = [] } }
 
--- a jump whose certificate leaves it one word, one of two, one that isn't listed, and what is no jump
-firsts : (first_at interval_operations a 64 ≡ Some 5) × (first_at interval_operations a 66 ≡ None) × (first_at interval_operations a 68 ≡ None) × (first_at interval_operations a 70 ≡ None)
-unfolding a certificate either story memory operation_of instruction_at head_at short_head checked_head operand_at operands_at store_if branch_if text_if
-firsts = (refl, refl, refl, refl)
-
--- only what is listed is played, with the usual limit of frames; where there is no board, it stands as it opens
-games : ((game_of interval_operations a).setting.limit ≡ 1024) × ((game_of interval_operations a).setting.scope.instructions 70 ≡ false) × ((game_of interval_operations a).first 64 ≡ first_at interval_operations a 64) × (stands_in interval_operations a None ≡ opening story)
+-- only what is listed is played, with the usual limit of frames, for which there are so many words
+games : ((setting_of a).limit ≡ 1024) × ((setting_of a).scope.instructions 64 ≡ false) × ((setting_of a).story ≡ story) × (words_kept ≡ 217127)
 unfolding a
 games = (refl, refl, refl, refl)
+
+-- what each routine gives, and what isn't one
+given : ((claims interval_operations a).result 1 ≡ either) × ((claims interval_operations a).result 2 ≡ interval_operations.any) × ((claims interval_operations a).result 0 ≡ interval_operations.any)
+unfolding a certificate
+given = (refl, refl, refl)
+
+-- the words of a first frame with two on its stack and of one above it with a local, and what a save with both wants
+lying : (base_of (record { return_place = 0; result = 0; supplied = 0; locals = []; stack = 1 ∷ 2 ∷ [] } ∷ []) ≡ 12) × (base_of (record { return_place = 64; result = 0; supplied = 0; locals = 1 ∷ []; stack = [] } ∷ record { return_place = 0; result = 0; supplied = 0; locals = []; stack = 1 ∷ 2 ∷ [] } ∷ []) ≡ 18)
+lying = (refl, refl)
 
 -- two calls of `run` with an event behind the first, and a save behind the second
 calls : List Call

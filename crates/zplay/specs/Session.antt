@@ -1,28 +1,12 @@
 -- The session, as contracts see it.
-use Rattle.std.specs.Prelude.{◌≡◌, ◌⊎◌, ℕ, List, Option, Some, None, Result, Ok, Err, drop}
-use Rattle.zcode.specs.declared.error.DecodeError.{DecodeError}
-use Rattle.zcode.specs.declared.operation.Operation.{Operation}
-use Rattle.zcode.specs.declared.operation.Operation.TheVariants.{Jump}
-use Rattle.zcode.specs.Instruction.{Instruction}
-use Rattle.zcode.specs.Operation.{operation_of}
-use Rattle.zcode.specs.Reading.{instruction_at}
-use Rattle.zcert.specs.Certificate.{Instruction as Listed}
+use Rattle.std.specs.Prelude.{◌≡◌, ◌⊎◌, ◌+◌, ◌*◌, ◌≤◌, ℕ, List, Ok, Err}
 use Rattle.zcert.specs.Format.{Format}
-use Rattle.zcert.specs.Listed.{listed_at}
 use Rattle.zdomain.specs.declared.interval.Interval.{Interval}
-use Rattle.zdomain.specs.Domain.{SetOperations}
-use Rattle.zflow.specs.Transfer.{read_set}
+use Rattle.zdomain.specs.Domain.{In, SetOperations}
 use Rattle.zquetzal.specs.declared.error.SaveError.{SaveError}
 use Rattle.zquetzal.specs.declared.error.SaveError.TheVariants as errors
 use Rattle.zstate.specs.Saves.{restoring}
-use Rattle.zstate.specs.State.{State, Setting, opening, scope_only, usual_limit}
-use Rattle.zboard.specs.declared.row.Row.{Row}
-use Rattle.zboard.specs.declared.board.Board.{Board}
-use Rattle.zboard.specs.Position.{Position}
-use Rattle.zboard.specs.Head.{Head}
-use Rattle.zboard.specs.Play.{Game, IsPlayable, state_in}
-use Rattle.zboard.specs.View.{position_of}
-use Rattle.zrule.specs.Claims.{entry_of}
+use Rattle.zstate.specs.State.{State, Setting, scope_only, usual_limit}
 use Rattle.zrule.specs.Described.{Described, IsAcceptedIn}
 use Rattle.zcheck.specs.Acceptance.{AcceptanceOver}
 use Rattle.zplay.specs.Accepted.{IsAccepted, claims}
@@ -57,37 +41,21 @@ IsRefusedSave o p bytes e =
     (restoring (setting p) bytes p.state ≡ Err e)
     ⊎ ((e ≡ errors.NotDescribed) × (t : State) × (restoring (setting p) bytes p.state ≡ Ok t) × (Described o (claims o p.accepted) usual_limit p.accepted.story t → ⊥))
 
--- ---- the board that it is played on
+-- ---- what a session keeps
+
+-- how many words there are for frames: for each that there may be 15 locals, 64 words on its stack and a head, and what the newest wants (own)
+abbrev pub words_kept : ℕ
+words_kept = 5 + 84 * usual_limit + 131106
 
 module _ {V : Type 0} (o : SetOperations V) where
-  -- the word that an instruction reads first, where that is a jump and its certificate leaves it but one
-  abbrev pub first_of : AcceptanceOver V → Listed V → Instruction → Operation → Option ℕ
-  first_of a l i Jump = o.known (read_set o a.certificate.globals i (entry_of l).shape 0)
-  first_of a l i _ = None
+  -- each routine may give some word
+  abbrev pub GiveEach : AcceptanceOver V → Type 0
+  GiveEach a = (routine : ℕ) → (x : ℕ) × In o ((claims o a).result routine) x
 
-  abbrev pub first_there : AcceptanceOver V → Option (Listed V) → Result Instruction DecodeError → Option ℕ
-  first_there a (Some l) (Ok i) = first_of a l i (operation_of i.opcode)
-  first_there a _ _ = None
-
-  -- by the place of the instruction
-  abbrev pub first_at : AcceptanceOver V → ℕ → Option ℕ
-  first_at a p = first_there a (listed_at a.certificate.instructions p) (instruction_at (drop p a.story.memory))
-
-  abbrev pub game_of : AcceptanceOver V → Game
-  game_of a = record { setting = setting_of a; listing = a.listing; first = first_at a }
-
-  -- the state in which a session stands, by where its board does
-  abbrev pub stands_in : AcceptanceOver V → Option Board → State
-  stands_in a None = opening a.story
-  stands_in a (Some b) = state_in (game_of a) (position_of b)
-
-  module _ (format : Format V) where
-    -- what a session keeps: no step from here needs a test
-    pub record IsInPlay (a : AcceptanceOver V) (rows : List Row) (heads : List Head) (p : Position) : Type 0 where
-      pub accepted : IsAccepted o format a
-      pub playable : IsPlayable (game_of a) rows heads p
-      pub described : Described o (claims o a) usual_limit a.story (state_in (game_of a) p)
-
-    abbrev pub IsPlayed : AcceptanceOver V → List Row → List Head → Option Board → Type 0
-    IsPlayed a rows heads None = ⊥
-    IsPlayed a rows heads (Some b) = IsInPlay a rows heads (position_of b)
+  -- it is played in its setting, with words enough for all frames, and stands in a state in which no step needs a test
+  pub record IsInPlay (format : Format V) (a : AcceptanceOver V) (m : Setting) (words : ℕ) (s : State) : Type 0 where
+    pub accepted : IsAccepted o format a
+    pub gives : GiveEach a
+    pub played_in : m ≡ setting_of a
+    pub roomy : words_kept ≤ words
+    pub described : Described o (claims o a) usual_limit a.story s

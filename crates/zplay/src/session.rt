@@ -13,36 +13,26 @@ ghost use Rattle.zrule.specs.Described.{AreFine, Described, IsFineSave, IsNoFaul
 ghost use Rattle.zcheck.specs.Acceptance.{IsAcceptedSave};
 ghost use Rattle.zplay.specs.Accepted.{IsAccepted, claims};
 ghost use Rattle.zplay.specs.Calls.{MovesAsMachine};
-ghost use Rattle.zboard.specs.Play.{state_in};
-ghost use Rattle.zboard.specs.Head.{Head};
-ghost use Rattle.zboard.specs.Position.{with_outside};
-ghost use Rattle.zboard.specs.View.{position_of};
-ghost use Rattle.zboard.specs.declared.row.Row.{Row as ARow};
-ghost use Rattle.zplay.specs.Session.{game_of, setting, Accepts, IsDescribed, IsInPlay, IsRefusedSave, PlayingOver};
+ghost use Rattle.zplay.specs.Session.{setting, Accepts, GiveEach, IsDescribed, IsRefusedSave, PlayingOver};
 
-use crate::rows::{callees_of, rows_of};
 use std::alloc::{AllocError, Global};
 use std::marker::Model;
-use zboard::{Board, Callee, Outside, Row, SavedBoard, awaits, play};
 use zcert::Spelled;
 use zcheck::Accepted;
 use zdomain::Interval;
 use zfault::{Event, Items, Need, Pause};
-use zframe::Frames;
 use zjudge::judge_save;
-use zquetzal::{SaveError, read, write};
+use zlink::StoryRows;
+use zmachine::{Machine, Parts, Untested};
+use zquetzal::{SaveError, read};
 use zrule::{each_step_is_safe, saves_are_accepted};
-use zstate::{RandomMode, saves_are_states};
+use zstate::{RandomMode, Stop};
 
 /// How many frames may stand above the first (own).
-const FRAME_LIMIT: u16 = 1024;
+const FRAME_LIMIT: usize = 1024;
 
-/// Nothing came from outside yet.
-const OPENING: Outside = Outside {
-    random: RandomMode::Words,
-    prompted: false,
-    waiting: None,
-};
+/// How many words there are for frames: for each 15 locals, 64 words on its stack and a head, and what the newest wants (own).
+const WORDS: usize = 5 + 84 * FRAME_LIMIT + 131_106;
 
 /// A play of an accepted story. It makes no test for a fault, since none can come, and moves as the checked machine whose
 /// scope is the listing.
@@ -52,96 +42,61 @@ const OPENING: Outside = Outside {
 #[derive(Drop)]
 pub struct Session<'a, V: Spelled = Interval> {
     accepted: &'a Accepted<V>,
-    /// The listed instructions, as they are played.
-    rows: Vec<Row>,
-    /// The listed routines, as they are called.
-    callees: Vec<Callee>,
-    /// What steps move. It is there between calls.
-    board: Option<Board>,
-    /// A text that is about to be printed.
-    text: Vec<u8>,
+    machine: Machine<'a, StoryRows<'a>, Untested>,
 }
 
 impl<'a, V: Spelled> Model for Session<'a, V> {
-    ghost use Rattle.std.specs.Prelude.{map};
-    ghost use Rattle.zboard.specs.Head.{head_of};
-    ghost use Rattle.zplay.specs.Session.{PlayingOver, IsPlayed, stands_in};
+    ghost use Rattle.zlink.specs.Laid.{setting_of};
+    ghost use Rattle.zplay.specs.Session.{IsInPlay, PlayingOver};
 
     ghost Value = { PlayingOver V };
 
-    ghost view = { λ p. record { accepted = p.accepted.now; state = stands_in V.operations p.accepted.now p.board } };
+    ghost view = { λ p. record { accepted = p.accepted.now; state = p.machine.state } };
 
-    ghost invariant = { λ p. IsPlayed V.operations V.format p.accepted.now p.rows.items (map head_of p.callees.items) p.board };
+    ghost invariant = { λ p. IsInPlay V.operations V.format p.accepted.now (setting_of p.machine.rows) p.machine.words p.machine.state };
 }
 
 impl<'a, V: Spelled> Session<'a, V> {
-    /// The session that stands where the story opens (Z 6.1.3). All its frames are reserved here. Want of memory is the only
-    /// error.
+    /// The session that stands where the story opens (Z 6.1.3). Words for all its frames are reserved here, and rows that play can't
+    /// do without. Want of memory is the only error.
     pub fn start(alloc: Global, accepted: &'a Accepted<V>) -> Result<Session<'a, V>, AllocError>
         ensures { IfOk result (λ p. p ≡ record { accepted = accepted.now; state = opening accepted.now.story }) }
     {
         each_step_is_safe::<V>();
         known_of(accepted);
+        each_gives(accepted);
         let story = accepted.story();
-        let Some(index) = accepted.listing().index_of(story.first_instruction()) else {
-            unreachable!()
-        };
-        let rows = rows_of(alloc, accepted)?;
-        let callees = callees_of(alloc, accepted)?;
-        let board = Board {
-            frames: Frames::new(alloc, FRAME_LIMIT)?,
-            memory: story.memory().to_vec(alloc)?,
-            at: index,
-            outside: Box::new(alloc, OPENING)?,
-        };
-        Ok(Session {
-            accepted,
-            rows,
-            callees,
-            board: Some(board),
-            text: Vec::new(alloc),
-        })
-    }
-
-    /// What steps move.
-    fn board(&self) -> &Board
-        ensures state { self.now.state ≡ state_in (game_of V.operations self.now.accepted) (position_of result.now) }
-        ensures play { (rows : List ARow) × (heads : List Head) × IsInPlay V.operations V.format self.now.accepted rows heads (position_of result.now) }
-    {
-        match &self.board {
-            Some(board) => board,
-            None => unreachable!(),
+        let scope = zlink::Scope::Only(accepted.listing());
+        let rows = StoryRows::new(alloc, story, scope, FRAME_LIMIT)?;
+        let mut machine = Machine::new(alloc, story, rows)?;
+        if !machine.reserve(WORDS) {
+            return Err(AllocError);
         }
+        Ok(Session { accepted, machine })
     }
 
     /// The address of the instruction that comes next.
     pub fn place(&self) -> i32
         ensures { result ≡ self.now.state.place }
     {
-        let at = self.board().at;
-        self.accepted.listing().records()[at].address as i32
+        self.machine.place()
     }
 
     /// Memory as it is now, as long as the loaded story.
     pub fn memory(&self) -> &[u8]
         ensures { result.now ≡ self.now.state.memory }
     {
-        self.board().memory.as_slice()
+        self.machine.memory()
     }
 
     /// What the instruction at the place waits for, if nothing was given for it yet.
     pub fn awaits(&self) -> Option<Need>
         ensures { result ≡ awaited (setting self.now) self.now.state }
     {
-        let Some(board) = &self.board else {
-            unreachable!()
-        };
-        awaits(
-            board,
-            self.rows.as_slice(),
-            self.accepted.listing(),
-            self.callees.as_slice(),
-        )
+        match self.machine.awaits() {
+            Ok(need) => need,
+            Err(_) => unreachable!(),
+        }
     }
 
     /// Hands in an event of the kind that is awaited.
@@ -149,11 +104,7 @@ impl<'a, V: Spelled> Session<'a, V> {
         requires { (need : Need) × (awaited (setting self.old) self.old.state ≡ Some need) × IsTrue (answers need event) }
         ensures { self.new ≡ record self.old { state = give event self.old.state } }
     {
-        let Some(mut board) = self.board.take() else {
-            unreachable!()
-        };
-        hand_in(&mut board, event);
-        self.board = Some(board);
+        self.machine.give(event);
     }
 
     /// Makes at most `budget` steps, with no event but one that was given, and appends what they give out to `items`.
@@ -181,22 +132,11 @@ impl<'a, V: Spelled> Session<'a, V> {
         ensures spent { result ≡ Ok Pause.Budget → left.new ≡ 0 }
         ensures err { OnErr result (GivesOut (setting self.old) self.new.state) }
     {
-        let Some(board) = self.board.take() else {
-            unreachable!()
-        };
-        let played = play(
-            board,
-            self.accepted.story(),
-            self.rows.as_slice(),
-            self.accepted.listing(),
-            self.callees.as_slice(),
-            *left,
-            &mut self.text,
-            items,
-        );
-        self.board = Some(played.board);
-        *left = played.left;
-        played.outcome
+        match self.machine.run_down(left, items) {
+            Ok(Stop::Paused(pause)) => Ok(pause),
+            Ok(Stop::Fault(..)) => unreachable!(),
+            Err(_) => Err(AllocError),
+        }
     }
 
     /// The bytes of a save of the state, in which a save is awaited (Z 15 save, Q 3 to 6). Want of memory is the only error.
@@ -204,22 +144,21 @@ impl<'a, V: Spelled> Session<'a, V> {
         requires { awaited (setting self.now) self.now.state ≡ Some ASave }
         ensures { IfOk result (λ save. save.items ≡ save_text (origin_of self.now.accepted.story) (saved_of self.now.accepted.story self.now.state)) }
     {
-        write(alloc, &self.parts())
+        self.machine.save_bytes(alloc)
     }
 
     /// What a save of the state would tell, whatever the session stands at: memory, the frames and the place.
-    pub fn parts(&self) -> SavedBoard<'_>
+    pub fn parts(&self) -> Parts<'_, StoryRows<'a>>
         ensures { result ≡ record { story = self.now.accepted.story; state = self.now.state } }
     {
-        saves_are_states();
-        SavedBoard::new(self.accepted.story(), self.accepted.listing(), self.board())
+        self.machine.parts()
     }
 
     /// Where random numbers come from.
     pub fn random(&self) -> RandomMode
         ensures { result ≡ self.now.state.random }
     {
-        self.board().outside.random
+        self.machine.random()
     }
 
     /// Goes on from the bytes of a save, where one is awaited (Z 15 restore). All of the save is judged before any of it is taken over,
@@ -246,12 +185,10 @@ impl<'a, V: Spelled> Session<'a, V> {
             accepted.listing(),
             &view,
         )?;
-        let Some(mut board) = self.board.take() else {
-            unreachable!()
-        };
-        board.resume(accepted.story(), accepted.listing(), &view);
-        self.board = Some(board);
-        Ok(())
+        match self.machine.restore(save) {
+            Ok(()) => Ok(()),
+            Err(_) => unreachable!(),
+        }
     }
 
     /// The law of sessions: no run from here meets a fault, whatever the events and however many the steps, as long as each save leads
@@ -260,7 +197,7 @@ impl<'a, V: Spelled> Session<'a, V> {
         ensures { (inputs : List Input) (n : ℕ) → AreFine V.operations (claims V.operations self.now.accepted) (setting self.now) inputs → IsNoFault (run (setting self.now) inputs n self.now.state).stop }
     {
         each_step_is_safe::<V>();
-        let _board = self.board();
+        let _machine = &self.machine;
     }
 
     /// The law of sessions and checked machines: whatever calls of `run`, `give` and `restore` were made from here, where the session
@@ -269,7 +206,7 @@ impl<'a, V: Spelled> Session<'a, V> {
     pub fn moves_as_machine(&self)
         ensures { MovesAsMachine V.operations self.now.accepted self.now.state }
     {
-        let _board = self.board();
+        let _machine = &self.machine;
     }
 
     /// The laws of saves. A session stands in a state that its certificate describes. What it saves is accepted by every session of the
@@ -283,7 +220,7 @@ impl<'a, V: Spelled> Session<'a, V> {
         ensures fine { (save : List ℕ) (scope : Scope) → Accepts V.operations self.now save → IsFineSave V.operations (claims V.operations self.now.accepted) (record (setting self.now) { scope = scope }) save }
     {
         saves_are_accepted::<V>();
-        let _board = self.board();
+        let _machine = &self.machine;
     }
 }
 
@@ -296,9 +233,11 @@ fn known_of<V: Spelled>(accepted: &Accepted<V>)
     let _globals = accepted.certificate().globals();
 }
 
-/// Hands in an event.
-fn hand_in(board: &mut Board, event: Event)
-    ensures { position_of board.new ≡ with_outside (record (position_of board.old).outside { waiting = Some event }) (position_of board.old) }
+/// Each routine may give some word, since no set is empty (a law).
+fn each_gives<V: Spelled>(accepted: &Accepted<V>)
+    ensures { GiveEach V.operations accepted.now }
 {
-    board.outside.waiting = Some(event);
+    for routine in accepted.certificate().routines() {
+        let _word = routine.result.member();
+    }
 }

@@ -2,5 +2,4 @@ mod ReadLemmas
 mod Stages
 mod Writes
 mod Ends
-mod Needs
 mod Worked

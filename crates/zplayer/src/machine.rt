@@ -6,9 +6,7 @@ ghost use Rattle.zquetzal.specs.Grammar.{save_text};
 ghost use Rattle.zquetzal.specs.Saved.{origin_of};
 ghost use Rattle.zstate.specs.Saves.{saved_of};
 ghost use Rattle.zstate.specs.State.{Setting, State, give};
-ghost use Rattle.zstate.specs.Run.{awaited, need_in, run, Ends, Makes, Stands};
-ghost use Rattle.zstate.specs.Step.{step};
-ghost use Rattle.zref.specs.Machine.{setting as setting_of_checked};
+ghost use Rattle.zstate.specs.Run.{awaited, run, Ends, Makes, Stands};
 ghost use Rattle.zplayer.specs.Playing.{GivesOrSaves, WantsOrSaves};
 ghost use Rattle.zplayer.specs.World.{IsRefused, Resumes};
 ghost use Rattle.zquetzal.specs.declared.error.SaveError.{SaveError as ARefusal};
@@ -51,9 +49,8 @@ pub(crate) trait Machine {
         ensures spent { result ≡ Ok (Stop.Paused Pause.Budget) → left.new ≡ 0 }
         ensures err { OnErr result (Wants (setting self.old) (state self.new)) };
 
-    /// What the instruction that comes next waits for, where the machine stands still so, if nothing was given for it yet.
-    fn awaits(&self, stop: Stop) -> Option<Need>
-        requires { Stands (setting self.now) stop (state self.now) }
+    /// What the instruction that comes next waits for, if nothing was given for it yet.
+    fn awaits(&self) -> Option<Need>
         ensures { result ≡ awaited (setting self.now) (state self.now) };
 
     /// Hands in an event of the kind that is awaited.
@@ -94,7 +91,7 @@ pub(crate) trait Machine {
 impl<'a> Machine for CheckedMachine<'a> {
     ghost use Rattle.std.specs.Prelude.{refl, ⊤};
     ghost use Rattle.std.proofs.Common.{◌∙◌};
-    ghost use Rattle.zref.specs.Machine.{SamePlay};
+    ghost use Rattle.zref.specs.Machine.{SamePlay, setting as setting_of_checked};
     ghost use Rattle.zref.proofs.Running.{same_setting as same_setting_of_checked};
 
     ghost setting = { setting_of_checked };
@@ -111,8 +108,8 @@ impl<'a> Machine for CheckedMachine<'a> {
         CheckedMachine::run_down(self, left, items)
     }
 
-    fn awaits(&self, stop: Stop) -> Option<Need> {
-        awaits_at(self, stop)
+    fn awaits(&self) -> Option<Need> {
+        CheckedMachine::awaits(self)
     }
 
     fn give(&mut self, event: Event) {
@@ -160,7 +157,7 @@ impl<'a, V: Spelled> Machine for Session<'a, V> {
         Ok(Stop::Paused(Session::run_down(self, left, items)?))
     }
 
-    fn awaits(&self, _stop: Stop) -> Option<Need> {
+    fn awaits(&self) -> Option<Need> {
         Session::awaits(self)
     }
 
@@ -183,29 +180,4 @@ impl<'a, V: Spelled> Machine for Session<'a, V> {
     ghost same_setting = { λ old new same. ap setting_of same };
 
     ghost same_takes = { λ old new same s. (subst (λ a. Describes V.operations a s) same, subst (λ a. Describes V.operations a s) (sym same)) };
-}
-
-/// What a machine awaits that stands still so. `CheckedMachine::awaits` would make every test of its step once more.
-fn awaits_at(machine: &CheckedMachine, stop: Stop) -> Option<Need>
-    requires { Stands (setting_of_checked machine.now) stop machine.now.state }
-    ensures { result ≡ awaited (setting_of_checked machine.now) machine.now.state }
-{
-    if machine.state().is_given() {
-        return None;
-    }
-    need_at(stop)
-}
-
-/// What is waited for at a stop, if anything.
-#[tactic(auto, using(crate::proofs::Needs::stands_at))]
-fn need_at(stop: Stop) -> Option<Need>
-    ensures { (m : Setting) (s : State) → Stands m stop s → result ≡ need_in (step m s) }
-{
-    match stop {
-        Stop::Paused(Pause::NeedLine) => Some(Need::Line),
-        Stop::Paused(Pause::NeedRandom) => Some(Need::Random),
-        Stop::Paused(Pause::NeedSave) => Some(Need::Saved),
-        Stop::Paused(Pause::NeedRestore) => Some(Need::Restore),
-        Stop::Paused(Pause::Budget | Pause::Quit | Pause::FrameLimit) | Stop::Fault(_, _) => None,
-    }
 }

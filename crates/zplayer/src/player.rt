@@ -145,7 +145,7 @@ fn supply<M: Machine, R: Source, W: Sink, S: SaveStore, G: Words>(
     ensures reads { BlamesReader R.remaining R.failures world.old.reader.now world.new.reader.now lines.new (IsErrOf result PlayError.Read) }
     ensures writes { BlamesWriter W.failures W.waits world.old.writer.now world.new.writer.now (IsErrOf result PlayError.Write) (IsErrOf result PlayError.Read) }
 {
-    let Some(need) = machine.awaits(stop) else {
+    let Some(need) = machine.awaits() else {
         return Ok(false);
     };
     if let Need::Restore = need {

@@ -1,37 +1,21 @@
-use Rattle.std.proofs.Common.{rules, ◌≡◌, Some, sym, ap, ◌∙◌, map}
-use Rattle.zboard.specs.Head.{head_of}
-use Rattle.zplay.proofs.Accepting.{each_headed}
-use Rattle.zstory.specs.LoadedStory.{first_instruction}
-use Rattle.zlist.specs.Listing.{index_of}
-use Rattle.zstate.specs.State.{State}
-use Rattle.zplay.proofs.Playing.{first_found, each_spelled, each_inside, in_play_first, opening_outside, opens_at}
+use Rattle.std.proofs.Common.{rules, ◌≡◌, ◌≤◌, ◌∙◌, ap}
+use Rattle.zstate.specs.State.{opening}
+use Rattle.zlink.specs.Laid.{setting_of}
+use Rattle.zplay.specs.Session as session
+use Rattle.zplay.proofs.Playing.{able_first, in_play_first, same_rest}
 use Rattle.zplay.proofs.session.Session.start.Goals as goal
 
-pub unreachable-requires : goal.unreachable-requires
-unreachable-requires g c =
-    let none : c.index_of.result ≡ index_of c.args.accepted.now.listing (first_instruction c.args.accepted.now.story) = rw (← c.listing.ensures.value, ← c.story-story.ensures.value, ← c.first_instruction.ensures.value) c.index_of.ensures.value in
-    first_found g.V.Domain.operations g.met.V.Domain.sound g.V.Spelled.format c.args.accepted.now c.known_of.ensures (sym none ∙ c.in_default.is)
-
-pub rows_of-requires-clause-spelled : goal.rows_of-requires-clause-spelled
-rows_of-requires-clause-spelled g c = each_spelled g.V.Domain.operations g.met.V.Domain.sound g.V.Spelled.format c.args.accepted.now c.known_of.ensures
-
-pub rows_of-requires-clause-inside : goal.rows_of-requires-clause-inside
-rows_of-requires-clause-inside g c = each_inside g.V.Domain.operations g.met.V.Domain.sound g.V.Spelled.format c.args.accepted.now c.known_of.ensures
-
-pub callees_of-requires : goal.callees_of-requires
-callees_of-requires g c = each_headed g.V.Domain.operations g.met.V.Domain.sound g.V.Spelled.format c.args.accepted.now c.known_of.ensures
+pub new-requires-2-clause-able : goal.new-requires-2-clause-able
+new-requires-2-clause-able g c =
+    let a = c.args.accepted.now in
+    let same : setting_of c.in_ok-rows.rows ≡ session.setting_of a = rw (c.story-story.ensures.value, c.listing.ensures.value) at c.in_ok-rows.ensures in
+    λ e. able_first g.V.Domain.operations g.met.V.Domain.sound g.V.Spelled.format a _ c.story-story.result.now c.known_of.ensures (c.each_step_is_safe.ensures.opening _) same c.story-story.ensures.value
 
 pub invariant_of-result : goal.invariant_of-result
 invariant_of-result g c =
-    let found : Some c.in-Some.index ≡ index_of c.args.accepted.now.listing (first_instruction c.args.accepted.now.story) = rw (← c.listing.ensures.value, ← c.story-story.ensures.value, ← c.first_instruction.ensures.value) c.in-Some.ensures.value in
-    let memory : c.in_ok-to_vec.field-0.items ≡ c.args.accepted.now.story.memory = search rules in
-    let outside : c.in_ok-new-2.field-0.value ≡ opening_outside = search rules in
-    rw (c.in_ok-new.ensures, memory, outside)
-    (in_play_first g.V.Domain.operations g.met.V.Domain.sound g.V.Spelled.format c.args.accepted.now c.known_of.ensures c.in-Some.index (sym found) c.in_ok-rows.rows.items (map head_of c.in_ok-callees.callees.items) c.in_ok-rows.ensures c.in_ok-callees.ensures (c.each_step_is_safe.ensures.opening _))
-
-pub returns : goal.returns
-returns g c =
-    let found : Some c.in-Some.index ≡ index_of c.args.accepted.now.listing (first_instruction c.args.accepted.now.story) = rw (← c.listing.ensures.value, ← c.story-story.ensures.value, ← c.first_instruction.ensures.value) c.in-Some.ensures.value in
-    let memory : c.in_ok-to_vec.field-0.items ≡ c.args.accepted.now.story.memory = search rules in
-    let outside : c.in_ok-new-2.field-0.value ≡ opening_outside = search rules in
-    rw (c.in_ok-new.ensures, memory, outside) (ap (λ (s : State). record { accepted = c.args.accepted.now; state = s }) (opens_at g.V.Domain.operations g.met.V.Domain.sound g.V.Spelled.format c.args.accepted.now c.known_of.ensures c.in-Some.index (sym found)))
+    let a = c.args.accepted.now in
+    let same : setting_of c.in_ok-rows.rows ≡ session.setting_of a = rw (c.story-story.ensures.value, c.listing.ensures.value) at c.in_ok-rows.ensures in
+    let rest = same_rest c.in_ok-machine.machine c.reserve.new.self c.reserve.new.self.words c.reserve.ensures.rows in
+    let state : c.reserve.new.self.state ≡ opening a.story = rest.1 ∙ c.in_ok-machine.ensures.opens ∙ ap opening c.story-story.ensures.value in
+    let kept : session.words_kept ≤ c.reserve.new.self.words = search rules in
+    in_play_first g.V.Domain.operations g.met.V.Domain.sound g.V.Spelled.format a _ _ _ c.known_of.ensures c.each_gives.ensures (c.each_step_is_safe.ensures.opening _) (ap setting_of rest.0 ∙ c.in_ok-machine.ensures.play ∙ same) kept state

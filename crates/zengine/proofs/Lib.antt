@@ -1,0 +1,34 @@
+pub mod Words
+pub mod Longer
+pub mod Chain
+pub mod Kept
+pub mod Slotted
+mod Reading
+pub mod Landing
+pub mod Families
+pub mod Returns
+pub mod Backs
+pub mod Leaving
+pub mod Decides
+pub mod Begins
+pub mod Enters
+pub mod Writable
+pub mod Steps
+pub mod Rarely
+pub mod Shown
+pub mod Titles
+pub mod Changed
+pub mod Outers
+pub mod Heard
+pub mod Tells
+pub mod Grown
+pub mod Restarts
+pub mod Opens
+pub mod Computed
+pub mod Named
+pub mod Judged
+pub mod Losing
+pub mod Bases
+pub mod Laying
+pub mod Going
+mod Worked

@@ -1,0 +1,14 @@
+pub mod Body
+pub mod View
+pub mod Slots
+pub mod Calls
+pub mod Doing
+pub mod Printed
+pub mod Outer
+pub mod Told
+pub mod Rows
+pub mod Frames
+pub mod Play
+pub mod Opening
+pub mod Lying
+pub mod Resuming
