@@ -16,7 +16,9 @@ use crate::guard::passes;
 use crate::objects::{attribute_of, object_of};
 use crate::writing::are_writable;
 use zfault::Fault;
-use zobj::{Property, clear_attribute, find_property, lead_of, objects_have_entries, set_attribute};
+use zobj::{
+    Property, clear_attribute, find_property, lead_of, objects_have_entries, set_attribute,
+};
 
 /// Makes a change, where dynamic memory ends at `fixed`.
 #[inline(never)]
@@ -220,7 +222,13 @@ fn may_remove(memory: &[u8], objects: u8, number: u16) -> Result<(), Fault>
 }
 
 /// Whether a property of an object may be given a word.
-fn may_set(memory: &[u8], objects: u8, fixed: usize, number: u16, property: u16) -> Result<(), Fault>
+fn may_set(
+    memory: &[u8],
+    objects: u8,
+    fixed: usize,
+    number: u16,
+    property: u16,
+) -> Result<(), Fault>
     requires table { HasTable memory.now objects }
     requires header { 64 ≤ fixed }
     requires within { fixed ≤ length memory.now }

@@ -87,8 +87,8 @@ module _ (story : LoadedStory) (limit number : ℕ) (g : Game) (rows : List Row)
   unfolding AreBacks
   found_more f rest h more k low but kept back found = record {
     then_all = λ last most s at place later backs.
-      let here : IsBack story last.spots most locals words f k = to_back story last most locals words f k (back_stays story limit (number + 1) h last more most locals words f k kept s back) in
-      subst (λ (xs : List ℕ). AreBacks story last.spots most at place count height all xs) (sym (append_assoc ks (k ∷ []) later)) (found.then_all last most (stays_on limit number g h last rows more most low but s) at place (k ∷ later) (here, backs));
+        let here : IsBack story last.spots most locals words f k = to_back story last most locals words f k (back_stays story limit (number + 1) h last more most locals words f k kept s back) in
+        subst (λ (xs : List ℕ). AreBacks story last.spots most at place count height all xs) (sym (append_assoc ks (k ∷ []) later)) (found.then_all last most (stays_on limit number g h last rows more most low but s) at place (k ∷ later) (here, backs));
   }
 
   -- the same, as it is counted

@@ -77,11 +77,7 @@ impl<'a, R: Rows> Model for Parts<'a, R> {
 }
 
 /// What is saved of the state in which a board stands, at a place in memory.
-pub(crate) fn parts_of<'a, R: Rows>(
-    story: &'a Story,
-    rows: &'a R,
-    board: &'a Board,
-) -> Parts<'a, R>
+pub(crate) fn parts_of<'a, R: Rows>(story: &'a Story, rows: &'a R, board: &'a Board) -> Parts<'a, R>
     requires own { story.now ≡ (R.game rows.now).setting.story }
     requires few { (R.game rows.now).setting.limit < MOST_FRAMES }
     requires played { IsPlayed (R.game rows.now) (R.all rows.now) board.now }

@@ -92,12 +92,7 @@ fn back_of<R: Rows>(
 }
 
 /// Finds the rows to which the frames of a save return, above the oldest, and the one at which play goes on.
-fn find_rows<R: Rows>(
-    rows: &mut R,
-    story: &Story,
-    save: &SaveView<'_>,
-    backs: &mut Returns,
-) -> u32
+fn find_rows<R: Rows>(rows: &mut R, story: &Story, save: &SaveView<'_>, backs: &mut Returns) -> u32
     requires own { story.now ≡ (R.game rows.old).setting.story }
     requires few { length save.now.frames ≤ (R.game rows.old).setting.limit + 1 }
     ensures setting { (R.game rows.new).setting ≡ (R.game rows.old).setting }
@@ -150,7 +145,16 @@ fn judge_save<R: Rows>(
     ensures err { IfErr result (λ e. going_on (R.game rows.now).setting save.now (state_in (R.game rows.now) board.now) ≡ Err e) }
 {
     lay_memory(memory, &board.memory, story, save.memory());
-    if !rows.is_save(memory, newest_spot(save, Size { count: 0, height: 0 })) {
+    if !rows.is_save(
+        memory,
+        newest_spot(
+            save,
+            Size {
+                count: 0,
+                height: 0,
+            },
+        ),
+    ) {
         return Err(SaveError::Place);
     }
     if !has_few(save, rows.limit()) {

@@ -40,9 +40,13 @@ pub struct Asked<'a> {
 /// The devices of a command, all of them lent.
 #[derive(Drop)]
 pub struct Devices<'a, F, R, W, E> {
+    /// The files that it reads and writes.
     pub files: &'a mut F,
+    /// What a player's lines are read from.
     pub reader: &'a mut R,
+    /// What a story's text and a command's answers are written to.
     pub writer: &'a mut W,
+    /// What goes wrong, and what a play came to, is written to.
     pub errors: &'a mut E,
 }
 

@@ -13,7 +13,7 @@ const BLANK: Cell = Cell {
     ends: Ends::BLANK,
 };
 
-/// Room for the tables of a story, some 51 KB. It is made once and filled where it stands: to move it would cost more than all else that is
+/// Room for the tables of a story. It is made once and filled where it stands, since it is large: to move it would cost more than all else that is
 /// done for a small story.
 #[derive(Drop)]
 pub struct Room {
