@@ -51,8 +51,9 @@ def both_ways(program, present, parting):
             said = subprocess.run([checker, "kept"], cwd=room, capture_output=True, timeout=60).stdout
             yield "ckifzs", f"saves: zpc's, {parting.number}", None if said.rstrip().endswith(b"Save file is valid.") else repr(said)
         for peer in present:
-            theirs, _ = peer.plays(room, [b"restore", b"kept", *parting.behind], 60)
-            yield peer.name, f"saves: zpc's, {parting.number}", peers.difference(peer.ours(*(it.output for it in goes_on)), theirs)
+            lines = [b"restore", b"kept", *parting.behind]
+            ours, (theirs, _) = peer.ours(*(it.output for it in goes_on), lines), peer.plays(room, lines, 60)
+            yield peer.name, f"saves: zpc's, {parting.number}", peers.difference(ours, theirs)
             yield from from_peer(program, peer, room, parting, goes_on[0])
 
 
@@ -70,15 +71,20 @@ def from_peer(program, peer, room, parting, wanted):
         return
     with open(path, "rb") as file:
         kept = file.read()
-    answer = gone_on(program, room, name, parting)
+    goes_on = lambda: told(wanted, gone_on(program, room, name, parting))
     if b"CMem" not in dict(chunks(kept)):
-        yield peer.name, f"saves: its own, {parting.number}", None if answer == wanted else peers.difference(wanted.output, answer.output) or repr(answer)
+        yield peer.name, f"saves: its own, {parting.number}", goes_on()
         return
+    answer = gone_on(program, room, name, parting)
     yield peer.name, f"saves: its own, refused, {parting.number}", None if answer.errors.startswith(b"save refused: Q5\n") else repr(answer)
     with open(path, "wb") as file:
         file.write(unpacked(kept, parting.story))
-    answer = gone_on(program, room, name, parting)
-    yield peer.name, f"saves: its own, unpacked, {parting.number}", None if answer == wanted else peers.difference(wanted.output, answer.output) or repr(answer)
+    yield peer.name, f"saves: its own, unpacked, {parting.number}", goes_on()
+
+
+def told(wanted, answer):
+    """How an answer differs from the one that is wanted, if it does."""
+    return None if answer == wanted else peers.difference(wanted.output, answer.output) or repr(answer)
 
 
 def chunks(form):

@@ -46,7 +46,8 @@ BELL = "crates/zpc/data/bell.z3"
 ASKING = {
     BELL: (59, 4, [
         typed(read("tests/program/bell.txt")),
-        typed(b"help\nlook\nx hook\nTAKE HOOK.\ndrop the hook\nget hook\ninventory\nrestart\ni\nnorth\nn\nwest\nlower rope\nfoo bar\n\nscore\nquit\nyes\n"),
+        typed(b"help\nlook\nx hook\nTAKE HOOK.\ndrop the hook\nget hook\ninventory\nrestart\ni\nnorth\nn\nwest\nlower rope\n")
+        + typed(b"foo bar\n\nscore\nquit\nyes\n"),
     ]),
     "crates/zpc/data/guess.z3": (19, 4, [typed(b"5\nup\n1\nquit\n")]),
     **{
@@ -163,4 +164,5 @@ def made():
         recorder = Recorder(part)
         see(recorder, recorder)
         for (story, text), name in recorder.found.items():
-            yield Play(name, story, text.split(b"\n")[: text.count(b"\n")])
+            high = ", of over 32 KB in play" if story[14] >= 0x80 else ""
+            yield Play(name + high, story, text.split(b"\n")[: text.count(b"\n")])
