@@ -50,6 +50,8 @@ THAT_SAVE = saved(SAVES, 0x324)
 RESTORES = story(b"\xb6\x47" + SAVE + SAY_YES + PRINT_FIRST + QUIT)
 RESTORES_LISTED = certificate(RESTORES, [0x324, 0x326, 0x328, 0x32B, 0x32E])
 ITS_SAVE = saved(RESTORES, 0x326)
+# The same within 200 frames more, each with 15 locals and 20 words on its stack.
+DEEP_SAVE = saved(RESTORES, 0x326, frames=FIRST_FRAME + 200 * (b"\0\x03\x2e\x0f\0\0\0\x14" + bytes(70)))
 
 # It tries to restore, and else prints n and calls a routine with 3, which pushes 5, saves, prints both, and gives 3 back.
 INSIDE = story(

@@ -81,8 +81,9 @@ for folder in "$work"/stories/*; do
     cd "$folder" || exit 1
     refuse_each "$(basename "$folder")"
 done
-# Each call that takes memory was refused in some run.
-wanted='check decode feed file find finish list load new parts play read render restore run save start step stream words write'
+# Each call that takes memory was refused in some run. A machine that restores what it saved itself takes none: run.sh restores a save for whose
+# frames there are too few words.
+wanted='check decode feed file find finish list load new parts play read render run save start step stream words write'
 if [ "$(sort -u "$work/kinds" | tr '\n' ' ')" = "$(printf 'refused: %s\n' $wanted | tr '\n' ' ')" ]; then
     passed=$((passed + 1))
 else

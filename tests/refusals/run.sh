@@ -21,13 +21,13 @@ for name, contents in NAMINGS[0][1].items():
     with open(f"{sys.argv[1]}/{name}.lists", "wb") as file:
         file.write(contents)
 ' "$work") || exit 1
-# A story that saves, one that restores, a save of that, and their certificates.
+# A story that saves, one that restores, a save of that and one of more frames than there are words for, and their certificates.
 (cd "$here/../program" && python3 -c '
 import sys
 import saves
 for name, contents in (
     ("saves", saves.QUITS), ("saves.cert", saves.QUITS_LISTED),
-    ("restores", saves.RESTORES), ("restores.cert", saves.RESTORES_LISTED), ("kept", saves.ITS_SAVE),
+    ("restores", saves.RESTORES), ("restores.cert", saves.RESTORES_LISTED), ("kept", saves.ITS_SAVE), ("deep", saves.DEEP_SAVE),
 ):
     with open(f"{sys.argv[1]}/{name}", "wb") as file:
         file.write(contents)
@@ -123,6 +123,7 @@ refuse_each play --save "$work/new" "$work/saves"
 refuse_each play --save "$work/new" "$work/saves" "$work/saves.cert"
 unrestored=0
 refuse_each play --save "$work/kept" "$work/restores"
+refuse_each play --save "$work/deep" "$work/restores"
 refuse_each play --save "$work/kept" "$work/restores" "$work/restores.cert"
 unrestored=
 refuse_each play
