@@ -19,10 +19,11 @@ returns-in_ok-magic_of-in-Magic-clause-led g c =
     let fits : IsBytes c.args.number.now = λ i. search rules in
     λ fed led. magic_leads_at g.V.Spelled.format g.V.Spelled.turns _ _ _ fed c.args.number.now fits (search rules) c.requires.part c.in_ok-magic_of-in-Magic.ensures led
 
+-- of certificates that name no limit, and of those that do
 pub returns-in_ok-version_of-in-Version-clause-led : goal.returns-in_ok-version_of-in-Version-clause-led
 returns-in_ok-version_of-in-Version-clause-led g c =
     let fits : IsBytes c.args.number.now = λ i. search rules in
-    λ fed led. version_leads_at g.V.Spelled.format g.met.V.Spelled.is_format g.V.Spelled.turns _ _ _ fed c.args.number.now fits (search rules) c.requires.part c.in_ok-version_of-in-Version.ensures led
+    λ fed led. version_leads_at g.V.Spelled.format g.met.V.Spelled.is_format g.V.Spelled.turns _ _ _ fed c.args.number.now _ fits (search rules) c.requires.part (search rules) (search rules) led
 
 pub returns-in-Field-clause-led : goal.returns-in-Field-clause-led
 returns-in-Field-clause-led g c =
