@@ -18,7 +18,7 @@ use Rattle.zcheck.specs.Acceptance.{AcceptanceOver}
 use Rattle.zcheck.specs.declared.refusal.StoryRule.{StoryRule}
 use Rattle.zcommand.specs.CommandLine.{ListStory, Find, Check, Play, Explain}
 use Rattle.zref.specs.Machine.{setting_of}
-use Rattle.zlink.specs.declared.scope.Scope.TheVariants.{All}
+use Rattle.zref.specs.declared.scope.Scope.TheVariants.{All}
 use Rattle.zplay.specs.Session.{setting_of as session_of}
 use Rattle.zplayer.specs.declared.end.End.{End}
 use Rattle.zplayer.specs.declared.end.Options.{Options}
