@@ -141,14 +141,21 @@ fn room_for<V: Spelled>(contents: &Contents<V>) -> usize {
         .saturating_add(contents.instructions.bytes_of_sets())
 }
 
+// What stands before the ranges.
+fn put_front<V: Spelled>(out: &mut Vec<u8>, contents: &Contents<V>) -> Result<(), AllocError>
+    ensures { OnOk result (out.new.items ≡ out.old.items ++ (heading V.format (is_some contents.now.limit) ++ identity_bytes contents.now.identity ++ limit_bytes contents.now.limit)) }
+{
+    put_heading::<V>(out, contents.limit)?;
+    put_identity(out, &contents.identity)?;
+    put_limit(out, contents.limit)
+}
+
 // All that a certificate says, apart from the vector, which would be dropped where any of these is refused.
 fn put_all<V: Spelled>(out: &mut Vec<u8>, contents: &Contents<V>) -> Result<(), AllocError>
     requires { HasSpelling V.format (content_of contents.now) }
     ensures { OnOk result (out.new.items ≡ out.old.items ++ spelling V.format (content_of contents.now)) }
 {
-    put_heading::<V>(out, contents.limit)?;
-    put_identity(out, &contents.identity)?;
-    put_limit(out, contents.limit)?;
+    put_front(out, contents)?;
     put_ranges(out, &contents.ranges)?;
     put_values(out, &contents.globals)?;
     put_routines(out, &contents.routines)?;

@@ -123,7 +123,8 @@ no_limit text e h = go (is_limit (without_leading_plus text)) refl
     go true t =
         let outer = both _ _ t in
         let inner = both _ _ outer.0 in
-        let few : digits_value 10 (without_leading_plus text) < 65536 = omega (arith, leb-true _ _ outer.1) in
+        let most : digits_value 10 (without_leading_plus text) ≤ 4096 = leb-true _ _ outer.1 in
+        let few : digits_value 10 (without_leading_plus text) < 65536 = omega arith in
         absurd (h ((ltb-true _ _ inner.0, digits_from (without_leading_plus text) inner.1), few))
 
 -- what the getter of limits gives, unless it is above the greatest

@@ -274,7 +274,7 @@ fn find<'a>(alloc: Global) -> Result<clap::Command<'a>, AllocError>
     framing(alloc)?.arg(force(alloc))
 }
 
-/// `find` without what is said of files.
+/// `find` without the flag by which any file may be written over.
 fn framing<'a>(alloc: Global) -> Result<clap::Command<'a>, AllocError>
     ensures app { IfOk result (λ find. app_of find ≡ framing_app) }
     ensures local { IfOk result (λ find. (fields_of find).has_globals ≡ false) }
