@@ -1,0 +1,7 @@
+pub mod Cuts
+pub mod Going
+pub mod Lasts
+pub mod Paths
+pub mod Series
+pub mod Tags
+mod Worked

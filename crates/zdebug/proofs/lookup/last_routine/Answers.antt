@@ -1,0 +1,7 @@
+use Rattle.std.proofs.Common.{rules, arith}
+use Rattle.std.proofs.lemmas.Grind.{common_steps}
+use Rattle.zdebug.proofs.Lasts.{last_is}
+use Rattle.zdebug.proofs.lookup.last_routine.Goals as goal
+
+pub returns-in-Some-clause-value : goal.returns-in-Some-clause-value
+returns-in-Some-clause-value c = first_of (search (rules, last_is), grind (arith, common_steps, last_is))

@@ -1,0 +1,89 @@
+//! The debug information of a story.
+
+ghost use Rattle.std.specs.Prelude.{◌≡◌};
+ghost use Rattle.std.specs.Option.{option_map};
+ghost use Rattle.zdebug.specs.Steps.{Answers};
+ghost use Rattle.zdebug.specs.Reading.{reading};
+ghost use Rattle.zdebug.specs.Places.{name_at, routine_in, place_in, global_in};
+ghost use Rattle.zdebug.specs.Spots.{spot_of_place};
+
+use crate::error::DebugError;
+use crate::lookup::{global_in, name_at, place_in, routine_in};
+use crate::place::Place;
+use crate::reading::records_of;
+use crate::records::Records;
+use std::alloc::Global;
+use std::marker::Model;
+
+/// The debug information that Inform 6 writes about a story. Clauses see it as the records of the file.
+#[derive(Drop)]
+pub struct DebugInfo {
+    records: Records,
+}
+
+impl Model for DebugInfo {
+    ghost use Rattle.zdebug.specs.Records.{Found};
+    ghost use Rattle.zdebug.specs.View.{found_of};
+
+    ghost Value = { Found };
+
+    ghost view = { λ i. found_of i.records };
+}
+
+impl DebugInfo {
+    /// Reads a file, in time that is linear in it but for the orders of its records. It is refused for the first thing that is wrong.
+    pub fn read(alloc: Global, bytes: &[u8]) -> Result<DebugInfo, DebugError>
+        ensures { Answers (λ i. i) result (reading bytes.now) }
+    {
+        match records_of(alloc, bytes) {
+            Ok(records) => Ok(DebugInfo { records }),
+            Err(error) => Err(error),
+        }
+    }
+
+    /// Where in the source the code at a byte address of the story comes from: the sequence point of the greatest address not above
+    /// it in its routine. None outside all routines, and in front of the first sequence point of one.
+    pub fn place_of(&self, address: u32) -> Option<Place<'_>>
+        ensures { option_map spot_of_place result ≡ place_in self.now address }
+    {
+        place_in(&self.records, address)
+    }
+
+    /// The name of the routine whose bytes hold a byte address of the story.
+    pub fn routine_at(&self, address: u32) -> Option<&[u8]>
+        ensures { option_map (λ name. name.now) result ≡ option_map (λ r. r.1.name) (routine_in self.now address) }
+    {
+        match routine_in(&self.records, address) {
+            None => None,
+            Some((_, routine)) => Some(routine.name.bytes()),
+        }
+    }
+
+    /// The name of a global variable, by its number from 0.
+    pub fn global(&self, number: u8) -> Option<&[u8]>
+        ensures { option_map (λ name. name.now) result ≡ global_in self.now number }
+    {
+        global_in(&self.records, number)
+    }
+
+    /// The name of an object or a class, by its number in the story.
+    pub fn object(&self, number: u32) -> Option<&[u8]>
+        ensures { option_map (λ name. name.now) result ≡ name_at self.now.objects number }
+    {
+        name_at(&self.records.objects, number)
+    }
+
+    /// The name of an attribute, by its number from 0.
+    pub fn attribute(&self, number: u32) -> Option<&[u8]>
+        ensures { option_map (λ name. name.now) result ≡ name_at self.now.attributes number }
+    {
+        name_at(&self.records.attributes, number)
+    }
+
+    /// The name of a property, by its number from 1.
+    pub fn property(&self, number: u32) -> Option<&[u8]>
+        ensures { option_map (λ name. name.now) result ≡ name_at self.now.properties number }
+    {
+        name_at(&self.records.properties, number)
+    }
+}
