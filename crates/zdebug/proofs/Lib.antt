@@ -5,3 +5,6 @@ pub mod Paths
 pub mod Series
 pub mod Tags
 mod Worked
+mod WorkedFiles
+mod WorkedPlaces
+mod WorkedRecords
