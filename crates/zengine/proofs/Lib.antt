@@ -3,7 +3,7 @@ pub mod Longer
 pub mod Chain
 pub mod Kept
 pub mod Slotted
-mod Reading
+pub mod Reading
 pub mod Landing
 pub mod Families
 pub mod Returns
