@@ -70,8 +70,9 @@ def played(case, tally):
     if is_kept_from(options, case.files.get("saved", b"")):
         raise Refused("N2")
     tally.codes["played with a certificate"] += certificate is not None
-    store = Store(case.files.get("saved"), certificate and certificate.instructions) if "--save" in options else None
+    store = Store(case.files.get("saved"), certificate) if "--save" in options else None
     machine = Machine(story, int(options.get("--seed", 1)), case.typed, "--status" in options, store, tally.opcodes)
+    machine.limit = certificate.limit if certificate else machine.limit
     end = machine.run(int(options["--budget"]))
     for code in machine.told:
         tally.codes[code] += 1

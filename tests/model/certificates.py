@@ -1,4 +1,4 @@
-"""Certificates of versions 1 and 2 as docs/CERTIFICATE.md spells them: how a file is read, and its first refusal (K1 to K7, K9).
+"""Certificates of versions 1 to 3 as docs/CERTIFICATE.md spells them: how a file is read, and its first refusal (K1 to K7, K9).
 
 Each number of the table there is a field by itself, also of a row that has several."""
 import struct
@@ -6,7 +6,7 @@ import struct
 from sets import SMALL, Numbers
 from stories import Refused
 
-PLACES, LOCALS, HEIGHT, INSTRUCTIONS = 131072, 15, 64, 131072
+PLACES, LOCALS, HEIGHT, INSTRUCTIONS, FRAMES, USUAL = 131072, 15, 64, 131072, 4096, 1024
 
 
 class Certificate:
@@ -15,11 +15,11 @@ class Certificate:
     def __init__(self):
         self.ranges, self.globals, self.routines, self.instructions = [], [], [], {}
         self.header = self.length = None
-        self.version = 1
+        self.version, self.limit = 1, USUAL
 
     @property
     def has_lists(self):
-        return self.version == 2
+        return self.version > 1
 
 
 class Fields:
@@ -72,9 +72,12 @@ def read(file):
     fields, made = Fields(file), Certificate()
     require(fields.take(">4s") == b"ZPCC", "K1")
     made.version = fields.take(">B")
-    require(made.version in (1, 2), "K2")
+    require(made.version in (1, 2, 3), "K2")
     fields.has_lists = made.has_lists
     made.header, made.length = fields.take(">10s"), fields.take(">I")
+    if made.version == 3:
+        made.limit = fields.take(">H")
+        require(made.limit <= FRAMES, "K7")
     read_ranges(fields, made)
     made.globals = [fields.set() for _ in range(240)]
     read_routines(fields, made)

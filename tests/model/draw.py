@@ -156,7 +156,9 @@ class Drawer:
             story = spoiling.tables_of(draw, story)
         try:
             loaded = Story(story)
-            certificate = spoiling.spelled(Walk(loaded, draw.choice([1, 2]), frozen(draw, loaded)).made)
+            made = Walk(loaded, draw.choice([1, 2, 3]), frozen(draw, loaded)).made
+            made.limit = draw.choice([0, 1, 2, 3, 4, 1024, 4096]) if made.version == 3 else made.limit
+            certificate = spoiling.spelled(made)
         except Refused:
             return Case(["list", "story"], {"story": story})
         return accepting(draw, story, certificate if draw.random() < 0.5 else spoiling.certificate_of(draw, certificate))
@@ -203,13 +205,13 @@ def save_for(draw, story, certificate, lines):
     """A file of saves for a play with a certificate: one that was kept by a play of the story, or one that is refused before it is asked
     what the certificate describes."""
     try:
-        save, listed = kept(story, lines), certificates.read(certificate).instructions
+        save, made = kept(story, lines), certificates.read(certificate)
     except Refused:
         return {}
     if save is None or draw.random() < 0.4:
         return {} if save is None else {"saved": save}
-    spoiled, made = spoiling.save_of(draw, save), Story(story)
-    return {"saved": spoiled} if saves.judged(made, spoiled, made.memory, listed)[0] else {}
+    spoiled, loaded = spoiling.save_of(draw, save), Story(story)
+    return {"saved": spoiled} if saves.judged(loaded, spoiled, loaded.memory, made)[0] else {}
 
 
 def kept(story, lines):

@@ -1,5 +1,6 @@
 """Saves as docs/MACHINE.md has them, files of the Quetzal 1.4 standard (named Q): how one is written, and the first refusal (Q1 to Q9) of
-one that is read. Of Q10, what a certificate describes, and of Q11, want of memory, this model says nothing."""
+one that is read. Of Q10 it says where a save has more frames than a certificate lets stand, and no more; of
+Q11, want of memory, nothing."""
 import struct
 
 from stories import word_at
@@ -78,11 +79,12 @@ def frames_of(data):
         back = data[at] << 16 | word_at(data, at + 1)
         found.append((back, data[at + 4], bin(data[at + 5]).count("1"), values[:count], values[count:]))
         at = end
-    return found if 1 <= len(found) <= 1025 else None
+    return found if 1 <= len(found) <= 4097 else None
 
 
-def judged(story, save, memory, listed=None):
-    """The refusal of a save, and the memory, place and frames in which play goes on from it (Z 15 restore). A certificate lists places."""
+def judged(story, save, memory, certificate=None):
+    """The refusal of a save, and the memory, place and frames in which play goes on from it (Z 15 restore). A certificate lists places,
+    and has a limit of frames."""
     fault, parts = form_fault(save)
     if fault:
         return fault, None
@@ -98,10 +100,12 @@ def judged(story, save, memory, listed=None):
     restored = bytearray(parts[b"UMem"] + story.memory[story.static :])
     flags = bytes([restored[0x10], restored[0x11] & 0xFC | memory[0x11] & 3])
     restored[:64] = story.memory[:0x10] + flags + story.memory[0x12:64]
-    if listed is not None and place not in listed:
+    if certificate and place not in certificate.instructions:
         return "Q9", None
     if not 0 <= place < story.length or restored[place] != SAVE or not is_whole(restored, place):
         return "Q9", None
+    if certificate and len(frames) > certificate.limit + 1:
+        return "Q10", None
     return None, (restored, place, frames)
 
 

@@ -221,6 +221,8 @@ def certificate_of(draw, file):
         draw.choice(CHANGES)(draw, made)
     if made.has_lists and draw.random() < 0.1:
         misspell(draw, made)
+    if made.version == 3 and draw.random() < 0.2:
+        made.limit = draw.choice([0, 1, 2, 3, 4095, 4096, 4097, 65535])
     return spelled(made)
 
 
@@ -247,7 +249,8 @@ def misspell(draw, made):
 def spelled(made):
     """The file of a certificate."""
     spell = spelled_set if made.has_lists else spelled_interval
-    parts = [b"ZPCC", bytes([made.version]), made.header, struct.pack(">IH", made.length, len(made.ranges))]
+    limit = struct.pack(">H", made.limit) if made.version == 3 else b""
+    parts = [b"ZPCC", bytes([made.version]), made.header, struct.pack(">I", made.length), limit, struct.pack(">H", len(made.ranges))]
     parts += [struct.pack(">HH", *it) for it in made.ranges] + [spell(it) for it in made.globals]
     parts.append(struct.pack(">H", len(made.routines)))
     parts += [struct.pack(">IB", at, count) + spell(result) for at, count, result in made.routines]
@@ -298,7 +301,7 @@ def full_stacks(draw, data):
         height = draw.choice([65533, 65534, 65535])
         return bytes(6) + struct.pack(">H", height) + bytes(2 * height)
     first = data[: 8 + 2 * (data[6] * 256 + data[7])]
-    return first + draw.choice([bytes(8), b"\0\0\0\x02\x10\x01\0\0\0\x07\0\x07"]) * draw.choice([1, 1, 3, 1022, 1023, 1024, 1025])
+    return first + draw.choice([bytes(8), b"\0\0\0\x02\x10\x01\0\0\0\x07\0\x07"]) * draw.choice([1, 1, 3, 4, 1023, 1024, 1025, 4095, 4096, 4097])
 
 
 def spoiled_data(draw, data):
@@ -309,7 +312,7 @@ def spoiled_data(draw, data):
     if made and draw.random() < 0.8:
         change(draw, made, draw.randrange(len(made)))
         return bytes(made)
-    return bytes(made[: draw.randint(0, len(made))]) if draw.random() < 0.5 else bytes(made) + bytes(draw.choice([1, 2, 8, 8 * 1025]))
+    return bytes(made[: draw.randint(0, len(made))]) if draw.random() < 0.5 else bytes(made) + bytes(draw.choice([1, 2, 8, 8 * 4097]))
 
 
 def other_chunks(draw, chunks):

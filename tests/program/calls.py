@@ -170,14 +170,18 @@ BRANCHES = [
 
 # ---- levels below the first: a routine that calls itself with one less, and gives one more than comes back; and how many levels
 
-LEVELS = routine(
-    A, [0], WIDE,
-    (b"\xa0\x01\xc0", [(0, 1024)]),
-    (b"\x55\x01\x01\x01", [(1, 1024)]),
-    (call_with(A, 0, 1), [(0, 1023)]),
-    (b"\x54\x00\x01\x00", [(0, 1023)], ANY),
-    (RET_POPPED, [(0, 1023)], ANY),
-)
+def levels(most):
+    return routine(
+        A, [0], WIDE,
+        (b"\xa0\x01\xc0", [(0, most)]),
+        (b"\x55\x01\x01\x01", [(1, most)]),
+        (call_with(A, 0, 1), [(0, most - 1)]),
+        (b"\x54\x00\x01\x00", [(0, most - 1)], ANY),
+        (RET_POPPED, [(0, most - 1)], ANY),
+    )
+
+
+LEVELS = levels(1024)
 
 
 def deep(count, place=A):
@@ -262,7 +266,7 @@ PLAYS = [
     ("as many levels as there may be", deep(1023), [LEVELS], ZERO, b"1023"),
 ]
 
-# ---- plays that a frame limit ends, and how many steps they take
+# ---- plays by a certificate that names no limit that a frame limit ends, and how many steps they take
 
 LIMITS = [
     ("a level too many", deep(1024), [LEVELS], b"", 3072),
@@ -591,10 +595,9 @@ def see_limits(plays):
     """A frame limit is told where the step would be made, at the end of the budget too, and not a step before."""
     for name, main, routines, text, steps in LIMITS:
         given = files(main, routines)
-        for machine, words in [("checked", []), ("by its certificate", ["certificate"])]:
-            for budget, end in [(steps + 5, "frame limit"), (steps, "frame limit"), (steps - 1, "budget")]:
-                answer = plays.program.run(["play", "--budget", str(budget), "story", *words], given)
-                plays.count.is_answer(f"{name}, in {budget} steps, {machine}", answer, Answer(0, text, f"end: {end}\n".encode()))
+        for budget, end in [(steps + 5, "frame limit"), (steps, "frame limit"), (steps - 1, "budget")]:
+            answer = plays.program.run(["play", "--budget", str(budget), "story", "certificate"], given)
+            plays.count.is_answer(f"{name}, in {budget} steps", answer, Answer(0, text, f"end: {end}\n".encode()))
 
 
 def see_calls(program, count):

@@ -110,10 +110,12 @@ class Reader:
         if self.take(4) != b"ZPCC":
             raise Refused(1)
         self.version = self.number(1)
-        if self.version not in (1, 2):
+        if self.version not in (1, 2, 3):
             raise Refused(2)
         for count in (2, 6, 2, 4):
             self.take(count)
+        if self.version == 3:
+            self.number(2, 0, 4096)
         self.ranges()
         for _ in range(240):
             self.set()
@@ -193,7 +195,7 @@ CALLS = [
     ("a list of 64 of which all are given", table_listed(given=list_of(*range(-113, 15, 2))), None),
     # versions
     ("read as version 1", changed(LISTED, 4, 1), "K4"),
-    ("version 3", changed(LISTED, 4, 3), "K2"),
+    ("version 4", changed(LISTED, 4, 4), "K2"),
     ("version 0", changed(LISTED, 4, 0), "K2"),
     ("version 255", changed(LISTED, 4, 255), "K2"),
     ("version 1 read as 2", changed(first_version((1, 2), (411, 413), (5, 7)), 4, 2), "K6"),

@@ -64,7 +64,7 @@ def frames_of(data):
             return None
         stacks.append(height)
         at = end
-    return stacks if 1 <= len(stacks) <= 1025 else None
+    return stacks if 1 <= len(stacks) <= 4097 else None
 
 
 def read(save, made):

@@ -15,6 +15,7 @@ from arrays import see_arrays
 from calls import see_calls
 from dear import see_dear
 from finding import see_finding
+from frames import see_frames
 from game import see_game
 from lines import see_lines
 from lists import see_lists
@@ -444,6 +445,7 @@ def main():
     see_texts(program, count)
     see_lines(program, count)
     see_lists(program, count, COMMANDS)
+    see_frames(program, count)
     see_showing(program, count, help_text("no_address.txt"))
     see_finding(program, count)
     see_dear(program, count)

@@ -312,7 +312,7 @@ def are_frames(data):
         if len(data) < size or flags > 15 or supplied not in (0, 1, 3, 7) or count == 0 and data[:6].strip(b"\0"):
             return False
         data, count = data[size:], count + 1
-    return 1 <= count <= 1025
+    return 1 <= count <= 4097
 
 
 def refusal_of(file):

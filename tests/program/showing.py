@@ -1,4 +1,5 @@
 """Runs of `show`: what a certificate says, in words, and what is said of a word that is no address. Each line is worked out by hand."""
+from frames import limited
 from lists import certificate as certificate_with_lists, list_of, run_of
 from program import Answer
 from samples import HELLO, NOP, QUIT, certificate, changed, interval, story
@@ -51,6 +52,10 @@ LISTS = files(INSIDE, certificate_with_lists(
 ))
 ITS_LISTS = claims("version 2, intervals and lists", {20: "-2, 0"}, (), ["routine 1 at 00326, locals 2, result 0, 2"], "any word")
 
+# ---- a limit of frames
+
+LIMITED = files(SAMPLE, limited(certificate(SAMPLE, LISTED), 4095))
+
 # The object 0 is asked for its parent: get_parent 0 -> global 16.
 ORPHAN = story(b"\x93\0\x10" + QUIT)
 ORPHANED = files(ORPHAN, certificate(ORPHAN, [0x324, 0x327]))
@@ -79,6 +84,10 @@ RUNS = [
     ("lists of an instruction", [*SHOW, "0032b"], LISTS, shown(
         ITS_LISTS, "0032b 1 rtrue\nheight 2\nlocal 1: -5, 3, 1000\nlocal 2: 0 to 5\nslot 1: -32768, 32767\nslot 2: 4\nbroken: I13: what is returned isn't known, or there is nothing to return to.\n"
     )),
+    ("a limit of frames", SHOW, LIMITED, shown(claims("version 3, intervals and lists\nframe limit 4095"), "instructions 2\n")),
+    ("an instruction, and a limit of frames", [*SHOW, "00324"], LIMITED, shown(claims("version 3, intervals and lists\nframe limit 4095"), PRINT)),
+    ("the least limit of frames", SHOW, files(SAMPLE, limited(certificate(SAMPLE, LISTED), 0)), shown(claims("version 3, intervals and lists\nframe limit 0"), "instructions 2\n")),
+    ("a limit of too many frames", SHOW, files(SAMPLE, limited(certificate(SAMPLE, LISTED), 4097)), refused("K7")),
     ("no object", [*SHOW, "00324"], ORPHANED, shown(ITS_CLAIMS, "00324 0 get_parent\nheight 0\nbroken: I5: an operand that has to be an object may be none, most often 0.\n")),
     ("the rule of another instruction isn't told", [*SHOW, "00327"], ORPHANED, shown(ITS_CLAIMS, "00327 0 quit\nheight 0\nits rule holds\n")),
     ("a listed place with no instruction", [*SHOW, "00324"], files(BARE, certificate(BARE, [0x324, 0x327])), shown(

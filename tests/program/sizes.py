@@ -13,6 +13,7 @@ import sys
 import tempfile
 
 from calls import RET_POPPED, RTRUE, WIDE, call, call_with, deep, files, printing, routine
+from frames import MOST, limited
 from lines import telling
 from plays import PRINT_TOP, PUSH, ended, placed
 from program import Answer, Count, Program
@@ -120,16 +121,18 @@ def most_routines(program, count):
 
 def deepest(program, count):
     """As many frames above the first as there may be, each with 15 locals and, but the newest, with as many words on its stack as a
-    session has room for."""
+    session has room for: by a certificate that names no limit, and by one that names the greatest."""
     words, place = list(range(1, 16)), CODE + 28
     rest = [(it, it) for it in words[1:]]
-    before, after = [(1, 1023), *rest], [(0, 1022), *rest]
     one = interval(1, 1)
-    lines = [(b"\xa0\x01\x80\xca", [(0, 1023), *rest]), (b"\x55\x01\x01\x01", before)]
-    lines += [(PUSH + b"\x01", after, one * it) for it in range(63)]
-    lines += [(call_with(place, 0, 1), after, one * 63), (RET_POPPED, after, one * 63 + interval(15, 15)), (b"\xab\x0f", [(0, 0), *rest])]
-    made = files(deep(1023, place), [routine(place, words, (15, 15), *lines)])
-    see(program, count, "1,024 frames of 15 locals and 64 words", made["story"], made["certificate"], b"15")
+    for most in (1024, MOST):
+        before, after = [(1, most - 1), *rest], [(0, most - 2), *rest]
+        lines = [(b"\xa0\x01\x80\xca", [(0, most - 1), *rest]), (b"\x55\x01\x01\x01", before)]
+        lines += [(PUSH + b"\x01", after, one * it) for it in range(63)]
+        lines += [(call_with(place, 0, 1), after, one * 63), (RET_POPPED, after, one * 63 + interval(15, 15)), (b"\xab\x0f", [(0, 0), *rest])]
+        made = files(deep(most - 1, place), [routine(place, words, (15, 15), *lines)])
+        listed = made["certificate"] if most == 1024 else limited(made["certificate"], most)
+        see(program, count, f"{most} frames of 15 locals and 64 words", made["story"], listed, b"15")
 
 
 def most_callees(program, count):
@@ -256,6 +259,8 @@ def searched(program, count):
     """Stories of many instructions, whose certificates are found."""
     for instructions in (4095, 4096, 4097, 20001, 60000):
         see_found(program, count, f"{instructions} instructions", story(NEW_LINE * (instructions - 1) + QUIT), b"\n" * (instructions - 1))
+    largest = {"story": story(NEW_LINE * 59999 + QUIT)}
+    count.is_answer("60000 instructions, searched with a limit", program.run(["find", "--frames", str(MOST), "story", "certificate"], largest), Answer(0, b"found\n", b""))
 
 
 def long_results(program, count):
@@ -342,15 +347,17 @@ def deep_saves(program, count):
     """Saves within as many frames, each with 15 locals and 20 words on its stack, and what goes on from them."""
     place, locals_ = CODE + 30, list(range(1, 16))
     rest = [(it, it) for it in locals_[1:]]
-    before, after, one = [(1, 1023), *rest], [(0, 1022), *rest], interval(1, 1)
+    before, after, one = [(1, MOST - 1), *rest], [(0, MOST - 2), *rest], interval(1, 1)
     # at level 0 it goes over what follows, to the save
     skipped = 4 + 20 * 3 + 6 + 1
-    lines = [(b"\xa0\x01" + struct.pack(">H", 0x8000 | skipped + 2), [(0, 1023), *rest]), (b"\x55\x01\x01\x01", before)]
+    lines = [(b"\xa0\x01" + struct.pack(">H", 0x8000 | skipped + 2), [(0, MOST - 1), *rest]), (b"\x55\x01\x01\x01", before)]
     lines += [(PUSH + b"\x01", after, one * it) for it in range(20)]
     lines += [(call_with(place, 0, 1), after, one * 20), (RET_POPPED, after, one * 20 + interval(15, 15))]
     lines += [(SAVE, [(0, 0), *rest]), (b"\xab\x0f", [(0, 0), *rest])]
-    for levels in (98, 99, 100, 101, 1023):
+    for levels in (98, 99, 100, 101, 1023, MOST - 1):
         given = files([RESTORE, *deep(levels, place)[:1], (PRINT_TOP, interval(15, 15)), QUIT], [routine(place, locals_, (15, 15), *lines)])
+        if levels >= 1024:
+            given["certificate"] = limited(given["certificate"], MOST)
         count.is_answer(f"saves in {levels} levels, checked", program.run(["check", "story", "certificate"], given), Answer(0, b"accepted\n", b""))
         for words in (["story"], ["story", "certificate"]):
             first, second, length = saved_and_restored(program, words, given)
@@ -410,6 +417,7 @@ GROWTH = [
     ("zfind find", "instructions", searched),
     ("zfind find", "routines", many_routines),
     ("zfind find", "objects and properties", many_objects),
+    ("zfind find_limited", "what `find` grows by, which it calls", searched),
     ("zfind write", "instructions", searched),
     ("zfind write", "routines", many_routines),
     ("zfind broken_in_all", "what `find` grows by: the walk is the same", searched),
@@ -463,7 +471,7 @@ def on_small_machines(program, count):
     """Each command on the sample games, with a stack of 512 KB: it does the same. And in 4 MB of address space, of which the C library takes
     3.3: it does the same, or tells that memory was refused."""
     data = os.path.join(os.path.dirname(os.path.abspath(__file__)), "../../crates/zpc/data")
-    commands = ["explain I5", "list story", "check story certificate", "show story certificate", "show story certificate 324", "find story found", "play story", "play story certificate"]
+    commands = ["explain I5", "list story", "check story certificate", "show story certificate", "show story certificate 324", "find story found", "find --frames 4096 story deep", "play story", "play story certificate"]
     for name in ["hello", "bell"]:
         made = {}
         for file, ending in [("story", "z3"), ("certificate", "cert")]:

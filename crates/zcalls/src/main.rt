@@ -61,7 +61,7 @@ fn main(rt: HostRuntime) -> io::Result<()> {
     on_both(&rt, &accepted)
 }
 
-/// Compares both machines over a story that is accepted with a certificate of either version.
+/// Compares both machines over a story that is accepted with a certificate of either kind of sets.
 fn compare_files(
     rt: &HostRuntime,
     story: &str,
@@ -100,7 +100,8 @@ fn on_both(rt: &HostRuntime, accepted: &Accepted) -> io::Result<()> {
     println!(rt; "checked machine, anywhere")?;
     on_checked(rt, accepted.story(), Scope::All)?;
     println!(rt; "checked machine, on the listing")?;
-    on_checked(rt, accepted.story(), Scope::Only(accepted.listing()))
+    let limit = accepted.certificate().frame_limit();
+    on_checked(rt, accepted.story(), Scope::Only(accepted.listing(), limit))
 }
 
 /// Plays the accepted story on a session for each way of calling it, and saves it.

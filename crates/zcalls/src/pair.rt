@@ -95,7 +95,8 @@ impl<'a, V: Spelled> Pair<'a, V> {
         }
     }
 
-    /// Makes steps on both, one by one, to the first pause. Answers nothing where they differ.
+    /// Makes steps on both, one by one, to the first pause. Answers nothing where they differ, but for where the session has as many frames
+    /// as it may: the other machine may have more.
     fn play(&mut self, alloc: Global) -> Result<Option<Pause>, AllocError> {
         let (mut here, mut there) = (Items::new(alloc), Items::new(alloc));
         for _ in 0..STEPS {
@@ -103,6 +104,9 @@ impl<'a, V: Spelled> Pair<'a, V> {
             there.clear();
             let pause = self.session.run(1, &mut here)?;
             let stop = self.machine.run(1, &mut there)?;
+            if pause == Pause::FrameLimit && stop == Stop::Paused(Pause::Budget) {
+                return Ok(Some(pause));
+            }
             if stop != Stop::Paused(pause) || !are_alike(&here, &there) || !self.is_alike() {
                 return Ok(None);
             }

@@ -1,5 +1,5 @@
 -- A certificate that lists the main code alone, with empty stacks, and freezes nothing has a spelling.
-use Rattle.std.proofs.Common.{ℕ, zero, suc, ◌+◌, ◌<◌, ◌≤◌, List, [], ◌∷◌, length, replicate, map, refl, arith}
+use Rattle.std.proofs.Common.{ℕ, zero, suc, ◌+◌, ◌<◌, ◌≤◌, None, List, [], ◌∷◌, length, replicate, map, refl, arith}
 use Rattle.std.specs.List.{AllByRecursion}
 use Rattle.std.proofs.lemmas.List.{length-map}
 use Rattle.zstory.specs.declared.identity.Identity.{Identity}
@@ -25,9 +25,10 @@ module _ {V : Type 0} (format : Format V) where
   bare_rise floor [] rise = tt
   bare_rise floor (p ∷ ps) rise = (rise.0, bare_rise (p + 1) ps rise.1)
 
-  pub has_spelling : (i : Identity) (v : V) (ps : List ℕ) → IsIdentity i → format.Has v → length ps ≤ MAX_INSTRUCTIONS → AllByRecursion (λ p. p < ADDRESS_LIMIT) ps → Rise (λ (p : ℕ). p) 0 ps → HasSpelling format (record { identity = i; ranges = []; globals = replicate 240 v; routines = []; instructions = map bare ps })
+  pub has_spelling : (i : Identity) (v : V) (ps : List ℕ) → IsIdentity i → format.Has v → length ps ≤ MAX_INSTRUCTIONS → AllByRecursion (λ p. p < ADDRESS_LIMIT) ps → Rise (λ (p : ℕ). p) 0 ps → HasSpelling format (record { identity = i; limit = None; ranges = []; globals = replicate 240 v; routines = []; instructions = map bare ps })
   has_spelling i v ps identity has few low rise = record {
     identity = identity;
+    limit = tt;
     few_ranges = omega arith;
     ranges = tt;
     ranges_apart = tt;

@@ -1,5 +1,5 @@
 -- What is known of the fields that were taken: they are spelled one after another by the certificate that they make.
-use Rattle.std.proofs.Common.{◌≡◌, ℕ, zero, suc, ◌+◌, ◌<◌, List, [], ◌∷◌, ◌++◌, length, Result, Ok, Err, refl, sym, subst, arith, length-append}
+use Rattle.std.proofs.Common.{◌≡◌, ℕ, zero, suc, ◌+◌, ◌<◌, Option, None, Some, List, [], ◌∷◌, ◌++◌, length, Result, Ok, Err, refl, sym, subst, arith, length-append}
 use Rattle.std.specs.Prelude.{nat_le}
 use Rattle.std.specs.List.{AllByRecursion}
 use Rattle.zcert.specs.declared.error.CertError.{CertError}
@@ -8,11 +8,11 @@ use Rattle.zcert.specs.declared.field.Field.TheVariants as fields
 use Rattle.zcert.specs.declared.field.Header.{Header}
 use Rattle.zcert.specs.declared.field.Turn.{Turn}
 use Rattle.zcert.specs.declared.field.Turn.TheVariants as turns
-use Rattle.zcert.specs.declared.limits.TheConstants.{GLOBALS, ADDRESS_LIMIT, MAX_LOCALS, MAX_INSTRUCTIONS, MAX_RANGES, MAX_ROUTINES, MAX_HEIGHT}
+use Rattle.zcert.specs.declared.limits.TheConstants.{GLOBALS, ADDRESS_LIMIT, MAX_LOCALS, MAX_INSTRUCTIONS, MAX_RANGES, MAX_ROUTINES, MAX_HEIGHT, MAX_FRAMES}
 use Rattle.zcert.specs.Certificate.{locals_of}
 use Rattle.zcert.specs.Format.{Format}
 use Rattle.zcert.specs.Reading.{address_fits}
-use Rattle.zcert.specs.Building.{Progress, opening, before_ranges, before_globals, before_routines, before_instructions, before_values, taken, all_taken, IsDue, after_release, after_serial, after_checksum, after_loaded_length, after_range_count, after_range_first, after_range_last, after_global, after_routine_count, after_routine_address, after_local_count, after_routine_result, after_instruction_count, after_instruction_address, after_routine_number, after_height, after_value}
+use Rattle.zcert.specs.Building.{Progress, opening, before_ranges, before_globals, before_routines, before_instructions, before_values, taken, all_taken, IsDue, after_release, after_serial, after_checksum, after_loaded_length, after_frame_limit, after_range_count, behind_identity, after_range_first, after_range_last, after_global, after_routine_count, after_routine_address, after_local_count, after_routine_result, after_instruction_count, after_instruction_address, after_routine_number, after_height, after_value}
 use Rattle.zcert.specs.Fields.{IsField, IsReached}
 use Rattle.zcert.specs.View.{Takes}
 use Rattle.zcert.specs.FormatLaw.Stepping.{bind_ok, need_ok, ok_is}
@@ -36,6 +36,10 @@ module _ {V : Type 0} where
   due_instructions : (n : ℕ) (values : List V) → IsDue (before_instructions n) values
   due_instructions zero values = tt
   due_instructions (suc n) values = tt
+
+  due_behind : (limit : Option ℕ) (values : List V) → IsDue (behind_identity limit) values
+  due_behind None values = tt
+  due_behind (Some n) values = tt
 
   due_values : (left more : ℕ) (h : Header) (p : Progress V) → h.address < ADDRESS_LIMIT → length p.values + left ≡ h.locals + h.height → IsDue (before_values left more h p).turn (before_values left more h p).values
   due_values zero more h p low counted = due_instructions more p.values
@@ -63,8 +67,12 @@ module _ {V : Type 0} where
   due_checksum n _ p due q e = absurd cc
 
   due_loaded_length : (n : ℕ) (t : Turn) (p : Progress V) → DueAfter t p (after_loaded_length n t p)
-  due_loaded_length n turns.LoadedLength p due q e = due_is _ q e tt
+  due_loaded_length n turns.LoadedLength p due q e = due_is _ q e (due_behind p.content.limit p.values)
   due_loaded_length n _ p due q e = absurd cc
+
+  due_frame_limit : (n : ℕ) (t : Turn) (p : Progress V) → DueAfter t p (after_frame_limit n t p)
+  due_frame_limit n turns.FrameLimit p due q e = due_is _ q (need_ok (nat_le n MAX_FRAMES) _ _ q e).1 tt
+  due_frame_limit n _ p due q e = absurd cc
 
   due_range_count : (n : ℕ) (t : Turn) (p : Progress V) → DueAfter t p (after_range_count n t p)
   due_range_count n turns.RangeCount p due q e = due_is _ q (need_ok (nat_le n MAX_RANGES) _ _ q e).1 (due_ranges n p.values)
@@ -130,6 +138,7 @@ module _ {V : Type 0} where
   due_taken (fields.Serial s) p q e due = due_serial s p.turn p due q e
   due_taken (fields.Checksum n) p q e due = due_checksum n p.turn p due q e
   due_taken (fields.LoadedLength n) p q e due = due_loaded_length n p.turn p due q e
+  due_taken (fields.FrameLimit n) p q e due = due_frame_limit n p.turn p due q e
   due_taken (fields.RangeCount n) p q e due = due_range_count n p.turn p due q e
   due_taken (fields.RangeFirst n) p q e due = due_range_first n p.turn p due q e
   due_taken (fields.RangeLast n) p q e due = due_range_last n p.turn p due q e
@@ -158,14 +167,14 @@ module _ {V : Type 0} where
 
 module _ {V : Type 0} (format : Format V) where
   pub reached_due : (p : Progress V) → IsReached format p → IsDue p.turn p.values
-  reached_due p (fs, each, led) = due_all fs opening p led tt
+  reached_due p (limited, may, (fs, each, led)) = due_all fs (opening limited) p led tt
 
   pub each_more : (fs : List (Field V)) (f : Field V) → AllByRecursion (IsField format) fs → IsField format f → AllByRecursion (IsField format) (fs ++ f ∷ [])
   each_more [] f each is = (is, tt)
   each_more (g ∷ fs) f each is = (each.0, each_more fs f each.1 is)
 
   pub reached_more : (p q : Progress V) (f : Field V) → IsReached format p → IsField format f → taken p f ≡ Ok q → IsReached format q
-  reached_more p q f (fs, each, led) is e = (fs ++ f ∷ [], each_more fs f each is, one_more fs f opening p q led e)
+  reached_more p q f (limited, may, (fs, each, led)) is e = (limited, may, (fs ++ f ∷ [], each_more fs f each is, one_more fs f (opening limited) p q led e))
 
   -- after a field, whether it is taken or refused
   pub reached_after : {U : Type 0} (p q : Progress V) (f : Field V) (answer : Result U CertError) → IsReached format p → IsField format f → Takes p q answer (taken p f) → IsReached format q

@@ -12,7 +12,7 @@ use Rattle.zcert.specs.Numbers.{Number, number, width, HasRoom}
 use Rattle.zcert.specs.Numbers as numbers
 use Rattle.zcert.specs.Steps.{number_at, serial_at}
 use Rattle.zcert.specs.Format.{Format}
-use Rattle.zcert.specs.Building.{Progress, InTurn, taken, all_taken, after_release, after_serial, after_checksum, after_loaded_length, after_range_count, after_range_first, after_range_last, after_global, after_routine_count, after_routine_address, after_local_count, after_routine_result, after_instruction_count, after_instruction_address, after_routine_number, after_height, after_value}
+use Rattle.zcert.specs.Building.{Progress, InTurn, taken, all_taken, after_release, after_serial, after_checksum, after_loaded_length, after_frame_limit, after_range_count, after_range_first, after_range_last, after_global, after_routine_count, after_routine_address, after_local_count, after_routine_result, after_instruction_count, after_instruction_address, after_routine_number, after_height, after_value}
 use Rattle.zcert.specs.Fields.{field_bytes, IsField, as_field, field_at}
 use Rattle.zcert.specs.FormatLaw.Stepping.{IsBytes-append, IsBytes-number, by_place, width_some, bind_ok, ok_is, number_takes, number_again, serial_takes, serial_again}
 use Rattle.zcert.specs.FormatLaw.{IsBytes, Takes, IsFormat}
@@ -40,6 +40,10 @@ module _ {V : Type 0} where
   turn_loaded_length : (n : ℕ) (t : Turn) (p : Progress V) → InTurn {V = V} t (fields.LoadedLength n) ⊎ (after_loaded_length n t p ≡ Err errors.Order)
   turn_loaded_length n turns.LoadedLength p = inl tt
   turn_loaded_length n _ p = inr refl
+
+  turn_frame_limit : (n : ℕ) (t : Turn) (p : Progress V) → InTurn {V = V} t (fields.FrameLimit n) ⊎ (after_frame_limit n t p ≡ Err errors.Order)
+  turn_frame_limit n turns.FrameLimit p = inl tt
+  turn_frame_limit n _ p = inr refl
 
   turn_range_count : (n : ℕ) (t : Turn) (p : Progress V) → InTurn {V = V} t (fields.RangeCount n) ⊎ (after_range_count n t p ≡ Err errors.Order)
   turn_range_count n turns.RangeCount p = inl tt
@@ -98,6 +102,7 @@ module _ {V : Type 0} where
   in_turn_or (fields.Serial s) p = turn_serial s p.turn p
   in_turn_or (fields.Checksum n) p = turn_checksum n p.turn p
   in_turn_or (fields.LoadedLength n) p = turn_loaded_length n p.turn p
+  in_turn_or (fields.FrameLimit n) p = turn_frame_limit n p.turn p
   in_turn_or (fields.RangeCount n) p = turn_range_count n p.turn p
   in_turn_or (fields.RangeFirst n) p = turn_range_first n p.turn p
   in_turn_or (fields.RangeLast n) p = turn_range_last n p.turn p
@@ -129,6 +134,7 @@ module _ {V : Type 0} (format : Format V) (law : IsFormat format) where
   again_at turns.Serial (fields.Serial s) rest is due = rw (serial_again s rest is.0) refl
   again_at turns.Checksum (fields.Checksum n) rest is due = rw (number_again numbers.Checksum n rest is) refl
   again_at turns.LoadedLength (fields.LoadedLength n) rest is due = rw (number_again numbers.LoadedLength n rest is) refl
+  again_at turns.FrameLimit (fields.FrameLimit n) rest is due = rw (number_again numbers.FrameLimit n rest is) refl
   again_at turns.RangeCount (fields.RangeCount n) rest is due = rw (number_again numbers.RangeCount n rest is) refl
   again_at (turns.RangeFirst more) (fields.RangeFirst n) rest is due = rw (number_again numbers.RangeFirst n rest is) refl
   again_at (turns.RangeLast more first) (fields.RangeLast n) rest is due = rw (number_again numbers.RangeLast n rest is) refl
@@ -211,6 +217,7 @@ module _ {V : Type 0} (format : Format V) (law : IsFormat format) where
   field_takes turns.Serial bytes f rest fits e = serial_field bytes f rest fits e
   field_takes turns.Checksum bytes f rest fits e = number_field numbers.Checksum fields.Checksum bytes f rest (λ n. refl) (λ n h. h) fits e
   field_takes turns.LoadedLength bytes f rest fits e = number_field numbers.LoadedLength fields.LoadedLength bytes f rest (λ n. refl) (λ n h. h) fits e
+  field_takes turns.FrameLimit bytes f rest fits e = number_field numbers.FrameLimit fields.FrameLimit bytes f rest (λ n. refl) (λ n h. h) fits e
   field_takes turns.RangeCount bytes f rest fits e = number_field numbers.RangeCount fields.RangeCount bytes f rest (λ n. refl) (λ n h. h) fits e
   field_takes (turns.RangeFirst more) bytes f rest fits e = number_field numbers.RangeFirst fields.RangeFirst bytes f rest (λ n. refl) (λ n h. h) fits e
   field_takes (turns.RangeLast more first) bytes f rest fits e = number_field numbers.RangeLast fields.RangeLast bytes f rest (λ n. refl) (λ n h. h) fits e
@@ -232,6 +239,7 @@ module _ {V : Type 0} (format : Format V) (law : IsFormat format) where
   IsBytes-field (fields.Serial s) is = below_each s is.1
   IsBytes-field (fields.Checksum n) is = IsBytes-number numbers.Checksum n
   IsBytes-field (fields.LoadedLength n) is = IsBytes-number numbers.LoadedLength n
+  IsBytes-field (fields.FrameLimit n) is = IsBytes-number numbers.FrameLimit n
   IsBytes-field (fields.RangeCount n) is = IsBytes-number numbers.RangeCount n
   IsBytes-field (fields.RangeFirst n) is = IsBytes-number numbers.RangeFirst n
   IsBytes-field (fields.RangeLast n) is = IsBytes-number numbers.RangeLast n

@@ -39,6 +39,7 @@ module _ {V : Type 0} (format : Format V) (law : IsFormat format) where
   field_stays turns.Serial = made_stays format fields.Serial serial_at (same_whatever 6 serial_at serial_width)
   field_stays turns.Checksum = made_stays format fields.Checksum (sized_at 2) (number_stays 2)
   field_stays turns.LoadedLength = made_stays format fields.LoadedLength (sized_at 4) (number_stays 4)
+  field_stays turns.FrameLimit = made_stays format fields.FrameLimit (sized_at 2) (number_stays 2)
   field_stays turns.RangeCount = made_stays format fields.RangeCount (sized_at 2) (number_stays 2)
   field_stays (turns.RangeFirst more) = made_stays format fields.RangeFirst (sized_at 2) (number_stays 2)
   field_stays (turns.RangeLast more first) = made_stays format fields.RangeLast (sized_at 2) (number_stays 2)
@@ -60,6 +61,7 @@ module _ {V P : Type 0} (format : Format V) (sets : Turns P) (are : AreTurns for
   field_awaits turns.Serial p kept part short = rw (part (λ x. x), serial_short kept short) refl
   field_awaits turns.Checksum p kept part short = rw (part (λ x. x), sized_short 2 kept short) refl
   field_awaits turns.LoadedLength p kept part short = rw (part (λ x. x), sized_short 4 kept short) refl
+  field_awaits turns.FrameLimit p kept part short = rw (part (λ x. x), sized_short 2 kept short) refl
   field_awaits turns.RangeCount p kept part short = rw (part (λ x. x), sized_short 2 kept short) refl
   field_awaits (turns.RangeFirst more) p kept part short = rw (part (λ x. x), sized_short 2 kept short) refl
   field_awaits (turns.RangeLast more first) p kept part short = rw (part (λ x. x), sized_short 2 kept short) refl

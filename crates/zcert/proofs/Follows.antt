@@ -1,6 +1,6 @@
 -- How far a file has come by the bytes that were fed: each step further is a step of reading, wherever the file is cut.
-use Rattle.std.proofs.Common.{◌≡◌, ◌≢◌, ℕ, ◌<◌, List, [], ◌∷◌, ◌++◌, length, Result, Ok, Err, Option, Some, None, refl, sym, ap, subst, ◌∙◌, append_assoc, length-append, arith, ◌⊎◌, inl, inr}
-use Rattle.std.specs.Prelude.{IfOk, IfErr, ◌==◌}
+use Rattle.std.proofs.Common.{◌≡◌, ◌≢◌, ℕ, ◌<◌, Bool, true, false, List, [], ◌∷◌, ◌++◌, length, Result, Ok, Err, Option, Some, None, refl, sym, ap, subst, ◌∙◌, append_assoc, length-append, arith, ◌⊎◌, inl, inr}
+use Rattle.std.specs.Prelude.{IfOk, IfErr, ◌==◌, ◌&&◌}
 use Rattle.std.specs.List.{flat_map}
 use Rattle.std.proofs.lemmas.Bool.{cases_lt}
 use Rattle.std.proofs.lemmas.List.{append-nil}
@@ -12,14 +12,14 @@ use Rattle.zcert.specs.declared.field.Turn.{Turn}
 use Rattle.zcert.specs.declared.field.Turn.TheVariants as turns
 use Rattle.zcert.specs.declared.stage.Stage.{Stage}
 use Rattle.zcert.specs.declared.stage.Stage.TheVariants as stages
-use Rattle.zcert.specs.declared.limits.TheConstants.{MAGIC}
+use Rattle.zcert.specs.declared.limits.TheConstants.{MAGIC, LIMIT_VERSION}
 use Rattle.zcert.specs.Numbers.{number}
 use Rattle.zcert.specs.Numbers as numbers
 use Rattle.zcert.specs.Certificate.{Certificate}
 use Rattle.zcert.specs.Steps.{◌>>=◌, need, sized_at}
 use Rattle.zcert.specs.Format.{Format}
 use Rattle.zcert.specs.Spelling.{heading, spelling, HasSpelling}
-use Rattle.zcert.specs.Reading.{magic_at, version_at, heading_at, reading}
+use Rattle.zcert.specs.Reading.{magic_at, limited_by, version_at, heading_at, reading}
 use Rattle.zcert.specs.Building.{Progress, opening, taken}
 use Rattle.zcert.specs.Fields.{field_bytes, field_at, next_at, NextAdds}
 use Rattle.zcert.specs.Streaming.{Stream, FieldIsCut, IsCut, FieldsLead, Leads, IsFinal, IsRefusal, IsUnread, HasCome, IsFed, IsOpen}
@@ -51,65 +51,76 @@ more_unless format _ bytes h = tt
 
 -- ---- the magic and the version: a number of so many bytes, with a test
 
-abbrev tested : {A : Type 0} → (A → Result (Unit {0}) CertError) → Result (A × List ℕ) CertError → Result (List ℕ) CertError
-tested test read = read >>= λ x. test x.0 >>= λ _. Ok x.1
+abbrev tested : {A B C : Type 0} → (B → List ℕ → C) → (A → Result B CertError) → Result (A × List ℕ) CertError → Result C CertError
+tested pair test read = read >>= λ x. test x.0 >>= λ b. Ok (pair b x.1)
 
-test_ends : {B C : Type 0} (u : Result (Unit {0}) CertError) (x : B) (y : C) (e : CertError) → (u >>= λ _. Ok x) ≡ Err e → (u >>= λ _. Ok y) ≡ Err e
-test_ends (Ok t) x y e h = absurd cc
-test_ends (Err d) x y e h = let same : d ≡ e = cc in ap (λ (x : CertError). Err x) same
+test_ends : {B C : Type 0} (u : Result B CertError) (f g : B → C) (e : CertError) → (u >>= λ b. Ok (f b)) ≡ Err e → (u >>= λ b. Ok (g b)) ≡ Err e
+test_ends (Ok t) f g e h = absurd cc
+test_ends (Err d) f g e h = let same : d ≡ e = cc in ap (λ (x : CertError). Err x) same
 
-test_uncut : {B : Type 0} (u : Result (Unit {0}) CertError) (x : B) → u ≢ Err errors.Truncated → (u >>= λ _. Ok x) ≢ Err errors.Truncated
-test_uncut (Ok t) x uncut e = absurd cc
-test_uncut (Err d) x uncut e = uncut (let same : d ≡ errors.Truncated = cc in ap (λ (x : CertError). Err x) same)
+test_uncut : {B C : Type 0} (u : Result B CertError) (f : B → C) → u ≢ Err errors.Truncated → (u >>= λ b. Ok (f b)) ≢ Err errors.Truncated
+test_uncut (Ok t) f uncut e = absurd cc
+test_uncut (Err d) f uncut e = uncut (let same : d ≡ errors.Truncated = cc in ap (λ (x : CertError). Err x) same)
 
-module _ (n : ℕ) (test : ℕ → Result (Unit {0}) CertError) where
+module _ {B C : Type 0} (n : ℕ) (pair : B → List ℕ → C) (test : ℕ → Result B CertError) where
   -- of exactly as many bytes it isn't cut off
-  tested_whole : ((m : ℕ) → test m ≢ Err errors.Truncated) → (bytes : List ℕ) → length bytes ≡ n → tested test (sized_at n bytes) ≢ Err errors.Truncated
-  tested_whole uncut bytes same e = test_uncut (test (big_number n bytes)) [] (uncut (big_number n bytes)) (sym (ap (tested test) (sized_exact n bytes same)) ∙ e)
+  tested_whole : ((m : ℕ) → test m ≢ Err errors.Truncated) → (bytes : List ℕ) → length bytes ≡ n → tested pair test (sized_at n bytes) ≢ Err errors.Truncated
+  tested_whole uncut bytes same e = test_uncut (test (big_number n bytes)) (λ b. pair b []) (uncut (big_number n bytes)) (sym (ap (tested pair test) (sized_exact n bytes same)) ∙ e)
 
-  tested_short : (bytes : List ℕ) → length bytes < n → tested test (sized_at n bytes) ≡ Err errors.Truncated
+  tested_short : (bytes : List ℕ) → length bytes < n → tested pair test (sized_at n bytes) ≡ Err errors.Truncated
   tested_short bytes lt = rw (sized_short n bytes lt) refl
 
-  final_read : (r : Result (ℕ × List ℕ) CertError) (more : List ℕ) (e : CertError) → tested test r ≡ Err e → tested test (r >>= λ x. Ok (x.0, x.1 ++ more)) ≡ Err e
-  final_read (Ok x) more e h = test_ends (test x.0) x.1 (x.1 ++ more) e h
+  final_read : (r : Result (ℕ × List ℕ) CertError) (more : List ℕ) (e : CertError) → tested pair test r ≡ Err e → tested pair test (r >>= λ x. Ok (x.0, x.1 ++ more)) ≡ Err e
+  final_read (Ok x) more e h = test_ends (test x.0) (λ b. pair b x.1) (λ b. pair b (x.1 ++ more)) e h
   final_read (Err d) more e h = let same : d ≡ e = cc in ap (λ (x : CertError). Err x) same
 
-  tested_final : (bytes more : List ℕ) (e : CertError) → e ≢ errors.Truncated → tested test (sized_at n bytes) ≡ Err e → tested test (sized_at n (bytes ++ more)) ≡ Err e
+  tested_final : (bytes more : List ℕ) (e : CertError) → e ≢ errors.Truncated → tested pair test (sized_at n bytes) ≡ Err e → tested pair test (sized_at n (bytes ++ more)) ≡ Err e
   tested_final bytes more e whole h =
       elim (cases_lt (length bytes) n) [
         | inl lt ↦ absurd (whole (let both = sym (tested_short bytes lt) ∙ h in let same : e ≡ errors.Truncated = cc in same))
-        | inr le ↦ ap (tested test) ((sized_width n).stays bytes more le) ∙ final_read (sized_at n bytes) more e h
+        | inr le ↦ ap (tested pair test) ((sized_width n).stays bytes more le) ∙ final_read (sized_at n bytes) more e h
       ]
 
 uncut_magic : (m : ℕ) → need (m == MAGIC) errors.Magic ≢ Err errors.Truncated
 uncut_magic m = uncut_need (m == MAGIC) errors.Magic (λ e. absurd cc)
 
-uncut_version : (version m : ℕ) → need (m == version) errors.Version ≢ Err errors.Truncated
-uncut_version version m = uncut_need (m == version) errors.Version (λ e. absurd cc)
+uncut_limited : (plain limit : Bool) → limited_by plain limit ≢ Err errors.Truncated
+uncut_limited true limit e = absurd cc
+uncut_limited false true e = absurd cc
+uncut_limited false false e = absurd cc
+
+abbrev rest_alone : Unit {0} → List ℕ → List ℕ
+rest_alone u bytes = bytes
+
+abbrev both_parts : Bool → List ℕ → Bool × List ℕ
+both_parts limited bytes = (limited, bytes)
+
+abbrev named_by : {V : Type 0} → Format V → ℕ → Result Bool CertError
+named_by format m = limited_by (m == format.version) (format.limited && (m == LIMIT_VERSION))
 
 pub magic_whole : (bytes : List ℕ) → length bytes ≡ 4 → magic_at bytes ≢ Err errors.Truncated
 unfolding magic_at
-magic_whole bytes same = tested_whole 4 (λ m. need (m == MAGIC) errors.Magic) uncut_magic bytes same
+magic_whole bytes same = tested_whole 4 rest_alone (λ m. need (m == MAGIC) errors.Magic) uncut_magic bytes same
 
 pub magic_short : (bytes : List ℕ) → length bytes < 4 → magic_at bytes ≡ Err errors.Truncated
 unfolding magic_at
-magic_short bytes lt = tested_short 4 (λ m. need (m == MAGIC) errors.Magic) bytes lt
+magic_short bytes lt = tested_short 4 rest_alone (λ m. need (m == MAGIC) errors.Magic) bytes lt
 
 magic_final : (bytes more : List ℕ) (e : CertError) → e ≢ errors.Truncated → magic_at bytes ≡ Err e → magic_at (bytes ++ more) ≡ Err e
 unfolding magic_at
-magic_final bytes more e whole h = tested_final 4 (λ m. need (m == MAGIC) errors.Magic) bytes more e whole h
+magic_final bytes more e whole h = tested_final 4 rest_alone (λ m. need (m == MAGIC) errors.Magic) bytes more e whole h
 
-pub version_whole : (version : ℕ) (bytes : List ℕ) → length bytes ≡ 1 → version_at version bytes ≢ Err errors.Truncated
+pub version_whole : {V : Type 0} (format : Format V) (bytes : List ℕ) → length bytes ≡ 1 → version_at format bytes ≢ Err errors.Truncated
 unfolding version_at
-version_whole version bytes same = tested_whole 1 (λ m. need (m == version) errors.Version) (uncut_version version) bytes same
+version_whole format bytes same = tested_whole 1 both_parts (named_by format) (λ m. uncut_limited _ _) bytes same
 
-pub version_short : (version : ℕ) (bytes : List ℕ) → length bytes < 1 → version_at version bytes ≡ Err errors.Truncated
+pub version_short : {V : Type 0} (format : Format V) (bytes : List ℕ) → length bytes < 1 → version_at format bytes ≡ Err errors.Truncated
 unfolding version_at
-version_short version bytes lt = tested_short 1 (λ m. need (m == version) errors.Version) bytes lt
+version_short format bytes lt = tested_short 1 both_parts (named_by format) bytes lt
 
-version_final : (version : ℕ) (bytes more : List ℕ) (e : CertError) → e ≢ errors.Truncated → version_at version bytes ≡ Err e → version_at version (bytes ++ more) ≡ Err e
+version_final : {V : Type 0} (format : Format V) (bytes more : List ℕ) (e : CertError) → e ≢ errors.Truncated → version_at format bytes ≡ Err e → version_at format (bytes ++ more) ≡ Err e
 unfolding version_at
-version_final version bytes more e whole h = tested_final 1 (λ m. need (m == version) errors.Version) bytes more e whole h
+version_final format bytes more e whole h = tested_final 1 both_parts (named_by format) bytes more e whole h
 
 -- a refusal that is final, and isn't for want of bytes or memory
 refusal_of : {V : Type 0} (format : Format V) (bytes : List ℕ) (e : CertError) → e ≢ errors.OutOfMemory → e ≢ errors.Truncated → IsFinal format bytes e → IsRefusal format bytes e
@@ -121,6 +132,8 @@ refusal_of format bytes _ plain whole final = final
 pub refusal_stays : {V : Type 0} (format : Format V) (bytes more : List ℕ) (e : CertError) → IsRefusal format bytes e → IsRefusal format (bytes ++ more) e
 refusal_stays format bytes more errors.OutOfMemory r =
     record {
+      limited = r.limited;
+      allowed = r.allowed;
       fields = r.fields;
       last = r.last;
       rest = r.rest ++ more;
@@ -129,7 +142,7 @@ refusal_stays format bytes more errors.OutOfMemory r =
       reached = r.reached;
       led = r.led;
       adds = r.adds;
-      spelled = ap (λ (l : List ℕ). l ++ more) r.spelled ∙ append_assoc (heading format) (flat_map (field_bytes format) (r.fields ++ r.last ∷ []) ++ r.rest) more ∙ ap (λ (l : List ℕ). heading format ++ l) (append_assoc (flat_map (field_bytes format) (r.fields ++ r.last ∷ [])) r.rest more);
+      spelled = ap (λ (l : List ℕ). l ++ more) r.spelled ∙ append_assoc (heading format r.limited) (flat_map (field_bytes format) (r.fields ++ r.last ∷ []) ++ r.rest) more ∙ ap (λ (l : List ℕ). heading format r.limited ++ l) (append_assoc (flat_map (field_bytes format) (r.fields ++ r.last ∷ [])) r.rest more);
     }
 refusal_stays format bytes more errors.Truncated r = absurd r
 refusal_stays format bytes more _ r = λ after. ap (reading format) (append_assoc bytes more after) ∙ r (more ++ after)
@@ -160,10 +173,12 @@ module _ {V : Type 0} (format : Format V) where
   leads_more stages.Version p fed rest more led = (ap (λ (l : List ℕ). l ++ more) led.0 ∙ append_assoc (number numbers.Magic MAGIC) rest more, led.1)
   leads_more stages.Field p fed rest more led =
       record {
+        limited = led.limited;
+        allowed = led.allowed;
         fields = led.fields;
         each = led.each;
         led = led.led;
-        spelled = ap (λ (l : List ℕ). l ++ more) led.spelled ∙ append_assoc (heading format) (flat_map (field_bytes format) led.fields ++ rest) more ∙ ap (λ (l : List ℕ). heading format ++ l) (append_assoc (flat_map (field_bytes format) led.fields) rest more);
+        spelled = ap (λ (l : List ℕ). l ++ more) led.spelled ∙ append_assoc (heading format led.limited) (flat_map (field_bytes format) led.fields ++ rest) more ∙ ap (λ (l : List ℕ). heading format led.limited ++ l) (append_assoc (flat_map (field_bytes format) led.fields) rest more);
       }
 
   -- one step further
@@ -181,23 +196,23 @@ module _ {V : Type 0} (format : Format V) where
       refusal_of format fed e (λ m. plain_magic bytes (h ∙ ap (λ (x : CertError). Err x) m)) whole (λ more. ap (λ (l : List ℕ). reading format (l ++ more)) led.0 ∙ magic_ends (bytes ++ more) e (magic_final bytes more e whole h))
 
 module _ {V : Type 0} (format : Format V) (law : IsFormat format) where
-  pub version_step : (p : Progress V) (fed bytes rest : List ℕ) → IsBytes bytes → version_at format.version bytes ≡ Ok rest → Leads format stages.Version p fed bytes → Leads format stages.Field p fed rest
-  version_step p fed bytes rest fits e led = subst (λ (q : Progress V). FieldsLead format q fed rest) (sym led.1) (version_leads format law fed bytes rest fits led.0 e)
+  pub version_step : (p q : Progress V) (fed bytes rest : List ℕ) (limited : Bool) → IsBytes bytes → version_at format bytes ≡ Ok (limited, rest) → q ≡ opening limited → Leads format stages.Version p fed bytes → Leads format stages.Field q fed rest
+  version_step p q fed bytes rest limited fits e is led = subst (λ (q : Progress V). FieldsLead format q fed rest) (sym is) (version_leads format law fed bytes (limited, rest) fits led.0 e)
 
-  version_ends : (bytes : List ℕ) (e : CertError) → version_at format.version bytes ≡ Err e → reading format (number numbers.Magic MAGIC ++ bytes) ≡ Err e
+  version_ends : (bytes : List ℕ) (e : CertError) → version_at format bytes ≡ Err e → reading format (number numbers.Magic MAGIC ++ bytes) ≡ Err e
   unfolding heading_at
   version_ends bytes e h = opens format (number numbers.Magic MAGIC ++ bytes) ∙ rw (magic_again bytes, h) refl
 
-  pub version_refused : (p : Progress V) (fed bytes : List ℕ) (e : CertError) → e ≢ errors.Truncated → version_at format.version bytes ≡ Err e → Leads format stages.Version p fed bytes → IsRefusal format fed e
+  pub version_refused : (p : Progress V) (fed bytes : List ℕ) (e : CertError) → e ≢ errors.Truncated → version_at format bytes ≡ Err e → Leads format stages.Version p fed bytes → IsRefusal format fed e
   version_refused p fed bytes e whole h led =
-      refusal_of format fed e (λ m. plain_version format.version bytes (h ∙ ap (λ (x : CertError). Err x) m)) whole (λ more.
+      refusal_of format fed e (λ m. plain_version format bytes (h ∙ ap (λ (x : CertError). Err x) m)) whole (λ more.
       ap (λ (l : List ℕ). reading format (l ++ more)) led.0
       ∙ ap (reading format) (append_assoc (number numbers.Magic MAGIC) bytes more)
-      ∙ version_ends (bytes ++ more) e (version_final format.version bytes more e whole h))
+      ∙ version_ends (bytes ++ more) e (version_final format bytes more e whole h))
 
   -- what was led here is read as its rest is
   led_is_read : (p : Progress V) (fed rest : List ℕ) → FieldsLead format p fed rest → reading format fed ≡ rest_of format p rest
-  led_is_read p fed rest led = ap (reading format) led.spelled ∙ after_heading format law (flat_map (field_bytes format) led.fields ++ rest) ∙ fields_again format law led.fields opening p rest led.each led.led
+  led_is_read p fed rest led = ap (reading format) led.spelled ∙ after_heading format law led.limited (flat_map (field_bytes format) led.fields ++ rest) led.allowed ∙ fields_again format law led.fields (opening led.limited) p rest led.each led.led
 
   -- the field that was read is taken, and the rest follows
   abbrev taken_from : Progress V → Result (Field V × List ℕ) CertError → Result (Progress V × List ℕ) CertError
@@ -271,7 +286,7 @@ module _ {V : Type 0} (format : Format V) (law : IsFormat format) where
   }
   come_ends stages.Version p fed kept led short = record {
     whole = λ e. absurd cc;
-    cut = λ _. ap (reading format) led.0 ∙ version_ends kept errors.Truncated (version_short format.version kept short);
+    cut = λ _. ap (reading format) led.0 ∙ version_ends kept errors.Truncated (version_short format kept short);
   }
   come_ends stages.Field p fed kept led short = record {
     whole = λ _ same. led_is_read p fed kept led ∙ complete_ends p kept same short;

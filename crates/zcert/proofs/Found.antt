@@ -1,6 +1,6 @@
 -- What is read is spelled so, and has a spelling.
-use Rattle.std.proofs.Common.{◌≡◌, ℕ, zero, suc, ◌+◌, ◌<◌, ◌≤◌, Bool, true, false, List, [], ◌∷◌, ◌++◌, length, take, drop, Ok, refl, ap, subst, ◌∙◌, arith}
-use Rattle.std.specs.Prelude.{nat_le, nat_lt, ◌==◌}
+use Rattle.std.proofs.Common.{◌≡◌, ℕ, zero, suc, ◌+◌, ◌<◌, ◌≤◌, Bool, true, false, List, [], ◌∷◌, ◌++◌, length, take, drop, Result, Option, Some, None, Ok, Err, refl, ap, subst, ◌∙◌, arith}
+use Rattle.std.specs.Prelude.{nat_le, nat_lt, ◌==◌, ◌&&◌, is_some}
 use Rattle.std.specs.List.{flat_map, AllByRecursion}
 use Rattle.std.proofs.lemmas.Bool.{leb-true, ltb-true, eqb-true}
 use Rattle.std.proofs.lemmas.List.{take-append-drop, length-take, length-drop, append-nil}
@@ -9,14 +9,14 @@ use Rattle.zcert.specs.declared.error.CertError.{CertError}
 use Rattle.zcert.specs.declared.error.CertError.TheVariants as errors
 use Rattle.zcert.specs.declared.parts.Range.{Range}
 use Rattle.zcert.specs.declared.parts.Routine.{Routine}
-use Rattle.zcert.specs.declared.limits.TheConstants.{MAGIC, GLOBALS, ADDRESS_LIMIT, MAX_LOCALS, MAX_INSTRUCTIONS, MAX_RANGES, MAX_ROUTINES, MAX_HEIGHT}
+use Rattle.zcert.specs.declared.limits.TheConstants.{MAGIC, GLOBALS, ADDRESS_LIMIT, MAX_LOCALS, MAX_INSTRUCTIONS, MAX_RANGES, MAX_ROUTINES, MAX_HEIGHT, MAX_FRAMES, LIMIT_VERSION}
 use Rattle.zcert.specs.Numbers.{number}
 use Rattle.zcert.specs.Numbers as numbers
 use Rattle.zcert.specs.Certificate.{Instruction, Certificate, locals_of}
 use Rattle.zcert.specs.Steps.{need, number_at, serial_at}
-use Rattle.zcert.specs.Format.{Format}
-use Rattle.zcert.specs.Spelling.{identity_bytes, range_bytes, values_bytes, routine_bytes, instruction_bytes, counted, heading, spelling, IsIdentity, IsRange, AreApart, Rise, IsRoutine, IsInstruction, HasSpelling}
-use Rattle.zcert.specs.Reading.{magic_at, version_at, heading_at, identity_at, range_at, ranges_at, all_ranges_at, address_fits, values_at, routine_at, routines_at, all_routines_at, instruction_at, instructions_at, all_instructions_at, at_end, reading}
+use Rattle.zcert.specs.Format.{Format, version_of, IsAllowed}
+use Rattle.zcert.specs.Spelling.{identity_bytes, limit_bytes, range_bytes, values_bytes, routine_bytes, instruction_bytes, counted, heading, spelling, IsIdentity, IsLimit, IsRange, AreApart, Rise, IsRoutine, IsInstruction, HasSpelling}
+use Rattle.zcert.specs.Reading.{magic_at, limited_by, version_at, heading_at, identity_at, limit_at, fields_at, range_at, ranges_at, all_ranges_at, address_fits, values_at, routine_at, routines_at, all_routines_at, instruction_at, instructions_at, all_instructions_at, at_end, reading}
 use Rattle.zcert.specs.FormatLaw.Stepping.{Takes-then, bind_ok, need_ok, ok_is, number_takes, serial_takes}
 use Rattle.zcert.specs.FormatLaw.{IsBytes, Takes, IsFormat}
 
@@ -36,20 +36,58 @@ magic_takes bytes rest fits e =
     let t = number_takes numbers.Magic bytes a.0.0 a.0.1 fits a.1 in
     subst (λ (r : List ℕ). Takes bytes (number numbers.Magic MAGIC) r) (ok_is _ _ o.1) (subst (λ (n : ℕ). Takes bytes (number numbers.Magic n) a.0.1) (eqb-true _ _ o.0) t.0)
 
-pub version_takes : (version : ℕ) (bytes rest : List ℕ) → IsBytes bytes → version_at version bytes ≡ Ok rest → Takes bytes (number numbers.Version version) rest
-unfolding version_at
-version_takes version bytes rest fits e =
-    let a = bind_ok (number_at numbers.Version bytes) _ _ e in
-    let o = need_ok (a.0.0 == version) _ _ _ a.2 in
-    let t = number_takes numbers.Version bytes a.0.0 a.0.1 fits a.1 in
-    subst (λ (r : List ℕ). Takes bytes (number numbers.Version version) r) (ok_is _ _ o.1) (subst (λ (n : ℕ). Takes bytes (number numbers.Version n) a.0.1) (eqb-true _ _ o.0) t.0)
+both_hold : (n : ℕ) (a b : Bool) → (a && b) ≡ true → (n == LIMIT_VERSION) ≡ b → (n ≡ LIMIT_VERSION) × (a ≡ true)
+both_hold n true true both is = (eqb-true _ _ is, refl)
+both_hold n true false both is = absurd cc
+both_hold n false b both is = absurd cc
 
-pub heading_takes : {V : Type 0} (format : Format V) (bytes rest : List ℕ) → IsBytes bytes → heading_at format.version bytes ≡ Ok rest → Takes bytes (heading format) rest
+-- a version is the one of which it is known whether a limit is named
+version_is : {V : Type 0} (format : Format V) (n : ℕ) (plain limit : Bool) (limited : Bool) → (n == format.version) ≡ plain → (format.limited && (n == LIMIT_VERSION)) ≡ limit → limited_by plain limit ≡ Ok limited → (n ≡ version_of format limited) × IsAllowed format limited
+version_is format n true limit true p q e = absurd cc
+version_is format n true limit false p q e = (eqb-true _ _ p, tt)
+version_is format n false true true p q e = both_hold n format.limited (n == LIMIT_VERSION) q refl
+version_is format n false true false p q e = absurd cc
+version_is format n false false limited p q e = absurd cc
+
+pub version_takes : {V : Type 0} (format : Format V) (bytes : List ℕ) (x : Bool × List ℕ) → IsBytes bytes → version_at format bytes ≡ Ok x → Takes bytes (number numbers.Version (version_of format x.0)) x.1 × IsAllowed format x.0
+unfolding version_at
+version_takes format bytes x fits e =
+    let a = bind_ok (number_at numbers.Version bytes) _ _ e in
+    let b = bind_ok (limited_by (a.0.0 == format.version) (format.limited && (a.0.0 == LIMIT_VERSION))) _ _ a.2 in
+    let t = number_takes numbers.Version bytes a.0.0 a.0.1 fits a.1 in
+    let is = version_is format a.0.0 _ _ b.0 refl refl b.1 in
+    let made : Bool × List ℕ = (b.0, a.0.1) in
+    subst (λ (y : Bool × List ℕ). Takes bytes (number numbers.Version (version_of format y.0)) y.1 × IsAllowed format y.0) {x = made} (ok_is made x b.2) (subst (λ (n : ℕ). Takes bytes (number numbers.Version n) a.0.1) is.0 t.0, is.1)
+
+pub heading_takes : {V : Type 0} (format : Format V) (bytes : List ℕ) (x : Bool × List ℕ) → IsBytes bytes → heading_at format bytes ≡ Ok x → Takes bytes (heading format x.0) x.1 × IsAllowed format x.0
 unfolding heading_at
-heading_takes format bytes rest fits e =
+heading_takes format bytes x fits e =
     let m = bind_ok (magic_at bytes) _ _ e in
     let tm = magic_takes bytes m.0 fits m.1 in
-    Takes-then bytes _ m.0 _ rest tm (version_takes format.version m.0 rest tm.rest_fits m.2)
+    let tv = version_takes format m.0 x tm.rest_fits m.2 in
+    (Takes-then bytes _ m.0 _ x.1 tm tv.0, tv.1)
+
+-- nothing is taken of bytes
+none_taken : (bytes : List ℕ) → IsBytes bytes → Takes bytes [] bytes
+none_taken bytes fits = record { parts = refl; rest_fits = fits }
+
+-- what is known of a limit that was read
+pub record TakesLimit {V : Type 0} (format : Format V) (limited : Bool) (bytes : List ℕ) (x : Option ℕ × List ℕ) : Type 0 where
+  pub takes : Takes bytes (limit_bytes x.0) x.1
+  pub is : IsLimit format x.0
+  pub named : is_some x.0 ≡ limited
+
+pub limit_takes : {V : Type 0} (format : Format V) (limited : Bool) (bytes : List ℕ) (x : Option ℕ × List ℕ) → IsAllowed format limited → IsBytes bytes → limit_at limited bytes ≡ Ok x → TakesLimit format limited bytes x
+unfolding limit_at
+limit_takes format false bytes x may fits e =
+    let made : Option ℕ × List ℕ = (None, bytes) in
+    subst (TakesLimit format false bytes) {x = made} (ok_is made x e) (record { takes = none_taken bytes fits; is = tt; named = refl })
+limit_takes format true bytes x may fits e =
+    let a = bind_ok (number_at numbers.FrameLimit bytes) _ _ e in
+    let o = need_ok (nat_le a.0.0 MAX_FRAMES) _ _ _ a.2 in
+    let t = number_takes numbers.FrameLimit bytes a.0.0 a.0.1 fits a.1 in
+    let made : Option ℕ × List ℕ = (Some a.0.0, a.0.1) in
+    subst (TakesLimit format true bytes) {x = made} (ok_is made x o.1) (record { takes = t.0; is = (may, leb-true _ _ o.0); named = refl })
 
 identity_takes : (bytes : List ℕ) (x : Identity × List ℕ) → IsBytes bytes → identity_at bytes ≡ Ok x → Takes bytes (identity_bytes x.0) x.1 × IsIdentity x.0
 unfolding identity_at
@@ -297,24 +335,28 @@ module _ {V : Type 0} (format : Format V) (law : IsFormat format) where
 
   -- what is read is spelled by all of the bytes, and has a spelling
   pub found : (bytes : List ℕ) (c : Certificate V) → IsBytes bytes → reading format bytes ≡ Ok c → (bytes ≡ spelling format c) × HasSpelling format c
-  unfolding reading
+  unfolding reading fields_at
   found bytes c fits e =
-      let v = bind_ok (heading_at format.version bytes) _ _ e in
-      let i = bind_ok (identity_at v.0) _ _ v.2 in
-      let r = bind_ok (all_ranges_at i.0.1) _ _ i.2 in
+      let v = bind_ok (heading_at format bytes) _ _ e in
+      let i = bind_ok (identity_at v.0.1) _ _ v.2 in
+      let l = bind_ok (limit_at v.0.0 i.0.1) _ _ i.2 in
+      let r = bind_ok (all_ranges_at l.0.1) _ _ l.2 in
       let g = bind_ok (values_at format GLOBALS r.0.1) _ _ r.2 in
       let s = bind_ok (all_routines_at format g.0.1) _ _ g.2 in
       let n = bind_ok (all_instructions_at format s.0.0 s.0.1) _ _ s.2 in
       let tv = heading_takes format bytes v.0 fits v.1 in
-      let ti = identity_takes v.0 i.0 tv.rest_fits i.1 in
-      let tr = all_ranges_take i.0.1 r.0 ti.0.rest_fits r.1 in
+      let ti = identity_takes v.0.1 i.0 tv.0.rest_fits i.1 in
+      let tl = limit_takes format v.0.0 i.0.1 l.0 tv.1 ti.0.rest_fits l.1 in
+      let tr = all_ranges_take l.0.1 r.0 tl.takes.rest_fits r.1 in
       let tg = values_take GLOBALS r.0.1 g.0 tr.0.rest_fits g.1 in
       let ts = all_routines_take g.0.1 s.0 tg.takes.rest_fits s.1 in
       let tn = all_instructions_take s.0.0 s.0.1 n.0 ts.0.rest_fits n.1 in
-      let made : Certificate V = record { identity = i.0.0; ranges = r.0.0; globals = g.0.0; routines = s.0.0; instructions = n.0.0 } in
+      let made : Certificate V = record { identity = i.0.0; limit = l.0.0; ranges = r.0.0; globals = g.0.0; routines = s.0.0; instructions = n.0.0 } in
       let done = end_is made c n.0.1 n.2 in
-      let vi = Takes-then bytes _ v.0 _ i.0.1 tv ti.0 in
-      let vir = Takes-then bytes _ i.0.1 _ r.0.1 vi tr.0 in
+      let headed : Takes bytes (heading format (is_some l.0.0)) v.0.1 = rw tl.named tv.0 in
+      let vi = Takes-then bytes _ v.0.1 _ i.0.1 headed ti.0 in
+      let vil = Takes-then bytes _ i.0.1 _ l.0.1 vi tl.takes in
+      let vir = Takes-then bytes _ l.0.1 _ r.0.1 vil tr.0 in
       let virg = Takes-then bytes _ r.0.1 _ g.0.1 vir tg.takes in
       let virgs = Takes-then bytes _ g.0.1 _ s.0.1 virg ts.0 in
       let all = Takes-then bytes _ s.0.1 _ n.0.1 virgs tn.0 in
@@ -323,6 +365,7 @@ module _ {V : Type 0} (format : Format V) (law : IsFormat format) where
         whole,
         record {
           identity = ti.1;
+          limit = tl.is;
           few_ranges = tr.1;
           ranges = tr.2;
           ranges_apart = tr.3;

@@ -20,3 +20,4 @@ pub mod Room
 pub mod Refused
 pub mod Words
 pub mod Fronts
+pub mod Limit

@@ -1,5 +1,6 @@
 -- Calls of a builder and certificates belong together.
-use Rattle.std.proofs.Common.{◌≡◌, ℕ, zero, suc, ◌≤◌, List, [], ◌∷◌, ◌++◌, length, Ok, Err, refl, sym, ap, subst, ◌∙◌, append_assoc, arith, ◌⊎◌, inl, inr}
+use Rattle.std.proofs.Common.{◌≡◌, ℕ, zero, suc, ◌≤◌, Bool, true, false, Option, None, Some, List, [], ◌∷◌, ◌++◌, length, Ok, Err, refl, sym, ap, subst, ◌∙◌, append_assoc, arith, ◌⊎◌, inl, inr}
+use Rattle.std.specs.Prelude.{is_some}
 use Rattle.std.specs.List.{flat_map, AllByRecursion}
 use Rattle.std.proofs.lemmas.List.{append-nil}
 use Rattle.zcert.specs.declared.error.CertError.TheVariants as errors
@@ -14,37 +15,38 @@ use Rattle.zcert.specs.Numbers.{Number, number}
 use Rattle.zcert.specs.Numbers as numbers
 use Rattle.zcert.specs.Certificate.{Certificate, Instruction}
 use Rattle.zcert.specs.Steps.{◌>>=◌}
-use Rattle.zcert.specs.Format.{Format}
-use Rattle.zcert.specs.Spelling.{identity_bytes, range_bytes, counted, values_bytes, routine_bytes, instruction_bytes, heading, spelling, IsIdentity, IsRange, IsRoutine, IsInstruction, HasSpelling}
+use Rattle.zcert.specs.Format.{Format, version_of, IsAllowed}
+use Rattle.zcert.specs.Spelling.{identity_bytes, limit_bytes, range_bytes, counted, values_bytes, routine_bytes, instruction_bytes, heading, spelling, IsIdentity, IsRange, IsRoutine, IsInstruction, HasSpelling}
 use Rattle.zcert.specs.Reading.{reading}
 use Rattle.zcert.specs.Building.{Progress, opening, taken, all_taken}
 use Rattle.zcert.specs.Fields.{field_bytes, IsField, field_at, IsReached, Makes}
 use Rattle.zcert.specs.FormatLaw.Stepping.{IsBytes-append, IsBytes-number, bind_ok, ok_is}
 use Rattle.zcert.specs.FormatLaw.{IsBytes, IsFormat}
 use Rattle.zcert.proofs.Found.{found}
-use Rattle.zcert.proofs.Only.{heading_again, both_each, only}
+use Rattle.zcert.proofs.Only.{heading_again, limit_allowed, both_each, only}
 use Rattle.zcert.proofs.Rest.{rest_of, HasMore, reads_on, completes, opens}
 use Rattle.zcert.proofs.FieldBytes.{fields_again, field_takes, below_each, IsBytes-fields}
 
 module _ {V : Type 0} (format : Format V) (law : IsFormat format) where
   -- what follows the heading is read as the fields are
-  pub after_heading : (bytes : List ℕ) → reading format (heading format ++ bytes) ≡ rest_of format opening bytes
-  after_heading bytes = opens format (heading format ++ bytes) ∙ rw (heading_again format bytes law.version) refl
+  pub after_heading : (limited : Bool) (bytes : List ℕ) → IsAllowed format limited → reading format (heading format limited ++ bytes) ≡ rest_of format (opening limited) bytes
+  after_heading limited bytes may = opens format (heading format limited ++ bytes) ∙ rw (heading_again format law limited bytes may) refl
 
   -- the fields that led to the end are read as what they made
-  made_is_read : (fs : List (Field V)) (p : Progress V) → AllByRecursion (IsField format) fs → all_taken opening fs ≡ Ok p → p.turn ≡ turns.Complete → reading format (heading format ++ flat_map (field_bytes format) fs) ≡ Ok p.content
-  made_is_read fs p each led complete =
-      after_heading (flat_map (field_bytes format) fs)
-      ∙ ap (rest_of format opening) (sym (append-nil (flat_map (field_bytes format) fs)))
-      ∙ fields_again format law fs opening p [] each led
+  made_is_read : (limited : Bool) (fs : List (Field V)) (p : Progress V) → IsAllowed format limited → AllByRecursion (IsField format) fs → all_taken (opening limited) fs ≡ Ok p → p.turn ≡ turns.Complete → reading format (heading format limited ++ flat_map (field_bytes format) fs) ≡ Ok p.content
+  made_is_read limited fs p may each led complete =
+      after_heading limited (flat_map (field_bytes format) fs) may
+      ∙ ap (rest_of format (opening limited)) (sym (append-nil (flat_map (field_bytes format) fs)))
+      ∙ fields_again format law fs (opening limited) p [] each led
       ∙ completes format p complete
 
   -- they are, one after another, its spelling
-  pub made_is_spelled : (fs : List (Field V)) (p : Progress V) → AllByRecursion (IsField format) fs → all_taken opening fs ≡ Ok p → p.turn ≡ turns.Complete → (heading format ++ flat_map (field_bytes format) fs ≡ spelling format p.content) × HasSpelling format p.content
-  made_is_spelled fs p each led complete =
+  pub made_is_spelled : (limited : Bool) (fs : List (Field V)) (p : Progress V) → IsAllowed format limited → AllByRecursion (IsField format) fs → all_taken (opening limited) fs ≡ Ok p → p.turn ≡ turns.Complete → (heading format limited ++ flat_map (field_bytes format) fs ≡ spelling format p.content) × HasSpelling format p.content
+  made_is_spelled limited fs p may each led complete =
       let bytes = flat_map (field_bytes format) fs in
-      let fits = IsBytes-append (heading format) bytes (IsBytes-append (number numbers.Magic MAGIC) (number numbers.Version format.version) (IsBytes-number numbers.Magic MAGIC) (IsBytes-number numbers.Version format.version)) (IsBytes-fields format law fs each) in
-      found format law (heading format ++ bytes) p.content fits (made_is_read fs p each led complete)
+      let version = version_of format limited in
+      let fits = IsBytes-append (heading format limited) bytes (IsBytes-append (number numbers.Magic MAGIC) (number numbers.Version version) (IsBytes-number numbers.Magic MAGIC) (IsBytes-number numbers.Version version)) (IsBytes-fields format law fs each) in
+      found format law (heading format limited ++ bytes) p.content fits (made_is_read limited fs p may each led complete)
 
   -- ---- each certificate is made by some fields
 
@@ -81,10 +83,11 @@ module _ {V : Type 0} (format : Format V) (law : IsFormat format) where
       (a.0.0 ∷ m.0, m.1, (t.is, m.2), one_first a.0.0 m.0 p b.0 m.1 b.1 m.3, m.4, m.5)
 
   -- what is made is spelled by the fields, one after another
-  pub makes_spelled : (fs : List (Field V)) (c : Certificate V) → Makes format fs c → HasSpelling format c × (spelling format c ≡ heading format ++ flat_map (field_bytes format) fs)
+  pub makes_spelled : (fs : List (Field V)) (c : Certificate V) → Makes format fs c → HasSpelling format c × (spelling format c ≡ heading format (is_some c.limit) ++ flat_map (field_bytes format) fs)
   makes_spelled fs c m =
-      let s = made_is_spelled fs m.end m.each m.led m.complete in
-      subst (λ (d : Certificate V). HasSpelling format d × (spelling format d ≡ heading format ++ flat_map (field_bytes format) fs)) m.content (s.1, sym s.0)
+      let limited : Bool = is_some c.limit in
+      let s = made_is_spelled limited fs m.end m.allowed m.each m.led m.complete in
+      subst (λ (d : Certificate V). HasSpelling format d × (spelling format d ≡ heading format limited ++ flat_map (field_bytes format) fs)) m.content (s.1, sym s.0)
 
   -- ---- a spelling is of bytes
 
@@ -107,6 +110,10 @@ module _ {V : Type 0} (format : Format V) (law : IsFormat format) where
       (three_bytes release i.serial checksum (IsBytes-number numbers.Release i.release) (below_each i.serial is.serial_bytes) (IsBytes-number numbers.Checksum i.checksum))
       (IsBytes-number numbers.LoadedLength i.length)
 
+  IsBytes-limit : (limit : Option ℕ) → IsBytes (limit_bytes limit)
+  IsBytes-limit None = λ i. omega arith
+  IsBytes-limit (Some n) = IsBytes-number numbers.FrameLimit n
+
   IsBytes-range : (r : Range) → IsRange r → IsBytes (range_bytes r)
   IsBytes-range r is = IsBytes-append (number numbers.RangeFirst r.first) (number numbers.RangeLast r.last) (IsBytes-number numbers.RangeFirst r.first) (IsBytes-number numbers.RangeLast r.last)
 
@@ -127,10 +134,11 @@ module _ {V : Type 0} (format : Format V) (law : IsFormat format) where
   abbrev body : Certificate V → List ℕ
   body c =
       identity_bytes c.identity
+      ++ (limit_bytes c.limit
       ++ (counted numbers.RangeCount range_bytes c.ranges
       ++ (values_bytes format c.globals
       ++ (counted numbers.RoutineCount (routine_bytes format) c.routines
-      ++ counted numbers.InstructionCount (instruction_bytes format) c.instructions)))
+      ++ counted numbers.InstructionCount (instruction_bytes format) c.instructions))))
 
   IsBytes-body : (c : Certificate V) → HasSpelling format c → IsBytes (body c)
   IsBytes-body c has =
@@ -141,22 +149,25 @@ module _ {V : Type 0} (format : Format V) (law : IsFormat format) where
       let last = IsBytes-append routines instructions (IsBytes-counted numbers.RoutineCount (routine_bytes format) (IsRoutine format) IsBytes-routine c.routines has.routines) (IsBytes-counted numbers.InstructionCount (instruction_bytes format) (IsInstruction format c.routines) (IsBytes-instruction c.routines) c.instructions has.instructions) in
       let from_globals = IsBytes-append globals (routines ++ instructions) (IsBytes-flat_map format.spelled format.Has law.bytes c.globals has.global_values) last in
       let from_ranges = IsBytes-append ranges (globals ++ (routines ++ instructions)) (IsBytes-counted numbers.RangeCount range_bytes IsRange IsBytes-range c.ranges has.ranges) from_globals in
-      IsBytes-append (identity_bytes c.identity) (ranges ++ (globals ++ (routines ++ instructions))) (IsBytes-identity c.identity has.identity) from_ranges
+      let from_limit = IsBytes-append (limit_bytes c.limit) (ranges ++ (globals ++ (routines ++ instructions))) (IsBytes-limit c.limit) from_ranges in
+      IsBytes-append (identity_bytes c.identity) (limit_bytes c.limit ++ (ranges ++ (globals ++ (routines ++ instructions)))) (IsBytes-identity c.identity has.identity) from_limit
 
-  in_two : (a b c d e f : List ℕ) → a ++ b ++ c ++ d ++ e ++ f ≡ a ++ (b ++ (c ++ (d ++ (e ++ f))))
-  in_two a b c d e f = simp append_assoc
+  in_two : (a b l c d e f : List ℕ) → a ++ b ++ l ++ c ++ d ++ e ++ f ≡ a ++ (b ++ (l ++ (c ++ (d ++ (e ++ f)))))
+  in_two a b l c d e f = simp append_assoc
 
   -- a spelling is its heading and what follows it
-  parts_of : (c : Certificate V) → spelling format c ≡ heading format ++ body c
-  parts_of c = in_two (heading format) (identity_bytes c.identity) (counted numbers.RangeCount range_bytes c.ranges) (values_bytes format c.globals) (counted numbers.RoutineCount (routine_bytes format) c.routines) (counted numbers.InstructionCount (instruction_bytes format) c.instructions)
+  parts_of : (c : Certificate V) → spelling format c ≡ heading format (is_some c.limit) ++ body c
+  parts_of c = in_two (heading format (is_some c.limit)) (identity_bytes c.identity) (limit_bytes c.limit) (counted numbers.RangeCount range_bytes c.ranges) (values_bytes format c.globals) (counted numbers.RoutineCount (routine_bytes format) c.routines) (counted numbers.InstructionCount (instruction_bytes format) c.instructions)
 
   -- each certificate that has a spelling is made by some fields
   pub each_is_made : (c : Certificate V) → HasSpelling format c → (fs : List (Field V)) × Makes format fs c
   each_is_made c has =
-      let read : rest_of format opening (body c) ≡ Ok c = sym (after_heading (body c)) ∙ ap (reading format) (sym (parts_of c)) ∙ only format law c has in
-      let m = along (length (body c)) opening (body c) c (omega arith) (IsBytes-body c has) read (complete_or_more turns.Release) in
-      (m.0, record { end = m.1; each = m.2; led = m.3; complete = m.4; content = m.5 })
+      let limited : Bool = is_some c.limit in
+      let may = limit_allowed format c.limit has.limit in
+      let read : rest_of format (opening limited) (body c) ≡ Ok c = sym (after_heading limited (body c) may) ∙ ap (reading format) (sym (parts_of c)) ∙ only format law c has in
+      let m = along (length (body c)) (opening limited) (body c) c (omega arith) (IsBytes-body c has) read (complete_or_more turns.Release) in
+      (m.0, record { end = m.1; allowed = may; each = m.2; led = m.3; complete = m.4; content = m.5 })
 
   -- what is reached at the end has a spelling
   pub reached_has_spelling : (p : Progress V) → IsReached format p → p.turn ≡ turns.Complete → HasSpelling format p.content
-  reached_has_spelling p (fs, each, led) complete = (made_is_spelled fs p each led complete).1
+  reached_has_spelling p (limited, may, (fs, each, led)) complete = (made_is_spelled limited fs p may each led complete).1

@@ -1,20 +1,20 @@
 -- What is spelled is read.
-use Rattle.std.proofs.Common.{◌≡◌, ℕ, suc, ◌+◌, ◌<◌, ◌≤◌, true, List, [], ◌∷◌, ◌++◌, length, Result, Ok, eq-eqb, refl, sym, ap, ◌∙◌, append_assoc, arith, length-append}
-use Rattle.std.specs.Prelude.{◌==◌}
+use Rattle.std.proofs.Common.{◌≡◌, ◌≢◌, ℕ, suc, ◌+◌, ◌<◌, ◌≤◌, Bool, true, false, Option, None, Some, List, [], ◌∷◌, ◌++◌, length, Result, Ok, eq-eqb, refl, sym, ap, ◌∙◌, append_assoc, arith, length-append}
+use Rattle.std.specs.Prelude.{◌==◌, is_some}
 use Rattle.std.specs.List.{flat_map, AllByRecursion}
-use Rattle.std.proofs.lemmas.Bool.{le-leb, lt-ltb}
+use Rattle.std.proofs.lemmas.Bool.{eqb-true, le-leb, lt-ltb}
 use Rattle.std.proofs.lemmas.List.{take_at, drop_at, append-nil}
 use Rattle.zstory.specs.declared.identity.Identity.{Identity}
 use Rattle.zcert.specs.declared.error.CertError.{CertError}
 use Rattle.zcert.specs.declared.parts.Range.{Range}
 use Rattle.zcert.specs.declared.parts.Routine.{Routine}
-use Rattle.zcert.specs.declared.limits.TheConstants.{MAGIC, GLOBALS, ADDRESS_LIMIT, MAX_LOCALS, MAX_INSTRUCTIONS, MAX_RANGES, MAX_ROUTINES, MAX_HEIGHT}
+use Rattle.zcert.specs.declared.limits.TheConstants.{MAGIC, GLOBALS, ADDRESS_LIMIT, MAX_LOCALS, MAX_INSTRUCTIONS, MAX_RANGES, MAX_ROUTINES, MAX_HEIGHT, MAX_FRAMES, LIMIT_VERSION}
 use Rattle.zcert.specs.Numbers.{number, HasRoom}
 use Rattle.zcert.specs.Numbers as numbers
 use Rattle.zcert.specs.Certificate.{Instruction, Certificate, locals_of}
-use Rattle.zcert.specs.Format.{Format}
-use Rattle.zcert.specs.Spelling.{identity_bytes, range_bytes, values_bytes, routine_bytes, instruction_bytes, counted, heading, spelling, IsIdentity, IsRange, AreApart, Rise, IsRoutine, IsInstruction, HasSpelling}
-use Rattle.zcert.specs.Reading.{magic_at, version_at, heading_at, identity_at, range_at, ranges_at, all_ranges_at, address_fits, values_at, routine_at, routines_at, all_routines_at, instruction_at, instructions_at, all_instructions_at, at_end, reading}
+use Rattle.zcert.specs.Format.{Format, version_of, IsAllowed}
+use Rattle.zcert.specs.Spelling.{identity_bytes, limit_bytes, range_bytes, values_bytes, routine_bytes, instruction_bytes, counted, heading, spelling, IsIdentity, IsLimit, IsRange, AreApart, Rise, IsRoutine, IsInstruction, HasSpelling}
+use Rattle.zcert.specs.Reading.{magic_at, version_at, heading_at, identity_at, limit_at, fields_at, range_at, ranges_at, all_ranges_at, address_fits, values_at, routine_at, routines_at, all_routines_at, instruction_at, instructions_at, all_instructions_at, at_end, reading}
 use Rattle.zcert.specs.FormatLaw.Stepping.{number_again, serial_again}
 use Rattle.zcert.specs.FormatLaw.{IsFormat}
 
@@ -35,15 +35,32 @@ magic_again rest = rw (number_again numbers.Magic MAGIC rest (omega arith)) refl
 eqb_same : (n : ℕ) → (n == n) ≡ true
 eqb_same n = eq-eqb n n refl
 
-version_again : (version : ℕ) (rest : List ℕ) → HasRoom numbers.Version version → version_at version (number numbers.Version version ++ rest) ≡ Ok rest
-unfolding version_at
-version_again version rest room = rw (number_again numbers.Version version rest room, eqb_same version) refl
+other_version : (b : Bool) (n : ℕ) → n ≢ LIMIT_VERSION → (LIMIT_VERSION == n) ≡ b → b ≡ false
+other_version true n apart e = absurd (apart (sym (eqb-true _ _ e)))
+other_version false n apart e = refl
 
-pub heading_again : {V : Type 0} (format : Format V) (rest : List ℕ) → HasRoom numbers.Version format.version → heading_at format.version (heading format ++ rest) ≡ Ok rest
+version_again : {V : Type 0} (format : Format V) (law : IsFormat format) (limited : Bool) (rest : List ℕ) → IsAllowed format limited → version_at format (number numbers.Version (version_of format limited) ++ rest) ≡ Ok (limited, rest)
+unfolding version_at
+version_again format law false rest may = rw (number_again numbers.Version format.version rest law.version, eqb_same format.version) refl
+version_again format law true rest may =
+    let other : (LIMIT_VERSION == format.version) ≡ false = other_version _ format.version law.apart refl in
+    rw (number_again numbers.Version LIMIT_VERSION rest (omega arith), other, may) refl
+
+pub heading_again : {V : Type 0} (format : Format V) (law : IsFormat format) (limited : Bool) (rest : List ℕ) → IsAllowed format limited → heading_at format (heading format limited ++ rest) ≡ Ok (limited, rest)
 unfolding heading_at
-heading_again format rest room =
-    let version = number numbers.Version format.version in
-    ap (heading_at format.version) (two (number numbers.Magic MAGIC) version rest) ∙ rw (magic_again (version ++ rest)) (version_again format.version rest room)
+heading_again format law limited rest may =
+    let version = number numbers.Version (version_of format limited) in
+    ap (heading_at format) (two (number numbers.Magic MAGIC) version rest) ∙ rw (magic_again (version ++ rest)) (version_again format law limited rest may)
+
+-- a limit that may be named
+pub limit_allowed : {V : Type 0} (format : Format V) (limit : Option ℕ) → IsLimit format limit → IsAllowed format (is_some limit)
+limit_allowed format None is = tt
+limit_allowed format (Some n) is = is.0
+
+limit_again : {V : Type 0} (format : Format V) (limit : Option ℕ) (rest : List ℕ) → IsLimit format limit → limit_at (is_some limit) (limit_bytes limit ++ rest) ≡ Ok (limit, rest)
+unfolding limit_at
+limit_again format None rest is = refl
+limit_again format (Some n) rest is = rw (number_again numbers.FrameLimit n rest (omega (arith, is.1)), le-leb n MAX_FRAMES is.1) refl
 
 identity_again : (i : Identity) (rest : List ℕ) → IsIdentity i → identity_at (identity_bytes i ++ rest) ≡ Ok (i, rest)
 unfolding identity_at
@@ -174,14 +191,15 @@ module _ {V : Type 0} (format : Format V) (law : IsFormat format) where
         le-leb (length is) MAX_INSTRUCTIONS few,
       ) (instructions_again routines 0 is rest few_routines each rise)
 
-  in_parts : (a b c d e f : List ℕ) → a ++ b ++ c ++ d ++ e ++ f ≡ a ++ (b ++ (c ++ (d ++ (e ++ (f ++ [])))))
-  in_parts a b c d e f = simp (append_assoc, append-nil)
+  in_parts : (a b l c d e f : List ℕ) → a ++ b ++ l ++ c ++ d ++ e ++ f ≡ a ++ (b ++ (l ++ (c ++ (d ++ (e ++ (f ++ []))))))
+  in_parts a b l c d e f = simp (append_assoc, append-nil)
 
   -- what has a spelling is read from it
   pub only : (c : Certificate V) → HasSpelling format c → reading format (spelling format c) ≡ Ok c
-  unfolding reading at_end
+  unfolding reading fields_at at_end
   only c has =
       let identity = identity_bytes c.identity in
+      let limit = limit_bytes c.limit in
       let ranges = counted numbers.RangeCount range_bytes c.ranges in
       let globals = values_bytes format c.globals in
       let routines = counted numbers.RoutineCount (routine_bytes format) c.routines in
@@ -189,9 +207,10 @@ module _ {V : Type 0} (format : Format V) (law : IsFormat format) where
       let globals_read : values_at format GLOBALS (globals ++ (routines ++ (instructions ++ []))) ≡ Ok (c.globals, routines ++ (instructions ++ [])) =
       ap (λ (n : ℕ). values_at format n (globals ++ (routines ++ (instructions ++ [])))) (sym has.globals) ∙ values_again c.globals (routines ++ (instructions ++ [])) has.global_values
       in
-      ap (reading format) (in_parts (heading format) identity ranges globals routines instructions) ∙ rw (
-        heading_again format (identity ++ (ranges ++ (globals ++ (routines ++ (instructions ++ []))))) law.version,
-        identity_again c.identity (ranges ++ (globals ++ (routines ++ (instructions ++ [])))) has.identity,
+      ap (reading format) (in_parts (heading format (is_some c.limit)) identity limit ranges globals routines instructions) ∙ rw (
+        heading_again format law (is_some c.limit) (identity ++ (limit ++ (ranges ++ (globals ++ (routines ++ (instructions ++ [])))))) (limit_allowed format c.limit has.limit),
+        identity_again c.identity (limit ++ (ranges ++ (globals ++ (routines ++ (instructions ++ []))))) has.identity,
+        limit_again format c.limit (ranges ++ (globals ++ (routines ++ (instructions ++ [])))) has.limit,
         all_ranges_again c.ranges (globals ++ (routines ++ (instructions ++ []))) has.few_ranges has.ranges has.ranges_apart,
         globals_read,
         all_routines_again c.routines (instructions ++ []) has.few_routines has.routines has.routines_rise,

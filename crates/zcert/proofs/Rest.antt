@@ -1,7 +1,7 @@
 -- What the rest of the bytes would be read as, once some fields are taken; and that to take a field is to read on.
-use Rattle.std.proofs.Common.{◌≡◌, ℕ, zero, suc, ◌+◌, List, [], ◌∷◌, ◌++◌, length, Result, Ok, Err, refl, sym, ap, ◌∙◌, append_assoc}
+use Rattle.std.proofs.Common.{◌≡◌, ℕ, zero, suc, ◌+◌, Bool, true, false, Option, None, Some, List, [], ◌∷◌, ◌++◌, length, Result, Ok, Err, refl, sym, ap, ◌∙◌, append_assoc}
 use Rattle.std.proofs.lemmas.List.{append-nil}
-use Rattle.std.specs.Prelude.{nat_le}
+use Rattle.std.specs.Prelude.{nat_le, is_some}
 use Rattle.zstory.specs.declared.identity.Identity.{Identity}
 use Rattle.zcert.specs.declared.error.CertError.{CertError}
 use Rattle.zcert.specs.declared.error.CertError.TheVariants as errors
@@ -10,13 +10,13 @@ use Rattle.zcert.specs.declared.field.Turn.{Turn}
 use Rattle.zcert.specs.declared.field.Turn.TheVariants as turns
 use Rattle.zcert.specs.declared.parts.Range.{Range}
 use Rattle.zcert.specs.declared.parts.Routine.{Routine}
-use Rattle.zcert.specs.declared.limits.TheConstants.{GLOBALS, MAX_LOCALS, MAX_INSTRUCTIONS, MAX_RANGES, MAX_ROUTINES, MAX_HEIGHT}
+use Rattle.zcert.specs.declared.limits.TheConstants.{GLOBALS, MAX_LOCALS, MAX_INSTRUCTIONS, MAX_RANGES, MAX_ROUTINES, MAX_HEIGHT, MAX_FRAMES}
 use Rattle.zcert.specs.Numbers as numbers
 use Rattle.zcert.specs.Certificate.{Instruction, Certificate, locals_of}
 use Rattle.zcert.specs.Steps.{◌>>=◌, need, number_at, serial_at}
 use Rattle.zcert.specs.Format.{Format}
-use Rattle.zcert.specs.Reading.{heading_at, identity_at, range_at, ranges_at, all_ranges_at, address_fits, values_at, routine_at, routines_at, all_routines_at, instruction_at, instructions_at, all_instructions_at, at_end, reading}
-use Rattle.zcert.specs.Building.{Progress, opening, instruction_of, with_identity, with_range, with_global, with_routine, with_instruction, before_ranges, before_globals, before_routines, before_instructions, before_values, taken}
+use Rattle.zcert.specs.Reading.{heading_at, identity_at, limit_at, fields_at, range_at, ranges_at, all_ranges_at, address_fits, values_at, routine_at, routines_at, all_routines_at, instruction_at, instructions_at, all_instructions_at, at_end, reading}
+use Rattle.zcert.specs.Building.{Progress, opening, instruction_of, with_identity, with_limit, with_range, behind_identity, with_global, with_routine, with_instruction, before_ranges, before_globals, before_routines, before_instructions, before_values, taken}
 use Rattle.zcert.specs.Fields.{field_at}
 
 -- one more part in front of the others
@@ -63,8 +63,14 @@ module _ {V : Type 0} (format : Format V) where
   abbrev then_ranges : Certificate V → Result (List Range × List ℕ) CertError → Result (Certificate V) CertError
   then_ranges c read = read >>= λ rs. then_globals (and_ranges c rs.0) (values_at format GLOBALS rs.1)
 
+  abbrev and_limit : Certificate V → Option ℕ → Certificate V
+  and_limit c limit = record c { limit = limit }
+
+  abbrev then_limit : Certificate V → Result (Option ℕ × List ℕ) CertError → Result (Certificate V) CertError
+  then_limit c read = read >>= λ l. then_ranges (and_limit c l.0) (all_ranges_at l.1)
+
   abbrev then_identity : Certificate V → Result (Identity × List ℕ) CertError → Result (Certificate V) CertError
-  then_identity c read = read >>= λ i. then_ranges (with_identity c i.0) (all_ranges_at i.1)
+  then_identity c read = read >>= λ i. then_limit (with_identity c i.0) (limit_at (is_some c.limit) i.1)
 
   -- the parts of an identity, a range, a routine and an instruction that are still to come
   abbrev identity_from_length : Identity → List ℕ → Result (Identity × List ℕ) CertError
@@ -117,6 +123,7 @@ module _ {V : Type 0} (format : Format V) where
   rest_from turns.Serial p bytes = then_identity p.content (identity_from_serial p.content.identity bytes)
   rest_from turns.Checksum p bytes = then_identity p.content (identity_from_checksum p.content.identity bytes)
   rest_from turns.LoadedLength p bytes = then_identity p.content (identity_from_length p.content.identity bytes)
+  rest_from turns.FrameLimit p bytes = then_limit p.content (limit_at true bytes)
   rest_from turns.RangeCount p bytes = then_ranges p.content (all_ranges_at bytes)
   rest_from (turns.RangeFirst more) p bytes = then_ranges p.content (ranges_at (suc more) p.floor bytes)
   rest_from (turns.RangeLast more first) p bytes = then_ranges p.content (and_more_ranges more (range_from_last first bytes))
@@ -176,6 +183,11 @@ module _ {V : Type 0} (format : Format V) where
   from_ranges zero c values floor bytes = ap (λ d. then_globals d (values_at format GLOBALS bytes)) (no_ranges c) ∙ from_globals GLOBALS c values floor bytes
   from_ranges (suc n) c values floor bytes = refl
 
+  from_limit : (limit : Option ℕ) (c : Certificate V) (values : List V) (floor : ℕ) (bytes : List ℕ) → c.limit ≡ limit → then_limit c (limit_at (is_some limit) bytes) ≡ rest_of (at_turn c values floor (behind_identity limit)) bytes
+  unfolding rest_of limit_at
+  from_limit None c values floor bytes e = ap (λ (l : Option ℕ). then_ranges (and_limit c l) (all_ranges_at bytes)) (sym e)
+  from_limit (Some n) c values floor bytes e = refl
+
   -- to take the next field is to read on
   abbrev IsReadingOn : Certificate V → List V → ℕ → Turn → List ℕ → Type 0
   IsReadingOn c values floor turn bytes = rest_of (at_turn c values floor turn) bytes ≡ read_on (at_turn c values floor turn) bytes
@@ -197,8 +209,13 @@ module _ {V : Type 0} (format : Format V) where
 
   on_loaded_length : (c : Certificate V) (values : List V) (floor : ℕ) (bytes : List ℕ) (r : Result (ℕ × List ℕ) CertError) → number_at numbers.LoadedLength bytes ≡ r → IsReadingOn c values floor turns.LoadedLength bytes
   unfolding rest_of
-  on_loaded_length c values floor bytes (Ok n) e = rw e refl
+  on_loaded_length c values floor bytes (Ok n) e = rw e (from_limit c.limit (with_identity c (record c.identity { length = n.0 })) values floor n.1 refl)
   on_loaded_length c values floor bytes (Err d) e = rw e refl
+
+  on_frame_limit : (c : Certificate V) (values : List V) (floor : ℕ) (bytes : List ℕ) (r : Result (ℕ × List ℕ) CertError) → number_at numbers.FrameLimit bytes ≡ r → IsReadingOn c values floor turns.FrameLimit bytes
+  unfolding rest_of limit_at
+  on_frame_limit c values floor bytes (Ok n) e = rw e (on_condition (need (nat_le n.0 MAX_FRAMES) errors.Limit) (Ok (Some n.0, n.1)) _ _ _ refl)
+  on_frame_limit c values floor bytes (Err d) e = rw e refl
 
   on_range_count : (c : Certificate V) (values : List V) (floor : ℕ) (bytes : List ℕ) (r : Result (ℕ × List ℕ) CertError) → number_at numbers.RangeCount bytes ≡ r → IsReadingOn c values floor turns.RangeCount bytes
   unfolding rest_of all_ranges_at
@@ -313,6 +330,7 @@ module _ {V : Type 0} (format : Format V) where
   on_turn turns.Serial c values floor bytes m = on_serial c values floor bytes (serial_at bytes) refl
   on_turn turns.Checksum c values floor bytes m = on_checksum c values floor bytes (number_at numbers.Checksum bytes) refl
   on_turn turns.LoadedLength c values floor bytes m = on_loaded_length c values floor bytes (number_at numbers.LoadedLength bytes) refl
+  on_turn turns.FrameLimit c values floor bytes m = on_frame_limit c values floor bytes (number_at numbers.FrameLimit bytes) refl
   on_turn turns.RangeCount c values floor bytes m = on_range_count c values floor bytes (number_at numbers.RangeCount bytes) refl
   on_turn (turns.RangeFirst more) c values floor bytes m = on_range_first more c values floor bytes (number_at numbers.RangeFirst bytes) refl
   on_turn (turns.RangeLast more first) c values floor bytes m = on_range_last more first c values floor bytes (number_at numbers.RangeLast bytes) refl
@@ -341,7 +359,16 @@ module _ {V : Type 0} (format : Format V) where
   pub completes : (p : Progress V) → p.turn ≡ turns.Complete → rest_of p [] ≡ Ok p.content
   completes p e = complete_at p.turn p.content p.values p.floor e
 
+  fields_open : (limited : Bool) (bytes : List ℕ) → fields_at format limited bytes ≡ rest_of (opening limited) bytes
+  unfolding rest_of fields_at identity_at
+  fields_open false bytes = refl
+  fields_open true bytes = refl
+
+  all_open : (r : Result (Bool × List ℕ) CertError) → (r >>= λ x. fields_at format x.0 x.1) ≡ (r >>= λ x. rest_of (opening x.0) x.1)
+  all_open (Ok x) = fields_open x.0 x.1
+  all_open (Err d) = refl
+
   -- a certificate is read from its version on as the rest before the first field
-  pub opens : (bytes : List ℕ) → reading format bytes ≡ (heading_at format.version bytes >>= λ rest. rest_of opening rest)
-  unfolding rest_of reading identity_at
-  opens bytes = refl
+  pub opens : (bytes : List ℕ) → reading format bytes ≡ (heading_at format bytes >>= λ x. rest_of (opening x.0) x.1)
+  unfolding reading
+  opens bytes = all_open (heading_at format bytes)

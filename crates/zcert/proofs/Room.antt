@@ -1,6 +1,6 @@
 -- Memory is wanted only for a part that the bytes have.
-use Rattle.std.proofs.Common.{◌≡◌, ◌≢◌, ℕ, List, [], ◌∷◌, ◌++◌, Result, Ok, Err, refl, sym, ap, subst, ◌∙◌, append_assoc}
-use Rattle.std.specs.Prelude.{IsOk, ◌==◌}
+use Rattle.std.proofs.Common.{◌≡◌, ◌≢◌, ℕ, Bool, true, false, List, [], ◌∷◌, ◌++◌, Result, Ok, Err, refl, sym, ap, subst, ◌∙◌, append_assoc}
+use Rattle.std.specs.Prelude.{IsOk, ◌==◌, ◌&&◌}
 use Rattle.std.specs.List.{flat_map}
 use Rattle.std.proofs.lemmas.List.{append-nil}
 use Rattle.zcert.specs.declared.error.CertError.{CertError}
@@ -9,13 +9,13 @@ use Rattle.zcert.specs.declared.field.Field.{Field}
 use Rattle.zcert.specs.declared.field.Field.TheVariants as fields
 use Rattle.zcert.specs.declared.field.Turn.{Turn}
 use Rattle.zcert.specs.declared.field.Turn.TheVariants as turns
-use Rattle.zcert.specs.declared.limits.TheConstants.{MAGIC}
+use Rattle.zcert.specs.declared.limits.TheConstants.{MAGIC, LIMIT_VERSION}
 use Rattle.zcert.specs.Numbers as numbers
 use Rattle.zcert.specs.Steps.{◌>>=◌, need, number_at}
-use Rattle.zcert.specs.Format.{Format}
+use Rattle.zcert.specs.Format.{Format, version_of, IsAllowed}
 use Rattle.zcert.specs.Spelling.{heading}
 use Rattle.zcert.specs.Numbers.{number}
-use Rattle.zcert.specs.Reading.{magic_at, version_at}
+use Rattle.zcert.specs.Reading.{magic_at, limited_by, version_at}
 use Rattle.zcert.specs.Building.{Progress, opening, taken, all_taken, Adds}
 use Rattle.zcert.specs.Fields.{field_bytes, as_field, field_at, next_at, NextAdds, LeadsToPart}
 use Rattle.zcert.specs.View.{RefusesField}
@@ -32,9 +32,14 @@ pub plain_magic : (bytes : List ℕ) → IsPlain (magic_at bytes)
 unfolding magic_at
 plain_magic bytes = plain_then (number_at numbers.Magic bytes) _ (plain_sized 4 bytes) (λ x. plain_then (need (x.0 == MAGIC) errors.Magic) _ (plain_need (x.0 == MAGIC) errors.Magic (λ e. absurd cc)) (λ u. plain_ok x.1))
 
-pub plain_version : (version : ℕ) (bytes : List ℕ) → IsPlain (version_at version bytes)
+plain_limited : (plain limit : Bool) → IsPlain (limited_by plain limit)
+plain_limited true limit = plain_ok false
+plain_limited false true = plain_ok true
+plain_limited false false = λ e. absurd cc
+
+pub plain_version : {V : Type 0} (format : Format V) (bytes : List ℕ) → IsPlain (version_at format bytes)
 unfolding version_at
-plain_version version bytes = plain_then (number_at numbers.Version bytes) _ (plain_sized 1 bytes) (λ x. plain_then (need (x.0 == version) errors.Version) _ (plain_need (x.0 == version) errors.Version (λ e. absurd cc)) (λ u. plain_ok x.1))
+plain_version format bytes = plain_then (number_at numbers.Version bytes) _ (plain_sized 1 bytes) (λ x. plain_then (limited_by (x.0 == format.version) (format.limited && (x.0 == LIMIT_VERSION))) _ (plain_limited _ _) (λ limited. plain_ok (limited, x.1)))
 
 module _ {V : Type 0} (format : Format V) (law : IsFormat format) where
   plain_field : {X : Type 0} (make : X → Field V) (read : Result (X × List ℕ) CertError) → IsPlain read → IsPlain (as_field format make read)
@@ -45,6 +50,7 @@ module _ {V : Type 0} (format : Format V) (law : IsFormat format) where
   plain_field_at turns.Serial bytes = plain_field fields.Serial _ (plain_serial bytes)
   plain_field_at turns.Checksum bytes = plain_field fields.Checksum _ (plain_sized 2 bytes)
   plain_field_at turns.LoadedLength bytes = plain_field fields.LoadedLength _ (plain_sized 4 bytes)
+  plain_field_at turns.FrameLimit bytes = plain_field fields.FrameLimit _ (plain_sized 2 bytes)
   plain_field_at turns.RangeCount bytes = plain_field fields.RangeCount _ (plain_sized 2 bytes)
   plain_field_at (turns.RangeFirst more) bytes = plain_field fields.RangeFirst _ (plain_sized 2 bytes)
   plain_field_at (turns.RangeLast more first) bytes = plain_field fields.RangeLast _ (plain_sized 2 bytes)
@@ -71,14 +77,14 @@ one_text_more f [] x rest = ap (λ t. t ++ rest) (append-nil (f x))
 one_text_more f (y ∷ xs) x rest = append_assoc (f y) (flat_map f (xs ++ x ∷ [])) rest ∙ ap (λ t. f y ++ t) (one_text_more f xs x rest) ∙ sym (append_assoc (f y) (flat_map f xs) (f x ++ rest))
 
 module _ {V : Type 0} (format : Format V) (law : IsFormat format) where
-  pub version_leads : (bytes rest after : List ℕ) → IsBytes rest → bytes ≡ number numbers.Magic MAGIC ++ rest → version_at format.version rest ≡ Ok after → FieldsLead format opening bytes after
-  version_leads bytes rest after fits e v =
-      let t = version_takes format.version rest after fits v in
-      record { fields = []; each = tt; led = refl; spelled = e ∙ ap (λ (r : List ℕ). number numbers.Magic MAGIC ++ r) t.parts ∙ sym (append_assoc (number numbers.Magic MAGIC) (number numbers.Version format.version) after) }
+  pub version_leads : (bytes rest : List ℕ) (x : Bool × List ℕ) → IsBytes rest → bytes ≡ number numbers.Magic MAGIC ++ rest → version_at format rest ≡ Ok x → FieldsLead format (opening x.0) bytes x.1
+  version_leads bytes rest x fits e v =
+      let t = version_takes format rest x fits v in
+      record { limited = x.0; allowed = t.1; fields = []; each = tt; led = refl; spelled = e ∙ ap (λ (r : List ℕ). number numbers.Magic MAGIC ++ r) t.0.parts ∙ sym (append_assoc (number numbers.Magic MAGIC) (number numbers.Version (version_of format x.0)) x.1) }
 
-  one_spelled : (f : Field V) (fs : List (Field V)) (bytes rest after : List ℕ) → bytes ≡ heading format ++ (flat_map (field_bytes format) fs ++ rest) → rest ≡ field_bytes format f ++ after → bytes ≡ heading format ++ (flat_map (field_bytes format) (fs ++ f ∷ []) ++ after)
-  one_spelled f fs bytes rest after e d =
-      e ∙ ap (λ (t : List ℕ). heading format ++ (flat_map (field_bytes format) fs ++ t)) d ∙ ap (λ (t : List ℕ). heading format ++ t) (sym (one_text_more (field_bytes format) fs f after))
+  one_spelled : (limited : Bool) (f : Field V) (fs : List (Field V)) (bytes rest after : List ℕ) → bytes ≡ heading format limited ++ (flat_map (field_bytes format) fs ++ rest) → rest ≡ field_bytes format f ++ after → bytes ≡ heading format limited ++ (flat_map (field_bytes format) (fs ++ f ∷ []) ++ after)
+  one_spelled limited f fs bytes rest after e d =
+      e ∙ ap (λ (t : List ℕ). heading format limited ++ (flat_map (field_bytes format) fs ++ t)) d ∙ ap (λ (t : List ℕ). heading format limited ++ t) (sym (one_text_more (field_bytes format) fs f after))
 
   pub read_next : (bytes : List ℕ) (p q : Progress V) (rest after : List ℕ) → IsBytes rest → FieldsLead format p bytes rest → next_at format p rest ≡ Ok (q, after) → FieldsLead format q bytes after
   read_next bytes p q rest after fits r e =
@@ -90,29 +96,33 @@ module _ {V : Type 0} (format : Format V) (law : IsFormat format) where
       let led : taken p a.0.0 ≡ Ok q = b.1 ∙ ap (λ (x : Progress V × List ℕ). Ok x.0) same in
       let left : a.0.1 ≡ after = ap (λ (x : Progress V × List ℕ). x.1) same in
       record {
+        limited = r.limited;
+        allowed = r.allowed;
         fields = r.fields ++ a.0.0 ∷ [];
         each = each_more format r.fields a.0.0 r.each t.is;
-        led = one_more r.fields a.0.0 opening p q r.led led;
-        spelled = one_spelled a.0.0 r.fields bytes rest after r.spelled (t.takes.parts ∙ ap (λ (l : List ℕ). field_bytes format a.0.0 ++ l) left);
+        led = one_more r.fields a.0.0 (opening r.limited) p q r.led led;
+        spelled = one_spelled r.limited a.0.0 r.fields bytes rest after r.spelled (t.takes.parts ∙ ap (λ (l : List ℕ). field_bytes format a.0.0 ++ l) left);
       }
 
-  taken_too : (fs : List (Field V)) (f : Field V) (p : Progress V) (r : Result (Progress V) CertError) → all_taken opening fs ≡ Ok p → taken p f ≡ r → IsOk r → IsOk (all_taken opening (fs ++ f ∷ []))
-  taken_too fs f p (Ok q) led e ok = rw (one_more fs f opening p q led e) refl
-  taken_too fs f p (Err d) led e ok = absurd cc
+  taken_too : (limited : Bool) (fs : List (Field V)) (f : Field V) (p : Progress V) (r : Result (Progress V) CertError) → all_taken (opening limited) fs ≡ Ok p → taken p f ≡ r → IsOk r → IsOk (all_taken (opening limited) (fs ++ f ∷ []))
+  taken_too limited fs f p (Ok q) led e ok = rw (one_more fs f (opening limited) p q led e) refl
+  taken_too limited fs f p (Err d) led e ok = absurd cc
 
   pub leads_to_part : (bytes : List ℕ) (p : Progress V) (rest : List ℕ) → IsBytes rest → FieldsLead format p bytes rest → NextAdds format p rest → LeadsToPart format bytes
   leads_to_part bytes p rest fits r n =
       let t = field_takes format law p.turn rest n.field n.rest fits n.read in
       record {
+        limited = r.limited;
+        allowed = r.allowed;
         fields = r.fields;
         last = n.field;
         rest = n.rest;
         each = each_more format r.fields n.field r.each t.is;
         before = p;
         reached = r.led;
-        led = taken_too r.fields n.field p (taken p n.field) r.led refl n.due;
+        led = taken_too r.limited r.fields n.field p (taken p n.field) r.led refl n.due;
         adds = n.adds;
-        spelled = one_spelled n.field r.fields bytes rest n.rest r.spelled t.takes.parts;
+        spelled = one_spelled r.limited n.field r.fields bytes rest n.rest r.spelled t.takes.parts;
       }
 
 -- a field that memory was wanting for

@@ -7,10 +7,10 @@ use Rattle.zcert.specs.declared.field.Field.{Field}
 use Rattle.zcert.specs.declared.field.Field.TheVariants as fields
 use Rattle.zcert.specs.declared.field.Turn.{Turn}
 use Rattle.zcert.specs.declared.field.Turn.TheVariants as turns
-use Rattle.zcert.specs.declared.limits.TheConstants.{ADDRESS_LIMIT, MAX_LOCALS, MAX_INSTRUCTIONS, MAX_RANGES, MAX_ROUTINES, MAX_HEIGHT}
+use Rattle.zcert.specs.declared.limits.TheConstants.{ADDRESS_LIMIT, MAX_LOCALS, MAX_INSTRUCTIONS, MAX_RANGES, MAX_ROUTINES, MAX_HEIGHT, MAX_FRAMES}
 use Rattle.zcert.specs.Steps.{◌>>=◌, need}
 use Rattle.zcert.specs.Reading.{address_fits}
-use Rattle.zcert.specs.Building.{Progress, taken, after_release, after_serial, after_checksum, after_loaded_length, after_range_count, after_range_first, after_range_last, after_global, after_routine_count, after_routine_address, after_local_count, after_routine_result, after_instruction_count, after_instruction_address, after_routine_number, after_height, after_value}
+use Rattle.zcert.specs.Building.{Progress, taken, after_release, after_serial, after_checksum, after_loaded_length, after_frame_limit, after_range_count, after_range_first, after_range_last, after_global, after_routine_count, after_routine_address, after_local_count, after_routine_result, after_instruction_count, after_instruction_address, after_routine_number, after_height, after_value}
 
 abbrev pub IsUncut : {A : Type 0} → Result A CertError → Type 0
 IsUncut r = r ≢ Err errors.Truncated
@@ -53,6 +53,10 @@ module _ {V : Type 0} where
   of_loaded_length : (n : ℕ) (t : Turn) (p : Progress V) → IsUncut (after_loaded_length n t p)
   of_loaded_length n turns.LoadedLength p e = absurd cc
   of_loaded_length n _ p e = absurd cc
+
+  of_frame_limit : (n : ℕ) (t : Turn) (p : Progress V) → IsUncut (after_frame_limit n t p)
+  of_frame_limit n turns.FrameLimit p = uncut_when (need (nat_le n MAX_FRAMES) errors.Limit) _ (uncut_need _ _ limit)
+  of_frame_limit n _ p = λ e. absurd cc
 
   of_range_count : (n : ℕ) (t : Turn) (p : Progress V) → IsUncut (after_range_count n t p)
   of_range_count n turns.RangeCount p = uncut_when (need (nat_le n MAX_RANGES) errors.Limit) _ (uncut_need _ _ limit)
@@ -111,6 +115,7 @@ module _ {V : Type 0} where
   taken_uncut p (fields.Serial s) = of_serial s p.turn p
   taken_uncut p (fields.Checksum n) = of_checksum n p.turn p
   taken_uncut p (fields.LoadedLength n) = of_loaded_length n p.turn p
+  taken_uncut p (fields.FrameLimit n) = of_frame_limit n p.turn p
   taken_uncut p (fields.RangeCount n) = of_range_count n p.turn p
   taken_uncut p (fields.RangeFirst n) = of_range_first n p.turn p
   taken_uncut p (fields.RangeLast n) = of_range_last n p.turn p

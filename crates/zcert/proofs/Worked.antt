@@ -1,6 +1,7 @@
 -- Values of the definitions, computed.
-use Rattle.std.proofs.Common.{◌≡◌, true, false, ℕ, List, [], ◌∷◌, ◌++◌, length, replicate, zero, suc, Some, None, Ok, Err, pos, negsuc, inl, inr, refl, ap, arith}
+use Rattle.std.proofs.Common.{◌≡◌, Bool, true, false, ℕ, List, [], ◌∷◌, ◌++◌, length, replicate, zero, suc, Some, None, Ok, Err, pos, negsuc, inl, inr, refl, ap, arith}
 use Rattle.std.specs.List.{AllByRecursion}
+use Rattle.std.specs.Prelude.{is_some}
 use Rattle.std.proofs.lemmas.Int.{ints}
 use Rattle.zdomain.specs.declared.interval.Interval.{Interval}
 use Rattle.zdomain.specs.Interval.{point, all_words, interval_of, in_order}
@@ -13,15 +14,16 @@ use Rattle.zcert.specs.declared.field.Turn.TheVariants as turns
 use Rattle.zcert.specs.declared.parts.Range.{Range}
 use Rattle.zcert.specs.declared.parts.Routine.{Routine}
 use Rattle.zcert.specs.declared.instructions.Stored.{Stored}
-use Rattle.zcert.specs.declared.limits.TheConstants.{MAGIC, VERSION, GLOBALS, ADDRESS_LIMIT, MAX_LOCALS, MAX_INSTRUCTIONS, MAX_RANGES, MAX_ROUTINES, MAX_HEIGHT}
+use Rattle.zcert.specs.declared.limits.TheConstants.{MAGIC, VERSION, GLOBALS, ADDRESS_LIMIT, MAX_LOCALS, MAX_INSTRUCTIONS, MAX_RANGES, MAX_ROUTINES, MAX_HEIGHT, LIMIT_VERSION, USUAL_FRAMES, MAX_FRAMES}
 use Rattle.zcert.specs.Numbers.{width, number, HasRoom}
 use Rattle.zcert.specs.Numbers as numbers
-use Rattle.zcert.specs.Certificate.{Instruction, locals_of}
+use Rattle.zcert.specs.Certificate.{Instruction, locals_of, limit_or_usual}
 use Rattle.zcert.specs.Steps.{◌>>=◌, need, sized_at, number_at, serial_at}
-use Rattle.zcert.specs.Format.{interval_format, nonempty}
-use Rattle.zcert.specs.Spelling.{identity_bytes, range_bytes, counted, routine_bytes, instruction_bytes, heading, IsIdentity, IsRange, AreApart, InstructionsRise, IsRoutine, IsInstruction}
-use Rattle.zcert.specs.Reading.{magic_at, version_at, heading_at, identity_at, range_at, ranges_at, all_ranges_at, address_fits, values_at, routine_at, routines_at, all_routines_at, instruction_at, instructions_at, all_instructions_at, reading}
-use Rattle.zcert.specs.Building.{Progress, opening, before_globals, before_ranges, before_routines, before_instructions, instruction_of, with_routine, InTurn, taken, all_taken, Adds, IsDue}
+use Rattle.zcert.specs.Format.{IsAllowed, interval_format, nonempty, version_of}
+use Rattle.zcert.specs.Lists.{values_format}
+use Rattle.zcert.specs.Spelling.{identity_bytes, limit_bytes, range_bytes, counted, routine_bytes, instruction_bytes, heading, IsIdentity, IsLimit, IsRange, AreApart, InstructionsRise, IsRoutine, IsInstruction}
+use Rattle.zcert.specs.Reading.{magic_at, version_at, heading_at, identity_at, limit_at, range_at, ranges_at, all_ranges_at, address_fits, values_at, routine_at, routines_at, all_routines_at, instruction_at, instructions_at, all_instructions_at, reading}
+use Rattle.zcert.specs.Building.{Progress, opening, behind_identity, limit_before, before_globals, before_ranges, before_routines, before_instructions, instruction_of, with_routine, InTurn, taken, all_taken, Adds, IsDue}
 use Rattle.zcert.specs.Fields.{field_bytes, IsField, field_at, next_at, IsReached, LeadsToPart}
 use Rattle.zcert.specs.Keeping.{intervals_kept}
 use Rattle.zcert.specs.Contents.{values_of, stored_instruction, LiesIn}
@@ -167,8 +169,15 @@ stack_spelled : instruction_bytes interval_format stacked ≡ stacked_text
 unfolding stacked stacked_text
 stack_spelled = refl
 
-heading_spelled : heading interval_format ≡ 0x5A ∷ 0x50 ∷ 0x43 ∷ 0x43 ∷ 1 ∷ []
-heading_spelled = refl
+heading_spelled : (heading interval_format false ≡ 0x5A ∷ 0x50 ∷ 0x43 ∷ 0x43 ∷ 1 ∷ []) × (heading values_format true ≡ 0x5A ∷ 0x50 ∷ 0x43 ∷ 0x43 ∷ 3 ∷ [])
+heading_spelled = (refl, refl)
+
+-- a limit of frames is named in version 3 alone, whose sets may be lists, and is 1,024 where it isn't
+limits_named : (limit_bytes None ≡ []) × (limit_bytes (Some 0x1000) ≡ 0x10 ∷ 0 ∷ []) × (limit_or_usual None ≡ 1024) × (limit_or_usual (Some 3) ≡ 3) × (LIMIT_VERSION ≡ 3) × (MAX_FRAMES ≡ 4096) × (version_of values_format false ≡ 2) × (version_of values_format true ≡ 3)
+limits_named = (refl, refl, refl, refl, refl, refl, refl, refl)
+
+limits_allowed : IsAllowed values_format true × (IsAllowed interval_format true → ⊥) × IsLimit interval_format None × IsLimit values_format (Some 4096) × (IsLimit values_format (Some 4097) → ⊥) × (IsLimit interval_format (Some 3) → ⊥)
+limits_allowed = (refl, (λ e. absurd cc), tt, (refl, omega arith), (λ l. omega (arith, l.1)), λ l. absurd (let e = l.0 in cc))
 
 -- a range may end where it begins, and not before; another begins at least two above its end
 ordered : IsRange (record { first = 64; last = 64 }) × (IsRange (record { first = 65; last = 64 }) → ⊥)
@@ -231,14 +240,19 @@ magics : (magic_at (0x5A ∷ 0x50 ∷ 0x43 ∷ 0x43 ∷ 9 ∷ []) ≡ Ok (9 ∷ 
 unfolding magic_at
 magics = (refl, refl, refl)
 
-versions : (version_at 1 (1 ∷ 7 ∷ []) ≡ Ok (7 ∷ [])) × (version_at 1 (2 ∷ []) ≡ Err errors.Version) × (version_at 1 [] ≡ Err errors.Truncated)
+versions : (version_at interval_format (1 ∷ 7 ∷ []) ≡ Ok (false, 7 ∷ [])) × (version_at interval_format (2 ∷ []) ≡ Err errors.Version) × (version_at interval_format (3 ∷ []) ≡ Err errors.Version) × (version_at interval_format [] ≡ Err errors.Truncated)
 unfolding version_at
-versions = (refl, refl, refl)
+versions = (refl, refl, refl, refl)
 
 -- the magic is looked at before the version
-headings : (heading_at 1 (0x5A ∷ 0x50 ∷ 0x43 ∷ 0x43 ∷ 1 ∷ 8 ∷ []) ≡ Ok (8 ∷ [])) × (heading_at 1 (0x5A ∷ 0x50 ∷ 0x43 ∷ 0x44 ∷ 2 ∷ []) ≡ Err errors.Magic) × (heading_at 1 (0x5A ∷ 0x50 ∷ 0x43 ∷ 0x43 ∷ []) ≡ Err errors.Truncated)
+headings : (heading_at interval_format (0x5A ∷ 0x50 ∷ 0x43 ∷ 0x43 ∷ 1 ∷ 8 ∷ []) ≡ Ok (false, 8 ∷ [])) × (heading_at interval_format (0x5A ∷ 0x50 ∷ 0x43 ∷ 0x44 ∷ 2 ∷ []) ≡ Err errors.Magic) × (heading_at interval_format (0x5A ∷ 0x50 ∷ 0x43 ∷ 0x43 ∷ []) ≡ Err errors.Truncated)
 unfolding heading_at magic_at version_at
 headings = (refl, refl, refl)
+
+-- a limit of at most 4,096
+limits_read : (limit_at true (0x10 ∷ 0 ∷ 7 ∷ []) ≡ Ok (Some 4096, 7 ∷ [])) × (limit_at true (0x10 ∷ 1 ∷ 7 ∷ []) ≡ Err errors.Limit) × (limit_at true (0 ∷ 0 ∷ []) ≡ Ok (Some 0, [])) × (limit_at true (0x10 ∷ []) ≡ Err errors.Truncated) × (limit_at false (0x10 ∷ 1 ∷ []) ≡ Ok (None, 0x10 ∷ 1 ∷ []))
+unfolding limit_at
+limits_read = (refl, refl, refl, refl, refl)
 
 identities : (identity_at (identity_text ++ 5 ∷ []) ≡ Ok (identity, 5 ∷ [])) × (identity_at (0 ∷ 1 ∷ 2 ∷ []) ≡ Err errors.Truncated)
 unfolding identity_at identity identity_text
@@ -326,19 +340,19 @@ made_of_three : instruction_of (record { address = 4; routine = 1; locals = 1; h
 made_of_three = refl
 
 start : Progress Interval
-start = opening
+start = opening false
 
 at_turn : Turn → ℕ → Progress Interval
-at_turn turn floor = record opening { turn = turn; floor = floor }
+at_turn turn floor = record (opening false) { turn = turn; floor = floor }
 
 -- fields in their turn, and one out of it
-first_fields : (all_taken start (fields.Release 1 ∷ fields.Serial identity.serial ∷ fields.Checksum 0x3A7A ∷ fields.LoadedLength 0x32A ∷ fields.RangeCount 0 ∷ []) ≡ Ok (record { content = record { identity = identity; ranges = []; globals = []; routines = []; instructions = [] }; values = []; floor = 0; turn = turns.Global 239 })) × (taken start (fields.Checksum 1) ≡ Err errors.Order) × (all_taken start (fields.Release 1 ∷ fields.Release 1 ∷ []) ≡ Err errors.Order)
+first_fields : (all_taken start (fields.Release 1 ∷ fields.Serial identity.serial ∷ fields.Checksum 0x3A7A ∷ fields.LoadedLength 0x32A ∷ fields.RangeCount 0 ∷ []) ≡ Ok (record { content = record { identity = identity; limit = None; ranges = []; globals = []; routines = []; instructions = [] }; values = []; floor = 0; turn = turns.Global 239 })) × (taken start (fields.Checksum 1) ≡ Err errors.Order) × (all_taken start (fields.Release 1 ∷ fields.Release 1 ∷ []) ≡ Err errors.Order)
 unfolding start identity
 first_fields = (refl, refl, refl)
 
 -- nor is any other where none is to come
 abbrev complete : Progress Interval
-complete = record opening { turn = turns.Complete }
+complete = record (opening false) { turn = turns.Complete }
 
 out_of_turn :
     (taken complete (fields.Release 1) ≡ Err errors.Order) × (taken complete (fields.Serial []) ≡ Err errors.Order) × (taken complete (fields.Checksum 1) ≡ Err errors.Order) × (taken complete (fields.LoadedLength 1) ≡ Err errors.Order)
@@ -347,6 +361,14 @@ out_of_turn :
     × (taken complete (fields.InstructionCount 1) ≡ Err errors.Order) × (taken complete (fields.InstructionAddress 1) ≡ Err errors.Order) × (taken complete (fields.RoutineNumber 1) ≡ Err errors.Order) × (taken complete (fields.Height 1) ≡ Err errors.Order)
     × (taken complete (fields.Value (point 1)) ≡ Err errors.Order)
 out_of_turn = (refl, refl, refl, refl, refl, refl, refl, refl, refl, refl, refl, refl, refl, refl, refl, refl, refl)
+
+-- the limit comes behind the identity, where one is to be named
+limit_fields : (all_taken (opening {V = Interval} true) (fields.Release 1 ∷ fields.Serial [] ∷ fields.Checksum 2 ∷ fields.LoadedLength 3 ∷ fields.RangeCount 0 ∷ []) ≡ Err errors.Order) × (all_taken start (fields.Release 1 ∷ fields.Serial [] ∷ fields.Checksum 2 ∷ fields.LoadedLength 3 ∷ fields.FrameLimit 0 ∷ []) ≡ Err errors.Order) × (taken (at_turn turns.FrameLimit 0) (fields.FrameLimit 4097) ≡ Err errors.Limit) × (taken (at_turn turns.FrameLimit 0) (fields.FrameLimit 4096) ≡ Ok (record start { content = record start.content { limit = Some 4096 }; turn = turns.RangeCount }))
+unfolding at_turn start
+limit_fields = (refl, refl, refl, refl)
+
+limit_turns : (behind_identity None ≡ turns.RangeCount) × (behind_identity (Some 0) ≡ turns.FrameLimit) × (limit_before false ≡ None) × (is_some (limit_before true) ≡ true)
+limit_turns = (refl, refl, refl, refl)
 
 range_fields : (taken (at_turn (turns.RangeFirst 0) 68) (fields.RangeFirst 68) ≡ Ok (at_turn (turns.RangeLast 0 68) 68)) × (taken (at_turn (turns.RangeFirst 0) 68) (fields.RangeFirst 67) ≡ Err errors.Order) × (taken (at_turn (turns.RangeLast 0 68) 68) (fields.RangeLast 67) ≡ Err errors.Order)
 unfolding at_turn
@@ -432,12 +454,14 @@ next_fields = (refl, refl, refl)
 
 reached : IsReached interval_format start
 unfolding start
-reached = ([], tt, refl)
+reached = (false, tt, ([], tt, refl))
 
 -- the first global is the first part of a certificate without ranges; before it nothing wants memory
-first_part : LeadsToPart interval_format (heading interval_format ++ identity_text ++ 0 ∷ 0 ∷ 0 ∷ 0 ∷ 0 ∷ 7 ∷ 9 ∷ [])
+first_part : LeadsToPart interval_format (heading interval_format false ++ identity_text ++ 0 ∷ 0 ∷ 0 ∷ 0 ∷ 0 ∷ 7 ∷ 9 ∷ [])
 unfolding identity identity_text
 first_part = record {
+  limited = false;
+  allowed = tt;
   fields = fields.Release 1 ∷ fields.Serial (0x32 ∷ 0x36 ∷ 0x30 ∷ 0x31 ∷ 0x30 ∷ 0x31 ∷ []) ∷ fields.Checksum 0x3A7A ∷ fields.LoadedLength 0x32A ∷ fields.RangeCount 0 ∷ [];
   last = fields.Global (record { lo = pos 0; hi = pos 7; ordered = in_order (pos 0) (pos 7) refl });
   rest = 9 ∷ [];
@@ -445,7 +469,7 @@ first_part = record {
     omega arith,
     ((refl, (omega arith, (omega arith, (omega arith, (omega arith, (omega arith, (omega arith, tt))))))), (omega arith, (omega arith, (omega arith, ((omega arith, omega arith), tt))))),
   );
-  before = record { content = record { identity = identity; ranges = []; globals = []; routines = []; instructions = [] }; values = []; floor = 0; turn = turns.Global 239 };
+  before = record { content = record { identity = identity; limit = None; ranges = []; globals = []; routines = []; instructions = [] }; values = []; floor = 0; turn = turns.Global 239 };
   reached = refl;
   led = refl;
   adds = tt;
@@ -453,7 +477,11 @@ first_part = record {
 }
 
 no_part : LeadsToPart interval_format (0x5A ∷ 0x50 ∷ 0x43 ∷ 0x43 ∷ 2 ∷ []) → ⊥
-no_part l = absurd (let e = l.spelled in cc)
+no_part l = by l.limited l.allowed l.spelled
+  where
+    by : (limited : Bool) → IsAllowed interval_format limited → {rest : List ℕ} → 0x5A ∷ 0x50 ∷ 0x43 ∷ 0x43 ∷ 2 ∷ [] ≡ heading interval_format limited ++ rest → ⊥
+    by false may e = absurd cc
+    by true may e = absurd (let none = may in cc)
 
 -- ---- how it is kept
 
@@ -531,8 +559,8 @@ opens : IsOpen {A = ℕ} (Ok 3) × IsOpen {A = ℕ} (Err errors.Truncated) × (I
 opens = (tt, refl, λ e. absurd cc)
 
 -- the bytes before the first field are the heading
-leads_so_far : Leads interval_format stages.Magic opening (0x5A ∷ []) (0x5A ∷ []) × Leads interval_format stages.Version opening (0x5A ∷ 0x50 ∷ 0x43 ∷ 0x43 ∷ 7 ∷ []) (7 ∷ []) × Leads interval_format stages.Field opening (0x5A ∷ 0x50 ∷ 0x43 ∷ 0x43 ∷ 1 ∷ 9 ∷ []) (9 ∷ []) × (Leads interval_format stages.Version opening (0x5A ∷ 0x50 ∷ []) [] → ⊥)
-leads_so_far = ((refl, refl), (refl, refl), record { fields = []; each = tt; led = refl; spelled = refl }, λ led. omega (arith, ap length led.0))
+leads_so_far : Leads interval_format stages.Magic (opening false) (0x5A ∷ []) (0x5A ∷ []) × Leads interval_format stages.Version (opening false) (0x5A ∷ 0x50 ∷ 0x43 ∷ 0x43 ∷ 7 ∷ []) (7 ∷ []) × Leads interval_format stages.Field (opening false) (0x5A ∷ 0x50 ∷ 0x43 ∷ 0x43 ∷ 1 ∷ 9 ∷ []) (9 ∷ []) × (Leads interval_format stages.Version (opening false) (0x5A ∷ 0x50 ∷ []) [] → ⊥)
+leads_so_far = ((refl, refl), (refl, refl), record { limited = false; allowed = tt; fields = []; each = tt; led = refl; spelled = refl }, λ led. omega (arith, ap length led.0))
 
 -- a stream keeps what came of the magic, and all of it; what it refuses so, no more bytes mend
 streams : IsFed interval_format unfed [] × IsFed interval_format (record unfed { kept = 0x5A ∷ 0x50 ∷ [] }) (0x5A ∷ 0x50 ∷ []) × (IsFed interval_format unfed (0x5A ∷ []) → ⊥) × (IsFed interval_format (record unfed { kept = 0x5A ∷ 0x50 ∷ 0x43 ∷ 0x43 ∷ [] }) (0x5A ∷ 0x50 ∷ 0x43 ∷ 0x43 ∷ []) → ⊥) × (IsFed interval_format (record unfed { refused = Some errors.Truncated }) (0x5A ∷ []) → ⊥)
@@ -540,4 +568,4 @@ streams = (((refl, refl), omega arith), ((refl, refl), omega arith), (λ come. o
 
 stream_refusals : IsRefusal interval_format (0x5A ∷ 0x50 ∷ 0x43 ∷ 0x44 ∷ []) errors.Magic × IsUnread interval_format (0x5B ∷ []) errors.Truncated × (IsRefusal interval_format (0x5B ∷ []) errors.Truncated → ⊥)
 unfolding reading heading_at magic_at
-stream_refusals = (magic_refused interval_format opening (0x5A ∷ 0x50 ∷ 0x43 ∷ 0x44 ∷ []) (0x5A ∷ 0x50 ∷ 0x43 ∷ 0x44 ∷ []) errors.Magic (λ e. absurd cc) refl (refl, refl), refl, λ none. none)
+stream_refusals = (magic_refused interval_format (opening false) (0x5A ∷ 0x50 ∷ 0x43 ∷ 0x44 ∷ []) (0x5A ∷ 0x50 ∷ 0x43 ∷ 0x44 ∷ []) errors.Magic (λ e. absurd cc) refl (refl, refl), refl, λ none. none)

@@ -24,10 +24,10 @@ use Rattle.zcert.specs.Reading.{version_at, values_at}
 numbers_of_sets : (LIST_VERSION ≡ 2) × (width numbers.Kind ≡ 1) × (width numbers.WordCount ≡ 1) × (width numbers.Word ≡ 2) × (number numbers.Word 411 ≡ 1 ∷ 0x9B ∷ [])
 numbers_of_sets = (refl, refl, refl, refl, refl)
 
--- version 2 alone is read as that
-versions : (heading values_format ≡ 0x5A ∷ 0x50 ∷ 0x43 ∷ 0x43 ∷ 2 ∷ []) × (version_at values_format.version (2 ∷ 7 ∷ []) ≡ Ok (7 ∷ [])) × (version_at values_format.version (1 ∷ 7 ∷ []) ≡ Err errors.Version) × (version_at values_format.version (3 ∷ []) ≡ Err errors.Version)
+-- version 2 names no limit of frames, and version 3 one; no other is read
+versions : (heading values_format false ≡ 0x5A ∷ 0x50 ∷ 0x43 ∷ 0x43 ∷ 2 ∷ []) × (version_at values_format (2 ∷ 7 ∷ []) ≡ Ok (false, 7 ∷ [])) × (version_at values_format (1 ∷ 7 ∷ []) ≡ Err errors.Version) × (version_at values_format (3 ∷ []) ≡ Ok (true, [])) × (version_at values_format (4 ∷ []) ≡ Err errors.Version)
 unfolding version_at
-versions = (refl, refl, refl, refl)
+versions = (refl, refl, refl, refl, refl)
 
 -- ---- sets
 

@@ -1,5 +1,5 @@
 -- Taking the fields of a certificate one after another. A field out of turn is out of order.
-use Rattle.std.specs.Prelude.{◌≡◌, ℕ, zero, suc, ◌+◌, ◌<◌, List, [], ◌∷◌, ◌++◌, length, take, drop, Result, Ok, Err, nat_le, ⊤}
+use Rattle.std.specs.Prelude.{◌≡◌, ℕ, zero, suc, ◌+◌, ◌<◌, Bool, true, false, List, [], ◌∷◌, ◌++◌, length, take, drop, Option, None, Some, Result, Ok, Err, nat_le, ⊤}
 use Rattle.zstory.specs.declared.identity.Identity.{Identity}
 use Rattle.zcert.specs.declared.error.CertError.{CertError}
 use Rattle.zcert.specs.declared.error.CertError.TheVariants as errors
@@ -10,7 +10,7 @@ use Rattle.zcert.specs.declared.field.Turn.{Turn}
 use Rattle.zcert.specs.declared.field.Turn.TheVariants as turns
 use Rattle.zcert.specs.declared.parts.Range.{Range}
 use Rattle.zcert.specs.declared.parts.Routine.{Routine}
-use Rattle.zcert.specs.declared.limits.TheConstants.{GLOBALS, ADDRESS_LIMIT, MAX_LOCALS, MAX_INSTRUCTIONS, MAX_RANGES, MAX_ROUTINES, MAX_HEIGHT}
+use Rattle.zcert.specs.declared.limits.TheConstants.{GLOBALS, ADDRESS_LIMIT, MAX_LOCALS, MAX_INSTRUCTIONS, MAX_RANGES, MAX_ROUTINES, MAX_HEIGHT, MAX_FRAMES}
 use Rattle.zcert.specs.Certificate.{Instruction, Certificate, locals_of}
 use Rattle.zcert.specs.Steps.{◌>>=◌, need}
 use Rattle.zcert.specs.Reading.{address_fits}
@@ -46,22 +46,35 @@ before_instructions (suc more) = turns.InstructionAddress more
 abbrev pub instruction_of : {V : Type 0} → Header → List V → Instruction V
 instruction_of h values = record { address = h.address; routine = h.routine; locals = take h.locals values; slots = drop h.locals values }
 
+-- the turn behind the identity, where a limit is named and where none is
+abbrev pub behind_identity : Option ℕ → Turn
+behind_identity None = turns.RangeCount
+behind_identity (Some n) = turns.FrameLimit
+
 -- before the first field
 abbrev pub no_identity : Identity
 no_identity = record { release = 0; serial = 0 ∷ 0 ∷ 0 ∷ 0 ∷ 0 ∷ 0 ∷ []; checksum = 0; length = 0 }
 
-abbrev pub opening : {V : Type 0} → Progress V
-opening = record {
-  content = record { identity = no_identity; ranges = []; globals = []; routines = []; instructions = [] };
+-- a limit that is to be named, and none
+abbrev pub limit_before : Bool → Option ℕ
+limit_before false = None
+limit_before true = Some 0
+
+abbrev pub opening : {V : Type 0} → Bool → Progress V
+opening limited = record {
+  content = record { identity = no_identity; limit = limit_before limited; ranges = []; globals = []; routines = []; instructions = [] };
   values = [];
   floor = 0;
   turn = turns.Release;
 }
 
--- with a new identity, one more range, global, routine or instruction
+-- with a new identity, a limit, one more range, global, routine or instruction
 module _ {V : Type 0} (c : Certificate V) where
   abbrev pub with_identity : Identity → Certificate V
   with_identity i = record c { identity = i }
+
+  abbrev pub with_limit : ℕ → Certificate V
+  with_limit n = record c { limit = Some n }
 
   abbrev pub with_range : Range → Certificate V
   with_range r = record c { ranges = c.ranges ++ r ∷ [] }
@@ -90,8 +103,14 @@ module _ {V : Type 0} where
   after_checksum n _ p = Err errors.Order
 
   abbrev pub after_loaded_length : ℕ → Turn → Progress V → Result (Progress V) CertError
-  after_loaded_length n turns.LoadedLength p = Ok (record p { content = with_identity p.content (record p.content.identity { length = n }); turn = turns.RangeCount })
+  after_loaded_length n turns.LoadedLength p = Ok (record p { content = with_identity p.content (record p.content.identity { length = n }); turn = behind_identity p.content.limit })
   after_loaded_length n _ p = Err errors.Order
+
+  abbrev pub after_frame_limit : ℕ → Turn → Progress V → Result (Progress V) CertError
+  after_frame_limit n turns.FrameLimit p = do
+    _ ← need (nat_le n MAX_FRAMES) errors.Limit
+    Ok (record p { content = with_limit p.content n; turn = turns.RangeCount })
+  after_frame_limit n _ p = Err errors.Order
 
   abbrev pub after_range_count : ℕ → Turn → Progress V → Result (Progress V) CertError
   after_range_count n turns.RangeCount p = do
@@ -177,6 +196,7 @@ module _ {V : Type 0} where
   taken p (fields.Serial s) = after_serial s p.turn p
   taken p (fields.Checksum n) = after_checksum n p.turn p
   taken p (fields.LoadedLength n) = after_loaded_length n p.turn p
+  taken p (fields.FrameLimit n) = after_frame_limit n p.turn p
   taken p (fields.RangeCount n) = after_range_count n p.turn p
   taken p (fields.RangeFirst n) = after_range_first n p.turn p
   taken p (fields.RangeLast n) = after_range_last n p.turn p
@@ -204,6 +224,7 @@ InTurn turns.Release (fields.Release n) = ⊤
 InTurn turns.Serial (fields.Serial s) = ⊤
 InTurn turns.Checksum (fields.Checksum n) = ⊤
 InTurn turns.LoadedLength (fields.LoadedLength n) = ⊤
+InTurn turns.FrameLimit (fields.FrameLimit n) = ⊤
 InTurn turns.RangeCount (fields.RangeCount n) = ⊤
 InTurn (turns.RangeFirst more) (fields.RangeFirst n) = ⊤
 InTurn (turns.RangeLast more first) (fields.RangeLast n) = ⊤

@@ -3,6 +3,7 @@ use Rattle.std.specs.Prelude.{ℕ, zero, suc, List, Option, Some, None, slice_ge
 use Rattle.zstory.specs.declared.identity.Identity.{Identity}
 use Rattle.zcert.specs.declared.parts.Range.{Range}
 use Rattle.zcert.specs.declared.parts.Routine.{Routine}
+use Rattle.zcert.specs.declared.limits.TheConstants.{USUAL_FRAMES}
 
 -- what is said of a listed instruction: its routine, numbered from 1, with 0 for the main code, and the values that
 -- the locals and the slots of the stack, the bottom first, may have before it
@@ -15,6 +16,8 @@ pub record Instruction (V : Type 0) : Type 0 where
 pub record Certificate (V : Type 0) : Type 0 where
   -- the story that it speaks of
   pub identity : Identity
+  -- how many frames may stand above the first, where it names a limit
+  pub limit : Option ℕ
   -- the bytes that stay as they are
   pub ranges : List Range
   -- the values of each global, from variable 16 on
@@ -30,3 +33,12 @@ locals_there (Some r) = r.locals
 abbrev pub locals_of : {V : Type 0} → List (Routine V) → ℕ → ℕ
 locals_of routines zero = 0
 locals_of routines (suc r) = locals_there (slice_get routines r)
+
+-- a limit that is named, or the usual one
+abbrev pub limit_or_usual : Option ℕ → ℕ
+limit_or_usual None = USUAL_FRAMES
+limit_or_usual (Some n) = n
+
+-- how many frames may stand above the first in a play with the certificate
+abbrev pub frame_limit : {V : Type 0} → Certificate V → ℕ
+frame_limit c = limit_or_usual c.limit

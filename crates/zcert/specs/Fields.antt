@@ -1,5 +1,5 @@
 -- The fields of a certificate as bytes, each by itself, and what they make.
-use Rattle.std.specs.Prelude.{◌≡◌, ℕ, ◌<◌, List, [], ◌∷◌, ◌++◌, length, Result, Ok, Err, IsOk}
+use Rattle.std.specs.Prelude.{◌≡◌, ℕ, ◌<◌, Bool, List, [], ◌∷◌, ◌++◌, length, Result, Ok, Err, IsOk, is_some}
 use Rattle.std.specs.List.{flat_map, AllByRecursion}
 use Rattle.zcert.specs.declared.error.CertError.{CertError}
 use Rattle.zcert.specs.declared.error.CertError.TheVariants as errors
@@ -11,7 +11,7 @@ use Rattle.zcert.specs.Numbers.{number, HasRoom}
 use Rattle.zcert.specs.Numbers as numbers
 use Rattle.zcert.specs.Certificate.{Certificate}
 use Rattle.zcert.specs.Steps.{◌>>=◌, number_at, serial_at}
-use Rattle.zcert.specs.Format.{Format}
+use Rattle.zcert.specs.Format.{Format, IsAllowed}
 use Rattle.zcert.specs.Spelling.{heading}
 use Rattle.zcert.specs.Building.{Progress, opening, taken, all_taken, Adds}
 
@@ -21,6 +21,7 @@ module _ {V : Type 0} (format : Format V) where
   field_bytes (fields.Serial s) = s
   field_bytes (fields.Checksum n) = number numbers.Checksum n
   field_bytes (fields.LoadedLength n) = number numbers.LoadedLength n
+  field_bytes (fields.FrameLimit n) = number numbers.FrameLimit n
   field_bytes (fields.RangeCount n) = number numbers.RangeCount n
   field_bytes (fields.RangeFirst n) = number numbers.RangeFirst n
   field_bytes (fields.RangeLast n) = number numbers.RangeLast n
@@ -41,6 +42,7 @@ module _ {V : Type 0} (format : Format V) where
   IsField (fields.Serial s) = (length s ≡ 6) × AllByRecursion (λ b. b < 256) s
   IsField (fields.Checksum n) = HasRoom numbers.Checksum n
   IsField (fields.LoadedLength n) = HasRoom numbers.LoadedLength n
+  IsField (fields.FrameLimit n) = HasRoom numbers.FrameLimit n
   IsField (fields.RangeCount n) = HasRoom numbers.RangeCount n
   IsField (fields.RangeFirst n) = HasRoom numbers.RangeFirst n
   IsField (fields.RangeLast n) = HasRoom numbers.RangeLast n
@@ -65,6 +67,7 @@ module _ {V : Type 0} (format : Format V) where
   field_at turns.Serial bytes = as_field fields.Serial (serial_at bytes)
   field_at turns.Checksum bytes = as_field fields.Checksum (number_at numbers.Checksum bytes)
   field_at turns.LoadedLength bytes = as_field fields.LoadedLength (number_at numbers.LoadedLength bytes)
+  field_at turns.FrameLimit bytes = as_field fields.FrameLimit (number_at numbers.FrameLimit bytes)
   field_at turns.RangeCount bytes = as_field fields.RangeCount (number_at numbers.RangeCount bytes)
   field_at (turns.RangeFirst more) bytes = as_field fields.RangeFirst (number_at numbers.RangeFirst bytes)
   field_at (turns.RangeLast more first) bytes = as_field fields.RangeLast (number_at numbers.RangeLast bytes)
@@ -87,15 +90,16 @@ module _ {V : Type 0} (format : Format V) where
     q ← taken p f.0
     Ok (q, f.1)
 
-  -- some fields led here from before the first
+  -- some fields led here from before the first, which may be one of a limit
   abbrev pub IsReached : Progress V → Type 0
-  IsReached p = (fs : List (Field V)) × AllByRecursion IsField fs × (all_taken opening fs ≡ Ok p)
+  IsReached p = (limited : Bool) × IsAllowed format limited × ((fs : List (Field V)) × AllByRecursion IsField fs × (all_taken (opening limited) fs ≡ Ok p))
 
   -- these fields, from the first to the last, make the certificate
   pub record Makes (fs : List (Field V)) (c : Certificate V) : Type 0 where
     pub end : Progress V
+    pub allowed : IsAllowed format (is_some c.limit)
     pub each : AllByRecursion IsField fs
-    pub led : all_taken opening fs ≡ Ok end
+    pub led : all_taken (opening (is_some c.limit)) fs ≡ Ok end
     pub complete : end.turn ≡ turns.Complete
     pub content : end.content ≡ c
 
@@ -109,12 +113,14 @@ module _ {V : Type 0} (format : Format V) where
 
   -- the bytes begin with the heading and fields that can all be taken, of which the last adds a part
   pub record LeadsToPart (bytes : List ℕ) : Type 0 where
+    pub limited : Bool
+    pub allowed : IsAllowed format limited
     pub fields : List (Field V)
     pub last : Field V
     pub rest : List ℕ
     pub each : AllByRecursion IsField (fields ++ last ∷ [])
     pub before : Progress V
-    pub reached : all_taken opening fields ≡ Ok before
-    pub led : IsOk (all_taken opening (fields ++ last ∷ []))
+    pub reached : all_taken (opening limited) fields ≡ Ok before
+    pub led : IsOk (all_taken (opening limited) (fields ++ last ∷ []))
     pub adds : Adds before last
-    pub spelled : bytes ≡ heading format ++ (flat_map field_bytes (fields ++ last ∷ []) ++ rest)
+    pub spelled : bytes ≡ heading format limited ++ (flat_map field_bytes (fields ++ last ∷ []) ++ rest)

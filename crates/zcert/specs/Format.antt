@@ -1,23 +1,35 @@
 -- How a version of the format writes sets of words.
-use Rattle.std.specs.Prelude.{ℕ, List, ◌++◌, Option, Some, None, Result, Ok, Err, FitsSigned}
+use Rattle.std.specs.Prelude.{◌≡◌, ℕ, Bool, true, false, List, ◌++◌, Option, Some, None, Result, Ok, Err, FitsSigned, ⊤}
 use Rattle.std.specs.Int.{w16, cast_signed, cast_unsigned}
 use Rattle.zdomain.specs.declared.interval.Interval.{Interval}
 use Rattle.zdomain.specs.Interval.{interval_of}
 use Rattle.zcert.specs.declared.error.CertError.{CertError}
 use Rattle.zcert.specs.declared.error.CertError.TheVariants.{EmptyInterval}
-use Rattle.zcert.specs.declared.limits.TheConstants.{VERSION}
+use Rattle.zcert.specs.declared.limits.TheConstants.{VERSION, LIMIT_VERSION}
 use Rattle.zcert.specs.Numbers.{End, number}
 use Rattle.zcert.specs.Steps.{◌>>=◌, number_at}
 
 pub record Format (V : Type 0) : Type 1 where
   -- the version byte
   pub version : ℕ
+  -- whether certificates of such sets may name a limit of frames, and then are of a version of their own
+  pub limited : Bool
   -- the bytes of a set
   pub spelled : V → List ℕ
   -- the set at the front of the bytes
   pub value_at : List ℕ → Result (V × List ℕ) CertError
   -- the set has a spelling
   pub Has : V → Type 0
+
+-- the version byte of certificates that name a limit of frames, or none
+abbrev pub version_of : {V : Type 0} → Format V → Bool → ℕ
+version_of format false = format.version
+version_of format true = LIMIT_VERSION
+
+-- a limit may be named, if one is
+abbrev pub IsAllowed : {V : Type 0} → Format V → Bool → Type 0
+IsAllowed format false = ⊤
+IsAllowed format true = format.limited ≡ true
 
 -- the interval between two ends
 abbrev pub nonempty : Option Interval → Result Interval CertError
@@ -28,6 +40,7 @@ nonempty (Some i) = Ok i
 abbrev pub interval_format : Format Interval
 interval_format = record {
   version = VERSION;
+  limited = false;
   spelled = λ i. number End (cast_unsigned w16 i.lo) ++ number End (cast_unsigned w16 i.hi);
   value_at = λ bytes. do
     lo ← number_at End bytes

@@ -1,4 +1,4 @@
--- Version 2 of the format: a set is an interval or a list of words, and says first which of both (own).
+-- Versions 2 and 3 of the format: a set is an interval or a list of words, and says first which of both (own).
 use Rattle.std.specs.Prelude.{◌≡◌, ℕ, zero, suc, ◌+◌, Bool, true, false, ◌&&◌, List, [], ◌∷◌, ◌++◌, length, Result, Ok, Err, T, nat_le, refl}
 use Rattle.std.specs.List.{flat_map, AllByRecursion}
 use Rattle.std.proofs.Common.{sym, subst}
@@ -60,6 +60,7 @@ HasBytes (AList s) = AllByRecursion (HasRoom Word) s.few
 abbrev pub values_format : Format Values
 values_format = record {
   version = LIST_VERSION;
+  limited = true;
   spelled = set_bytes;
   value_at = λ bytes. do
     kind ← number_at Kind bytes

@@ -8,6 +8,7 @@ pub data Number : Type 0 where
   Release : Number
   Checksum : Number
   LoadedLength : Number
+  FrameLimit : Number
   RangeCount : Number
   RangeFirst : Number
   RangeLast : Number
@@ -34,6 +35,7 @@ width Version = 1
 width Release = 2
 width Checksum = 2
 width LoadedLength = 4
+width FrameLimit = 2
 width RangeCount = 2
 width RangeFirst = 2
 width RangeLast = 2

@@ -1,11 +1,11 @@
 -- Reading a certificate field by field, with the first wrong one. At a field the cut comes first, then the lowest number.
-use Rattle.std.specs.Prelude.{ℕ, zero, suc, ◌+◌, List, [], ◌∷◌, length, take, drop, Result, Ok, Err, nat_lt, nat_le, ◌==◌}
+use Rattle.std.specs.Prelude.{ℕ, zero, suc, ◌+◌, Bool, true, false, ◌&&◌, List, [], ◌∷◌, length, take, drop, Option, None, Some, Result, Ok, Err, nat_lt, nat_le, ◌==◌}
 use Rattle.zstory.specs.declared.identity.Identity.{Identity}
 use Rattle.zcert.specs.declared.error.CertError.{CertError}
 use Rattle.zcert.specs.declared.error.CertError.TheVariants as errors
 use Rattle.zcert.specs.declared.parts.Range.{Range}
 use Rattle.zcert.specs.declared.parts.Routine.{Routine}
-use Rattle.zcert.specs.declared.limits.TheConstants.{MAGIC, GLOBALS, ADDRESS_LIMIT, MAX_LOCALS, MAX_INSTRUCTIONS, MAX_RANGES, MAX_ROUTINES, MAX_HEIGHT}
+use Rattle.zcert.specs.declared.limits.TheConstants.{MAGIC, GLOBALS, ADDRESS_LIMIT, MAX_LOCALS, MAX_INSTRUCTIONS, MAX_RANGES, MAX_ROUTINES, MAX_HEIGHT, MAX_FRAMES, LIMIT_VERSION}
 use Rattle.zcert.specs.Numbers as numbers
 use Rattle.zcert.specs.Certificate.{Instruction, Certificate, locals_of}
 use Rattle.zcert.specs.Steps.{◌>>=◌, need, number_at, serial_at}
@@ -17,11 +17,18 @@ magic_at bytes = do
   _ ← need (magic.0 == MAGIC) errors.Magic
   Ok magic.1
 
-unfoldable pub version_at : ℕ → List ℕ → Result (List ℕ) CertError
-version_at version bytes = do
+-- whether a certificate names a limit whose version is the one that is plain, or the one for limits, or another
+abbrev pub limited_by : Bool → Bool → Result Bool CertError
+limited_by true limit = Ok false
+limited_by false true = Ok true
+limited_by false false = Err errors.Version
+
+-- the version of a certificate of such sets, by which a limit is named or isn't
+unfoldable pub version_at : {V : Type 0} → Format V → List ℕ → Result (Bool × List ℕ) CertError
+version_at format bytes = do
   found ← number_at numbers.Version bytes
-  _ ← need (found.0 == version) errors.Version
-  Ok found.1
+  limited ← limited_by (found.0 == format.version) (format.limited && (found.0 == LIMIT_VERSION))
+  Ok (limited, found.1)
 
 unfoldable pub identity_at : List ℕ → Result (Identity × List ℕ) CertError
 identity_at bytes = do
@@ -31,11 +38,19 @@ identity_at bytes = do
   loaded ← number_at numbers.LoadedLength checksum.1
   Ok (record { release = release.0; serial = serial.0; checksum = checksum.0; length = loaded.0 }, loaded.1)
 
--- what follows magic and version
-unfoldable pub heading_at : ℕ → List ℕ → Result (List ℕ) CertError
-heading_at version bytes = do
+-- magic and version
+unfoldable pub heading_at : {V : Type 0} → Format V → List ℕ → Result (Bool × List ℕ) CertError
+heading_at format bytes = do
   rest ← magic_at bytes
-  version_at version rest
+  version_at format rest
+
+-- the limit of frames, where one is named
+unfoldable pub limit_at : Bool → List ℕ → Result (Option ℕ × List ℕ) CertError
+limit_at false bytes = Ok (None, bytes)
+limit_at true bytes = do
+  limit ← number_at numbers.FrameLimit bytes
+  _ ← need (nat_le limit.0 MAX_FRAMES) errors.Limit
+  Ok (Some limit.0, limit.1)
 
 -- a range, whose first byte is to stand at `floor` or above
 unfoldable pub range_at : ℕ → List ℕ → Result (Range × List ℕ) CertError
@@ -127,13 +142,19 @@ module _ {V : Type 0} (format : Format V) where
   at_end c [] = Ok c
   at_end c (b ∷ bytes) = Err errors.Trailing
 
-  -- the certificate that all of the bytes spell, or the first wrong field
-  unfoldable pub reading : List ℕ → Result (Certificate V) CertError
-  reading bytes = do
-    rest ← heading_at format.version bytes
-    identity ← identity_at rest
-    ranges ← all_ranges_at identity.1
+  -- what follows magic and version
+  unfoldable pub fields_at : Bool → List ℕ → Result (Certificate V) CertError
+  fields_at limited bytes = do
+    identity ← identity_at bytes
+    limit ← limit_at limited identity.1
+    ranges ← all_ranges_at limit.1
     globals ← values_at GLOBALS ranges.1
     routines ← all_routines_at globals.1
     instructions ← all_instructions_at routines.0 routines.1
-    at_end (record { identity = identity.0; ranges = ranges.0; globals = globals.0; routines = routines.0; instructions = instructions.0 }) instructions.1
+    at_end (record { identity = identity.0; limit = limit.0; ranges = ranges.0; globals = globals.0; routines = routines.0; instructions = instructions.0 }) instructions.1
+
+  -- the certificate that all of the bytes spell, or the first wrong field
+  unfoldable pub reading : List ℕ → Result (Certificate V) CertError
+  reading bytes = do
+    heading ← heading_at format bytes
+    fields_at heading.0 heading.1

@@ -1,18 +1,23 @@
 -- The one spelling of a certificate, and which certificates have one.
-use Rattle.std.specs.Prelude.{◌≡◌, ℕ, ◌+◌, ◌<◌, ◌≤◌, List, [], ◌∷◌, ◌++◌, length, ⊤}
+use Rattle.std.specs.Prelude.{◌≡◌, ℕ, ◌+◌, ◌<◌, ◌≤◌, Bool, true, List, [], ◌∷◌, ◌++◌, length, Option, None, Some, is_some, ⊤}
 use Rattle.std.specs.List.{flat_map, AllByRecursion}
 use Rattle.zstory.specs.declared.identity.Identity.{Identity}
 use Rattle.zcert.specs.declared.parts.Range.{Range}
 use Rattle.zcert.specs.declared.parts.Routine.{Routine}
-use Rattle.zcert.specs.declared.limits.TheConstants.{MAGIC, GLOBALS, ADDRESS_LIMIT, MAX_LOCALS, MAX_INSTRUCTIONS, MAX_RANGES, MAX_ROUTINES, MAX_HEIGHT}
+use Rattle.zcert.specs.declared.limits.TheConstants.{MAGIC, GLOBALS, ADDRESS_LIMIT, MAX_LOCALS, MAX_INSTRUCTIONS, MAX_RANGES, MAX_ROUTINES, MAX_HEIGHT, MAX_FRAMES}
 use Rattle.zcert.specs.Numbers.{Number, number, HasRoom}
 use Rattle.zcert.specs.Numbers as numbers
 use Rattle.zcert.specs.Certificate.{Instruction, Certificate, locals_of}
-use Rattle.zcert.specs.Format.{Format}
+use Rattle.zcert.specs.Format.{Format, version_of, IsAllowed}
 
 abbrev pub identity_bytes : Identity → List ℕ
 identity_bytes i =
     number numbers.Release i.release ++ i.serial ++ number numbers.Checksum i.checksum ++ number numbers.LoadedLength i.length
+
+-- the limit of frames, where one is named
+abbrev pub limit_bytes : Option ℕ → List ℕ
+limit_bytes None = []
+limit_bytes (Some n) = number numbers.FrameLimit n
 
 abbrev pub range_bytes : Range → List ℕ
 range_bytes r = number numbers.RangeFirst r.first ++ number numbers.RangeLast r.last
@@ -32,15 +37,16 @@ module _ {V : Type 0} (format : Format V) where
   instruction_bytes i =
       number numbers.InstructionAddress i.address ++ number numbers.RoutineNumber i.routine ++ number numbers.Height (length i.slots) ++ values_bytes (i.locals ++ i.slots)
 
-  -- what stands before the fields
-  abbrev pub heading : List ℕ
-  heading = number numbers.Magic MAGIC ++ number numbers.Version format.version
+  -- what stands before the fields, one of which is a limit or isn't
+  abbrev pub heading : Bool → List ℕ
+  heading limited = number numbers.Magic MAGIC ++ number numbers.Version (version_of format limited)
 
   -- the bytes of a certificate, in the order of its fields
   abbrev pub spelling : Certificate V → List ℕ
   spelling c =
-      heading
+      heading (is_some c.limit)
       ++ identity_bytes c.identity
+      ++ limit_bytes c.limit
       ++ counted numbers.RangeCount range_bytes c.ranges
       ++ values_bytes c.globals
       ++ counted numbers.RoutineCount routine_bytes c.routines
@@ -86,9 +92,15 @@ module _ {V : Type 0} (format : Format V) where
     pub local_values : AllByRecursion format.Has i.locals
     pub slot_values : AllByRecursion format.Has i.slots
 
+  -- a limit is named where it may be, and isn't above its own limit
+  abbrev pub IsLimit : Option ℕ → Type 0
+  IsLimit None = ⊤
+  IsLimit (Some n) = (format.limited ≡ true) × (n ≤ MAX_FRAMES)
+
   -- what has a spelling
   pub record HasSpelling (c : Certificate V) : Type 0 where
     pub identity : IsIdentity c.identity
+    pub limit : IsLimit c.limit
     pub few_ranges : length c.ranges ≤ MAX_RANGES
     pub ranges : AllByRecursion IsRange c.ranges
     pub ranges_apart : AreApart 0 c.ranges

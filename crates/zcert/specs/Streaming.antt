@@ -1,5 +1,5 @@
 -- A certificate that comes in pieces: how far it has come, by the bytes that were fed so far.
-use Rattle.std.specs.Prelude.{◌≡◌, ◌⊎◌, ℕ, ◌<◌, List, [], ◌++◌, length, Option, None, Some, Result, Ok, Err, ⊤}
+use Rattle.std.specs.Prelude.{◌≡◌, ◌⊎◌, ℕ, ◌<◌, Bool, false, List, [], ◌++◌, length, Option, None, Some, Result, Ok, Err, ⊤}
 use Rattle.std.specs.List.{flat_map, AllByRecursion}
 use Rattle.zcert.specs.declared.error.CertError.{CertError}
 use Rattle.zcert.specs.declared.error.CertError.TheVariants as errors
@@ -11,7 +11,7 @@ use Rattle.zcert.specs.declared.stage.Stage.{Stage}
 use Rattle.zcert.specs.declared.stage.Stage.TheVariants as stages
 use Rattle.zcert.specs.Numbers.{number, width}
 use Rattle.zcert.specs.Numbers as numbers
-use Rattle.zcert.specs.Format.{Format}
+use Rattle.zcert.specs.Format.{Format, IsAllowed}
 use Rattle.zcert.specs.Spelling.{heading}
 use Rattle.zcert.specs.Reading.{reading}
 use Rattle.zcert.specs.Building.{Progress, opening, all_taken}
@@ -31,7 +31,7 @@ pub record Stream (V : Type 0) : Type 0 where
 
 -- before the first byte
 abbrev pub unfed : {V : Type 0} → Stream V
-unfed = record { stage = stages.Magic; progress = opening; kept = []; refused = None }
+unfed = record { stage = stages.Magic; progress = opening false; kept = []; refused = None }
 
 module _ {V : Type 0} (format : Format V) where
   -- the bytes of the field whose turn it is are cut off; where none comes, there are none
@@ -47,15 +47,17 @@ module _ {V : Type 0} (format : Format V) where
 
   -- the bytes are the heading, fields that could all be taken and led here, and the rest
   pub record FieldsLead (p : Progress V) (bytes rest : List ℕ) : Type 0 where
+    pub limited : Bool
+    pub allowed : IsAllowed format limited
     pub fields : List (Field V)
     pub each : AllByRecursion (IsField format) fields
-    pub led : all_taken opening fields ≡ Ok p
-    pub spelled : bytes ≡ heading format ++ (flat_map (field_bytes format) fields ++ rest)
+    pub led : all_taken (opening limited) fields ≡ Ok p
+    pub spelled : bytes ≡ heading format limited ++ (flat_map (field_bytes format) fields ++ rest)
 
   -- the bytes are what comes before this stage, and the rest
   abbrev pub Leads : Stage → Progress V → List ℕ → List ℕ → Type 0
-  Leads stages.Magic p bytes rest = (bytes ≡ rest) × (p ≡ opening)
-  Leads stages.Version p bytes rest = (bytes ≡ number numbers.Magic MAGIC ++ rest) × (p ≡ opening)
+  Leads stages.Magic p bytes rest = (bytes ≡ rest) × (p ≡ opening false)
+  Leads stages.Version p bytes rest = (bytes ≡ number numbers.Magic MAGIC ++ rest) × (p ≡ opening false)
   Leads stages.Field p bytes rest = FieldsLead p bytes rest
 
   -- what the next number of a field led to: the field is whole and is taken, or it is a set that isn't whole yet

@@ -41,6 +41,7 @@ module _ {P : Type 0} (sets : Turns P) where
   field_width turns.Serial p = 6
   field_width turns.Checksum p = width numbers.Checksum
   field_width turns.LoadedLength p = width numbers.LoadedLength
+  field_width turns.FrameLimit p = width numbers.FrameLimit
   field_width turns.RangeCount p = width numbers.RangeCount
   field_width (turns.RangeFirst more) p = width numbers.RangeFirst
   field_width (turns.RangeLast more first) p = width numbers.RangeLast

@@ -10,6 +10,7 @@ use Rattle.zcert.specs.Building.{Progress}
 abbrev pub content_of : {V P C R : Type 0} → Contents V P C R → Certificate V
 content_of c = record {
   identity = c.identity;
+  limit = c.limit;
   ranges = c.ranges.items;
   globals = c.globals.items;
   routines = c.routines.items;

@@ -1,7 +1,8 @@
 //! Making a certificate field by field.
 
-ghost use Rattle.std.specs.Prelude.{◌≡◌, ◌≢◌, ◌↔◌, IsTrue, OnOk, OnErr, IfOk, IfErr, Ok, Err};
+ghost use Rattle.std.specs.Prelude.{◌≡◌, ◌≢◌, ◌↔◌, false, true, IsTrue, OnOk, OnErr, IfOk, IfErr, Ok, Err};
 ghost use Rattle.zcert.specs.Building.{opening, taken, Adds};
+ghost use Rattle.zcert.specs.Format.{IsAllowed};
 ghost use Rattle.zcert.specs.View.{RefusesField};
 
 use crate::building::Building;
@@ -33,12 +34,34 @@ impl<V: Spelled> Model for CertBuilder<V> {
 }
 
 impl<V: Spelled> CertBuilder<V> {
-    /// A builder before the first field.
+    /// A builder before the first field of a certificate that names no limit of frames.
     pub fn new(alloc: Global) -> CertBuilder<V>
-        ensures { result ≡ opening }
+        ensures { result ≡ opening false }
     {
         CertBuilder {
             building: Building::new(alloc),
+        }
+    }
+
+    /// A builder before the first field of one that does, behind the loaded length.
+    pub fn limited(alloc: Global) -> CertBuilder<V>
+        requires { V.format.limited ≡ true }
+        ensures { result ≡ opening true }
+    {
+        let mut building = Building::new(alloc);
+        building.name_limit();
+        CertBuilder { building }
+    }
+
+    /// The one of these that a version has.
+    pub(crate) fn of_version(alloc: Global, limited: bool) -> CertBuilder<V>
+        requires { IsAllowed V.format limited }
+        ensures { result ≡ opening limited }
+    {
+        if limited {
+            CertBuilder::limited(alloc)
+        } else {
+            CertBuilder::new(alloc)
         }
     }
 

@@ -4,10 +4,12 @@ use crate::contents::Contents;
 use crate::error::CertError;
 use crate::field::{Field, Header, Turn};
 use crate::instructions::Instructions;
-use crate::limits::{ADDRESS_LIMIT, MAX_HEIGHT, MAX_INSTRUCTIONS, MAX_LOCALS};
+use crate::limits::{ADDRESS_LIMIT, MAX_FRAMES, MAX_HEIGHT, MAX_INSTRUCTIONS, MAX_LOCALS};
 use crate::parts::{Range, Routine};
 use crate::spelled::Spelled;
-use crate::turns::{before_globals, before_instructions, before_ranges, before_routines};
+use crate::turns::{
+    before_globals, before_instructions, before_ranges, before_routines, behind_identity,
+};
 use std::alloc::Global;
 use zstory::Identity;
 
@@ -22,16 +24,16 @@ pub struct Building<V: Spelled> {
 
 // Each takes one kind of field. Out of turn it is out of order; a field that is refused changes nothing.
 impl<V: Spelled> Building<V> {
-    ghost use Rattle.std.specs.Prelude.{◌≡◌, ◌≢◌, ◌+◌, ◌<◌, Err, length};
+    ghost use Rattle.std.specs.Prelude.{◌≡◌, ◌≢◌, ◌+◌, ◌<◌, Err, false, true, length};
     ghost use Rattle.zcert.specs.View.{progress_of, Takes};
     ghost use Rattle.zcert.specs.Reading.{address_fits};
     ghost use Rattle.zcert.specs.Certificate.{locals_of};
     ghost use Rattle.zcert.specs.Fields.{IsField};
-    ghost use Rattle.zcert.specs.Building.{opening, before_values, taken, Adds, HasNoValues, IsDue, after_release, after_serial, after_checksum, after_loaded_length, after_range_count, after_range_first, after_range_last, after_global, after_routine_count, after_routine_address, after_local_count, after_routine_result, after_instruction_count, after_instruction_address, after_routine_number, after_height, after_value};
+    ghost use Rattle.zcert.specs.Building.{opening, before_values, taken, Adds, HasNoValues, IsDue, after_release, after_serial, after_checksum, after_loaded_length, after_frame_limit, after_range_count, after_range_first, after_range_last, after_global, after_routine_count, after_routine_address, after_local_count, after_routine_result, after_instruction_count, after_instruction_address, after_routine_number, after_height, after_value};
 
-    /// Nothing yet.
+    /// Nothing yet, and no limit of frames.
     pub fn new(alloc: Global) -> Building<V>
-        ensures { progress_of result ≡ opening }
+        ensures { progress_of result ≡ opening false }
     {
         Building {
             contents: Contents {
@@ -41,6 +43,7 @@ impl<V: Spelled> Building<V> {
                     checksum: 0,
                     length: 0,
                 },
+                limit: None,
                 ranges: Vec::new(alloc),
                 globals: Vec::new(alloc),
                 routines: Vec::new(alloc),
@@ -49,6 +52,14 @@ impl<V: Spelled> Building<V> {
             floor: 0,
             turn: Turn::Release,
         }
+    }
+
+    /// Nothing yet, where a limit is to be named.
+    pub fn name_limit(&mut self)
+        requires { progress_of self.old ≡ opening false }
+        ensures { progress_of self.new ≡ opening true }
+    {
+        self.contents.limit = Some(0);
     }
 
     fn release(&mut self, release: u16) -> Result<(), CertError>
@@ -95,6 +106,21 @@ impl<V: Spelled> Building<V> {
             return Err(CertError::Order);
         };
         self.contents.identity.length = bytes;
+        self.turn = behind_identity(self.contents.limit);
+        Ok(())
+    }
+
+    fn frame_limit(&mut self, limit: u16) -> Result<(), CertError>
+        ensures takes { Takes (progress_of self.old) (progress_of self.new) result (after_frame_limit limit self.old.turn (progress_of self.old)) }
+        ensures plain { result ≢ Err CertError.OutOfMemory }
+    {
+        let Turn::FrameLimit = self.turn else {
+            return Err(CertError::Order);
+        };
+        if limit > MAX_FRAMES {
+            return Err(CertError::Limit);
+        }
+        self.contents.limit = Some(limit);
         self.turn = Turn::RangeCount;
         Ok(())
     }
@@ -366,6 +392,7 @@ impl<V: Spelled> Building<V> {
             Field::Serial(serial) => self.serial(serial),
             Field::Checksum(checksum) => self.checksum(checksum),
             Field::LoadedLength(bytes) => self.loaded_length(bytes),
+            Field::FrameLimit(limit) => self.frame_limit(limit),
             Field::RangeCount(count) => self.range_count(count),
             Field::RangeFirst(first) => self.range_first(first),
             Field::RangeLast(last) => self.range_last(last),

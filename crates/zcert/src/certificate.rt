@@ -1,13 +1,16 @@
 //! A certificate as it is used.
 
-ghost use Rattle.std.specs.Prelude.{◌≡◌, ◌<◌, length, slice_get, IfSome, Some};
+ghost use Rattle.std.specs.Prelude.{◌≡◌, ◌<◌, ◌≤◌, is_some, length, slice_get, true, IfSome, Some};
 ghost use Rattle.std.specs.Option.{option_map};
+ghost use Rattle.zcert.specs.Certificate.{frame_limit};
+ghost use Rattle.zcert.specs.Format.{version_of};
 ghost use Rattle.zcert.specs.Spelling.{HasSpelling};
 ghost use Rattle.zcert.specs.Listed.{Finds, listed_at, routine_at, seen};
 
 use crate::contents::Contents;
+use crate::limits::USUAL_FRAMES;
 use crate::parts::{Instruction, Range, Routine};
-use crate::spelled::Spelled;
+use crate::spelled::{Spelled, version_of};
 use std::marker::Model;
 use zdomain::Interval;
 use zstory::Identity;
@@ -55,6 +58,45 @@ impl<V: Spelled> Certificate<V> {
         ensures keeps { HasSpelling V.format self.now }
     {
         self.contents.identity
+    }
+
+    /// The version of the format in which it is written.
+    pub fn version(&self) -> u8
+        ensures value { result ≡ version_of V.format (is_some self.now.limit) }
+        ensures keeps { HasSpelling V.format self.now }
+    {
+        version_of::<V>(self.contents.limit)
+    }
+
+    /// The limit of frames that it names, if it names one.
+    pub fn limit(&self) -> Option<u16>
+        ensures value { result ≡ self.now.limit }
+        ensures keeps { HasSpelling V.format self.now }
+    {
+        self.contents.limit
+    }
+
+    /// How many frames may stand above the first in a play with it: as many as it names, or 1,024.
+    pub fn frame_limit(&self) -> u16
+        ensures value { result ≡ frame_limit self.now }
+        ensures most { result ≤ 4096 }
+        ensures keeps { HasSpelling V.format self.now }
+    {
+        match self.contents.limit {
+            Some(limit) => limit,
+            None => USUAL_FRAMES,
+        }
+    }
+
+    /// The certificate, in which this limit of frames is named.
+    pub fn with_limit(self, limit: u16) -> Certificate<V>
+        requires limited { V.format.limited ≡ true }
+        requires low { limit ≤ 4096 }
+        ensures { result ≡ record self { limit = Some limit } }
+    {
+        let mut contents = self.contents;
+        contents.limit = Some(limit);
+        Certificate::new(contents)
     }
 
     /// The ranges of bytes that it states to stay as they are, in their order.

@@ -9,6 +9,8 @@ use zstory::Identity;
 #[derive(Drop)]
 pub struct Contents<V: Spelled> {
     pub identity: Identity,
+    /// How many frames may stand above the first, where that is named.
+    pub limit: Option<u16>,
     pub ranges: Vec<Range>,
     pub globals: Vec<V>,
     pub routines: Vec<Routine<V>>,

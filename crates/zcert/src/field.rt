@@ -15,6 +15,8 @@ pub enum Field<V> {
     Checksum(u16),
     /// Its loaded length in bytes.
     LoadedLength(u32),
+    /// How many frames may stand above the first, where a limit is named.
+    FrameLimit(u16),
     /// How many frozen ranges follow.
     RangeCount(u16),
     /// The first byte of a range.
@@ -75,6 +77,7 @@ pub enum Turn {
     Serial,
     Checksum,
     LoadedLength,
+    FrameLimit,
     RangeCount,
     RangeFirst {
         more: u16,

@@ -57,6 +57,10 @@ impl Spelled for Interval {
         VERSION
     }
 
+    fn limited() -> bool {
+        false
+    }
+
     fn unbegun() -> Begun {
         Begun::Nothing
     }

@@ -30,7 +30,7 @@ pub use certificate::Certificate;
 pub use error::CertError;
 pub use field::{Field, Header, Turn};
 pub use laws::{builders_refuse_as_readers, fields_make_certificates, spellings_are_read};
-pub use limits::LIST_VERSION;
+pub use limits::{LIMIT_VERSION, LIST_VERSION, MAX_FRAMES};
 pub use parts::{Instruction, Range, Routine};
 pub use reading::read;
 pub use spelled::Spelled;

@@ -9,6 +9,9 @@ pub const VERSION: u8 = 1;
 /// The version of the format in which it is an interval or a list.
 pub const LIST_VERSION: u8 = 2;
 
+/// The version in which it is so too, and a limit of frames is named.
+pub const LIMIT_VERSION: u8 = 3;
+
 /// How many globals there are, from variable 16 on (Z 6.2).
 pub const GLOBALS: u8 = 240;
 
@@ -32,6 +35,15 @@ pub const MAX_HEIGHT: u8 = 64;
 
 /// The most sets of an instruction: those of its locals, and of its slots.
 pub const MAX_SETS: usize = 79;
+
+/// How many frames may stand above the first where a certificate names no limit.
+pub const USUAL_FRAMES: u16 = 1024;
+
+/// The greatest limit of frames that a certificate may name.
+pub const MAX_FRAMES: u16 = 4096;
+
+/// The bytes of a limit of frames.
+pub const LIMIT_BYTES: usize = 2;
 
 /// The bytes of magic, version and identity, and of the three counts.
 pub const FIXED_BYTES: usize = 27;

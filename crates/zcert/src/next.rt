@@ -1,6 +1,7 @@
 //! What comes next of a certificate's file, read from all of its bytes.
 
 ghost use Rattle.std.specs.Prelude.{◌≡◌, ◌≢◌, ◌++◌, [], length, IfOk, IfErr, IfSome, OnOk, Ok, Err, None};
+ghost use Rattle.zcert.specs.Format.{IsAllowed};
 ghost use Rattle.zcert.specs.Reading.{magic_at, version_at};
 ghost use Rattle.zcert.specs.Fields.{field_at, next_at, NextAdds};
 ghost use Rattle.zcert.specs.Turns.{IsOfSet, field_width};
@@ -10,7 +11,7 @@ ghost use Rattle.zcert.specs.View.{Gives, Refuses};
 use crate::builder::CertBuilder;
 use crate::error::CertError;
 use crate::field::{Field, Turn};
-use crate::limits::MAGIC;
+use crate::limits::{LIMIT_VERSION, MAGIC};
 use crate::spelled::Spelled;
 use crate::steps::{byte_of, long_of, serial_of, word_of};
 
@@ -26,16 +27,21 @@ pub(crate) fn magic_of(number: &[u8]) -> Result<(), CertError>
     Ok(())
 }
 
-// Whether it is the version.
+// Whether it is the version of certificates that name a limit of frames, or that of the others.
 #[tactic(auto, unfolding(crate::specs::Reading::version_at))]
-pub(crate) fn version_of<V: Spelled>(number: &[u8]) -> Result<(), CertError>
+pub(crate) fn version_of<V: Spelled>(number: &[u8]) -> Result<bool, CertError>
     requires { length number.now ≡ 1 }
-    ensures { Gives (λ u. []) result (version_at V.format.version number.now) }
+    ensures value { Gives (λ limited. (limited, [])) result (version_at V.format number.now) }
+    ensures allowed { IfOk result (IsAllowed V.format) }
 {
-    if byte_of(number) != V::version() {
-        return Err(CertError::Version);
+    let version = byte_of(number);
+    if version == V::version() {
+        return Ok(false);
     }
-    Ok(())
+    if V::limited() && version == LIMIT_VERSION {
+        return Ok(true);
+    }
+    Err(CertError::Version)
 }
 
 // The field whose turn it is, where that isn't a set: then all of it is one number, whatever has come of a set.
@@ -53,6 +59,7 @@ fn number_of<V: Spelled>(
         Turn::Serial => Ok(Field::Serial(serial_of(number))),
         Turn::Checksum => Ok(Field::Checksum(word_of(number))),
         Turn::LoadedLength => Ok(Field::LoadedLength(long_of(number))),
+        Turn::FrameLimit => Ok(Field::FrameLimit(word_of(number))),
         Turn::RangeCount => Ok(Field::RangeCount(word_of(number))),
         Turn::RangeFirst { .. } => Ok(Field::RangeFirst(word_of(number))),
         Turn::RangeLast { .. } => Ok(Field::RangeLast(word_of(number))),

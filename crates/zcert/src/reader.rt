@@ -1,6 +1,6 @@
 //! How far the file of a certificate has come.
 
-ghost use Rattle.std.specs.Prelude.{◌≡◌, ◌≢◌, ◌+◌, ◌<◌, ◌≤◌, ◌++◌, ℕ, List, [], IfOk, IfErr, IfSome, OnOk, Ok, None, length};
+ghost use Rattle.std.specs.Prelude.{◌≡◌, ◌≢◌, ◌+◌, ◌<◌, ◌≤◌, ◌++◌, ℕ, List, [], false, IfOk, IfErr, IfSome, OnOk, Ok, None, length};
 ghost use Rattle.zcert.specs.Building.{opening};
 ghost use Rattle.zcert.specs.Streaming.{Leads, IsRefusal};
 ghost use Rattle.zcert.specs.Turns.{IsAwaiting, IsPartOf, next_width, field_width};
@@ -21,20 +21,22 @@ use std::mem;
 /// The most bytes that are kept of a number.
 const KEPT: usize = 8;
 
-/// What comes next of a file, the fields before it, what has come of a set, and the bytes that came of its next number.
+/// What comes next of a file, the fields before it, what has come of a set, the bytes that came of its next number, and where memory
+/// is taken.
 #[derive(Drop)]
 pub struct Reader<V: Spelled> {
     pub stage: Stage,
     pub builder: CertBuilder<V>,
     pub partial: V::Partial,
     pub kept: ArrayVec<u8, KEPT>,
+    alloc: Global,
 }
 
 impl<V: Spelled> Reader<V> {
     /// Before the first byte.
     pub fn new(alloc: Global) -> Reader<V>
         ensures stage { result.stage ≡ stages.Magic }
-        ensures builder { result.builder ≡ opening }
+        ensures builder { result.builder ≡ opening false }
         ensures partial { V.turns.came result.partial ≡ [] }
         ensures kept { result.kept.items ≡ [] }
     {
@@ -43,6 +45,7 @@ impl<V: Spelled> Reader<V> {
             builder: CertBuilder::new(alloc),
             partial: V::unbegun(),
             kept: ArrayVec::new(),
+            alloc,
         }
     }
 
@@ -76,7 +79,7 @@ impl<V: Spelled> Reader<V> {
                 Ok(())
             }
             Stage::Version => {
-                version_of::<V>(number)?;
+                self.builder = CertBuilder::of_version(self.alloc, version_of::<V>(number)?);
                 self.stage = Stage::Field;
                 Ok(())
             }
@@ -190,6 +193,7 @@ fn width_of<V: Spelled>(turn: Turn, partial: &V::Partial) -> usize
         Turn::Serial => 6,
         Turn::Release
         | Turn::Checksum
+        | Turn::FrameLimit
         | Turn::RangeCount
         | Turn::RangeFirst { .. }
         | Turn::RangeLast { .. }

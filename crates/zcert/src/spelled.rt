@@ -1,16 +1,17 @@
 //! What a kind of sets has to offer, so that certificates can hold them.
 
-ghost use Rattle.std.specs.Prelude.{◌≡◌, ◌≢◌, ◌<◌, ◌≤◌, ◌++◌, [], length, IfErr, IfOk, IfSome, None, Ok, Err, OnOk, OnErr};
-ghost use Rattle.zcert.specs.Format.{Format};
+ghost use Rattle.std.specs.Prelude.{is_some, ◌≡◌, ◌≢◌, ◌<◌, ◌≤◌, ◌++◌, [], length, IfErr, IfOk, IfSome, None, Ok, Err, OnOk, OnErr};
+ghost use Rattle.zcert.specs.Format.{Format, version_of};
 ghost use Rattle.zcert.specs.FormatLaw.{IsFormat};
 ghost use Rattle.zcert.specs.Keeping.{Keeping, Holds, AreKept};
 ghost use Rattle.zcert.specs.Turns.{Turns, AreTurns};
 
 use crate::error::CertError;
+use crate::limits::LIMIT_VERSION;
 use std::alloc::AllocError;
 use zdomain::Domain;
 
-/// Sets of words that a version of the format can write.
+/// Sets of words that a version of the format can write, or two: one in which certificates name no limit of frames, and one in which they do.
 ///
 /// Contracts see the format alone, so that what is proved of certificates holds for each kind of sets. A set is read number by number:
 /// what has come of it is kept as a value of the kind's own, so that a reader keeps few bytes wherever a file is cut.
@@ -24,7 +25,7 @@ pub trait Spelled: Domain {
     /// Room for the sets of one instruction, where they have to be made of cells.
     type Room: Drop;
 
-    /// How the version writes sets.
+    /// How its versions write sets.
     ghost format: { Format Self };
 
     /// The bytes by which an unfinished set came, and how many its next number takes.
@@ -33,9 +34,13 @@ pub trait Spelled: Domain {
     /// The cells of a set, and the sets in cells.
     ghost keeping: { Keeping Self Self.Cell };
 
-    /// The version.
+    /// The version of certificates that name no limit of frames.
     fn version() -> u8
         ensures { result ≡ format.version };
+
+    /// Whether there is one for those that do.
+    fn limited() -> bool
+        ensures { result ≡ format.limited };
 
     /// A set of which nothing has come.
     fn unbegun() -> Self::Partial
@@ -99,4 +104,14 @@ pub trait Spelled: Domain {
 
     /// Sets are found as they were kept.
     ghost are_kept: { AreKept format keeping };
+}
+
+/// The version in which a certificate is written that names this limit of frames, or none.
+pub(crate) fn version_of<V: Spelled>(limit: Option<u16>) -> u8
+    ensures { result ≡ version_of V.format (is_some limit) }
+{
+    match limit {
+        Some(_) => LIMIT_VERSION,
+        None => V::version(),
+    }
 }

@@ -1,10 +1,19 @@
-//! Which field comes next, where so many parts are still to come.
+//! Which field comes next, where so many parts are still to come, and behind the identity.
 
 ghost use Rattle.std.specs.Prelude.{◌≡◌};
 ghost use Rattle.zcert.specs.Building as spec;
 
 use crate::field::Turn;
 use crate::limits::GLOBALS;
+
+pub fn behind_identity(limit: Option<u16>) -> Turn
+    ensures { result ≡ spec.behind_identity limit }
+{
+    match limit {
+        Some(_) => Turn::FrameLimit,
+        None => Turn::RangeCount,
+    }
+}
 
 pub fn before_ranges(count: u16) -> Turn
     ensures { result ≡ spec.before_ranges count }

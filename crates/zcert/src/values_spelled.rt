@@ -1,4 +1,4 @@
-//! Intervals and lists in the format's version 2.
+//! Intervals and lists in the format's versions 2 and 3.
 
 ghost use Rattle.std.specs.Prelude.{◌≡◌, ◌≢◌, ◌++◌, ◌+◌, ◌*◌, ◌≤◌, [], length, Err, IfOk, IfErr, OnOk};
 ghost use Rattle.std.specs.List.{flat_map, AllByRecursion};
@@ -125,6 +125,10 @@ impl Spelled for Values {
 
     fn version() -> u8 {
         LIST_VERSION
+    }
+
+    fn limited() -> bool {
+        true
     }
 
     fn unbegun() -> Unfinished {

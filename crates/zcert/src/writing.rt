@@ -1,24 +1,33 @@
 //! Writing a certificate.
 
-ghost use Rattle.std.specs.Prelude.{◌≡◌, ◌≤◌, ◌++◌, length, IfOk, OnOk};
+ghost use Rattle.std.specs.Prelude.{◌≡◌, ◌≤◌, ◌++◌, is_some, length, IfOk, OnOk};
 ghost use Rattle.zcert.specs.Numbers as numbers;
 ghost use Rattle.zcert.specs.Listed.{seen};
 ghost use Rattle.zcert.specs.View.{content_of};
-ghost use Rattle.zcert.specs.Spelling.{identity_bytes, range_bytes, values_bytes, routine_bytes, instruction_bytes, counted, heading, spelling, HasSpelling};
+ghost use Rattle.zcert.specs.Spelling.{identity_bytes, limit_bytes, range_bytes, values_bytes, routine_bytes, instruction_bytes, counted, heading, spelling, HasSpelling};
 
 use crate::certificate::Certificate;
 use crate::contents::Contents;
-use crate::limits::{FIXED_BYTES, HEADER_BYTES, MAGIC, RANGE_BYTES, ROUTINE_BYTES};
+use crate::limits::{FIXED_BYTES, HEADER_BYTES, LIMIT_BYTES, MAGIC, RANGE_BYTES, ROUTINE_BYTES};
 use crate::parts::{Instruction, Range, Routine};
-use crate::spelled::Spelled;
+use crate::spelled::{Spelled, version_of};
 use std::alloc::{AllocError, Global};
 use zstory::Identity;
 
-fn put_heading<V: Spelled>(out: &mut Vec<u8>) -> Result<(), AllocError>
-    ensures { OnOk result (out.new.items ≡ out.old.items ++ heading V.format) }
+fn put_heading<V: Spelled>(out: &mut Vec<u8>, limit: Option<u16>) -> Result<(), AllocError>
+    ensures { OnOk result (out.new.items ≡ out.old.items ++ heading V.format (is_some limit)) }
 {
     out.extend_from_slice(&MAGIC.to_be_bytes())?;
-    out.extend_from_slice(&[V::version()])
+    out.extend_from_slice(&[version_of::<V>(limit)])
+}
+
+fn put_limit(out: &mut Vec<u8>, limit: Option<u16>) -> Result<(), AllocError>
+    ensures { OnOk result (out.new.items ≡ out.old.items ++ limit_bytes limit) }
+{
+    match limit {
+        Some(limit) => out.extend_from_slice(&limit.to_be_bytes()),
+        None => Ok(()),
+    }
 }
 
 fn put_identity(out: &mut Vec<u8>, identity: &Identity) -> Result<(), AllocError>
@@ -124,6 +133,7 @@ fn room_of_routines<V: Spelled>(routines: &[Routine<V>]) -> usize {
 // How many bytes a certificate takes, so that they are taken at once.
 fn room_for<V: Spelled>(contents: &Contents<V>) -> usize {
     FIXED_BYTES
+        .saturating_add(LIMIT_BYTES)
         .saturating_add(contents.ranges.len().saturating_mul(RANGE_BYTES))
         .saturating_add(room_of(&contents.globals))
         .saturating_add(room_of_routines(&contents.routines))
@@ -131,13 +141,21 @@ fn room_for<V: Spelled>(contents: &Contents<V>) -> usize {
         .saturating_add(contents.instructions.bytes_of_sets())
 }
 
+// What stands before the ranges.
+fn put_front<V: Spelled>(out: &mut Vec<u8>, contents: &Contents<V>) -> Result<(), AllocError>
+    ensures { OnOk result (out.new.items ≡ out.old.items ++ (heading V.format (is_some contents.now.limit) ++ identity_bytes contents.now.identity ++ limit_bytes contents.now.limit)) }
+{
+    put_heading::<V>(out, contents.limit)?;
+    put_identity(out, &contents.identity)?;
+    put_limit(out, contents.limit)
+}
+
 // All that a certificate says, apart from the vector, which would be dropped where any of these is refused.
 fn put_all<V: Spelled>(out: &mut Vec<u8>, contents: &Contents<V>) -> Result<(), AllocError>
     requires { HasSpelling V.format (content_of contents.now) }
     ensures { OnOk result (out.new.items ≡ out.old.items ++ spelling V.format (content_of contents.now)) }
 {
-    put_heading::<V>(out)?;
-    put_identity(out, &contents.identity)?;
+    put_front(out, contents)?;
     put_ranges(out, &contents.ranges)?;
     put_values(out, &contents.globals)?;
     put_routines(out, &contents.routines)?;

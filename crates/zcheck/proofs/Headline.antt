@@ -11,7 +11,7 @@ use Rattle.zcert.specs.Certificate.{Instruction, Certificate}
 use Rattle.zcert.specs.Listed.{listed_at}
 use Rattle.zcert.specs.Format.{Format}
 use Rattle.zcert.specs.Spelling.{HasSpelling}
-use Rattle.zstate.specs.State.{Scope, opening, scope_all, scope_only, usual_limit}
+use Rattle.zstate.specs.State.{Scope, opening, scope_all, scope_only}
 use Rattle.zstate.specs.Run.{Input, run}
 use Rattle.zrule.specs.Claims.{Entry, claims_of, frozen_in}
 use Rattle.zrule.specs.Rules.{Supports}
@@ -75,13 +75,13 @@ module _ {V : Type 0} (o : SetOperations V) (lawful : AreSound o) (format : Form
   }
 
   module _ (loaded : IsLoadedStory story) (passes : Passes o story c) (scope : Scope) (listed : IsListedIn o (claims_of o c) scope) where
-    runs : (inputs : List Input) (n : ℕ) → AreFine o (claims_of o c) (playing_in story scope) inputs → IsNoFault (run (playing_in story scope) inputs n (opening story)).stop × Described o (claims_of o c) usual_limit story (run (playing_in story scope) inputs n (opening story)).state
-    runs inputs n fine =
+    runs : (limit : ℕ) (inputs : List Input) (n : ℕ) → AreFine o (claims_of o c) (playing_in story limit scope) inputs → IsNoFault (run (playing_in story limit scope) inputs n (opening story)).stop × Described o (claims_of o c) limit story (run (playing_in story limit scope) inputs n (opening story)).state
+    runs limit inputs n fine =
         let supports = supports_where passes in
-        run_safe o lawful (claims_of o c) (playing_in story scope) loaded supports listed inputs n (opening story) fine (opening_described o (claims_of o c) story usual_limit loaded supports)
+        run_safe o lawful (claims_of o c) (playing_in story limit scope) loaded supports listed inputs n (opening story) fine (opening_described o (claims_of o c) story limit loaded supports)
 
     safe_in : RunsWithoutFault o (claims_of o c) story scope
-    safe_in inputs n fine = (runs inputs n fine).0
+    safe_in limit inputs n fine = (runs limit inputs n fine).0
 
     -- what is frozen is fixed
     fixed_where : (p : ℕ) → IsFixed story (frozen_in (claims_of o c)) p ⊎ ((frozen_in (claims_of o c)) p ≡ true) → IsFixed story (frozen_in (claims_of o c)) p
@@ -89,7 +89,7 @@ module _ {V : Type 0} (o : SetOperations V) (lawful : AreSound o) (format : Form
     fixed_where p (inr is) = record { closed = frozen is; unchanging = (passes.story_rules rules.Tables).unchanging p is }
 
     same_in : RunsWithoutChange o (claims_of o c) story scope
-    same_in inputs n p fine stays = (runs inputs n fine).1.memory.fixed p (fixed_where p stays)
+    same_in limit inputs n p fine stays = (runs limit inputs n fine).1.memory.fixed p (fixed_where p stays)
 
   pub never_faults : (listing : ListedCode) → IsLoadedStory story → Passes o story c → IsListingOf story c listing → RunsWithoutFault o (claims_of o c) story (scope_only listing) × RunsWithoutFault o (claims_of o c) story (scope_all story)
   never_faults listing loaded passes lists =
@@ -100,6 +100,6 @@ module _ {V : Type 0} (o : SetOperations V) (lawful : AreSound o) (format : Form
       (same_in loaded passes (scope_only listing) (lists_where listing lists), same_in loaded passes (scope_all story) (all_listed o (claims_of o c) story (supports_where passes)))
 
   pub plays_alike : (listing : ListedCode) → IsLoadedStory story → Passes o story c → IsListingOf story c listing → RunsAlike o (claims_of o c) story (scope_only listing) (scope_all story)
-  plays_alike listing loaded passes lists inputs n fine fine_everywhere =
+  plays_alike listing loaded passes lists limit inputs n fine fine_everywhere =
       let supports = supports_where passes in
-      run_alike o lawful (claims_of o c) (playing_in story (scope_only listing)) (scope_all story) loaded supports (lists_where listing lists) (all_listed o (claims_of o c) story supports) inputs n (opening story) fine fine_everywhere (opening_described o (claims_of o c) story usual_limit loaded supports)
+      run_alike o lawful (claims_of o c) (playing_in story limit (scope_only listing)) (scope_all story) loaded supports (lists_where listing lists) (all_listed o (claims_of o c) story supports) inputs n (opening story) fine fine_everywhere (opening_described o (claims_of o c) story limit loaded supports)

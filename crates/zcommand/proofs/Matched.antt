@@ -1,5 +1,5 @@
 -- What is read of the matches of a command.
-use Rattle.std.proofs.Common.{◌≡◌, ◌∙◌, ◌&&◌, ℕ, Bool, true, false, refl, sym, ap, List, [], ◌∷◌, length, Option, Some, None, Result, Ok, Err, lt-ltb, ltb-true, nat_lt, ◌^◌}
+use Rattle.std.proofs.Common.{◌≡◌, ◌∙◌, ◌&&◌, ◌≤◌, ℕ, Bool, true, false, refl, sym, ap, subst, List, [], ◌∷◌, length, IfSome, IsSomeAnd, Option, Some, None, Result, Ok, Err, lt-ltb, ltb-true, leb-true, nat_le, nat_lt, ◌<◌, ◌^◌, arith, if◌then◌else◌, option_and_then}
 use Rattle.std.specs.Prelude.{Box, codes, option_map, unwrap_or}
 use Rattle.std.specs.Box.{box_value}
 use Rattle.std.specs.Option.{option_map_or}
@@ -13,11 +13,13 @@ use Rattle.std.specs.Str.{bytes_eq}
 use Rattle.std.specs.Str.Parse.{AllDigits, ParsesBool, ParsesUnsigned, digits_value, without_leading_plus}
 use Rattle.std.proofs.lemmas.Slice.Eq.{bytes_eq-Decides}
 use Rattle.clap.proofs.WalkLemmas.{both, first_value-rows, one_text-rows}
-use Rattle.clap.specs.Words.{ReadsOne, Row, Text, first_of, first_value, one_text, rows_of, subcommand_name_of, subcommand_rows_of}
+use Rattle.clap.specs.Words.{ReadsOne, Row, Text, first_of, first_value, one_of, one_text, rows_of, subcommand_name_of, subcommand_rows_of}
 use Rattle.clap.specs.declared.parser.matches.ArgMatches.{ArgMatches}
 use Rattle.clap.specs.declared.parser.matches.ArgMatches.TheViews.{out-ArgMatches, out-SubCommand}
 use Rattle.clap.specs.Simple.{subcommand_rows}
-use Rattle.zcommand.specs.CommandLine.{address_of, certificate_of, code_of, is_asked, number_in, number_of, save_of, story_of}
+use Rattle.zcommand.specs.CommandLine.{IsLow, IsReadFrom, address_of, certificate_of, code_of, frames_of, is_asked, limit_in, low_limit, number_in, number_of, save_of, story_of}
+use Rattle.zcommand.specs.declared.words.Command.{Command}
+use Rattle.zcommand.specs.declared.words.Command.TheVariants as commands
 
 digits_pass : (ds : List ℕ) → AllDigits 10 ds → list_all (λ d. nat_lt (digit_value d) 10) ds ≡ true
 digits_pass [] h = refl
@@ -99,6 +101,76 @@ number_given {E} bits name G found o r none given parses is =
         → unwrap_or o 0 ≡ option_map_or (number_in bits) x 0
     go None e o none given = ap (λ (y : Option ℕ). unwrap_or y 0) (none e)
     go (Some t) e o none given = read t o (given t e)
+
+abbrev is_limit : List ℕ → Bool
+is_limit ds = nat_lt 0 (length ds) && list_all (λ d. nat_lt (digit_value d) 10) ds && nat_le (digits_value 10 ds) 4096
+
+-- what parsing a text makes of it is the limit in it, unless it is above the greatest
+limit_read : {E : Type 0} (text : Text) (r : Result ℕ E) → ParsesUnsigned 16 10 text r → (n : ℕ) → r ≡ Ok n → low_limit n ≡ limit_in text
+limit_read text (Ok m) h n e =
+    let ds = without_leading_plus text in
+    let value : low_limit (digits_value 10 ds) ≡ limit_in text = rw (lt-ltb 0 (length ds) h.0.0.0, digits_pass ds h.0.0.1) refl in
+    let said : m ≡ digits_value 10 ds = h.1 in
+    let same : n ≡ digits_value 10 ds = cc in
+    ap low_limit same ∙ value
+limit_read text (Err x) h n e = cc
+
+no_limit : {E : Type 0} (text : Text) (e : E) → ParsesUnsigned 16 10 text (Err e) → None ≡ limit_in text
+no_limit text e h = go (is_limit (without_leading_plus text)) refl
+  where
+    go : (b : Bool) → is_limit (without_leading_plus text) ≡ b → None ≡ limit_in text
+    go false t = rw t refl
+    go true t =
+        let outer = both _ _ t in
+        let inner = both _ _ outer.0 in
+        let most : digits_value 10 (without_leading_plus text) ≤ 4096 = leb-true _ _ outer.1 in
+        let few : digits_value 10 (without_leading_plus text) < 65536 = omega arith in
+        absurd (h ((ltb-true _ _ inner.0, digits_from (without_leading_plus text) inner.1), few))
+
+-- what the getter of limits gives, unless it is above the greatest
+pub limit_given : {E : Type 0} (G : List ℕ → Result ℕ E → Type 0) (found : Found) (o r : Option ℕ)
+    → (one_text found (codes "frames") ≡ None → o ≡ None) → ((t : Text) → one_text found (codes "frames") ≡ Some t → ReadsOne G t o)
+    → ((t : Text) (x : Result ℕ E) → G t x → ParsesUnsigned 16 10 t x)
+    → r ≡ option_and_then low_limit o → r ≡ frames_of (rows_of found)
+limit_given {E} G found o r none given parses is =
+    is ∙ go (one_text found (codes "frames")) refl o none given ∙ ap (λ (x : Option Text). option_map_or limit_in x None) (one_text-rows found (codes "frames"))
+  where
+    read : (t : Text) (o : Option ℕ) → ReadsOne G t o → option_and_then low_limit o ≡ limit_in t
+    read t (Some n) h = limit_read {E = E} t (Ok n) (parses t (Ok n) h) n refl
+    read t None h = no_limit t h.0 (parses t (Err h.0) h.1)
+
+    go : (x : Option Text) → one_text found (codes "frames") ≡ x → (o : Option ℕ)
+        → (one_text found (codes "frames") ≡ None → o ≡ None) → ((t : Text) → one_text found (codes "frames") ≡ Some t → ReadsOne G t o)
+        → option_and_then low_limit o ≡ option_map_or limit_in x None
+    go None e o none given = ap (λ (y : Option ℕ). option_and_then low_limit y) (none e)
+    go (Some t) e o none given = read t o (given t e)
+
+limit_is_low : (text : Text) → IfSome (limit_in text) (λ n. n ≤ 4096)
+limit_is_low text = go (is_limit (without_leading_plus text)) refl
+  where
+    go : (b : Bool) → is_limit (without_leading_plus text) ≡ b → IfSome (if b then Some (digits_value 10 (without_leading_plus text)) else None) (λ n. n ≤ 4096)
+    go true t = leb-true _ _ (both _ _ t).1
+    go false t = tt
+
+frames_are_low : (rows : List Row) → IfSome (frames_of rows) (λ n. n ≤ 4096)
+frames_are_low rows = go (one_of (codes "frames") rows)
+  where
+    go : (x : Option Text) → IfSome (option_map_or limit_in x None) (λ n. n ≤ 4096)
+    go None = tt
+    go (Some t) = limit_is_low t
+
+-- what is read of matches asks for no limit above the greatest
+low_among : (matches : Text × List Row) (command : Command) → IsReadFrom matches command → IsLow command
+low_among matches (commands.List story certificate) h = tt
+low_among matches (commands.Find story certificate frames force) (named, s, c, is, f) = subst (λ (o : Option ℕ). IfSome o (λ n. n ≤ 4096)) (sym is) (frames_are_low matches.1)
+low_among matches (commands.Check story certificate) h = tt
+low_among matches (commands.Show story certificate address) h = tt
+low_among matches (commands.Play story certificate seed budget status save tell force) h = tt
+low_among matches (commands.Explain code) h = tt
+
+pub low_if_read : (found : Option (Text × List Row)) (command : Command) → IsSomeAnd found (λ matches. IsReadFrom matches command) → IsLow command
+low_if_read (Some matches) command h = low_among matches command h
+low_if_read None command h = absurd h
 
 -- what the getter of flags gives, or else false
 pub flag_read : (name : Text) (E : Type 0) (found : Found) (o : Option Bool) (r : Bool)

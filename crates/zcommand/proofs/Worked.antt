@@ -27,12 +27,13 @@ asked :
     × Ask (codes "check" ∷ codes "hello.z3" ∷ codes "hello.cert" ∷ []) (Check (codes "hello.z3") (codes "hello.cert"))
     × Ask (codes "show" ∷ codes "hello.z3" ∷ codes "hello.cert" ∷ []) (Show (codes "hello.z3") (codes "hello.cert") None)
     × Ask (codes "show" ∷ codes "hello.z3" ∷ codes "hello.cert" ∷ codes "00325" ∷ []) (Show (codes "hello.z3") (codes "hello.cert") (Some (codes "00325")))
-    × Ask (codes "find" ∷ codes "hello.z3" ∷ codes "hello.cert" ∷ []) (Find (codes "hello.z3") (codes "hello.cert") false)
-    × Ask (codes "find" ∷ codes "hello.z3" ∷ codes "hello.cert" ∷ codes "--force" ∷ []) (Find (codes "hello.z3") (codes "hello.cert") true)
+    × Ask (codes "find" ∷ codes "hello.z3" ∷ codes "hello.cert" ∷ []) (Find (codes "hello.z3") (codes "hello.cert") None false)
+    × Ask (codes "find" ∷ codes "hello.z3" ∷ codes "hello.cert" ∷ codes "--force" ∷ []) (Find (codes "hello.z3") (codes "hello.cert") None true)
+    × Ask (codes "find" ∷ codes "--frames" ∷ codes "4096" ∷ codes "hello.z3" ∷ codes "hello.cert" ∷ []) (Find (codes "hello.z3") (codes "hello.cert") (Some 4096) false)
     × Ask (codes "explain" ∷ codes "I5" ∷ []) (Explain (codes "I5"))
 unfolding defaults_fault walk_fault walked
 asked =
-    ((refl, (refl, refl, refl)), (refl, (refl, refl, refl)), (refl, (refl, refl, refl, refl, refl, refl, refl, refl, refl)), (refl, (refl, refl, refl, refl, refl, refl, refl, refl, refl)), (refl, (refl, refl, refl, refl, refl, refl, refl, refl, refl)), (refl, (refl, refl, refl, refl, refl, refl, refl, refl, refl)), (refl, (refl, refl, refl)), (refl, (refl, refl, refl, refl)), (refl, (refl, refl, refl, refl)), (refl, (refl, refl, refl, refl)), (refl, (refl, refl, refl, refl)), (refl, (refl, refl)))
+    ((refl, (refl, refl, refl)), (refl, (refl, refl, refl)), (refl, (refl, refl, refl, refl, refl, refl, refl, refl, refl)), (refl, (refl, refl, refl, refl, refl, refl, refl, refl, refl)), (refl, (refl, refl, refl, refl, refl, refl, refl, refl, refl)), (refl, (refl, refl, refl, refl, refl, refl, refl, refl, refl)), (refl, (refl, refl, refl)), (refl, (refl, refl, refl, refl)), (refl, (refl, refl, refl, refl)), (refl, (refl, refl, refl, refl, refl)), (refl, (refl, refl, refl, refl, refl)), (refl, (refl, refl, refl, refl, refl)), (refl, (refl, refl)))
 
 -- a command lacks a file or has too many, or there is none of the name, or none at all, or the budget is 2 to the 32nd or the
 -- seed 2 to the 64th, or the flag has a value, or the option has none or an empty one
@@ -44,6 +45,7 @@ wrong :
     (is_wrong (fault_of zpc_app (codes "check" ∷ codes "hello.z3" ∷ [])) ≡ true) × (is_wrong (fault_of zpc_app (codes "sing" ∷ [])) ≡ true)
     × (is_wrong (fault_of zpc_app (codes "list" ∷ [])) ≡ true) × (is_wrong (fault_of zpc_app (codes "list" ∷ codes "a" ∷ codes "b" ∷ codes "c" ∷ [])) ≡ true)
     × (is_wrong (fault_of zpc_app (codes "find" ∷ codes "hello.z3" ∷ [])) ≡ true) × (is_wrong (fault_of zpc_app (codes "find" ∷ codes "a" ∷ codes "b" ∷ codes "c" ∷ [])) ≡ true)
+    × (is_wrong (fault_of zpc_app (codes "find" ∷ codes "--frames" ∷ codes "4097" ∷ codes "a" ∷ codes "b" ∷ [])) ≡ true) × (is_wrong (fault_of zpc_app (codes "find" ∷ codes "a" ∷ codes "b" ∷ codes "--frames" ∷ [])) ≡ true)
     × (is_wrong (fault_of zpc_app (codes "show" ∷ codes "hello.z3" ∷ [])) ≡ true) × (is_wrong (fault_of zpc_app (codes "show" ∷ codes "a" ∷ codes "b" ∷ codes "c" ∷ codes "d" ∷ [])) ≡ true)
     × (is_wrong (fault_of zpc_app (codes "explain" ∷ [])) ≡ true) × (is_wrong (fault_of zpc_app (codes "explain" ∷ codes "I5" ∷ codes "I6" ∷ [])) ≡ true)
     × (is_wrong (fault_of zpc_app []) ≡ true) × (is_wrong (fault_of zpc_app (codes "play" ∷ codes "hello.z3" ∷ codes "--budget" ∷ codes "4294967296" ∷ [])) ≡ true)
@@ -52,4 +54,4 @@ wrong :
     × (is_wrong (fault_of zpc_app (codes "play" ∷ codes "hello.z3" ∷ codes "--save" ∷ [] ∷ [])) ≡ true) × (is_wrong (fault_of zpc_app (codes "play" ∷ codes "hello.z3" ∷ codes "--save=" ∷ [])) ≡ true)
     × (is_wrong (fault_of zpc_app (codes "play" ∷ codes "hello.z3" ∷ codes "--seed" ∷ codes "18446744073709551616" ∷ [])) ≡ true)
 unfolding is_wrong defaults_fault walk_fault walked
-wrong = (refl, refl, refl, refl, refl, refl, refl, refl, refl, refl, refl, refl, refl, refl, refl, refl, refl, refl)
+wrong = (refl, refl, refl, refl, refl, refl, refl, refl, refl, refl, refl, refl, refl, refl, refl, refl, refl, refl, refl, refl)

@@ -1,6 +1,6 @@
 -- The command line: which words the program takes, in the terms of clap's definitions, and what the matches that clap
 -- makes of them ask for (own).
-use Rattle.std.specs.Prelude.{◌≡◌, ◌⊎◌, ℕ, ◌^◌, ◌&&◌, Bool, true, false, List, [], ◌∷◌, Option, Some, option_map, length, codes, if◌then◌else◌, nat_lt, pos, unwrap_or}
+use Rattle.std.specs.Prelude.{◌≡◌, ◌⊎◌, ◌≤◌, ⊤, ℕ, ◌^◌, ◌&&◌, Bool, true, false, List, [], ◌∷◌, IfSome, Option, None, Some, nat_le, option_map, length, codes, if◌then◌else◌, nat_lt, pos, unwrap_or}
 use Rattle.std.specs.List.{list_all}
 use Rattle.std.specs.Option.{option_map_or}
 use Rattle.std.specs.Char.{digit_value}
@@ -38,6 +38,10 @@ budget_rule = record (new_rule (codes "budget")) {
   parser = Some (parsers.Signed (pos 0) (pos 4294967295));
 }
 
+-- `--frames N`, where N is at most the greatest limit of frames
+abbrev pub frames_rule : Rule
+frames_rule = record (new_rule (codes "frames")) { long = Some (codes "frames"); value_names = 1; parser = Some (parsers.Signed (pos 0) (pos 4096)) }
+
 -- `--status`, a flag
 abbrev pub status_rule : Rule
 status_rule = record (new_rule (codes "status")) { long = Some (codes "status"); action = Some SetTrue }
@@ -74,9 +78,13 @@ files_app name required = with_rule (with_rule (new_app name) story_rule) (certi
 abbrev pub list_app : App
 list_app = files_app (codes "list") false
 
--- `find STORY CERT --force`
+-- `find STORY CERT --frames N`
+abbrev pub framing_app : App
+framing_app = with_rule (files_app (codes "find") true) frames_rule
+
+-- the same with `--force`
 abbrev pub find_app : App
-find_app = with_rule (files_app (codes "find") true) force_rule
+find_app = with_rule framing_app force_rule
 
 -- `check STORY CERT`
 abbrev pub check_app : App
@@ -137,6 +145,21 @@ seed_of rows = number_of 64 (codes "seed") rows
 abbrev pub budget_of : List Row → ℕ
 budget_of rows = number_of 32 (codes "budget") rows
 
+-- a limit that isn't above the greatest
+abbrev pub low_limit : ℕ → Option ℕ
+low_limit n = if nat_le n 4096 then Some n else None
+
+-- the limit that a text says so, if it says one and that isn't above the greatest
+abbrev pub limit_in : Text → Option ℕ
+limit_in text =
+    let digits = without_leading_plus text in
+    if nat_lt 0 (length digits) && list_all (λ d. nat_lt (digit_value d) 10) digits && nat_le (digits_value 10 digits) 4096
+    then Some (digits_value 10 digits) else None
+
+-- the limit of frames among the matches of `find`, if there is one
+abbrev pub frames_of : List Row → Option ℕ
+frames_of rows = option_map_or limit_in (one_of (codes "frames") rows) None
+
 -- whether a flag is given among the matches: clap has `true` there where it is, and else `false`
 abbrev pub is_asked : Text → List Row → Bool
 is_asked name rows = option_map_or (λ text. bytes_eq text (codes "true")) (one_of name rows) false
@@ -172,7 +195,7 @@ code_of rows = unwrap_or (first_of (codes "CODE") rows) []
 -- what is asked for, by the names of files
 pub data Request : Type 0 where
   ListStory : (story : Text) (certificate : Option Text) → Request
-  Find : (story certificate : Text) (force : Bool) → Request
+  Find : (story certificate : Text) (frames : Option ℕ) (force : Bool) → Request
   Check : (story certificate : Text) → Request
   Show : (story certificate : Text) (address : Option Text) → Request
   Play : (story : Text) (certificate : Option Text) (seed budget : ℕ) (status : Bool) (save : Option Text) (tell force : Bool) → Request
@@ -181,8 +204,8 @@ pub data Request : Type 0 where
 -- the request is the one that clap's matches name, with the values among them
 abbrev pub Asks : Text × List Row → Request → Type 0
 Asks matches (ListStory story certificate) = (matches.0 ≡ codes "list") × (story ≡ story_of matches.1) × (certificate ≡ certificate_of matches.1)
-Asks matches (Find story certificate force) =
-    (matches.0 ≡ codes "find") × (story ≡ story_of matches.1) × (certificate ≡ unwrap_or (certificate_of matches.1) []) × (force ≡ is_force_asked matches.1)
+Asks matches (Find story certificate frames force) =
+    (matches.0 ≡ codes "find") × (story ≡ story_of matches.1) × (certificate ≡ unwrap_or (certificate_of matches.1) []) × (frames ≡ frames_of matches.1) × (force ≡ is_force_asked matches.1)
 Asks matches (Check story certificate) =
     (matches.0 ≡ codes "check") × (story ≡ story_of matches.1) × (certificate ≡ unwrap_or (certificate_of matches.1) [])
 Asks matches (Show story certificate address) =
@@ -195,7 +218,7 @@ Asks matches (Explain code) = (matches.0 ≡ codes "explain") × (code ≡ code_
 -- what a command asks for
 abbrev pub request_of : Command → Request
 request_of (commands.List story certificate) = ListStory story.now (option_map (λ c. c.now) certificate)
-request_of (commands.Find story certificate force) = Find story.now certificate.now force
+request_of (commands.Find story certificate frames force) = Find story.now certificate.now frames force
 request_of (commands.Check story certificate) = Check story.now certificate.now
 request_of (commands.Show story certificate address) = Show story.now certificate.now (option_map (λ a. a.now) address)
 request_of (commands.Play story certificate seed budget status save tell force) = Play story.now (option_map (λ c. c.now) certificate) seed budget status (option_map (λ f. f.now) save) tell force
@@ -204,3 +227,8 @@ request_of (commands.Explain code) = Explain code.now
 -- the command is the one that clap's matches name
 abbrev pub IsReadFrom : Text × List Row → Command → Type 0
 IsReadFrom matches command = Asks matches (request_of command)
+
+-- it asks for no certificate with a limit of frames above the greatest
+abbrev pub IsLow : Command → Type 0
+IsLow (commands.Find story certificate frames force) = IfSome frames (λ n. n ≤ 4096)
+IsLow _ = ⊤

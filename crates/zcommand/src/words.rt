@@ -1,10 +1,10 @@
 //! The words after the program's name.
 
-ghost use Rattle.std.specs.Prelude.{◌≡◌, IfOk, IsSomeAnd, codes, false};
+ghost use Rattle.std.specs.Prelude.{◌≡◌, IfOk, IsSomeAnd, codes, false, option_and_then};
 ghost use Rattle.clap.specs.Walk.{texts};
 ghost use Rattle.clap.specs.Words.{FailsBy, app_of, fault_of, found_of, rows_of, rule_of, subcommand_name_of, subcommand_of, subcommand_rows_of};
 ghost use Rattle.clap.specs.declared.builder.command.Command.TheViews.{out-Command as fields_of};
-ghost use Rattle.zcommand.specs.CommandLine.{IsCommand, IsReadFrom, bare_app, budget_rule, certificate_rule, address_rule, certifying_app, check_app, code_rule, explain_app, files_app, find_app, force_rule, list_app, play_app, save_rule, saveless_app, seed_rule, show_app, status_rule, story_rule, tell_rule, word_rule, zpc_app};
+ghost use Rattle.zcommand.specs.CommandLine.{IsCommand, IsLow, IsReadFrom, frames_of, frames_rule, framing_app, low_limit, bare_app, budget_rule, certificate_rule, address_rule, certifying_app, check_app, code_rule, explain_app, files_app, find_app, force_rule, list_app, play_app, save_rule, saveless_app, seed_rule, show_app, status_rule, story_rule, tell_rule, word_rule, zpc_app};
 
 use clap::builder::ValueParser;
 use clap::{Arg, ArgAction, ArgMatches, Error, value_parser};
@@ -18,6 +18,9 @@ const BUDGET: &str = "1000000000";
 
 /// The seed of `play` where none is named.
 const SEED: &str = "1";
+
+/// The greatest limit of frames that a certificate may name.
+const MOST_FRAMES: u16 = 4096;
 
 /// What the words ask for.
 #[derive(Clone, Copy, Debug, PartialEq, Eq)]
@@ -35,6 +38,8 @@ pub enum Command<'a> {
         story: &'a str,
         /// The name of the file that the certificate is kept in.
         certificate: &'a str,
+        /// How many frames may stand above the first, if the certificate is to name that.
+        frames: Option<u16>,
         /// Whether that file may hold something else now.
         force: bool,
     },
@@ -84,6 +89,8 @@ pub enum Command<'a> {
 pub fn read_words<'a>(alloc: Global, words: &'a [&'a str]) -> Result<Command<'a>, Error>
     ensures read { IfOk result (λ command. IsSomeAnd (subcommand_of zpc_app (texts words.entry.now)) (λ matches. IsReadFrom matches command)) }
     ensures fails { FailsBy (fault_of zpc_app (texts words.entry.now)) result }
+    // No certificate is asked for that names more frames than it may.
+    ensures low { IfOk result IsLow }
 {
     let matches = program(alloc)?.try_get_matches_from(words)?;
     Ok(command_of(&matches))
@@ -130,11 +137,34 @@ fn find_of<'a>(matches: &ArgMatches<'a>) -> Command<'a>
 {
     let story = matches.get_str("STORY").unwrap_or("");
     let certificate = matches.get_str("CERT").unwrap_or("");
+    let frames = frames_of(matches);
     let force = matches.get_one("force").unwrap_or(false);
     Command::Find {
         story,
         certificate,
+        frames,
         force,
+    }
+}
+
+/// The limit of frames among the matches of `find`, if there is one. clap lets none through that is above the greatest.
+fn frames_of(matches: &ArgMatches<'_>) -> Option<u16>
+    ensures { result ≡ frames_of (rows_of (found_of matches.now)) }
+{
+    limit_of(matches.get_one("frames"))
+}
+
+/// The limit of frames, where it isn't above the greatest.
+fn limit_of(frames: Option<u16>) -> Option<u16>
+    ensures { result ≡ option_and_then low_limit frames }
+{
+    let Some(frames) = frames else {
+        return None;
+    };
+    if frames <= MOST_FRAMES {
+        Some(frames)
+    } else {
+        None
     }
 }
 
@@ -241,8 +271,16 @@ fn find<'a>(alloc: Global) -> Result<clap::Command<'a>, AllocError>
     ensures app { IfOk result (λ find. app_of find ≡ find_app) }
     ensures local { IfOk result (λ find. (fields_of find).has_globals ≡ false) }
 {
+    framing(alloc)?.arg(force(alloc))
+}
+
+/// `find` without the flag by which any file may be written over.
+fn framing<'a>(alloc: Global) -> Result<clap::Command<'a>, AllocError>
+    ensures app { IfOk result (λ find. app_of find ≡ framing_app) }
+    ensures local { IfOk result (λ find. (fields_of find).has_globals ≡ false) }
+{
     let find = on_files(alloc, "find", "Finds a certificate of a story", true)?;
-    find.arg(force(alloc))
+    find.arg(frames(alloc))
 }
 
 fn check<'a>(alloc: Global) -> Result<clap::Command<'a>, AllocError>
@@ -373,6 +411,17 @@ fn budget<'a>(alloc: Global) -> Arg<'a>
         .value_name("N")
         .value_parser(value_parser!(u32))
         .default_value(BUDGET)
+}
+
+fn frames<'a>(alloc: Global) -> Arg<'a>
+    ensures rule { rule_of result ≡ frames_rule }
+    ensures local { result.global ≡ false }
+{
+    Arg::new(alloc, "frames")
+        .long("frames")
+        .help("The most frames above the first, at most 4096")
+        .value_name("N")
+        .value_parser(ValueParser::signed(0, i64::from(MOST_FRAMES)))
 }
 
 fn status<'a>(alloc: Global) -> Arg<'a>

@@ -44,9 +44,9 @@ pub fn words_wanted(save: &SaveView<'_>) -> usize
 /// How many words the frames of a save take, with their heads.
 fn count_words(mut rest: Frames<'_>) -> usize
     requires fit { AllByRecursion IsFrame (frames_left rest) }
-    requires few { length (frames_left rest) ≤ 1025 }
+    requires few { length (frames_left rest) ≤ 4097 }
     ensures value { result ≡ length_laid (frames_left rest.entry) }
-    ensures most { result ≤ 67193875 }
+    ensures most { result ≤ 268578835 }
 {
     let mut words = 0;
     while let Some(frame) = rest.next() {

@@ -12,7 +12,7 @@ Do: name the certificate behind the story, or find one anew with zpc find.
     (
         "K2",
         "K2: the certificate is of another version.
-Rule: its fifth byte is 1 or 2 (own).
+Rule: its fifth byte is 1, 2 or 3 (own).
 Do: find a certificate anew with this program's zpc find.
 ",
     ),
@@ -47,7 +47,7 @@ Do: find a certificate anew with zpc find; a tool that writes them by itself is 
     (
         "K7",
         "K7: a number of the certificate is above its limit.
-Rule: addresses are below 131,072, a routine has at most 15 locals, a stack at most 64 slots (own).
+Rule: addresses are below 131,072, a routine has at most 15 locals, a stack at most 64 slots, a limit of frames is at most 4,096 (own).
 Do: find a certificate anew with zpc find; a tool that writes them by itself is wrong.
 ",
     ),

@@ -54,7 +54,7 @@ Do: play the very story that the save was made in.
     (
         "Q8",
         "Q8: the save's routines aren't well formed.
-Rule: Stks has a first frame and at most 1,024 above it, each whole (Q 4). The story is told that restoring failed.
+Rule: Stks has a first frame and at most 4,096 above it, each whole (Q 4). The story is told that restoring failed.
 Do: save again, with fewer routines waiting, if another program wrote it.
 ",
     ),
@@ -67,8 +67,9 @@ Do: play the very story that the save was made in.
     ),
     (
         "Q10",
-        "Q10: the certificate doesn't describe the saved state.
-Rule: play by a certificate goes on where every value lies within what is stated (own). The story is told that restoring failed.
+        "Q10: the certificate doesn't describe the saved state, or lets fewer frames stand.
+Rule: play by a certificate goes on where every value lies within what is stated, and no more frames stand above the first than it names, or
+1,024 where it names none (own). The story is told that restoring failed.
 Do: restore it without the certificate, where everything is tested; a save that was made with it is accepted.
 ",
     ),

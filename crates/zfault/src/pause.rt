@@ -18,7 +18,7 @@ pub enum Pause {
     Budget,
     /// The instruction at the place is `quit` (Z 15, quit).
     Quit,
-    /// A call with 1,024 frames above the first, or a push to a stack of 65,535 words (own).
+    /// A call where as many frames as the limit allows stand above the first, or a push to a stack of 65,535 words (own).
     FrameLimit,
 }
 

@@ -33,6 +33,18 @@ module _ (story : LoadedStory) where
   of_lists first intervals RoundLimit failure = failure
   of_lists first intervals OutOfMemory failure = tt
 
+  -- what kept all from being found kept one of lists from it
+  pub by_lists : (error : FindError) → IsFailure story error → IsFailureOf values_operations story error
+  by_lists (NotFound obstacle) failure = failure.1
+  by_lists RoundLimit failure = failure
+  by_lists OutOfMemory failure = tt
+
+  -- so does want of memory
+  pub without_memory : (error : FindError) → error ≡ OutOfMemory → IsFailureOf values_operations story error
+  without_memory (NotFound obstacle) e = absurd cc
+  without_memory RoundLimit e = absurd cc
+  without_memory OutOfMemory e = tt
+
 module _ {V : Type 0} (o : SetOperations V) (story : LoadedStory) where
   -- what a story has no listing for kept one from being found
   pub of_listing : (error : FindError) → IsUnlisted story error → IsFailureOf o story error

@@ -1,3 +1,4 @@
 mod Failures
 mod Telling
 mod Worked
+mod Named

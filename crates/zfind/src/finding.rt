@@ -105,7 +105,7 @@ pub fn find(alloc: Global, story: &Story) -> Result<Found, FindError>
 }
 
 /// What the walks with a kind of sets may do.
-fn allowed(work: u32) -> Allowance {
+pub(crate) fn allowed(work: u32) -> Allowance {
     Allowance {
         visits: MOST_VISITS,
         work,
@@ -126,7 +126,7 @@ pub(crate) fn listing_of(alloc: Global, story: &Story) -> Result<Listing, FindEr
 
 /// A certificate of a story, if it has a listing. So many visits are left.
 #[tactic(auto, using(crate::proofs::Failures::of_listing, crate::proofs::Failures::of_walk))]
-fn listed<V: Kind>(
+pub(crate) fn listed<V: Kind>(
     alloc: Global,
     story: &Story,
     left: &mut Allowance,

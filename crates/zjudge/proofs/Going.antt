@@ -1,7 +1,7 @@
 -- Whether play can go on from a save, and in a described state.
 use Rattle.std.proofs.Common.{◌≡◌, ◌↔◌, ℕ, zero, suc, ◌+◌, ◌-◌, ◌<◌, ◌≤◌, Bool, true, false, List, [], ◌∷◌, length, drop, Ok, Err, refl, sym, ap, subst, ◌∙◌, arith}
 use Rattle.std.specs.Prelude.{ℤ, pos, negsuc, ◌-ℤ◌, map, reverse, Some}
-use Rattle.std.proofs.lemmas.Bool.{le-leb}
+use Rattle.std.proofs.lemmas.Bool.{le-leb, lt-leb}
 use Rattle.std.proofs.lemmas.Int.{ints}
 use Rattle.std.proofs.lemmas.List.{get_or-drop, length-drop}
 use Rattle.std.proofs.lemmas.Grind.{same_number_lists}
@@ -13,7 +13,7 @@ use Rattle.zfault.specs.declared.event.Event.TheVariants as events
 use Rattle.zlist.specs.Listing.{ListedCode, is_listed}
 use Rattle.zquetzal.specs.declared.error.SaveError.TheVariants as errors
 use Rattle.zquetzal.specs.Saved.{AreFrames, Frame as SavedFrame, IsSaved, Saved}
-use Rattle.zstate.specs.State.{IsState, Scope, Setting, State, keeping_flags, scope_only, usual_limit}
+use Rattle.zstate.specs.State.{IsState, Scope, Setting, State, keeping_flags, scope_only}
 use Rattle.zstate.specs.Step.{decoded, fetch}
 use Rattle.zstate.specs.Saves.{going_on, resumed, save_place, saves, taken_frame, taken_memory, with_frames}
 use Rattle.zstate.proofs.Saves.{kept_other, kept_size, resumed_is_state, taken_dynamic, taken_header, taken_size, taken_static}
@@ -72,6 +72,10 @@ module _ (m : Setting) (saved : Saved) (s : State) where
   unfolding going_on
   goes_on e few = let f = le-leb (length saved.frames) (m.limit + 1) few in rw (e, f) refl
 
+  too_deep : saves (fetch m.scope (save_place saved) (resumed m.story saved s).memory) ≡ true → m.limit + 1 < length saved.frames → going_on m saved s ≡ Err errors.NotDescribed
+  unfolding going_on
+  too_deep e many = let f = lt-leb (length saved.frames) (m.limit + 1) many in rw (e, f) refl
+
 -- ---- in a described state
 
 pos_same : (a b : ℕ) → pos a ≡ pos b → a ≡ b
@@ -102,11 +106,7 @@ module _ {V : Type 0} (o : SetOperations V) (claims : Claims V) (story : LoadedS
             λ d. (memory.1 d.memory, round.1 (record { entry = d.entry; listed = subst (λ (p : ℕ). claims.entry p ≡ Some d.entry) (pos_same d.at place (sym d.place ∙ at)) d.listed; fits = d.fits; callers = d.callers })),
           )
 
-  module _ (listing : ListedCode) (saved : Saved) (is : IsSaved story saved) (bytes : AreBytes saved.memory) (fixed : (p : ℕ) → is_listed listing p ≡ true → static_base story ≤ p) (s : State) (held : IsState usual_limit story s) where
-    few_frames : (fs : List SavedFrame) → AreFrames fs → length fs ≤ usual_limit + 1
-    few_frames [] are = absurd are
-    few_frames (f ∷ fs) are = let most = are.2 in omega (arith, most)
-
+  module _ (listing : ListedCode) (limit : ℕ) (saved : Saved) (is : IsSaved story saved) (bytes : AreBytes saved.memory) (fixed : (p : ℕ) → is_listed listing p ≡ true → static_base story ≤ p) (s : State) (held : IsState limit story s) where
     taken : IsTaken story saved.memory (keeping_flags s.memory (taken_memory story saved.memory))
     taken = taken_there story saved.memory s.memory sound is.memory
 
@@ -120,19 +120,22 @@ module _ {V : Type 0} (o : SetOperations V) (claims : Claims V) (story : LoadedS
     saves_there : saves (fetch (scope_only listing) (save_place saved) (resumed story saved s).memory) ≡ saves (fetch (scope_only listing) (save_place saved) story.memory)
     saves_there = ap (λ (memory : List ℕ). saves (fetch (scope_only listing) (save_place saved) memory)) memory_is ∙ saves_same story (keeping_flags s.memory (taken_memory story saved.memory)) taken.size taken.static listing fixed (save_place saved)
 
-    state : IsState usual_limit story (resumed story saved s)
-    state = resumed_is_state (listed_setting story listing) saved s sound is bytes held (few_frames saved.frames is.frames)
+    state : length saved.frames ≤ limit + 1 → IsState limit story (resumed story saved s)
+    state low = resumed_is_state (listed_setting story listing limit) saved s sound is bytes held low
 
-    described_where : 1 ≤ saved.place → (IsDescribedMemory o claims story saved.memory × AreDescribed o claims (map taken_frame saved.frames) (saved.place - 1)) ↔ Described o claims usual_limit story (resumed story saved s)
-    described_where some =
-        described_frames usual_limit saved.frames (record s { memory = keeping_flags s.memory (taken_memory story saved.memory); place = save_place saved; prompted = false; waiting = Some (events.Saved true) }) saved.memory (saved.place - 1) is.frames taken (one_before saved.place some) state
+    described_where : 1 ≤ saved.place → length saved.frames ≤ limit + 1 → (IsDescribedMemory o claims story saved.memory × AreDescribed o claims (map taken_frame saved.frames) (saved.place - 1)) ↔ Described o claims limit story (resumed story saved s)
+    described_where some low =
+        described_frames limit saved.frames (record s { memory = keeping_flags s.memory (taken_memory story saved.memory); place = save_place saved; prompted = false; waiting = Some (events.Saved true) }) saved.memory (saved.place - 1) is.frames taken (one_before saved.place some) (state low)
 
     -- what is answered
-    pub judged_place : saves (fetch (scope_only listing) (save_place saved) story.memory) ≡ false → going_on (listed_setting story listing) saved s ≡ Err errors.Place
-    judged_place none = refused_there (listed_setting story listing) saved s (saves_there ∙ none)
+    pub judged_place : saves (fetch (scope_only listing) (save_place saved) story.memory) ≡ false → going_on (listed_setting story listing limit) saved s ≡ Err errors.Place
+    judged_place none = refused_there (listed_setting story listing limit) saved s (saves_there ∙ none)
 
-    pub judged_there : saves (fetch (scope_only listing) (save_place saved) story.memory) ≡ true → going_on (listed_setting story listing) saved s ≡ Ok (resumed story saved s)
-    judged_there there = goes_on (listed_setting story listing) saved s (saves_there ∙ there) (few_frames saved.frames is.frames)
+    pub judged_there : saves (fetch (scope_only listing) (save_place saved) story.memory) ≡ true → length saved.frames ≤ limit + 1 → going_on (listed_setting story listing limit) saved s ≡ Ok (resumed story saved s)
+    judged_there there low = goes_on (listed_setting story listing limit) saved s (saves_there ∙ there) low
 
-    pub judged_described : 1 ≤ saved.place → (IsDescribedMemory o claims story saved.memory × AreDescribed o claims (map taken_frame saved.frames) (saved.place - 1)) ↔ Described o claims usual_limit story (resumed story saved s)
-    judged_described some = described_where some
+    pub judged_too_deep : saves (fetch (scope_only listing) (save_place saved) story.memory) ≡ true → limit + 1 < length saved.frames → going_on (listed_setting story listing limit) saved s ≡ Err errors.NotDescribed
+    judged_too_deep there many = too_deep (listed_setting story listing limit) saved s (saves_there ∙ there) many
+
+    pub judged_described : 1 ≤ saved.place → length saved.frames ≤ limit + 1 → (IsDescribedMemory o claims story saved.memory × AreDescribed o claims (map taken_frame saved.frames) (saved.place - 1)) ↔ Described o claims limit story (resumed story saved s)
+    judged_described some low = described_where some low

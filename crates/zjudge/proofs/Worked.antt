@@ -168,7 +168,8 @@ led = (inl (omega arith, omega arith), inr (omega arith, omega arith), inr (omeg
 
 -- ---- answers
 
--- a save is taken only where play goes on from it in a described state, and refused for its state only where that isn't described
+-- a save is taken only where play goes on from it in a described state, and refused for its state only where that isn't described, or has
+-- more frames than there may be
 module _ (m : Setting) (saved : Saved) (s : State) where
   abbrev JudgedAs : Result ℕ SaveError → Type 0
   JudgedAs answer = IsJudged interval_operations five m saved s answer
@@ -176,7 +177,7 @@ module _ (m : Setting) (saved : Saved) (s : State) where
   abbrev DescribedThen : Type 0
   DescribedThen = Described interval_operations five m.limit m.story (resumed m.story saved s)
 
-  judged : (going_on m saved s ≡ Err errors.Place → JudgedAs (Err errors.Place)) × (JudgedAs (Ok 0) → DescribedThen × (going_on m saved s ≡ Ok (resumed m.story saved s))) × (JudgedAs (Err errors.NotDescribed) → (going_on m saved s ≡ Ok (resumed m.story saved s)) × (DescribedThen → ⊥))
+  judged : (going_on m saved s ≡ Err errors.Place → JudgedAs (Err errors.Place)) × (JudgedAs (Ok 0) → DescribedThen × (going_on m saved s ≡ Ok (resumed m.story saved s))) × (JudgedAs (Err errors.NotDescribed) → (going_on m saved s ≡ Err errors.NotDescribed) ⊎ ((going_on m saved s ≡ Ok (resumed m.story saved s)) × (DescribedThen → ⊥)))
   judged = (λ e. e, λ j. (j.1, j.0), λ j. j)
 
 -- of no other refusal anything is said

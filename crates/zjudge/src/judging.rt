@@ -1,14 +1,15 @@
 //! The judge of saves.
 
-ghost use Rattle.std.specs.Prelude.{◌≡◌, ◌↔◌, ◌≤◌, ◌-◌, ℕ, IsTrue, OnOk, length, map, true};
+ghost use Rattle.std.specs.Prelude.{◌≡◌, ◌↔◌, ◌≤◌, ◌+◌, ◌-◌, ℕ, IsTrue, OnOk, length, map, nat_le, true};
 ghost use Rattle.std.specs.List.{AllByRecursion};
 ghost use Rattle.zstory.specs.Bytes.{AreBytes};
 ghost use Rattle.zstory.specs.LoadedStory.{IsSound, static_base};
 ghost use Rattle.zstory.specs.Objects.{IsObjectCount};
 ghost use Rattle.zlist.specs.Listing.{is_listed};
 ghost use Rattle.zquetzal.specs.Saved.{IsSaved};
-ghost use Rattle.zstate.specs.State.{IsState, State, usual_limit};
+ghost use Rattle.zstate.specs.State.{IsState, State};
 ghost use Rattle.zstate.specs.Saves.{taken_frame};
+ghost use Rattle.zcert.specs.Certificate.{frame_limit};
 ghost use Rattle.zrule.specs.Claims.{claims_of};
 ghost use Rattle.zjudge.specs.Frames.{AreDescribed};
 ghost use Rattle.zjudge.specs.Judging.{IsJudged, listed_setting};
@@ -30,8 +31,8 @@ use zstory::Story;
 ///
 /// # Errors
 ///
-/// `Place` where no `save` is listed before the place of the save, and else `NotDescribed` where the certificate doesn't describe
-/// the state in which play would go on. No other is answered.
+/// `Place` where no `save` is listed before the place of the save, and else `NotDescribed` where it has more frames than the certificate
+/// lets stand, or the certificate doesn't describe the state in which play would go on. No other is answered.
 pub fn judge_save<V: Spelled>(
     story: &Story,
     certificate: &Certificate<V>,
@@ -44,16 +45,28 @@ pub fn judge_save<V: Spelled>(
     requires fixed { (p : ℕ) → is_listed listing.now p ≡ true → static_base story.now ≤ p }
     // Each stack is as low as those of a certificate.
     ensures low { OnOk result (AllByRecursion (λ f. length f.stack ≤ 64) view.now.frames) }
-    ensures value { (s : State) → IsState usual_limit story.now s → IsJudged V.operations (claims_of V.operations certificate.now) (listed_setting story.now listing.now) view.now s result }
+    // And there are no more frames than the certificate lets stand.
+    ensures few { OnOk result (length view.now.frames ≤ frame_limit certificate.now + 1) }
+    ensures value { (s : State) → IsState (frame_limit certificate.now) story.now s → IsJudged V.operations (claims_of V.operations certificate.now) (listed_setting story.now listing.now (frame_limit certificate.now)) view.now s result }
 {
     are_known(story, certificate, view);
     if !is_save_before(story, listing, view.place()) {
         return Err(SaveError::Place);
     }
+    if !are_few(certificate, view) {
+        return Err(SaveError::NotDescribed);
+    }
     if !is_described(story, certificate, view) {
         return Err(SaveError::NotDescribed);
     }
     Ok(())
+}
+
+/// Whether no more frames are saved than the certificate lets stand.
+fn are_few<V: Spelled>(certificate: &Certificate<V>, view: &SaveView<'_>) -> bool
+    ensures { result ≡ nat_le (length view.now.frames) (frame_limit certificate.now + 1) }
+{
+    view.frame_count() <= usize::from(certificate.frame_limit()) + 1
 }
 
 /// Whether the frames of a save and its memory are described.

@@ -41,5 +41,5 @@ stops begun IsWhy before (Failed Write) other why = absurd (other refl)
 stops begun IsWhy before (Failed Memory) other why = (why, refl)
 
 -- so does one for which no certificate is found, and no file changed
-pub not_found : (story certificate : List ℕ) (held holds : List ℕ → Option (List ℕ)) (before : Option (List ℕ)) (problem : Problem) → problem ≢ Failed Write → IsNotFound (held story) problem → holds ≡ held → FindEnds story certificate held holds before before (Stopped problem)
-not_found story certificate held holds before problem other why same = stops _ (λ (p : Problem). IsNotFound (held story) p × (p ≢ Failed File → holds ≡ held)) before problem other (why, λ reads. same)
+pub not_found : (frames : Option ℕ) (story certificate : List ℕ) (held holds : List ℕ → Option (List ℕ)) (before : Option (List ℕ)) (problem : Problem) → problem ≢ Failed Write → IsNotFound frames (held story) problem → holds ≡ held → FindEnds frames story certificate held holds before before (Stopped problem)
+not_found frames story certificate held holds before problem other why same = stops _ (λ (p : Problem). IsNotFound frames (held story) p × (p ≢ Failed File → holds ≡ held)) before problem other (why, λ reads. same)

@@ -38,6 +38,9 @@ three_added old a b d = simp append_assoc
 pub four_added : (old a b d e : List ℕ) → old ++ a ++ b ++ d ++ e ≡ old ++ (a ++ b ++ d ++ e)
 four_added old a b d e = simp append_assoc
 
+pub five_added : (old a b d e f : List ℕ) → old ++ a ++ b ++ d ++ e ++ f ≡ old ++ (a ++ b ++ d ++ e ++ f)
+five_added old a b d e f = simp append_assoc
+
 -- one line more
 numbered_with : {A : Type 0} (line : ℕ → A → List ℕ) (n : ℕ) (xs : List A) (x : A) → numbered line n (xs ++ x ∷ []) ≡ numbered line n xs ++ line (n + length xs) x
 numbered_with line n [] x = append-nil (line n x) ∙ ap (λ (m : ℕ). line m x) (let is : n ≡ n + 0 = omega arith in is)

@@ -18,7 +18,7 @@ use Rattle.zcheck.specs.Acceptance.{AcceptanceOver}
 use Rattle.zcheck.specs.declared.refusal.StoryRule.{StoryRule}
 use Rattle.zcommand.specs.CommandLine.{ListStory, Find, Check, Play, Explain}
 use Rattle.zref.specs.Machine.{setting_of}
-use Rattle.zlink.specs.declared.scope.Scope.TheVariants.{All}
+use Rattle.zref.specs.declared.scope.Scope.TheVariants.{All}
 use Rattle.zplay.specs.Session.{setting_of as session_of}
 use Rattle.zplayer.specs.declared.end.End.{End}
 use Rattle.zplayer.specs.declared.end.Options.{Options}
@@ -169,7 +169,7 @@ each_told = (
 -- they are told where that is asked for and saves are in a file, and by plays alone
 told_where :
     (said_of true (Some (7 ∷ [])) (Length ∷ NotForm ∷ []) ≡ Length ∷ NotForm ∷ []) × (said_of false (Some (7 ∷ [])) (Length ∷ []) ≡ []) × (said_of true None (Length ∷ []) ≡ [])
-    × (said_by (Play (1 ∷ []) None 1 2 false (Some (7 ∷ [])) true false) (Length ∷ []) ≡ Length ∷ []) × (said_by (Play (1 ∷ []) None 1 2 true (Some (7 ∷ [])) false false) (Length ∷ []) ≡ []) × (said_by (Find (1 ∷ []) (2 ∷ []) false) (Length ∷ []) ≡ [])
+    × (said_by (Play (1 ∷ []) None 1 2 false (Some (7 ∷ [])) true false) (Length ∷ []) ≡ Length ∷ []) × (said_by (Play (1 ∷ []) None 1 2 true (Some (7 ∷ [])) false false) (Length ∷ []) ≡ []) × (said_by (Find (1 ∷ []) (2 ∷ []) None false) (Length ∷ []) ≡ [])
 told_where = (refl, refl, refl, refl, refl, refl)
 
 -- want of memory is told, and nothing else is done
@@ -185,10 +185,10 @@ lacking = (
 -- ---- what comes of requests
 
 -- each is of the file that its request names, as it was, and of what was written before and is now
-module _ (story certificate : List ℕ) (held holds : List ℕ → Option (List ℕ)) (input before now : Option (List ℕ)) (outcome : Outcome) where
+module _ (frames : Option ℕ) (story certificate : List ℕ) (held holds : List ℕ → Option (List ℕ)) (input before now : Option (List ℕ)) (outcome : Outcome) where
   comes_of_files :
       (force : Bool) → (Comes (ListStory story None) held holds input [] before now outcome → ListComesTo (held story) before now outcome)
-      × (Comes (ListStory story (Some certificate)) held holds input [] before now outcome → ListByComesTo (held story) (held certificate) before now outcome) × (Comes (Find story certificate force) held holds input [] before now outcome → FindComesTo story certificate held holds before now outcome)
+      × (Comes (ListStory story (Some certificate)) held holds input [] before now outcome → ListByComesTo (held story) (held certificate) before now outcome) × (Comes (Find story certificate frames force) held holds input [] before now outcome → FindComesTo frames story certificate held holds before now outcome)
       × (Comes (Check story certificate) held holds input [] before now outcome → CheckComesTo (held story) (held certificate) before now outcome) × (Comes (Explain story) held holds input [] before now outcome → ExplainComesTo story before now outcome)
   comes_of_files force = (λ comes. comes, λ comes. comes, λ comes. comes, λ comes. comes, λ comes. comes)
 
@@ -380,14 +380,14 @@ refused_story story certificate error (inl refused) = refused
 refused_story story certificate error (inr refused) = refused
 
 -- a certificate that is found is of the story as it was, and stands in its file now; where none is found no file changes
-module _ (story certificate : List ℕ) (held holds : List ℕ → Option (List ℕ)) (before now : Option (List ℕ)) where
+module _ (frames : Option ℕ) (story certificate : List ℕ) (held holds : List ℕ → Option (List ℕ)) (before now : Option (List ℕ)) where
   found_in_files :
-      (FindEnds story certificate held holds before now Found → (bytes : List ℕ) × IsFound (held story) bytes × HasAlone bytes (holds certificate) × Appends before now found_line)
-      × (FindEnds story certificate held holds before now (Stopped (Failed Write)) → (bytes : List ℕ) × IsFound (held story) bytes × HasAlone bytes (holds certificate) × AppendsBeginning before now found_line)
-      × (FindEnds story certificate held holds before now (Stopped (Failed Memory)) → (IsNotFound (held story) (Failed Memory) × (Failed Memory ≢ Failed File → holds ≡ held)) × (now ≡ before))
+      (FindEnds frames story certificate held holds before now Found → (bytes : List ℕ) × IsFound frames (held story) bytes × HasAlone bytes (holds certificate) × Appends before now found_line)
+      × (FindEnds frames story certificate held holds before now (Stopped (Failed Write)) → (bytes : List ℕ) × IsFound frames (held story) bytes × HasAlone bytes (holds certificate) × AppendsBeginning before now found_line)
+      × (FindEnds frames story certificate held holds before now (Stopped (Failed Memory)) → (IsNotFound frames (held story) (Failed Memory) × (Failed Memory ≢ Failed File → holds ≡ held)) × (now ≡ before))
   found_in_files = (λ ends. ends, λ ends. ends, λ ends. ends)
 
-  found_at_last : (outcome : Outcome) → FindComesTo story certificate held holds before now outcome → FindEnds story certificate held holds before now outcome × SparesOthers certificate held holds
+  found_at_last : (outcome : Outcome) → FindComesTo frames story certificate held holds before now outcome → FindEnds frames story certificate held holds before now outcome × SparesOthers certificate held holds
   found_at_last outcome comes = (comes.ends, comes.spared)
 
   listed_of_file :

@@ -1,5 +1,5 @@
 -- What the files of a story and of a certificate come to (own).
-use Rattle.std.specs.Prelude.{◌≡◌, ◌≢◌, ◌⊎◌, ⊤, ℕ, ℤ, true, ◌++◌, ◌∷◌, [], ◌==◌, List, Option, Result, Ok, Err, IfOk, IfSome, codes, if◌then◌else◌, length}
+use Rattle.std.specs.Prelude.{◌≡◌, ◌≢◌, ◌⊎◌, ⊤, ℕ, ℤ, true, ◌++◌, ◌∷◌, [], ◌==◌, ◌||◌, List, Option, Result, Ok, Err, IfOk, IfSome, codes, if◌then◌else◌, length}
 use Rattle.std.specs.Io.KnownBytes.{Appends}
 use Rattle.zfault.specs.Devices.{AppendsBeginning}
 use Rattle.zfault.specs.declared.fault.Fault.{Fault}
@@ -26,7 +26,7 @@ use Rattle.zcert.specs.Lists.{values_format}
 use Rattle.zcert.specs.Reading.{reading}
 use Rattle.zcert.specs.Streaming.{Stream, IsFed}
 use Rattle.zcert.specs.declared.error.CertError.{CertError}
-use Rattle.zcert.specs.declared.limits.TheConstants.{VERSION, LIST_VERSION}
+use Rattle.zcert.specs.declared.limits.TheConstants.{VERSION, LIST_VERSION, LIMIT_VERSION}
 use Rattle.zcheck.specs.Acceptance.{AcceptanceOver, IsListingOf}
 use Rattle.zcheck.specs.Passes.{IsCause, Passes}
 use Rattle.zcheck.specs.declared.refusal.Refusal.{Refusal}
@@ -61,10 +61,11 @@ IsNoStory known problem = ⊥
 abbrev pub IsWhyNone : (LoadedStory → Problem → Type 0) → Option (List ℕ) → Problem → Type 0
 IsWhyNone IsWhy known problem = IsNoStory known problem ⊎ HoldsSuch known (λ story. IsWhy story problem)
 
--- The version of the format in which a certificate's file is read, as its fifth byte says: version 2 where that is 2, and else version 1, in
--- which every other number than 1 is refused, and a file that is cut off before it.
+-- By which sets a certificate's file is read, as its fifth byte says, told by the version that has them and names no limit of frames: by those
+-- of version 2 where that is 2 or 3, and else by those of version 1, by which every other number than 1 is refused, and a file that is cut
+-- off before it.
 abbrev pub version_by : ℕ → ℕ
-version_by byte = if byte == LIST_VERSION then LIST_VERSION else VERSION
+version_by byte = if (byte == LIST_VERSION) || (byte == LIMIT_VERSION) then LIST_VERSION else VERSION
 
 abbrev pub version_of : List ℕ → ℕ
 version_of file = version_by (byte_at file 4)
@@ -74,7 +75,7 @@ module _ {V : Type 0} (format : Format V) where
   abbrev pub HoldsCertificate : Option (List ℕ) → Certificate V → Type 0
   HoldsCertificate known c = Reads known (λ file. reading format file ≡ Ok c)
 
-  -- a file is of the format's version, and its bytes are refused
+  -- a file is read by the format's sets, and its bytes are refused
   abbrev pub IsUnread : List ℕ → CertError → Type 0
   IsUnread file error = (version_of file ≡ format.version) × (reading format file ≡ Err error)
 
@@ -85,7 +86,7 @@ module _ {V : Type 0} (format : Format V) where
   IsNoCertificate known (Failed Memory) = HasBytes known
   IsNoCertificate known problem = ⊥
 
-  -- a stream was fed so many bytes of a file of the format's version, which are its first, where its bytes are known
+  -- a stream was fed so many bytes of a file that is read by the format's sets, which are its first, where its bytes are known
   pub record IsFedTo (known : Option (List ℕ)) (count : ℕ) (stream : Stream V) : Type 0 where
     pub fed : List ℕ
     pub version : version_of fed ≡ format.version
@@ -173,7 +174,7 @@ module _ {V : Type 0} (o : SetOperations V) (format : Format V) (story_known cer
       ((now ≡ before) × (refusals ≡ []) × HasBytes story_known) ⊎ Accepts o format story_known certificate_known (λ a. IsPlayedBy o a options given refusals before now (Err errors.OutOfMemory))
   PlayEnds options given refusals before now (Stopped problem) = IsUnaccepted o format story_known certificate_known problem × (now ≡ before) × (refusals ≡ [])
 
--- ---- with a certificate of either version, as its file says
+-- ---- with a certificate of either kind of sets, as its file says
 
 -- what two files hold, and the checker accepts
 abbrev pub IsAcceptedStory : Option (List ℕ) → Option (List ℕ) → AcceptedStory → Type 0

@@ -8,7 +8,7 @@ use Rattle.zstory.specs.declared.load_error.LoadError.{LoadError}
 use Rattle.zstory.specs.declared.load_error.LoadError.TheVariants.{OutOfMemory as NoMemoryToLoad}
 use Rattle.zstate.specs.State.{State, opening}
 use Rattle.zref.specs.Machine.{setting_of}
-use Rattle.zlink.specs.declared.scope.Scope.TheVariants.{All}
+use Rattle.zref.specs.declared.scope.Scope.TheVariants.{All}
 use Rattle.zplayer.specs.declared.end.End.{End}
 use Rattle.zplayer.specs.declared.end.Options.{Options}
 use Rattle.zplayer.specs.declared.end.PlayError.{PlayError}

@@ -1,5 +1,5 @@
 -- What showing a certificate comes to: what it says, in words (own).
-use Rattle.std.specs.Prelude.{◌≡◌, ◌⊎◌, ◌==◌, ℕ, suc, pos, negsuc, ◌&&◌, not, int_le, nat_lt, ◌++◌, List, [], ◌∷◌, length, take_while, flat_map, Option, None, Some, MatchOption, unwrap_or, codes, decimal, if◌then◌else◌}
+use Rattle.std.specs.Prelude.{is_some, ◌≡◌, ◌⊎◌, ◌==◌, ℕ, suc, pos, negsuc, ◌&&◌, not, int_le, nat_lt, ◌++◌, List, [], ◌∷◌, length, take_while, flat_map, Option, None, Some, MatchOption, unwrap_or, codes, decimal, if◌then◌else◌}
 use Rattle.std.specs.Char.{is_digit}
 use Rattle.std.specs.Fmt.{signed_decimal}
 use Rattle.std.specs.List.{list_all}
@@ -15,7 +15,7 @@ use Rattle.zdomain.specs.declared.interval.Interval.{Interval}
 use Rattle.zdomain.specs.declared.values.Values.{Values}
 use Rattle.zdomain.specs.declared.values.Values.TheVariants.{Run, List as AList}
 use Rattle.zcert.specs.Certificate.{Certificate, Instruction}
-use Rattle.zcert.specs.Format.{Format, interval_format}
+use Rattle.zcert.specs.Format.{Format, interval_format, version_of}
 use Rattle.zcert.specs.Listed.{listed_at}
 use Rattle.zcert.specs.Lists.{values_format}
 use Rattle.zcert.specs.declared.parts.Range.{Range}
@@ -77,6 +77,14 @@ numbered line n (x ∷ xs) = line n x ++ numbered line (suc n) xs
 abbrev pub range_line : Range → List ℕ
 range_line r = codes "frozen " ++ place_text (pos r.first) ++ codes " to " ++ place_text (pos r.last) ++ 10 ∷ []
 
+-- how many frames may stand above the first, where that is named
+abbrev pub frames_line : ℕ → List ℕ
+frames_line n = codes "frame limit " ++ decimal n ++ 10 ∷ []
+
+abbrev pub limit_line : Option ℕ → List ℕ
+limit_line None = []
+limit_line (Some n) = frames_line n
+
 -- the version, and what its sets are
 abbrev pub heading_text : ℕ → List ℕ → List ℕ
 heading_text version kind = codes "version " ++ decimal version ++ codes ", " ++ kind ++ 10 ∷ []
@@ -97,7 +105,7 @@ module _ {V : Type 0} (set_text : V → List ℕ) where
   -- what a certificate says beside its instructions; a global has the number of its variable, from 16 on (Z 6.2)
   abbrev pub claims_text : ℕ → List ℕ → Certificate V → List ℕ
   claims_text version kind c =
-      heading_text version kind ++ flat_map range_line c.ranges ++ numbered (set_line (codes "global ")) 16 c.globals
+      heading_text version kind ++ limit_line c.limit ++ flat_map range_line c.ranges ++ numbered (set_line (codes "global ")) 16 c.globals
       ++ numbered routine_line 1 c.routines
 
   -- what it says of an instruction's frame: the height of the stack, each local, and each slot, the bottom first
@@ -178,7 +186,7 @@ module _ {V : Type 0} (o : SetOperations V) (format : Format V) (kind : List ℕ
     pub held : HoldsStory story_known story
     pub read : HoldsCertificate format certificate_known certificate
     pub own : certificate.identity ≡ identity_of story
-    pub shown : IsShown o set_text story certificate format.version kind address text
+    pub shown : IsShown o set_text story certificate (version_of format (is_some certificate.limit)) kind address text
 
 module _ {V : Type 0} (o : SetOperations V) (format : Format V) (story_known certificate_known : Option (List ℕ)) where
   -- Why a certificate isn't shown: it isn't read, or it is of another story. Whether it holds else isn't asked.

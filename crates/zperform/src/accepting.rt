@@ -1,7 +1,7 @@
 //! Stories and certificates from files.
 
-ghost use Rattle.std.specs.Prelude.{◌≡◌, ◌==◌, ◌≤◌, ℕ, true, List, Option, IfErr, IfOk, IfSome, IsErrOf, length, take};
-ghost use Rattle.zcert.specs.declared.limits.TheConstants.{LIST_VERSION as version_with_lists};
+ghost use Rattle.std.specs.Prelude.{◌≡◌, ◌==◌, ◌||◌, ◌≤◌, ℕ, true, List, Option, IfErr, IfOk, IfSome, IsErrOf, length, take};
+ghost use Rattle.zcert.specs.declared.limits.TheConstants.{LIST_VERSION as version_with_lists, LIMIT_VERSION as version_with_limit};
 ghost use Rattle.zstory.specs.Bytes.{byte_at};
 ghost use Rattle.zperform.specs.Devices.{ReadsUnless, held};
 ghost use Rattle.zperform.specs.Playing.{Holds, IsUnloaded};
@@ -11,7 +11,7 @@ use crate::feeding::{HEADING, feed_certificate};
 use crate::files::{Files, read_file};
 use crate::outcome::{Failure, Problem};
 use std::alloc::Global;
-use zcert::{LIST_VERSION, Spelled};
+use zcert::{LIMIT_VERSION, LIST_VERSION, Spelled};
 use zcheck::Accepted;
 use zdomain::{Interval, Values};
 use zstory::Story;
@@ -22,12 +22,12 @@ pub const STORY_LIMIT: usize = 131_073;
 /// The place of the byte that tells the version of a certificate's file.
 const VERSION_AT: usize = 4;
 
-/// A story that is accepted with a certificate of either version.
+/// A story that is accepted with a certificate of either kind of sets.
 #[derive(Drop)]
 pub enum AcceptedStory {
-    /// Version 1.
+    /// Of version 1.
     Intervals(Accepted<Interval>),
-    /// Version 2.
+    /// Of version 2 or 3.
     Lists(Accepted<Values>),
 }
 
@@ -55,11 +55,12 @@ pub fn accept<F: Files>(
     }
 }
 
-/// Whether a certificate's file that begins so is of the version that has lists.
+/// Whether a certificate's file that begins so is of a version that has lists.
 pub fn has_lists(first: &[u8]) -> bool
-    ensures { result ≡ (byte_at first.now 4 == version_with_lists) }
+    ensures { result ≡ ((byte_at first.now 4 == version_with_lists) || (byte_at first.now 4 == version_with_limit)) }
 {
-    first.get(VERSION_AT) == Some(&LIST_VERSION)
+    let version = first.get(VERSION_AT);
+    version == Some(&LIST_VERSION) || version == Some(&LIMIT_VERSION)
 }
 
 /// Accepts a story with the certificate of a file, of which the first bytes were read and tell the version.

@@ -1,9 +1,10 @@
 //! What a certificate says, as lines.
 
-ghost use Rattle.std.specs.Prelude.{◌≡◌, ◌++◌, ◌+◌, ◌≤◌, [], ◌∷◌, List, ℕ, Some, None, IfOk, MatchOption, codes, decimal, flat_map};
+ghost use Rattle.std.specs.Prelude.{is_some, ◌≡◌, ◌++◌, ◌+◌, ◌≤◌, [], ◌∷◌, List, ℕ, Some, None, IfOk, MatchOption, codes, decimal, flat_map};
+ghost use Rattle.zcert.specs.Format.{version_of};
 ghost use Rattle.zcert.specs.Listed.{listed_at, seen};
 ghost use Rattle.zrule.specs.declared.rule.Rule.{Rule as ARule};
-ghost use Rattle.zperform.specs.Showing.{IsEnd, IsShown, IsTold, IsToldOf, answer_line, claims_text, explained_text, first_line, bare_line, frame_text, heading_text, numbered, range_line, routine_line, routine_place, set_line, spelled_line, unlisted_line};
+ghost use Rattle.zperform.specs.Showing.{IsEnd, IsShown, IsTold, IsToldOf, answer_line, claims_text, explained_text, first_line, bare_line, frame_text, frames_line, heading_text, limit_line, numbered, range_line, routine_line, routine_place, set_line, spelled_line, unlisted_line};
 
 use crate::listing::{add_address, add_line};
 use crate::told::Told;
@@ -27,7 +28,7 @@ pub fn claims_of<V: Told>(
     certificate: &Certificate<V>,
     address: Option<u32>,
 ) -> Result<Vec<u8>, AllocError>
-    ensures { IfOk result (λ text. IsShown V.operations V.set_text story.now certificate.now V.format.version V.kind_text address text.items) }
+    ensures { IfOk result (λ text. IsShown V.operations V.set_text story.now certificate.now (version_of V.format (is_some certificate.now.limit)) V.kind_text address text.items) }
 {
     let mut text = Vec::new(alloc);
     add_claims(certificate, &mut text)?;
@@ -37,22 +38,43 @@ pub fn claims_of<V: Told>(
 
 /// Adds what a certificate says beside its instructions.
 fn add_claims<V: Told>(certificate: &Certificate<V>, text: &mut Vec<u8>) -> Result<(), AllocError>
-    ensures { IfOk result (λ _. text.new.items ≡ text.old.items ++ claims_text V.set_text V.format.version V.kind_text certificate.now) }
+    ensures { IfOk result (λ _. text.new.items ≡ text.old.items ++ claims_text V.set_text (version_of V.format (is_some certificate.now.limit)) V.kind_text certificate.now) }
 {
-    add_heading::<V>(text)?;
+    add_heading::<V>(certificate.version(), text)?;
+    add_limit(certificate.limit(), text)?;
     add_ranges(certificate.ranges(), text)?;
     add_sets(b"global ", FIRST_GLOBAL, certificate.globals(), text)?;
     add_routines(certificate.routines(), text)
 }
 
 /// Adds the version, and what its sets are.
-fn add_heading<V: Told>(text: &mut Vec<u8>) -> Result<(), AllocError>
-    ensures { IfOk result (λ _. text.new.items ≡ text.old.items ++ heading_text V.format.version V.kind_text) }
+fn add_heading<V: Told>(version: u8, text: &mut Vec<u8>) -> Result<(), AllocError>
+    ensures { IfOk result (λ _. text.new.items ≡ text.old.items ++ heading_text version V.kind_text) }
 {
     text.extend_from_slice(b"version ")?;
-    text.extend_from_slice(Buffer::new().format(V::version()).as_bytes())?;
+    text.extend_from_slice(Buffer::new().format(version).as_bytes())?;
     text.extend_from_slice(b", ")?;
     text.extend_from_slice(V::kind())?;
+    text.push(b'\n')?;
+    Ok(())
+}
+
+/// Adds a line for a limit of frames, where one is named.
+fn add_limit(limit: Option<u16>, text: &mut Vec<u8>) -> Result<(), AllocError>
+    ensures { IfOk result (λ _. text.new.items ≡ text.old.items ++ limit_line limit) }
+{
+    match limit {
+        None => Ok(()),
+        Some(limit) => add_frames(limit, text),
+    }
+}
+
+/// Adds the line of so many frames.
+fn add_frames(limit: u16, text: &mut Vec<u8>) -> Result<(), AllocError>
+    ensures { IfOk result (λ _. text.new.items ≡ text.old.items ++ limit_line (Some limit)) }
+{
+    text.extend_from_slice(b"frame limit ")?;
+    text.extend_from_slice(Buffer::new().format(limit).as_bytes())?;
     text.push(b'\n')?;
     Ok(())
 }

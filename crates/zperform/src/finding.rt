@@ -1,10 +1,9 @@
 //! Certificates found for a story's file, and codes explained.
 
-ghost use Rattle.std.specs.Prelude.{◌≡◌, ◌≢◌, true, IfErr, IfOk, IsErrOf};
-ghost use Rattle.zfind.specs.Finding.{IsFailure};
+ghost use Rattle.std.specs.Prelude.{◌≡◌, ◌≢◌, ◌≤◌, true, IfErr, IfOk, IfSome, IsErrOf, Some};
 ghost use Rattle.zplayer.specs.Outside.{Blames};
 ghost use Rattle.zperform.specs.Devices.{FlushesUnless, ReadsUnless, held};
-ghost use Rattle.zperform.specs.Finding.{ExplainComesTo, FindComesTo, IsCertificateOf, IsFound, IsNotFound, IsOfStoryOrFound, IsUnfound};
+ghost use Rattle.zperform.specs.Finding.{ExplainComesTo, FailsFor, FindComesTo, IsCertificateFor, IsFound, IsLimitedOf, IsNotFound, IsOfStoryOrFound, IsUnfound};
 
 use crate::accepting::open_story;
 use crate::files::Files;
@@ -13,26 +12,28 @@ use crate::performing::write_done;
 use std::alloc::Global;
 use zexplain::explanation;
 use zfault::Sink;
-use zfind::{FindError, broken_in_all};
+use zfind::{FindError, broken_in_all, find_limited};
 use zstory::Story;
 
 /// What is said where a certificate was found.
 const FOUND: &[u8] = b"found\n";
 
-/// Finds a certificate for the story of a file, keeps it in another, and then says so.
+/// Finds a certificate for the story of a file, which names a limit of frames if one is asked for, keeps it in another, and then says so.
 pub fn find_file<F: Files, W: Sink>(
     alloc: Global,
     story: &str,
     certificate: &str,
+    frames: Option<u16>,
     files: &mut F,
     writer: &mut W,
 ) -> Outcome
-    ensures comes { FindComesTo story.now certificate.now (F.known files.old) (F.known files.new) (W.contents writer.old) (W.contents writer.new) result }
+    requires low { IfSome frames (λ n. n ≤ 4096) }
+    ensures comes { FindComesTo frames story.now certificate.now (F.known files.old) (F.known files.new) (W.contents writer.old) (W.contents writer.new) result }
     ensures writer { FlushesUnless W.failures W.waits writer.old writer.new (result ≡ Outcome.Stopped (Problem.Failed Failure.Write)) }
     ensures files { Blames (result ≡ Outcome.Stopped (Problem.Failed Failure.File)) (F.failures files.old) (F.failures files.new) }
-    ensures could { result ≡ Outcome.Stopped (Problem.Failed Failure.File) → IsOfStoryOrFound (held F.known F.failures F.can_fail files.old) story.now certificate.now }
+    ensures could { result ≡ Outcome.Stopped (Problem.Failed Failure.File) → IsOfStoryOrFound frames (held F.known F.failures F.can_fail files.old) story.now certificate.now }
 {
-    let bytes = match certificate_of(alloc, story, files) {
+    let bytes = match certificate_of(alloc, story, frames, files) {
         Ok(bytes) => bytes,
         Err(problem) => return Outcome::Stopped(problem),
     };
@@ -43,32 +44,58 @@ pub fn find_file<F: Files, W: Sink>(
 }
 
 /// The bytes of a certificate for the story of a file.
-fn certificate_of<F: Files>(alloc: Global, name: &str, files: &mut F) -> Result<Vec<u8>, Problem>
-    ensures found { IfOk result (λ bytes. IsFound (F.known files.old name.now) bytes.items) }
-    ensures refused { IfErr result (IsNotFound (F.known files.old name.now)) }
+fn certificate_of<F: Files>(
+    alloc: Global,
+    name: &str,
+    frames: Option<u16>,
+    files: &mut F,
+) -> Result<Vec<u8>, Problem>
+    requires low { IfSome frames (λ n. n ≤ 4096) }
+    ensures found { IfOk result (λ bytes. IsFound frames (F.known files.old name.now) bytes.items) }
+    ensures refused { IfErr result (IsNotFound frames (F.known files.old name.now)) }
     ensures files { ReadsUnless F.known F.failures F.can_fail files.old files.new (IsErrOf result (Problem.Failed Failure.File)) }
     ensures could { IsErrOf result (Problem.Failed Failure.File) → F.can_fail files.old name.now ≡ true }
     ensures unwritten { ¬ IsErrOf result (Problem.Failed Failure.Write) }
 {
     let story = open_story(alloc, name, files)?;
-    spelled_certificate(alloc, &story)
+    spelled_certificate(alloc, &story, frames)
 }
 
 /// The bytes of a certificate for a story.
-fn spelled_certificate(alloc: Global, story: &Story) -> Result<Vec<u8>, Problem>
-    ensures found { IfOk result (λ bytes. IsCertificateOf story.now bytes.items) }
-    ensures refused { IfErr result (IsUnfound story.now) }
+fn spelled_certificate(
+    alloc: Global,
+    story: &Story,
+    frames: Option<u16>,
+) -> Result<Vec<u8>, Problem>
+    requires low { IfSome frames (λ n. n ≤ 4096) }
+    ensures found { IfOk result (λ bytes. IsCertificateFor frames story.now bytes.items) }
+    ensures refused { IfErr result (IsUnfound frames story.now) }
 {
-    match zfind::find(alloc, story) {
-        Ok(found) => Ok(found.write(alloc)?),
-        Err(error) => Err(unfound(alloc, story, error)),
+    match frames {
+        None => match zfind::find(alloc, story) {
+            Ok(found) => Ok(found.write(alloc)?),
+            Err(error) => Err(unfound(alloc, story, None, error)),
+        },
+        Some(limit) => spelled_with_limit(alloc, story, limit),
+    }
+}
+
+/// The bytes of one that names a limit of frames.
+fn spelled_with_limit(alloc: Global, story: &Story, limit: u16) -> Result<Vec<u8>, Problem>
+    requires low { limit ≤ 4096 }
+    ensures found { IfOk result (λ bytes. IsLimitedOf story.now limit bytes.items) }
+    ensures refused { IfErr result (IsUnfound (Some limit) story.now) }
+{
+    match find_limited(alloc, story, limit) {
+        Ok(certificate) => Ok(zcert::write(alloc, &certificate)?),
+        Err(error) => Err(unfound(alloc, story, Some(limit), error)),
     }
 }
 
 /// Why no certificate is found for a story, and what is broken in every one, if that is known.
-fn unfound(alloc: Global, story: &Story, error: FindError) -> Problem
-    requires { IsFailure story.now error }
-    ensures { IsUnfound story.now result }
+fn unfound(alloc: Global, story: &Story, frames: Option<u16>, error: FindError) -> Problem
+    requires { FailsFor frames story.now error }
+    ensures { IsUnfound frames story.now result }
 {
     match error {
         FindError::OutOfMemory => Problem::Failed(Failure::Memory),

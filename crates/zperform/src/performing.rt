@@ -4,7 +4,7 @@ ghost use Rattle.std.specs.Prelude.{◌≡◌, ◌≢◌, [], true, IfSome, List
 ghost use Rattle.clap.specs.Kinds.{HasKind, Kinds};
 ghost use Rattle.clap.specs.Walk.{texts};
 ghost use Rattle.clap.specs.Words.{fault_of};
-ghost use Rattle.zcommand.specs.CommandLine.{request_of, zpc_app};
+ghost use Rattle.zcommand.specs.CommandLine.{IsLow, request_of, zpc_app};
 ghost use Rattle.zplayer.specs.Outside.{Blames};
 ghost use Rattle.zperform.specs.Accepting.{CheckComesTo, IsOfEither};
 ghost use Rattle.zperform.specs.Devices.{Ends, FlushesUnless, Held, ReadsUnless, Says, Told, UsesUnless, Writes, devices, held, seen, told};
@@ -78,6 +78,7 @@ fn carry_out<F: Files, R: Source, W: Sink, E: Sink>(
     writer: &mut W,
     errors: &mut E,
 ) -> Outcome
+    requires low { IsLow command }
     ensures comes { (refusals : List ARefusal) × Begins (request_of command.entry) (F.known files.old) (F.known files.new) (R.remaining reader.old) refusals (W.contents writer.old) (W.contents writer.new) result × SaysEach (said_by (request_of command.entry) refusals) (seen E.contents E.failures E.waits errors.old) (seen E.contents E.failures E.waits errors.new) }
     ensures writer { FlushesUnless W.failures W.waits writer.old writer.new (result ≡ Outcome.Stopped (Problem.Failed Failure.Write)) }
     ensures files { UsesUnless F.known F.failures files.old files.new (save_in (request_of command.entry)) (written_by (request_of command.entry)) (result ≡ Outcome.Stopped (Problem.Failed Failure.File)) }
@@ -132,6 +133,7 @@ fn fulfil<F: Files, R: Source, W: Sink, E: Sink>(
     writer: &mut W,
     errors: &mut E,
 ) -> Outcome
+    requires low { IsLow command }
     ensures comes { (refusals : List ARefusal) × Comes (request_of command.entry) (F.known files.old) (F.known files.new) (R.remaining reader.old) refusals (W.contents writer.old) (W.contents writer.new) result × SaysEach (said_by (request_of command.entry) refusals) (seen E.contents E.failures E.waits errors.old) (seen E.contents E.failures E.waits errors.new) }
     ensures writer { FlushesUnless W.failures W.waits writer.old writer.new (result ≡ Outcome.Stopped (Problem.Failed Failure.Write)) }
     ensures files { UsesUnless F.known F.failures files.old files.new (save_in (request_of command.entry)) (written_by (request_of command.entry)) (result ≡ Outcome.Stopped (Problem.Failed Failure.File)) }
@@ -151,8 +153,9 @@ fn fulfil<F: Files, R: Source, W: Sink, E: Sink>(
         Command::Find {
             story,
             certificate,
+            frames,
             ..
-        } => find_file(alloc, story, certificate, files, writer),
+        } => find_file(alloc, story, certificate, frames, files, writer),
         Command::Check { story, certificate } => {
             check_files(alloc, story, certificate, files, writer)
         }

@@ -85,7 +85,7 @@ fn show_at<F: Files, W: Sink>(
     }
 }
 
-/// The lines of what the certificate of a file says, of either version. The story is looked at first, then the certificate's file, of
+/// The lines of what the certificate of a file says, of either kind of sets. The story is looked at first, then the certificate's file, of
 /// which no more is read than decides it.
 fn shown<F: Files>(
     alloc: Global,

@@ -13,7 +13,7 @@ use Rattle.zstate.specs.declared.halt.Halt.{Halt}
 use Rattle.zstate.specs.declared.halt.Halt.TheVariants as halts
 use Rattle.zstate.specs.declared.halt.Stop.{Stop}
 use Rattle.zstate.specs.declared.halt.Stop.TheVariants.{Paused}
-use Rattle.zstate.specs.State.{Scope, Setting, State, give, scope_all, scope_only, usual_limit}
+use Rattle.zstate.specs.State.{Scope, Setting, State, give, scope_all, scope_only}
 use Rattle.zstate.specs.Step.{Done, step}
 use Rattle.zstate.specs.Run.{Ending, Given, Input, Restored, Stands, after, ends, handed, restored, run, stop_of, until}
 use Rattle.zstate.proofs.Joins.{inputs_join, steps_join}
@@ -22,7 +22,7 @@ use Rattle.zrule.specs.Described.{AreFine, Described, IsListedIn}
 use Rattle.zrule.proofs.Alike.{run_alike}
 use Rattle.zrule.proofs.Elsewhere.{accepted_fine}
 use Rattle.zrule.proofs.Runs.{all_listed, run_safe}
-use Rattle.zcheck.specs.Acceptance.{AcceptanceOver, AreAccepted, IsAcceptedSave, playing_in}
+use Rattle.zcheck.specs.Acceptance.{AcceptanceOver, AreAccepted, IsAcceptedSave, playing_in, limit_of}
 use Rattle.zcheck.proofs.Saves.{are_fine, somewhere_accepted, taken_in}
 use Rattle.zplay.specs.Accepted.{IsAccepted, claims}
 use Rattle.zplay.specs.Calls.{AllDid, Call, Gave, IsMachinesRun, IsUnused, MovesAsMachine, Ran, Took, handed_in, steps_of}
@@ -71,10 +71,10 @@ module _ {V : Type 0} (o : SetOperations V) (lawful : AreSound o) (format : Form
   still pause (input ∷ inputs) k t stands none unused = stands_unused (setting_of a) k pause t input inputs stands none unused
 
   -- a session in a described state accepts just what is accepted
-  pub accepts_accepted : (s : State) → Described o (claims o a) usual_limit a.story s → (save : List ℕ) → Accepts o (record { accepted = a; state = s }) save ↔ IsAcceptedSave o a save
+  pub accepts_accepted : (s : State) → Described o (claims o a) (limit_of a) a.story s → (save : List ℕ) → Accepts o (record { accepted = a; state = s }) save ↔ IsAcceptedSave o a (limit_of a) save
   accepts_accepted s d save = (
-    somewhere_accepted o lawful format a accepted.spelling accepted.loaded accepted.passes accepted.lists save s,
-    λ x. taken_in o lawful format a accepted.spelling accepted.loaded accepted.passes accepted.lists (scope_only a.listing) (listed_each o lawful format a accepted) save x s d.is_state,
+    somewhere_accepted o lawful format a accepted.spelling accepted.loaded accepted.passes accepted.lists (limit_of a) save s,
+    λ x. taken_in o lawful format a accepted.spelling accepted.loaded accepted.passes accepted.lists (limit_of a) (scope_only a.listing) (listed_each o lawful format a accepted) save x s d.is_state,
   )
 
   -- the run over what calls handed in, and more, goes through where they led
@@ -97,19 +97,19 @@ module _ {V : Type 0} (o : SetOperations V) (lawful : AreSound o) (format : Form
       ∙ ap (λ (l : List Item). after l (run (setting_of a) more n t)) (sym (all ∙ ap (λ (l : List Item). l ++ rest) none))
 
   -- what they handed in is fine in each scope, with what is
-  fine_calls : (scope : Scope) (calls : List Call) (s t : State) (items : List Item) → AllDid o a calls s t items → (more : List Input) → AreFine o (claims o a) (playing_in a.story scope) more → AreFine o (claims o a) (playing_in a.story scope) (handed_in calls ++ more)
+  fine_calls : (scope : Scope) (calls : List Call) (s t : State) (items : List Item) → AllDid o a calls s t items → (more : List Input) → AreFine o (claims o a) (playing_in a.story (limit_of a) scope) more → AreFine o (claims o a) (playing_in a.story (limit_of a) scope) (handed_in calls ++ more)
   fine_calls scope [] s t items did more fine = fine
   fine_calls scope (Ran k ∷ calls) s t items (u, first, rest, one, did, all) more fine = fine_calls scope calls u t rest did more fine
   fine_calls scope (Gave event ∷ calls) s t items (u, first, rest, one, did, all) more fine = (tt, fine_calls scope calls u t rest did more fine)
   fine_calls scope (Took bytes ∷ calls) s t items (u, first, rest, (waits, taken, moved, none), did, all) more fine =
       (accepted_fine o (claims o a) (setting_of a) accepted.loaded (supported o lawful format a accepted) scope bytes s taken, fine_calls scope calls u t rest did more fine)
 
-  module _ (s : State) (d : Described o (claims o a) usual_limit a.story s) (calls : List Call) (t : State) (items : List Item) (did : AllDid o a calls s t items) where
-    all_fine : (scope : Scope) (more : List Input) → AreAccepted o a more → AreFine o (claims o a) (playing_in a.story scope) (handed_in calls ++ more)
-    all_fine scope more given = fine_calls scope calls s t items did more (are_fine o lawful format a accepted.spelling accepted.loaded accepted.passes accepted.lists scope more given)
+  module _ (s : State) (d : Described o (claims o a) (limit_of a) a.story s) (calls : List Call) (t : State) (items : List Item) (did : AllDid o a calls s t items) where
+    all_fine : (scope : Scope) (more : List Input) → AreAccepted o a (limit_of a) more → AreFine o (claims o a) (playing_in a.story (limit_of a) scope) (handed_in calls ++ more)
+    all_fine scope more given = fine_calls scope calls s t items did more (are_fine o lawful format a accepted.spelling accepted.loaded accepted.passes accepted.lists (limit_of a) scope more given)
 
     -- in a scope that has what is listed, the run is that with the listing
-    alike : (scope : Scope) → IsListedIn o (claims o a) scope → (more : List Input) (n : ℕ) → AreAccepted o a more → run (playing_in a.story scope) (handed_in calls ++ more) n s ≡ run (setting_of a) (handed_in calls ++ more) n s
+    alike : (scope : Scope) → IsListedIn o (claims o a) scope → (more : List Input) (n : ℕ) → AreAccepted o a (limit_of a) more → run (playing_in a.story (limit_of a) scope) (handed_in calls ++ more) n s ≡ run (setting_of a) (handed_in calls ++ more) n s
     alike scope listed more n given = run_alike o lawful (claims o a) (setting_of a) scope accepted.loaded (supported o lawful format a accepted) (listed_each o lawful format a accepted) listed (handed_in calls ++ more) n s (all_fine (scope_only a.listing) more given) (all_fine scope more given) d
 
     in_scope : (scope : Scope) → IsListedIn o (claims o a) scope → IsMachinesRun o a scope calls s t items
@@ -117,10 +117,10 @@ module _ {V : Type 0} (o : SetOperations V) (lawful : AreSound o) (format : Form
       ends = λ pause unused left stands none given is.
           alike scope listed unused (left + steps_of calls) given ∙ joined calls s t items did unused left ∙ ap (after items) (still pause unused left t stands none is)
           ∙ ap (λ (l : List Item). let e : Ending = record { stop = Paused pause; state = t; items = l } in e) (append-nil items);
-      no_fault = λ inputs left given. (run_safe o lawful (claims o a) (playing_in a.story scope) accepted.loaded (supported o lawful format a accepted) listed (handed_in calls ++ inputs) (left + steps_of calls) s (all_fine scope inputs given) d).0;
+      no_fault = λ inputs left given. (run_safe o lawful (claims o a) (playing_in a.story (limit_of a) scope) accepted.loaded (supported o lawful format a accepted) listed (handed_in calls ++ inputs) (left + steps_of calls) s (all_fine scope inputs given) d).0;
     }
 
-  pub moves_as_machine : (s : State) → Described o (claims o a) usual_limit a.story s → MovesAsMachine o a s
+  pub moves_as_machine : (s : State) → Described o (claims o a) (limit_of a) a.story s → MovesAsMachine o a s
   moves_as_machine s d calls t items did = (
     in_scope s d calls t items did (scope_only a.listing) (listed_each o lawful format a accepted),
     in_scope s d calls t items did (scope_all a.story) (all_listed o (claims o a) a.story (supported o lawful format a accepted)),

@@ -7,14 +7,15 @@ use Rattle.zquetzal.specs.Grammar.{save_text}
 use Rattle.zquetzal.specs.Saved.{origin_of}
 use Rattle.zcert.specs.Format.{Format}
 use Rattle.zdomain.specs.Domain.{SetOperations, AreSound}
-use Rattle.zstate.specs.State.{Scope, Setting, State, usual_limit}
+use Rattle.zstate.specs.State.{Scope, Setting, State}
 use Rattle.zstate.specs.Saves.{restoring, saved_of, saves}
 use Rattle.zstate.specs.Step.{fetch}
 use Rattle.zstate.specs.Run.{awaited}
 use Rattle.zrule.specs.declared.rule.Rule.TheVariants as rules
 use Rattle.zrule.specs.Described.{AcceptedAreFine, Described, IsAcceptedIn, IsFineSave, SavedAreAccepted}
 use Rattle.zrule.proofs.Relied.{reads_it}
-use Rattle.zcheck.specs.Acceptance.{AcceptanceOver}
+use Rattle.zcert.proofs.Limit.{frame_limit_most}
+use Rattle.zcheck.specs.Acceptance.{AcceptanceOver, limit_of}
 use Rattle.zplay.specs.Accepted.{claims}
 use Rattle.zplay.specs.Session.{Accepts, IsDescribed, IsInPlay, IsRefusedSave, PlayingOver, setting, setting_of}
 use Rattle.zplay.proofs.Accepting.{listed_each, supported}
@@ -31,8 +32,8 @@ module _ {V : Type 0} (o : SetOperations V) (lawful : AreSound o) (format : Form
 
   pub saved_taken : SavedAreAccepted o (claims o a) → awaited (setting_of a) s ≡ Some needs.Saved → (other : PlayingOver V) → other.accepted ≡ a → IsDescribed o other → Accepts o other (save_text (origin_of a.story) (saved_of a.story s))
   saved_taken law waits other same described =
-      let there : Described o (claims o a) usual_limit a.story other.state = subst (λ (x : AcceptanceOver V). Described o (claims o x) usual_limit x.story other.state) same described in
-      let accepted = law (setting_of a) s other.state play.accepted.loaded (supported o lawful format a play.accepted) (omega arith) play.described (asked waits) there.is_state in
+      let there : Described o (claims o a) (limit_of a) a.story other.state = subst (λ (x : AcceptanceOver V). Described o (claims o x) (limit_of x) x.story other.state) same described in
+      let accepted = law (setting_of a) s other.state play.accepted.loaded (supported o lawful format a play.accepted) (frame_limit_most format a.certificate play.accepted.spelling) play.described (asked waits) there.is_state in
       subst (λ (x : AcceptanceOver V). IsAcceptedIn o (claims o x) (setting_of x) (save_text (origin_of a.story) (saved_of a.story s)) other.state) (sym same) accepted
 
   pub accepted_fine : AcceptedAreFine o (claims o a) → (save : List ℕ) (scope : Scope) → Accepts o (record { accepted = a; state = s }) save → IsFineSave o (claims o a) (record (setting_of a) { scope = scope }) save
@@ -50,7 +51,7 @@ ok_once r x y is was = cc
 pub refused_apart : {V : Type 0} (o : SetOperations V) (p : PlayingOver V) (bytes : List ℕ) (e : SaveError) → IsRefusedSave o p bytes e → Accepts o p bytes → ⊥
 refused_apart o p bytes e (inl refused) (t, goes, d) = err_not_ok (restoring (setting p) bytes p.state) e t refused goes
 refused_apart o p bytes e (inr (not_described, u, goes_so, apart)) (t, goes, d) =
-    apart (subst (Described o (claims o p.accepted) usual_limit p.accepted.story) (ok_once (restoring (setting p) bytes p.state) t u goes goes_so) d)
+    apart (subst (Described o (claims o p.accepted) (limit_of p.accepted) p.accepted.story) (ok_once (restoring (setting p) bytes p.state) t u goes goes_so) d)
 
 -- so where a save is refused, it isn't accepted
 pub refused_exact : {V A : Type 0} (o : SetOperations V) (p : PlayingOver V) (bytes : List ℕ) (r : Result A SaveError) (e : SaveError) → r ≡ Err e → IfErr r (IsRefusedSave o p bytes) → IsOk r ↔ Accepts o p bytes

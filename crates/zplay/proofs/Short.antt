@@ -49,8 +49,8 @@ short_base (g ∷ gs) short =
     omega (arith, rest, locals, stack)
 
 -- so there is room for one more
-pub room_kept : (gs : List Frame) (words : ℕ) → AllByRecursion IsShort gs → length gs ≤ 1024 → words_kept ≤ words → words < base_of gs + 131106 → ⊥
-room_kept gs words short few kept less = let base = short_base gs short in absurd (omega (arith, base, few, kept, less))
+pub room_kept : (limit : ℕ) (gs : List Frame) (words : ℕ) → AllByRecursion IsShort gs → length gs ≤ limit → words_kept limit ≤ words → words < base_of gs + 131106 → ⊥
+room_kept limit gs words short few kept less = let base = short_base gs short in absurd (omega (arith, base, few, kept, less))
 
 -- ---- the frames of a save
 
@@ -60,8 +60,8 @@ short_laid (f ∷ fs) low are =
     let rest = short_laid fs low.1 are.1 in let locals = are.0.locals in let stack = low.0 in
     omega (arith, rest, locals, stack)
 
-pub laid_kept : (fs : List SavedFrame) (words : ℕ) → AllByRecursion (λ f. length f.stack ≤ 64) fs → AreSavedFrames fs → words_kept ≤ words → words < length_laid fs + 65551 → ⊥
-laid_kept [] words low are kept less = absurd are
-laid_kept (f ∷ fs) words low are kept less =
-    let laid = short_laid (f ∷ fs) low are.1 in let few = are.2 in
+pub laid_kept : (limit : ℕ) (fs : List SavedFrame) (words : ℕ) → AllByRecursion (λ f. length f.stack ≤ 64) fs → AreSavedFrames fs → length fs ≤ limit + 1 → words_kept limit ≤ words → words < length_laid fs + 65551 → ⊥
+laid_kept limit [] words low are few kept less = absurd are
+laid_kept limit (f ∷ fs) words low are few kept less =
+    let laid = short_laid (f ∷ fs) low are.1 in
     absurd (omega (arith, laid, few, kept, less))

@@ -1,11 +1,11 @@
 -- Values of the definitions, computed.
-use Rattle.std.proofs.Common.{◌≡◌, ℕ, false, List, [], ◌∷◌, ◌++◌, replicate, refl, arith}
+use Rattle.std.proofs.Common.{◌≡◌, ℕ, false, List, [], ◌∷◌, ◌++◌, replicate, refl, arith, None, Some}
 use Rattle.std.specs.Prelude.{pos}
 use Rattle.zstory.specs.LoadedStory.{LoadedStory}
 use Rattle.zcert.specs.Certificate.{Certificate}
 use Rattle.zdomain.specs.declared.interval.Interval.{Interval}
 use Rattle.zdomain.specs.Interval.{point, interval_operations}
-use Rattle.zcheck.specs.Acceptance.{Acceptance}
+use Rattle.zcheck.specs.Acceptance.{Acceptance, limit_of}
 use Rattle.zfault.specs.declared.event.Event.TheVariants.{Random}
 use Rattle.zstate.specs.State.{Setting, State}
 use Rattle.zstate.specs.Run.{Given, Restored}
@@ -28,6 +28,7 @@ either = record { lo = pos 3; hi = pos 4; ordered = omega arith }
 certificate : Certificate Interval
 certificate = record {
   identity = record { release = 0; serial = replicate 6 0; checksum = 0; length = 65 };
+  limit = None;
   ranges = [];
   globals = replicate 240 (point 3);
   routines = record { address = 60; locals = 0; result = either } ∷ [];
@@ -37,10 +38,11 @@ certificate = record {
 a : Acceptance
 a = record { story = story; certificate = certificate; listing = record { records = []; routines = [] } }
 
--- only what is listed is played, with the usual limit of frames, for which there are so many words
-games : ((setting_of a).limit ≡ 1024) × ((setting_of a).scope.instructions 64 ≡ false) × ((setting_of a).story ≡ story) × (words_kept ≡ 217127)
-unfolding a
-games = (refl, refl, refl, refl)
+-- only what is listed is played, with 1,024 frames where the certificate names no limit, and with as many as it names, for which there are so many
+-- words
+games : ((setting_of a).limit ≡ 1024) × ((setting_of a).scope.instructions 64 ≡ false) × ((setting_of a).story ≡ story) × (limit_of (record a { certificate = record certificate { limit = Some 4096 } }) ≡ 4096) × (words_kept 0 ≡ 131111) × (words_kept 1024 ≡ 217127) × (words_kept 4096 ≡ 475175)
+unfolding a certificate
+games = (refl, refl, refl, refl, refl, refl, refl)
 
 -- what each routine gives, and what isn't one
 given : ((claims interval_operations a).result 1 ≡ either) × ((claims interval_operations a).result 2 ≡ interval_operations.any) × ((claims interval_operations a).result 0 ≡ interval_operations.any)

@@ -14,7 +14,7 @@ use Rattle.zstate.specs.State.{Scope, Setting, State, give, scope_all, scope_onl
 use Rattle.zstate.specs.Step.{step}
 use Rattle.zstate.specs.Run.{Given, Goes, Input, Restored, Stands, awaited, handed, run}
 use Rattle.zrule.specs.Described.{IsNoFault}
-use Rattle.zcheck.specs.Acceptance.{AcceptanceOver, AreAccepted, playing_in}
+use Rattle.zcheck.specs.Acceptance.{AcceptanceOver, AreAccepted, limit_of, playing_in}
 use Rattle.zplay.specs.Session.{Accepts, setting_of}
 
 -- a call that moves a session: of `run` or `run_down`, in which so many steps were made; of `give`; of `restore`, which took the save
@@ -54,13 +54,13 @@ module _ {V : Type 0} (o : SetOperations V) (a : AcceptanceOver V) where
   IsUnused m [] t = Unit {0}
   IsUnused m (input ∷ inputs) t = (h : Halt) → step m t ≡ Err h → handed m h input t ≡ None
 
-  -- The checked machine is played in a scope from where the session was, over what the calls handed in and what wasn't used, in as many steps
+  -- The checked machine is played in a scope, with as many frames as the certificate says, from where the session was, over what the calls handed in and what wasn't used, in as many steps
   -- as they made, and more where the session paused for another cause than that. It pauses for the same cause, in the same state, with the same
   -- items. And wherever it is led from there by events and accepted saves, it meets no fault.
   pub record IsMachinesRun (scope : Scope) (calls : List Call) (s t : State) (items : List Item) : Type 0 where
-    pub ends : (pause : Pause) (unused : List Input) (left : ℕ) → Stands (setting_of a) (Paused pause) t → (pause ≡ Budget → left ≡ 0) → AreAccepted o a unused → IsUnused (setting_of a) unused t
-        → run (playing_in a.story scope) (handed_in calls ++ unused) (left + steps_of calls) s ≡ record { stop = Paused pause; state = t; items = items }
-    pub no_fault : (inputs : List Input) (left : ℕ) → AreAccepted o a inputs → IsNoFault (run (playing_in a.story scope) (handed_in calls ++ inputs) (left + steps_of calls) s).stop
+    pub ends : (pause : Pause) (unused : List Input) (left : ℕ) → Stands (setting_of a) (Paused pause) t → (pause ≡ Budget → left ≡ 0) → AreAccepted o a (limit_of a) unused → IsUnused (setting_of a) unused t
+        → run (playing_in a.story (limit_of a) scope) (handed_in calls ++ unused) (left + steps_of calls) s ≡ record { stop = Paused pause; state = t; items = items }
+    pub no_fault : (inputs : List Input) (left : ℕ) → AreAccepted o a (limit_of a) inputs → IsNoFault (run (playing_in a.story (limit_of a) scope) (handed_in calls ++ inputs) (left + steps_of calls) s).stop
 
   -- whatever calls were made of a session in a state: with the certificate's listing in scope, and with every place
   abbrev pub MovesAsMachine : State → Type 0

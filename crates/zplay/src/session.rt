@@ -3,17 +3,17 @@
 ghost use Rattle.std.specs.Prelude.{◌≡◌, ◌↔◌, ◌≤◌, ◌+◌, ℕ, List, [], Ok, Some, IfErr, IfOk, IsOk, OnErr, OnOk, IsTrue};
 ghost use Rattle.zfault.specs.Answers.{answers};
 ghost use Rattle.zstate.specs.declared.halt.Stop.TheVariants.{Paused};
-ghost use Rattle.zstate.specs.State.{Scope, opening, give, usual_limit};
+ghost use Rattle.zstate.specs.State.{Scope, opening, give};
 ghost use Rattle.zstate.specs.Run.{awaited, run, Ends, GivesOut, Input, Makes, Stands};
 ghost use Rattle.zfault.specs.declared.pause.Need.TheVariants.{Saved as ASave, Restore as ARestore};
 ghost use Rattle.zquetzal.specs.Grammar.{save_text};
 ghost use Rattle.zquetzal.specs.Saved.{origin_of};
 ghost use Rattle.zstate.specs.Saves.{restoring, saved_of};
 ghost use Rattle.zrule.specs.Described.{AreFine, Described, IsFineSave, IsNoFault};
-ghost use Rattle.zcheck.specs.Acceptance.{IsAcceptedSave};
+ghost use Rattle.zcheck.specs.Acceptance.{IsAcceptedSave, limit_of};
 ghost use Rattle.zplay.specs.Accepted.{IsAccepted, claims};
 ghost use Rattle.zplay.specs.Calls.{MovesAsMachine};
-ghost use Rattle.zplay.specs.Session.{setting, Accepts, GiveEach, IsDescribed, IsRefusedSave, PlayingOver};
+ghost use Rattle.zplay.specs.Session.{setting, Accepts, GiveEach, IsDescribed, IsRefusedSave, PlayingOver, words_kept};
 
 use std::alloc::{AllocError, Global};
 use std::marker::Model;
@@ -27,12 +27,6 @@ use zmachine::{Machine, Parts, Untested};
 use zquetzal::{SaveError, read};
 use zrule::{each_step_is_safe, saves_are_accepted};
 use zstate::{RandomMode, Stop};
-
-/// How many frames may stand above the first (own).
-const FRAME_LIMIT: usize = 1024;
-
-/// How many words there are for frames: for each 15 locals, 64 words on its stack and a head, and what the newest wants (own).
-const WORDS: usize = 5 + 84 * FRAME_LIMIT + 131_106;
 
 /// A play of an accepted story. It makes no test for a fault, since none can come, and moves as the checked machine whose
 /// scope is the listing.
@@ -57,8 +51,8 @@ impl<'a, V: Spelled> Model for Session<'a, V> {
 }
 
 impl<'a, V: Spelled> Session<'a, V> {
-    /// The session that stands where the story opens (Z 6.1.3). Words for all its frames are reserved here, and rows that play can't
-    /// do without. Want of memory is the only error.
+    /// The session that stands where the story opens (Z 6.1.3). Words for all its frames are reserved here, as many as its certificate
+    /// says, and rows that play can't do without. Want of memory is the only error.
     pub fn start(alloc: Global, accepted: &'a Accepted<V>) -> Result<Session<'a, V>, AllocError>
         ensures { IfOk result (λ p. p ≡ record { accepted = accepted.now; state = opening accepted.now.story }) }
     {
@@ -67,9 +61,10 @@ impl<'a, V: Spelled> Session<'a, V> {
         each_gives(accepted);
         let story = accepted.story();
         let scope = zlink::Scope::Only(accepted.listing());
-        let rows = StoryRows::new(alloc, story, scope, FRAME_LIMIT)?;
+        let limit = usize::from(accepted.certificate().frame_limit());
+        let rows = StoryRows::new(alloc, story, scope, limit)?;
         let mut machine = Machine::new(alloc, story, rows)?;
-        if !machine.reserve(WORDS) {
+        if !machine.reserve(words_for(limit)) {
             return Err(AllocError);
         }
         Ok(Session { accepted, machine })
@@ -167,11 +162,12 @@ impl<'a, V: Spelled> Session<'a, V> {
     /// # Errors
     ///
     /// The lowest that refuses the save: what `zquetzal::read` says of the bytes, `Place` where no `save` is listed before the save's
-    /// place, `NotDescribed` where the certificate doesn't describe the state in which play would go on.
+    /// place, `NotDescribed` where there are more frames than the certificate says, or it doesn't describe the state in which play would go
+    /// on.
     pub fn restore(&mut self, save: &[u8]) -> Result<(), SaveError>
         requires { awaited (setting self.old) self.old.state ≡ Some ARestore }
         ensures play { self.new.accepted ≡ self.old.accepted }
-        ensures ok { OnOk result ((restoring (setting self.old) save.now self.old.state ≡ Ok self.new.state) × Described V.operations (claims V.operations self.old.accepted) usual_limit self.old.accepted.story self.new.state) }
+        ensures ok { OnOk result ((restoring (setting self.old) save.now self.old.state ≡ Ok self.new.state) × Described V.operations (claims V.operations self.old.accepted) (limit_of self.old.accepted) self.old.accepted.story self.new.state) }
         ensures same { OnErr result (self.new ≡ self.old) }
         ensures refused { IfErr result (IsRefusedSave V.operations self.old save.now) }
         ensures exact { IsOk result ↔ Accepts V.operations self.old save.now }
@@ -202,7 +198,7 @@ impl<'a, V: Spelled> Session<'a, V> {
 
     /// The law of sessions and checked machines: whatever calls of `run`, `give` and `restore` were made from here, where the session
     /// pauses the checked machine pauses that is given the same list, for the same cause, in the same state and with the same items, with
-    /// the certificate's listing in scope as with every place; and it meets no fault.
+    /// the certificate's listing in scope as with every place, and as many frames as it says; and it meets no fault.
     pub fn moves_as_machine(&self)
         ensures { MovesAsMachine V.operations self.now.accepted self.now.state }
     {
@@ -216,12 +212,21 @@ impl<'a, V: Spelled> Session<'a, V> {
     pub fn saves_are_accepted(&self)
         ensures described { IsDescribed V.operations self.now }
         ensures saved { awaited (setting self.now) self.now.state ≡ Some ASave → (other : PlayingOver V) → other.accepted ≡ self.now.accepted → IsDescribed V.operations other → Accepts V.operations other (save_text (origin_of self.now.accepted.story) (saved_of self.now.accepted.story self.now.state)) }
-        ensures accepted { (save : List ℕ) → Accepts V.operations self.now save ↔ IsAcceptedSave V.operations self.now.accepted save }
+        ensures accepted { (save : List ℕ) → Accepts V.operations self.now save ↔ IsAcceptedSave V.operations self.now.accepted (limit_of self.now.accepted) save }
         ensures fine { (save : List ℕ) (scope : Scope) → Accepts V.operations self.now save → IsFineSave V.operations (claims V.operations self.now.accepted) (record (setting self.now) { scope = scope }) save }
     {
         saves_are_accepted::<V>();
         let _machine = &self.machine;
     }
+}
+
+/// How many words there are for frames: for each of so many above the first 15 locals, 64 words on its stack and a head, and what the
+/// newest wants (own).
+fn words_for(limit: usize) -> usize
+    requires { limit ≤ 4096 }
+    ensures { result ≡ words_kept limit }
+{
+    5 + 84 * limit + 131_106
 }
 
 /// What is known of an accepted story.

@@ -241,7 +241,7 @@ frames_bound (f ∷ fs) each =
     let rest = frames_bound fs each.1 in
     omega (arith, length-append (frame_bytes f) (frames_bytes fs), length-frame_bytes f, each.0.locals, each.0.stack, rest)
 
-all_bound : (fs : List Frame) → AreFrames fs → length (frames_bytes fs) ≤ 134385700
+all_bound : (fs : List Frame) → AreFrames fs → length (frames_bytes fs) ≤ 537149476
 all_bound [] are = absurd are
 all_bound (f ∷ fs) are = let b = frames_bound (f ∷ fs) are.1 in omega (arith, b, are.2)
 

@@ -17,7 +17,7 @@ letters = (refl, refl, refl, refl, refl, refl)
 known_kinds : (is_known IFHD ≡ true) × (is_known UMEM ≡ true) × (is_known CMEM ≡ true) × (is_known STKS ≡ true) × (is_known 0x41555448 ≡ false)
 known_kinds = (refl, refl, refl, refl, refl)
 
-limits : (HEADER_LENGTH ≡ 13) × (MOST_FRAMES ≡ 1025)
+limits : (HEADER_LENGTH ≡ 13) × (MOST_FRAMES ≡ 4097)
 limits = (refl, refl)
 
 numbers : (number_of errors.NotForm ≡ 1) × (number_of errors.Length ≡ 2) × (number_of errors.ChunkMissing ≡ 3) × (number_of errors.ChunkTwice ≡ 4) × (number_of errors.Compressed ≡ 5) × (number_of errors.OtherStory ≡ 6) × (number_of errors.MemoryLength ≡ 7) × (number_of errors.Frames ≡ 8) × (number_of errors.Place ≡ 9) × (number_of errors.NotDescribed ≡ 10) × (number_of errors.OutOfMemory ≡ 11)

@@ -62,7 +62,7 @@ fn begins_with_first(stacks: &[u8]) -> bool
     }
 }
 
-/// How many frames the bytes are, of which there may be no more than 1,025.
+/// How many frames the bytes are, of which there may be no more than 4,097.
 fn counted(stacks: &[u8]) -> Result<usize, SaveError>
     ensures { Gives (λ n. n) result (count_within MOST_FRAMES stacks.now) }
 {

@@ -33,5 +33,5 @@ pub const FRAME_HEAD: usize = 8;
 /// How many locals a frame has at most (Z 5.2).
 pub const MOST_LOCALS: u8 = 15;
 
-/// How many frames there may be: 1,024 above the first (own).
-pub const MOST_FRAMES: usize = 1025;
+/// How many frames there may be: 4,096 above the first (own).
+pub const MOST_FRAMES: usize = 4097;

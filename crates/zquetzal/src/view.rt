@@ -63,7 +63,7 @@ impl<'a> SaveView<'a> {
         self.place
     }
 
-    /// How many frames there are, 1 to 1,025.
+    /// How many frames there are, 1 to 4,097.
     pub fn frame_count(&self) -> usize
         ensures value { result ≡ length self.now.frames }
         ensures frames { AreFrames self.now.frames }

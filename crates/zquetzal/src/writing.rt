@@ -126,7 +126,7 @@ fn put_frame(out: &mut Vec<u8>, frame: FrameParts<'_>)
 /// How many bytes the frames take.
 fn frames_length<S: SaveParts>(parts: &S) -> usize
     ensures value { result ≡ length (frames_bytes (S.saved parts.now).frames) }
-    ensures most { result ≤ 134385700 }
+    ensures most { result ≤ 537149476 }
 {
     let mut bytes = 0;
     for number in 0..parts.frame_count() {
@@ -162,7 +162,7 @@ fn put_stacks<S: SaveParts>(out: &mut Vec<u8>, parts: &S, size: usize)
 /// How many bytes the chunks take, whose data are so many.
 fn body_length(memory: usize, stacks: usize) -> usize
     requires memory { memory < 65536 }
-    requires stacks { stacks ≤ 134385700 }
+    requires stacks { stacks ≤ 537149476 }
     ensures { result ≡ 38 + memory + memory % 2 + stacks }
 {
     let header = CHUNK_HEAD + HEADER_LENGTH + HEADER_LENGTH % 2;
@@ -174,7 +174,7 @@ fn put_text<S: SaveParts>(out: &mut Vec<u8>, parts: &S, origin: &Origin, body: u
     requires origin { origin.now ≡ S.origin parts.now }
     requires room { vec_len out.old + length (save_text (S.origin parts.now) (S.saved parts.now)) ≤ vec_capacity out.old }
     requires stacks { stacks ≡ length (frames_bytes (S.saved parts.now).frames) }
-    requires short { stacks ≤ 134385700 }
+    requires short { stacks ≤ 537149476 }
     requires body { length (save_text (S.origin parts.now) (S.saved parts.now)) ≡ 12 + body }
     requires size { body ≡ 38 + length (S.saved parts.now).memory + length (S.saved parts.now).memory % 2 + stacks }
     ensures { out.new.items ≡ out.old.items ++ save_text (S.origin parts.now) (S.saved parts.now) }

@@ -2,6 +2,7 @@
 #![tactic(auto)]
 
 mod machine;
+mod scope;
 
 pub use machine::CheckedMachine;
-pub use zlink::Scope;
+pub use scope::Scope;

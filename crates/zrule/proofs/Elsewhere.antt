@@ -16,7 +16,7 @@ use Rattle.zquetzal.specs.Steps.{◌>>=◌}
 use Rattle.zquetzal.proofs.Steps.{bind_ok, need_ok, ok_is}
 use Rattle.zquetzal.proofs.Saves.{again, written}
 use Rattle.zdomain.specs.Domain.{SetOperations}
-use Rattle.zstate.specs.State.{Frame, IsState, Scope, State, Setting, keeping_flags, usual_limit}
+use Rattle.zstate.specs.State.{Frame, IsState, Scope, State, Setting, keeping_flags, most_limit}
 use Rattle.zstate.specs.Saves.{IsOfStory, going_on, restoring, resumed, save_place, saved_of, saves, taken_frame, taken_memory, with_frames}
 use Rattle.zstate.specs.Step.{fetch}
 use Rattle.zstate.proofs.Saves.{saves_go_on, states_are_saved}
@@ -112,7 +112,7 @@ module _ {V : Type 0} (o : SetOperations V) (claims : Claims V) (m : Setting) (l
   of_story s d p (inr static) = d.memory.fixed p (static_fixed m.story loaded.sound loaded.counted (frozen_in claims) p static)
 
   -- and what was saved of it is accepted in every state
-  pub saved_accepted : (s now : State) → m.limit ≤ usual_limit → Described o claims m.limit m.story s → saves (fetch m.scope s.place s.memory) ≡ true → IsState m.limit m.story now → IsAcceptedIn o claims m (save_text (origin_of m.story) (saved_of m.story s)) now
+  pub saved_accepted : (s now : State) → m.limit ≤ most_limit → Described o claims m.limit m.story s → saves (fetch m.scope s.place s.memory) ≡ true → IsState m.limit m.story now → IsAcceptedIn o claims m (save_text (origin_of m.story) (saved_of m.story s)) now
   saved_accepted s now low d asked is =
       let found = supports.each d.at d.entry d.listed rules.Decodes in
       let inside = (read_within m.story.memory d.at found.0 found.1.decodes).1 in

@@ -136,7 +136,7 @@ at_bare place = record { address = place; routine = 0; locals = []; slots = [] }
 
 -- a certificate that lists so many places, and says that each global is 0
 unfoldable pub certificate_at : List ℕ → Certificate Interval
-certificate_at qs = record { identity = identity_of story; ranges = []; globals = replicate 240 (point 0); routines = []; instructions = map at_bare qs }
+certificate_at qs = record { identity = identity_of story; limit = None; ranges = []; globals = replicate 240 (point 0); routines = []; instructions = map at_bare qs }
 
 unfoldable pub claims_at : List ℕ → Claims Interval
 claims_at qs = claims_of interval_operations (certificate_at qs)

@@ -79,6 +79,7 @@ insides = (refl, refl, refl, refl)
 certificate : Certificate Interval
 certificate = record {
   identity = record { release = 1; serial = 0 ∷ 0 ∷ 0 ∷ 0 ∷ 0 ∷ 0 ∷ []; checksum = 0; length = 1024 };
+  limit = None;
   ranges = range ∷ record { first = 70; last = 70 } ∷ [];
   globals = replicate 240 (point 3);
   routines = record { address = 0x300; locals = 1; result = point 5 } ∷ [];

@@ -9,7 +9,7 @@ use Rattle.zstate.specs.declared.halt.Halt.{Halt}
 use Rattle.zstate.specs.declared.halt.Halt.TheVariants as halts
 use Rattle.zquetzal.specs.Grammar.{save_text}
 use Rattle.zquetzal.specs.Saved.{origin_of}
-use Rattle.zstate.specs.State.{Frame, State, Scope, Setting, IsCount, IsState, opening, restarted, scope_all, usual_limit}
+use Rattle.zstate.specs.State.{Frame, State, Scope, Setting, IsCount, IsState, opening, restarted, scope_all, most_limit}
 use Rattle.zstate.specs.Saves.{restoring, saved_of, saves}
 use Rattle.zstate.specs.Step.{Done, fetch, step}
 use Rattle.zstate.specs.Run.{Input, Given, Restored, run}
@@ -135,5 +135,5 @@ module _ {V : Type 0} (o : SetOperations V) (claims : Claims V) where
   -- what is saved of a described state at a `save` is accepted in every state
   abbrev pub SavedAreAccepted : Type 0
   SavedAreAccepted =
-      (m : Setting) (s now : State) → IsLoadedStory m.story → Supports o claims m.story → m.limit ≤ usual_limit → Described o claims m.limit m.story s
+      (m : Setting) (s now : State) → IsLoadedStory m.story → Supports o claims m.story → m.limit ≤ most_limit → Described o claims m.limit m.story s
       → saves (fetch m.scope s.place s.memory) ≡ true → IsState m.limit m.story now → IsAcceptedIn o claims m (save_text (origin_of m.story) (saved_of m.story s)) now

@@ -233,7 +233,7 @@ begins f (g ∷ gs) h =
     let more = begins g gs h.1 in
     record { oldest = more.oldest; others = more.others ++ f ∷ []; are = reverse-append (f ∷ []) (g ∷ gs) ∙ ap (λ (fs : List Frame). fs ++ f ∷ []) more.are; first = more.first }
 
-kept_frames : (f : Frame) (gs : List Frame) → AreFrames f gs → length gs ≤ 1024 → AreSavedFrames (map kept_frame (reverse (f ∷ gs)))
+kept_frames : (f : Frame) (gs : List Frame) → AreFrames f gs → length gs ≤ 4096 → AreSavedFrames (map kept_frame (reverse (f ∷ gs)))
 kept_frames f gs h few =
     let start = begins f gs h in
     let all = kept_all f gs h in
@@ -245,7 +245,7 @@ kept_frames f gs h few =
     first_or x [] = x
     first_or x (y ∷ ys) = y
 
-    from : (fs : List Frame) → BeginsFirst fs → AllByRecursion IsSavedFrame (map kept_frame fs) → length (map kept_frame fs) ≤ 1025 → AreSavedFrames (map kept_frame fs)
+    from : (fs : List Frame) → BeginsFirst fs → AllByRecursion IsSavedFrame (map kept_frame fs) → length (map kept_frame fs) ≤ 4097 → AreSavedFrames (map kept_frame fs)
     from [] start all many = absurd (let e = start.are in cc)
     from (x ∷ xs) start all many =
         let first : IsFirst x = subst IsFirst (sym (ap (first_or x) start.are)) start.first in

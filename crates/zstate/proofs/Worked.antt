@@ -32,7 +32,7 @@ use Rattle.zstate.specs.declared.halt.Halt.TheVariants as halts
 use Rattle.zstate.specs.declared.halt.Stop.TheVariants as stops
 use Rattle.zstate.specs.declared.mode.RandomMode.TheVariants.{Words, Counting}
 use Rattle.zstate.specs.InTurn.{in_turn}
-use Rattle.zstate.specs.State.{AreWords, Frame, State, Setting, has_head, usual_limit, scope_all, scope_only, first_frame, opening, IsFrame, IsFirst, AreFrames, IsCount, IsState, with_stack, with_locals, write_word, exists, has_room, put, put_named, put_in_place, read_in_place, popped, at_place, give, global, pop, found, read_named, read_variable, read_operand, read_operands}
+use Rattle.zstate.specs.State.{AreWords, Frame, State, Setting, has_head, most_limit, scope_all, scope_only, first_frame, opening, IsFrame, IsFirst, AreFrames, IsCount, IsState, with_stack, with_locals, write_word, exists, has_room, put, put_named, put_in_place, read_in_place, popped, at_place, give, global, pop, found, read_named, read_variable, read_operand, read_operands}
 use Rattle.zstate.specs.Step.{Called, Move, on, back, into, has_caller, is_taken, is_roomy, arguments, tells_time, words_from, laid_over, calling, returning, proceeds, giving, rewriting, changed, assigning, testing, printing, quitting, showing, following, decoded, fetch, printed, print_at, effect_of, way, course, admits, pauses, settle, plan, advance, act, items_of, step}
 use Rattle.zstate.specs.Run.{stop_of, until, is_answered, need_in, awaited, Given, run, Ending, Ends, Goes, Makes, Stands, IsLonger, IsDeeper}
 use Rattle.zstate.proofs.Words.{no_words, words_pushed}
@@ -60,10 +60,10 @@ tabled : LoadedStory
 tabled = record { memory = slice_set memory 11 79 ++ replicate 62 0 ++ 0 ∷ 0 ∷ 0 ∷ 0 ∷ 0 ∷ 0 ∷ 2 ∷ 0 ∷ 0 ∷ 0 ∷ 0x40 ∷ 0 ∷ 0 ∷ 1 ∷ 0 ∷ 0 ∷ 0 ∷ 0 ∷ []; objects = 2 }
 
 setting : Setting
-setting = record { story = story; scope = scope_all story; limit = usual_limit }
+setting = record { story = story; scope = scope_all story; limit = most_limit }
 
 in_tabled : Setting
-in_tabled = record { story = tabled; scope = scope_all tabled; limit = usual_limit }
+in_tabled = record { story = tabled; scope = scope_all tabled; limit = most_limit }
 
 -- two locals, and two words on the stack, of which 5 is the topmost
 frame : Frame
@@ -128,7 +128,7 @@ story_table : HasTable tabled.memory tabled.objects
 unfolding tabled memory code
 story_table = record { few = omega arith; above = omega arith; within = omega arith }
 
-is_state : IsState usual_limit tabled (opening tabled)
+is_state : IsState most_limit tabled (opening tabled)
 is_state = record { memory = refl; bytes = story_bytes; objects = story_table; tables = refl; frames = first; few = omega arith; count = tt }
 
 -- each bound of a frame is reached, and a word more on the stack is too many
@@ -138,15 +138,15 @@ full_frame stack locals deep wide words more = record { reached = omega arith; r
 too_deep : (stack : List ℕ) → length stack ≡ 65536 → IsFrame (record first_frame { stack = stack }) → ⊥
 too_deep stack deep f = omega (arith, deep, f.stack)
 
--- 1,024 frames above the first
+-- 4,096 frames above the first
 all_first : (n : ℕ) → AreFrames first_frame (replicate n first_frame)
 all_first zero = first
 all_first (suc n) = (first.0, all_first n)
 
-many_frames : (n : ℕ) → n ≤ 1024 → IsState usual_limit tabled (record (opening tabled) { callers = replicate n first_frame })
+many_frames : (n : ℕ) → n ≤ 4096 → IsState most_limit tabled (record (opening tabled) { callers = replicate n first_frame })
 many_frames n few = record { memory = refl; bytes = story_bytes; objects = story_table; tables = refl; frames = all_first n; few = omega (arith, few, length-replicate n first_frame); count = tt }
 
-too_many_frames : (s : State) → length s.callers ≡ 1025 → IsState usual_limit story s → ⊥
+too_many_frames : (s : State) → length s.callers ≡ 4097 → IsState most_limit story s → ⊥
 too_many_frames s many is = omega (arith, many, is.few)
 
 -- a count gives the numbers of its seed
@@ -154,30 +154,30 @@ is_count : IsCount (Counting 32768 32768) × (IsCount (Counting 3 4) → ⊥) ×
 is_count = ((omega arith, omega arith, omega arith), λ h. omega (arith, h.1), λ h. omega (arith, h.0), λ h. omega (arith, h.2))
 
 -- memory is as long as the story, and neither shorter nor longer
-shortened : IsState usual_limit story (record (opening story) { memory = [] }) → ⊥
+shortened : IsState most_limit story (record (opening story) { memory = [] }) → ⊥
 unfolding story memory code
 shortened s = omega (arith, s.memory)
 
-lengthened : IsState usual_limit tabled (record (opening tabled) { memory = tabled.memory ++ 0 ∷ [] }) → ⊥
+lengthened : IsState most_limit tabled (record (opening tabled) { memory = tabled.memory ++ 0 ∷ [] }) → ⊥
 unfolding tabled memory code
 lengthened s = omega (arith, s.memory)
 
 -- and holds bytes
-no_byte : IsState usual_limit story (record (opening story) { memory = slice_set story.memory 64 256 }) → ⊥
+no_byte : IsState most_limit story (record (opening story) { memory = slice_set story.memory 64 256 }) → ⊥
 unfolding story memory code
 no_byte s = omega (arith, s.bytes 64)
 
 -- and has the entry of each object
-no_entry : IsState usual_limit (record tabled { objects = 3 }) (opening tabled) → ⊥
+no_entry : IsState most_limit (record tabled { objects = 3 }) (opening tabled) → ⊥
 unfolding tabled memory code
 no_entry s = omega (arith, s.objects.within)
 
 -- behind its header
-no_table : IsState usual_limit story (opening story) → ⊥
+no_table : IsState most_limit story (opening story) → ⊥
 unfolding story memory code
 no_table s = omega (arith, s.objects.above)
 
-no_state : (IsState usual_limit story (record (opening story) { callers = replicate 1025 first_frame }) → ⊥)
+no_state : (IsState most_limit story (record (opening story) { callers = replicate 4097 first_frame }) → ⊥)
 no_state s = omega (arith, s.few)
 
 -- ---- accesses

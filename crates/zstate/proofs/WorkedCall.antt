@@ -9,7 +9,7 @@ use Rattle.zfault.specs.declared.item.Item.TheVariants.{Text}
 use Rattle.zstate.specs.declared.halt.Halt.TheVariants as halts
 use Rattle.zstate.specs.declared.halt.Stop.TheVariants as stops
 use Rattle.zstate.specs.InTurn.{in_turn}
-use Rattle.zstate.specs.State.{State, Setting, usual_limit, scope_all, first_frame, opening, at_place, with_stack, put, put_named, read_named, read_operand, read_variable}
+use Rattle.zstate.specs.State.{State, Setting, most_limit, scope_all, first_frame, opening, at_place, with_stack, put, put_named, read_named, read_operand, read_variable}
 use Rattle.zstate.specs.Step.{words_from, laid_over, fetch, effect_of, admits, pauses as must_pause, plan, changed, act, step}
 use Rattle.zstate.specs.Run.{until, run}
 
@@ -25,7 +25,7 @@ story : LoadedStory
 story = record { memory = memory; objects = 0 }
 
 setting : Setting
-setting = record { story = story; scope = scope_all story; limit = usual_limit }
+setting = record { story = story; scope = scope_all story; limit = most_limit }
 
 -- with the routine's frame above the first
 inside : State

@@ -16,7 +16,7 @@ use Rattle.zstate.specs.declared.halt.Stop.TheVariants as stops
 use Rattle.zstate.specs.declared.mode.RandomMode.{RandomMode}
 use Rattle.zstate.specs.declared.mode.RandomMode.TheVariants.{Words, Counting}
 use Rattle.zstate.specs.InTurn.{in_turn}
-use Rattle.zstate.specs.State.{State, Setting, usual_limit, scope_all, opening, at_place, give, with_stack, put, read_operand, read_variable}
+use Rattle.zstate.specs.State.{State, Setting, most_limit, scope_all, opening, at_place, give, with_stack, put, read_operand, read_variable}
 use Rattle.zstate.specs.Step.{fetch, effect_of, giving, random_of, buffered, are_writable, line_read, admits, pauses as must_pause, plan, changed, act, step}
 use Rattle.zstate.specs.Run.{Given, awaited, run, until}
 
@@ -70,7 +70,7 @@ story : LoadedStory
 story = record { memory = fresh; objects = 0 }
 
 setting : Setting
-setting = record { story = story; scope = scope_all story; limit = usual_limit }
+setting = record { story = story; scope = scope_all story; limit = most_limit }
 
 asks : State
 asks = at_place (pos 86) (with_stack (70 ∷ 8 ∷ []) (opening story))

@@ -12,7 +12,7 @@ use Rattle.zquetzal.specs.Saved.{Saved}
 use Rattle.zstate.specs.declared.halt.Halt.TheVariants as halts
 use Rattle.zstate.specs.declared.mode.RandomMode.TheVariants.{Counting}
 use Rattle.zstate.specs.InTurn.{in_turn}
-use Rattle.zstate.specs.State.{Frame, State, Setting, usual_limit, scope_all, first_frame, opening, at_place, give}
+use Rattle.zstate.specs.State.{Frame, State, Setting, most_limit, scope_all, first_frame, opening, at_place, give}
 use Rattle.zstate.specs.Step.{fetch, effect_of, admits, pauses as must_pause, plan, changed, act, step}
 use Rattle.zstate.specs.Run.{Given, Restored, awaited, handed}
 use Rattle.zstate.specs.Saves.{saved_of, taken_memory, resumed, going_on}
@@ -31,7 +31,7 @@ story : LoadedStory
 story = record { memory = bytes 0x20 0x12 0x35 (1 ∷ 2 ∷ 3 ∷ 4 ∷ 5 ∷ 6 ∷ []); objects = 0 }
 
 setting : Setting
-setting = record { story = story; scope = scope_all story; limit = usual_limit }
+setting = record { story = story; scope = scope_all story; limit = most_limit }
 
 -- a routine with two locals and two arguments was called from the main code
 called : Frame

@@ -10,7 +10,7 @@ use Rattle.zcode.specs.declared.operation.Operation.TheVariants as operations
 use Rattle.zfault.specs.declared.fault.Fault.TheVariants.{AbsentObject, AbsentProperty, PropertyTooLong, ReadOutside, WriteOutside}
 use Rattle.zstate.specs.declared.halt.Halt.{Halt}
 use Rattle.zstate.specs.declared.halt.Halt.TheVariants as halts
-use Rattle.zstate.specs.State.{usual_limit, scope_all, opening}
+use Rattle.zstate.specs.State.{most_limit, scope_all, opening}
 use Rattle.zstate.specs.Step.{Effect, effect_of, giving, printing, proceeds, rewriting, are_writable}
 
 -- the table of two objects at 64, with 258 for property 6. The first object's list is at 144, below the name "hello": at 150 the data of property 20,
@@ -24,7 +24,7 @@ memory =
 -- what an operation does in this story, with its dynamic memory up to a place below 256
 from : ℕ → Operation → List ℕ → Result Effect Halt
 from base operation values =
-    effect_of (record { story = record { memory = slice_set memory 15 base; objects = 2 }; scope = scope_all (record { memory = memory; objects = 2 }); limit = usual_limit }) operation values (opening (record { memory = memory; objects = 2 }))
+    effect_of (record { story = record { memory = slice_set memory 15 base; objects = 2 }; scope = scope_all (record { memory = memory; objects = 2 }); limit = most_limit }) operation values (opening (record { memory = memory; objects = 2 }))
 
 does : Operation → List ℕ → Result Effect Halt
 does = from 154
@@ -32,7 +32,7 @@ does = from 154
 -- and where the second object's three bytes are those of a property 0
 numbered_none : Operation → List ℕ → Result Effect Halt
 numbered_none operation values =
-    effect_of (record { story = record { memory = memory; objects = 2 }; scope = scope_all (record { memory = memory; objects = 2 }); limit = usual_limit }) operation values (record (opening (record { memory = memory; objects = 2 })) { memory = slice_set memory 156 64 })
+    effect_of (record { story = record { memory = memory; objects = 2 }; scope = scope_all (record { memory = memory; objects = 2 }); limit = most_limit }) operation values (record (opening (record { memory = memory; objects = 2 })) { memory = slice_set memory 156 64 })
 
 -- values, defaults, one that is too long, one of no property, and one of no object
 asked : (does (operations.Property Value) (1 ∷ 20 ∷ []) ≡ Ok (giving 0x1234)) × (does (operations.Property Value) (1 ∷ 5 ∷ []) ≡ Ok (giving 0x7F)) × (does (operations.Property Value) (1 ∷ 6 ∷ []) ≡ Ok (giving 258)) × (does (operations.Property Value) (2 ∷ 20 ∷ []) ≡ Ok (giving 0)) × (does (operations.Property Value) (2 ∷ 3 ∷ []) ≡ Err (halts.Fault PropertyTooLong)) × (does (operations.Property Value) (1 ∷ 32 ∷ []) ≡ Err (halts.Fault AbsentProperty)) × (does (operations.Property Value) (3 ∷ 20 ∷ []) ≡ Err (halts.Fault AbsentObject))

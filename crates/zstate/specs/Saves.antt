@@ -14,7 +14,7 @@ use Rattle.zquetzal.specs.Saved.{Frame as SavedFrame, IsSaved, Saved}
 use Rattle.zquetzal.specs.Reading.{reading}
 use Rattle.zquetzal.specs.Steps.{◌>>=◌, need}
 use Rattle.zstate.specs.declared.halt.Halt.{Halt}
-use Rattle.zstate.specs.State.{Frame, IsState, State, Setting, keeping_flags, usual_limit}
+use Rattle.zstate.specs.State.{Frame, IsState, State, Setting, keeping_flags, most_limit}
 use Rattle.zstate.specs.Step.{fetch, place_of}
 
 -- ---- what is saved
@@ -87,7 +87,7 @@ IsOfStory story memory = (p : ℕ) → ((p < 64) × (p ≢ 16) × (p ≢ 17)) �
 
 -- what is saved of a state, in whose memory its place lies, can be written
 abbrev pub StatesAreSaved : Type 0
-StatesAreSaved = (limit : ℕ) (story : LoadedStory) (s : State) (p : ℕ) → IsSound story.memory → IsState limit story s → limit ≤ usual_limit → s.place ≡ pos p → p < length s.memory → IsSaved story (saved_of story s)
+StatesAreSaved = (limit : ℕ) (story : LoadedStory) (s : State) (p : ℕ) → IsSound story.memory → IsState limit story s → limit ≤ most_limit → s.place ≡ pos p → p < length s.memory → IsSaved story (saved_of story s)
 
 -- Play goes on from what was saved at a `save` behind the header with the state that was saved; of the state in which it is asked for,
 -- what stays has stayed.

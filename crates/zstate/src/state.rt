@@ -1,9 +1,9 @@
 //! The state of a machine.
 
-ghost use Rattle.std.specs.Prelude.{◌≡◌, ◌≤◌, ◌<◌, ◌+◌, ◌*◌, ◌-◌, ◌^◌, ◌==◌, ◌+ℤ◌, ◌≤ℤ◌, ◌∷◌, Some, List, length, reverse, slice_get, pos, negsuc, true, [], MatchOption, IfOk, OnOk, OnErr, is_some};
+ghost use Rattle.std.specs.Prelude.{◌≡◌, ◌≤◌, ◌<◌, ◌+◌, ◌*◌, ◌-◌, ◌^◌, ◌==◌, ◌+ℤ◌, ◌≤ℤ◌, ◌∷◌, Some, List, length, reverse, slice_get, pos, negsuc, true, [], MatchOption, IfOk, OnOk, OnErr, is_some, ℕ};
 ghost use Rattle.zstory.specs.LoadedStory.{globals};
 ghost use Rattle.zstory.specs.Bytes.{word_at};
-ghost use Rattle.zstate.specs.State.{IsState, State as StateValue, usual_limit, has_head, opening, popped, at_place, give, global, read_named, read_variable, read_operand, read_operands, pop, Frame as FrameValue, exists, put, put_named, put_in_place, read_in_place, with_memory, write_word};
+ghost use Rattle.zstate.specs.State.{IsState, State as StateValue, has_head, opening, popped, at_place, give, global, read_named, read_variable, read_operand, read_operands, pop, Frame as FrameValue, exists, put, put_named, put_in_place, read_in_place, with_memory, write_word};
 ghost use Rattle.zstate.specs.Gives.{Gives, IsNear};
 ghost use Rattle.zstate.specs.Step.{called_at, entered};
 
@@ -67,7 +67,7 @@ impl State {
     #[tactic(auto, using(crate::proofs::Opens::opening_is_state))]
     pub fn opening(alloc: Global, story: &Story) -> Result<State, AllocError>
         ensures opens { IfOk result (λ state. state ≡ opening story.now) }
-        ensures holds { IfOk result (IsState usual_limit story.now) }
+        ensures holds { IfOk result (λ state. (limit : ℕ) → IsState limit story.now state) }
     {
         Ok(State {
             memory: story.memory().to_vec(alloc)?,

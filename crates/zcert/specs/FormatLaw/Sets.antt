@@ -191,6 +191,7 @@ steady_set (suc (suc kind)) = λ bytes more whole. refl
 pub values_is_format : IsFormat values_format
 values_is_format = record {
   version = omega arith;
+  apart = λ e. absurd cc;
   takes = value_takes;
   bytes = IsBytes-set;
   long = set_is_long;

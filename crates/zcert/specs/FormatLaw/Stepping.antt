@@ -8,7 +8,7 @@ use Rattle.byteorder.specs.Endian.{big_bytes, big_number}
 use Rattle.byteorder.specs.Numbers.{big_from-take, big_from-lt, big_number-reads_back, length-bytes_high_first}
 use Rattle.zcert.specs.declared.error.CertError.{CertError}
 use Rattle.zcert.specs.declared.error.CertError.TheVariants.{Truncated, OutOfMemory}
-use Rattle.zcert.specs.Numbers.{Number, Magic, Version, Release, Checksum, LoadedLength, RangeCount, RangeFirst, RangeLast, RoutineCount, RoutineAddress, LocalCount, InstructionCount, InstructionAddress, RoutineNumber, Height, End, Kind, WordCount, Word, width, number, HasRoom}
+use Rattle.zcert.specs.Numbers.{Number, Magic, Version, Release, Checksum, LoadedLength, FrameLimit, RangeCount, RangeFirst, RangeLast, RoutineCount, RoutineAddress, LocalCount, InstructionCount, InstructionAddress, RoutineNumber, Height, End, Kind, WordCount, Word, width, number, HasRoom}
 use Rattle.zcert.specs.Steps.{◌>>=◌, need, sized_at, number_at, serial_at}
 use Rattle.zcert.specs.FormatLaw.{IsBytes, Takes, IsPlain}
 
@@ -87,6 +87,7 @@ wide Version = wide_byte
 wide Release = wide_word
 wide Checksum = wide_word
 wide LoadedLength = wide_long
+wide FrameLimit = wide_word
 wide RangeCount = wide_word
 wide RangeFirst = wide_word
 wide RangeLast = wide_word

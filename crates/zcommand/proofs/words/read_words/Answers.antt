@@ -1,4 +1,5 @@
 use Rattle.zcommand.proofs.Entered.{no_fault, command_fails, command_named, command_read}
+use Rattle.zcommand.proofs.Matched.{low_if_read}
 use Rattle.zcommand.proofs.words.read_words.Goals as goal
 
 pub command_of-requires : goal.command_of-requires
@@ -13,6 +14,11 @@ pub returns-clause-read : goal.returns-clause-read
 returns-clause-read c =
     let parsed = c.in_ok-matches.ensures in
     command_read _ _ _ c.in_ok-program.ensures parsed.kinds _ parsed.matches c.command_of.ensures
+
+pub returns-clause-low : goal.returns-clause-low
+returns-clause-low c =
+    let parsed = c.in_ok-matches.ensures in
+    low_if_read _ c.command_of.result (command_read _ _ _ c.in_ok-program.ensures parsed.kinds _ parsed.matches c.command_of.ensures)
 
 pub returns-clause-fails : goal.returns-clause-fails
 returns-clause-fails c = no_fault _ c.in_ok-matches.matches _ c.in_ok-program.ensures c.in_ok-matches.ensures.kinds

@@ -8,7 +8,7 @@ use Rattle.zengine.proofs.resuming.count_words.Given as goal
 abbrev pub invariant-loop-frame : goal.invariant-loop-frame
 invariant-loop-frame l = record {
   fit : AllByRecursion IsFrame (frames_left l.rest);
-  most : length_laid (frames_left l.fn.rest) ≤ 67193875;
+  most : length_laid (frames_left l.fn.rest) ≤ 268578835;
   so_far : l.words + length_laid (frames_left l.rest) ≡ length_laid (frames_left l.fn.rest);
 }
 

@@ -6,14 +6,14 @@ use Rattle.zperform.proofs.AcceptLemmas.{for_reason, handed_on, no_reason, read_
 use Rattle.zperform.proofs.finding.certificate_of.Goals as goal
 
 pub returns-in_err-story-clause-refused : goal.returns-in_err-story-clause-refused
-returns-in_err-story-clause-refused g c = handed_on (IsNotFound (g.F.Files.known c.args.files.now c.args.name.now)) c.from_residual.result _ c.from_residual.ensures (inl c.in_err-story.ensures.refused)
+returns-in_err-story-clause-refused g c = handed_on (IsNotFound c.args.frames (g.F.Files.known c.args.files.now c.args.name.now)) c.from_residual.result _ c.from_residual.ensures (inl c.in_err-story.ensures.refused)
 
 pub returns-clause-refused : goal.returns-clause-refused
 returns-clause-refused g c =
-    for_reason (IsUnfound c.in_ok-story.story) (IsNotFound (g.F.Files.known c.args.files.now c.args.name.now)) c.spelled_certificate.result (λ problem why. inr (c.in_ok-story.story, c.in_ok-story.ensures.held, why)) c.spelled_certificate.ensures.refused
+    for_reason (IsUnfound c.args.frames c.in_ok-story.story) (IsNotFound c.args.frames (g.F.Files.known c.args.files.now c.args.name.now)) c.spelled_certificate.result (λ problem why. inr (c.in_ok-story.story, c.in_ok-story.ensures.held, why)) c.spelled_certificate.ensures.refused
 
 pub returns-clause-files : goal.returns-clause-files
-returns-clause-files g c = read_on _ _ _ _ _ _ _ c.in_ok-story.ensures.files (λ e. cc) (no_reason (IsUnfound c.in_ok-story.story) (Failed File) c.spelled_certificate.result (λ none. none) c.spelled_certificate.ensures.refused)
+returns-clause-files g c = read_on _ _ _ _ _ _ _ c.in_ok-story.ensures.files (λ e. cc) (no_reason (IsUnfound c.args.frames c.in_ok-story.story) (Failed File) c.spelled_certificate.result (λ none. none) c.spelled_certificate.ensures.refused)
 
 pub returns-clause-unwritten : goal.returns-clause-unwritten
-returns-clause-unwritten g c = no_reason (IsUnfound c.in_ok-story.story) (Failed Write) c.spelled_certificate.result (λ none. none) c.spelled_certificate.ensures.refused
+returns-clause-unwritten g c = no_reason (IsUnfound c.args.frames c.in_ok-story.story) (Failed Write) c.spelled_certificate.result (λ none. none) c.spelled_certificate.ensures.refused

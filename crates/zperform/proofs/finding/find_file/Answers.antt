@@ -10,7 +10,7 @@ use Rattle.zperform.proofs.finding.find_file.Goals as goal
 
 pub returns-in-Err-clause-comes : goal.returns-in-Err-clause-comes
 returns-in-Err-clause-comes g c = record {
-  ends = not_found _ _ _ _ _ c.in-Err.problem (λ (e : c.in-Err.problem ≡ Failed Write). c.in-Err.ensures.unwritten (ap Err e)) c.in-Err.ensures.refused c.certificate_of.ensures.files.kept;
+  ends = not_found _ _ _ _ _ _ c.in-Err.problem (λ (e : c.in-Err.problem ≡ Failed Write). c.in-Err.ensures.unwritten (ap Err e)) c.in-Err.ensures.refused c.certificate_of.ensures.files.kept;
   spared = λ name other. ap (λ (known : List ℕ → Option (List ℕ)). known name) c.certificate_of.ensures.files.kept;
 }
 
@@ -27,7 +27,7 @@ returns-clause-comes g c =
     let same : c.deref.result.now ≡ bytes = search rules in
     let whole = subst (λ (bytes : List ℕ). HasAlone bytes (holds c.args.certificate.now)) same (c.put.ensures.whole (search rules)) in
     record {
-      ends = ends_so _ _ _ _ _ (λ (o : Outcome). FindEnds c.args.story.now c.args.certificate.now (g.F.Files.known c.args.files.now) holds (g.W.Sink.contents c.args.writer.now) (g.W.Sink.contents c.write_done.new.writer) o) c.write_done.ensures.ends
+      ends = ends_so _ _ _ _ _ (λ (o : Outcome). FindEnds c.args.frames c.args.story.now c.args.certificate.now (g.F.Files.known c.args.files.now) holds (g.W.Sink.contents c.args.writer.now) (g.W.Sink.contents c.write_done.new.writer) o) c.write_done.ensures.ends
           (λ written. (bytes, c.in-Ok.ensures.found, whole, written)) (λ begun. (bytes, c.in-Ok.ensures.found, whole, begun));
       spared = λ name other. c.put.ensures.spared name other ∙ ap (λ (known : List ℕ → Option (List ℕ)). known name) c.certificate_of.ensures.files.kept;
     }

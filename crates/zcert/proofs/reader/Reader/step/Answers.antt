@@ -12,17 +12,18 @@ returns-in_err-magic_of-in-Magic-clause-refused g c =
 pub returns-in_err-version_of-in-Version-clause-refused : goal.returns-in_err-version_of-in-Version-clause-refused
 returns-in_err-version_of-in-Version-clause-refused g c =
     let p = err_from_is_err_and c.from_residual-in_err-version_of-in-Version.result c.from_residual-in_err-version_of-in-Version.ensures.1 in
-    rw (p.1, p.2) (λ fed led. version_refused_at g.V.Spelled.format g.met.V.Spelled.is_format g.V.Spelled.turns _ _ _ fed c.args.number.now c.in_err-version_of-in-Version.field-0.0 c.requires.fits (search rules) c.requires.part c.in_err-version_of-in-Version.ensures led)
+    rw (p.1, p.2) (λ fed led. version_refused_at g.V.Spelled.format g.met.V.Spelled.is_format g.V.Spelled.turns _ _ _ fed c.args.number.now c.in_err-version_of-in-Version.field-0.0 c.requires.fits (search rules) c.requires.part c.in_err-version_of-in-Version.ensures.value led)
 
 pub returns-in_ok-magic_of-in-Magic-clause-led : goal.returns-in_ok-magic_of-in-Magic-clause-led
 returns-in_ok-magic_of-in-Magic-clause-led g c =
     let fits : IsBytes c.args.number.now = λ i. search rules in
     λ fed led. magic_leads_at g.V.Spelled.format g.V.Spelled.turns _ _ _ fed c.args.number.now fits (search rules) c.requires.part c.in_ok-magic_of-in-Magic.ensures led
 
+-- of certificates that name no limit, and of those that do
 pub returns-in_ok-version_of-in-Version-clause-led : goal.returns-in_ok-version_of-in-Version-clause-led
 returns-in_ok-version_of-in-Version-clause-led g c =
     let fits : IsBytes c.args.number.now = λ i. search rules in
-    λ fed led. version_leads_at g.V.Spelled.format g.met.V.Spelled.is_format g.V.Spelled.turns _ _ _ fed c.args.number.now fits (search rules) c.requires.part c.in_ok-version_of-in-Version.ensures led
+    λ fed led. version_leads_at g.V.Spelled.format g.met.V.Spelled.is_format g.V.Spelled.turns _ _ _ _ fed c.args.number.now _ fits (search rules) c.requires.part c.in_ok-version_of-in-Version.ensures.value (search rules) led
 
 pub returns-in-Field-clause-led : goal.returns-in-Field-clause-led
 returns-in-Field-clause-led g c =

@@ -34,7 +34,7 @@ unreachable-requires g c =
     let a = c.self.inside.accepted.now in
     let is : reading a.story c.args.save.now ≡ Ok c.in_ok-view.view = sym (rw c.story.ensures.value at c.in_ok-view.ensures.exact) in
     let j = (rw (c.listing.ensures.value, c.certificate.ensures.value, c.story-2.ensures.value) at c.in_ok-judge_save.ensures.value) c.self.inside.machine.state c.self.invariant.described.is_state in
-    never_refused g.V.Domain.operations g.met.V.Domain.sound g.V.Spelled.format a _ _ _ c.self.invariant c.in_ok-view.view c.args.save.now is j c.in-Err.field-0 c.in_ok-judge_save.ensures.low c.in_ok-view.ensures.found.saved.frames c.in-Err.ensures.narrow
+    never_refused g.V.Domain.operations g.met.V.Domain.sound g.V.Spelled.format a _ _ _ c.self.invariant c.in_ok-view.view c.args.save.now is j c.in-Err.field-0 c.in_ok-judge_save.ensures.low (rw c.certificate.ensures.value at c.in_ok-judge_save.ensures.few) c.in_ok-view.ensures.found.saved.frames c.in-Err.ensures.narrow
 
 pub invariant_of-self : goal.invariant_of-self
 invariant_of-self g c =
