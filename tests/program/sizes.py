@@ -402,6 +402,7 @@ GROWTH = [
     ("zcert new", "slots and locals of one", highest),
     ("zcert new", "routines of one", most_routines),
     ("zcert new", "frozen ranges of one", most_ranges),
+    ("zcert limited", "what `new` grows by: it names a limit besides", long_certificates),
     ("zcert read", "what a certificate in pieces grows by: it is fed at once", long_certificates),
     ("zcert write", "instructions", searched),
     ("zcert write", "routines", many_routines),
