@@ -278,7 +278,7 @@ def see_families(program, count):
         if answer != Answer(0, b"found\n", b"") or written is None:
             return answer, answer
         files = {"story": made, "certificate": written}
-        return [program.run(["play", "--budget", "2000", *words], files, typed=typed) for words in (["story"], ["story", "certificate"])]
+        return [program.run(["play", "--budget", "5000", *words], files, typed=typed) for words in (["story"], ["story", "certificate"])]
 
     cases = [*((name, made, b"", wanted) for name, made, wanted in families()), *SINGLE]
     for (name, _, _, wanted), (plain, listed) in zip(cases, side_by_side(both, cases)):
