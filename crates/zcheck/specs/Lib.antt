@@ -3,3 +3,4 @@ pub mod Tables
 pub mod Passes
 pub mod Acceptance
 pub mod Streaming
+pub mod Marks

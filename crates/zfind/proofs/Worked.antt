@@ -22,8 +22,9 @@ use Rattle.zfind.specs.declared.error.Obstacle.TheVariants.{Place, Story}
 use Rattle.zfind.specs.declared.error.Obstacle.{Obstacle}
 use Rattle.zfind.specs.declared.visits.Allowance.{Allowance}
 use Rattle.zfind.specs.Finding.{HasNone, HasNoneOf, IsAtStart, IsBrokenAt, IsFailure, IsFailureOf, IsFaulty, IsFaultyElsewhere, IsLasting, IsLess, IsListable, IsMet, IsStopped, IsTold, IsTried, IsUnlisted, IsWalkFailure, IsWithoutIntervals, number_of, refused_for, told_of}
-use Rattle.zfind.specs.Found.{IsFound, spelling_of}
-use Rattle.zfind.specs.declared.found.Found.TheVariants.{Intervals, Lists}
+use Rattle.zfind.specs.Found.{IsFound, IsFoundWithin, spelling_of}
+use Rattle.zfind.specs.Marking.{IsFoundMarked, IsMarkedFailure, IsMarkedWithin, IsUnmarkable, IsWithoutUnmarked}
+use Rattle.zfind.specs.declared.found.Found.TheVariants.{Intervals, Lists, Marked}
 
 numbers : (number_of (NotFound (Story Tree)) ≡ 1) × (number_of RoundLimit ≡ 2) × (number_of OutOfMemory ≡ 3)
 numbers = (refl, refl, refl)
@@ -81,8 +82,22 @@ unfound story o = ((λ failure. failure.1), (λ failure. failure.0), (λ other i
 founds :
     (story : LoadedStory) (c : Certificate Interval) (l : Certificate Values)
     → (Passes interval_operations story c → IsFound story (Intervals c)) × (IsFound story (Lists l) → Passes values_operations story l × IsWithoutIntervals story)
-    × (spelling_of (Intervals c) ≡ spelling interval_format c) × (spelling_of (Lists l) ≡ spelling values_format l)
-founds story c l = ((λ passes. passes), (λ found. found), refl, refl)
+    × (IsFound story (Marked l) → ⊥) × (spelling_of (Intervals c) ≡ spelling interval_format c) × (spelling_of (Lists l) ≡ spelling values_format l)
+    × (spelling_of (Marked l) ≡ spelling values_format l)
+founds story c l = ((λ passes. passes), (λ found. found), (λ never. never), refl, refl, refl)
+
+-- with a limit none of intervals is found, and one that marks only where none was found that doesn't
+marked_founds :
+    (story : LoadedStory) (limit : ℕ) (c : Certificate Interval) (l : Certificate Values)
+    → (IsFoundMarked story limit (Intervals c) → ⊥) × (IsFoundMarked story limit (Lists l) → IsFoundWithin story limit l)
+    × (IsFoundMarked story limit (Marked l) → IsMarkedWithin story limit l × IsWithoutUnmarked story)
+marked_founds story limit c l = ((λ never. never), (λ found. found), (λ found. found))
+
+-- it never comes to a limit of visits or work; what is wrong is told only of one that may mark, where none was found that doesn't
+unmarkables :
+    (story : LoadedStory) (limit : ℕ) (o : Obstacle)
+    → (IsMarkedFailure story limit RoundLimit → ⊥) × IsMarkedFailure story limit OutOfMemory × (IsMarkedFailure story limit (NotFound o) → IsWithoutUnmarked story × IsUnmarkable story limit (NotFound o))
+unmarkables story limit o = ((λ never. never), tt, (λ failure. failure))
 
 -- what is at fault with a story that has no listing; no limit is met by that
 unlisted : (story : LoadedStory) (o : Obstacle) → (IsUnlisted story (NotFound o) → IsFaulty story (NotFound o)) × (IsUnlisted story RoundLimit → ⊥) × IsUnlisted story OutOfMemory

@@ -12,8 +12,10 @@ use zdomain::{Interval, Values};
 pub enum Found {
     /// Of intervals alone.
     Intervals(Certificate<Interval>),
-    /// Of intervals and lists, where none of intervals alone was found.
+    /// Of intervals and lists, where none of intervals alone was found, or a limit of frames is named.
     Lists(Certificate<Values>),
+    /// Of intervals and lists, which marks where a rule is broken, and passes elsewhere.
+    Marked(Certificate<Values>),
 }
 
 impl Found {
@@ -24,6 +26,7 @@ impl Found {
         match self {
             Found::Intervals(certificate) => write(alloc, certificate),
             Found::Lists(certificate) => write(alloc, certificate),
+            Found::Marked(certificate) => write(alloc, certificate),
         }
     }
 }
