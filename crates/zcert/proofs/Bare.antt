@@ -1,16 +1,17 @@
 -- A certificate that lists the main code alone, with empty stacks, and freezes nothing has a spelling.
-use Rattle.std.proofs.Common.{ℕ, zero, suc, ◌+◌, ◌<◌, ◌≤◌, None, List, [], ◌∷◌, length, replicate, map, refl, arith}
+use Rattle.std.proofs.Common.{ℕ, zero, suc, ◌+◌, ◌<◌, ◌≤◌, false, None, List, [], ◌∷◌, length, replicate, map, refl, arith}
 use Rattle.std.specs.List.{AllByRecursion}
 use Rattle.std.proofs.lemmas.List.{length-map}
 use Rattle.zstory.specs.declared.identity.Identity.{Identity}
 use Rattle.zcert.specs.declared.limits.TheConstants.{ADDRESS_LIMIT, MAX_INSTRUCTIONS}
 use Rattle.zcert.specs.Certificate.{Instruction}
 use Rattle.zcert.specs.Format.{Format}
+use Rattle.zcert.specs.Marks.{IsMarkable}
 use Rattle.zcert.specs.Spelling.{IsIdentity, Rise, IsInstruction, HasSpelling}
 
 module _ {V : Type 0} (format : Format V) where
   abbrev bare : ℕ → Instruction V
-  bare p = record { address = p; routine = 0; locals = []; slots = [] }
+  bare p = record { address = p; routine = 0; is_marked = false; locals = []; slots = [] }
 
   each_alike : (n : ℕ) (v : V) → format.Has v → AllByRecursion format.Has (replicate n v)
   each_alike zero v has = tt
@@ -21,14 +22,19 @@ module _ {V : Type 0} (format : Format V) where
   each_bare (p ∷ ps) low =
       (record { address = low.0; routine = omega arith; locals = refl; height = omega arith; local_values = tt; slot_values = tt }, each_bare ps low.1)
 
+  bare_unmarked : (ps : List ℕ) → AllByRecursion (IsMarkable false) (map bare ps)
+  bare_unmarked [] = tt
+  bare_unmarked (p ∷ ps) = (refl, bare_unmarked ps)
+
   bare_rise : (floor : ℕ) (ps : List ℕ) → Rise (λ (p : ℕ). p) floor ps → Rise (λ (i : Instruction V). i.address) floor (map bare ps)
   bare_rise floor [] rise = tt
   bare_rise floor (p ∷ ps) rise = (rise.0, bare_rise (p + 1) ps rise.1)
 
-  pub has_spelling : (i : Identity) (v : V) (ps : List ℕ) → IsIdentity i → format.Has v → length ps ≤ MAX_INSTRUCTIONS → AllByRecursion (λ p. p < ADDRESS_LIMIT) ps → Rise (λ (p : ℕ). p) 0 ps → HasSpelling format (record { identity = i; limit = None; ranges = []; globals = replicate 240 v; routines = []; instructions = map bare ps })
+  pub has_spelling : (i : Identity) (v : V) (ps : List ℕ) → IsIdentity i → format.Has v → length ps ≤ MAX_INSTRUCTIONS → AllByRecursion (λ p. p < ADDRESS_LIMIT) ps → Rise (λ (p : ℕ). p) 0 ps → HasSpelling format (record { identity = i; limit = None; marking = false; ranges = []; globals = replicate 240 v; routines = []; instructions = map bare ps })
   has_spelling i v ps identity has few low rise = record {
     identity = identity;
     limit = tt;
+    marking = refl;
     few_ranges = omega arith;
     ranges = tt;
     ranges_apart = tt;
@@ -40,4 +46,5 @@ module _ {V : Type 0} (format : Format V) where
     few_instructions = omega (arith, few, length-map ps bare);
     instructions = each_bare ps low;
     instructions_rise = bare_rise 0 ps rise;
+    instructions_markable = bare_unmarked ps;
   }

@@ -10,9 +10,10 @@ use Rattle.zcert.specs.declared.field.Turn.{Turn}
 use Rattle.zcert.specs.declared.field.Turn.TheVariants as turns
 use Rattle.zcert.specs.declared.limits.TheConstants.{GLOBALS, ADDRESS_LIMIT, MAX_LOCALS, MAX_INSTRUCTIONS, MAX_RANGES, MAX_ROUTINES, MAX_HEIGHT, MAX_FRAMES}
 use Rattle.zcert.specs.Certificate.{locals_of}
+use Rattle.zcert.specs.Marks.{height_in}
 use Rattle.zcert.specs.Format.{Format}
 use Rattle.zcert.specs.Reading.{address_fits}
-use Rattle.zcert.specs.Building.{Progress, opening, before_ranges, before_globals, before_routines, before_instructions, before_values, taken, all_taken, IsDue, after_release, after_serial, after_checksum, after_loaded_length, after_frame_limit, after_range_count, behind_identity, after_range_first, after_range_last, after_global, after_routine_count, after_routine_address, after_local_count, after_routine_result, after_instruction_count, after_instruction_address, after_routine_number, after_height, after_value}
+use Rattle.zcert.specs.Building.{Progress, opening, before_ranges, before_globals, before_routines, before_instructions, before_values, header_of, taken, all_taken, IsDue, after_release, after_serial, after_checksum, after_loaded_length, after_frame_limit, after_range_count, behind_identity, after_range_first, after_range_last, after_global, after_routine_count, after_routine_address, after_local_count, after_routine_result, after_instruction_count, after_instruction_address, after_routine_number, after_height, after_value}
 use Rattle.zcert.specs.Fields.{IsField, IsReached}
 use Rattle.zcert.specs.View.{Takes}
 use Rattle.zcert.specs.FormatLaw.Stepping.{bind_ok, need_ok, ok_is}
@@ -122,11 +123,11 @@ module _ {V : Type 0} where
   due_routine_number routine (turns.RoutineNumber more address) p due q e = due_is _ q (need_ok (nat_le routine (length p.content.routines)) _ _ q e).1 due
   due_routine_number routine _ p due q e = absurd cc
 
-  due_height : (height : ℕ) (t : Turn) (p : Progress V) → DueAfter t p (after_height height t p)
-  due_height height (turns.Height more address routine) p due q e =
-      let n = locals_of p.content.routines routine in
-      due_is _ q (need_ok (nat_le height MAX_HEIGHT) _ _ q e).1 (due_values (n + height) more (record { address = address; routine = routine; locals = n; height = height }) p due.0 (omega (arith, due.1)))
-  due_height height _ p due q e = absurd cc
+  due_height : (byte : ℕ) (t : Turn) (p : Progress V) → DueAfter t p (after_height byte t p)
+  due_height byte (turns.Height more address routine) p due q e =
+      let height = height_in p.content.marking byte in
+      due_is _ q (need_ok (nat_le height MAX_HEIGHT) _ _ q e).1 (due_values (locals_of p.content.routines routine + height) more (header_of p address routine byte) p due.0 (omega (arith, due.1)))
+  due_height byte _ p due q e = absurd cc
 
   due_value : (v : V) (t : Turn) (p : Progress V) → DueAfter t p (after_value v t p)
   due_value v (turns.Value more h left) p due q e =
@@ -167,14 +168,14 @@ module _ {V : Type 0} where
 
 module _ {V : Type 0} (format : Format V) where
   pub reached_due : (p : Progress V) → IsReached format p → IsDue p.turn p.values
-  reached_due p (limited, may, (fs, each, led)) = due_all fs (opening limited) p led tt
+  reached_due p (edition, may, (fs, each, led)) = due_all fs (opening edition) p led tt
 
   pub each_more : (fs : List (Field V)) (f : Field V) → AllByRecursion (IsField format) fs → IsField format f → AllByRecursion (IsField format) (fs ++ f ∷ [])
   each_more [] f each is = (is, tt)
   each_more (g ∷ fs) f each is = (each.0, each_more fs f each.1 is)
 
   pub reached_more : (p q : Progress V) (f : Field V) → IsReached format p → IsField format f → taken p f ≡ Ok q → IsReached format q
-  reached_more p q f (limited, may, (fs, each, led)) is e = (limited, may, (fs ++ f ∷ [], each_more fs f each is, one_more fs f (opening limited) p q led e))
+  reached_more p q f (edition, may, (fs, each, led)) is e = (edition, may, (fs ++ f ∷ [], each_more fs f each is, one_more fs f (opening edition) p q led e))
 
   -- after a field, whether it is taken or refused
   pub reached_after : {U : Type 0} (p q : Progress V) (f : Field V) (answer : Result U CertError) → IsReached format p → IsField format f → Takes p q answer (taken p f) → IsReached format q

@@ -5,6 +5,7 @@ use Rattle.std.specs.List.{flat_map}
 use Rattle.std.proofs.lemmas.Bool.{cases_lt}
 use Rattle.std.proofs.lemmas.List.{append-nil}
 use Rattle.byteorder.specs.Endian.{big_number}
+use Rattle.zcert.specs.declared.edition.Edition.{Edition}
 use Rattle.zcert.specs.declared.error.CertError.{CertError}
 use Rattle.zcert.specs.declared.error.CertError.TheVariants as errors
 use Rattle.zcert.specs.declared.field.Field.{Field}
@@ -12,14 +13,14 @@ use Rattle.zcert.specs.declared.field.Turn.{Turn}
 use Rattle.zcert.specs.declared.field.Turn.TheVariants as turns
 use Rattle.zcert.specs.declared.stage.Stage.{Stage}
 use Rattle.zcert.specs.declared.stage.Stage.TheVariants as stages
-use Rattle.zcert.specs.declared.limits.TheConstants.{MAGIC, LIMIT_VERSION}
+use Rattle.zcert.specs.declared.limits.TheConstants.{MAGIC, LIMIT_VERSION, MARK_VERSION}
 use Rattle.zcert.specs.Numbers.{number}
 use Rattle.zcert.specs.Numbers as numbers
 use Rattle.zcert.specs.Certificate.{Certificate}
 use Rattle.zcert.specs.Steps.{◌>>=◌, need, sized_at}
 use Rattle.zcert.specs.Format.{Format}
 use Rattle.zcert.specs.Spelling.{heading, spelling, HasSpelling}
-use Rattle.zcert.specs.Reading.{magic_at, limited_by, version_at, heading_at, reading}
+use Rattle.zcert.specs.Reading.{magic_at, edition_where, version_at, heading_at, reading}
 use Rattle.zcert.specs.Building.{Progress, opening, taken}
 use Rattle.zcert.specs.Fields.{field_bytes, field_at, next_at, NextAdds}
 use Rattle.zcert.specs.Streaming.{Stream, FieldIsCut, IsCut, FieldsLead, Leads, IsFinal, IsRefusal, IsUnread, HasCome, IsFed, IsOpen}
@@ -84,19 +85,20 @@ module _ {B C : Type 0} (n : ℕ) (pair : B → List ℕ → C) (test : ℕ → 
 uncut_magic : (m : ℕ) → need (m == MAGIC) errors.Magic ≢ Err errors.Truncated
 uncut_magic m = uncut_need (m == MAGIC) errors.Magic (λ e. absurd cc)
 
-uncut_limited : (plain limit : Bool) → limited_by plain limit ≢ Err errors.Truncated
-uncut_limited true limit e = absurd cc
-uncut_limited false true e = absurd cc
-uncut_limited false false e = absurd cc
+uncut_edition : (plain limit mark : Bool) → edition_where plain limit mark ≢ Err errors.Truncated
+uncut_edition true limit mark e = absurd cc
+uncut_edition false true mark e = absurd cc
+uncut_edition false false true e = absurd cc
+uncut_edition false false false e = absurd cc
 
 abbrev rest_alone : Unit {0} → List ℕ → List ℕ
 rest_alone u bytes = bytes
 
-abbrev both_parts : Bool → List ℕ → Bool × List ℕ
-both_parts limited bytes = (limited, bytes)
+abbrev both_parts : Edition → List ℕ → Edition × List ℕ
+both_parts edition bytes = (edition, bytes)
 
-abbrev named_by : {V : Type 0} → Format V → ℕ → Result Bool CertError
-named_by format m = limited_by (m == format.version) (format.limited && (m == LIMIT_VERSION))
+abbrev named_by : {V : Type 0} → Format V → ℕ → Result Edition CertError
+named_by format m = edition_where (m == format.version) (format.limited && (m == LIMIT_VERSION)) (format.limited && (m == MARK_VERSION))
 
 pub magic_whole : (bytes : List ℕ) → length bytes ≡ 4 → magic_at bytes ≢ Err errors.Truncated
 unfolding magic_at
@@ -112,7 +114,7 @@ magic_final bytes more e whole h = tested_final 4 rest_alone (λ m. need (m == M
 
 pub version_whole : {V : Type 0} (format : Format V) (bytes : List ℕ) → length bytes ≡ 1 → version_at format bytes ≢ Err errors.Truncated
 unfolding version_at
-version_whole format bytes same = tested_whole 1 both_parts (named_by format) (λ m. uncut_limited _ _) bytes same
+version_whole format bytes same = tested_whole 1 both_parts (named_by format) (λ m. uncut_edition _ _ _) bytes same
 
 pub version_short : {V : Type 0} (format : Format V) (bytes : List ℕ) → length bytes < 1 → version_at format bytes ≡ Err errors.Truncated
 unfolding version_at
@@ -132,7 +134,7 @@ refusal_of format bytes _ plain whole final = final
 pub refusal_stays : {V : Type 0} (format : Format V) (bytes more : List ℕ) (e : CertError) → IsRefusal format bytes e → IsRefusal format (bytes ++ more) e
 refusal_stays format bytes more errors.OutOfMemory r =
     record {
-      limited = r.limited;
+      edition = r.edition;
       allowed = r.allowed;
       fields = r.fields;
       last = r.last;
@@ -142,7 +144,7 @@ refusal_stays format bytes more errors.OutOfMemory r =
       reached = r.reached;
       led = r.led;
       adds = r.adds;
-      spelled = ap (λ (l : List ℕ). l ++ more) r.spelled ∙ append_assoc (heading format r.limited) (flat_map (field_bytes format) (r.fields ++ r.last ∷ []) ++ r.rest) more ∙ ap (λ (l : List ℕ). heading format r.limited ++ l) (append_assoc (flat_map (field_bytes format) (r.fields ++ r.last ∷ [])) r.rest more);
+      spelled = ap (λ (l : List ℕ). l ++ more) r.spelled ∙ append_assoc (heading format r.edition) (flat_map (field_bytes format) (r.fields ++ r.last ∷ []) ++ r.rest) more ∙ ap (λ (l : List ℕ). heading format r.edition ++ l) (append_assoc (flat_map (field_bytes format) (r.fields ++ r.last ∷ [])) r.rest more);
     }
 refusal_stays format bytes more errors.Truncated r = absurd r
 refusal_stays format bytes more _ r = λ after. ap (reading format) (append_assoc bytes more after) ∙ r (more ++ after)
@@ -173,12 +175,12 @@ module _ {V : Type 0} (format : Format V) where
   leads_more stages.Version p fed rest more led = (ap (λ (l : List ℕ). l ++ more) led.0 ∙ append_assoc (number numbers.Magic MAGIC) rest more, led.1)
   leads_more stages.Field p fed rest more led =
       record {
-        limited = led.limited;
+        edition = led.edition;
         allowed = led.allowed;
         fields = led.fields;
         each = led.each;
         led = led.led;
-        spelled = ap (λ (l : List ℕ). l ++ more) led.spelled ∙ append_assoc (heading format led.limited) (flat_map (field_bytes format) led.fields ++ rest) more ∙ ap (λ (l : List ℕ). heading format led.limited ++ l) (append_assoc (flat_map (field_bytes format) led.fields) rest more);
+        spelled = ap (λ (l : List ℕ). l ++ more) led.spelled ∙ append_assoc (heading format led.edition) (flat_map (field_bytes format) led.fields ++ rest) more ∙ ap (λ (l : List ℕ). heading format led.edition ++ l) (append_assoc (flat_map (field_bytes format) led.fields) rest more);
       }
 
   -- one step further
@@ -196,8 +198,8 @@ module _ {V : Type 0} (format : Format V) where
       refusal_of format fed e (λ m. plain_magic bytes (h ∙ ap (λ (x : CertError). Err x) m)) whole (λ more. ap (λ (l : List ℕ). reading format (l ++ more)) led.0 ∙ magic_ends (bytes ++ more) e (magic_final bytes more e whole h))
 
 module _ {V : Type 0} (format : Format V) (law : IsFormat format) where
-  pub version_step : (p q : Progress V) (fed bytes rest : List ℕ) (limited : Bool) → IsBytes bytes → version_at format bytes ≡ Ok (limited, rest) → q ≡ opening limited → Leads format stages.Version p fed bytes → Leads format stages.Field q fed rest
-  version_step p q fed bytes rest limited fits e is led = subst (λ (q : Progress V). FieldsLead format q fed rest) (sym is) (version_leads format law fed bytes (limited, rest) fits led.0 e)
+  pub version_step : (p q : Progress V) (fed bytes rest : List ℕ) (edition : Edition) → IsBytes bytes → version_at format bytes ≡ Ok (edition, rest) → q ≡ opening edition → Leads format stages.Version p fed bytes → Leads format stages.Field q fed rest
+  version_step p q fed bytes rest edition fits e is led = subst (λ (q : Progress V). FieldsLead format q fed rest) (sym is) (version_leads format law fed bytes (edition, rest) fits led.0 e)
 
   version_ends : (bytes : List ℕ) (e : CertError) → version_at format bytes ≡ Err e → reading format (number numbers.Magic MAGIC ++ bytes) ≡ Err e
   unfolding heading_at
@@ -212,7 +214,7 @@ module _ {V : Type 0} (format : Format V) (law : IsFormat format) where
 
   -- what was led here is read as its rest is
   led_is_read : (p : Progress V) (fed rest : List ℕ) → FieldsLead format p fed rest → reading format fed ≡ rest_of format p rest
-  led_is_read p fed rest led = ap (reading format) led.spelled ∙ after_heading format law led.limited (flat_map (field_bytes format) led.fields ++ rest) led.allowed ∙ fields_again format law led.fields (opening led.limited) p rest led.each led.led
+  led_is_read p fed rest led = ap (reading format) led.spelled ∙ after_heading format law led.edition (flat_map (field_bytes format) led.fields ++ rest) led.allowed ∙ fields_again format law led.fields (opening led.edition) p rest led.each led.led
 
   -- the field that was read is taken, and the rest follows
   abbrev taken_from : Progress V → Result (Field V × List ℕ) CertError → Result (Progress V × List ℕ) CertError

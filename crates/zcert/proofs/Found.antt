@@ -1,24 +1,29 @@
 -- What is read is spelled so, and has a spelling.
-use Rattle.std.proofs.Common.{◌≡◌, ℕ, zero, suc, ◌+◌, ◌<◌, ◌≤◌, Bool, true, false, List, [], ◌∷◌, ◌++◌, length, take, drop, Result, Option, Some, None, Ok, Err, refl, ap, subst, ◌∙◌, arith}
+use Rattle.std.proofs.Common.{◌≡◌, ℕ, zero, suc, ◌+◌, ◌<◌, ◌≤◌, Bool, true, false, List, [], ◌∷◌, ◌++◌, length, take, drop, Option, Some, None, Ok, refl, ap, subst, ◌∙◌, arith}
 use Rattle.std.specs.Prelude.{nat_le, nat_lt, ◌==◌, ◌&&◌, is_some}
 use Rattle.std.specs.List.{flat_map, AllByRecursion}
 use Rattle.std.proofs.lemmas.Bool.{leb-true, ltb-true, eqb-true}
 use Rattle.std.proofs.lemmas.List.{take-append-drop, length-take, length-drop, append-nil}
 use Rattle.zstory.specs.declared.identity.Identity.{Identity}
+use Rattle.zcert.specs.declared.edition.Edition.{Edition}
+use Rattle.zcert.specs.declared.edition.Edition.TheVariants as editions
 use Rattle.zcert.specs.declared.error.CertError.{CertError}
 use Rattle.zcert.specs.declared.error.CertError.TheVariants as errors
 use Rattle.zcert.specs.declared.parts.Range.{Range}
 use Rattle.zcert.specs.declared.parts.Routine.{Routine}
-use Rattle.zcert.specs.declared.limits.TheConstants.{MAGIC, GLOBALS, ADDRESS_LIMIT, MAX_LOCALS, MAX_INSTRUCTIONS, MAX_RANGES, MAX_ROUTINES, MAX_HEIGHT, MAX_FRAMES, LIMIT_VERSION}
+use Rattle.zcert.specs.declared.limits.TheConstants.{MAGIC, GLOBALS, ADDRESS_LIMIT, MAX_LOCALS, MAX_INSTRUCTIONS, MAX_RANGES, MAX_ROUTINES, MAX_HEIGHT, MAX_FRAMES, LIMIT_VERSION, MARK_VERSION}
 use Rattle.zcert.specs.Numbers.{number}
 use Rattle.zcert.specs.Numbers as numbers
-use Rattle.zcert.specs.Certificate.{Instruction, Certificate, locals_of}
+use Rattle.zcert.specs.Certificate.{Instruction, Certificate, locals_of, edition_of}
+use Rattle.zcert.specs.Editions.{is_limited, is_marking}
+use Rattle.zcert.specs.Marks.{height_byte, is_mark, height_in, IsMarkable}
 use Rattle.zcert.specs.Steps.{need, number_at, serial_at}
 use Rattle.zcert.specs.Format.{Format, version_of, IsAllowed}
 use Rattle.zcert.specs.Spelling.{identity_bytes, limit_bytes, range_bytes, values_bytes, routine_bytes, instruction_bytes, counted, heading, spelling, IsIdentity, IsLimit, IsRange, AreApart, Rise, IsRoutine, IsInstruction, HasSpelling}
-use Rattle.zcert.specs.Reading.{magic_at, limited_by, version_at, heading_at, identity_at, limit_at, fields_at, range_at, ranges_at, all_ranges_at, address_fits, values_at, routine_at, routines_at, all_routines_at, instruction_at, instructions_at, all_instructions_at, at_end, reading}
+use Rattle.zcert.specs.Reading.{magic_at, edition_where, version_at, heading_at, identity_at, limit_at, fields_at, range_at, ranges_at, all_ranges_at, address_fits, values_at, routine_at, routines_at, all_routines_at, instruction_at, instructions_at, all_instructions_at, at_end, reading}
 use Rattle.zcert.specs.FormatLaw.Stepping.{Takes-then, bind_ok, need_ok, ok_is, number_takes, serial_takes}
 use Rattle.zcert.specs.FormatLaw.{IsBytes, Takes, IsFormat}
+use Rattle.zcert.proofs.Marked.{byte_again, markable, edition_again, may_mark, may_limit}
 
 -- what was taken is all
 all_taken : (bytes text rest : List ℕ) → Takes bytes text rest → rest ≡ [] → bytes ≡ text
@@ -36,30 +41,29 @@ magic_takes bytes rest fits e =
     let t = number_takes numbers.Magic bytes a.0.0 a.0.1 fits a.1 in
     subst (λ (r : List ℕ). Takes bytes (number numbers.Magic MAGIC) r) (ok_is _ _ o.1) (subst (λ (n : ℕ). Takes bytes (number numbers.Magic n) a.0.1) (eqb-true _ _ o.0) t.0)
 
-both_hold : (n : ℕ) (a b : Bool) → (a && b) ≡ true → (n == LIMIT_VERSION) ≡ b → (n ≡ LIMIT_VERSION) × (a ≡ true)
-both_hold n true true both is = (eqb-true _ _ is, refl)
-both_hold n true false both is = absurd cc
-both_hold n false b both is = absurd cc
+both_hold : (n m : ℕ) (a b : Bool) → (a && b) ≡ true → (n == m) ≡ b → (n ≡ m) × (a ≡ true)
+both_hold n m true true both is = (eqb-true _ _ is, refl)
+both_hold n m true false both is = absurd cc
+both_hold n m false b both is = absurd cc
 
--- a version is the one of which it is known whether a limit is named
-version_is : {V : Type 0} (format : Format V) (n : ℕ) (plain limit : Bool) (limited : Bool) → (n == format.version) ≡ plain → (format.limited && (n == LIMIT_VERSION)) ≡ limit → limited_by plain limit ≡ Ok limited → (n ≡ version_of format limited) × IsAllowed format limited
-version_is format n true limit true p q e = absurd cc
-version_is format n true limit false p q e = (eqb-true _ _ p, tt)
-version_is format n false true true p q e = both_hold n format.limited (n == LIMIT_VERSION) q refl
-version_is format n false true false p q e = absurd cc
-version_is format n false false limited p q e = absurd cc
+-- a version is that of the edition that is told
+version_is : {V : Type 0} (format : Format V) (n : ℕ) (plain limit mark : Bool) (edition : Edition) → (n == format.version) ≡ plain → (format.limited && (n == LIMIT_VERSION)) ≡ limit → (format.limited && (n == MARK_VERSION)) ≡ mark → edition_where plain limit mark ≡ Ok edition → (n ≡ version_of format edition) × IsAllowed format edition
+version_is format n true limit mark editions.Plain p q r e = (eqb-true _ _ p, tt)
+version_is format n false true mark editions.Limited p q r e = both_hold n LIMIT_VERSION format.limited (n == LIMIT_VERSION) q refl
+version_is format n false false true editions.Marking p q r e = both_hold n MARK_VERSION format.limited (n == MARK_VERSION) r refl
+version_is format n _ _ _ _ p q r e = absurd cc
 
-pub version_takes : {V : Type 0} (format : Format V) (bytes : List ℕ) (x : Bool × List ℕ) → IsBytes bytes → version_at format bytes ≡ Ok x → Takes bytes (number numbers.Version (version_of format x.0)) x.1 × IsAllowed format x.0
+pub version_takes : {V : Type 0} (format : Format V) (bytes : List ℕ) (x : Edition × List ℕ) → IsBytes bytes → version_at format bytes ≡ Ok x → Takes bytes (number numbers.Version (version_of format x.0)) x.1 × IsAllowed format x.0
 unfolding version_at
 version_takes format bytes x fits e =
     let a = bind_ok (number_at numbers.Version bytes) _ _ e in
-    let b = bind_ok (limited_by (a.0.0 == format.version) (format.limited && (a.0.0 == LIMIT_VERSION))) _ _ a.2 in
+    let b = bind_ok (edition_where (a.0.0 == format.version) (format.limited && (a.0.0 == LIMIT_VERSION)) (format.limited && (a.0.0 == MARK_VERSION))) _ _ a.2 in
     let t = number_takes numbers.Version bytes a.0.0 a.0.1 fits a.1 in
-    let is = version_is format a.0.0 _ _ b.0 refl refl b.1 in
-    let made : Bool × List ℕ = (b.0, a.0.1) in
-    subst (λ (y : Bool × List ℕ). Takes bytes (number numbers.Version (version_of format y.0)) y.1 × IsAllowed format y.0) {x = made} (ok_is made x b.2) (subst (λ (n : ℕ). Takes bytes (number numbers.Version n) a.0.1) is.0 t.0, is.1)
+    let is = version_is format a.0.0 _ _ _ b.0 refl refl refl b.1 in
+    let made : Edition × List ℕ = (b.0, a.0.1) in
+    subst (λ (y : Edition × List ℕ). Takes bytes (number numbers.Version (version_of format y.0)) y.1 × IsAllowed format y.0) {x = made} (ok_is made x b.2) (subst (λ (n : ℕ). Takes bytes (number numbers.Version n) a.0.1) is.0 t.0, is.1)
 
-pub heading_takes : {V : Type 0} (format : Format V) (bytes : List ℕ) (x : Bool × List ℕ) → IsBytes bytes → heading_at format bytes ≡ Ok x → Takes bytes (heading format x.0) x.1 × IsAllowed format x.0
+pub heading_takes : {V : Type 0} (format : Format V) (bytes : List ℕ) (x : Edition × List ℕ) → IsBytes bytes → heading_at format bytes ≡ Ok x → Takes bytes (heading format x.0) x.1 × IsAllowed format x.0
 unfolding heading_at
 heading_takes format bytes x fits e =
     let m = bind_ok (magic_at bytes) _ _ e in
@@ -77,7 +81,7 @@ pub record TakesLimit {V : Type 0} (format : Format V) (limited : Bool) (bytes :
   pub is : IsLimit format x.0
   pub named : is_some x.0 ≡ limited
 
-pub limit_takes : {V : Type 0} (format : Format V) (limited : Bool) (bytes : List ℕ) (x : Option ℕ × List ℕ) → IsAllowed format limited → IsBytes bytes → limit_at limited bytes ≡ Ok x → TakesLimit format limited bytes x
+pub limit_takes : {V : Type 0} (format : Format V) (limited : Bool) (bytes : List ℕ) (x : Option ℕ × List ℕ) → (limited ≡ true → format.limited ≡ true) → IsBytes bytes → limit_at limited bytes ≡ Ok x → TakesLimit format limited bytes x
 unfolding limit_at
 limit_takes format false bytes x may fits e =
     let made : Option ℕ × List ℕ = (None, bytes) in
@@ -87,7 +91,7 @@ limit_takes format true bytes x may fits e =
     let o = need_ok (nat_le a.0.0 MAX_FRAMES) _ _ _ a.2 in
     let t = number_takes numbers.FrameLimit bytes a.0.0 a.0.1 fits a.1 in
     let made : Option ℕ × List ℕ = (Some a.0.0, a.0.1) in
-    subst (TakesLimit format true bytes) {x = made} (ok_is made x o.1) (record { takes = t.0; is = (may, leb-true _ _ o.0); named = refl })
+    subst (TakesLimit format true bytes) {x = made} (ok_is made x o.1) (record { takes = t.0; is = (may refl, leb-true _ _ o.0); named = refl })
 
 identity_takes : (bytes : List ℕ) (x : Identity × List ℕ) → IsBytes bytes → identity_at bytes ≡ Ok x → Takes bytes (identity_bytes x.0) x.1 × IsIdentity x.0
 unfolding identity_at
@@ -258,75 +262,88 @@ module _ {V : Type 0} (format : Format V) (law : IsFormat format) where
   drop_each (suc n) [] each = tt
   drop_each (suc n) (v ∷ vs) each = drop_each n vs each.1
 
-  instruction_takes : (routines : List (Routine V)) (floor : ℕ) (bytes : List ℕ) (x : Instruction V × List ℕ) → IsBytes bytes → instruction_at format routines floor bytes ≡ Ok x → Takes bytes (instruction_bytes format x.0) x.1 × (floor ≤ x.0.address) × IsInstruction format routines x.0
+  -- what is known of an instruction that was read
+  pub record TakesInstruction (marking : Bool) (routines : List (Routine V)) (floor : ℕ) (bytes : List ℕ) (i : Instruction V) (rest : List ℕ) : Type 0 where
+    pub takes : Takes bytes (instruction_bytes format i) rest
+    pub above : floor ≤ i.address
+    pub is : IsInstruction format routines i
+    pub may : IsMarkable marking i
+
+  instruction_takes : (marking : Bool) (routines : List (Routine V)) (floor : ℕ) (bytes : List ℕ) (x : Instruction V × List ℕ) → IsBytes bytes → instruction_at format marking routines floor bytes ≡ Ok x → TakesInstruction marking routines floor bytes x.0 x.1
   unfolding instruction_at
-  instruction_takes routines floor bytes x fits e =
+  instruction_takes marking routines floor bytes x fits e =
       let a = bind_ok (number_at numbers.InstructionAddress bytes) _ _ e in
       let o = bind_ok (address_fits floor a.0.0) _ _ a.2 in
       let b = bind_ok (number_at numbers.RoutineNumber a.0.1) _ _ o.2 in
       let p = need_ok (nat_le b.0.0 (length routines)) _ _ _ b.2 in
       let c = bind_ok (number_at numbers.Height b.0.1) _ _ p.1 in
-      let q = need_ok (nat_le c.0.0 MAX_HEIGHT) _ _ _ c.2 in
+      let height = height_in marking c.0.0 in
+      let mark = is_mark marking c.0.0 in
+      let q = need_ok (nat_le height MAX_HEIGHT) _ _ _ c.2 in
       let n = locals_of routines b.0.0 in
-      let d = bind_ok (values_at format (n + c.0.0) c.0.1) _ _ q.1 in
+      let d = bind_ok (values_at format (n + height) c.0.1) _ _ q.1 in
       let ta = number_takes numbers.InstructionAddress bytes a.0.0 a.0.1 fits a.1 in
       let tb = number_takes numbers.RoutineNumber a.0.1 b.0.0 b.0.1 ta.0.rest_fits b.1 in
       let tc = number_takes numbers.Height b.0.1 c.0.0 c.0.1 tb.0.rest_fits c.1 in
-      let td = values_take (n + c.0.0) c.0.1 d.0 tc.0.rest_fits d.1 in
+      let td = values_take (n + height) c.0.1 d.0 tc.0.rest_fits d.1 in
       let vs = d.0.0 in
       let address = address_is floor a.0.0 o.0 o.1 in
       let locals : length (take n vs) ≡ n = omega (arith, td.count, length-take n vs) in
-      let slots : length (drop n vs) ≡ c.0.0 = omega (arith, td.count, length-drop n vs) in
+      let slots : length (drop n vs) ≡ height = omega (arith, td.count, length-drop n vs) in
       let ab = Takes-then bytes _ a.0.1 _ b.0.1 ta.0 tb.0 in
       let abc = Takes-then bytes _ b.0.1 _ c.0.1 ab tc.0 in
       let all = Takes-then bytes _ c.0.1 _ d.0.1 abc td.takes in
-      let made : Instruction V × List ℕ = (record { address = a.0.0; routine = b.0.0; locals = take n vs; slots = drop n vs }, d.0.1) in
-      subst (λ (y : Instruction V × List ℕ). Takes bytes (instruction_bytes format y.0) y.1 × (floor ≤ y.0.address) × IsInstruction format routines y.0) {x = made} (ok_is made x d.2) (
-        rw (slots, take-append-drop n vs) all,
-        address.0,
-        record {
+      let byte : height_byte mark (length (drop n vs)) ≡ c.0.0 = ap (height_byte mark) slots ∙ byte_again marking c.0.0 in
+      let made : Instruction V × List ℕ = (record { address = a.0.0; routine = b.0.0; is_marked = mark; locals = take n vs; slots = drop n vs }, d.0.1) in
+      subst (λ (y : Instruction V × List ℕ). TakesInstruction marking routines floor bytes y.0 y.1) {x = made} (ok_is made x d.2) (record {
+        takes = rw (byte, take-append-drop n vs) all;
+        above = address.0;
+        is = record {
           address = address.1;
           routine = leb-true _ _ p.0;
           locals = locals;
           height = rw slots (leb-true _ _ q.0);
           local_values = take_each n vs td.each;
           slot_values = drop_each n vs td.each;
-        },
-      )
+        };
+        may = markable marking c.0.0 made.0 refl;
+      })
 
-  pub record TakesInstructions (routines : List (Routine V)) (n floor : ℕ) (bytes : List ℕ) (is : List (Instruction V)) (rest : List ℕ) : Type 0 where
+  pub record TakesInstructions (marking : Bool) (routines : List (Routine V)) (n floor : ℕ) (bytes : List ℕ) (is : List (Instruction V)) (rest : List ℕ) : Type 0 where
     pub takes : Takes bytes (flat_map (instruction_bytes format) is) rest
     pub count : length is ≡ n
     pub each : AllByRecursion (IsInstruction format routines) is
     pub rise : Rise (λ (i : Instruction V). i.address) floor is
+    pub may : AllByRecursion (IsMarkable marking) is
 
-  instructions_take : (routines : List (Routine V)) (n floor : ℕ) (bytes : List ℕ) (x : List (Instruction V) × List ℕ) → IsBytes bytes → instructions_at format routines n floor bytes ≡ Ok x → TakesInstructions routines n floor bytes x.0 x.1
+  instructions_take : (marking : Bool) (routines : List (Routine V)) (n floor : ℕ) (bytes : List ℕ) (x : List (Instruction V) × List ℕ) → IsBytes bytes → instructions_at format marking routines n floor bytes ≡ Ok x → TakesInstructions marking routines n floor bytes x.0 x.1
   unfolding instructions_at
-  instructions_take routines zero floor bytes x fits e =
+  instructions_take marking routines zero floor bytes x fits e =
       let made : List (Instruction V) × List ℕ = ([], bytes) in
-      subst (λ (y : List (Instruction V) × List ℕ). TakesInstructions routines 0 floor bytes y.0 y.1) {x = made} (ok_is made x e) (record { takes = record { parts = refl; rest_fits = fits }; count = refl; each = tt; rise = tt })
-  instructions_take routines (suc n) floor bytes x fits e =
-      let a = bind_ok (instruction_at format routines floor bytes) _ _ e in
-      let b = bind_ok (instructions_at format routines n (a.0.0.address + 1) a.0.1) _ _ a.2 in
-      let first = instruction_takes routines floor bytes a.0 fits a.1 in
-      let others = instructions_take routines n (a.0.0.address + 1) a.0.1 b.0 first.0.rest_fits b.1 in
+      subst (λ (y : List (Instruction V) × List ℕ). TakesInstructions marking routines 0 floor bytes y.0 y.1) {x = made} (ok_is made x e) (record { takes = record { parts = refl; rest_fits = fits }; count = refl; each = tt; rise = tt; may = tt })
+  instructions_take marking routines (suc n) floor bytes x fits e =
+      let a = bind_ok (instruction_at format marking routines floor bytes) _ _ e in
+      let b = bind_ok (instructions_at format marking routines n (a.0.0.address + 1) a.0.1) _ _ a.2 in
+      let first = instruction_takes marking routines floor bytes a.0 fits a.1 in
+      let others = instructions_take marking routines n (a.0.0.address + 1) a.0.1 b.0 first.takes.rest_fits b.1 in
       let made : List (Instruction V) × List ℕ = (a.0.0 ∷ b.0.0, b.0.1) in
-      subst (λ (y : List (Instruction V) × List ℕ). TakesInstructions routines (suc n) floor bytes y.0 y.1) {x = made} (ok_is made x b.2) (record {
-        takes = Takes-then bytes _ a.0.1 _ b.0.1 first.0 others.takes;
+      subst (λ (y : List (Instruction V) × List ℕ). TakesInstructions marking routines (suc n) floor bytes y.0 y.1) {x = made} (ok_is made x b.2) (record {
+        takes = Takes-then bytes _ a.0.1 _ b.0.1 first.takes others.takes;
         count = ap suc others.count;
-        each = (first.2, others.each);
-        rise = (first.1, others.rise);
+        each = (first.is, others.each);
+        rise = (first.above, others.rise);
+        may = (first.may, others.may);
       })
 
-  all_instructions_take : (routines : List (Routine V)) (bytes : List ℕ) (x : List (Instruction V) × List ℕ) → IsBytes bytes → all_instructions_at format routines bytes ≡ Ok x → Takes bytes (counted numbers.InstructionCount (instruction_bytes format) x.0) x.1 × (length x.0 ≤ MAX_INSTRUCTIONS) × AllByRecursion (IsInstruction format routines) x.0 × Rise (λ (i : Instruction V). i.address) 0 x.0
+  all_instructions_take : (marking : Bool) (routines : List (Routine V)) (bytes : List ℕ) (x : List (Instruction V) × List ℕ) → IsBytes bytes → all_instructions_at format marking routines bytes ≡ Ok x → Takes bytes (counted numbers.InstructionCount (instruction_bytes format) x.0) x.1 × (length x.0 ≤ MAX_INSTRUCTIONS) × AllByRecursion (IsInstruction format routines) x.0 × Rise (λ (i : Instruction V). i.address) 0 x.0 × AllByRecursion (IsMarkable marking) x.0
   unfolding all_instructions_at
-  all_instructions_take routines bytes x fits e =
+  all_instructions_take marking routines bytes x fits e =
       let a = bind_ok (number_at numbers.InstructionCount bytes) _ _ e in
       let o = need_ok (nat_le a.0.0 MAX_INSTRUCTIONS) _ _ _ a.2 in
       let ta = number_takes numbers.InstructionCount bytes a.0.0 a.0.1 fits a.1 in
-      let tb = instructions_take routines a.0.0 0 a.0.1 x ta.0.rest_fits o.1 in
+      let tb = instructions_take marking routines a.0.0 0 a.0.1 x ta.0.rest_fits o.1 in
       let whole = Takes-then bytes _ a.0.1 _ x.1 ta.0 tb.takes in
-      (rw tb.count whole, rw tb.count (leb-true _ _ o.0), tb.each, tb.rise)
+      (rw tb.count whole, rw tb.count (leb-true _ _ o.0), tb.each, tb.rise, tb.may)
 
   end_is : (c d : Certificate V) (bytes : List ℕ) → at_end format c bytes ≡ Ok d → (c ≡ d) × (bytes ≡ [])
   unfolding at_end
@@ -339,21 +356,22 @@ module _ {V : Type 0} (format : Format V) (law : IsFormat format) where
   found bytes c fits e =
       let v = bind_ok (heading_at format bytes) _ _ e in
       let i = bind_ok (identity_at v.0.1) _ _ v.2 in
-      let l = bind_ok (limit_at v.0.0 i.0.1) _ _ i.2 in
+      let edition : Edition = v.0.0 in
+      let l = bind_ok (limit_at (is_limited edition) i.0.1) _ _ i.2 in
       let r = bind_ok (all_ranges_at l.0.1) _ _ l.2 in
       let g = bind_ok (values_at format GLOBALS r.0.1) _ _ r.2 in
       let s = bind_ok (all_routines_at format g.0.1) _ _ g.2 in
-      let n = bind_ok (all_instructions_at format s.0.0 s.0.1) _ _ s.2 in
+      let n = bind_ok (all_instructions_at format (is_marking edition) s.0.0 s.0.1) _ _ s.2 in
       let tv = heading_takes format bytes v.0 fits v.1 in
       let ti = identity_takes v.0.1 i.0 tv.0.rest_fits i.1 in
-      let tl = limit_takes format v.0.0 i.0.1 l.0 tv.1 ti.0.rest_fits l.1 in
+      let tl = limit_takes format (is_limited edition) i.0.1 l.0 (may_limit format edition tv.1) ti.0.rest_fits l.1 in
       let tr = all_ranges_take l.0.1 r.0 tl.takes.rest_fits r.1 in
       let tg = values_take GLOBALS r.0.1 g.0 tr.0.rest_fits g.1 in
       let ts = all_routines_take g.0.1 s.0 tg.takes.rest_fits s.1 in
-      let tn = all_instructions_take s.0.0 s.0.1 n.0 ts.0.rest_fits n.1 in
-      let made : Certificate V = record { identity = i.0.0; limit = l.0.0; ranges = r.0.0; globals = g.0.0; routines = s.0.0; instructions = n.0.0 } in
+      let tn = all_instructions_take (is_marking edition) s.0.0 s.0.1 n.0 ts.0.rest_fits n.1 in
+      let made : Certificate V = record { identity = i.0.0; limit = l.0.0; marking = is_marking edition; ranges = r.0.0; globals = g.0.0; routines = s.0.0; instructions = n.0.0 } in
       let done = end_is made c n.0.1 n.2 in
-      let headed : Takes bytes (heading format (is_some l.0.0)) v.0.1 = rw tl.named tv.0 in
+      let headed : Takes bytes (heading format (edition_of made)) v.0.1 = rw (edition_again edition l.0.0 tl.named) tv.0 in
       let vi = Takes-then bytes _ v.0.1 _ i.0.1 headed ti.0 in
       let vil = Takes-then bytes _ i.0.1 _ l.0.1 vi tl.takes in
       let vir = Takes-then bytes _ l.0.1 _ r.0.1 vil tr.0 in
@@ -366,6 +384,7 @@ module _ {V : Type 0} (format : Format V) (law : IsFormat format) where
         record {
           identity = ti.1;
           limit = tl.is;
+          marking = may_mark edition l.0.0 tl.named;
           few_ranges = tr.1;
           ranges = tr.2;
           ranges_apart = tr.3;
@@ -377,5 +396,6 @@ module _ {V : Type 0} (format : Format V) (law : IsFormat format) where
           few_instructions = tn.1;
           instructions = tn.2;
           instructions_rise = tn.3;
+          instructions_markable = tn.4;
         },
       )

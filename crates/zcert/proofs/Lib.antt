@@ -1,6 +1,7 @@
 mod Sample
 mod Worked
 mod WorkedLists
+mod WorkedMarks
 pub mod Bare
 pub mod Found
 pub mod Only
@@ -21,3 +22,4 @@ pub mod Refused
 pub mod Words
 pub mod Fronts
 pub mod Limit
+pub mod Marked

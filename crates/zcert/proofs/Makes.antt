@@ -1,8 +1,8 @@
 -- Calls of a builder and certificates belong together.
-use Rattle.std.proofs.Common.{◌≡◌, ℕ, zero, suc, ◌≤◌, Bool, true, false, Option, None, Some, List, [], ◌∷◌, ◌++◌, length, Ok, Err, refl, sym, ap, subst, ◌∙◌, append_assoc, arith, ◌⊎◌, inl, inr}
-use Rattle.std.specs.Prelude.{is_some}
+use Rattle.std.proofs.Common.{◌≡◌, ℕ, zero, suc, ◌≤◌, Option, None, Some, List, [], ◌∷◌, ◌++◌, length, Ok, Err, refl, sym, ap, subst, ◌∙◌, append_assoc, arith, ◌⊎◌, inl, inr}
 use Rattle.std.specs.List.{flat_map, AllByRecursion}
 use Rattle.std.proofs.lemmas.List.{append-nil}
+use Rattle.zcert.specs.declared.edition.Edition.{Edition}
 use Rattle.zcert.specs.declared.error.CertError.TheVariants as errors
 use Rattle.zcert.specs.declared.field.Field.{Field}
 use Rattle.zcert.specs.declared.field.Turn.{Turn}
@@ -13,7 +13,8 @@ use Rattle.zcert.specs.declared.parts.Routine.{Routine}
 use Rattle.zcert.specs.declared.limits.TheConstants.{MAGIC}
 use Rattle.zcert.specs.Numbers.{Number, number}
 use Rattle.zcert.specs.Numbers as numbers
-use Rattle.zcert.specs.Certificate.{Certificate, Instruction}
+use Rattle.zcert.specs.Certificate.{Certificate, Instruction, edition_of}
+use Rattle.zcert.specs.Marks.{height_byte}
 use Rattle.zcert.specs.Steps.{◌>>=◌}
 use Rattle.zcert.specs.Format.{Format, version_of, IsAllowed}
 use Rattle.zcert.specs.Spelling.{identity_bytes, limit_bytes, range_bytes, counted, values_bytes, routine_bytes, instruction_bytes, heading, spelling, IsIdentity, IsRange, IsRoutine, IsInstruction, HasSpelling}
@@ -23,30 +24,31 @@ use Rattle.zcert.specs.Fields.{field_bytes, IsField, field_at, IsReached, Makes}
 use Rattle.zcert.specs.FormatLaw.Stepping.{IsBytes-append, IsBytes-number, bind_ok, ok_is}
 use Rattle.zcert.specs.FormatLaw.{IsBytes, IsFormat}
 use Rattle.zcert.proofs.Found.{found}
-use Rattle.zcert.proofs.Only.{heading_again, limit_allowed, both_each, only}
+use Rattle.zcert.proofs.Only.{heading_again, both_each, only}
+use Rattle.zcert.proofs.Marked.{edition_allowed}
 use Rattle.zcert.proofs.Rest.{rest_of, HasMore, reads_on, completes, opens}
 use Rattle.zcert.proofs.FieldBytes.{fields_again, field_takes, below_each, IsBytes-fields}
 
 module _ {V : Type 0} (format : Format V) (law : IsFormat format) where
   -- what follows the heading is read as the fields are
-  pub after_heading : (limited : Bool) (bytes : List ℕ) → IsAllowed format limited → reading format (heading format limited ++ bytes) ≡ rest_of format (opening limited) bytes
-  after_heading limited bytes may = opens format (heading format limited ++ bytes) ∙ rw (heading_again format law limited bytes may) refl
+  pub after_heading : (edition : Edition) (bytes : List ℕ) → IsAllowed format edition → reading format (heading format edition ++ bytes) ≡ rest_of format (opening edition) bytes
+  after_heading edition bytes may = opens format (heading format edition ++ bytes) ∙ rw (heading_again format law edition bytes may) refl
 
   -- the fields that led to the end are read as what they made
-  made_is_read : (limited : Bool) (fs : List (Field V)) (p : Progress V) → IsAllowed format limited → AllByRecursion (IsField format) fs → all_taken (opening limited) fs ≡ Ok p → p.turn ≡ turns.Complete → reading format (heading format limited ++ flat_map (field_bytes format) fs) ≡ Ok p.content
-  made_is_read limited fs p may each led complete =
-      after_heading limited (flat_map (field_bytes format) fs) may
-      ∙ ap (rest_of format (opening limited)) (sym (append-nil (flat_map (field_bytes format) fs)))
-      ∙ fields_again format law fs (opening limited) p [] each led
+  made_is_read : (edition : Edition) (fs : List (Field V)) (p : Progress V) → IsAllowed format edition → AllByRecursion (IsField format) fs → all_taken (opening edition) fs ≡ Ok p → p.turn ≡ turns.Complete → reading format (heading format edition ++ flat_map (field_bytes format) fs) ≡ Ok p.content
+  made_is_read edition fs p may each led complete =
+      after_heading edition (flat_map (field_bytes format) fs) may
+      ∙ ap (rest_of format (opening edition)) (sym (append-nil (flat_map (field_bytes format) fs)))
+      ∙ fields_again format law fs (opening edition) p [] each led
       ∙ completes format p complete
 
   -- they are, one after another, its spelling
-  pub made_is_spelled : (limited : Bool) (fs : List (Field V)) (p : Progress V) → IsAllowed format limited → AllByRecursion (IsField format) fs → all_taken (opening limited) fs ≡ Ok p → p.turn ≡ turns.Complete → (heading format limited ++ flat_map (field_bytes format) fs ≡ spelling format p.content) × HasSpelling format p.content
-  made_is_spelled limited fs p may each led complete =
+  pub made_is_spelled : (edition : Edition) (fs : List (Field V)) (p : Progress V) → IsAllowed format edition → AllByRecursion (IsField format) fs → all_taken (opening edition) fs ≡ Ok p → p.turn ≡ turns.Complete → (heading format edition ++ flat_map (field_bytes format) fs ≡ spelling format p.content) × HasSpelling format p.content
+  made_is_spelled edition fs p may each led complete =
       let bytes = flat_map (field_bytes format) fs in
-      let version = version_of format limited in
-      let fits = IsBytes-append (heading format limited) bytes (IsBytes-append (number numbers.Magic MAGIC) (number numbers.Version version) (IsBytes-number numbers.Magic MAGIC) (IsBytes-number numbers.Version version)) (IsBytes-fields format law fs each) in
-      found format law (heading format limited ++ bytes) p.content fits (made_is_read limited fs p may each led complete)
+      let version = version_of format edition in
+      let fits = IsBytes-append (heading format edition) bytes (IsBytes-append (number numbers.Magic MAGIC) (number numbers.Version version) (IsBytes-number numbers.Magic MAGIC) (IsBytes-number numbers.Version version)) (IsBytes-fields format law fs each) in
+      found format law (heading format edition ++ bytes) p.content fits (made_is_read edition fs p may each led complete)
 
   -- ---- each certificate is made by some fields
 
@@ -83,11 +85,11 @@ module _ {V : Type 0} (format : Format V) (law : IsFormat format) where
       (a.0.0 ∷ m.0, m.1, (t.is, m.2), one_first a.0.0 m.0 p b.0 m.1 b.1 m.3, m.4, m.5)
 
   -- what is made is spelled by the fields, one after another
-  pub makes_spelled : (fs : List (Field V)) (c : Certificate V) → Makes format fs c → HasSpelling format c × (spelling format c ≡ heading format (is_some c.limit) ++ flat_map (field_bytes format) fs)
+  pub makes_spelled : (fs : List (Field V)) (c : Certificate V) → Makes format fs c → HasSpelling format c × (spelling format c ≡ heading format (edition_of c) ++ flat_map (field_bytes format) fs)
   makes_spelled fs c m =
-      let limited : Bool = is_some c.limit in
-      let s = made_is_spelled limited fs m.end m.allowed m.each m.led m.complete in
-      subst (λ (d : Certificate V). HasSpelling format d × (spelling format d ≡ heading format limited ++ flat_map (field_bytes format) fs)) m.content (s.1, sym s.0)
+      let edition : Edition = edition_of c in
+      let s = made_is_spelled edition fs m.end m.allowed m.each m.led m.complete in
+      subst (λ (d : Certificate V). HasSpelling format d × (spelling format d ≡ heading format edition ++ flat_map (field_bytes format) fs)) m.content (s.1, sym s.0)
 
   -- ---- a spelling is of bytes
 
@@ -125,9 +127,10 @@ module _ {V : Type 0} (format : Format V) (law : IsFormat format) where
   IsBytes-instruction routines i is =
       let address = number numbers.InstructionAddress i.address in
       let routine = number numbers.RoutineNumber i.routine in
-      let height = number numbers.Height (length i.slots) in
+      let byte = height_byte i.is_marked (length i.slots) in
+      let height = number numbers.Height byte in
       IsBytes-append (address ++ routine ++ height) (values_bytes format (i.locals ++ i.slots))
-      (three_bytes address routine height (IsBytes-number numbers.InstructionAddress i.address) (IsBytes-number numbers.RoutineNumber i.routine) (IsBytes-number numbers.Height (length i.slots)))
+      (three_bytes address routine height (IsBytes-number numbers.InstructionAddress i.address) (IsBytes-number numbers.RoutineNumber i.routine) (IsBytes-number numbers.Height byte))
       (IsBytes-flat_map format.spelled format.Has law.bytes (i.locals ++ i.slots) (both_each format law i.locals i.slots is.local_values is.slot_values))
 
   -- what follows the heading
@@ -156,18 +159,18 @@ module _ {V : Type 0} (format : Format V) (law : IsFormat format) where
   in_two a b l c d e f = simp append_assoc
 
   -- a spelling is its heading and what follows it
-  parts_of : (c : Certificate V) → spelling format c ≡ heading format (is_some c.limit) ++ body c
-  parts_of c = in_two (heading format (is_some c.limit)) (identity_bytes c.identity) (limit_bytes c.limit) (counted numbers.RangeCount range_bytes c.ranges) (values_bytes format c.globals) (counted numbers.RoutineCount (routine_bytes format) c.routines) (counted numbers.InstructionCount (instruction_bytes format) c.instructions)
+  parts_of : (c : Certificate V) → spelling format c ≡ heading format (edition_of c) ++ body c
+  parts_of c = in_two (heading format (edition_of c)) (identity_bytes c.identity) (limit_bytes c.limit) (counted numbers.RangeCount range_bytes c.ranges) (values_bytes format c.globals) (counted numbers.RoutineCount (routine_bytes format) c.routines) (counted numbers.InstructionCount (instruction_bytes format) c.instructions)
 
   -- each certificate that has a spelling is made by some fields
   pub each_is_made : (c : Certificate V) → HasSpelling format c → (fs : List (Field V)) × Makes format fs c
   each_is_made c has =
-      let limited : Bool = is_some c.limit in
-      let may = limit_allowed format c.limit has.limit in
-      let read : rest_of format (opening limited) (body c) ≡ Ok c = sym (after_heading limited (body c) may) ∙ ap (reading format) (sym (parts_of c)) ∙ only format law c has in
-      let m = along (length (body c)) (opening limited) (body c) c (omega arith) (IsBytes-body c has) read (complete_or_more turns.Release) in
+      let edition : Edition = edition_of c in
+      let may = edition_allowed format c.limit c.marking has.limit in
+      let read : rest_of format (opening edition) (body c) ≡ Ok c = sym (after_heading edition (body c) may) ∙ ap (reading format) (sym (parts_of c)) ∙ only format law c has in
+      let m = along (length (body c)) (opening edition) (body c) c (omega arith) (IsBytes-body c has) read (complete_or_more turns.Release) in
       (m.0, record { end = m.1; allowed = may; each = m.2; led = m.3; complete = m.4; content = m.5 })
 
   -- what is reached at the end has a spelling
   pub reached_has_spelling : (p : Progress V) → IsReached format p → p.turn ≡ turns.Complete → HasSpelling format p.content
-  reached_has_spelling p (limited, may, (fs, each, led)) complete = (made_is_spelled limited fs p may each led complete).1
+  reached_has_spelling p (edition, may, (fs, each, led)) complete = (made_is_spelled edition fs p may each led complete).1

@@ -5,18 +5,22 @@ use Rattle.std.specs.List.{flat_map, AllByRecursion}
 use Rattle.std.proofs.lemmas.Bool.{eqb-true, le-leb, lt-ltb}
 use Rattle.std.proofs.lemmas.List.{take_at, drop_at, append-nil}
 use Rattle.zstory.specs.declared.identity.Identity.{Identity}
+use Rattle.zcert.specs.declared.edition.Edition.{Edition}
+use Rattle.zcert.specs.declared.edition.Edition.TheVariants as editions
 use Rattle.zcert.specs.declared.error.CertError.{CertError}
 use Rattle.zcert.specs.declared.parts.Range.{Range}
 use Rattle.zcert.specs.declared.parts.Routine.{Routine}
-use Rattle.zcert.specs.declared.limits.TheConstants.{MAGIC, GLOBALS, ADDRESS_LIMIT, MAX_LOCALS, MAX_INSTRUCTIONS, MAX_RANGES, MAX_ROUTINES, MAX_HEIGHT, MAX_FRAMES, LIMIT_VERSION}
+use Rattle.zcert.specs.declared.limits.TheConstants.{MAGIC, GLOBALS, ADDRESS_LIMIT, MAX_LOCALS, MAX_INSTRUCTIONS, MAX_RANGES, MAX_ROUTINES, MAX_HEIGHT, MAX_FRAMES, LIMIT_VERSION, MARK_VERSION}
 use Rattle.zcert.specs.Numbers.{number, HasRoom}
 use Rattle.zcert.specs.Numbers as numbers
-use Rattle.zcert.specs.Certificate.{Instruction, Certificate, locals_of}
+use Rattle.zcert.specs.Certificate.{Instruction, Certificate, locals_of, edition_of}
+use Rattle.zcert.specs.Marks.{height_byte, is_mark, height_in, IsMarkable}
 use Rattle.zcert.specs.Format.{Format, version_of, IsAllowed}
 use Rattle.zcert.specs.Spelling.{identity_bytes, limit_bytes, range_bytes, values_bytes, routine_bytes, instruction_bytes, counted, heading, spelling, IsIdentity, IsLimit, IsRange, AreApart, Rise, IsRoutine, IsInstruction, HasSpelling}
 use Rattle.zcert.specs.Reading.{magic_at, version_at, heading_at, identity_at, limit_at, fields_at, range_at, ranges_at, all_ranges_at, address_fits, values_at, routine_at, routines_at, all_routines_at, instruction_at, instructions_at, all_instructions_at, at_end, reading}
 use Rattle.zcert.specs.FormatLaw.Stepping.{number_again, serial_again}
 use Rattle.zcert.specs.FormatLaw.{IsFormat}
+use Rattle.zcert.proofs.Marked.{byte_has_room, mark_again, height_again, limited_by, marking_by, edition_allowed}
 
 -- parts one after another, before what follows
 two : (a b rest : List ℕ) → (a ++ b) ++ rest ≡ a ++ (b ++ rest)
@@ -35,27 +39,25 @@ magic_again rest = rw (number_again numbers.Magic MAGIC rest (omega arith)) refl
 eqb_same : (n : ℕ) → (n == n) ≡ true
 eqb_same n = eq-eqb n n refl
 
-other_version : (b : Bool) (n : ℕ) → n ≢ LIMIT_VERSION → (LIMIT_VERSION == n) ≡ b → b ≡ false
-other_version true n apart e = absurd (apart (sym (eqb-true _ _ e)))
-other_version false n apart e = refl
+other_version : (b : Bool) (m n : ℕ) → n ≢ m → (m == n) ≡ b → b ≡ false
+other_version true m n apart e = absurd (apart (sym (eqb-true _ _ e)))
+other_version false m n apart e = refl
 
-version_again : {V : Type 0} (format : Format V) (law : IsFormat format) (limited : Bool) (rest : List ℕ) → IsAllowed format limited → version_at format (number numbers.Version (version_of format limited) ++ rest) ≡ Ok (limited, rest)
+version_again : {V : Type 0} (format : Format V) (law : IsFormat format) (edition : Edition) (rest : List ℕ) → IsAllowed format edition → version_at format (number numbers.Version (version_of format edition) ++ rest) ≡ Ok (edition, rest)
 unfolding version_at
-version_again format law false rest may = rw (number_again numbers.Version format.version rest law.version, eqb_same format.version) refl
-version_again format law true rest may =
-    let other : (LIMIT_VERSION == format.version) ≡ false = other_version _ format.version law.apart refl in
+version_again format law editions.Plain rest may = rw (number_again numbers.Version format.version rest law.version, eqb_same format.version) refl
+version_again format law editions.Limited rest may =
+    let other : (LIMIT_VERSION == format.version) ≡ false = other_version _ LIMIT_VERSION format.version law.apart refl in
     rw (number_again numbers.Version LIMIT_VERSION rest (omega arith), other, may) refl
+version_again format law editions.Marking rest may =
+    let other : (MARK_VERSION == format.version) ≡ false = other_version _ MARK_VERSION format.version law.unmarked refl in
+    rw (number_again numbers.Version MARK_VERSION rest (omega arith), other, may) refl
 
-pub heading_again : {V : Type 0} (format : Format V) (law : IsFormat format) (limited : Bool) (rest : List ℕ) → IsAllowed format limited → heading_at format (heading format limited ++ rest) ≡ Ok (limited, rest)
+pub heading_again : {V : Type 0} (format : Format V) (law : IsFormat format) (edition : Edition) (rest : List ℕ) → IsAllowed format edition → heading_at format (heading format edition ++ rest) ≡ Ok (edition, rest)
 unfolding heading_at
-heading_again format law limited rest may =
-    let version = number numbers.Version (version_of format limited) in
-    ap (heading_at format) (two (number numbers.Magic MAGIC) version rest) ∙ rw (magic_again (version ++ rest)) (version_again format law limited rest may)
-
--- a limit that may be named
-pub limit_allowed : {V : Type 0} (format : Format V) (limit : Option ℕ) → IsLimit format limit → IsAllowed format (is_some limit)
-limit_allowed format None is = tt
-limit_allowed format (Some n) is = is.0
+heading_again format law edition rest may =
+    let version = number numbers.Version (version_of format edition) in
+    ap (heading_at format) (two (number numbers.Magic MAGIC) version rest) ∙ rw (magic_again (version ++ rest)) (version_again format law edition rest may)
 
 limit_again : {V : Type 0} (format : Format V) (limit : Option ℕ) (rest : List ℕ) → IsLimit format limit → limit_at (is_some limit) (limit_bytes limit ++ rest) ≡ Ok (limit, rest)
 unfolding limit_at
@@ -151,22 +153,27 @@ module _ {V : Type 0} (format : Format V) (law : IsFormat format) where
   both_each [] ys p q = q
   both_each (x ∷ xs) ys p q = (p.0, both_each xs ys p.1 q)
 
-  instruction_again : (routines : List (Routine V)) (floor : ℕ) (i : Instruction V) (rest : List ℕ) → length routines ≤ MAX_ROUTINES → floor ≤ i.address → IsInstruction format routines i → instruction_at format routines floor (instruction_bytes format i ++ rest) ≡ Ok (i, rest)
+  instruction_again : (marking : Bool) (routines : List (Routine V)) (floor : ℕ) (i : Instruction V) (rest : List ℕ) → length routines ≤ MAX_ROUTINES → floor ≤ i.address → IsInstruction format routines i → IsMarkable marking i → instruction_at format marking routines floor (instruction_bytes format i ++ rest) ≡ Ok (i, rest)
   unfolding instruction_at
-  instruction_again routines floor i rest few above is =
+  instruction_again marking routines floor i rest few above is may =
       let routine = number numbers.RoutineNumber i.routine in
-      let height = number numbers.Height (length i.slots) in
+      let byte = height_byte i.is_marked (length i.slots) in
+      let height = number numbers.Height byte in
+      let said : height_in marking byte ≡ length i.slots = height_again marking i (length i.slots) is.height may in
+      let marked : is_mark marking byte ≡ i.is_marked = mark_again marking i (length i.slots) is.height may in
       let vs = i.locals ++ i.slots in
       let values = values_bytes format vs in
       let n = locals_of routines i.routine in
       let count : n + length i.slots ≡ length vs = omega (arith, length-append i.locals i.slots, is.locals) in
-      ap (instruction_at format routines floor) (four (number numbers.InstructionAddress i.address) routine height values rest) ∙ rw (
+      ap (instruction_at format marking routines floor) (four (number numbers.InstructionAddress i.address) routine height values rest) ∙ rw (
         number_again numbers.InstructionAddress i.address (routine ++ (height ++ (values ++ rest))) (omega (arith, is.address)),
         le-leb floor i.address above,
         lt-ltb i.address ADDRESS_LIMIT is.address,
         number_again numbers.RoutineNumber i.routine (height ++ (values ++ rest)) (omega (arith, is.routine, few)),
         le-leb i.routine (length routines) is.routine,
-        number_again numbers.Height (length i.slots) (values ++ rest) (omega (arith, is.height)),
+        number_again numbers.Height byte (values ++ rest) (byte_has_room i.is_marked (length i.slots) is.height),
+        said,
+        marked,
         le-leb (length i.slots) MAX_HEIGHT is.height,
         count,
         values_again vs rest (both_each i.locals i.slots is.local_values is.slot_values),
@@ -174,22 +181,22 @@ module _ {V : Type 0} (format : Format V) (law : IsFormat format) where
         drop_at i.locals i.slots n is.locals,
       ) refl
 
-  instructions_again : (routines : List (Routine V)) (floor : ℕ) (is : List (Instruction V)) (rest : List ℕ) → length routines ≤ MAX_ROUTINES → AllByRecursion (IsInstruction format routines) is → Rise (λ (i : Instruction V). i.address) floor is → instructions_at format routines (length is) floor (flat_map (instruction_bytes format) is ++ rest) ≡ Ok (is, rest)
+  instructions_again : (marking : Bool) (routines : List (Routine V)) (floor : ℕ) (is : List (Instruction V)) (rest : List ℕ) → length routines ≤ MAX_ROUTINES → AllByRecursion (IsInstruction format routines) is → AllByRecursion (IsMarkable marking) is → Rise (λ (i : Instruction V). i.address) floor is → instructions_at format marking routines (length is) floor (flat_map (instruction_bytes format) is ++ rest) ≡ Ok (is, rest)
   unfolding instructions_at
-  instructions_again routines floor [] rest few each rise = refl
-  instructions_again routines floor (i ∷ is) rest few each rise =
-      ap (instructions_at format routines (suc (length is)) floor) (two (instruction_bytes format i) (flat_map (instruction_bytes format) is) rest) ∙ rw (
-        instruction_again routines floor i (flat_map (instruction_bytes format) is ++ rest) few rise.0 each.0,
-        instructions_again routines (i.address + 1) is rest few each.1 rise.1,
+  instructions_again marking routines floor [] rest few each may rise = refl
+  instructions_again marking routines floor (i ∷ is) rest few each may rise =
+      ap (instructions_at format marking routines (suc (length is)) floor) (two (instruction_bytes format i) (flat_map (instruction_bytes format) is) rest) ∙ rw (
+        instruction_again marking routines floor i (flat_map (instruction_bytes format) is ++ rest) few rise.0 each.0 may.0,
+        instructions_again marking routines (i.address + 1) is rest few each.1 may.1 rise.1,
       ) refl
 
-  all_instructions_again : (routines : List (Routine V)) (is : List (Instruction V)) (rest : List ℕ) → length routines ≤ MAX_ROUTINES → length is ≤ MAX_INSTRUCTIONS → AllByRecursion (IsInstruction format routines) is → Rise (λ (i : Instruction V). i.address) 0 is → all_instructions_at format routines (counted numbers.InstructionCount (instruction_bytes format) is ++ rest) ≡ Ok (is, rest)
+  all_instructions_again : (marking : Bool) (routines : List (Routine V)) (is : List (Instruction V)) (rest : List ℕ) → length routines ≤ MAX_ROUTINES → length is ≤ MAX_INSTRUCTIONS → AllByRecursion (IsInstruction format routines) is → AllByRecursion (IsMarkable marking) is → Rise (λ (i : Instruction V). i.address) 0 is → all_instructions_at format marking routines (counted numbers.InstructionCount (instruction_bytes format) is ++ rest) ≡ Ok (is, rest)
   unfolding all_instructions_at
-  all_instructions_again routines is rest few_routines few each rise =
-      ap (all_instructions_at format routines) (two (number numbers.InstructionCount (length is)) (flat_map (instruction_bytes format) is) rest) ∙ rw (
+  all_instructions_again marking routines is rest few_routines few each may rise =
+      ap (all_instructions_at format marking routines) (two (number numbers.InstructionCount (length is)) (flat_map (instruction_bytes format) is) rest) ∙ rw (
         number_again numbers.InstructionCount (length is) (flat_map (instruction_bytes format) is ++ rest) (omega (arith, few)),
         le-leb (length is) MAX_INSTRUCTIONS few,
-      ) (instructions_again routines 0 is rest few_routines each rise)
+      ) (instructions_again marking routines 0 is rest few_routines each may rise)
 
   in_parts : (a b l c d e f : List ℕ) → a ++ b ++ l ++ c ++ d ++ e ++ f ≡ a ++ (b ++ (l ++ (c ++ (d ++ (e ++ (f ++ []))))))
   in_parts a b l c d e f = simp (append_assoc, append-nil)
@@ -207,14 +214,16 @@ module _ {V : Type 0} (format : Format V) (law : IsFormat format) where
       let globals_read : values_at format GLOBALS (globals ++ (routines ++ (instructions ++ []))) ≡ Ok (c.globals, routines ++ (instructions ++ [])) =
       ap (λ (n : ℕ). values_at format n (globals ++ (routines ++ (instructions ++ [])))) (sym has.globals) ∙ values_again c.globals (routines ++ (instructions ++ [])) has.global_values
       in
-      ap (reading format) (in_parts (heading format (is_some c.limit)) identity limit ranges globals routines instructions) ∙ rw (
-        heading_again format law (is_some c.limit) (identity ++ (limit ++ (ranges ++ (globals ++ (routines ++ (instructions ++ [])))))) (limit_allowed format c.limit has.limit),
+      ap (reading format) (in_parts (heading format (edition_of c)) identity limit ranges globals routines instructions) ∙ rw (
+        heading_again format law (edition_of c) (identity ++ (limit ++ (ranges ++ (globals ++ (routines ++ (instructions ++ [])))))) (edition_allowed format c.limit c.marking has.limit),
         identity_again c.identity (limit ++ (ranges ++ (globals ++ (routines ++ (instructions ++ []))))) has.identity,
+        limited_by c.limit c.marking,
+        marking_by c.limit c.marking has.marking,
         limit_again format c.limit (ranges ++ (globals ++ (routines ++ (instructions ++ [])))) has.limit,
         all_ranges_again c.ranges (globals ++ (routines ++ (instructions ++ []))) has.few_ranges has.ranges has.ranges_apart,
         globals_read,
         all_routines_again c.routines (instructions ++ []) has.few_routines has.routines has.routines_rise,
-        all_instructions_again c.routines c.instructions [] has.few_routines has.few_instructions has.instructions has.instructions_rise,
+        all_instructions_again c.marking c.routines c.instructions [] has.few_routines has.few_instructions has.instructions has.instructions_markable has.instructions_rise,
       ) refl
 
   same_answer : (c d : Certificate V) (r : Result (Certificate V) CertError) → r ≡ Ok c → r ≡ Ok d → c ≡ d

@@ -1,9 +1,10 @@
 -- What each call on a file in pieces answers, by what comes next.
-use Rattle.std.proofs.Common.{◌≡◌, ◌≢◌, ℕ, ◌<◌, Bool, List, [], ◌++◌, length, take, drop, Result, Ok, Err, Option, None, inl, inr, refl, sym, ap, subst, ◌∙◌, append_assoc, arith, length-append}
+use Rattle.std.proofs.Common.{◌≡◌, ◌≢◌, ℕ, ◌<◌, List, [], ◌++◌, length, take, drop, Result, Ok, Err, Option, None, inl, inr, refl, sym, ap, subst, ◌∙◌, append_assoc, arith, length-append}
 use Rattle.std.specs.Prelude.{IfOk, IfErr, OnOk}
 use Rattle.std.specs.List.{flat_map}
 use Rattle.std.specs.Result.{result_err}
 use Rattle.std.proofs.lemmas.List.{take-append-drop}
+use Rattle.zcert.specs.declared.edition.Edition.{Edition}
 use Rattle.zcert.specs.declared.error.CertError.{CertError}
 use Rattle.zcert.specs.declared.error.CertError.TheVariants as errors
 use Rattle.zcert.specs.declared.field.Turn.{Turn}
@@ -67,9 +68,9 @@ module _ {V P : Type 0} (format : Format V) (sets : Turns P) where
       rw (at_magic sets stage p.turn part is none) (λ led. magic_refused format p fed number e (λ cut. magic_whole number four (h ∙ ap (λ (x : CertError). Err x) cut)) h (subst (λ (s : Stage). Leads format s p fed number) is led))
 
 module _ {V P : Type 0} (format : Format V) (law : IsFormat format) (sets : Turns P) where
-  pub version_leads_at : (stage : Stage) (p q : Progress V) (part : P) (fed number : List ℕ) (limited : Bool) → IsBytes number → stage ≡ stages.Version → IsPartOf sets stage p.turn part → version_at format number ≡ Ok (limited, []) → q ≡ opening limited → Leads format stage p fed (sets.came part ++ number) → Leads format stages.Field q fed (sets.came part)
-  version_leads_at stage p q part fed number limited fits is none h opens =
-      rw (at_version sets stage p.turn part is none) (λ led. version_step format law p q fed number [] limited fits h opens (subst (λ (s : Stage). Leads format s p fed number) is led))
+  pub version_leads_at : (stage : Stage) (p q : Progress V) (part : P) (fed number : List ℕ) (edition : Edition) → IsBytes number → stage ≡ stages.Version → IsPartOf sets stage p.turn part → version_at format number ≡ Ok (edition, []) → q ≡ opening edition → Leads format stage p fed (sets.came part ++ number) → Leads format stages.Field q fed (sets.came part)
+  version_leads_at stage p q part fed number edition fits is none h opens =
+      rw (at_version sets stage p.turn part is none) (λ led. version_step format law p q fed number [] edition fits h opens (subst (λ (s : Stage). Leads format s p fed number) is led))
 
   pub version_refused_at : (stage : Stage) (p : Progress V) (part : P) (fed number : List ℕ) (e : CertError) → length number ≡ next_width sets stage p.turn part → stage ≡ stages.Version → IsPartOf sets stage p.turn part → version_at format number ≡ Err e → Leads format stage p fed (sets.came part ++ number) → IsRefusal format fed e
   version_refused_at stage p part fed number e long is none h =
@@ -109,9 +110,9 @@ module _ {V : Type 0} (format : Format V) where
   leads_less stages.Version p fed front back led = (number numbers.Magic MAGIC ++ front, led.0 ∙ sym (append_assoc (number numbers.Magic MAGIC) front back), (refl, led.1))
   leads_less stages.Field p fed front back led =
       let fields = flat_map (field_bytes format) led.fields in (
-        heading format led.limited ++ (fields ++ front),
-        led.spelled ∙ ap (λ (l : List ℕ). heading format led.limited ++ l) (sym (append_assoc fields front back)) ∙ sym (append_assoc (heading format led.limited) (fields ++ front) back),
-        record { limited = led.limited; allowed = led.allowed; fields = led.fields; each = led.each; led = led.led; spelled = refl },
+        heading format led.edition ++ (fields ++ front),
+        led.spelled ∙ ap (λ (l : List ℕ). heading format led.edition ++ l) (sym (append_assoc fields front back)) ∙ sym (append_assoc (heading format led.edition) (fields ++ front) back),
+        record { edition = led.edition; allowed = led.allowed; fields = led.fields; each = led.each; led = led.led; spelled = refl },
       )
 
   -- the bytes in two, behind what came

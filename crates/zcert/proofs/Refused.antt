@@ -25,13 +25,13 @@ module _ {V : Type 0} (format : Format V) (law : IsFormat format) where
   before_last (g ∷ fs) f each = let b = before_last fs f each.1 in ((each.0, b.0), b.1)
 
   pub in_turn : RefuseInTurn format
-  in_turn limited before f rest p e may each led due refused =
+  in_turn edition before f rest p e may each led due refused =
       let is = before_last before f each in
       let bytes = field_bytes format f ++ rest in
       let again = again_at format law p.turn f rest is.1 due in
-      after_heading format law limited (flat_map (field_bytes format) (before ++ f ∷ []) ++ rest) may
-      ∙ ap (rest_of format (opening limited)) (one_text_more (field_bytes format) before f rest)
-      ∙ fields_again format law before (opening limited) p bytes is.0 led
+      after_heading format law edition (flat_map (field_bytes format) (before ++ f ∷ []) ++ rest) may
+      ∙ ap (rest_of format (opening edition)) (one_text_more (field_bytes format) before f rest)
+      ∙ fields_again format law before (opening edition) p bytes is.0 led
       ∙ reads_on format p bytes (has_more format law p.turn bytes (f, rest) again)
       ∙ rw (again, refused) refl
 
@@ -51,10 +51,10 @@ module _ {V : Type 0} (format : Format V) (law : IsFormat format) where
   cut_at _ due = refl
 
   pub at_end : RefuseAtEnd format
-  at_end limited fs p may each led due =
+  at_end edition fs p may each led due =
       let bytes = flat_map (field_bytes format) fs in
-      after_heading format law limited bytes may
-      ∙ ap (rest_of format (opening limited)) (sym (append-nil bytes))
-      ∙ fields_again format law fs (opening limited) p [] each led
+      after_heading format law edition bytes may
+      ∙ ap (rest_of format (opening edition)) (sym (append-nil bytes))
+      ∙ fields_again format law fs (opening edition) p [] each led
       ∙ reads_on format p [] (more_due p.turn due)
       ∙ rw (cut_at p.turn due) refl

@@ -1,8 +1,10 @@
 -- What the rest of the bytes would be read as, once some fields are taken; and that to take a field is to read on.
-use Rattle.std.proofs.Common.{◌≡◌, ℕ, zero, suc, ◌+◌, Bool, true, false, Option, None, Some, List, [], ◌∷◌, ◌++◌, length, Result, Ok, Err, refl, sym, ap, ◌∙◌, append_assoc}
+use Rattle.std.proofs.Common.{◌≡◌, ℕ, zero, suc, ◌+◌, Bool, true, Option, None, Some, List, [], ◌∷◌, ◌++◌, length, Result, Ok, Err, refl, sym, ap, ◌∙◌, append_assoc}
 use Rattle.std.proofs.lemmas.List.{append-nil}
 use Rattle.std.specs.Prelude.{nat_le, is_some}
 use Rattle.zstory.specs.declared.identity.Identity.{Identity}
+use Rattle.zcert.specs.declared.edition.Edition.{Edition}
+use Rattle.zcert.specs.declared.edition.Edition.TheVariants as editions
 use Rattle.zcert.specs.declared.error.CertError.{CertError}
 use Rattle.zcert.specs.declared.error.CertError.TheVariants as errors
 use Rattle.zcert.specs.declared.field.Header.{Header}
@@ -13,10 +15,11 @@ use Rattle.zcert.specs.declared.parts.Routine.{Routine}
 use Rattle.zcert.specs.declared.limits.TheConstants.{GLOBALS, MAX_LOCALS, MAX_INSTRUCTIONS, MAX_RANGES, MAX_ROUTINES, MAX_HEIGHT, MAX_FRAMES}
 use Rattle.zcert.specs.Numbers as numbers
 use Rattle.zcert.specs.Certificate.{Instruction, Certificate, locals_of}
+use Rattle.zcert.specs.Marks.{is_mark, height_in}
 use Rattle.zcert.specs.Steps.{◌>>=◌, need, number_at, serial_at}
 use Rattle.zcert.specs.Format.{Format}
 use Rattle.zcert.specs.Reading.{heading_at, identity_at, limit_at, fields_at, range_at, ranges_at, all_ranges_at, address_fits, values_at, routine_at, routines_at, all_routines_at, instruction_at, instructions_at, all_instructions_at, at_end, reading}
-use Rattle.zcert.specs.Building.{Progress, opening, instruction_of, with_identity, with_limit, with_range, behind_identity, with_global, with_routine, with_instruction, before_ranges, before_globals, before_routines, before_instructions, before_values, taken}
+use Rattle.zcert.specs.Building.{Progress, opening, instruction_of, with_identity, with_range, behind_identity, with_global, with_routine, with_instruction, before_ranges, before_globals, before_routines, before_instructions, before_values, taken}
 use Rattle.zcert.specs.Fields.{field_at}
 
 -- one more part in front of the others
@@ -55,7 +58,7 @@ module _ {V : Type 0} (format : Format V) where
   then_instructions c read = read >>= λ is. at_end format (and_instructions c is.0) is.1
 
   abbrev then_routines : Certificate V → Result (List (Routine V) × List ℕ) CertError → Result (Certificate V) CertError
-  then_routines c read = read >>= λ rs. then_instructions (and_routines c rs.0) (all_instructions_at format (and_routines c rs.0).routines rs.1)
+  then_routines c read = read >>= λ rs. then_instructions (and_routines c rs.0) (all_instructions_at format c.marking (and_routines c rs.0).routines rs.1)
 
   abbrev then_globals : Certificate V → Result (List V × List ℕ) CertError → Result (Certificate V) CertError
   then_globals c read = read >>= λ vs. then_routines (and_globals c vs.0) (all_routines_at format vs.1)
@@ -103,19 +106,19 @@ module _ {V : Type 0} (format : Format V) where
   abbrev instruction_from_values : Header → List V → Result (List V × List ℕ) CertError → Result (Instruction V × List ℕ) CertError
   instruction_from_values h values read = read >>= λ vs. Ok (instruction_of h (values ++ vs.0), vs.1)
 
-  abbrev header : List (Routine V) → ℕ → ℕ → ℕ → Header
-  header routines address routine height = record { address = address; routine = routine; locals = locals_of routines routine; height = height }
+  abbrev header : Bool → List (Routine V) → ℕ → ℕ → ℕ → Header
+  header marking routines address routine byte = record { address = address; routine = routine; locals = locals_of routines routine; height = height_in marking byte; is_marked = is_mark marking byte }
 
-  abbrev instruction_from_height : List (Routine V) → List V → ℕ → ℕ → List ℕ → Result (Instruction V × List ℕ) CertError
-  instruction_from_height routines values address routine bytes =
-      number_at numbers.Height bytes >>= λ n. need (nat_le n.0 MAX_HEIGHT) errors.Limit >>= λ _. instruction_from_values (header routines address routine n.0) values (values_at format (locals_of routines routine + n.0) n.1)
+  abbrev instruction_from_height : Bool → List (Routine V) → List V → ℕ → ℕ → List ℕ → Result (Instruction V × List ℕ) CertError
+  instruction_from_height marking routines values address routine bytes =
+      number_at numbers.Height bytes >>= λ n. need (nat_le (height_in marking n.0) MAX_HEIGHT) errors.Limit >>= λ _. instruction_from_values (header marking routines address routine n.0) values (values_at format (locals_of routines routine + height_in marking n.0) n.1)
 
-  abbrev instruction_from_routine : List (Routine V) → List V → ℕ → List ℕ → Result (Instruction V × List ℕ) CertError
-  instruction_from_routine routines values address bytes =
-      number_at numbers.RoutineNumber bytes >>= λ n. need (nat_le n.0 (length routines)) errors.Limit >>= λ _. instruction_from_height routines values address n.0 n.1
+  abbrev instruction_from_routine : Bool → List (Routine V) → List V → ℕ → List ℕ → Result (Instruction V × List ℕ) CertError
+  instruction_from_routine marking routines values address bytes =
+      number_at numbers.RoutineNumber bytes >>= λ n. need (nat_le n.0 (length routines)) errors.Limit >>= λ _. instruction_from_height marking routines values address n.0 n.1
 
-  abbrev and_more_instructions : List (Routine V) → ℕ → Result (Instruction V × List ℕ) CertError → Result (List (Instruction V) × List ℕ) CertError
-  and_more_instructions routines more read = read >>= λ i. preceded i.0 (instructions_at format routines more (i.0.address + 1) i.1)
+  abbrev and_more_instructions : Bool → List (Routine V) → ℕ → Result (Instruction V × List ℕ) CertError → Result (List (Instruction V) × List ℕ) CertError
+  and_more_instructions marking routines more read = read >>= λ i. preceded i.0 (instructions_at format marking routines more (i.0.address + 1) i.1)
 
   -- what the rest of the bytes would be read as
   abbrev rest_from : Turn → Progress V → List ℕ → Result (Certificate V) CertError
@@ -132,11 +135,11 @@ module _ {V : Type 0} (format : Format V) where
   rest_from (turns.RoutineAddress more) p bytes = then_routines p.content (routines_at format (suc more) p.floor bytes)
   rest_from (turns.LocalCount more address) p bytes = then_routines p.content (and_more_routines more (routine_from_locals address bytes))
   rest_from (turns.RoutineResult more address locals) p bytes = then_routines p.content (and_more_routines more (routine_from_result address locals bytes))
-  rest_from turns.InstructionCount p bytes = then_instructions p.content (all_instructions_at format p.content.routines bytes)
-  rest_from (turns.InstructionAddress more) p bytes = then_instructions p.content (instructions_at format p.content.routines (suc more) p.floor bytes)
-  rest_from (turns.RoutineNumber more address) p bytes = then_instructions p.content (and_more_instructions p.content.routines more (instruction_from_routine p.content.routines p.values address bytes))
-  rest_from (turns.Height more address routine) p bytes = then_instructions p.content (and_more_instructions p.content.routines more (instruction_from_height p.content.routines p.values address routine bytes))
-  rest_from (turns.Value more h left) p bytes = then_instructions p.content (and_more_instructions p.content.routines more (instruction_from_values h p.values (values_at format (suc left) bytes)))
+  rest_from turns.InstructionCount p bytes = then_instructions p.content (all_instructions_at format p.content.marking p.content.routines bytes)
+  rest_from (turns.InstructionAddress more) p bytes = then_instructions p.content (instructions_at format p.content.marking p.content.routines (suc more) p.floor bytes)
+  rest_from (turns.RoutineNumber more address) p bytes = then_instructions p.content (and_more_instructions p.content.marking p.content.routines more (instruction_from_routine p.content.marking p.content.routines p.values address bytes))
+  rest_from (turns.Height more address routine) p bytes = then_instructions p.content (and_more_instructions p.content.marking p.content.routines more (instruction_from_height p.content.marking p.content.routines p.values address routine bytes))
+  rest_from (turns.Value more h left) p bytes = then_instructions p.content (and_more_instructions p.content.marking p.content.routines more (instruction_from_values h p.values (values_at format (suc left) bytes)))
   rest_from turns.Complete p bytes = at_end format p.content bytes
 
   unfoldable pub rest_of : Progress V → List ℕ → Result (Certificate V) CertError
@@ -163,14 +166,14 @@ module _ {V : Type 0} (format : Format V) where
   no_instructions c = ap (λ is. record c { instructions = is }) (append-nil c.instructions)
 
   -- to read so many parts is to read from the turn before them
-  from_instructions : (n : ℕ) (c : Certificate V) (values : List V) (floor : ℕ) (bytes : List ℕ) → then_instructions c (instructions_at format c.routines n floor bytes) ≡ rest_of (at_turn c values floor (before_instructions n)) bytes
+  from_instructions : (n : ℕ) (c : Certificate V) (values : List V) (floor : ℕ) (bytes : List ℕ) → then_instructions c (instructions_at format c.marking c.routines n floor bytes) ≡ rest_of (at_turn c values floor (before_instructions n)) bytes
   unfolding rest_of instructions_at
   from_instructions zero c values floor bytes = ap (λ d. at_end format d bytes) (no_instructions c)
   from_instructions (suc n) c values floor bytes = refl
 
   from_routines : (n : ℕ) (c : Certificate V) (values : List V) (floor : ℕ) (bytes : List ℕ) → then_routines c (routines_at format n floor bytes) ≡ rest_of (at_turn c values floor (before_routines n)) bytes
   unfolding rest_of routines_at
-  from_routines zero c values floor bytes = ap (λ d. then_instructions d (all_instructions_at format d.routines bytes)) (no_routines c)
+  from_routines zero c values floor bytes = ap (λ d. then_instructions d (all_instructions_at format d.marking d.routines bytes)) (no_routines c)
   from_routines (suc n) c values floor bytes = refl
 
   from_globals : (n : ℕ) (c : Certificate V) (values : List V) (floor : ℕ) (bytes : List ℕ) → then_globals c (values_at format n bytes) ≡ rest_of (at_turn c values floor (before_globals n)) bytes
@@ -266,44 +269,45 @@ module _ {V : Type 0} (format : Format V) where
   on_routine_result more address locals c values floor bytes (Ok v) e =
       let r : Routine V = record { address = address; locals = locals; result = v.0 } in
       rw e (
-      joined c.routines r (routines_at format more (address + 1) v.1) (λ rs rest. then_instructions (record c { routines = rs }) (all_instructions_at format rs rest))
+      joined c.routines r (routines_at format more (address + 1) v.1) (λ rs rest. then_instructions (record c { routines = rs }) (all_instructions_at format c.marking rs rest))
       ∙ from_routines more (with_routine c r) values (address + 1) v.1
       )
   on_routine_result more address locals c values floor bytes (Err d) e = rw e refl
 
   on_instruction_count : (c : Certificate V) (values : List V) (floor : ℕ) (bytes : List ℕ) (r : Result (ℕ × List ℕ) CertError) → number_at numbers.InstructionCount bytes ≡ r → IsReadingOn c values floor turns.InstructionCount bytes
   unfolding rest_of all_instructions_at
-  on_instruction_count c values floor bytes (Ok n) e = rw e (on_condition (need (nat_le n.0 MAX_INSTRUCTIONS) errors.Limit) (instructions_at format c.routines n.0 0 n.1) _ _ _ (from_instructions n.0 c values 0 n.1))
+  on_instruction_count c values floor bytes (Ok n) e = rw e (on_condition (need (nat_le n.0 MAX_INSTRUCTIONS) errors.Limit) (instructions_at format c.marking c.routines n.0 0 n.1) _ _ _ (from_instructions n.0 c values 0 n.1))
   on_instruction_count c values floor bytes (Err d) e = rw e refl
 
   on_instruction_address : (more : ℕ) (c : Certificate V) (values : List V) (floor : ℕ) (bytes : List ℕ) (r : Result (ℕ × List ℕ) CertError) → number_at numbers.InstructionAddress bytes ≡ r → IsReadingOn c values floor (turns.InstructionAddress more) bytes
   unfolding rest_of instructions_at instruction_at
-  on_instruction_address more c values floor bytes (Ok n) e = rw e (on_condition_within (address_fits floor n.0) (instruction_from_routine c.routines [] n.0 n.1) _ _ _ _ refl)
+  on_instruction_address more c values floor bytes (Ok n) e = rw e (on_condition_within (address_fits floor n.0) (instruction_from_routine c.marking c.routines [] n.0 n.1) _ _ _ _ refl)
   on_instruction_address more c values floor bytes (Err d) e = rw e refl
 
   on_routine_number : (more address : ℕ) (c : Certificate V) (values : List V) (floor : ℕ) (bytes : List ℕ) (r : Result (ℕ × List ℕ) CertError) → number_at numbers.RoutineNumber bytes ≡ r → IsReadingOn c values floor (turns.RoutineNumber more address) bytes
   unfolding rest_of
-  on_routine_number more address c values floor bytes (Ok n) e = rw e (on_condition_within (need (nat_le n.0 (length c.routines)) errors.Limit) (instruction_from_height c.routines values address n.0 n.1) _ _ _ _ refl)
+  on_routine_number more address c values floor bytes (Ok n) e = rw e (on_condition_within (need (nat_le n.0 (length c.routines)) errors.Limit) (instruction_from_height c.marking c.routines values address n.0 n.1) _ _ _ _ refl)
   on_routine_number more address c values floor bytes (Err d) e = rw e refl
 
   -- so many values of an instruction, the instructions after it, and what follows
   abbrev then_values : Certificate V → List V → ℕ → Header → Result (List V × List ℕ) CertError → Result (Certificate V) CertError
-  then_values c values more h read = then_instructions c (and_more_instructions c.routines more (instruction_from_values h values read))
+  then_values c values more h read = then_instructions c (and_more_instructions c.marking c.routines more (instruction_from_values h values read))
 
   from_values : (left : ℕ) (t : Turn) (more : ℕ) (h : Header) (c : Certificate V) (values : List V) (floor : ℕ) (bytes : List ℕ) → then_values c values more h (values_at format left bytes) ≡ rest_of (before_values left more h (at_turn c values floor t)) bytes
   unfolding rest_of values_at
   from_values zero t more h c values floor bytes =
       let i : Instruction V = instruction_of h values in
-      ap (λ vs. then_instructions c (and_more_instructions c.routines more (Ok (instruction_of h vs, bytes)))) (append-nil values)
-      ∙ joined c.instructions i (instructions_at format c.routines more (h.address + 1) bytes) (λ is rest. at_end format (record c { instructions = is }) rest)
+      ap (λ vs. then_instructions c (and_more_instructions c.marking c.routines more (Ok (instruction_of h vs, bytes)))) (append-nil values)
+      ∙ joined c.instructions i (instructions_at format c.marking c.routines more (h.address + 1) bytes) (λ is rest. at_end format (record c { instructions = is }) rest)
       ∙ from_instructions more (with_instruction c i) values (h.address + 1) bytes
   from_values (suc left) t more h c values floor bytes = refl
 
   on_height : (more address routine : ℕ) (c : Certificate V) (values : List V) (floor : ℕ) (bytes : List ℕ) (r : Result (ℕ × List ℕ) CertError) → number_at numbers.Height bytes ≡ r → IsReadingOn c values floor (turns.Height more address routine) bytes
   unfolding rest_of
   on_height more address routine c values floor bytes (Ok n) e =
-      let h = header c.routines address routine n.0 in
-      rw e (on_condition_within (need (nat_le n.0 MAX_HEIGHT) errors.Limit) (instruction_from_values h values (values_at format (locals_of c.routines routine + n.0) n.1)) _ _ _ _ (from_values (locals_of c.routines routine + n.0) (turns.Height more address routine) more h c values floor n.1))
+      let h = header c.marking c.routines address routine n.0 in
+      let height = height_in c.marking n.0 in
+      rw e (on_condition_within (need (nat_le height MAX_HEIGHT) errors.Limit) (instruction_from_values h values (values_at format (locals_of c.routines routine + height) n.1)) _ _ _ _ (from_values (locals_of c.routines routine + height) (turns.Height more address routine) more h c values floor n.1))
   on_height more address routine c values floor bytes (Err d) e = rw e refl
 
   regrouped : (h : Header) (values : List V) (v : V) (read : Result (List V × List ℕ) CertError) → instruction_from_values h values (preceded v read) ≡ instruction_from_values h (values ++ v ∷ []) read
@@ -314,7 +318,7 @@ module _ {V : Type 0} (format : Format V) where
   unfolding rest_of values_at
   on_value more h left c values floor bytes (Ok v) e =
       rw e (
-      ap (λ read. then_instructions c (and_more_instructions c.routines more read)) (regrouped h values v.0 (values_at format left v.1))
+      ap (λ read. then_instructions c (and_more_instructions c.marking c.routines more read)) (regrouped h values v.0 (values_at format left v.1))
       ∙ from_values left (turns.Value more h left) more h c (values ++ v.0 ∷ []) floor v.1
       )
   on_value more h left c values floor bytes (Err d) e = rw e refl
@@ -359,12 +363,13 @@ module _ {V : Type 0} (format : Format V) where
   pub completes : (p : Progress V) → p.turn ≡ turns.Complete → rest_of p [] ≡ Ok p.content
   completes p e = complete_at p.turn p.content p.values p.floor e
 
-  fields_open : (limited : Bool) (bytes : List ℕ) → fields_at format limited bytes ≡ rest_of (opening limited) bytes
+  fields_open : (edition : Edition) (bytes : List ℕ) → fields_at format edition bytes ≡ rest_of (opening edition) bytes
   unfolding rest_of fields_at identity_at
-  fields_open false bytes = refl
-  fields_open true bytes = refl
+  fields_open editions.Plain bytes = refl
+  fields_open editions.Limited bytes = refl
+  fields_open editions.Marking bytes = refl
 
-  all_open : (r : Result (Bool × List ℕ) CertError) → (r >>= λ x. fields_at format x.0 x.1) ≡ (r >>= λ x. rest_of (opening x.0) x.1)
+  all_open : (r : Result (Edition × List ℕ) CertError) → (r >>= λ x. fields_at format x.0 x.1) ≡ (r >>= λ x. rest_of (opening x.0) x.1)
   all_open (Ok x) = fields_open x.0 x.1
   all_open (Err d) = refl
 

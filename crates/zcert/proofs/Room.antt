@@ -3,19 +3,21 @@ use Rattle.std.proofs.Common.{◌≡◌, ◌≢◌, ℕ, Bool, true, false, List
 use Rattle.std.specs.Prelude.{IsOk, ◌==◌, ◌&&◌}
 use Rattle.std.specs.List.{flat_map}
 use Rattle.std.proofs.lemmas.List.{append-nil}
+use Rattle.zcert.specs.declared.edition.Edition.{Edition}
+use Rattle.zcert.specs.declared.edition.Edition.TheVariants as editions
 use Rattle.zcert.specs.declared.error.CertError.{CertError}
 use Rattle.zcert.specs.declared.error.CertError.TheVariants as errors
 use Rattle.zcert.specs.declared.field.Field.{Field}
 use Rattle.zcert.specs.declared.field.Field.TheVariants as fields
 use Rattle.zcert.specs.declared.field.Turn.{Turn}
 use Rattle.zcert.specs.declared.field.Turn.TheVariants as turns
-use Rattle.zcert.specs.declared.limits.TheConstants.{MAGIC, LIMIT_VERSION}
+use Rattle.zcert.specs.declared.limits.TheConstants.{MAGIC, LIMIT_VERSION, MARK_VERSION}
 use Rattle.zcert.specs.Numbers as numbers
 use Rattle.zcert.specs.Steps.{◌>>=◌, need, number_at}
-use Rattle.zcert.specs.Format.{Format, version_of, IsAllowed}
+use Rattle.zcert.specs.Format.{Format, version_of}
 use Rattle.zcert.specs.Spelling.{heading}
 use Rattle.zcert.specs.Numbers.{number}
-use Rattle.zcert.specs.Reading.{magic_at, limited_by, version_at}
+use Rattle.zcert.specs.Reading.{magic_at, edition_where, version_at}
 use Rattle.zcert.specs.Building.{Progress, opening, taken, all_taken, Adds}
 use Rattle.zcert.specs.Fields.{field_bytes, as_field, field_at, next_at, NextAdds, LeadsToPart}
 use Rattle.zcert.specs.View.{RefusesField}
@@ -32,14 +34,15 @@ pub plain_magic : (bytes : List ℕ) → IsPlain (magic_at bytes)
 unfolding magic_at
 plain_magic bytes = plain_then (number_at numbers.Magic bytes) _ (plain_sized 4 bytes) (λ x. plain_then (need (x.0 == MAGIC) errors.Magic) _ (plain_need (x.0 == MAGIC) errors.Magic (λ e. absurd cc)) (λ u. plain_ok x.1))
 
-plain_limited : (plain limit : Bool) → IsPlain (limited_by plain limit)
-plain_limited true limit = plain_ok false
-plain_limited false true = plain_ok true
-plain_limited false false = λ e. absurd cc
+plain_edition : (plain limit mark : Bool) → IsPlain (edition_where plain limit mark)
+plain_edition true limit mark = plain_ok editions.Plain
+plain_edition false true mark = plain_ok editions.Limited
+plain_edition false false true = plain_ok editions.Marking
+plain_edition false false false = λ e. absurd cc
 
 pub plain_version : {V : Type 0} (format : Format V) (bytes : List ℕ) → IsPlain (version_at format bytes)
 unfolding version_at
-plain_version format bytes = plain_then (number_at numbers.Version bytes) _ (plain_sized 1 bytes) (λ x. plain_then (limited_by (x.0 == format.version) (format.limited && (x.0 == LIMIT_VERSION))) _ (plain_limited _ _) (λ limited. plain_ok (limited, x.1)))
+plain_version format bytes = plain_then (number_at numbers.Version bytes) _ (plain_sized 1 bytes) (λ x. plain_then (edition_where (x.0 == format.version) (format.limited && (x.0 == LIMIT_VERSION)) (format.limited && (x.0 == MARK_VERSION))) _ (plain_edition _ _ _) (λ edition. plain_ok (edition, x.1)))
 
 module _ {V : Type 0} (format : Format V) (law : IsFormat format) where
   plain_field : {X : Type 0} (make : X → Field V) (read : Result (X × List ℕ) CertError) → IsPlain read → IsPlain (as_field format make read)
@@ -77,14 +80,14 @@ one_text_more f [] x rest = ap (λ t. t ++ rest) (append-nil (f x))
 one_text_more f (y ∷ xs) x rest = append_assoc (f y) (flat_map f (xs ++ x ∷ [])) rest ∙ ap (λ t. f y ++ t) (one_text_more f xs x rest) ∙ sym (append_assoc (f y) (flat_map f xs) (f x ++ rest))
 
 module _ {V : Type 0} (format : Format V) (law : IsFormat format) where
-  pub version_leads : (bytes rest : List ℕ) (x : Bool × List ℕ) → IsBytes rest → bytes ≡ number numbers.Magic MAGIC ++ rest → version_at format rest ≡ Ok x → FieldsLead format (opening x.0) bytes x.1
+  pub version_leads : (bytes rest : List ℕ) (x : Edition × List ℕ) → IsBytes rest → bytes ≡ number numbers.Magic MAGIC ++ rest → version_at format rest ≡ Ok x → FieldsLead format (opening x.0) bytes x.1
   version_leads bytes rest x fits e v =
       let t = version_takes format rest x fits v in
-      record { limited = x.0; allowed = t.1; fields = []; each = tt; led = refl; spelled = e ∙ ap (λ (r : List ℕ). number numbers.Magic MAGIC ++ r) t.0.parts ∙ sym (append_assoc (number numbers.Magic MAGIC) (number numbers.Version (version_of format x.0)) x.1) }
+      record { edition = x.0; allowed = t.1; fields = []; each = tt; led = refl; spelled = e ∙ ap (λ (r : List ℕ). number numbers.Magic MAGIC ++ r) t.0.parts ∙ sym (append_assoc (number numbers.Magic MAGIC) (number numbers.Version (version_of format x.0)) x.1) }
 
-  one_spelled : (limited : Bool) (f : Field V) (fs : List (Field V)) (bytes rest after : List ℕ) → bytes ≡ heading format limited ++ (flat_map (field_bytes format) fs ++ rest) → rest ≡ field_bytes format f ++ after → bytes ≡ heading format limited ++ (flat_map (field_bytes format) (fs ++ f ∷ []) ++ after)
-  one_spelled limited f fs bytes rest after e d =
-      e ∙ ap (λ (t : List ℕ). heading format limited ++ (flat_map (field_bytes format) fs ++ t)) d ∙ ap (λ (t : List ℕ). heading format limited ++ t) (sym (one_text_more (field_bytes format) fs f after))
+  one_spelled : (edition : Edition) (f : Field V) (fs : List (Field V)) (bytes rest after : List ℕ) → bytes ≡ heading format edition ++ (flat_map (field_bytes format) fs ++ rest) → rest ≡ field_bytes format f ++ after → bytes ≡ heading format edition ++ (flat_map (field_bytes format) (fs ++ f ∷ []) ++ after)
+  one_spelled edition f fs bytes rest after e d =
+      e ∙ ap (λ (t : List ℕ). heading format edition ++ (flat_map (field_bytes format) fs ++ t)) d ∙ ap (λ (t : List ℕ). heading format edition ++ t) (sym (one_text_more (field_bytes format) fs f after))
 
   pub read_next : (bytes : List ℕ) (p q : Progress V) (rest after : List ℕ) → IsBytes rest → FieldsLead format p bytes rest → next_at format p rest ≡ Ok (q, after) → FieldsLead format q bytes after
   read_next bytes p q rest after fits r e =
@@ -96,23 +99,23 @@ module _ {V : Type 0} (format : Format V) (law : IsFormat format) where
       let led : taken p a.0.0 ≡ Ok q = b.1 ∙ ap (λ (x : Progress V × List ℕ). Ok x.0) same in
       let left : a.0.1 ≡ after = ap (λ (x : Progress V × List ℕ). x.1) same in
       record {
-        limited = r.limited;
+        edition = r.edition;
         allowed = r.allowed;
         fields = r.fields ++ a.0.0 ∷ [];
         each = each_more format r.fields a.0.0 r.each t.is;
-        led = one_more r.fields a.0.0 (opening r.limited) p q r.led led;
-        spelled = one_spelled r.limited a.0.0 r.fields bytes rest after r.spelled (t.takes.parts ∙ ap (λ (l : List ℕ). field_bytes format a.0.0 ++ l) left);
+        led = one_more r.fields a.0.0 (opening r.edition) p q r.led led;
+        spelled = one_spelled r.edition a.0.0 r.fields bytes rest after r.spelled (t.takes.parts ∙ ap (λ (l : List ℕ). field_bytes format a.0.0 ++ l) left);
       }
 
-  taken_too : (limited : Bool) (fs : List (Field V)) (f : Field V) (p : Progress V) (r : Result (Progress V) CertError) → all_taken (opening limited) fs ≡ Ok p → taken p f ≡ r → IsOk r → IsOk (all_taken (opening limited) (fs ++ f ∷ []))
-  taken_too limited fs f p (Ok q) led e ok = rw (one_more fs f (opening limited) p q led e) refl
-  taken_too limited fs f p (Err d) led e ok = absurd cc
+  taken_too : (edition : Edition) (fs : List (Field V)) (f : Field V) (p : Progress V) (r : Result (Progress V) CertError) → all_taken (opening edition) fs ≡ Ok p → taken p f ≡ r → IsOk r → IsOk (all_taken (opening edition) (fs ++ f ∷ []))
+  taken_too edition fs f p (Ok q) led e ok = rw (one_more fs f (opening edition) p q led e) refl
+  taken_too edition fs f p (Err d) led e ok = absurd cc
 
   pub leads_to_part : (bytes : List ℕ) (p : Progress V) (rest : List ℕ) → IsBytes rest → FieldsLead format p bytes rest → NextAdds format p rest → LeadsToPart format bytes
   leads_to_part bytes p rest fits r n =
       let t = field_takes format law p.turn rest n.field n.rest fits n.read in
       record {
-        limited = r.limited;
+        edition = r.edition;
         allowed = r.allowed;
         fields = r.fields;
         last = n.field;
@@ -120,9 +123,9 @@ module _ {V : Type 0} (format : Format V) (law : IsFormat format) where
         each = each_more format r.fields n.field r.each t.is;
         before = p;
         reached = r.led;
-        led = taken_too r.limited r.fields n.field p (taken p n.field) r.led refl n.due;
+        led = taken_too r.edition r.fields n.field p (taken p n.field) r.led refl n.due;
         adds = n.adds;
-        spelled = one_spelled r.limited n.field r.fields bytes rest n.rest r.spelled t.takes.parts;
+        spelled = one_spelled r.edition n.field r.fields bytes rest n.rest r.spelled t.takes.parts;
       }
 
 -- a field that memory was wanting for

@@ -1,5 +1,5 @@
 -- The sample certificate, computed.
-use Rattle.std.proofs.Common.{◌≡◌, ℕ, List, [], ◌∷◌, ◌++◌, replicate, take, drop, None, Result, Ok, Err, pos, negsuc, refl, arith, length}
+use Rattle.std.proofs.Common.{◌≡◌, ℕ, List, [], ◌∷◌, ◌++◌, replicate, take, drop, false, None, Result, Ok, Err, pos, negsuc, refl, arith, length}
 use Rattle.zdomain.specs.declared.interval.Interval.{Interval}
 use Rattle.zdomain.specs.Interval.{point, in_order}
 use Rattle.zcert.specs.declared.error.CertError.{CertError}
@@ -23,10 +23,11 @@ certificate : Certificate Interval
 certificate = record {
   identity = record { release = 1; serial = 0x32 ∷ 0x36 ∷ 0x30 ∷ 0x31 ∷ 0x30 ∷ 0x31 ∷ []; checksum = 0x3A7A; length = 0x32A };
   limit = None;
+  marking = false;
   ranges = [];
   globals = replicate 240 (point 0);
   routines = [];
-  instructions = record { address = 0x324; routine = 0; locals = []; slots = [] } ∷ record { address = 0x329; routine = 0; locals = []; slots = [] } ∷ [];
+  instructions = record { address = 0x324; routine = 0; is_marked = false; locals = []; slots = [] } ∷ record { address = 0x329; routine = 0; is_marked = false; locals = []; slots = [] } ∷ [];
 }
 
 spelled : spelling interval_format certificate ≡ sample
@@ -94,9 +95,9 @@ counts = (refl, refl, refl, refl)
 
 stacked : Certificate Interval
 stacked = record certificate {
-  instructions = record { address = 0x324; routine = 0; locals = []; slots = [] }
-      ∷ record { address = 0x326; routine = 0; locals = []; slots = point 5 ∷ [] }
-      ∷ record { address = 0x329; routine = 0; locals = []; slots = point 5 ∷ record { lo = negsuc 0; hi = pos 3; ordered = in_order (negsuc 0) (pos 3) refl } ∷ [] }
+  instructions = record { address = 0x324; routine = 0; is_marked = false; locals = []; slots = [] }
+      ∷ record { address = 0x326; routine = 0; is_marked = false; locals = []; slots = point 5 ∷ [] }
+      ∷ record { address = 0x329; routine = 0; is_marked = false; locals = []; slots = point 5 ∷ record { lo = negsuc 0; hi = pos 3; ordered = in_order (negsuc 0) (pos 3) refl } ∷ [] }
       ∷ [];
 }
 
@@ -126,8 +127,8 @@ whole : Certificate Interval
 whole = record certificate {
   ranges = record { first = 64; last = 66 } ∷ [];
   routines = record { address = 0x32A; locals = 2; result = point 1 } ∷ [];
-  instructions = record { address = 0x324; routine = 0; locals = []; slots = [] }
-      ∷ record { address = 0x32F; routine = 1; locals = point 2 ∷ point 3 ∷ []; slots = point 4 ∷ [] }
+  instructions = record { address = 0x324; routine = 0; is_marked = false; locals = []; slots = [] }
+      ∷ record { address = 0x32F; routine = 1; is_marked = false; locals = point 2 ∷ point 3 ∷ []; slots = point 4 ∷ [] }
       ∷ [];
 }
 

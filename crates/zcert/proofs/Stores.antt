@@ -84,7 +84,7 @@ module _ {V C : Type 0} (format : Format V) (keeping : Keeping V C) (law : AreKe
 
   -- an instruction by its stored header and its sets
   abbrev with_sets : Stored → List V → Instruction V
-  with_sets s values = record { address = s.address; routine = s.routine; locals = take s.locals values; slots = drop s.locals values }
+  with_sets s values = record { address = s.address; routine = s.routine; is_marked = s.is_marked; locals = take s.locals values; slots = drop s.locals values }
 
   pub instructions_stay : (cells more : List C) (ss : List Stored) → AllLieIn format keeping cells ss → map (stored_instruction keeping (cells ++ more)) ss ≡ map (stored_instruction keeping cells) ss
   instructions_stay cells more [] all = refl
@@ -117,7 +117,7 @@ module _ {V C : Type 0} (format : Format V) (keeping : Keeping V C) (law : AreKe
   -- ---- one more instruction
 
   abbrev pub with_start : Header → ℕ → Stored
-  with_start h start = record { address = h.address; routine = h.routine; locals = h.locals; height = h.height; start = start }
+  with_start h start = record { address = h.address; routine = h.routine; locals = h.locals; height = h.height; is_marked = h.is_marked; start = start }
 
   -- the newest sets, from `start` on, make the instruction
   newest_lies : (start came : ℕ) (cells : List C) (h : Header) → AreNewest format keeping start came cells → came ≡ h.locals + h.height → LiesIn format keeping cells (with_start h start)

@@ -8,6 +8,7 @@ use Rattle.zcert.specs.declared.field.Field.TheVariants as fields
 use Rattle.zcert.specs.declared.field.Turn.{Turn}
 use Rattle.zcert.specs.declared.field.Turn.TheVariants as turns
 use Rattle.zcert.specs.declared.limits.TheConstants.{ADDRESS_LIMIT, MAX_LOCALS, MAX_INSTRUCTIONS, MAX_RANGES, MAX_ROUTINES, MAX_HEIGHT, MAX_FRAMES}
+use Rattle.zcert.specs.Marks.{height_in}
 use Rattle.zcert.specs.Steps.{◌>>=◌, need}
 use Rattle.zcert.specs.Reading.{address_fits}
 use Rattle.zcert.specs.Building.{Progress, taken, after_release, after_serial, after_checksum, after_loaded_length, after_frame_limit, after_range_count, after_range_first, after_range_last, after_global, after_routine_count, after_routine_address, after_local_count, after_routine_result, after_instruction_count, after_instruction_address, after_routine_number, after_height, after_value}
@@ -103,7 +104,7 @@ module _ {V : Type 0} where
   of_routine_number n _ p = λ e. absurd cc
 
   of_height : (n : ℕ) (t : Turn) (p : Progress V) → IsUncut (after_height n t p)
-  of_height n (turns.Height more address routine) p = uncut_when (need (nat_le n MAX_HEIGHT) errors.Limit) _ (uncut_need _ _ limit)
+  of_height n (turns.Height more address routine) p = uncut_when (need (nat_le (height_in p.content.marking n) MAX_HEIGHT) errors.Limit) _ (uncut_need _ _ limit)
   of_height n _ p = λ e. absurd cc
 
   of_value : (v : V) (t : Turn) (p : Progress V) → IsUncut (after_value v t p)

@@ -1,11 +1,13 @@
 -- Values of the definitions, computed.
-use Rattle.std.proofs.Common.{◌≡◌, Bool, true, false, ℕ, List, [], ◌∷◌, ◌++◌, length, replicate, zero, suc, Some, None, Ok, Err, pos, negsuc, inl, inr, refl, ap, arith}
+use Rattle.std.proofs.Common.{◌≡◌, true, false, ℕ, List, [], ◌∷◌, ◌++◌, length, replicate, zero, suc, Some, None, Ok, Err, pos, negsuc, inl, inr, refl, ap, arith}
 use Rattle.std.specs.List.{AllByRecursion}
 use Rattle.std.specs.Prelude.{is_some}
 use Rattle.std.proofs.lemmas.Int.{ints}
 use Rattle.zdomain.specs.declared.interval.Interval.{Interval}
 use Rattle.zdomain.specs.Interval.{point, all_words, interval_of, in_order}
 use Rattle.zstory.specs.declared.identity.Identity.{Identity}
+use Rattle.zcert.specs.declared.edition.Edition.{Edition}
+use Rattle.zcert.specs.declared.edition.Edition.TheVariants as editions
 use Rattle.zcert.specs.declared.error.CertError.TheVariants as errors
 use Rattle.zcert.specs.declared.field.Field.TheVariants as fields
 use Rattle.zcert.specs.declared.field.Header.{Header}
@@ -14,7 +16,7 @@ use Rattle.zcert.specs.declared.field.Turn.TheVariants as turns
 use Rattle.zcert.specs.declared.parts.Range.{Range}
 use Rattle.zcert.specs.declared.parts.Routine.{Routine}
 use Rattle.zcert.specs.declared.instructions.Stored.{Stored}
-use Rattle.zcert.specs.declared.limits.TheConstants.{MAGIC, VERSION, GLOBALS, ADDRESS_LIMIT, MAX_LOCALS, MAX_INSTRUCTIONS, MAX_RANGES, MAX_ROUTINES, MAX_HEIGHT, LIMIT_VERSION, USUAL_FRAMES, MAX_FRAMES}
+use Rattle.zcert.specs.declared.limits.TheConstants.{MAGIC, VERSION, GLOBALS, ADDRESS_LIMIT, MAX_LOCALS, MAX_INSTRUCTIONS, MAX_RANGES, MAX_ROUTINES, MAX_HEIGHT, LIMIT_VERSION, MAX_FRAMES}
 use Rattle.zcert.specs.Numbers.{width, number, HasRoom}
 use Rattle.zcert.specs.Numbers as numbers
 use Rattle.zcert.specs.Certificate.{Instruction, locals_of, limit_or_usual}
@@ -26,7 +28,7 @@ use Rattle.zcert.specs.Reading.{magic_at, version_at, heading_at, identity_at, l
 use Rattle.zcert.specs.Building.{Progress, opening, behind_identity, limit_before, before_globals, before_ranges, before_routines, before_instructions, instruction_of, with_routine, InTurn, taken, all_taken, Adds, IsDue}
 use Rattle.zcert.specs.Fields.{field_bytes, IsField, field_at, next_at, IsReached, LeadsToPart}
 use Rattle.zcert.specs.Keeping.{intervals_kept}
-use Rattle.zcert.specs.Contents.{values_of, stored_instruction, LiesIn}
+use Rattle.zcert.specs.Contents.{has_mark, values_of, stored_instruction, LiesIn}
 use Rattle.zcert.specs.Listed.{listed_at, Finds}
 use Rattle.zcert.specs.Listed as listing
 use Rattle.zcert.specs.Refusal.{number_of}
@@ -75,7 +77,7 @@ routine = record { address = 0x32E; locals = 1; result = point 1 }
 
 -- addresses rise, whichever routines the instructions are in
 abbrev bare : ℕ → ℕ → Instruction Interval
-bare address number = record { address = address; routine = number; locals = []; slots = [] }
+bare address number = record { address = address; routine = number; is_marked = false; locals = []; slots = [] }
 
 addresses_rise : InstructionsRise (bare 5 1 ∷ bare 6 0 ∷ []) × (InstructionsRise (bare 6 0 ∷ bare 5 1 ∷ []) → ⊥)
 addresses_rise = ((omega arith, (omega arith, tt)), λ rise. omega (arith, rise.1.0))
@@ -90,16 +92,17 @@ locals = (refl, refl, refl, refl)
 
 -- an instruction of that routine, with its local in [0, 0] and a slot with 7
 instruction : Instruction Interval
-instruction = record { address = 0x331; routine = 1; locals = point 0 ∷ []; slots = point 7 ∷ [] }
+instruction = record { address = 0x331; routine = 1; is_marked = false; locals = point 0 ∷ []; slots = point 7 ∷ [] }
 
 main_instruction : Instruction Interval
-main_instruction = record { address = 0x324; routine = 0; locals = []; slots = [] }
+main_instruction = record { address = 0x324; routine = 0; is_marked = false; locals = []; slots = [] }
 
 -- an instruction of the main code with two slots: the bottom one in [1, 2], the top one in [-1, 3]
 stacked : Instruction Interval
 stacked = record {
   address = 0x326;
   routine = 0;
+  is_marked = false;
   locals = [];
   slots = record { lo = pos 1; hi = pos 2; ordered = in_order (pos 1) (pos 2) refl } ∷ record { lo = negsuc 0; hi = pos 3; ordered = in_order (negsuc 0) (pos 3) refl } ∷ [];
 }
@@ -169,15 +172,15 @@ stack_spelled : instruction_bytes interval_format stacked ≡ stacked_text
 unfolding stacked stacked_text
 stack_spelled = refl
 
-heading_spelled : (heading interval_format false ≡ 0x5A ∷ 0x50 ∷ 0x43 ∷ 0x43 ∷ 1 ∷ []) × (heading values_format true ≡ 0x5A ∷ 0x50 ∷ 0x43 ∷ 0x43 ∷ 3 ∷ [])
-heading_spelled = (refl, refl)
+heading_spelled : (heading interval_format editions.Plain ≡ 0x5A ∷ 0x50 ∷ 0x43 ∷ 0x43 ∷ 1 ∷ []) × (heading values_format editions.Limited ≡ 0x5A ∷ 0x50 ∷ 0x43 ∷ 0x43 ∷ 3 ∷ []) × (heading values_format editions.Marking ≡ 0x5A ∷ 0x50 ∷ 0x43 ∷ 0x43 ∷ 4 ∷ [])
+heading_spelled = (refl, refl, refl)
 
 -- a limit of frames is named in version 3 alone, whose sets may be lists, and is 1,024 where it isn't
-limits_named : (limit_bytes None ≡ []) × (limit_bytes (Some 0x1000) ≡ 0x10 ∷ 0 ∷ []) × (limit_or_usual None ≡ 1024) × (limit_or_usual (Some 3) ≡ 3) × (LIMIT_VERSION ≡ 3) × (MAX_FRAMES ≡ 4096) × (version_of values_format false ≡ 2) × (version_of values_format true ≡ 3)
-limits_named = (refl, refl, refl, refl, refl, refl, refl, refl)
+limits_named : (limit_bytes None ≡ []) × (limit_bytes (Some 0x1000) ≡ 0x10 ∷ 0 ∷ []) × (limit_or_usual None ≡ 1024) × (limit_or_usual (Some 3) ≡ 3) × (LIMIT_VERSION ≡ 3) × (MAX_FRAMES ≡ 4096) × (version_of values_format editions.Plain ≡ 2) × (version_of values_format editions.Limited ≡ 3) × (version_of values_format editions.Marking ≡ 4)
+limits_named = (refl, refl, refl, refl, refl, refl, refl, refl, refl)
 
-limits_allowed : IsAllowed values_format true × (IsAllowed interval_format true → ⊥) × IsLimit interval_format None × IsLimit values_format (Some 4096) × (IsLimit values_format (Some 4097) → ⊥) × (IsLimit interval_format (Some 3) → ⊥)
-limits_allowed = (refl, (λ e. absurd cc), tt, (refl, omega arith), (λ l. omega (arith, l.1)), λ l. absurd (let e = l.0 in cc))
+limits_allowed : IsAllowed values_format editions.Limited × (IsAllowed interval_format editions.Limited → ⊥) × IsAllowed values_format editions.Marking × (IsAllowed interval_format editions.Marking → ⊥) × IsLimit interval_format None × IsLimit values_format (Some 4096) × (IsLimit values_format (Some 4097) → ⊥) × (IsLimit interval_format (Some 3) → ⊥)
+limits_allowed = (refl, (λ e. absurd cc), refl, (λ e. absurd cc), tt, (refl, omega arith), (λ l. omega (arith, l.1)), λ l. absurd (let e = l.0 in cc))
 
 -- a range may end where it begins, and not before; another begins at least two above its end
 ordered : IsRange (record { first = 64; last = 64 }) × (IsRange (record { first = 65; last = 64 }) → ⊥)
@@ -211,7 +214,7 @@ each_alike zero v has = tt
 each_alike (suc n) v has = (has, each_alike n v has)
 
 high : Instruction Interval
-high = record { address = 0x324; routine = 0; locals = []; slots = replicate 64 (point 0) }
+high = record { address = 0x324; routine = 0; is_marked = false; locals = []; slots = replicate 64 (point 0) }
 
 heights : IsInstruction interval_format [] high × ((i : Instruction Interval) → length i.slots ≡ 65 → IsInstruction interval_format [] i → ⊥)
 unfolding high
@@ -240,12 +243,12 @@ magics : (magic_at (0x5A ∷ 0x50 ∷ 0x43 ∷ 0x43 ∷ 9 ∷ []) ≡ Ok (9 ∷ 
 unfolding magic_at
 magics = (refl, refl, refl)
 
-versions : (version_at interval_format (1 ∷ 7 ∷ []) ≡ Ok (false, 7 ∷ [])) × (version_at interval_format (2 ∷ []) ≡ Err errors.Version) × (version_at interval_format (3 ∷ []) ≡ Err errors.Version) × (version_at interval_format [] ≡ Err errors.Truncated)
+versions : (version_at interval_format (1 ∷ 7 ∷ []) ≡ Ok (editions.Plain, 7 ∷ [])) × (version_at interval_format (2 ∷ []) ≡ Err errors.Version) × (version_at interval_format (3 ∷ []) ≡ Err errors.Version) × (version_at interval_format (4 ∷ []) ≡ Err errors.Version) × (version_at interval_format [] ≡ Err errors.Truncated)
 unfolding version_at
-versions = (refl, refl, refl, refl)
+versions = (refl, refl, refl, refl, refl)
 
 -- the magic is looked at before the version
-headings : (heading_at interval_format (0x5A ∷ 0x50 ∷ 0x43 ∷ 0x43 ∷ 1 ∷ 8 ∷ []) ≡ Ok (false, 8 ∷ [])) × (heading_at interval_format (0x5A ∷ 0x50 ∷ 0x43 ∷ 0x44 ∷ 2 ∷ []) ≡ Err errors.Magic) × (heading_at interval_format (0x5A ∷ 0x50 ∷ 0x43 ∷ 0x43 ∷ []) ≡ Err errors.Truncated)
+headings : (heading_at interval_format (0x5A ∷ 0x50 ∷ 0x43 ∷ 0x43 ∷ 1 ∷ 8 ∷ []) ≡ Ok (editions.Plain, 8 ∷ [])) × (heading_at interval_format (0x5A ∷ 0x50 ∷ 0x43 ∷ 0x44 ∷ 2 ∷ []) ≡ Err errors.Magic) × (heading_at interval_format (0x5A ∷ 0x50 ∷ 0x43 ∷ 0x43 ∷ []) ≡ Err errors.Truncated)
 unfolding heading_at magic_at version_at
 headings = (refl, refl, refl)
 
@@ -293,16 +296,16 @@ unfolding all_routines_at routines_at routine_at routine
 counted_routines = (refl, refl, refl, refl)
 
 -- a set for each local of its routine; a routine that isn't there is refused before the height is read
-instructions_read : (instruction_at interval_format [] 0 (0 ∷ 0 ∷ 3 ∷ 0x24 ∷ 0 ∷ 0 ∷ 0 ∷ 2 ∷ []) ≡ Ok (main_instruction, 2 ∷ [])) × (instruction_at interval_format routines 0 (0 ∷ 0 ∷ 3 ∷ 0x31 ∷ 0 ∷ 1 ∷ 0 ∷ 0 ∷ 0 ∷ 0 ∷ 0 ∷ []) ≡ Ok (record instruction { slots = [] }, [])) × (instruction_at interval_format routines 0 (0 ∷ 0 ∷ 3 ∷ 0x31 ∷ 0 ∷ 3 ∷ []) ≡ Err errors.Limit)
+instructions_read : (instruction_at interval_format false [] 0 (0 ∷ 0 ∷ 3 ∷ 0x24 ∷ 0 ∷ 0 ∷ 0 ∷ 2 ∷ []) ≡ Ok (main_instruction, 2 ∷ [])) × (instruction_at interval_format false routines 0 (0 ∷ 0 ∷ 3 ∷ 0x31 ∷ 0 ∷ 1 ∷ 0 ∷ 0 ∷ 0 ∷ 0 ∷ 0 ∷ []) ≡ Ok (record instruction { slots = [] }, [])) × (instruction_at interval_format false routines 0 (0 ∷ 0 ∷ 3 ∷ 0x31 ∷ 0 ∷ 3 ∷ []) ≡ Err errors.Limit)
 unfolding instruction_at values_at main_instruction instruction routines routine
 instructions_read = (refl, refl, refl)
 
-two_instructions : (instructions_at interval_format [] 2 0 (0 ∷ 0 ∷ 3 ∷ 0x24 ∷ 0 ∷ 0 ∷ 0 ∷ 0 ∷ 0 ∷ 3 ∷ 0x25 ∷ 0 ∷ 0 ∷ 0 ∷ []) ≡ Ok (main_instruction ∷ record main_instruction { address = 0x325 } ∷ [], [])) × (instructions_at interval_format [] 2 0 (0 ∷ 0 ∷ 3 ∷ 0x24 ∷ 0 ∷ 0 ∷ 0 ∷ 0 ∷ 0 ∷ 3 ∷ 0x24 ∷ []) ≡ Err errors.Order)
+two_instructions : (instructions_at interval_format false [] 2 0 (0 ∷ 0 ∷ 3 ∷ 0x24 ∷ 0 ∷ 0 ∷ 0 ∷ 0 ∷ 0 ∷ 3 ∷ 0x25 ∷ 0 ∷ 0 ∷ 0 ∷ []) ≡ Ok (main_instruction ∷ record main_instruction { address = 0x325 } ∷ [], [])) × (instructions_at interval_format false [] 2 0 (0 ∷ 0 ∷ 3 ∷ 0x24 ∷ 0 ∷ 0 ∷ 0 ∷ 0 ∷ 0 ∷ 3 ∷ 0x24 ∷ []) ≡ Err errors.Order)
 unfolding instructions_at instruction_at values_at main_instruction
 two_instructions = (refl, refl)
 
 -- 131,072 are let pass, and then the first is missing; one more isn't; the lowest address is 0
-counted_instructions : (all_instructions_at interval_format [] (0 ∷ 0 ∷ 0 ∷ 0 ∷ 3 ∷ []) ≡ Ok ([], 3 ∷ [])) × (all_instructions_at interval_format [] (0 ∷ 2 ∷ 0 ∷ 0 ∷ []) ≡ Err errors.Truncated) × (all_instructions_at interval_format [] (0 ∷ 2 ∷ 0 ∷ 1 ∷ []) ≡ Err errors.Limit) × (all_instructions_at interval_format [] (0 ∷ 0 ∷ 0 ∷ 1 ∷ 0 ∷ 0 ∷ 0 ∷ 0 ∷ 0 ∷ 0 ∷ 0 ∷ []) ≡ Ok (record main_instruction { address = 0 } ∷ [], []))
+counted_instructions : (all_instructions_at interval_format false [] (0 ∷ 0 ∷ 0 ∷ 0 ∷ 3 ∷ []) ≡ Ok ([], 3 ∷ [])) × (all_instructions_at interval_format false [] (0 ∷ 2 ∷ 0 ∷ 0 ∷ []) ≡ Err errors.Truncated) × (all_instructions_at interval_format false [] (0 ∷ 2 ∷ 0 ∷ 1 ∷ []) ≡ Err errors.Limit) × (all_instructions_at interval_format false [] (0 ∷ 0 ∷ 0 ∷ 1 ∷ 0 ∷ 0 ∷ 0 ∷ 0 ∷ 0 ∷ 0 ∷ 0 ∷ []) ≡ Ok (record main_instruction { address = 0 } ∷ [], []))
 unfolding all_instructions_at instructions_at instruction_at values_at main_instruction
 counted_instructions = (refl, refl, refl, refl)
 
@@ -312,12 +315,12 @@ unfolding all_ranges_at ranges_at range_at all_routines_at routines_at routine_a
 most_counted = (refl, refl)
 
 -- a stack of 64 is let pass, and then a slot is missing; a stack of 65 isn't, whatever follows
-stacks_read : (instruction_at interval_format [] 0 (stacked_text ++ 6 ∷ []) ≡ Ok (stacked, 6 ∷ [])) × (instruction_at interval_format [] 0 (0 ∷ 0 ∷ 3 ∷ 0x24 ∷ 0 ∷ 0 ∷ 64 ∷ replicate 256 0) ≡ Ok (high, [])) × (instruction_at interval_format [] 0 (0 ∷ 0 ∷ 3 ∷ 0x24 ∷ 0 ∷ 0 ∷ 64 ∷ replicate 255 0) ≡ Err errors.Truncated) × (instruction_at interval_format [] 0 (0 ∷ 0 ∷ 3 ∷ 0x24 ∷ 0 ∷ 0 ∷ 65 ∷ []) ≡ Err errors.Limit) × (instruction_at interval_format [] 0 (0 ∷ 0 ∷ 3 ∷ 0x24 ∷ 0 ∷ 0 ∷ []) ≡ Err errors.Truncated)
+stacks_read : (instruction_at interval_format false [] 0 (stacked_text ++ 6 ∷ []) ≡ Ok (stacked, 6 ∷ [])) × (instruction_at interval_format false [] 0 (0 ∷ 0 ∷ 3 ∷ 0x24 ∷ 0 ∷ 0 ∷ 64 ∷ replicate 256 0) ≡ Ok (high, [])) × (instruction_at interval_format false [] 0 (0 ∷ 0 ∷ 3 ∷ 0x24 ∷ 0 ∷ 0 ∷ 64 ∷ replicate 255 0) ≡ Err errors.Truncated) × (instruction_at interval_format false [] 0 (0 ∷ 0 ∷ 3 ∷ 0x24 ∷ 0 ∷ 0 ∷ 65 ∷ []) ≡ Err errors.Limit) × (instruction_at interval_format false [] 0 (0 ∷ 0 ∷ 3 ∷ 0x24 ∷ 0 ∷ 0 ∷ []) ≡ Err errors.Truncated)
 unfolding instruction_at values_at stacked stacked_text high
 stacks_read = (refl, refl, refl, refl, refl)
 
 -- after a local of its routine a slot, and the local is read first
-local_and_slot : instruction_at interval_format routines 0 (0 ∷ 0 ∷ 3 ∷ 0x31 ∷ 0 ∷ 1 ∷ 1 ∷ 0 ∷ 0 ∷ 0 ∷ 0 ∷ 0 ∷ 7 ∷ 0 ∷ 7 ∷ []) ≡ Ok (instruction, [])
+local_and_slot : instruction_at interval_format false routines 0 (0 ∷ 0 ∷ 3 ∷ 0x31 ∷ 0 ∷ 1 ∷ 1 ∷ 0 ∷ 0 ∷ 0 ∷ 0 ∷ 0 ∷ 7 ∷ 0 ∷ 7 ∷ []) ≡ Ok (instruction, [])
 unfolding instruction_at values_at instruction routines routine
 local_and_slot = refl
 
@@ -328,7 +331,7 @@ turns_before : (before_ranges 0 ≡ turns.Global 239) × (before_ranges 1 ≡ tu
 turns_before = (refl, refl, refl, refl, refl, refl, refl, refl)
 
 header : Header
-header = record { address = 0x331; routine = 1; locals = 1; height = 1 }
+header = record { address = 0x331; routine = 1; locals = 1; height = 1; is_marked = false }
 
 -- the locals come first
 made_of_values : instruction_of header (point 0 ∷ point 7 ∷ []) ≡ instruction
@@ -336,23 +339,23 @@ unfolding header instruction
 made_of_values = refl
 
 -- one local, and then two slots
-made_of_three : instruction_of (record { address = 4; routine = 1; locals = 1; height = 2 }) (point 0 ∷ point 7 ∷ point 8 ∷ []) ≡ record { address = 4; routine = 1; locals = point 0 ∷ []; slots = point 7 ∷ point 8 ∷ [] }
+made_of_three : instruction_of (record { address = 4; routine = 1; locals = 1; height = 2; is_marked = false }) (point 0 ∷ point 7 ∷ point 8 ∷ []) ≡ record { address = 4; routine = 1; is_marked = false; locals = point 0 ∷ []; slots = point 7 ∷ point 8 ∷ [] }
 made_of_three = refl
 
 start : Progress Interval
-start = opening false
+start = opening editions.Plain
 
 at_turn : Turn → ℕ → Progress Interval
-at_turn turn floor = record (opening false) { turn = turn; floor = floor }
+at_turn turn floor = record (opening editions.Plain) { turn = turn; floor = floor }
 
 -- fields in their turn, and one out of it
-first_fields : (all_taken start (fields.Release 1 ∷ fields.Serial identity.serial ∷ fields.Checksum 0x3A7A ∷ fields.LoadedLength 0x32A ∷ fields.RangeCount 0 ∷ []) ≡ Ok (record { content = record { identity = identity; limit = None; ranges = []; globals = []; routines = []; instructions = [] }; values = []; floor = 0; turn = turns.Global 239 })) × (taken start (fields.Checksum 1) ≡ Err errors.Order) × (all_taken start (fields.Release 1 ∷ fields.Release 1 ∷ []) ≡ Err errors.Order)
+first_fields : (all_taken start (fields.Release 1 ∷ fields.Serial identity.serial ∷ fields.Checksum 0x3A7A ∷ fields.LoadedLength 0x32A ∷ fields.RangeCount 0 ∷ []) ≡ Ok (record { content = record { identity = identity; limit = None; marking = false; ranges = []; globals = []; routines = []; instructions = [] }; values = []; floor = 0; turn = turns.Global 239 })) × (taken start (fields.Checksum 1) ≡ Err errors.Order) × (all_taken start (fields.Release 1 ∷ fields.Release 1 ∷ []) ≡ Err errors.Order)
 unfolding start identity
 first_fields = (refl, refl, refl)
 
 -- nor is any other where none is to come
 abbrev complete : Progress Interval
-complete = record (opening false) { turn = turns.Complete }
+complete = record (opening editions.Plain) { turn = turns.Complete }
 
 out_of_turn :
     (taken complete (fields.Release 1) ≡ Err errors.Order) × (taken complete (fields.Serial []) ≡ Err errors.Order) × (taken complete (fields.Checksum 1) ≡ Err errors.Order) × (taken complete (fields.LoadedLength 1) ≡ Err errors.Order)
@@ -363,7 +366,7 @@ out_of_turn :
 out_of_turn = (refl, refl, refl, refl, refl, refl, refl, refl, refl, refl, refl, refl, refl, refl, refl, refl, refl)
 
 -- the limit comes behind the identity, where one is to be named
-limit_fields : (all_taken (opening {V = Interval} true) (fields.Release 1 ∷ fields.Serial [] ∷ fields.Checksum 2 ∷ fields.LoadedLength 3 ∷ fields.RangeCount 0 ∷ []) ≡ Err errors.Order) × (all_taken start (fields.Release 1 ∷ fields.Serial [] ∷ fields.Checksum 2 ∷ fields.LoadedLength 3 ∷ fields.FrameLimit 0 ∷ []) ≡ Err errors.Order) × (taken (at_turn turns.FrameLimit 0) (fields.FrameLimit 4097) ≡ Err errors.Limit) × (taken (at_turn turns.FrameLimit 0) (fields.FrameLimit 4096) ≡ Ok (record start { content = record start.content { limit = Some 4096 }; turn = turns.RangeCount }))
+limit_fields : (all_taken (opening {V = Interval} editions.Limited) (fields.Release 1 ∷ fields.Serial [] ∷ fields.Checksum 2 ∷ fields.LoadedLength 3 ∷ fields.RangeCount 0 ∷ []) ≡ Err errors.Order) × (all_taken start (fields.Release 1 ∷ fields.Serial [] ∷ fields.Checksum 2 ∷ fields.LoadedLength 3 ∷ fields.FrameLimit 0 ∷ []) ≡ Err errors.Order) × (taken (at_turn turns.FrameLimit 0) (fields.FrameLimit 4097) ≡ Err errors.Limit) × (taken (at_turn turns.FrameLimit 0) (fields.FrameLimit 4096) ≡ Ok (record start { content = record start.content { limit = Some 4096 }; turn = turns.RangeCount }))
 unfolding at_turn start
 limit_fields = (refl, refl, refl, refl)
 
@@ -384,7 +387,7 @@ at_limits : (taken (at_turn turns.RangeCount 7) (fields.RangeCount 65535) ≡ Ok
 unfolding at_turn
 at_limits = (refl, refl, refl, refl, refl, refl, refl)
 
-heights_taken : (taken (at_turn (turns.Height 1 0x324 0) 0) (fields.Height 64) ≡ Ok (at_turn (turns.Value 1 (record { address = 0x324; routine = 0; locals = 0; height = 64 }) 63) 0)) × (taken (at_turn (turns.Height 1 0x324 0) 0) (fields.Height 65) ≡ Err errors.Limit)
+heights_taken : (taken (at_turn (turns.Height 1 0x324 0) 0) (fields.Height 64) ≡ Ok (at_turn (turns.Value 1 (record { address = 0x324; routine = 0; locals = 0; height = 64; is_marked = false }) 63) 0)) × (taken (at_turn (turns.Height 1 0x324 0) 0) (fields.Height 65) ≡ Err errors.Limit)
 unfolding at_turn
 heights_taken = (refl, refl)
 
@@ -454,13 +457,13 @@ next_fields = (refl, refl, refl)
 
 reached : IsReached interval_format start
 unfolding start
-reached = (false, tt, ([], tt, refl))
+reached = (editions.Plain, tt, ([], tt, refl))
 
 -- the first global is the first part of a certificate without ranges; before it nothing wants memory
-first_part : LeadsToPart interval_format (heading interval_format false ++ identity_text ++ 0 ∷ 0 ∷ 0 ∷ 0 ∷ 0 ∷ 7 ∷ 9 ∷ [])
+first_part : LeadsToPart interval_format (heading interval_format editions.Plain ++ identity_text ++ 0 ∷ 0 ∷ 0 ∷ 0 ∷ 0 ∷ 7 ∷ 9 ∷ [])
 unfolding identity identity_text
 first_part = record {
-  limited = false;
+  edition = editions.Plain;
   allowed = tt;
   fields = fields.Release 1 ∷ fields.Serial (0x32 ∷ 0x36 ∷ 0x30 ∷ 0x31 ∷ 0x30 ∷ 0x31 ∷ []) ∷ fields.Checksum 0x3A7A ∷ fields.LoadedLength 0x32A ∷ fields.RangeCount 0 ∷ [];
   last = fields.Global (record { lo = pos 0; hi = pos 7; ordered = in_order (pos 0) (pos 7) refl });
@@ -469,7 +472,7 @@ first_part = record {
     omega arith,
     ((refl, (omega arith, (omega arith, (omega arith, (omega arith, (omega arith, (omega arith, tt))))))), (omega arith, (omega arith, (omega arith, ((omega arith, omega arith), tt))))),
   );
-  before = record { content = record { identity = identity; limit = None; ranges = []; globals = []; routines = []; instructions = [] }; values = []; floor = 0; turn = turns.Global 239 };
+  before = record { content = record { identity = identity; limit = None; marking = false; ranges = []; globals = []; routines = []; instructions = [] }; values = []; floor = 0; turn = turns.Global 239 };
   reached = refl;
   led = refl;
   adds = tt;
@@ -477,23 +480,26 @@ first_part = record {
 }
 
 no_part : LeadsToPart interval_format (0x5A ∷ 0x50 ∷ 0x43 ∷ 0x43 ∷ 2 ∷ []) → ⊥
-no_part l = by l.limited l.allowed l.spelled
+no_part l = by l.edition l.allowed l.spelled
   where
-    by : (limited : Bool) → IsAllowed interval_format limited → {rest : List ℕ} → 0x5A ∷ 0x50 ∷ 0x43 ∷ 0x43 ∷ 2 ∷ [] ≡ heading interval_format limited ++ rest → ⊥
-    by false may e = absurd cc
-    by true may e = absurd (let none = may in cc)
+    by : (edition : Edition) → IsAllowed interval_format edition → {rest : List ℕ} → 0x5A ∷ 0x50 ∷ 0x43 ∷ 0x43 ∷ 2 ∷ [] ≡ heading interval_format edition ++ rest → ⊥
+    by editions.Plain may e = absurd cc
+    by editions.Limited may e = absurd (let none = may in cc)
+    by editions.Marking may e = absurd (let none = may in cc)
 
 -- ---- how it is kept
 
 stored : Stored
-stored = record { address = 0x331; routine = 1; locals = 1; height = 1; start = 2 }
+stored = record { address = 0x331; routine = 1; locals = 1; height = 1; is_marked = false; start = 2 }
 
 all_values : List Interval
 all_values = point 5 ∷ point 6 ∷ point 0 ∷ point 7 ∷ point 8 ∷ []
 
-kept : (values_of intervals_kept all_values stored ≡ point 0 ∷ point 7 ∷ []) × (stored_instruction intervals_kept all_values stored ≡ instruction) × LiesIn interval_format intervals_kept all_values stored × (LiesIn interval_format intervals_kept (point 5 ∷ point 6 ∷ point 0 ∷ []) stored → ⊥)
+kept : (values_of intervals_kept all_values stored ≡ point 0 ∷ point 7 ∷ []) × (stored_instruction intervals_kept all_values stored ≡ instruction) × (has_mark stored ≡ false) × (has_mark (record stored { is_marked = true }) ≡ true) × LiesIn interval_format intervals_kept all_values stored × (LiesIn interval_format intervals_kept (point 5 ∷ point 6 ∷ point 0 ∷ []) stored → ⊥)
 unfolding all_values stored instruction
 kept = (
+  refl,
+  refl,
   refl,
   refl,
   record { begun = omega arith; holds = record { kept = point 0 ∷ point 7 ∷ []; rest = point 8 ∷ []; counted = refl; have = ((omega (arith, ints), omega (arith, ints)), ((omega (arith, ints), omega (arith, ints)), tt)); are = refl } },
@@ -559,8 +565,8 @@ opens : IsOpen {A = ℕ} (Ok 3) × IsOpen {A = ℕ} (Err errors.Truncated) × (I
 opens = (tt, refl, λ e. absurd cc)
 
 -- the bytes before the first field are the heading
-leads_so_far : Leads interval_format stages.Magic (opening false) (0x5A ∷ []) (0x5A ∷ []) × Leads interval_format stages.Version (opening false) (0x5A ∷ 0x50 ∷ 0x43 ∷ 0x43 ∷ 7 ∷ []) (7 ∷ []) × Leads interval_format stages.Field (opening false) (0x5A ∷ 0x50 ∷ 0x43 ∷ 0x43 ∷ 1 ∷ 9 ∷ []) (9 ∷ []) × (Leads interval_format stages.Version (opening false) (0x5A ∷ 0x50 ∷ []) [] → ⊥)
-leads_so_far = ((refl, refl), (refl, refl), record { limited = false; allowed = tt; fields = []; each = tt; led = refl; spelled = refl }, λ led. omega (arith, ap length led.0))
+leads_so_far : Leads interval_format stages.Magic (opening editions.Plain) (0x5A ∷ []) (0x5A ∷ []) × Leads interval_format stages.Version (opening editions.Plain) (0x5A ∷ 0x50 ∷ 0x43 ∷ 0x43 ∷ 7 ∷ []) (7 ∷ []) × Leads interval_format stages.Field (opening editions.Plain) (0x5A ∷ 0x50 ∷ 0x43 ∷ 0x43 ∷ 1 ∷ 9 ∷ []) (9 ∷ []) × (Leads interval_format stages.Version (opening editions.Plain) (0x5A ∷ 0x50 ∷ []) [] → ⊥)
+leads_so_far = ((refl, refl), (refl, refl), record { edition = editions.Plain; allowed = tt; fields = []; each = tt; led = refl; spelled = refl }, λ led. omega (arith, ap length led.0))
 
 -- a stream keeps what came of the magic, and all of it; what it refuses so, no more bytes mend
 streams : IsFed interval_format unfed [] × IsFed interval_format (record unfed { kept = 0x5A ∷ 0x50 ∷ [] }) (0x5A ∷ 0x50 ∷ []) × (IsFed interval_format unfed (0x5A ∷ []) → ⊥) × (IsFed interval_format (record unfed { kept = 0x5A ∷ 0x50 ∷ 0x43 ∷ 0x43 ∷ [] }) (0x5A ∷ 0x50 ∷ 0x43 ∷ 0x43 ∷ []) → ⊥) × (IsFed interval_format (record unfed { refused = Some errors.Truncated }) (0x5A ∷ []) → ⊥)
@@ -568,4 +574,4 @@ streams = (((refl, refl), omega arith), ((refl, refl), omega arith), (λ come. o
 
 stream_refusals : IsRefusal interval_format (0x5A ∷ 0x50 ∷ 0x43 ∷ 0x44 ∷ []) errors.Magic × IsUnread interval_format (0x5B ∷ []) errors.Truncated × (IsRefusal interval_format (0x5B ∷ []) errors.Truncated → ⊥)
 unfolding reading heading_at magic_at
-stream_refusals = (magic_refused interval_format (opening false) (0x5A ∷ 0x50 ∷ 0x43 ∷ 0x44 ∷ []) (0x5A ∷ 0x50 ∷ 0x43 ∷ 0x44 ∷ []) errors.Magic (λ e. absurd cc) refl (refl, refl), refl, λ none. none)
+stream_refusals = (magic_refused interval_format (opening editions.Plain) (0x5A ∷ 0x50 ∷ 0x43 ∷ 0x44 ∷ []) (0x5A ∷ 0x50 ∷ 0x43 ∷ 0x44 ∷ []) errors.Magic (λ e. absurd cc) refl (refl, refl), refl, λ none. none)

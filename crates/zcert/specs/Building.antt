@@ -1,6 +1,7 @@
 -- Taking the fields of a certificate one after another. A field out of turn is out of order.
 use Rattle.std.specs.Prelude.{◌≡◌, ℕ, zero, suc, ◌+◌, ◌<◌, Bool, true, false, List, [], ◌∷◌, ◌++◌, length, take, drop, Option, None, Some, Result, Ok, Err, nat_le, ⊤}
 use Rattle.zstory.specs.declared.identity.Identity.{Identity}
+use Rattle.zcert.specs.declared.edition.Edition.{Edition}
 use Rattle.zcert.specs.declared.error.CertError.{CertError}
 use Rattle.zcert.specs.declared.error.CertError.TheVariants as errors
 use Rattle.zcert.specs.declared.field.Field.{Field}
@@ -11,7 +12,9 @@ use Rattle.zcert.specs.declared.field.Turn.TheVariants as turns
 use Rattle.zcert.specs.declared.parts.Range.{Range}
 use Rattle.zcert.specs.declared.parts.Routine.{Routine}
 use Rattle.zcert.specs.declared.limits.TheConstants.{GLOBALS, ADDRESS_LIMIT, MAX_LOCALS, MAX_INSTRUCTIONS, MAX_RANGES, MAX_ROUTINES, MAX_HEIGHT, MAX_FRAMES}
+use Rattle.zcert.specs.Editions.{is_limited, is_marking}
 use Rattle.zcert.specs.Certificate.{Instruction, Certificate, locals_of}
+use Rattle.zcert.specs.Marks.{is_mark, height_in}
 use Rattle.zcert.specs.Steps.{◌>>=◌, need}
 use Rattle.zcert.specs.Reading.{address_fits}
 
@@ -44,7 +47,7 @@ before_instructions (suc more) = turns.InstructionAddress more
 
 -- an instruction by its header and its values
 abbrev pub instruction_of : {V : Type 0} → Header → List V → Instruction V
-instruction_of h values = record { address = h.address; routine = h.routine; locals = take h.locals values; slots = drop h.locals values }
+instruction_of h values = record { address = h.address; routine = h.routine; is_marked = h.is_marked; locals = take h.locals values; slots = drop h.locals values }
 
 -- the turn behind the identity, where a limit is named and where none is
 abbrev pub behind_identity : Option ℕ → Turn
@@ -60,9 +63,9 @@ abbrev pub limit_before : Bool → Option ℕ
 limit_before false = None
 limit_before true = Some 0
 
-abbrev pub opening : {V : Type 0} → Bool → Progress V
-opening limited = record {
-  content = record { identity = no_identity; limit = limit_before limited; ranges = []; globals = []; routines = []; instructions = [] };
+abbrev pub opening : {V : Type 0} → Edition → Progress V
+opening edition = record {
+  content = record { identity = no_identity; limit = limit_before (is_limited edition); marking = is_marking edition; ranges = []; globals = []; routines = []; instructions = [] };
   values = [];
   floor = 0;
   turn = turns.Release;
@@ -180,11 +183,15 @@ module _ {V : Type 0} where
   before_values zero more h p = record p { content = with_instruction p.content (instruction_of h p.values); floor = h.address + 1; turn = before_instructions more }
   before_values (suc left) more h p = record p { turn = turns.Value more h left }
 
+  abbrev pub header_of : Progress V → ℕ → ℕ → ℕ → Header
+  header_of p address routine byte =
+      record { address = address; routine = routine; locals = locals_of p.content.routines routine; height = height_in p.content.marking byte; is_marked = is_mark p.content.marking byte }
+
   abbrev pub after_height : ℕ → Turn → Progress V → Result (Progress V) CertError
-  after_height height (turns.Height more address routine) p = do
-    _ ← need (nat_le height MAX_HEIGHT) errors.Limit
-    Ok (before_values (locals_of p.content.routines routine + height) more (record { address = address; routine = routine; locals = locals_of p.content.routines routine; height = height }) p)
-  after_height height _ p = Err errors.Order
+  after_height byte (turns.Height more address routine) p = do
+    _ ← need (nat_le (height_in p.content.marking byte) MAX_HEIGHT) errors.Limit
+    Ok (before_values (locals_of p.content.routines routine + height_in p.content.marking byte) more (header_of p address routine byte) p)
+  after_height byte _ p = Err errors.Order
 
   abbrev pub after_value : V → Turn → Progress V → Result (Progress V) CertError
   after_value v (turns.Value more h left) p = Ok (before_values left more h (record p { values = p.values ++ v ∷ [] }))
@@ -250,7 +257,7 @@ abbrev pub Adds : {V : Type 0} → Progress V → Field V → Type 0
 Adds p (fields.RangeLast n) = Unit {0}
 Adds p (fields.Global v) = Unit {0}
 Adds p (fields.RoutineResult v) = Unit {0}
-Adds p (fields.Height n) = HasNoValues p.content.routines p.turn n
+Adds p (fields.Height n) = HasNoValues p.content.routines p.turn (height_in p.content.marking n)
 Adds p (fields.Value v) = Unit {0}
 Adds p _ = ⊥
 

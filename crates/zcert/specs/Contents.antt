@@ -1,5 +1,5 @@
 -- How the code keeps instructions: the sets of all of them stand in one list of cells, each instruction's by where they begin.
-use Rattle.std.specs.Prelude.{◌≡◌, ℕ, ◌+◌, ◌≤◌, List, length, take, drop}
+use Rattle.std.specs.Prelude.{◌≡◌, ℕ, ◌+◌, ◌≤◌, Bool, List, length, take, drop}
 use Rattle.std.specs.List.{AllByRecursion}
 use Rattle.zcert.specs.declared.instructions.Stored.{Stored}
 use Rattle.zcert.specs.Certificate.{Instruction}
@@ -12,6 +12,10 @@ pub record Kept (V : Type 0) : Type 0 where
   pub values : List V
   pub room : ℕ
 
+-- whether what is stored is marked
+abbrev pub has_mark : Stored → Bool
+has_mark s = s.is_marked
+
 module _ {V C : Type 0} (keeping : Keeping V C) where
   -- the sets of one instruction
   abbrev pub values_of : List C → Stored → List V
@@ -19,7 +23,7 @@ module _ {V C : Type 0} (keeping : Keeping V C) where
 
   -- an instruction, with its sets
   abbrev pub stored_instruction : List C → Stored → Instruction V
-  stored_instruction cells s = record { address = s.address; routine = s.routine; locals = take s.locals (values_of cells s); slots = drop s.locals (values_of cells s) }
+  stored_instruction cells s = record { address = s.address; routine = s.routine; is_marked = s.is_marked; locals = take s.locals (values_of cells s); slots = drop s.locals (values_of cells s) }
 
 module _ {V C : Type 0} (format : Format V) (keeping : Keeping V C) where
   -- its sets are kept from where they begin

@@ -1,6 +1,7 @@
 -- The fields of a certificate as bytes, each by itself, and what they make.
-use Rattle.std.specs.Prelude.{◌≡◌, ℕ, ◌<◌, Bool, List, [], ◌∷◌, ◌++◌, length, Result, Ok, Err, IsOk, is_some}
+use Rattle.std.specs.Prelude.{◌≡◌, ℕ, ◌<◌, List, [], ◌∷◌, ◌++◌, length, Result, Ok, Err, IsOk}
 use Rattle.std.specs.List.{flat_map, AllByRecursion}
+use Rattle.zcert.specs.declared.edition.Edition.{Edition}
 use Rattle.zcert.specs.declared.error.CertError.{CertError}
 use Rattle.zcert.specs.declared.error.CertError.TheVariants as errors
 use Rattle.zcert.specs.declared.field.Field.{Field}
@@ -9,7 +10,7 @@ use Rattle.zcert.specs.declared.field.Turn.{Turn}
 use Rattle.zcert.specs.declared.field.Turn.TheVariants as turns
 use Rattle.zcert.specs.Numbers.{number, HasRoom}
 use Rattle.zcert.specs.Numbers as numbers
-use Rattle.zcert.specs.Certificate.{Certificate}
+use Rattle.zcert.specs.Certificate.{Certificate, edition_of}
 use Rattle.zcert.specs.Steps.{◌>>=◌, number_at, serial_at}
 use Rattle.zcert.specs.Format.{Format, IsAllowed}
 use Rattle.zcert.specs.Spelling.{heading}
@@ -90,16 +91,16 @@ module _ {V : Type 0} (format : Format V) where
     q ← taken p f.0
     Ok (q, f.1)
 
-  -- some fields led here from before the first, which may be one of a limit
+  -- some fields led here from before the first
   abbrev pub IsReached : Progress V → Type 0
-  IsReached p = (limited : Bool) × IsAllowed format limited × ((fs : List (Field V)) × AllByRecursion IsField fs × (all_taken (opening limited) fs ≡ Ok p))
+  IsReached p = (edition : Edition) × IsAllowed format edition × ((fs : List (Field V)) × AllByRecursion IsField fs × (all_taken (opening edition) fs ≡ Ok p))
 
   -- these fields, from the first to the last, make the certificate
   pub record Makes (fs : List (Field V)) (c : Certificate V) : Type 0 where
     pub end : Progress V
-    pub allowed : IsAllowed format (is_some c.limit)
+    pub allowed : IsAllowed format (edition_of c)
     pub each : AllByRecursion IsField fs
-    pub led : all_taken (opening (is_some c.limit)) fs ≡ Ok end
+    pub led : all_taken (opening (edition_of c)) fs ≡ Ok end
     pub complete : end.turn ≡ turns.Complete
     pub content : end.content ≡ c
 
@@ -113,14 +114,14 @@ module _ {V : Type 0} (format : Format V) where
 
   -- the bytes begin with the heading and fields that can all be taken, of which the last adds a part
   pub record LeadsToPart (bytes : List ℕ) : Type 0 where
-    pub limited : Bool
-    pub allowed : IsAllowed format limited
+    pub edition : Edition
+    pub allowed : IsAllowed format edition
     pub fields : List (Field V)
     pub last : Field V
     pub rest : List ℕ
     pub each : AllByRecursion IsField (fields ++ last ∷ [])
     pub before : Progress V
-    pub reached : all_taken (opening limited) fields ≡ Ok before
-    pub led : IsOk (all_taken (opening limited) (fields ++ last ∷ []))
+    pub reached : all_taken (opening edition) fields ≡ Ok before
+    pub led : IsOk (all_taken (opening edition) (fields ++ last ∷ []))
     pub adds : Adds before last
-    pub spelled : bytes ≡ heading format limited ++ (flat_map field_bytes (fields ++ last ∷ []) ++ rest)
+    pub spelled : bytes ≡ heading format edition ++ (flat_map field_bytes (fields ++ last ∷ []) ++ rest)

@@ -3,16 +3,18 @@ use Rattle.std.specs.Prelude.{◌≡◌, ℕ, Bool, true, false, List, ◌++◌,
 use Rattle.std.specs.Int.{w16, cast_signed, cast_unsigned}
 use Rattle.zdomain.specs.declared.interval.Interval.{Interval}
 use Rattle.zdomain.specs.Interval.{interval_of}
+use Rattle.zcert.specs.declared.edition.Edition.{Edition}
+use Rattle.zcert.specs.declared.edition.Edition.TheVariants as editions
 use Rattle.zcert.specs.declared.error.CertError.{CertError}
 use Rattle.zcert.specs.declared.error.CertError.TheVariants.{EmptyInterval}
-use Rattle.zcert.specs.declared.limits.TheConstants.{VERSION, LIMIT_VERSION}
+use Rattle.zcert.specs.declared.limits.TheConstants.{VERSION, LIMIT_VERSION, MARK_VERSION}
 use Rattle.zcert.specs.Numbers.{End, number}
 use Rattle.zcert.specs.Steps.{◌>>=◌, number_at}
 
 pub record Format (V : Type 0) : Type 1 where
   -- the version byte
   pub version : ℕ
-  -- whether certificates of such sets may name a limit of frames, and then are of a version of their own
+  -- whether certificates of such sets may name a limit of frames, and mark instructions then; both are of versions of their own
   pub limited : Bool
   -- the bytes of a set
   pub spelled : V → List ℕ
@@ -21,15 +23,17 @@ pub record Format (V : Type 0) : Type 1 where
   -- the set has a spelling
   pub Has : V → Type 0
 
--- the version byte of certificates that name a limit of frames, or none
-abbrev pub version_of : {V : Type 0} → Format V → Bool → ℕ
-version_of format false = format.version
-version_of format true = LIMIT_VERSION
+-- the version byte of an edition
+abbrev pub version_of : {V : Type 0} → Format V → Edition → ℕ
+version_of format editions.Plain = format.version
+version_of format editions.Limited = LIMIT_VERSION
+version_of format editions.Marking = MARK_VERSION
 
--- a limit may be named, if one is
-abbrev pub IsAllowed : {V : Type 0} → Format V → Bool → Type 0
-IsAllowed format false = ⊤
-IsAllowed format true = format.limited ≡ true
+-- there is one for such sets
+abbrev pub IsAllowed : {V : Type 0} → Format V → Edition → Type 0
+IsAllowed format editions.Plain = ⊤
+IsAllowed format editions.Limited = format.limited ≡ true
+IsAllowed format editions.Marking = format.limited ≡ true
 
 -- the interval between two ends
 abbrev pub nonempty : Option Interval → Result Interval CertError

@@ -1,5 +1,7 @@
 pub mod Numbers
+pub mod Editions
 pub mod Certificate
+pub mod Marks
 pub mod Steps
 pub mod Format
 pub mod Lists

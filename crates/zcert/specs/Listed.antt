@@ -20,4 +20,4 @@ Finds is address answer = MatchOption answer (listed_at is address ≡ None) (λ
 
 -- an instruction that is lent, as what it says
 abbrev pub seen : {V : Type 0} → Borrowed V → Instruction V
-seen i = record { address = i.address; routine = i.routine; locals = i.locals.now; slots = i.slots.now }
+seen i = record { address = i.address; routine = i.routine; is_marked = i.is_marked; locals = i.locals.now; slots = i.slots.now }

@@ -1,13 +1,17 @@
 -- Reading a certificate field by field, with the first wrong one. At a field the cut comes first, then the lowest number.
 use Rattle.std.specs.Prelude.{ℕ, zero, suc, ◌+◌, Bool, true, false, ◌&&◌, List, [], ◌∷◌, length, take, drop, Option, None, Some, Result, Ok, Err, nat_lt, nat_le, ◌==◌}
 use Rattle.zstory.specs.declared.identity.Identity.{Identity}
+use Rattle.zcert.specs.declared.edition.Edition.{Edition}
+use Rattle.zcert.specs.declared.edition.Edition.TheVariants as editions
 use Rattle.zcert.specs.declared.error.CertError.{CertError}
 use Rattle.zcert.specs.declared.error.CertError.TheVariants as errors
 use Rattle.zcert.specs.declared.parts.Range.{Range}
 use Rattle.zcert.specs.declared.parts.Routine.{Routine}
-use Rattle.zcert.specs.declared.limits.TheConstants.{MAGIC, GLOBALS, ADDRESS_LIMIT, MAX_LOCALS, MAX_INSTRUCTIONS, MAX_RANGES, MAX_ROUTINES, MAX_HEIGHT, MAX_FRAMES, LIMIT_VERSION}
+use Rattle.zcert.specs.declared.limits.TheConstants.{MAGIC, GLOBALS, ADDRESS_LIMIT, MAX_LOCALS, MAX_INSTRUCTIONS, MAX_RANGES, MAX_ROUTINES, MAX_HEIGHT, MAX_FRAMES, LIMIT_VERSION, MARK_VERSION}
 use Rattle.zcert.specs.Numbers as numbers
+use Rattle.zcert.specs.Editions.{is_limited, is_marking}
 use Rattle.zcert.specs.Certificate.{Instruction, Certificate, locals_of}
+use Rattle.zcert.specs.Marks.{is_mark, height_in}
 use Rattle.zcert.specs.Steps.{◌>>=◌, need, number_at, serial_at}
 use Rattle.zcert.specs.Format.{Format}
 
@@ -17,18 +21,19 @@ magic_at bytes = do
   _ ← need (magic.0 == MAGIC) errors.Magic
   Ok magic.1
 
--- whether a certificate names a limit whose version is the one that is plain, or the one for limits, or another
-abbrev pub limited_by : Bool → Bool → Result Bool CertError
-limited_by true limit = Ok false
-limited_by false true = Ok true
-limited_by false false = Err errors.Version
+-- the edition of which the version is, by whether that is the plain one, the one for limits, and the one for marks
+abbrev pub edition_where : Bool → Bool → Bool → Result Edition CertError
+edition_where true limit mark = Ok editions.Plain
+edition_where false true mark = Ok editions.Limited
+edition_where false false true = Ok editions.Marking
+edition_where false false false = Err errors.Version
 
--- the version of a certificate of such sets, by which a limit is named or isn't
-unfoldable pub version_at : {V : Type 0} → Format V → List ℕ → Result (Bool × List ℕ) CertError
+-- the version of a certificate of such sets
+unfoldable pub version_at : {V : Type 0} → Format V → List ℕ → Result (Edition × List ℕ) CertError
 version_at format bytes = do
   found ← number_at numbers.Version bytes
-  limited ← limited_by (found.0 == format.version) (format.limited && (found.0 == LIMIT_VERSION))
-  Ok (limited, found.1)
+  edition ← edition_where (found.0 == format.version) (format.limited && (found.0 == LIMIT_VERSION)) (format.limited && (found.0 == MARK_VERSION))
+  Ok (edition, found.1)
 
 unfoldable pub identity_at : List ℕ → Result (Identity × List ℕ) CertError
 identity_at bytes = do
@@ -39,7 +44,7 @@ identity_at bytes = do
   Ok (record { release = release.0; serial = serial.0; checksum = checksum.0; length = loaded.0 }, loaded.1)
 
 -- magic and version
-unfoldable pub heading_at : {V : Type 0} → Format V → List ℕ → Result (Bool × List ℕ) CertError
+unfoldable pub heading_at : {V : Type 0} → Format V → List ℕ → Result (Edition × List ℕ) CertError
 heading_at format bytes = do
   rest ← magic_at bytes
   version_at format rest
@@ -112,30 +117,30 @@ module _ {V : Type 0} (format : Format V) where
     _ ← need (nat_le count.0 MAX_ROUTINES) errors.Limit
     routines_at count.0 0 count.1
 
-  -- an instruction, with a set for each local of its routine and then for each slot
-  unfoldable pub instruction_at : List (Routine V) → ℕ → List ℕ → Result (Instruction V × List ℕ) CertError
-  instruction_at routines floor bytes = do
+  -- an instruction, which may be marked or not, with a set for each local of its routine and then for each slot
+  unfoldable pub instruction_at : Bool → List (Routine V) → ℕ → List ℕ → Result (Instruction V × List ℕ) CertError
+  instruction_at marking routines floor bytes = do
     address ← number_at numbers.InstructionAddress bytes
     _ ← address_fits floor address.0
     routine ← number_at numbers.RoutineNumber address.1
     _ ← need (nat_le routine.0 (length routines)) errors.Limit
     height ← number_at numbers.Height routine.1
-    _ ← need (nat_le height.0 MAX_HEIGHT) errors.Limit
-    values ← values_at (locals_of routines routine.0 + height.0) height.1
-    Ok (record { address = address.0; routine = routine.0; locals = take (locals_of routines routine.0) values.0; slots = drop (locals_of routines routine.0) values.0 }, values.1)
+    _ ← need (nat_le (height_in marking height.0) MAX_HEIGHT) errors.Limit
+    values ← values_at (locals_of routines routine.0 + height_in marking height.0) height.1
+    Ok (record { address = address.0; routine = routine.0; is_marked = is_mark marking height.0; locals = take (locals_of routines routine.0) values.0; slots = drop (locals_of routines routine.0) values.0 }, values.1)
 
-  unfoldable pub instructions_at : List (Routine V) → ℕ → ℕ → List ℕ → Result (List (Instruction V) × List ℕ) CertError
-  instructions_at routines zero floor bytes = Ok ([], bytes)
-  instructions_at routines (suc n) floor bytes = do
-    i ← instruction_at routines floor bytes
-    is ← instructions_at routines n (i.0.address + 1) i.1
+  unfoldable pub instructions_at : Bool → List (Routine V) → ℕ → ℕ → List ℕ → Result (List (Instruction V) × List ℕ) CertError
+  instructions_at marking routines zero floor bytes = Ok ([], bytes)
+  instructions_at marking routines (suc n) floor bytes = do
+    i ← instruction_at marking routines floor bytes
+    is ← instructions_at marking routines n (i.0.address + 1) i.1
     Ok (i.0 ∷ is.0, is.1)
 
-  unfoldable pub all_instructions_at : List (Routine V) → List ℕ → Result (List (Instruction V) × List ℕ) CertError
-  all_instructions_at routines bytes = do
+  unfoldable pub all_instructions_at : Bool → List (Routine V) → List ℕ → Result (List (Instruction V) × List ℕ) CertError
+  all_instructions_at marking routines bytes = do
     count ← number_at numbers.InstructionCount bytes
     _ ← need (nat_le count.0 MAX_INSTRUCTIONS) errors.Limit
-    instructions_at routines count.0 0 count.1
+    instructions_at marking routines count.0 0 count.1
 
   -- nothing follows
   unfoldable pub at_end : Certificate V → List ℕ → Result (Certificate V) CertError
@@ -143,15 +148,15 @@ module _ {V : Type 0} (format : Format V) where
   at_end c (b ∷ bytes) = Err errors.Trailing
 
   -- what follows magic and version
-  unfoldable pub fields_at : Bool → List ℕ → Result (Certificate V) CertError
-  fields_at limited bytes = do
+  unfoldable pub fields_at : Edition → List ℕ → Result (Certificate V) CertError
+  fields_at edition bytes = do
     identity ← identity_at bytes
-    limit ← limit_at limited identity.1
+    limit ← limit_at (is_limited edition) identity.1
     ranges ← all_ranges_at limit.1
     globals ← values_at GLOBALS ranges.1
     routines ← all_routines_at globals.1
-    instructions ← all_instructions_at routines.0 routines.1
-    at_end (record { identity = identity.0; limit = limit.0; ranges = ranges.0; globals = globals.0; routines = routines.0; instructions = instructions.0 }) instructions.1
+    instructions ← all_instructions_at (is_marking edition) routines.0 routines.1
+    at_end (record { identity = identity.0; limit = limit.0; marking = is_marking edition; ranges = ranges.0; globals = globals.0; routines = routines.0; instructions = instructions.0 }) instructions.1
 
   -- the certificate that all of the bytes spell, or the first wrong field
   unfoldable pub reading : List ℕ → Result (Certificate V) CertError

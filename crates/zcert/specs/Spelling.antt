@@ -1,14 +1,16 @@
 -- The one spelling of a certificate, and which certificates have one.
-use Rattle.std.specs.Prelude.{◌≡◌, ℕ, ◌+◌, ◌<◌, ◌≤◌, Bool, true, List, [], ◌∷◌, ◌++◌, length, Option, None, Some, is_some, ⊤}
+use Rattle.std.specs.Prelude.{◌≡◌, ℕ, ◌+◌, ◌<◌, ◌≤◌, Bool, true, false, List, [], ◌∷◌, ◌++◌, length, Option, None, Some, ⊤}
 use Rattle.std.specs.List.{flat_map, AllByRecursion}
 use Rattle.zstory.specs.declared.identity.Identity.{Identity}
+use Rattle.zcert.specs.declared.edition.Edition.{Edition}
 use Rattle.zcert.specs.declared.parts.Range.{Range}
 use Rattle.zcert.specs.declared.parts.Routine.{Routine}
 use Rattle.zcert.specs.declared.limits.TheConstants.{MAGIC, GLOBALS, ADDRESS_LIMIT, MAX_LOCALS, MAX_INSTRUCTIONS, MAX_RANGES, MAX_ROUTINES, MAX_HEIGHT, MAX_FRAMES}
 use Rattle.zcert.specs.Numbers.{Number, number, HasRoom}
 use Rattle.zcert.specs.Numbers as numbers
-use Rattle.zcert.specs.Certificate.{Instruction, Certificate, locals_of}
-use Rattle.zcert.specs.Format.{Format, version_of, IsAllowed}
+use Rattle.zcert.specs.Certificate.{Instruction, Certificate, locals_of, edition_of}
+use Rattle.zcert.specs.Marks.{height_byte, IsMarkable}
+use Rattle.zcert.specs.Format.{Format, version_of}
 
 abbrev pub identity_bytes : Identity → List ℕ
 identity_bytes i =
@@ -35,16 +37,16 @@ module _ {V : Type 0} (format : Format V) where
 
   abbrev pub instruction_bytes : Instruction V → List ℕ
   instruction_bytes i =
-      number numbers.InstructionAddress i.address ++ number numbers.RoutineNumber i.routine ++ number numbers.Height (length i.slots) ++ values_bytes (i.locals ++ i.slots)
+      number numbers.InstructionAddress i.address ++ number numbers.RoutineNumber i.routine ++ number numbers.Height (height_byte i.is_marked (length i.slots)) ++ values_bytes (i.locals ++ i.slots)
 
-  -- what stands before the fields, one of which is a limit or isn't
-  abbrev pub heading : Bool → List ℕ
-  heading limited = number numbers.Magic MAGIC ++ number numbers.Version (version_of format limited)
+  -- what stands before the fields
+  abbrev pub heading : Edition → List ℕ
+  heading edition = number numbers.Magic MAGIC ++ number numbers.Version (version_of format edition)
 
   -- the bytes of a certificate, in the order of its fields
   abbrev pub spelling : Certificate V → List ℕ
   spelling c =
-      heading (is_some c.limit)
+      heading (edition_of c)
       ++ identity_bytes c.identity
       ++ limit_bytes c.limit
       ++ counted numbers.RangeCount range_bytes c.ranges
@@ -77,6 +79,11 @@ Rise address floor (x ∷ xs) = (floor ≤ address x) × Rise address (address x
 abbrev pub InstructionsRise : {V : Type 0} → List (Instruction V) → Type 0
 InstructionsRise {V} is = Rise (λ (i : Instruction V). i.address) 0 is
 
+-- what may mark instructions names a limit of frames
+abbrev pub MayMark : Option ℕ → Bool → Type 0
+MayMark None marking = marking ≡ false
+MayMark (Some n) marking = ⊤
+
 module _ {V : Type 0} (format : Format V) where
   pub record IsRoutine (r : Routine V) : Type 0 where
     pub address : r.address < ADDRESS_LIMIT
@@ -101,6 +108,7 @@ module _ {V : Type 0} (format : Format V) where
   pub record HasSpelling (c : Certificate V) : Type 0 where
     pub identity : IsIdentity c.identity
     pub limit : IsLimit c.limit
+    pub marking : MayMark c.limit c.marking
     pub few_ranges : length c.ranges ≤ MAX_RANGES
     pub ranges : AllByRecursion IsRange c.ranges
     pub ranges_apart : AreApart 0 c.ranges
@@ -112,3 +120,4 @@ module _ {V : Type 0} (format : Format V) where
     pub few_instructions : length c.instructions ≤ MAX_INSTRUCTIONS
     pub instructions : AllByRecursion (IsInstruction c.routines) c.instructions
     pub instructions_rise : InstructionsRise c.instructions
+    pub instructions_markable : AllByRecursion (IsMarkable c.marking) c.instructions

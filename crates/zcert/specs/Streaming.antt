@@ -1,6 +1,8 @@
 -- A certificate that comes in pieces: how far it has come, by the bytes that were fed so far.
-use Rattle.std.specs.Prelude.{◌≡◌, ◌⊎◌, ℕ, ◌<◌, Bool, false, List, [], ◌++◌, length, Option, None, Some, Result, Ok, Err, ⊤}
+use Rattle.std.specs.Prelude.{◌≡◌, ◌⊎◌, ℕ, ◌<◌, List, [], ◌++◌, length, Option, None, Some, Result, Ok, Err, ⊤}
 use Rattle.std.specs.List.{flat_map, AllByRecursion}
+use Rattle.zcert.specs.declared.edition.Edition.{Edition}
+use Rattle.zcert.specs.declared.edition.Edition.TheVariants as editions
 use Rattle.zcert.specs.declared.error.CertError.{CertError}
 use Rattle.zcert.specs.declared.error.CertError.TheVariants as errors
 use Rattle.zcert.specs.declared.field.Field.{Field}
@@ -31,7 +33,7 @@ pub record Stream (V : Type 0) : Type 0 where
 
 -- before the first byte
 abbrev pub unfed : {V : Type 0} → Stream V
-unfed = record { stage = stages.Magic; progress = opening false; kept = []; refused = None }
+unfed = record { stage = stages.Magic; progress = opening editions.Plain; kept = []; refused = None }
 
 module _ {V : Type 0} (format : Format V) where
   -- the bytes of the field whose turn it is are cut off; where none comes, there are none
@@ -47,17 +49,17 @@ module _ {V : Type 0} (format : Format V) where
 
   -- the bytes are the heading, fields that could all be taken and led here, and the rest
   pub record FieldsLead (p : Progress V) (bytes rest : List ℕ) : Type 0 where
-    pub limited : Bool
-    pub allowed : IsAllowed format limited
+    pub edition : Edition
+    pub allowed : IsAllowed format edition
     pub fields : List (Field V)
     pub each : AllByRecursion (IsField format) fields
-    pub led : all_taken (opening limited) fields ≡ Ok p
-    pub spelled : bytes ≡ heading format limited ++ (flat_map (field_bytes format) fields ++ rest)
+    pub led : all_taken (opening edition) fields ≡ Ok p
+    pub spelled : bytes ≡ heading format edition ++ (flat_map (field_bytes format) fields ++ rest)
 
   -- the bytes are what comes before this stage, and the rest
   abbrev pub Leads : Stage → Progress V → List ℕ → List ℕ → Type 0
-  Leads stages.Magic p bytes rest = (bytes ≡ rest) × (p ≡ opening false)
-  Leads stages.Version p bytes rest = (bytes ≡ number numbers.Magic MAGIC ++ rest) × (p ≡ opening false)
+  Leads stages.Magic p bytes rest = (bytes ≡ rest) × (p ≡ opening editions.Plain)
+  Leads stages.Version p bytes rest = (bytes ≡ number numbers.Magic MAGIC ++ rest) × (p ≡ opening editions.Plain)
   Leads stages.Field p bytes rest = FieldsLead p bytes rest
 
   -- what the next number of a field led to: the field is whole and is taken, or it is a set that isn't whole yet

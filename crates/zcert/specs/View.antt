@@ -11,6 +11,7 @@ abbrev pub content_of : {V P C R : Type 0} → Contents V P C R → Certificate 
 content_of c = record {
   identity = c.identity;
   limit = c.limit;
+  marking = c.marking;
   ranges = c.ranges.items;
   globals = c.globals.items;
   routines = c.routines.items;

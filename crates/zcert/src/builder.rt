@@ -1,12 +1,14 @@
 //! Making a certificate field by field.
 
-ghost use Rattle.std.specs.Prelude.{◌≡◌, ◌≢◌, ◌↔◌, false, true, IsTrue, OnOk, OnErr, IfOk, IfErr, Ok, Err};
+ghost use Rattle.std.specs.Prelude.{◌≡◌, ◌≢◌, ◌↔◌, true, IsTrue, OnOk, OnErr, IfOk, IfErr, Ok, Err};
+ghost use Rattle.zcert.specs.declared.edition.Edition.TheVariants as editions;
 ghost use Rattle.zcert.specs.Building.{opening, taken, Adds};
 ghost use Rattle.zcert.specs.Format.{IsAllowed};
 ghost use Rattle.zcert.specs.View.{RefusesField};
 
 use crate::building::Building;
 use crate::certificate::Certificate;
+use crate::edition::Edition;
 use crate::error::CertError;
 use crate::field::{Field, Turn};
 use crate::spelled::Spelled;
@@ -36,32 +38,40 @@ impl<V: Spelled> Model for CertBuilder<V> {
 impl<V: Spelled> CertBuilder<V> {
     /// A builder before the first field of a certificate that names no limit of frames.
     pub fn new(alloc: Global) -> CertBuilder<V>
-        ensures { result ≡ opening false }
+        ensures { result ≡ opening editions.Plain }
     {
         CertBuilder {
-            building: Building::new(alloc),
+            building: Building::new(alloc, Edition::Plain),
         }
     }
 
     /// A builder before the first field of one that does, behind the loaded length.
     pub fn limited(alloc: Global) -> CertBuilder<V>
         requires { V.format.limited ≡ true }
-        ensures { result ≡ opening true }
+        ensures { result ≡ opening editions.Limited }
     {
-        let mut building = Building::new(alloc);
-        building.name_limit();
-        CertBuilder { building }
+        CertBuilder {
+            building: Building::new(alloc, Edition::Limited),
+        }
+    }
+
+    /// A builder before the first field of one that does, and may mark instructions: by bit 7 of the byte that a height is given as.
+    pub fn marking(alloc: Global) -> CertBuilder<V>
+        requires { V.format.limited ≡ true }
+        ensures { result ≡ opening editions.Marking }
+    {
+        CertBuilder {
+            building: Building::new(alloc, Edition::Marking),
+        }
     }
 
     /// The one of these that a version has.
-    pub(crate) fn of_version(alloc: Global, limited: bool) -> CertBuilder<V>
-        requires { IsAllowed V.format limited }
-        ensures { result ≡ opening limited }
+    pub(crate) fn of_version(alloc: Global, edition: Edition) -> CertBuilder<V>
+        requires { IsAllowed V.format edition }
+        ensures { result ≡ opening edition }
     {
-        if limited {
-            CertBuilder::limited(alloc)
-        } else {
-            CertBuilder::new(alloc)
+        CertBuilder {
+            building: Building::new(alloc, edition),
         }
     }
 

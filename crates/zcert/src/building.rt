@@ -1,10 +1,12 @@
 //! A certificate in the making: where each field leads.
 
 use crate::contents::Contents;
+use crate::edition::Edition;
 use crate::error::CertError;
 use crate::field::{Field, Header, Turn};
 use crate::instructions::Instructions;
 use crate::limits::{ADDRESS_LIMIT, MAX_FRAMES, MAX_HEIGHT, MAX_INSTRUCTIONS, MAX_LOCALS};
+use crate::marks::{height_in, is_mark};
 use crate::parts::{Range, Routine};
 use crate::spelled::Spelled;
 use crate::turns::{
@@ -24,16 +26,17 @@ pub struct Building<V: Spelled> {
 
 // Each takes one kind of field. Out of turn it is out of order; a field that is refused changes nothing.
 impl<V: Spelled> Building<V> {
-    ghost use Rattle.std.specs.Prelude.{◌≡◌, ◌≢◌, ◌+◌, ◌<◌, Err, false, true, length};
+    ghost use Rattle.std.specs.Prelude.{◌≡◌, ◌≢◌, ◌+◌, ◌<◌, Err, length};
     ghost use Rattle.zcert.specs.View.{progress_of, Takes};
     ghost use Rattle.zcert.specs.Reading.{address_fits};
     ghost use Rattle.zcert.specs.Certificate.{locals_of};
     ghost use Rattle.zcert.specs.Fields.{IsField};
+    ghost use Rattle.zcert.specs.Marks as spec;
     ghost use Rattle.zcert.specs.Building.{opening, before_values, taken, Adds, HasNoValues, IsDue, after_release, after_serial, after_checksum, after_loaded_length, after_frame_limit, after_range_count, after_range_first, after_range_last, after_global, after_routine_count, after_routine_address, after_local_count, after_routine_result, after_instruction_count, after_instruction_address, after_routine_number, after_height, after_value};
 
-    /// Nothing yet, and no limit of frames.
-    pub fn new(alloc: Global) -> Building<V>
-        ensures { progress_of result ≡ opening false }
+    /// Nothing yet.
+    pub fn new(alloc: Global, edition: Edition) -> Building<V>
+        ensures { progress_of result ≡ opening edition }
     {
         Building {
             contents: Contents {
@@ -43,7 +46,8 @@ impl<V: Spelled> Building<V> {
                     checksum: 0,
                     length: 0,
                 },
-                limit: None,
+                limit: edition.limit(),
+                marking: edition.is_marking(),
                 ranges: Vec::new(alloc),
                 globals: Vec::new(alloc),
                 routines: Vec::new(alloc),
@@ -52,14 +56,6 @@ impl<V: Spelled> Building<V> {
             floor: 0,
             turn: Turn::Release,
         }
-    }
-
-    /// Nothing yet, where a limit is to be named.
-    pub fn name_limit(&mut self)
-        requires { progress_of self.old ≡ opening false }
-        ensures { progress_of self.new ≡ opening true }
-    {
-        self.contents.limit = Some(0);
     }
 
     fn release(&mut self, release: u16) -> Result<(), CertError>
@@ -334,10 +330,10 @@ impl<V: Spelled> Building<V> {
         self.turn = before_instructions(more);
     }
 
-    fn height(&mut self, height: u8) -> Result<(), CertError>
+    fn height(&mut self, byte: u8) -> Result<(), CertError>
         requires { IsDue self.old.turn (progress_of self.old).values }
-        ensures takes { Takes (progress_of self.old) (progress_of self.new) result (after_height height self.old.turn (progress_of self.old)) }
-        ensures memory { result ≡ Err CertError.OutOfMemory → HasNoValues self.old.contents.routines.items self.old.turn height }
+        ensures takes { Takes (progress_of self.old) (progress_of self.new) result (after_height byte self.old.turn (progress_of self.old)) }
+        ensures memory { result ≡ Err CertError.OutOfMemory → HasNoValues self.old.contents.routines.items self.old.turn (spec.height_in self.old.contents.marking byte) }
     {
         let Turn::Height {
             more,
@@ -347,6 +343,7 @@ impl<V: Spelled> Building<V> {
         else {
             return Err(CertError::Order);
         };
+        let height = height_in(self.contents.marking, byte);
         if height > MAX_HEIGHT {
             return Err(CertError::Limit);
         }
@@ -360,6 +357,7 @@ impl<V: Spelled> Building<V> {
             routine,
             locals,
             height,
+            is_marked: is_mark(self.contents.marking, byte),
         };
         self.await_values(left, more, header);
         Ok(())
@@ -410,7 +408,7 @@ impl<V: Spelled> Building<V> {
             Field::InstructionCount(count) => self.instruction_count(count),
             Field::InstructionAddress(address) => self.instruction_address(address),
             Field::RoutineNumber(routine) => self.routine_number(routine),
-            Field::Height(height) => self.height(height),
+            Field::Height(byte) => self.height(byte),
             Field::Value(values) => {
                 values.has_spelling();
                 self.value(values)

@@ -1,11 +1,12 @@
 //! A certificate as it is used.
 
-ghost use Rattle.std.specs.Prelude.{◌≡◌, ◌<◌, ◌≤◌, is_some, length, slice_get, true, IfSome, Some};
+ghost use Rattle.std.specs.Prelude.{◌≡◌, ◌<◌, ◌≤◌, length, slice_get, true, IfSome, Some};
 ghost use Rattle.std.specs.Option.{option_map};
-ghost use Rattle.zcert.specs.Certificate.{frame_limit};
+ghost use Rattle.zcert.specs.Certificate.{edition_of, frame_limit};
 ghost use Rattle.zcert.specs.Format.{version_of};
 ghost use Rattle.zcert.specs.Spelling.{HasSpelling};
 ghost use Rattle.zcert.specs.Listed.{Finds, listed_at, routine_at, seen};
+ghost use Rattle.zcert.specs.Marks.{marks};
 
 use crate::contents::Contents;
 use crate::limits::USUAL_FRAMES;
@@ -62,10 +63,10 @@ impl<V: Spelled> Certificate<V> {
 
     /// The version of the format in which it is written.
     pub fn version(&self) -> u8
-        ensures value { result ≡ version_of V.format (is_some self.now.limit) }
+        ensures value { result ≡ version_of V.format (edition_of self.now) }
         ensures keeps { HasSpelling V.format self.now }
     {
-        version_of::<V>(self.contents.limit)
+        version_of::<V>(self.contents.edition())
     }
 
     /// The limit of frames that it names, if it names one.
@@ -143,6 +144,14 @@ impl<V: Spelled> Certificate<V> {
         self.contents.instructions.count()
     }
 
+    /// How many of them are marked. The count takes as many steps as instructions are listed.
+    pub fn marks(&self) -> usize
+        ensures value { result ≡ marks self.now.instructions }
+        ensures keeps { HasSpelling V.format self.now }
+    {
+        self.contents.instructions.marks()
+    }
+
     /// The listed instruction of an index, in the order of their addresses. Its sets are lent, or made in the room.
     pub fn instruction<'a>(&'a self, index: usize, room: &'a mut V::Room) -> Instruction<'a, V>
         requires { index < length self.now.instructions }
@@ -165,6 +174,15 @@ impl<V: Spelled> Certificate<V> {
         ensures keeps { HasSpelling V.format self.now }
     {
         self.contents.instructions.address_of(index)
+    }
+
+    /// Whether the listed instruction of an index is marked.
+    pub fn is_marked(&self, index: usize) -> bool
+        requires { index < length self.now.instructions }
+        ensures value { IfSome (slice_get self.now.instructions index) (λ i. i.is_marked ≡ result) }
+        ensures keeps { HasSpelling V.format self.now }
+    {
+        self.contents.instructions.is_marked(index)
     }
 
     /// The index of the instruction that is listed at an address, if one is. The search takes as many steps as the count of

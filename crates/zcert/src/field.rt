@@ -39,7 +39,7 @@ pub enum Field<V> {
     InstructionAddress(u32),
     /// The number of its routine, from 1 on, or 0 for the main code.
     RoutineNumber(u16),
-    /// How many slots the stack of its frame has before it.
+    /// How many slots the stack of its frame has before it, and where a certificate may mark instructions the mark in bit 7.
     Height(u8),
     /// The values of a local, or, after the locals, of a slot, the bottom first.
     Value(V),
@@ -67,6 +67,8 @@ pub struct Header {
     pub locals: u8,
     /// How many slots the stack has there.
     pub height: u8,
+    /// Whether it is marked.
+    pub is_marked: bool,
 }
 
 /// The field that comes next, with what is known of an unfinished part. `more` counts what follows after the part that

@@ -1,8 +1,11 @@
 //! How the instructions of a certificate are kept.
 
 ghost use Rattle.std.specs.Prelude.{◌≡◌, ◌+◌, ◌<◌, ◌++◌, ◌∷◌, [], ◌≤◌, IfSome, OnOk, OnErr, Some, length, slice_get};
+ghost use Rattle.std.specs.List.{filter};
 ghost use Rattle.zcert.specs.Building.{instruction_of};
+ghost use Rattle.zcert.specs.Contents.{has_mark};
 ghost use Rattle.zcert.specs.Listed.{seen, Finds};
+ghost use Rattle.zcert.specs.Marks.{marks};
 ghost use Rattle.zcert.specs.Spelling.{InstructionsRise};
 
 use crate::field::Header;
@@ -18,6 +21,7 @@ pub struct Stored {
     pub routine: u16,
     pub locals: u8,
     pub height: u8,
+    pub is_marked: bool,
     pub start: usize,
 }
 
@@ -39,6 +43,13 @@ impl<V: Spelled> Model for Instructions<V> {
     ghost view = { λ k. record { instructions = map (stored_instruction V.keeping k.cells.items) k.stored.items; values = V.keeping.sets k.came (drop k.start k.cells.items); room = vec_capacity k.stored - vec_len k.stored } };
 
     ghost invariant = { λ k. AreHeld V.format V.keeping k.stored.items k.cells.items k.start k.came };
+}
+
+// How many are marked.
+fn marks_of(stored: &[Stored]) -> usize
+    ensures { result ≡ length (filter has_mark stored.now) }
+{
+    stored.iter().filter(|stored| stored.is_marked).count()
 }
 
 impl<V: Spelled> Instructions<V> {
@@ -98,6 +109,7 @@ impl<V: Spelled> Instructions<V> {
             routine: header.routine,
             locals: header.locals,
             height: header.height,
+            is_marked: header.is_marked,
             start: self.start,
         });
     }
@@ -127,6 +139,7 @@ impl<V: Spelled> Instructions<V> {
         Instruction {
             address: stored.address,
             routine: stored.routine,
+            is_marked: stored.is_marked,
             locals,
             slots,
         }
@@ -138,6 +151,21 @@ impl<V: Spelled> Instructions<V> {
         ensures { IfSome (slice_get self.now.instructions index) (λ i. i.address ≡ result) }
     {
         self.stored[index].address
+    }
+
+    /// Whether the instruction of an index is marked.
+    pub fn is_marked(&self, index: usize) -> bool
+        requires { index < length self.now.instructions }
+        ensures { IfSome (slice_get self.now.instructions index) (λ i. i.is_marked ≡ result) }
+    {
+        self.stored[index].is_marked
+    }
+
+    /// How many are marked.
+    pub fn marks(&self) -> usize
+        ensures { result ≡ marks self.now.instructions }
+    {
+        marks_of(&self.stored)
     }
 
     /// The index of the instruction that is listed at an address, if one is.

@@ -1,9 +1,9 @@
 //! What holds of all certificates: each function here is empty, and its contract is a law.
 
-ghost use Rattle.std.specs.Prelude.{◌≡◌, ◌++◌, is_some, List, Ok};
+ghost use Rattle.std.specs.Prelude.{◌≡◌, ◌++◌, List, Ok};
 ghost use Rattle.std.specs.List.{flat_map};
 ghost use Rattle.zcert.specs.declared.field.Field.{Field};
-ghost use Rattle.zcert.specs.Certificate.{Certificate};
+ghost use Rattle.zcert.specs.Certificate.{Certificate, edition_of};
 ghost use Rattle.zcert.specs.Spelling.{heading, spelling, HasSpelling};
 ghost use Rattle.zcert.specs.Reading.{reading};
 ghost use Rattle.zcert.specs.Fields.{field_bytes, Makes};
@@ -21,7 +21,7 @@ pub fn spellings_are_read<V: Spelled>()
 /// certificate is made by some fields.
 pub fn fields_make_certificates<V: Spelled>()
     ensures spelled { (fs : List (Field V)) (c : Certificate V) → Makes V.format fs c →
-        HasSpelling V.format c × (spelling V.format c ≡ heading V.format (is_some c.limit) ++ flat_map (field_bytes V.format) fs) }
+        HasSpelling V.format c × (spelling V.format c ≡ heading V.format (edition_of c) ++ flat_map (field_bytes V.format) fs) }
     ensures each { (c : Certificate V) → HasSpelling V.format c → (fs : List (Field V)) × Makes V.format fs c }
 {}
 

@@ -12,6 +12,12 @@ pub const LIST_VERSION: u8 = 2;
 /// The version in which it is so too, and a limit of frames is named.
 pub const LIMIT_VERSION: u8 = 3;
 
+/// The version in which instructions may be marked besides.
+pub const MARK_VERSION: u8 = 4;
+
+/// The mark of an instruction: bit 7 of the byte of its height.
+pub const MARK: u8 = 0x80;
+
 /// How many globals there are, from variable 16 on (Z 6.2).
 pub const GLOBALS: u8 = 240;
 

@@ -9,9 +9,10 @@ ghost use Rattle.zcert.specs.Streaming.{GoesOn};
 ghost use Rattle.zcert.specs.View.{Gives, Refuses};
 
 use crate::builder::CertBuilder;
+use crate::edition::Edition;
 use crate::error::CertError;
 use crate::field::{Field, Turn};
-use crate::limits::{LIMIT_VERSION, MAGIC};
+use crate::limits::{LIMIT_VERSION, MAGIC, MARK_VERSION};
 use crate::spelled::Spelled;
 use crate::steps::{byte_of, long_of, serial_of, word_of};
 
@@ -27,19 +28,22 @@ pub(crate) fn magic_of(number: &[u8]) -> Result<(), CertError>
     Ok(())
 }
 
-// Whether it is the version of certificates that name a limit of frames, or that of the others.
+// Which of the versions of such sets it is.
 #[tactic(auto, unfolding(crate::specs::Reading::version_at))]
-pub(crate) fn version_of<V: Spelled>(number: &[u8]) -> Result<bool, CertError>
+pub(crate) fn version_of<V: Spelled>(number: &[u8]) -> Result<Edition, CertError>
     requires { length number.now ≡ 1 }
-    ensures value { Gives (λ limited. (limited, [])) result (version_at V.format number.now) }
+    ensures value { Gives (λ edition. (edition, [])) result (version_at V.format number.now) }
     ensures allowed { IfOk result (IsAllowed V.format) }
 {
     let version = byte_of(number);
     if version == V::version() {
-        return Ok(false);
+        return Ok(Edition::Plain);
     }
     if V::limited() && version == LIMIT_VERSION {
-        return Ok(true);
+        return Ok(Edition::Limited);
+    }
+    if V::limited() && version == MARK_VERSION {
+        return Ok(Edition::Marking);
     }
     Err(CertError::Version)
 }

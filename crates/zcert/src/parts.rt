@@ -15,12 +15,14 @@ pub struct Routine<V> {
     pub result: V,
 }
 
-/// What is said of a listed instruction: its address, the number of its routine, from 1 on, or 0 for the main code, and the
-/// values that each local and each slot of the stack may have before it, the bottom slot first.
+/// What is said of a listed instruction: its address, the number of its routine, from 1 on, or 0 for the main code, whether it is
+/// marked, so that its rules aren't asked and it is tested in play, and the values that each local and each slot of the stack may have
+/// before it, the bottom slot first.
 #[derive(Clone, Copy, Debug)]
 pub struct Instruction<'a, V> {
     pub address: u32,
     pub routine: u16,
+    pub is_marked: bool,
     pub locals: &'a [V],
     pub slots: &'a [V],
 }

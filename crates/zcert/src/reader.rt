@@ -1,9 +1,10 @@
 //! How far the file of a certificate has come.
 
-ghost use Rattle.std.specs.Prelude.{◌≡◌, ◌≢◌, ◌+◌, ◌<◌, ◌≤◌, ◌++◌, ℕ, List, [], false, IfOk, IfErr, IfSome, OnOk, Ok, None, length};
+ghost use Rattle.std.specs.Prelude.{◌≡◌, ◌≢◌, ◌+◌, ◌<◌, ◌≤◌, ◌++◌, ℕ, List, [], IfOk, IfErr, IfSome, OnOk, Ok, None, length};
 ghost use Rattle.zcert.specs.Building.{opening};
 ghost use Rattle.zcert.specs.Streaming.{Leads, IsRefusal};
 ghost use Rattle.zcert.specs.Turns.{IsAwaiting, IsPartOf, next_width, field_width};
+ghost use Rattle.zcert.specs.declared.edition.Edition.TheVariants as editions;
 ghost use Rattle.zcert.specs.declared.stage.Stage.{Stage as AStage};
 ghost use Rattle.zcert.specs.declared.stage.Stage.TheVariants as stages;
 
@@ -36,7 +37,7 @@ impl<V: Spelled> Reader<V> {
     /// Before the first byte.
     pub fn new(alloc: Global) -> Reader<V>
         ensures stage { result.stage ≡ stages.Magic }
-        ensures builder { result.builder ≡ opening false }
+        ensures builder { result.builder ≡ opening editions.Plain }
         ensures partial { V.turns.came result.partial ≡ [] }
         ensures kept { result.kept.items ≡ [] }
     {

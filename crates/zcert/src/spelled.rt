@@ -1,17 +1,19 @@
 //! What a kind of sets has to offer, so that certificates can hold them.
 
-ghost use Rattle.std.specs.Prelude.{is_some, ◌≡◌, ◌≢◌, ◌<◌, ◌≤◌, ◌++◌, [], length, IfErr, IfOk, IfSome, None, Ok, Err, OnOk, OnErr};
+ghost use Rattle.std.specs.Prelude.{◌≡◌, ◌≢◌, ◌<◌, ◌≤◌, ◌++◌, [], length, IfErr, IfOk, IfSome, None, Ok, Err, OnOk, OnErr};
 ghost use Rattle.zcert.specs.Format.{Format, version_of};
 ghost use Rattle.zcert.specs.FormatLaw.{IsFormat};
 ghost use Rattle.zcert.specs.Keeping.{Keeping, Holds, AreKept};
 ghost use Rattle.zcert.specs.Turns.{Turns, AreTurns};
 
+use crate::edition::Edition;
 use crate::error::CertError;
-use crate::limits::LIMIT_VERSION;
+use crate::limits::{LIMIT_VERSION, MARK_VERSION};
 use std::alloc::AllocError;
 use zdomain::Domain;
 
-/// Sets of words that a version of the format can write, or two: one in which certificates name no limit of frames, and one in which they do.
+/// Sets of words that a version of the format can write, or three: one in which certificates name no limit of frames, one in which they
+/// do, and one in which they may mark instructions besides.
 ///
 /// Contracts see the format alone, so that what is proved of certificates holds for each kind of sets. A set is read number by number:
 /// what has come of it is kept as a value of the kind's own, so that a reader keeps few bytes wherever a file is cut.
@@ -38,7 +40,7 @@ pub trait Spelled: Domain {
     fn version() -> u8
         ensures { result ≡ format.version };
 
-    /// Whether there is one for those that do.
+    /// Whether there are two for those that do.
     fn limited() -> bool
         ensures { result ≡ format.limited };
 
@@ -106,12 +108,13 @@ pub trait Spelled: Domain {
     ghost are_kept: { AreKept format keeping };
 }
 
-/// The version in which a certificate is written that names this limit of frames, or none.
-pub(crate) fn version_of<V: Spelled>(limit: Option<u16>) -> u8
-    ensures { result ≡ version_of V.format (is_some limit) }
+/// The version of an edition.
+pub(crate) fn version_of<V: Spelled>(edition: Edition) -> u8
+    ensures { result ≡ version_of V.format edition }
 {
-    match limit {
-        Some(_) => LIMIT_VERSION,
-        None => V::version(),
+    match edition {
+        Edition::Plain => V::version(),
+        Edition::Limited => LIMIT_VERSION,
+        Edition::Marking => MARK_VERSION,
     }
 }

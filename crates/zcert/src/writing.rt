@@ -1,6 +1,7 @@
 //! Writing a certificate.
 
-ghost use Rattle.std.specs.Prelude.{◌≡◌, ◌≤◌, ◌++◌, is_some, length, IfOk, OnOk};
+ghost use Rattle.std.specs.Prelude.{◌≡◌, ◌≤◌, ◌++◌, length, IfOk, OnOk};
+ghost use Rattle.zcert.specs.Certificate.{edition_of};
 ghost use Rattle.zcert.specs.Numbers as numbers;
 ghost use Rattle.zcert.specs.Listed.{seen};
 ghost use Rattle.zcert.specs.View.{content_of};
@@ -8,17 +9,19 @@ ghost use Rattle.zcert.specs.Spelling.{identity_bytes, limit_bytes, range_bytes,
 
 use crate::certificate::Certificate;
 use crate::contents::Contents;
+use crate::edition::Edition;
 use crate::limits::{FIXED_BYTES, HEADER_BYTES, LIMIT_BYTES, MAGIC, RANGE_BYTES, ROUTINE_BYTES};
+use crate::marks::height_byte;
 use crate::parts::{Instruction, Range, Routine};
 use crate::spelled::{Spelled, version_of};
 use std::alloc::{AllocError, Global};
 use zstory::Identity;
 
-fn put_heading<V: Spelled>(out: &mut Vec<u8>, limit: Option<u16>) -> Result<(), AllocError>
-    ensures { OnOk result (out.new.items ≡ out.old.items ++ heading V.format (is_some limit)) }
+fn put_heading<V: Spelled>(out: &mut Vec<u8>, edition: Edition) -> Result<(), AllocError>
+    ensures { OnOk result (out.new.items ≡ out.old.items ++ heading V.format edition) }
 {
     out.extend_from_slice(&MAGIC.to_be_bytes())?;
-    out.extend_from_slice(&[version_of::<V>(limit)])
+    out.extend_from_slice(&[version_of::<V>(edition)])
 }
 
 fn put_limit(out: &mut Vec<u8>, limit: Option<u16>) -> Result<(), AllocError>
@@ -94,7 +97,7 @@ fn put_instruction<V: Spelled>(
 {
     out.extend_from_slice(&instruction.address.to_be_bytes())?;
     out.extend_from_slice(&instruction.routine.to_be_bytes())?;
-    out.push(instruction.slots.len() as u8)?;
+    out.push(height_byte(instruction.is_marked, instruction.slots.len() as u8))?;
     put_values(out, instruction.locals)?;
     put_values(out, instruction.slots)
 }
@@ -143,9 +146,9 @@ fn room_for<V: Spelled>(contents: &Contents<V>) -> usize {
 
 // What stands before the ranges.
 fn put_front<V: Spelled>(out: &mut Vec<u8>, contents: &Contents<V>) -> Result<(), AllocError>
-    ensures { OnOk result (out.new.items ≡ out.old.items ++ (heading V.format (is_some contents.now.limit) ++ identity_bytes contents.now.identity ++ limit_bytes contents.now.limit)) }
+    ensures { OnOk result (out.new.items ≡ out.old.items ++ (heading V.format (edition_of (content_of contents.now)) ++ identity_bytes contents.now.identity ++ limit_bytes contents.now.limit)) }
 {
-    put_heading::<V>(out, contents.limit)?;
+    put_heading::<V>(out, contents.edition())?;
     put_identity(out, &contents.identity)?;
     put_limit(out, contents.limit)
 }

@@ -14,7 +14,9 @@ use Rattle.zcert.specs.Spelling.{HasSpelling}
 use Rattle.zstate.specs.State.{Scope, opening, scope_all, scope_only}
 use Rattle.zstate.specs.Run.{Input, run}
 use Rattle.zrule.specs.Claims.{Entry, claims_of, frozen_in}
-use Rattle.zrule.specs.Rules.{Supports}
+use Rattle.zrule.specs.declared.rule.Rule.{Rule}
+use Rattle.zrule.specs.Rules.{Keeps, Supports, SupportsWhere}
+use Rattle.zcheck.specs.declared.refusal.StoryRule.{StoryRule}
 use Rattle.zplace.specs.Bytes.{IsFixed, frozen}
 use Rattle.zrule.specs.Described.{AreFine, Described, IsListedIn, IsLoadedStory, IsNoFault}
 use Rattle.zrule.proofs.Listed.{entry_listed, few_there}
@@ -23,7 +25,7 @@ use Rattle.zrule.proofs.Alike.{run_alike}
 use Rattle.zrule.proofs.Opening.{opening_described}
 use Rattle.zcheck.specs.declared.refusal.StoryRule.TheVariants as rules
 use Rattle.zcheck.specs.Acceptance.{IsRecordOf, IsListingOf, RunsAlike, RunsWithoutFault, RunsWithoutChange, playing_in}
-use Rattle.zcheck.specs.Passes.{Passes}
+use Rattle.zcheck.specs.Passes.{KeepsStory, Passes}
 use Rattle.zcheck.proofs.Heads.{heads_where, routine_there}
 
 module _ {V : Type 0} (o : SetOperations V) (lawful : AreSound o) (format : Format V) (story : LoadedStory) (c : Certificate V) (spelling : HasSpelling format c) where
@@ -35,20 +37,24 @@ module _ {V : Type 0} (o : SetOperations V) (lawful : AreSound o) (format : Form
       let long = length-reverse listed.0.slots in
       subst (λ (f : Entry V). length f.shape.slots ≤ 64) listed.2 (omega (arith, few, long))
 
-  -- a certificate that passes supports its story
-  pub supports_where : Passes o story c → Supports o (claims_of o c) story
-  supports_where passes = record {
-    first = passes.story_rules rules.FirstPlace;
-    heads = heads_where o format story c spelling (passes.story_rules rules.RoutineHeads);
-    values = passes.story_rules rules.FirstGlobals;
+  -- a certificate that passes, but where places may be marked, supports its story there
+  pub supports_but : (marked : ℕ → Bool) → ((rule : StoryRule) → KeepsStory o story c rule) → ((p : ℕ) (e : Entry V) → (claims_of o c).entry p ≡ Some e → marked p ≡ false → (rule : Rule) → Keeps o (claims_of o c) story p e rule) → SupportsWhere o (claims_of o c) marked story
+  supports_but marked story_rules each = record {
+    first = story_rules rules.FirstPlace;
+    heads = heads_where o format story c spelling (story_rules rules.RoutineHeads);
+    values = story_rules rules.FirstGlobals;
     low = low;
     few = let count = spelling.globals in omega (arith, count);
-    properties = passes.story_rules rules.PropertyTables;
-    tree = passes.story_rules rules.Tree;
-    abbreviations = passes.story_rules rules.Abbreviations;
-    tables = passes.story_rules rules.Tables;
-    each = passes.each;
+    properties = story_rules rules.PropertyTables;
+    tree = story_rules rules.Tree;
+    abbreviations = story_rules rules.Abbreviations;
+    tables = story_rules rules.Tables;
+    each = each;
   }
+
+  -- and one that passes supports it everywhere
+  pub supports_where : Passes o story c → Supports o (claims_of o c) story
+  supports_where passes = supports_but (λ p. false) passes.story_rules (λ p e claimed unmarked. passes.each p e claimed)
 
   or_here : (b : Bool) → (true || b) ≡ true
   or_here b = refl
@@ -68,7 +74,7 @@ module _ {V : Type 0} (o : SetOperations V) (lawful : AreSound o) (format : Form
 
   pub lists_where : (listing : ListedCode) → IsListingOf story c listing → IsListedIn o (claims_of o c) (scope_only listing)
   lists_where listing lists = record {
-    places = λ p e claimed.
+    places = λ p e claimed unmarked.
         let listed = entry_listed (listed_at c.instructions p) e claimed in
         record_there c.instructions listing.records lists.records p listed.0 listed.1;
     routines = λ p k found. subst (λ (xs : List ℕ). list_any (λ a. a == p) xs ≡ true) (sym lists.routines) (routine_there c.routines p k found);

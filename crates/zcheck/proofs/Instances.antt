@@ -50,7 +50,7 @@ keeps_story rules.Tables = supports.tables
 
 pub passes : Passes interval_operations story (certificate_at all_listed)
 unfolding all_listed claims claims_at
-passes = record { story_rules = keeps_story; each = supports.each }
+passes = record { story_rules = keeps_story; each = λ p e claimed. supports.each p e claimed refl }
 
 abbreviation : HasAbbreviation story 95
 unfolding story

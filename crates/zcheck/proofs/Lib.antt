@@ -13,3 +13,4 @@ mod Worked
 mod WorkedHeadline
 mod WorkedStreams
 pub mod Instances
+mod Marks

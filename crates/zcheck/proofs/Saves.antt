@@ -87,12 +87,12 @@ module _ {V : Type 0} (o : SetOperations V) (lawful : AreSound o) (format : Form
         let fs : List Frame = map taken_frame (reverse x.saved.frames) in
         let memory : List ℕ = taken_memory a.story x.saved.memory in
         let at : save_place x.saved ≡ pos d.at = sym (place_laid fs _) ∙ d.place in
-        let static = ((supports_where o lawful format a.story a.certificate spelling passes).each d.at d.entry d.listed rules.Decodes).1.static in
+        let static = ((supports_where o lawful format a.story a.certificate spelling passes).each d.at d.entry d.listed refl rules.Decodes).1.static in
         let base = loaded.sound.static_base_above in
-        let in_listing = (lists_where o lawful format a.story a.certificate spelling a.listing lists).places d.at d.entry d.listed in
+        let in_listing = (lists_where o lawful format a.story a.certificate spelling a.listing lists).places d.at d.entry d.listed refl in
         let was : (resumed a.story x.saved x.before).memory ≡ keeping_flags x.before.memory memory = memory_laid fs _ in
         let now : (resumed a.story x.saved s).memory ≡ keeping_flags s.memory memory = memory_laid fs _ in
-        let alike : fetch scope (pos d.at) (keeping_flags s.memory memory) ≡ fetch (scope_only a.listing) (pos d.at) (keeping_flags x.before.memory memory) = fetched_alike (scope_only a.listing) scope d.at s.memory x.before.memory memory (omega (arith, static, base)) in_listing (listed.places d.at d.entry d.listed) in
+        let alike : fetch scope (pos d.at) (keeping_flags s.memory memory) ≡ fetch (scope_only a.listing) (pos d.at) (keeping_flags x.before.memory memory) = fetched_alike (scope_only a.listing) scope d.at s.memory x.before.memory memory (omega (arith, static, base)) in_listing (listed.places d.at d.entry d.listed refl) in
         let there : saves (fetch (scope_only a.listing) (pos d.at) (keeping_flags x.before.memory memory)) ≡ true = ap saves (sym (ap (λ (place : ℤ). fetch (scope_only a.listing) place (resumed a.story x.saved x.before).memory) at ∙ ap (fetch (scope_only a.listing) (pos d.at)) was)) ∙ x.spelled in
         let spelled : saves (fetch scope (save_place x.saved) (resumed a.story x.saved s).memory) ≡ true = ap saves (ap (λ (place : ℤ). fetch scope place (resumed a.story x.saved s).memory) at ∙ ap (fetch scope (pos d.at)) now ∙ alike) ∙ there in
         let goes_so = restores scope bytes x s spelled in

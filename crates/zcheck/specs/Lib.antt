@@ -3,3 +3,5 @@ pub mod Tables
 pub mod Passes
 pub mod Acceptance
 pub mod Streaming
+pub mod Marks
+pub mod Judged

@@ -42,14 +42,14 @@ pub fn check<V: Spelled>(
 }
 
 /// Every loaded story is sound.
-fn loaded_soundly(story: &Story)
+pub(crate) fn loaded_soundly(story: &Story)
     ensures { IsLoadedStory story.now }
 {
     let _memory = story.memory();
 }
 
 /// Every certificate has a spelling.
-fn well_spelled<V: Spelled>(certificate: &Certificate<V>)
+pub(crate) fn well_spelled<V: Spelled>(certificate: &Certificate<V>)
     ensures { HasSpelling V.format certificate.now }
 {
     let _ranges = certificate.ranges();

@@ -4,7 +4,9 @@
 mod accepted;
 mod checking;
 mod examining;
+mod judged;
 mod listing;
+mod marked;
 mod objects;
 mod refusal;
 mod story_rules;
@@ -14,5 +16,7 @@ mod tables;
 pub use accepted::Accepted;
 pub use checking::check;
 pub use examining::examine;
+pub use judged::{Judged, check_any};
+pub use marked::{Marked, check_marked, examine_unmarked};
 pub use refusal::{Refusal, StoryRule, StreamRefusal};
 pub use stream::CheckStream;

@@ -5,11 +5,14 @@ ghost use Rattle.zcert.specs.Reading.{reading};
 ghost use Rattle.zcert.specs.Streaming.{unfed, IsFed, IsOpen, IsRefusal, IsUnread};
 ghost use Rattle.zcert.specs.declared.error.CertError.{CertError as AnError};
 ghost use Rattle.zcheck.specs.Acceptance.{IsListingOf, NeverChanges, NeverFaults, PlaysAlike, PlaysSafely};
+ghost use Rattle.zcheck.specs.Judged.{IsJudged, IsUnjudgedWith, certificate_of, story_of};
 ghost use Rattle.zcheck.specs.Passes.{Passes};
 ghost use Rattle.zcheck.specs.Streaming.{IsRefusedWith};
 
 use crate::accepted::Accepted;
 use crate::checking::check;
+use crate::judged::{Judged, check_any};
+use crate::marked::Marked;
 use crate::refusal::StreamRefusal;
 use std::alloc::Global;
 use std::marker::Model;
@@ -81,6 +84,20 @@ impl<V: Spelled> CheckStream<V> {
         let CheckStream { story, stream } = self;
         let certificate = stream.finish()?;
         Ok(check(alloc, story, certificate)?)
+    }
+
+    /// Accepts the story with the certificate that all bytes spell that were fed, whether it marks instructions or not, as `check_any`
+    /// does; else says why they are refused, that they are cut off, or what is wrong first. A refusal hands nothing back.
+    pub fn judge(self, alloc: Global) -> Result<Judged<Accepted<V>, Marked<V>>, StreamRefusal>
+        ensures story { IfOk result (λ j. story_of j ≡ self.story) }
+        ensures read { IfOk result (λ j. (fed : List ℕ) → IsFed V.format self.stream fed → reading V.format fed ≡ Ok (certificate_of j)) }
+        ensures judged { IfOk result (IsJudged V.operations) }
+        ensures refused { IfErr result (λ refusal. (fed : List ℕ) → IsFed V.format self.stream fed → IsUnjudgedWith V.operations V.format self.story fed refusal) }
+        ensures stays { (e : AnError) → self.stream.refused ≡ Some e → result ≡ Err (StreamRefusal.Cert e) }
+    {
+        let CheckStream { story, stream } = self;
+        let certificate = stream.finish()?;
+        Ok(check_any(alloc, story, certificate)?)
     }
 
     /// The story, and the certificate that all bytes spell that were fed, which needn't be accepted with it; else why they are

@@ -2,3 +2,4 @@ mod Failures
 mod Telling
 mod Worked
 mod Named
+mod Marked

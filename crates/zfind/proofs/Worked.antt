@@ -22,8 +22,9 @@ use Rattle.zfind.specs.declared.error.Obstacle.TheVariants.{Place, Story}
 use Rattle.zfind.specs.declared.error.Obstacle.{Obstacle}
 use Rattle.zfind.specs.declared.visits.Allowance.{Allowance}
 use Rattle.zfind.specs.Finding.{HasNone, HasNoneOf, IsAtStart, IsBrokenAt, IsFailure, IsFailureOf, IsFaulty, IsFaultyElsewhere, IsLasting, IsLess, IsListable, IsMet, IsStopped, IsTold, IsTried, IsUnlisted, IsWalkFailure, IsWithoutIntervals, number_of, refused_for, told_of}
-use Rattle.zfind.specs.Found.{IsFound, spelling_of}
-use Rattle.zfind.specs.declared.found.Found.TheVariants.{Intervals, Lists}
+use Rattle.zfind.specs.Found.{IsFound, IsFoundWithin, spelling_of}
+use Rattle.zfind.specs.Marking.{IsFoundMarked, IsFoundUnmarked, IsMarkedFailure, IsMarkedWithin, IsUnmarkable, IsWithoutUnmarked}
+use Rattle.zfind.specs.declared.found.Found.TheVariants.{Intervals, Lists, Marked}
 
 numbers : (number_of (NotFound (Story Tree)) ≡ 1) × (number_of RoundLimit ≡ 2) × (number_of OutOfMemory ≡ 3)
 numbers = (refl, refl, refl)
@@ -81,8 +82,30 @@ unfound story o = ((λ failure. failure.1), (λ failure. failure.0), (λ other i
 founds :
     (story : LoadedStory) (c : Certificate Interval) (l : Certificate Values)
     → (Passes interval_operations story c → IsFound story (Intervals c)) × (IsFound story (Lists l) → Passes values_operations story l × IsWithoutIntervals story)
-    × (spelling_of (Intervals c) ≡ spelling interval_format c) × (spelling_of (Lists l) ≡ spelling values_format l)
-founds story c l = ((λ passes. passes), (λ found. found), refl, refl)
+    × (IsFound story (Marked l) → ⊥) × (spelling_of (Intervals c) ≡ spelling interval_format c) × (spelling_of (Lists l) ≡ spelling values_format l)
+    × (spelling_of (Marked l) ≡ spelling values_format l)
+founds story c l = ((λ passes. passes), (λ found. found), (λ never. never), refl, refl, refl)
+
+-- with a limit none of intervals is found; without one what is found that marks nothing is as it was
+unmarked_founds :
+    (story : LoadedStory) (limit : ℕ) (c : Certificate Interval) (l : Certificate Values)
+    → (IsFoundUnmarked story (Some limit) (Intervals c) → ⊥) × (IsFoundUnmarked story (Some limit) (Lists l) → IsFoundWithin story limit l) × (IsFoundUnmarked story (Some limit) (Marked l) → ⊥)
+    × (IsFoundUnmarked story None (Intervals c) → IsFound story (Intervals c)) × (IsFoundUnmarked story None (Lists l) → IsFound story (Lists l)) × (IsFoundUnmarked story None (Marked l) → ⊥)
+unmarked_founds story limit c l = ((λ never. never), (λ found. found), (λ never. never), (λ found. found), (λ found. found), (λ never. never))
+
+-- one that marks comes only where none was found that doesn't, and names the limit that was asked for, or the usual one
+marked_founds :
+    (story : LoadedStory) (limit : ℕ) (l : Certificate Values)
+    → (IsFoundMarked story (Some limit) (Marked l) → IsMarkedWithin story limit l × IsWithoutUnmarked story (Some limit)) × (IsFoundMarked story None (Marked l) → IsMarkedWithin story 1024 l × IsWithoutUnmarked story None)
+    × (IsFoundMarked story (Some limit) (Lists l) → IsFoundWithin story limit l)
+marked_founds story limit l = ((λ found. found), (λ found. found), (λ found. found))
+
+-- it never comes to a limit of visits or work; what is wrong is told only of one that may mark, where none was found that doesn't
+unmarkables :
+    (story : LoadedStory) (limit : ℕ) (o : Obstacle)
+    → (IsMarkedFailure story (Some limit) RoundLimit → ⊥) × IsMarkedFailure story None OutOfMemory
+    × (IsMarkedFailure story (Some limit) (NotFound o) → IsWithoutUnmarked story (Some limit) × IsUnmarkable story limit (NotFound o))
+unmarkables story limit o = ((λ never. never), tt, (λ failure. failure))
 
 -- what is at fault with a story that has no listing; no limit is met by that
 unlisted : (story : LoadedStory) (o : Obstacle) → (IsUnlisted story (NotFound o) → IsFaulty story (NotFound o)) × (IsUnlisted story RoundLimit → ⊥) × IsUnlisted story OutOfMemory

@@ -1,3 +1,4 @@
 pub mod Finding
 pub mod Found
 pub mod Attempts
+pub mod Marking

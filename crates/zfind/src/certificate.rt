@@ -1,6 +1,6 @@
 //! A certificate of what is known.
 
-ghost use Rattle.std.specs.Prelude.{◌≡◌, IfErr};
+ghost use Rattle.std.specs.Prelude.{◌≡◌, true, IfErr};
 ghost use Rattle.zfind.specs.declared.error.FindError.TheVariants.{OutOfMemory};
 
 use crate::code::Code;
@@ -8,7 +8,7 @@ use crate::error::FindError;
 use crate::kind::Kind;
 use crate::walk::Walk;
 use std::alloc::Global;
-use zcert::{CertBuilder, CertError, Certificate, Field};
+use zcert::{CertBuilder, CertError, Certificate, Field, MARK};
 
 /// The certificate that says what a walk found.
 pub(crate) fn certificate_of<V: Kind>(
@@ -20,11 +20,40 @@ pub(crate) fn certificate_of<V: Kind>(
 {
     let mut builder = CertBuilder::new(alloc);
     take_identity(&mut builder, code)?;
-    take_ranges(alloc, &mut builder, walk)?;
-    take_globals(&mut builder, walk)?;
-    let numbers = take_routines(alloc, &mut builder, code, walk)?;
-    take_instructions(alloc, &mut builder, code, walk, &numbers)?;
+    take_rest(alloc, &mut builder, code, walk, &[])?;
     Ok(builder.finish()?)
+}
+
+/// The same, which names a limit of frames, and marks those of the listed instructions that have a mark.
+pub(crate) fn marked_certificate_of<V: Kind>(
+    alloc: Global,
+    code: &Code<'_>,
+    walk: &mut Walk<'_, V>,
+    limit: u16,
+    marks: &[bool],
+) -> Result<Certificate<V>, FindError>
+    requires limited { V.format.limited ≡ true }
+    ensures { IfErr result (λ error. error ≡ OutOfMemory) }
+{
+    let mut builder = CertBuilder::marking(alloc);
+    take_identity(&mut builder, code)?;
+    builder.take(Field::FrameLimit(limit))?;
+    take_rest(alloc, &mut builder, code, walk, marks)?;
+    Ok(builder.finish()?)
+}
+
+/// All but which story it is, and the limit.
+fn take_rest<V: Kind>(
+    alloc: Global,
+    builder: &mut CertBuilder<V>,
+    code: &Code<'_>,
+    walk: &mut Walk<'_, V>,
+    marks: &[bool],
+) -> Result<(), CertError> {
+    take_ranges(alloc, builder, walk)?;
+    take_globals(builder, walk)?;
+    let numbers = take_routines(alloc, builder, code, walk)?;
+    take_instructions(alloc, builder, code, walk, &numbers, marks)
 }
 
 /// The story that it speaks of.
@@ -122,14 +151,22 @@ fn take_instructions<V: Kind>(
     code: &Code<'_>,
     walk: &Walk<'_, V>,
     numbers: &[u16],
+    marks: &[bool],
 ) -> Result<(), CertError> {
     builder.take(Field::InstructionCount(reached_count(code, walk)))?;
+    let mut marks = marks.iter();
     for (index, record) in code.records().iter().enumerate() {
         if walk.state.is_reached(index) {
-            take_instruction(alloc, builder, walk, index, record.address, numbers)?;
+            let mark = mark_of(marks.next().copied().unwrap_or(false));
+            take_instruction(alloc, builder, walk, index, record.address, numbers, mark)?;
         }
     }
     Ok(())
+}
+
+/// What the byte of a height has for a mark.
+fn mark_of(is_marked: bool) -> u8 {
+    if is_marked { MARK } else { 0 }
 }
 
 /// How many were reached.
@@ -151,6 +188,7 @@ fn take_instruction<V: Kind>(
     index: usize,
     address: u32,
     numbers: &[u16],
+    mark: u8,
 ) -> Result<(), CertError> {
     let Some(frame) = walk.state.frame_at(alloc, index)? else {
         return Ok(());
@@ -161,7 +199,7 @@ fn take_instruction<V: Kind>(
         .unwrap_or(0);
     builder.take(Field::InstructionAddress(address))?;
     builder.take(Field::RoutineNumber(routine))?;
-    builder.take(Field::Height(frame.height().min(64) as u8))?;
+    builder.take(Field::Height(frame.height().min(64) as u8 | mark))?;
     take_values(builder, frame.sets())
 }
 

@@ -39,6 +39,8 @@ pub(crate) struct Code<'a> {
     headless: Gaps,
     /// Whether it is waited for routines that are called and not listed, since they may be listed yet; else they may give any word.
     waits: bool,
+    /// Whether what breaks a rule may be marked, so that a walk goes on behind it as far as play may.
+    marks: bool,
 }
 
 impl<'a> Code<'a> {
@@ -60,6 +62,7 @@ impl<'a> Code<'a> {
             unlisted: Gaps::new(alloc, &listed_heads(alloc, story, listing)?)?,
             headless: Gaps::new(alloc, &possible_heads(alloc, story, listing)?)?,
             waits: false,
+            marks: false,
         };
         for (index, record) in listing.records().iter().enumerate() {
             code.note(index, &record.instruction)?;
@@ -80,6 +83,19 @@ impl<'a> Code<'a> {
     /// Whether it is.
     pub(crate) fn waits(&self) -> bool {
         self.waits
+    }
+
+    /// The same, where what breaks a rule may be marked.
+    pub(crate) fn marking(self) -> Code<'a> {
+        Code {
+            marks: true,
+            ..self
+        }
+    }
+
+    /// Whether it may.
+    pub(crate) fn marks(&self) -> bool {
+        self.marks
     }
 
     /// Notes what an instruction depends on.
@@ -204,6 +220,11 @@ impl<'a> Code<'a> {
         short(self.head_of(number).unwrap_or(0))
     }
 
+    /// The packed address of the routine of a number.
+    pub(crate) fn packed_of(&self, number: u16) -> u16 {
+        (self.owner_of(number) / 2).min(0xffff) as u16
+    }
+
     /// The address of the routine of a number, from 1 on.
     fn head_of(&self, number: u16) -> Option<usize> {
         let before = usize::from(number).checked_sub(1)?;
@@ -222,8 +243,7 @@ impl<'a> Code<'a> {
     /// The word that a routine's local begins with, by its index (Z 5.2.1).
     pub(crate) fn initial(&self, number: u16, index: u8) -> u16 {
         let head = self.head_of(number).unwrap_or(0);
-        let place = head.saturating_add(1 + 2 * usize::from(index));
-        u16::from_be_bytes([self.byte_at(place), self.byte_at(place.saturating_add(1))])
+        self.word_at(head.saturating_add(1 + 2 * usize::from(index)))
     }
 
     /// Whether a routine's head stands at a packed address in static memory, so that a certificate may list it.
@@ -244,6 +264,11 @@ impl<'a> Code<'a> {
     /// The byte at a place, 0 outside memory.
     pub(crate) fn byte_at(&self, place: usize) -> u8 {
         byte_at(self.story, place)
+    }
+
+    /// The word at a place.
+    pub(crate) fn word_at(&self, place: usize) -> u16 {
+        u16::from_be_bytes([self.byte_at(place), self.byte_at(place.saturating_add(1))])
     }
 
     /// The index of the first instruction of a routine.

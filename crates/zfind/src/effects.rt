@@ -94,14 +94,28 @@ impl<V: Kind> Calls<V> {
         self.growths == growths && are_same(self.callees, callees)
     }
 
-    /// The routines that another call entered with the same or more arguments.
-    pub(crate) fn entered_by(&self, before: Option<&Calls<V>>) -> Option<V> {
+    /// Whether any word may come back, so that no more can.
+    fn gives_any(&self) -> bool {
+        match self.given {
+            Some(set) => V::any().is_within(set),
+            None => false,
+        }
+    }
+
+    /// The routines that another call entered with the same or more arguments: all that it names, or those of them that are listed, where
+    /// what breaks a rule may be marked.
+    pub(crate) fn entered_by(&self, code: &Code<'_>, before: Option<&Calls<V>>) -> Option<V> {
         match before {
-            Some(before) if before.naming == Naming::Listed && self.gives_less(before) => {
+            Some(before) if before.enters_all(code) && self.gives_less(before) => {
                 Some(before.callees)
             }
             _ => None,
         }
+    }
+
+    /// Whether each listed routine is entered that it names.
+    fn enters_all(&self, code: &Code<'_>) -> bool {
+        code.marks() || self.naming == Naming::Listed
     }
 
     /// Whether the arguments of another call have all values of these.
@@ -129,6 +143,8 @@ pub(crate) struct Visit<'a, V: Kind> {
     pub(crate) code: &'a Code<'a>,
     pub(crate) state: &'a State<V>,
     pub(crate) record: &'a Record,
+    /// What is known of the globals, the locals and the slots.
+    pub(crate) globals: &'a [V],
     pub(crate) locals: &'a [V],
     pub(crate) slots: &'a [V],
     /// What it called when it was visited last, if it was visited and calls.
@@ -140,7 +156,7 @@ impl<'a, V: Kind> Visit<'a, V> {
     pub(crate) fn flow(self, tables: &Tables<'_>) -> Flow<'a, V> {
         flow_of(
             tables,
-            self.state.globals(),
+            self.globals,
             self.locals,
             self.slots,
             &self.record.instruction,
@@ -244,6 +260,7 @@ impl<'a, V: Kind> Visit<'a, V> {
             Some(before) if before.is_as_given(callees, self.state.result_growths()) => {
                 (before.given, 0)
             }
+            Some(before) if self.code.marks() && before.gives_any() => (before.given, 0),
             _ => given_by(self.code, self.state, callees),
         }
     }
@@ -256,7 +273,7 @@ impl<'a, V: Kind> Visit<'a, V> {
     /// An operand behind the first, by its place among those.
     pub(crate) fn argument(self, index: usize) -> Option<V> {
         argument_set(
-            self.state.globals(),
+            self.globals,
             self.locals,
             self.slots,
             &self.record.instruction,
@@ -330,8 +347,21 @@ fn given_by<V: Kind>(code: &Code<'_>, state: &State<V>, callees: V) -> (Option<V
     match naming_of(code, callees) {
         Naming::Listed => returned_by(code, state, callees),
         Naming::Listable if code.waits() => (None, 0),
+        _ if code.marks() => returned_by_listed(code, state, callees),
         _ => (Some(V::any()), 0),
     }
+}
+
+/// What those of the routines gave so far that are listed, and how many routines were asked.
+fn returned_by_listed<V: Kind>(code: &Code<'_>, state: &State<V>, callees: V) -> (Option<V>, u32) {
+    let mut given = None;
+    let count = code.routines().len().min(0xffff) as u16;
+    for below in 0..count {
+        if callees.contains(code.packed_of(below + 1)) {
+            given = joined(given, state.result(below + 1));
+        }
+    }
+    (given, u32::from(count))
 }
 
 /// What those routines gave so far, and how many there are.

@@ -2,8 +2,9 @@
 
 use crate::code::{Code, short};
 use std::alloc::{AllocError, Global};
-use zcode::{Destination, Instr, Operand, Operation, decode_by};
+use zcode::{Destination, Instr, Operand, Operation, decode, decode_by};
 use zlist::{Listing, Record};
+use zstory::Story;
 use ztext::TextEnds;
 
 /// What is listed so far.
@@ -18,10 +19,37 @@ struct Places<'a> {
     heads: Vec<bool>,
     /// The addresses whose instructions are to be followed.
     waiting: Vec<usize>,
+    /// What is listed where no instruction stands, if anything is.
+    stand_in: Option<Instr>,
 }
 
 /// For how much work each byte of a story counts where more of it is listed, since an instruction is looked for at each.
 const COST_OF_BYTE: u32 = 8;
+
+/// The bytes of an instruction of which nothing comes: `quit`.
+const STAND_IN: [u8; 1] = [0xba];
+
+/// How many instructions of a routine are looked at, to see whether it is one.
+const MOST_LOOKED_AT: usize = 400;
+
+/// A listing of what a story's code leads to and calls by constants, as far as heads stand, whatever is at fault with it, and of the routines
+/// whose packed addresses stand in data. Where no instruction stands, something is listed of which nothing comes.
+pub(crate) fn lenient_listing(alloc: Global, story: &Story) -> Result<Listing, AllocError> {
+    let nothing = empty_listing(alloc)?;
+    let code = Code::new(alloc, story, &nothing)?.marking();
+    let mut places = Places::new(alloc, &code)?;
+    places.follow_all()?;
+    places.enter_told(alloc)?;
+    match places.into_listing(alloc)? {
+        Some(listing) => Ok(listing),
+        None => empty_listing(alloc),
+    }
+}
+
+/// A listing of nothing.
+fn empty_listing(alloc: Global) -> Result<Listing, AllocError> {
+    Listing::new(alloc, Vec::new(alloc), Vec::new(alloc))
+}
 
 /// How much work it is to list more of a story, and to find anew what depends on what.
 pub(crate) fn cost_of_listing(code: &Code<'_>) -> u32 {
@@ -55,6 +83,7 @@ impl<'a> Places<'a> {
             owners: vec![in alloc; None; count]?,
             heads: vec![in alloc; false; count]?,
             waiting: Vec::new(alloc),
+            stand_in: stand_in(code),
         };
         for record in code.records() {
             places.own(record.address as usize, code.owner_of(record.routine));
@@ -62,6 +91,7 @@ impl<'a> Places<'a> {
         for head in code.routines() {
             places.note_head(*head as usize);
         }
+        places.reach(code.story.first_instruction(), 0)?;
         Ok(places)
     }
 
@@ -113,6 +143,69 @@ impl<'a> Places<'a> {
         Ok(())
     }
 
+    /// Lists the routines whose packed addresses stand in the data before all code, where they look like routines.
+    fn enter_told(&mut self, alloc: Global) -> Result<(), AllocError> {
+        let end = self.first_listed();
+        for place in 0..end {
+            let packed = self.code.word_at(place);
+            let head = 2 * usize::from(packed);
+            if head >= end && !self.is_head(head) && self.looks_like_routine(alloc, packed)? {
+                self.enter(packed)?;
+                self.follow_all()?;
+            }
+        }
+        Ok(())
+    }
+
+    /// The lowest address that is listed: of an instruction, or of a routine.
+    fn first_listed(&self) -> usize {
+        let both = self.owners.iter().zip(self.heads.iter());
+        both.take_while(|(owner, is_head)| owner.is_none() && !**is_head)
+            .count()
+    }
+
+    /// Whether a routine is listed at an address.
+    fn is_head(&self, address: usize) -> bool {
+        self.heads.get(address).copied().unwrap_or(false)
+    }
+
+    /// Whether a head stands at a packed address, and an instruction wherever the code behind it leads, as far as that is looked at.
+    fn looks_like_routine(&self, alloc: Global, packed: u16) -> Result<bool, AllocError> {
+        if !self.code.has_head(packed) {
+            return Ok(false);
+        }
+        let head = 2 * usize::from(packed);
+        let words = 2 * usize::from(self.code.byte_at(head));
+        let mut found = vec![in alloc; head + 1 + words]?;
+        for step in 0..MOST_LOOKED_AT {
+            let Some(address) = found.get(step).copied() else {
+                return Ok(true);
+            };
+            if !self.look_behind(address, &mut found)? {
+                return Ok(false);
+            }
+        }
+        Ok(true)
+    }
+
+    /// Whether an instruction stands at an address and calls no constant at which no head stands. Where it leads to is found.
+    fn look_behind(&self, address: usize, found: &mut Vec<usize>) -> Result<bool, AllocError> {
+        let Some(instruction) = self.at(address) else {
+            return Ok(false);
+        };
+        let next = address.saturating_add(instruction.length());
+        if goes_on(instruction.opcode().operation()) {
+            add(found, next)?;
+        }
+        if let Some(aside) = aside_place(next, &instruction) {
+            add(found, aside)?;
+        }
+        Ok(match callee(&instruction) {
+            Some(packed) => packed == 0 || self.code.has_head(packed),
+            None => true,
+        })
+    }
+
     /// Lists what the instruction at an address leads to and calls.
     fn follow(&mut self, address: usize) -> Result<(), AllocError> {
         let (Some(instruction), Some(owner)) = (self.at(address), self.owner_at(address)) else {
@@ -134,6 +227,14 @@ impl<'a> Places<'a> {
     /// The instruction at an address.
     fn at(&self, address: usize) -> Option<Instr> {
         *self.standing.get(address)?
+    }
+
+    /// What is listed at an address that is somebody's code.
+    fn listed_at(&self, address: usize) -> Option<Instr> {
+        match self.at(address) {
+            Some(instruction) => Some(instruction),
+            None => self.stand_in,
+        }
     }
 
     /// Whose code an address is.
@@ -166,7 +267,7 @@ impl<'a> Places<'a> {
     fn records(&self, alloc: Global, routines: &[u32]) -> Result<Vec<Record>, AllocError> {
         let mut records = Vec::new(alloc);
         for (address, owner) in self.owners.iter().enumerate() {
-            if let (Some(owner), Some(instruction)) = (*owner, self.at(address)) {
+            if let (Some(owner), Some(instruction)) = (*owner, self.listed_at(address)) {
                 records.push(Record {
                     address: short(address),
                     routine: number_of(routines, owner),
@@ -176,6 +277,23 @@ impl<'a> Places<'a> {
         }
         Ok(records)
     }
+}
+
+/// What is listed where no instruction stands, if that may be marked.
+fn stand_in(code: &Code<'_>) -> Option<Instr> {
+    if code.marks() {
+        decode(&STAND_IN, 0).ok()
+    } else {
+        None
+    }
+}
+
+/// Adds an address to those that were found, if it isn't among them.
+fn add(found: &mut Vec<usize>, address: usize) -> Result<(), AllocError> {
+    if !found.contains(&address) {
+        found.push(address)?;
+    }
+    Ok(())
 }
 
 /// What stands at each address of a story. Each is read once, by rising addresses, so that each text is gone over once.

@@ -332,12 +332,25 @@ fn make_attempt<V: Kind>(
     if walk.is_wanting() {
         return Ok(Attempt::Wanting(failure_of(walk, error)));
     }
+    Ok(Attempt::Failed(next_plan(alloc, code, walk, left)?))
+}
+
+/// How the walk goes behind one that is at its end.
+pub(crate) fn next_plan<V: Kind>(
+    alloc: Global,
+    code: &Code<'_>,
+    mut walk: Walk<'_, V>,
+    left: &mut Allowance,
+) -> Result<Plan<V>, FindError>
+    ensures less { IsLess left.new left.old }
+    ensures stopped { IfErr result (IsStopped left.new) }
+{
     let caps = settled(alloc, code, &mut walk, left)?;
-    Ok(Attempt::Failed(Plan {
+    Ok(Plan {
         is_settled: walk.state.is_within(&caps),
         caps: Some(caps),
         ..walk.into_plan()
-    }))
+    })
 }
 
 /// A certificate, if it passes, and else what is wrong with it first. A function of its own, since a check's tables lie on the stack.

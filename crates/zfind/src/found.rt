@@ -1,7 +1,7 @@
 //! A certificate as it is found.
 
 ghost use Rattle.std.specs.Prelude.{◌≡◌, IfOk};
-ghost use Rattle.zfind.specs.Found.{spelling_of};
+ghost use Rattle.zfind.specs.Found.{marks_of, spelling_of};
 
 use std::alloc::{AllocError, Global};
 use zcert::{Certificate, write};
@@ -12,8 +12,10 @@ use zdomain::{Interval, Values};
 pub enum Found {
     /// Of intervals alone.
     Intervals(Certificate<Interval>),
-    /// Of intervals and lists, where none of intervals alone was found.
+    /// Of intervals and lists, where none of intervals alone was found, or a limit of frames is named.
     Lists(Certificate<Values>),
+    /// Of intervals and lists, which marks where a rule is broken, and passes elsewhere.
+    Marked(Certificate<Values>),
 }
 
 impl Found {
@@ -24,6 +26,18 @@ impl Found {
         match self {
             Found::Intervals(certificate) => write(alloc, certificate),
             Found::Lists(certificate) => write(alloc, certificate),
+            Found::Marked(certificate) => write(alloc, certificate),
+        }
+    }
+
+    /// How many instructions it marks.
+    pub fn marks(&self) -> usize
+        ensures { result ≡ marks_of self.now }
+    {
+        match self {
+            Found::Intervals(certificate) => certificate.marks(),
+            Found::Lists(certificate) => certificate.marks(),
+            Found::Marked(certificate) => certificate.marks(),
         }
     }
 }

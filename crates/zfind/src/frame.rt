@@ -121,7 +121,7 @@ impl<V: Domain> Frame<V> {
     }
 
     /// Puts a set in the place of another.
-    fn put(&mut self, index: usize, set: V) {
+    pub(crate) fn put(&mut self, index: usize, set: V) {
         if let Some(there) = self.sets.get_mut(index) {
             *there = set;
         }

@@ -2,7 +2,7 @@
 //!
 //! `find` walks over what a story lists, and keeps for each place a set of the values of each local and slot, as it does for each global
 //! and for what each routine gives. These are intervals, and where they lead to no certificate lists as well. What it answers was accepted
-//! by the checker. `find_limited` answers one that names a limit of frames.
+//! by the checker. `find_limited` answers one that names a limit of frames, and `find_marked` one that may mark instructions besides.
 #![tactic(auto)]
 
 mod bytes;
@@ -19,6 +19,8 @@ mod groups;
 mod kind;
 mod limited;
 mod looking;
+mod marking;
+mod narrowing;
 mod obstacles;
 mod opened;
 mod openings;
@@ -36,5 +38,6 @@ pub use error::{FindError, Obstacle};
 pub use finding::find;
 pub use found::Found;
 pub use limited::find_limited;
+pub use marking::{find_marked, find_unmarked};
 pub use obstacles::broken_in_all;
 pub use visits::{MOST_LIST_WORK, MOST_VISITS, MOST_WORK};

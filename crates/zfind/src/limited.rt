@@ -41,7 +41,7 @@ fn found_with_lists(alloc: Global, story: &Story) -> Result<Certificate<Values>,
 {
     match find(alloc, story) {
         Ok(Found::Intervals(certificate)) => with_lists(alloc, story, &certificate),
-        Ok(Found::Lists(certificate)) => Ok(certificate),
+        Ok(Found::Lists(certificate) | Found::Marked(certificate)) => Ok(certificate),
         Err(error) => Err(error),
     }
 }

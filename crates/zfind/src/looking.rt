@@ -4,13 +4,14 @@ use crate::bytes::Span;
 use crate::code::Code;
 use crate::effects::{Calls, Effect, Effects, Naming, Visit, WORDS, naming_of, next_callee};
 use crate::kind::Kind;
+use crate::narrowing::let_through;
 use crate::opened::Opened;
 use crate::openings::reach_of;
 use crate::state::State;
 use std::alloc::{AllocError, Global};
 use zcode::{Operand, Operation};
 use zdomain::Domain;
-use zflow::{Demands, first_known};
+use zflow::{Demands, Flow, first_known};
 use zlist::Record;
 use zruns::Tables;
 
@@ -55,19 +56,38 @@ pub(crate) fn look<V: Kind>(
         code,
         state,
         record,
+        globals: state.globals(),
         locals: frame.locals(),
         slots: frame.slots(),
         before,
     };
     let flow = visit.flow(known.tables);
+    if let Some(narrowed) = let_through(visit, &flow.demands)? {
+        let visit = Visit {
+            globals: narrowed.globals_or(visit.globals),
+            locals: narrowed.frame.locals(),
+            slots: narrowed.frame.slots(),
+            ..visit
+        };
+        return Ok(Some(seen_of(visit, &visit.flow(known.tables), known)?));
+    }
+    Ok(Some(seen_of(visit, &flow, known)?))
+}
+
+/// What is seen by what may come of an instruction.
+fn seen_of<V: Kind>(
+    visit: Visit<'_, V>,
+    flow: &Flow<'_, V>,
+    known: Known<'_, '_, '_>,
+) -> Result<Seen<V>, AllocError> {
     let more = known.opened.more_read(&flow.demands);
-    Ok(Some(Seen {
-        effects: visit.effects(&flow, more)?,
+    Ok(Seen {
+        effects: visit.effects(flow, more)?,
         learned: learned_at(visit),
-        reach: reach_of(code, &flow.demands),
+        reach: reach_of(visit.code, &flow.demands),
         demands: flow.demands,
         work: work_of_pairs(visit),
-    }))
+    })
 }
 
 /// How many routines are followed by what an instruction does, behind the first.
@@ -123,7 +143,7 @@ fn first_word<V: Kind>(visit: Visit<'_, V>, operand: Operand) -> Option<u16> {
     match operand {
         Operand::Constant(_) => None,
         Operand::Variable(_) => first_known(
-            visit.state.globals(),
+            visit.globals,
             visit.locals,
             visit.slots,
             &visit.record.instruction,
@@ -159,7 +179,7 @@ fn first_told<V: Kind>(visit: Visit<'_, V>, operand: Operand) -> usize {
     let set = match place {
         0 => visit.slots.last(),
         1..16 => visit.locals.get(place.saturating_sub(1)),
-        _ => visit.state.globals().get(place.saturating_sub(16)),
+        _ => visit.globals.get(place.saturating_sub(16)),
     };
     match set {
         Some(set) => (*set).told(),

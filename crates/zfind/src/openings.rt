@@ -29,6 +29,9 @@ pub(crate) fn open_written<V: Domain>(
     demands: &Demands<V>,
 ) -> usize {
     if let Some(elements) = demands.elements {
+        if code.marks() && is_astray(code, elements) {
+            return 0;
+        }
         return open_elements(bytes, elements);
     }
     if let Some(pairs) = demands.property {
@@ -38,6 +41,13 @@ pub(crate) fn open_written<V: Domain>(
         Some(buffers) => open_buffers(code, bytes, buffers),
         None => 0,
     }
+}
+
+/// Whether elements are written that may lie outside dynamic memory, whatever is open: so the instruction is marked, and opens nothing.
+fn is_astray<V: Domain>(code: &Code<'_>, elements: Elements<V>) -> bool {
+    let run = Run::of(elements.width, elements.arrays, elements.indices);
+    let end = usize::from(run.first).saturating_add(run_length(elements.width, run));
+    matches!(elements.access, Access::Writing) && end > code.story.static_base()
 }
 
 /// Opens elements that are written. Of those that are read, blocks are gone over.

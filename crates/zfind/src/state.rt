@@ -71,6 +71,8 @@ pub(crate) struct Plan<V: Kind> {
     pub(crate) delay: u16,
     /// Whether anything is widened.
     pub(crate) widens: bool,
+    /// Whether what grows is said to have any word, so that a walk ends soon.
+    pub(crate) is_hasty: bool,
     /// What a routine is said to give that never returns, if that is said.
     pub(crate) unreturned: Option<V>,
     /// Whether nothing was widened too far by the walk before, so that one like it finds nothing else.
@@ -103,6 +105,7 @@ impl<V: Kind> Plan<V> {
             delay: 0,
             widens: true,
             unreturned: Some(unreturned),
+            is_hasty: false,
             is_settled: false,
         }
     }
@@ -115,7 +118,17 @@ impl<V: Kind> Plan<V> {
             delay: 0,
             widens: false,
             unreturned: None,
+            is_hasty: false,
             is_settled: false,
+        }
+    }
+
+    /// A set with the words of another, widened or not; of any word, where a walk is to end soon.
+    fn raised(&self, before: V, more: V, widens: bool, cap: Option<V>) -> V {
+        if self.is_hasty {
+            V::any()
+        } else {
+            self.grown(before, more, widens, cap)
         }
     }
 
@@ -328,7 +341,7 @@ impl<V: Kind> State<V> {
         if more.is_within(set) {
             return Ok(false);
         }
-        let grown = plan.grown(set, more, widens, plan.cap_at(index, offset));
+        let grown = plan.raised(set, more, widens, plan.cap_at(index, offset));
         *kept = grown.shelve(&mut self.shelf)?;
         Ok(true)
     }
@@ -345,7 +358,7 @@ impl<V: Kind> State<V> {
         if more.is_within(*set) {
             return false;
         }
-        *set = plan.grown(*set, more, growths.are_enough(true, plan), cap);
+        *set = plan.raised(*set, more, growths.are_enough(true, plan), cap);
         *growths = growths.after(true);
         true
     }
@@ -376,7 +389,7 @@ impl<V: Kind> State<V> {
         }
         self.result_growths = self.result_growths.saturating_add(1);
         let widens = cell.growths.are_enough(may_widen, plan);
-        let grown = plan.grown(set, more, widens, cap);
+        let grown = plan.raised(set, more, widens, cap);
         cell.set = Some(grown.shelve(&mut self.shelf)?);
         cell.growths = cell.growths.after(may_widen);
         Ok(true)

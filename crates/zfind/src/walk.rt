@@ -226,7 +226,11 @@ impl<'a, V: Kind> Walk<'a, V> {
     pub(crate) fn take_work(&mut self) -> u32 {
         let work = self.work;
         self.work = 0;
-        if self.state.is_full() { u32::MAX } else { work }
+        if self.state.is_full() && !self.plan.is_hasty {
+            u32::MAX
+        } else {
+            work
+        }
     }
 
     /// Has those visited that were put off: what looked where bytes were opened, and, where there is none, what waits for a routine that
@@ -463,10 +467,14 @@ impl<'a, V: Kind> Walk<'a, V> {
     fn call(&mut self, index: usize, calls: &Calls<V>) -> Result<(), AllocError> {
         self.spend(calls.asked as usize);
         let before = self.calls_at(index);
-        let here = calls.entered_by(before.as_ref());
-        let last = calls.entered_by(self.last.as_ref());
+        let here = calls.entered_by(self.code, before.as_ref());
+        let last = calls.entered_by(self.code, self.last.as_ref());
         if !has_all(here, calls.callees) && !has_all(last, calls.callees) {
-            self.enter_each(calls, here, last)?;
+            if self.follows_listed(calls.naming) {
+                self.enter_listed(calls, here, last)?;
+            } else {
+                self.enter_each(calls, here, last)?;
+            }
         }
         let kept = calls.keep(self.state.shelf_mut())?;
         if let Some(noted) = self.calls.get_mut(index) {
@@ -498,6 +506,34 @@ impl<'a, V: Kind> Walk<'a, V> {
                 None => return Ok(()),
             }
             callee = next_callee(calls.callees, packed);
+        }
+        Ok(())
+    }
+
+    /// Whether those alone are entered that are listed, where not all are: the call is to be marked.
+    fn follows_listed(&self, naming: Naming) -> bool {
+        match naming {
+            Naming::Listed => false,
+            Naming::Listable => self.code.marks() && !self.code.waits(),
+            Naming::Headless => self.code.marks(),
+        }
+    }
+
+    /// Enters each listed routine that is called, beside those of two sets.
+    fn enter_listed(
+        &mut self,
+        calls: &Calls<V>,
+        here: Option<V>,
+        last: Option<V>,
+    ) -> Result<(), AllocError> {
+        let mut frame = Frame::empty(self.alloc);
+        let count = self.routine_count();
+        self.spend(usize::from(count));
+        for below in 0..count {
+            let packed = self.code.packed_of(below + 1);
+            if calls.callees.contains(packed) && !has(here, packed) && !has(last, packed) {
+                self.enter(below + 1, calls, &mut frame)?;
+            }
         }
         Ok(())
     }

@@ -1,5 +1,5 @@
 -- What the code's values say.
-use Rattle.std.specs.Prelude.{ℕ, List, [], Option, Some, None, slice_get}
+use Rattle.std.specs.Prelude.{false, ℕ, List, [], Option, Some, None, slice_get}
 use Rattle.zcert.specs.Certificate.{Instruction}
 use Rattle.zquetzal.specs.View.{seen_frame}
 use Rattle.zstate.specs.Saves.{taken_frame}
@@ -10,7 +10,7 @@ use Rattle.zjudge.specs.Frames.{Waiting}
 -- an instruction, if there is one, and else nothing
 abbrev pub instruction_or : {V : Type 0} → Option (Instruction V) → Instruction V
 instruction_or (Some i) = i
-instruction_or None = record { address = 0; routine = 0; locals = []; slots = [] }
+instruction_or None = record { address = 0; routine = 0; is_marked = false; locals = []; slots = [] }
 
 -- what is listed at an index
 abbrev pub entry_at : {V : Type 0} → List (Instruction V) → ℕ → Entry V

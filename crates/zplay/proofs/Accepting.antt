@@ -80,4 +80,4 @@ module _ {V : Type 0} (o : SetOperations V) (lawful : AreSound o) (format : Form
   pub each_fixed : (p : ℕ) → is_listed a.listing p ≡ true → static_base a.story ≤ p
   each_fixed p there = among (λ q. static_base a.story ≤ q) a.listing.records p (λ k d within.
       let j = judged_each k d within in
-      (supported.each (get_or a.listing.records k d).address j.entry j.listed rules.Decodes).1.static) there
+      (supported.each (get_or a.listing.records k d).address j.entry j.listed refl rules.Decodes).1.static) there

@@ -1,5 +1,5 @@
 -- What a session saves is accepted, and what it accepts is fine.
-use Rattle.std.proofs.Common.{◌≡◌, ◌↔◌, inl, inr, List, ℕ, true, Result, Ok, Err, Some, sym, ap, subst, ◌∙◌, arith}
+use Rattle.std.proofs.Common.{◌≡◌, ◌↔◌, inl, inr, List, ℕ, true, Result, Ok, Err, Some, refl, sym, ap, subst, ◌∙◌, arith}
 use Rattle.std.specs.Prelude.{IfErr, IsOk}
 use Rattle.zfault.specs.declared.pause.Need.TheVariants as needs
 use Rattle.zquetzal.specs.declared.error.SaveError.{SaveError}
@@ -26,8 +26,8 @@ module _ {V : Type 0} (o : SetOperations V) (lawful : AreSound o) (format : Form
   asked : awaited (setting_of a) s ≡ Some needs.Saved → saves (fetch (setting_of a).scope s.place s.memory) ≡ true
   asked waits =
       let d = play.described in
-      let found = (supported o lawful format a play.accepted).each d.at d.entry d.listed rules.Decodes in
-      let fetched : fetch (setting_of a).scope s.place s.memory ≡ Ok found.0 = reads_it o lawful (claims o a) (setting_of a) s play.accepted.loaded (supported o lawful format a play.accepted) (listed_each o lawful format a play.accepted) d found.0 found.1.decodes in
+      let found = (supported o lawful format a play.accepted).each d.at d.entry d.listed refl rules.Decodes in
+      let fetched : fetch (setting_of a).scope s.place s.memory ≡ Ok found.0 = reads_it o lawful (claims o a) (setting_of a) s play.accepted.loaded (supported o lawful format a play.accepted) (listed_each o lawful format a play.accepted) d refl found.0 found.1.decodes in
       ap saves fetched ∙ save_there (setting_of a) s found.0 fetched waits
 
   pub saved_taken : SavedAreAccepted o (claims o a) → awaited (setting_of a) s ≡ Some needs.Saved → (other : PlayingOver V) → other.accepted ≡ a → IsDescribed o other → Accepts o other (save_text (origin_of a.story) (saved_of a.story s))

@@ -29,10 +29,11 @@ certificate : Certificate Interval
 certificate = record {
   identity = record { release = 0; serial = replicate 6 0; checksum = 0; length = 65 };
   limit = None;
+  marking = false;
   ranges = [];
   globals = replicate 240 (point 3);
   routines = record { address = 60; locals = 0; result = either } ∷ [];
-  instructions = record { address = 64; routine = 0; locals = []; slots = [] } ∷ [];
+  instructions = record { address = 64; routine = 0; is_marked = false; locals = []; slots = [] } ∷ [];
 }
 
 a : Acceptance

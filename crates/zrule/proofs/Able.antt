@@ -19,8 +19,8 @@ use Rattle.zflow.specs.declared.parts.Lead.TheVariants.{Ahead, Returning, Enteri
 use Rattle.zflow.specs.declared.parts.Outcome.{Outcome}
 use Rattle.zflow.specs.Transfer.{Shape, pops, leading}
 use Rattle.zrule.specs.Claims.{Claims}
-use Rattle.zrule.specs.Rules.{IsThere, Supports, Returns}
-use Rattle.zrule.specs.Described.{Callers, Described, Fits, FitsWith, IsListedIn, IsLoadedStory}
+use Rattle.zrule.specs.Rules.{IsThere, SupportsWhere, Returns}
+use Rattle.zrule.specs.Described.{Callers, Described, Fits, FitsWith, IsListedWhere, IsLoadedStory}
 use Rattle.zrule.proofs.Sets.{zip_length}
 use Rattle.zrule.proofs.Settling.{pauses_none, pauses_full, room_there}
 use Rattle.zrule.proofs.Stepping.{done_at, made_by}
@@ -30,7 +30,7 @@ use Rattle.zrule.proofs.Standing.{IsStill, Still, a_quit, a_need, a_prompt, a_re
 use Rattle.zrule.proofs.Landing.{LeadsIn}
 use Rattle.zrule.proofs.Safety.{Expected, ComesOf, Matches, admitted, all, expected, fetches, leads_in, returns, settled, steps, still_admitted}
 
-module _ {V : Type 0} (o : SetOperations V) (lawful : AreSound o) (claims : Claims V) (m : Setting) (loaded : IsLoadedStory m.story) (supports : Supports o claims m.story) (listed : IsListedIn o claims m.scope) (s : State) (d : Described o claims m.limit m.story s) (i : Instruction) (there : IsThere m.story d.at i) where
+module _ {V : Type 0} (o : SetOperations V) (lawful : AreSound o) (claims : Claims V) (m : Setting) (loaded : IsLoadedStory m.story) {marked : ℕ → Bool} (supports : SupportsWhere o claims marked m.story) (listed : IsListedWhere o claims marked m.scope) (s : State) (d : Described o claims m.limit m.story s) (plain : marked d.at ≡ false) (i : Instruction) (there : IsThere m.story d.at i) where
   abbrev operands : List Operand
   operands = inputs i
 
@@ -65,12 +65,12 @@ module _ {V : Type 0} (o : SetOperations V) (lawful : AreSound o) (claims : Clai
   IsAble : Result Done Halt → Type 0
   IsAble r = ((x : Done) × (r ≡ Ok x)) ⊎ ((r ≡ Err halts.Quit) ⊎ (((need : Need) × (r ≡ Err (halts.Need need))) ⊎ ((r ≡ Err halts.FrameLimit) × IsFull m s)))
 
-  made_able : (w : Outcome V) (effect : Effect) → effect_of m (operation_of i.opcode) (all o lawful claims m loaded supports listed s d i there).values t ≡ Ok effect → ComesOf o lawful claims m loaded supports listed s d i there (operation_of i.opcode) w → Matches o lawful claims m loaded supports listed s d i there w effect → IsAble (made_by m s t i effect)
+  made_able : (w : Outcome V) (effect : Effect) → effect_of m (operation_of i.opcode) (all o lawful claims m loaded supports listed s d plain i there).values t ≡ Ok effect → ComesOf o lawful claims m loaded supports listed s d plain i there (operation_of i.opcode) w → Matches o lawful claims m loaded supports listed s d plain i there w effect → IsAble (made_by m s t i effect)
   unfolding IsAble
   made_able w effect does comes matches = by_room (is_roomy m.limit (course effect i.branch) s.frame.result s.callers) refl
     where
       ok : made_by m s t i effect ≡ (pauses m.limit (target i) effect (course effect i.branch) t >>= λ _. Ok (done_at m s t i effect))
-      ok = settled o lawful claims m loaded supports listed s d i there effect (admitted o lawful claims m loaded supports listed s d i there w effect comes matches)
+      ok = settled o lawful claims m loaded supports listed s d plain i there effect (admitted o lawful claims m loaded supports listed s d plain i there w effect comes matches)
 
       by_room : (b : Bool) → is_roomy m.limit (course effect i.branch) s.frame.result s.callers ≡ b → ((x : Done) × (made_by m s t i effect ≡ Ok x)) ⊎ ((made_by m s t i effect ≡ Err halts.Quit) ⊎ (((need : Need) × (made_by m s t i effect ≡ Err (halts.Need need))) ⊎ ((made_by m s t i effect ≡ Err halts.FrameLimit) × IsFull m s)))
       by_room true e =
@@ -78,11 +78,11 @@ module _ {V : Type 0} (o : SetOperations V) (lawful : AreSound o) (claims : Clai
           inl (done_at m s t i effect, ok ∙ ap (λ (r : Result (Unit {0}) Halt). r >>= λ _. Ok (done_at m s t i effect)) none)
       by_room false e =
           let full = pauses_full m.limit (target i) effect (course effect i.branch) t matches.needs matches.goes (room_there (target i) t.frame low_read) e in
-          let many = roomy (leading o w i.branch) (course effect i.branch) s.frame.result s.frame.return_place s.callers (leads_in o lawful claims m loaded supports listed s d i there w effect comes matches) (returns o lawful claims m loaded supports listed s d i there w effect comes matches) d.callers e in
-          inr (inr (inr (ok ∙ ap (λ (r : Result (Unit {0}) Halt). r >>= λ _. Ok (done_at m s t i effect)) full, record { instruction = i; fetched = fetches o lawful claims m loaded supports listed s d i there; values = (all o lawful claims m loaded supports listed s d i there).values; after = t; read = (all o lawful claims m loaded supports listed s d i there).read; effect = effect; does = does; called = many.0; into = many.1; many = many.2 })))
+          let many = roomy (leading o w i.branch) (course effect i.branch) s.frame.result s.frame.return_place s.callers (leads_in o lawful claims m loaded supports listed s d plain i there w effect comes matches) (returns o lawful claims m loaded supports listed s d plain i there w effect comes matches) d.callers e in
+          inr (inr (inr (ok ∙ ap (λ (r : Result (Unit {0}) Halt). r >>= λ _. Ok (done_at m s t i effect)) full, record { instruction = i; fetched = fetches o lawful claims m loaded supports listed s d plain i there; values = (all o lawful claims m loaded supports listed s d plain i there).values; after = t; read = (all o lawful claims m loaded supports listed s d plain i there).read; effect = effect; does = does; called = many.0; into = many.1; many = many.2 })))
 
   admitted_is : (effect : Effect) → Still effect → made_by m s t i effect ≡ (pauses m.limit (target i) effect (course effect i.branch) t >>= λ _. Ok (done_at m s t i effect))
-  admitted_is effect still = settled o lawful claims m loaded supports listed s d i there effect (still_admitted o lawful claims m loaded supports listed s d i there effect still)
+  admitted_is effect still = settled o lawful claims m loaded supports listed s d plain i there effect (still_admitted o lawful claims m loaded supports listed s d plain i there effect still)
 
   -- what leads nowhere is no call, and a prompt or a restart is made
   still_able : (effect : Effect) → Still effect → IsStill effect → IsAble (made_by m s t i effect)
@@ -92,7 +92,7 @@ module _ {V : Type 0} (o : SetOperations V) (lawful : AreSound o) (claims : Clai
   still_able effect still (a_prompt line is) = let ok = admitted_is effect still in inl (done_at m s t i effect, ok ∙ rw is refl)
   still_able effect still (a_restart is) = let ok = admitted_is effect still in inl (done_at m s t i effect, ok ∙ rw is refl)
 
-  able_by : (r : Result Effect Halt) → effect_of m (operation_of i.opcode) (all o lawful claims m loaded supports listed s d i there).values t ≡ r → Expected o lawful claims m loaded supports listed s d i there (operation_of i.opcode) r → IsAble (r >>= made_by m s t i)
+  able_by : (r : Result Effect Halt) → effect_of m (operation_of i.opcode) (all o lawful claims m loaded supports listed s d plain i there).values t ≡ r → Expected o lawful claims m loaded supports listed s d plain i there (operation_of i.opcode) r → IsAble (r >>= made_by m s t i)
   unfolding Expected IsAble
   able_by (Ok effect) does (inl still) = still_able effect still still.why
   able_by (Ok effect) does (inr (w, comes, matches)) = made_able w effect does comes matches
@@ -100,4 +100,4 @@ module _ {V : Type 0} (o : SetOperations V) (lawful : AreSound o) (claims : Clai
 
   pub able_there : ((x : Done) × (step m s ≡ Ok x)) ⊎ ((step m s ≡ Err halts.Quit) ⊎ (((need : Need) × (step m s ≡ Err (halts.Need need))) ⊎ ((step m s ≡ Err halts.FrameLimit) × IsFull m s)))
   unfolding IsAble
-  able_there = subst IsAble (sym (steps o lawful claims m loaded supports listed s d i there)) (able_by (effect_of m (operation_of i.opcode) (all o lawful claims m loaded supports listed s d i there).values t) refl (expected o lawful claims m loaded supports listed s d i there))
+  able_there = subst IsAble (sym (steps o lawful claims m loaded supports listed s d plain i there)) (able_by (effect_of m (operation_of i.opcode) (all o lawful claims m loaded supports listed s d plain i there).values t) refl (expected o lawful claims m loaded supports listed s d plain i there))

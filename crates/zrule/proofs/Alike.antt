@@ -119,7 +119,7 @@ module _ {V : Type 0} (o : SetOperations V) (claims : Claims V) (m : Setting) wh
   going_alike a b in_a in_b saved s t d goes =
       let there : resumed m.story saved s ≡ t = goes_where (record m { scope = a }) saved s t goes in
       let place : save_place saved ≡ pos d.at = sym (place_laid (map taken_frame (reverse saved.frames)) _) ∙ ap (λ (u : State). u.place) there ∙ d.place in
-      let same = fetch_alike a b (save_place saved) d.at (resumed m.story saved s).memory place (in_a.places d.at d.entry d.listed) (in_b.places d.at d.entry d.listed) in
+      let same = fetch_alike a b (save_place saved) d.at (resumed m.story saved s).memory place (in_a.places d.at d.entry d.listed refl) (in_b.places d.at d.entry d.listed refl) in
       rw same goes
 
   restoring_alike : (a b : Scope) → IsListedIn o claims a → IsListedIn o claims b → (bytes : List ℕ) (s t : State) → Described o claims m.limit m.story t → restoring (record m { scope = a }) bytes s ≡ Ok t → restoring (record m { scope = b }) bytes s ≡ Ok t
@@ -144,14 +144,14 @@ module _ {V : Type 0} (o : SetOperations V) (lawful : AreSound o) (claims : Clai
 
   step_alike : (s : State) → Described o claims m.limit m.story s → step there s ≡ step m s
   step_alike s d =
-      let found = supports.each d.at d.entry d.listed rules.Decodes in
+      let found = supports.each d.at d.entry d.listed refl rules.Decodes in
       let i : Instruction = found.0 in
       let t : State = popped (pops (operands_of i)) s in
-      let read = all o lawful claims m loaded supports listed s d i found.1 in
-      let here = step_is m s t i read.values (fetches o lawful claims m loaded supports listed s d i found.1) read.read in
-      let beside = step_is there s t i read.values (fetches o lawful claims there loaded supports listed_wide s d i found.1) read.read in
-      let no_fault = effect_safe _ _ (subst (IsSafe o claims m.limit m.story) here (step_safe o lawful claims m s loaded supports listed d)) in
-      let none_beside = effect_safe _ _ (subst (IsSafe o claims m.limit m.story) beside (step_safe o lawful claims there s loaded supports listed_wide d)) in
+      let read = all o lawful claims m loaded supports listed s d refl i found.1 in
+      let here = step_is m s t i read.values (fetches o lawful claims m loaded supports listed s d refl i found.1) read.read in
+      let beside = step_is there s t i read.values (fetches o lawful claims there loaded supports listed_wide s d refl i found.1) read.read in
+      let no_fault = effect_safe _ _ (subst (IsSafe o claims m.limit m.story) here (step_safe o lawful claims m s loaded supports listed d refl)) in
+      let none_beside = effect_safe _ _ (subst (IsSafe o claims m.limit m.story) beside (step_safe o lawful claims there s loaded supports listed_wide d refl)) in
       beside ∙ ap (λ (r : Result Effect Halt). r >>= made_by m s t i) (effect_alike m wide (operation_of i.opcode) read.values t no_fault none_beside) ∙ sym here
 
   by_step_alike : (r : Result Done Halt) (made made_there : Done → Ending) (halted halted_there : Halt → Ending) → IsSafe o claims m.limit m.story r → ((x : Done) → Described o claims m.limit m.story x.state → made_there x ≡ made x) → ((h : Halt) → halted_there h ≡ halted h) → by_step r made_there halted_there ≡ by_step r made halted
@@ -162,10 +162,10 @@ module _ {V : Type 0} (o : SetOperations V) (lawful : AreSound o) (claims : Clai
   unfolding until
   until_alike f g stop zero s d =
       let same = step_alike s d in
-      rw same (by_step_alike (step m s) _ _ _ _ (step_safe o lawful claims m s loaded supports listed d) (λ x e. refl) (λ h. stop h zero s d))
+      rw same (by_step_alike (step m s) _ _ _ _ (step_safe o lawful claims m s loaded supports listed d refl) (λ x e. refl) (λ h. stop h zero s d))
   until_alike f g stop (suc n) s d =
       let same = step_alike s d in
-      rw same (by_step_alike (step m s) _ _ _ _ (step_safe o lawful claims m s loaded supports listed d) (λ x e. ap (after x.items) (until_alike f g stop n x.state e)) (λ h. stop h (suc n) s d))
+      rw same (by_step_alike (step m s) _ _ _ _ (step_safe o lawful claims m s loaded supports listed d refl) (λ x e. ap (after x.items) (until_alike f g stop n x.state e)) (λ h. stop h (suc n) s d))
 
   -- what is handed in leads to the same state
   handed_alike : (h : Halt) (x : Input) (t : State) → IsFine o claims m x → IsFine o claims there x → Described o claims m.limit m.story t → handed there h x t ≡ handed m h x t

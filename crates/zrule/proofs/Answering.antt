@@ -26,7 +26,7 @@ use Rattle.zplace.proofs.Staying.{data_dynamic, default_same, name_same, name_te
 use Rattle.zpairs.specs.Pairs.{answers}
 use Rattle.zpairs.proofs.Lying.{value_lies, address_lies, next_lies}
 use Rattle.zrule.specs.Claims.{Claims, frozen_in, told_of}
-use Rattle.zrule.specs.Rules.{Supports}
+use Rattle.zrule.specs.Rules.{SupportsWhere}
 use Rattle.zrule.specs.Described.{DescribedMemory, IsLoadedStory}
 use Rattle.zrule.proofs.Unchanged.{abbreviation_same}
 
@@ -51,7 +51,7 @@ run_there story (suc n) p each =
     let rest = run_there story n (p + 1) (λ q from below. each q (omega (arith, from)) (omega (arith, below))) in
     rw (first, rest) refl
 
-module _ {V : Type 0} (o : SetOperations V) (lawful : AreSound o) (claims : Claims V) (story : LoadedStory) (loaded : IsLoadedStory story) (supports : Supports o claims story) (now : List ℕ) (d : DescribedMemory o claims story now) (object : ℕ) (first : 1 ≤ object) (last : object ≤ story.objects) where
+module _ {V : Type 0} (o : SetOperations V) (lawful : AreSound o) (claims : Claims V) (story : LoadedStory) (loaded : IsLoadedStory story) {marked : ℕ → Bool} (supports : SupportsWhere o claims marked story) (now : List ℕ) (d : DescribedMemory o claims story now) (object : ℕ) (first : 1 ≤ object) (last : object ≤ story.objects) where
   list_same : properties now object ≡ properties story.memory object
   list_same = properties_same story (frozen_in claims) loaded.sound loaded.counted supports.tables.apart supports.properties now d.long d.fixed object first last
 

@@ -1,5 +1,5 @@
 -- Saves are good everywhere: one from which play goes on in one described state, and what was saved of a described state.
-use Rattle.std.proofs.Common.{◌≡◌, inl, inr, ℕ, ◌+◌, ◌*◌, ◌/◌, ◌%◌, ◌<◌, ◌≤◌, ◌==◌, true, false, List, [], ◌∷◌, length, map, slice_set, Result, Ok, Some, ℤ, refl, sym, ap, subst, ◌∙◌, arith}
+use Rattle.std.proofs.Common.{pos, Bool, ◌≡◌, inl, inr, ℕ, ◌+◌, ◌*◌, ◌/◌, ◌%◌, ◌<◌, ◌≤◌, ◌==◌, true, false, List, [], ◌∷◌, length, map, slice_set, Result, Ok, Some, ℤ, refl, sym, ap, subst, ◌∙◌, arith}
 use Rattle.std.specs.Prelude.{nat_le, reverse}
 use Rattle.std.proofs.lemmas.Bool.{cases_lt}
 use Rattle.std.proofs.lemmas.List.{get_or-set_same, length-map, length-reverse, length-set, set-set}
@@ -22,7 +22,7 @@ use Rattle.zstate.specs.Step.{fetch}
 use Rattle.zstate.proofs.Saves.{saves_go_on, states_are_saved}
 use Rattle.zrule.specs.declared.rule.Rule.TheVariants as rules
 use Rattle.zrule.specs.Claims.{Claims, frozen_in}
-use Rattle.zrule.specs.Rules.{Supports}
+use Rattle.zrule.specs.Rules.{SupportsWhere}
 use Rattle.zrule.specs.Described.{Described, IsAcceptedIn, IsFineSave, IsLoadedStory}
 use Rattle.zrule.proofs.Restarting.{elsewhere_described}
 use Rattle.zrule.proofs.Stepping.{read_within}
@@ -79,7 +79,7 @@ goes_where m saved s t e =
     let few = need_ok (nat_le (length saved.frames) (m.limit + 1)) errors.NotDescribed _ t there.1 in
     ok_is _ t few.1
 
-module _ {V : Type 0} (o : SetOperations V) (claims : Claims V) (m : Setting) (loaded : IsLoadedStory m.story) (supports : Supports o claims m.story) where
+module _ {V : Type 0} (o : SetOperations V) (claims : Claims V) (m : Setting) (loaded : IsLoadedStory m.story) {marked : ℕ → Bool} (supports : SupportsWhere o claims marked m.story) where
   -- what isn't described makes no difference
   moved_described : (now t : State) → IsState m.limit m.story now → Described o claims m.limit m.story t → Described o claims m.limit m.story (moved now t)
   moved_described now t is d = elsewhere_described o claims m.story loaded supports m.limit now.memory t now.random false (Some (events.Saved true)) is.count d
@@ -112,9 +112,9 @@ module _ {V : Type 0} (o : SetOperations V) (claims : Claims V) (m : Setting) (l
   of_story s d p (inr static) = d.memory.fixed p (static_fixed m.story loaded.sound loaded.counted (frozen_in claims) p static)
 
   -- and what was saved of it is accepted in every state
-  pub saved_accepted : (s now : State) → m.limit ≤ most_limit → Described o claims m.limit m.story s → saves (fetch m.scope s.place s.memory) ≡ true → IsState m.limit m.story now → IsAcceptedIn o claims m (save_text (origin_of m.story) (saved_of m.story s)) now
-  saved_accepted s now low d asked is =
-      let found = supports.each d.at d.entry d.listed rules.Decodes in
+  pub saved_accepted : (s now : State) → ((p : ℕ) → s.place ≡ pos p → marked p ≡ false) → m.limit ≤ most_limit → Described o claims m.limit m.story s → saves (fetch m.scope s.place s.memory) ≡ true → IsState m.limit m.story now → IsAcceptedIn o claims m (save_text (origin_of m.story) (saved_of m.story s)) now
+  saved_accepted s now plain low d asked is =
+      let found = supports.each d.at d.entry d.listed (plain d.at d.place) rules.Decodes in
       let inside = (read_within m.story.memory d.at found.0 found.1.decodes).1 in
       let static = found.1.static in
       let base = loaded.sound.static_base_above in

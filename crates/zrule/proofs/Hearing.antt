@@ -20,13 +20,13 @@ use Rattle.zstate.proofs.Effects.{has_buffers, line_rewritten}
 use Rattle.zplace.specs.Bytes.{IsWithin, IsOpen}
 use Rattle.zruns.specs.Buffers.{IsParseBuffer, IsTextBuffer}
 use Rattle.zrule.specs.Claims.{Claims, frozen_in}
-use Rattle.zrule.specs.Rules.{Supports}
+use Rattle.zrule.specs.Rules.{SupportsWhere}
 use Rattle.zrule.specs.Described.{DescribedMemory, IsLoadedStory}
 use Rattle.zrule.proofs.Standing.{prompting}
 use Rattle.zrule.proofs.Rewriting.{stored_described}
 use Rattle.zrule.proofs.Storing.{all_writable}
 
-module _ {V : Type 0} (o : SetOperations V) (lawful : AreSound o) (claims : Claims V) (story : LoadedStory) (loaded : IsLoadedStory story) (supports : Supports o claims story) (memory : List ℕ) (d : DescribedMemory o claims story memory) (t p : ℕ) (text : IsTextBuffer story (frozen_in claims) t) (parse : IsParseBuffer story (frozen_in claims) p) where
+module _ {V : Type 0} (o : SetOperations V) (lawful : AreSound o) (claims : Claims V) (story : LoadedStory) (loaded : IsLoadedStory story) {marked : ℕ → Bool} (supports : SupportsWhere o claims marked story) (memory : List ℕ) (d : DescribedMemory o claims story memory) (t p : ℕ) (text : IsTextBuffer story (frozen_in claims) t) (parse : IsParseBuffer story (frozen_in claims) p) where
   -- the sizes are those that were judged
   text_same : byte_at memory t ≡ byte_at story.memory t
   text_same = d.fixed t text.fixed

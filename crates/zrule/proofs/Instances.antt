@@ -132,11 +132,11 @@ bare_entry = record { routine = 0; shape = bare }
 
 -- an instruction of the main code, with nothing on the stack
 unfoldable pub at_bare : ℕ → Listed Interval
-at_bare place = record { address = place; routine = 0; locals = []; slots = [] }
+at_bare place = record { address = place; routine = 0; is_marked = false; locals = []; slots = [] }
 
 -- a certificate that lists so many places, and says that each global is 0
 unfoldable pub certificate_at : List ℕ → Certificate Interval
-certificate_at qs = record { identity = identity_of story; limit = None; ranges = []; globals = replicate 240 (point 0); routines = []; instructions = map at_bare qs }
+certificate_at qs = record { identity = identity_of story; limit = None; marking = false; ranges = []; globals = replicate 240 (point 0); routines = []; instructions = map at_bare qs }
 
 unfoldable pub claims_at : List ℕ → Claims Interval
 claims_at qs = claims_of interval_operations (certificate_at qs)
@@ -367,7 +367,7 @@ supports = record {
   tree = record { small = λ link object least most. absurd (omega (arith, least, most)) };
   abbreviations = record { plain = plain; unchanging = abbreviations_stay };
   tables = tables;
-  each = each_listed (λ p e. (rule : Rule) → Keeps interval_operations claims story p e rule) (798 ∷ 803 ∷ 804 ∷ []) (first_keeps, (rest_keep.0, (rest_keep.1, tt)));
+  each = λ p e listed unmarked. each_listed (λ p e. (rule : Rule) → Keeps interval_operations claims story p e rule) (798 ∷ 803 ∷ 804 ∷ []) (first_keeps, (rest_keep.0, (rest_keep.1, tt))) p e listed;
 }
 
 -- the story could be loaded: its dictionary has no entry, and there is no room for an object

@@ -1,5 +1,5 @@
 -- Where a step leads, as the rules expect it, from a described state.
-use Rattle.std.proofs.Common.{◌≡◌, ℕ, suc, ◌+◌, true, List, [], ◌∷◌, Option, Some, None, refl, sym, ap, subst, ◌∙◌, arith}
+use Rattle.std.proofs.Common.{Bool, ◌≡◌, ℕ, suc, ◌+◌, true, List, [], ◌∷◌, Option, Some, None, refl, sym, ap, subst, ◌∙◌, arith}
 use Rattle.std.specs.Prelude.{ℤ, pos, ◌+ℤ◌}
 use Rattle.std.specs.List.{AllZip}
 use Rattle.zcode.specs.declared.instr.Destination.{Destination}
@@ -14,12 +14,12 @@ use Rattle.zflow.specs.declared.parts.Lead.{Lead}
 use Rattle.zflow.specs.declared.parts.Lead.TheVariants.{Ahead, Returning, Entering}
 use Rattle.zflow.specs.Transfer.{Shape, argument_sets, turned_to, with_result}
 use Rattle.zrule.specs.Claims.{Claims}
-use Rattle.zrule.specs.Rules.{Begins, Enters, TakesBack, result_if, result_at, Leads, Supports, Takes, GoesOn, Returns}
+use Rattle.zrule.specs.Rules.{Begins, Enters, TakesBack, result_if, result_at, Leads, SupportsWhere, Takes, GoesOn, Returns}
 use Rattle.zrule.specs.Described.{Callers, Described, DescribedMemory, FitsWith, IsLoadedStory}
 use Rattle.zrule.proofs.Called.{starts_in}
 use Rattle.zrule.proofs.Fitting.{IsIn, exists_in, given_fits, covered, covered_with, fits_there, Mid, put_mid}
 
-module _ {V : Type 0} (o : SetOperations V) (lawful : AreSound o) (claims : Claims V) (m : Setting) (loaded : IsLoadedStory m.story) (supports : Supports o claims m.story) (s : State) (d : Described o claims m.limit m.story s) (i : Instruction) where
+module _ {V : Type 0} (o : SetOperations V) (lawful : AreSound o) (claims : Claims V) (m : Setting) (loaded : IsLoadedStory m.story) {marked : ℕ → Bool} (supports : SupportsWhere o claims marked m.story) (s : State) (d : Described o claims m.limit m.story s) (i : Instruction) where
   -- a state in mid-instruction, of which this is known
   abbrev Known_in : Shape V → State → Type 0
   Known_in e u = Mid o claims m.story loaded supports.tables d.entry.routine e u

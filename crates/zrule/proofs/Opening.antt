@@ -1,16 +1,16 @@
 -- The state in which a story opens is described.
-use Rattle.std.proofs.Common.{ℕ, [], refl, sym, subst}
+use Rattle.std.proofs.Common.{Bool, ℕ, [], refl, sym, subst}
 use Rattle.std.specs.List.{AllZip}
 use Rattle.zstory.specs.LoadedStory.{LoadedStory, first_instruction}
 use Rattle.zdomain.specs.Domain.{SetOperations, In}
 use Rattle.zstate.specs.State.{opening}
 use Rattle.zstate.proofs.Opens.{opening_is_state}
 use Rattle.zrule.specs.Claims.{Claims}
-use Rattle.zrule.specs.Rules.{Supports}
+use Rattle.zrule.specs.Rules.{SupportsWhere}
 use Rattle.zrule.specs.Described.{Described, IsLoadedStory}
 
-pub opening_described : {V : Type 0} (o : SetOperations V) (claims : Claims V) (story : LoadedStory) (limit : ℕ) → IsLoadedStory story → Supports o claims story → Described o claims limit story (opening story)
-opening_described o claims story limit loaded supports =
+pub opening_described : {V : Type 0} (o : SetOperations V) (claims : Claims V) (story : LoadedStory) (limit : ℕ) → IsLoadedStory story → {marked : ℕ → Bool} → SupportsWhere o claims marked story → Described o claims limit story (opening story)
+opening_described o claims story limit loaded {marked} supports =
     let first = supports.first in
     record {
       is_state = opening_is_state limit story loaded.sound loaded.counted;

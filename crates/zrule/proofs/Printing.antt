@@ -15,13 +15,13 @@ use Rattle.zstate.specs.InTurn.{◌>>=◌}
 use Rattle.zstate.specs.Step.{global_word, line_of, naming, of_object, printing, showing, status_of}
 use Rattle.zruns.specs.Texts.{HasFixedText}
 use Rattle.zrule.specs.Claims.{Claims, frozen_in}
-use Rattle.zrule.specs.Rules.{HasLineObject, Supports}
+use Rattle.zrule.specs.Rules.{HasLineObject, SupportsWhere}
 use Rattle.zrule.specs.Described.{DescribedMemory, IsLoadedStory}
 use Rattle.zrule.proofs.Answering.{name_printed}
 use Rattle.zrule.proofs.Pieces.{not_below_one, object_known}
 use Rattle.zrule.proofs.Unchanged.{abbreviation_same}
 
-module _ {V : Type 0} (o : SetOperations V) (lawful : AreSound o) (claims : Claims V) (story : LoadedStory) (loaded : IsLoadedStory story) (supports : Supports o claims story) (now : List ℕ) (d : DescribedMemory o claims story now) where
+module _ {V : Type 0} (o : SetOperations V) (lawful : AreSound o) (claims : Claims V) (story : LoadedStory) (loaded : IsLoadedStory story) {marked : ℕ → Bool} (supports : SupportsWhere o claims marked story) (now : List ℕ) (d : DescribedMemory o claims story now) where
   -- a text that stays as it is
   pub text_printed : (at : ℕ) → HasFixedText story (frozen_in claims) at → IsOk (output_at now at)
   text_printed at rule =

@@ -13,7 +13,7 @@ use Rattle.zplace.specs.Bytes.{IsFixed, IsObjectState, IsWithin}
 use Rattle.zstate.specs.declared.mode.RandomMode.{RandomMode}
 use Rattle.zstate.specs.State.{IsCount, IsState, State, keeping_flags, opening, restarted}
 use Rattle.zrule.specs.Claims.{Claims, frozen_in}
-use Rattle.zrule.specs.Rules.{Supports}
+use Rattle.zrule.specs.Rules.{SupportsWhere}
 use Rattle.zrule.specs.Described.{Described, DescribedMemory, IsLoadedStory}
 use Rattle.zrule.proofs.Given.{described_aside}
 use Rattle.zrule.proofs.Opening.{opening_described}
@@ -53,7 +53,7 @@ flags_keep limit story now s is =
       count = is.count;
     }
 
-module _ {V : Type 0} (o : SetOperations V) (claims : Claims V) (story : LoadedStory) (loaded : IsLoadedStory story) (supports : Supports o claims story) where
+module _ {V : Type 0} (o : SetOperations V) (claims : Claims V) (story : LoadedStory) (loaded : IsLoadedStory story) {marked : ℕ → Bool} (supports : SupportsWhere o claims marked story) where
   -- that byte belongs to no table
   flags_apart : (p : ℕ) → p ≡ 17 → (IsWithin (globals story) 480 p ⊎ IsObjectState story p) → ⊥
   flags_apart p is (inl within) = let above = loaded.sound.globals_above in omega (arith, is, above, within.0)

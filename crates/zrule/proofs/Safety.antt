@@ -53,8 +53,8 @@ use Rattle.zplace.specs.Bytes.{IsOpen}
 use Rattle.zflow.specs.Transfer.{Shape, drawn_set, pops, variable_set, small, is_local, local_kept, operand_kept, both_kept, untold, counted_set, demands_of, goes_on, gives_in, assigns_in, asks, counts_in, follows_in, returns_in, enters_in, argument_sets, jumps, outcome_of, leading, named_with, with_result, with_assigned, narrowed, read_set, mid_shape, changed_by, after}
 use Rattle.zrule.specs.declared.rule.Rule.TheVariants as rules
 use Rattle.zrule.specs.Claims.{Claims, frozen_in, told_of}
-use Rattle.zrule.specs.Rules.{Begins, Enters, TakesBack, HasLineObject, IsThere, IsKnown, IsNamed, IsVariable, HasTop, Supports, Takes, TakesInPlace, GoesOn, Returns, OnEdge, Whatever, IsLow, demands_at, AreObjects, NamesObject, Finds, FindsProperty, FillsOpen, AreRead, AreWritten, KnowsAnswers}
-use Rattle.zrule.specs.Described.{Described, DescribedMemory, Fits, IsSafe, IsListedIn, IsLoadedStory}
+use Rattle.zrule.specs.Rules.{Begins, Enters, TakesBack, HasLineObject, IsThere, IsKnown, IsNamed, IsVariable, HasTop, SupportsWhere, Takes, TakesInPlace, GoesOn, Returns, OnEdge, Whatever, IsLow, demands_at, AreObjects, NamesObject, Finds, FindsProperty, FillsOpen, AreRead, AreWritten, KnowsAnswers}
+use Rattle.zrule.specs.Described.{Described, DescribedMemory, Fits, IsSafe, IsListedWhere, IsLoadedStory}
 use Rattle.zrule.proofs.Sets.{ReadsAll, reads_all, fits_popped, zip_set, zip_length}
 use Rattle.zrule.proofs.Printing.{line_shown, name_known, text_printed}
 use Rattle.zrule.proofs.Unchanged.{static_fixed, drop_same}
@@ -81,7 +81,7 @@ use Rattle.zrule.proofs.Answering.{Filled, answer_lies, answered, filled, found_
 use Rattle.zrule.proofs.Storing.{bytes_of, data_open, element_differs, element_lies, element_there, element_writable}
 use Rattle.zrule.proofs.Rewriting.{stored_described, inserted_described, marked_described, unlinked_described}
 
-module _ {V : Type 0} (o : SetOperations V) (lawful : AreSound o) (claims : Claims V) (m : Setting) (loaded : IsLoadedStory m.story) (supports : Supports o claims m.story) (listed : IsListedIn o claims m.scope) (s : State) (d : Described o claims m.limit m.story s) (i : Instruction) (there : IsThere m.story d.at i) where
+module _ {V : Type 0} (o : SetOperations V) (lawful : AreSound o) (claims : Claims V) (m : Setting) (loaded : IsLoadedStory m.story) {marked : ℕ → Bool} (supports : SupportsWhere o claims marked m.story) (listed : IsListedWhere o claims marked m.scope) (s : State) (d : Described o claims m.limit m.story s) (plain : marked d.at ≡ false) (i : Instruction) (there : IsThere m.story d.at i) where
   abbrev operands : List Operand
   operands = inputs i
 
@@ -103,13 +103,13 @@ module _ {V : Type 0} (o : SetOperations V) (lawful : AreSound o) (claims : Clai
   Known_in e u = Mid o claims m.story loaded supports.tables d.entry.routine e u
 
   rule_known : IsKnown o claims i d.entry.shape
-  rule_known = supports.each d.at d.entry d.listed rules.Known i there
+  rule_known = supports.each d.at d.entry d.listed plain rules.Known i there
 
   height : (pops operands ≤ length d.entry.shape.slots) × IfSome (demands_at o claims i d.entry.shape).variable (HasTop o claims mid)
-  height = supports.each d.at d.entry d.listed rules.Height i there rule_known
+  height = supports.each d.at d.entry d.listed plain rules.Height i there rule_known
 
   local : AllByRecursion (IsNamed o claims d.entry.shape) operands × IsVariable o claims d.entry.shape (target i) × IfSome (demands_at o claims i d.entry.shape).variable (IsVariable o claims d.entry.shape)
-  local = supports.each d.at d.entry d.listed rules.Local i there rule_known
+  local = supports.each d.at d.entry d.listed plain rules.Local i there rule_known
 
   pub all : ReadsAll o claims m.story operands d.entry.shape s
   all = reads_all o lawful claims m.story operands d.entry.shape s d.fits d.memory.values height.0 local.0
@@ -145,29 +145,29 @@ module _ {V : Type 0} (o : SetOperations V) (lawful : AreSound o) (claims : Clai
 
   -- what get_prop and get_prop_addr give is known, since what they ask for is found
   answers_known : KnowsAnswers o claims m.story i d.entry.shape
-  answers_known = known_wherever (demands_at o claims i d.entry.shape).property (NamesObject o claims m.story i d.entry.shape × FindsProperty o claims m.story i d.entry.shape) (supports.each d.at d.entry d.listed rules.Object i there, supports.each d.at d.entry d.listed rules.Property i there)
+  answers_known = known_wherever (demands_at o claims i d.entry.shape).property (NamesObject o claims m.story i d.entry.shape × FindsProperty o claims m.story i d.entry.shape) (supports.each d.at d.entry d.listed plain rules.Object i there, supports.each d.at d.entry d.listed plain rules.Property i there)
 
   abbrev successor : IsTrue (demands_at o claims i d.entry.shape).certain × Whatever o claims m.story i d.entry.shape (λ w. IsLow o claims i d.entry.shape w → OnEdge o claims w i d.entry.shape (λ f. GoesOn o claims d.entry.routine (target i) f (d.at + i.size) (leading o w i.branch)))
-  successor = supports.each d.at d.entry d.listed rules.Successor i there (supports.each d.at d.entry d.listed rules.Divisor i there) (supports.each d.at d.entry d.listed rules.Read i there) answers_known (supports.each d.at d.entry d.listed rules.Called i there)
+  successor = supports.each d.at d.entry d.listed plain rules.Successor i there (supports.each d.at d.entry d.listed plain rules.Divisor i there) (supports.each d.at d.entry d.listed plain rules.Read i there) answers_known (supports.each d.at d.entry d.listed plain rules.Called i there)
 
   pub asked : Asked (demands_of o (operation_of i.opcode) args)
   asked = record {
     top = height.1;
     exists = local.2;
     known = on_true (demands_at o claims i d.entry.shape).indirect _ _ rule_known (first_there o claims operands d.entry.shape height.0 local.0);
-    divides = supports.each d.at d.entry d.listed rules.Divisor i there;
-    object = supports.each d.at d.entry d.listed rules.Object i there;
-    attribute = supports.each d.at d.entry d.listed rules.Attribute i there;
-    property = supports.each d.at d.entry d.listed rules.Property i there;
-    puts = (supports.each d.at d.entry d.listed rules.Write i there).0;
-    written = (supports.each d.at d.entry d.listed rules.Write i there).1;
-    address = (supports.each d.at d.entry d.listed rules.Read i there).0;
-    read = (supports.each d.at d.entry d.listed rules.Read i there).1;
+    divides = supports.each d.at d.entry d.listed plain rules.Divisor i there;
+    object = supports.each d.at d.entry d.listed plain rules.Object i there;
+    attribute = supports.each d.at d.entry d.listed plain rules.Attribute i there;
+    property = supports.each d.at d.entry d.listed plain rules.Property i there;
+    puts = (supports.each d.at d.entry d.listed plain rules.Write i there).0;
+    written = (supports.each d.at d.entry d.listed plain rules.Write i there).1;
+    address = (supports.each d.at d.entry d.listed plain rules.Read i there).0;
+    read = (supports.each d.at d.entry d.listed plain rules.Read i there).1;
     certain = successor.0;
-    text = (supports.each d.at d.entry d.listed rules.Text i there).0;
-    texts = (supports.each d.at d.entry d.listed rules.Text i there).1;
-    line = supports.each d.at d.entry d.listed rules.Status i there;
-    buffers = supports.each d.at d.entry d.listed rules.Buffers i there;
+    text = (supports.each d.at d.entry d.listed plain rules.Text i there).0;
+    texts = (supports.each d.at d.entry d.listed plain rules.Text i there).1;
+    line = supports.each d.at d.entry d.listed plain rules.Status i there;
+    buffers = supports.each d.at d.entry d.listed plain rules.Buffers i there;
   }
 
   abbrev given_args : List V
@@ -585,7 +585,7 @@ module _ {V : Type 0} (o : SetOperations V) (lawful : AreSound o) (claims : Clai
 
   pub begins_said : CallsOf (operation_of i.opcode)
   unfolding CallsOf
-  begins_said = supports.each d.at d.entry d.listed rules.Called i there
+  begins_said = supports.each d.at d.entry d.listed plain rules.Called i there
 
   pub expected : Expected (operation_of i.opcode) (effect_of m (operation_of i.opcode) all.values t)
   expected = by_operation (operation_of i.opcode) asked begins_said
@@ -684,16 +684,16 @@ module _ {V : Type 0} (o : SetOperations V) (lawful : AreSound o) (claims : Clai
     by_edge Rule rule = subst (λ (r : Option (Shape V)). IfSome r Rule) edge.1 rule
 
     takes : Takes o claims w.gives (target i) × TakesInPlace o claims w.assigns × TakesBack o claims (target i) (leading o w i.branch)
-    takes = by_edge (λ f. Takes o claims w.gives (target i) × TakesInPlace o claims w.assigns × TakesBack o claims (target i) (leading o w i.branch)) (supports.each d.at d.entry d.listed rules.Stored i there w comes)
+    takes = by_edge (λ f. Takes o claims w.gives (target i) × TakesInPlace o claims w.assigns × TakesBack o claims (target i) (leading o w i.branch)) (supports.each d.at d.entry d.listed plain rules.Stored i there w comes)
 
     known_there : Known_in shape u
     known_there = mid_changed w effect matches takes.0 takes.1
 
     pub returns : Returns o claims d.entry.routine (leading o w i.branch)
-    returns = by_edge (λ f. Returns o claims d.entry.routine (leading o w i.branch)) (supports.each d.at d.entry d.listed rules.Returned i there w comes)
+    returns = by_edge (λ f. Returns o claims d.entry.routine (leading o w i.branch)) (supports.each d.at d.entry d.listed plain rules.Returned i there w comes)
 
     begins_there : Enters o claims m.story given_args (leading o w i.branch)
-    begins_there = by_edge (λ f. Enters o claims m.story given_args (leading o w i.branch)) (supports.each d.at d.entry d.listed rules.Called i there w comes)
+    begins_there = by_edge (λ f. Enters o claims m.story given_args (leading o w i.branch)) (supports.each d.at d.entry d.listed plain rules.Called i there w comes)
 
     pub admitted : admits (target i) effect (course effect i.branch) t ≡ Ok tt
     admitted =
@@ -703,7 +703,7 @@ module _ {V : Type 0} (o : SetOperations V) (lawful : AreSound o) (claims : Clai
     acted : IsState m.limit m.story (act m.story i effect t) → Described o claims m.limit m.story (act m.story i effect t)
     unfolding act
     acted state =
-        let follows = successor.1 w comes (supports.each d.at d.entry d.listed rules.High i there w comes) in
+        let follows = successor.1 w comes (supports.each d.at d.entry d.listed plain rules.High i there w comes) in
         let exists = still_there shape u (length_with o claims w.gives (target i) (with_assigned w.assigns mid).locals ∙ length_assigned w.assigns mid) known_there in
         let goes = by_edge (λ f. GoesOn o claims d.entry.routine (target i) f (d.at + i.size) (leading o w i.branch)) follows in
         let place : u.place +ℤ pos i.size ≡ pos (d.at + i.size) = ap (λ (p : ℤ). p +ℤ pos i.size) ((changed_aside m.story i effect t).place ∙ d.place) in
@@ -719,7 +719,7 @@ module _ {V : Type 0} (o : SetOperations V) (lawful : AreSound o) (claims : Clai
   reads = ap instruction_at (drop_same m.story loaded.sound loaded.counted (frozen_in claims) s.memory d.memory.long d.memory.fixed d.at there.static) ∙ there.decodes
 
   pub fetches : fetch m.scope s.place s.memory ≡ Ok i
-  fetches = fetch_is m.scope s.place d.at s.memory i d.place (listed.places d.at d.entry d.listed) reads
+  fetches = fetch_is m.scope s.place d.at s.memory i d.place (listed.places d.at d.entry d.listed plain) reads
 
   pub steps : step m s ≡ (effect_of m (operation_of i.opcode) all.values t >>= made_by m s t i)
   steps = step_is m s t i all.values fetches all.read

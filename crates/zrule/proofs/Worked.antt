@@ -80,10 +80,11 @@ certificate : Certificate Interval
 certificate = record {
   identity = record { release = 1; serial = 0 ∷ 0 ∷ 0 ∷ 0 ∷ 0 ∷ 0 ∷ []; checksum = 0; length = 1024 };
   limit = None;
+  marking = false;
   ranges = range ∷ record { first = 70; last = 70 } ∷ [];
   globals = replicate 240 (point 3);
   routines = record { address = 0x300; locals = 1; result = point 5 } ∷ [];
-  instructions = record { address = 0x302; routine = 1; locals = point 4 ∷ []; slots = [] } ∷ record { address = 0x305; routine = 1; locals = point 4 ∷ []; slots = point 6 ∷ point 7 ∷ [] } ∷ [];
+  instructions = record { address = 0x302; routine = 1; is_marked = false; locals = point 4 ∷ []; slots = [] } ∷ record { address = 0x305; routine = 1; is_marked = false; locals = point 4 ∷ []; slots = point 6 ∷ point 7 ∷ [] } ∷ [];
 }
 
 shape : Shape Interval
@@ -569,7 +570,7 @@ callers_of story s d = d.callers
 -- of a scope that has what is listed, each listed place may be played, and each routine called
 listed_in : (scope : Scope) (l : IsListedIn interval_operations small scope) → (scope.instructions 8 ≡ true) × ((p k : ℕ) → small.routine_at p ≡ Some k → scope.routines p ≡ true)
 unfolding small
-listed_in scope l = (l.places 8 _ refl, l.routines)
+listed_in scope l = (l.places 8 _ refl refl, l.routines)
 
 -- the first place is in the main code, which has no locals, with an empty stack
 begins_with : ℕ → Shape Interval → Claims Interval

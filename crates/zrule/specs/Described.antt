@@ -1,5 +1,5 @@
 -- When claims describe a state (own).
-use Rattle.std.specs.Prelude.{◌≡◌, ℕ, ◌-◌, ◌<◌, ◌≤◌, true, List, [], ◌∷◌, length, Some, MatchOption, Result, Ok, Err, pos, slice_get, slice_set, ◌==◌, nat_lt}
+use Rattle.std.specs.Prelude.{◌≡◌, ℕ, ◌-◌, ◌<◌, ◌≤◌, Bool, true, false, List, [], ◌∷◌, length, Some, MatchOption, Result, Ok, Err, pos, slice_get, slice_set, ◌==◌, nat_lt}
 use Rattle.std.specs.Bool.{MatchBool}
 use Rattle.std.specs.List.{AllByRecursion, AllZip}
 use Rattle.zstory.specs.Bytes.{byte_at}
@@ -21,7 +21,7 @@ use Rattle.zobj.specs.Tree.{IsTree}
 use Rattle.zflow.specs.Transfer.{Shape}
 use Rattle.zrule.specs.Claims.{Entry, Claims, frozen_in}
 use Rattle.zplace.specs.Bytes.{IsFixed}
-use Rattle.zrule.specs.Rules.{HasGlobals, Supports}
+use Rattle.zrule.specs.Rules.{HasGlobals, Supports, SupportsWhere}
 
 module _ {V : Type 0} (o : SetOperations V) (claims : Claims V) where
   -- the locals and the stack lie in the sets stated, and are as many
@@ -85,10 +85,14 @@ module _ {V : Type 0} (o : SetOperations V) (claims : Claims V) where
   abbrev pub AreFine : Setting → List Input → Type 0
   AreFine m inputs = AllByRecursion (IsFine m) inputs
 
-  -- every listed place may be played there, and every routine called
-  pub record IsListedIn (scope : Scope) : Type 0 where
-    pub places : (p : ℕ) (e : Entry V) → claims.entry p ≡ Some e → scope.instructions p ≡ true
+  -- every listed place may be played there that isn't marked, and every routine called
+  pub record IsListedWhere (marked : ℕ → Bool) (scope : Scope) : Type 0 where
+    pub places : (p : ℕ) (e : Entry V) → claims.entry p ≡ Some e → marked p ≡ false → scope.instructions p ≡ true
     pub routines : (p k : ℕ) → claims.routine_at p ≡ Some k → scope.routines p ≡ true
+
+  -- every listed place may be played there, and every routine called
+  abbrev pub IsListedIn : Scope → Type 0
+  IsListedIn scope = IsListedWhere (λ p. false) scope
 
 -- ---- the laws
 
@@ -119,6 +123,21 @@ module _ {V : Type 0} (o : SetOperations V) (claims : Claims V) where
   -- whatever the saves, as long as they are fine
   abbrev pub RunsSafely : Type 0
   RunsSafely = (m : Setting) (inputs : List Input) (n : ℕ) (s : State) → IsLoadedStory m.story → Supports o claims m.story → IsListedIn o claims m.scope → AreFine o claims m inputs → Described o claims m.limit m.story s → IsNoFault (run m inputs n s).stop × Described o claims m.limit m.story (run m inputs n s).state
+
+  -- at a marked place the next step is no fault, and leads to a described state
+  abbrev pub IsHeldAt : (ℕ → Bool) → Setting → State → Type 0
+  IsHeldAt marked m s = (p : ℕ) → s.place ≡ pos p → marked p ≡ true → IsSafe o claims m.limit m.story (step m s)
+
+  -- so at each marked place that a run comes to
+  abbrev pub MarksHold : (ℕ → Bool) → Setting → List Input → ℕ → State → Type 0
+  MarksHold marked m inputs n s = (k : ℕ) → k ≤ n → IsHeldAt marked m (run m inputs k s).state
+
+  -- Where the claims hold but at marked places, a run from a described state stops with no fault, in a described state, as long as what it makes at
+  -- those keeps it described: so where there is a fault, it is at a marked place, or behind one that led to a state that isn't described
+  abbrev pub RunsSafelyWhereMarked : Type 0
+  RunsSafelyWhereMarked =
+      (marked : ℕ → Bool) (m : Setting) (inputs : List Input) (n : ℕ) (s : State) → IsLoadedStory m.story → SupportsWhere o claims marked m.story → IsListedWhere o claims marked m.scope
+      → AreFine o claims m inputs → Described o claims m.limit m.story s → MarksHold marked m inputs n s → IsNoFault (run m inputs n s).stop × Described o claims m.limit m.story (run m inputs n s).state
 
   -- a story of which the claims hold never faults, where every place of it may be played, however many frames there may be
   abbrev pub NeverFaults : Type 0

@@ -348,8 +348,8 @@ module _ {V : Type 0} (o : SetOperations V) (claims : Claims V) where
     pub broken : Keeps story p e rule → ⊥
     pub before : (other : Rule) → number_of other < number_of rule → Keeps story p e other
 
-  -- the claims hold of a story
-  pub record Supports (story : LoadedStory) : Type 0 where
+  -- the claims hold of a story; where a place is marked, no rule is asked
+  pub record SupportsWhere (marked : ℕ → Bool) (story : LoadedStory) : Type 0 where
     pub first : HasFirstPlace story
     pub heads : HasHeads story
     pub values : HasGlobals story story.memory
@@ -361,4 +361,8 @@ module _ {V : Type 0} (o : SetOperations V) (claims : Claims V) where
     pub tree : IsTree story.memory story.objects
     pub abbreviations : HasAbbreviations story
     pub tables : HasDisjointTables story (frozen_in claims)
-    pub each : (p : ℕ) (e : Entry V) → claims.entry p ≡ Some e → (rule : Rule) → Keeps story p e rule
+    pub each : (p : ℕ) (e : Entry V) → claims.entry p ≡ Some e → marked p ≡ false → (rule : Rule) → Keeps story p e rule
+
+  -- they hold of it, with each rule asked at each listed place
+  abbrev pub Supports : LoadedStory → Type 0
+  Supports story = SupportsWhere (λ p. false) story

@@ -1,7 +1,7 @@
 //! Why a story never faults of which the claims of a certificate hold.
 
 ghost use Rattle.zrule.specs.Claims.{Claims};
-ghost use Rattle.zrule.specs.Described.{AcceptedAreFine, NeverFaults, OpensDescribed, PlaysAlike, RestartsDescribed, RunsSafely, SavedAreAccepted, StepsSafely};
+ghost use Rattle.zrule.specs.Described.{AcceptedAreFine, NeverFaults, OpensDescribed, PlaysAlike, RestartsDescribed, RunsSafely, RunsSafelyWhereMarked, SavedAreAccepted, StepsSafely};
 
 use zdomain::Domain;
 
@@ -14,6 +14,7 @@ pub fn each_step_is_safe<V: Domain>()
     ensures restart { (claims : Claims V) → RestartsDescribed V.operations claims }
     ensures step { (claims : Claims V) → StepsSafely V.operations claims }
     ensures runs { (claims : Claims V) → RunsSafely V.operations claims }
+    ensures marked { (claims : Claims V) → RunsSafelyWhereMarked V.operations claims }
     ensures never_faults { (claims : Claims V) → NeverFaults V.operations claims }
     ensures alike { (claims : Claims V) → PlaysAlike V.operations claims }
 {}

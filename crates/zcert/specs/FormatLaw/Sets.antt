@@ -192,6 +192,7 @@ pub values_is_format : IsFormat values_format
 values_is_format = record {
   version = omega arith;
   apart = λ e. absurd cc;
+  unmarked = λ e. absurd cc;
   takes = value_takes;
   bytes = IsBytes-set;
   long = set_is_long;

@@ -1,4 +1,4 @@
-use Rattle.std.proofs.Common.{rules, arith, length, ◌≤◌, ◌∙◌}
+use Rattle.std.proofs.Common.{false, rules, arith, length, ◌≤◌, ◌∙◌}
 use Rattle.std.proofs.lemmas.Option.{slice_get_within}
 use Rattle.zcert.specs.Listed.{seen}
 use Rattle.zcheck.proofs.Places.{first_broken, first_more, passes_where}
@@ -11,7 +11,7 @@ returns-in-Err g c =
 
 pub loop-index-preserved : goal.loop-index-preserved
 loop-index-preserved g c = record {
-  kept = first_more g.V.Domain.operations c.args.story.now c.args.certificate.now c.loop-index.index (seen c.instruction-listed.result) c.instruction-listed.ensures.value c.loop-index.invariant.kept c.in_default-judge.ensures.kept;
+  kept = first_more g.V.Domain.operations c.args.story.now c.args.certificate.now (λ i. false) c.loop-index.index (seen c.instruction-listed.result) c.instruction-listed.ensures.value c.loop-index.invariant.kept (λ asked. c.in_default-judge.ensures.kept);
   same = c.judge.ensures.memory ∙ c.loop-index.invariant.same;
 }
 

@@ -1,9 +1,9 @@
-use Rattle.std.proofs.Common.{◌≡◌}
+use Rattle.std.proofs.Common.{false, ◌≡◌}
 use Rattle.zcheck.proofs.Places.{KeepsFirst}
 use Rattle.zcheck.proofs.examining.examine.Given as goal
 
 abbrev pub invariant-loop-index : goal.invariant-loop-index
 invariant-loop-index g l = record {
-  kept : KeepsFirst g.V.Domain.operations l.story l.certificate l.index;
+  kept : KeepsFirst g.V.Domain.operations l.story l.certificate (λ i. false) l.index;
   same : l.ends ≡ l.story.memory;
 }

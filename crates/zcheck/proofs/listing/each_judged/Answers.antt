@@ -1,4 +1,4 @@
-use Rattle.std.proofs.Common.{rules, arith, length, ◌≤◌, ◌∙◌, refl}
+use Rattle.std.proofs.Common.{false, rules, arith, length, ◌≤◌, ◌∙◌, refl}
 use Rattle.std.proofs.lemmas.Option.{slice_get_within}
 use Rattle.zcert.specs.Listed.{seen}
 use Rattle.zcheck.specs.Acceptance.{IsRecordOf}
@@ -16,7 +16,7 @@ loop-index-preserved g c =
     let here : IsRecordOf c.args.story.now (seen c.instruction-listed.result) (record { address = c.instruction-listed.result.address; routine = c.instruction-listed.result.routine; instruction = c.in-Ok.instruction }) = record { address = refl; routine = refl; instruction = c.in-Ok.ensures.there.decodes } in
     let made = zip_more (IsRecordOf c.args.story.now) c.args.certificate.now.instructions c.loop-index.records.items c.loop-index.index (seen c.instruction-listed.result) _ c.instruction-listed.ensures.value c.loop-index.invariant.made here in
     record {
-      kept = first_more g.V.Domain.operations c.args.story.now c.args.certificate.now c.loop-index.index (seen c.instruction-listed.result) c.instruction-listed.ensures.value c.loop-index.invariant.kept c.in-Ok.ensures.kept;
+      kept = first_more g.V.Domain.operations c.args.story.now c.args.certificate.now (λ i. false) c.loop-index.index (seen c.instruction-listed.result) c.instruction-listed.ensures.value c.loop-index.invariant.kept (λ asked. c.in-Ok.ensures.kept);
       made = rw c.push_reserved.ensures.items made;
       count = search rules;
       room = search rules;

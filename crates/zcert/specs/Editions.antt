@@ -1,0 +1,22 @@
+-- The versions of a kind of sets, by what their certificates have beside what all have (own).
+use Rattle.std.specs.Prelude.{ℕ, Bool, true, false, Option, None, Some}
+use Rattle.zcert.specs.declared.edition.Edition.{Edition}
+use Rattle.zcert.specs.declared.edition.Edition.TheVariants as editions
+
+-- whether they name a limit of frames
+abbrev pub is_limited : Edition → Bool
+is_limited editions.Plain = false
+is_limited editions.Limited = true
+is_limited editions.Marking = true
+
+-- whether they may mark instructions
+abbrev pub is_marking : Edition → Bool
+is_marking editions.Plain = false
+is_marking editions.Limited = false
+is_marking editions.Marking = true
+
+-- that of certificates that name such a limit, or none, and may mark instructions, or not
+abbrev pub edition_by : Option ℕ → Bool → Edition
+edition_by None marking = editions.Plain
+edition_by (Some n) false = editions.Limited
+edition_by (Some n) true = editions.Marking

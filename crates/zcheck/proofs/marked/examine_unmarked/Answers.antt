@@ -1,0 +1,27 @@
+use Rattle.std.proofs.Common.{rules, arith, length, ◌≤◌, ◌∙◌}
+use Rattle.std.proofs.lemmas.Option.{slice_get_within}
+use Rattle.zcert.specs.Listed.{seen}
+use Rattle.zcheck.proofs.Places.{first_more, first_passed, first_unmarked, marked_pass}
+use Rattle.zcheck.proofs.marked.examine_unmarked.Goals as goal
+
+pub returns-in-Err : goal.returns-in-Err
+returns-in-Err g c =
+    let listed = c.instruction-listed.ensures in
+    first_unmarked g.V.Domain.operations c.args.story.now c.args.certificate.now g.V.Spelled.format listed.keeps c.in_default.ensures c.loop-index.index (seen c.instruction-listed.result) c.in-Err.rule listed.value listed.listed c.if-listed.false c.loop-index.invariant.kept c.in-Err.ensures.broken
+
+pub loop-index-preserved : goal.loop-index-preserved
+loop-index-preserved g c = record {
+  kept = first_more g.V.Domain.operations c.args.story.now c.args.certificate.now (λ i. i.is_marked) c.loop-index.index (seen c.instruction-listed.result) c.instruction-listed.ensures.value c.loop-index.invariant.kept (λ unmarked. c.in_default-judge.ensures.kept);
+  same = c.judge.ensures.memory ∙ c.loop-index.invariant.same;
+}
+
+pub returns : goal.returns
+returns g c =
+    let end : length c.args.certificate.now.instructions ≤ c.loop-index.index = search (rules, arith) in
+    marked_pass g.V.Domain.operations c.args.story.now c.args.certificate.now c.in_default.ensures (λ k i found. let l = slice_get_within c.args.certificate.now.instructions k i found in c.loop-index.invariant.kept k (omega (arith, l, end)) i found)
+
+pub loop-index-preserved-then-listed : goal.loop-index-preserved-then-listed
+loop-index-preserved-then-listed g c = record {
+  kept = first_passed g.V.Domain.operations c.args.story.now c.args.certificate.now c.loop-index.index (seen c.instruction-listed.result) c.instruction-listed.ensures.value c.if-listed.true c.loop-index.invariant.kept;
+  same = c.loop-index.invariant.same;
+}
