@@ -14,7 +14,8 @@ import sys
 
 from program import Answer, Count, Program, side_by_side
 from calls import PRINT_FIRST, RET_POPPED, call
-from lists import LISTED, NAMED, NAMINGS, TABLE, alterations, damaged, drawn_certificate, list_of, table_listed
+from lists import LISTED, NAMED, NAMINGS, TABLE, alterations, damaged, drawn_certificate, list_of, marks_of, refusal, table_listed
+from marks import BOTH, MADE
 from samples import CODE, HELLO, NOP, QUIT, certificate, changed, interval, story
 
 REFUSED = re.compile(rb"refused: [LKSI][0-9]{1,2}( at [0-9a-f]{5})?\n")
@@ -56,6 +57,7 @@ STORY_BYTES = [
 ]
 CERTIFICATE_BYTES = [
     ("another version", 4, [9], "K2"),
+    ("version 5", 4, [5], "K2"),
     ("an address twice", 990, [0x29], "K5"),
     ("another first address", 990, [0x25], "S2"),
     ("one instruction", 986, [1], "K4"),
@@ -261,6 +263,45 @@ def see_lists(program, calls, count):
         count.see(not wrong, f"lists, altered {number}: {wrong}")
 
 
+class AlteredMarks:
+    """The program, and what the story plays like that isn't altered. With marks a play may meet a fault: the one that is met with no certificate."""
+
+    def __init__(self, program):
+        self.program, self.plain = program, self.plays({"story": MADE})
+
+    def plays(self, files):
+        return self.program.run(["play", "--budget", "1000", "story"], files)
+
+    def what_is_wrong(self, files):
+        accepted = self.program.run(["check", "story", "certificate"], files)
+        by_certificate = self.program.run(["play", "--budget", "1000", "story", "certificate"], files)
+        unread = refusal(files["certificate"])
+        if unread or accepted.status:
+            named = accepted.errors == f"refused: K{unread}\n".encode() if unread else REFUSED.fullmatch(accepted.errors) and b"K" not in accepted.errors
+            well = accepted.status == 1 and not accepted.output and named and by_certificate == accepted
+            return None if well else f"{accepted}; by the certificate: {by_certificate}; the reader says K{unread}"
+        plain = self.plain if files["story"] == MADE else self.plays(files)
+        told = b"accepted, marked: %d\n" % marks_of(files["certificate"]) if marks_of(files["certificate"]) else b"accepted\n"
+        well = accepted == Answer(0, told, b"") and self.is_alike(plain, by_certificate, files["certificate"][19:21])
+        return None if well else f"{accepted}; played: {plain}; by the certificate: {by_certificate}"
+
+    def is_alike(self, plain, by_certificate, limit):
+        """The play by a certificate that lets no frame stand above the first ends where the other calls a routine."""
+        if limit == bytes(2) and by_certificate.errors == b"end: frame limit\n":
+            return by_certificate.status == 0 and plain.output.startswith(by_certificate.output)
+        named = {0: PLAYED, 3: FAULT}.get(plain.status)
+        return plain == by_certificate and named is not None and named.fullmatch(plain.errors)
+
+
+def see_marks(program, count):
+    """A certificate with marks, and its story: each byte of either altered, but of the story's tables."""
+    altered, ends = AlteredMarks(program), [0x40, 0x41, 0x42, 0x43, *range(CODE, len(MADE))]
+    files = [{"story": made, "certificate": BOTH} for made in altered_at(MADE, ends)]
+    files += [{"story": MADE, "certificate": listed} for listed in altered_at(BOTH, range(len(BOTH)))]
+    for number, wrong in enumerate(side_by_side(altered.what_is_wrong, files)):
+        count.see(not wrong, f"marks, altered {number}: {wrong}")
+
+
 def main():
     program, calls = Program(sys.argv[1]), Program(sys.argv[2])
     count = Count("altered")
@@ -273,6 +314,7 @@ def main():
     see_each(program, calls, count, "plain", PLAIN, PLAIN_LISTED)
     see_each(program, calls, count, "calling", CALLING, CALLING_LISTED)
     see_lists(program, calls, count)
+    see_marks(program, count)
     count.end()
 
 

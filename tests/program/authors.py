@@ -62,11 +62,26 @@ class Form:
         if self.rule is None:
             return self.found("before", LISTS)
         files = files_of(f"{self.name}_before")
-        answer = self.program.run(["find", "story", "certificate"], files)
+        answer = self.program.run(["find", "--strict", "story", "certificate"], files)
         lines = answer.errors.decode().split("\n")
         self.see(answer.status == 1 and answer.output == b"" and len(lines) == 3 and lines[0].startswith("refused: G1"), f"before, find: {answer}")
         self.see(lines[1:2] != [] and lines[1].startswith(f"no certificate: {self.rule} at "), f"before, find, with no certificate for {self.rule}: {answer}")
-        return self.plays(files)
+        plain = self.plays(files)
+        self.marked(files, plain)
+        return plain
+
+    def marked(self, files, plain):
+        """With marks there is a certificate, and play by it is what it is without."""
+        answer, certificate = self.program.found(files["story"])
+        self.see(answer.status == 0 and answer.output.startswith(b"found, marked: ") and answer.errors == b"", f"before, find with marks: {answer}")
+        if certificate is None:
+            self.see(False, "before, find with marks: no certificate was written")
+            return
+        files = {**files, "certificate": certificate}
+        checked = self.program.run(["check", "story", "certificate"], files)
+        self.see(checked.output == answer.output.replace(b"found", b"accepted"), f"before, check with marks: {checked}")
+        marked = self.plays(files, "certificate")
+        self.see(plain == marked, f"before, played without marks: {plain}; with them: {marked}")
 
     def found(self, when, version):
         """What is played of a story that has a certificate of this version."""

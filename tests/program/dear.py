@@ -114,7 +114,7 @@ def see_searches(program, count):
         ("stores anywhere", stored_anywhere(3000), None),
         ("routines that never return", ended_one_by_one(11000), b"found\n"),
     ):
-        answer, listed = within_time(program, ["find", "story", "certificate"], {"story": made})
+        answer, listed = within_time(program, ["find", "--strict", "story", "certificate"], {"story": made})
         if wanted is None:
             count.is_answer(name, answer, Answer(1, b"", b"refused: G2\nno certificate: I9 at 05153\n"))
             continue

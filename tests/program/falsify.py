@@ -8,7 +8,7 @@ made by other means, with sets of a small grid, and none may be accepted: `check
 after docs/CERTIFICATE.md alone, which takes for what routines give, for globals and for the locals that a routine begins with sets of the
 grid beside what comes of the code; and of each that it makes also copies with other sets here and there. So of a story with few variables most
 sets of the grid are tried. Each is tried once more as one of version 2, in which sets are lists here and there. Every certificate that `find`
-writes is checked too.
+writes is checked too, and has to have as many marks as were told.
 
 It ends with how many stories and certificates were tried, and of how many stories that `find` answers otherwise the walk here has a
 certificate.
@@ -16,6 +16,7 @@ certificate.
 import itertools
 import os
 import random
+import re
 import struct
 import subprocess
 import sys
@@ -25,6 +26,7 @@ from program import Count, side_by_side
 from samples import STATIC, certificate, story, with_objects
 
 ANY = (-32768, 32767)
+FOUND = re.compile(rb"found(, marked: [1-9][0-9]*)?\n")
 GRID = [(0, 0), (1, 1), (2, 2), (16, 16), (-1, -1), (0, 1), (1, 2), (0, 2), (0, 10), (1, 10), (-1, 1), (0, 255), (1, 255), (0, 32767), (1, 32767), ANY]
 ENDS = sorted({-32768, -1, 0, 1, 2, 3, 7, 10, 31, 32, 255, 256, 32767})
 LARGE, SMALL, VARIABLE, NONE = range(4)
@@ -717,8 +719,8 @@ def put(room, name, contents):
         file.write(contents)
 
 
-def is_accepted(room, path, name):
-    return run_in(room, path, "check", "story", name)[1] == b"accepted\n"
+def is_accepted(room, path, name, marks=b""):
+    return run_in(room, path, "check", "story", name)[1] == b"accepted" + marks + b"\n"
 
 
 def judged(case):
@@ -729,8 +731,13 @@ def judged(case):
     with tempfile.TemporaryDirectory(prefix="zpc-") as room:
         put(room, "story", made.file)
         status, output, errors = run_in(room, path, "find", "story", "found")
+        told = FOUND.fullmatch(output)
+        if told and not is_accepted(room, path, "found", told[1] or b""):
+            return made, "found", 1, b"found"
+        if output != b"found\n":
+            status, output, errors = run_in(room, path, "find", "--strict", "story", "unmarked")
         if output == b"found\n":
-            return made, "found", 1, None if is_accepted(room, path, "found") else b"found"
+            return made, "found", 1, b"found" if told and told[1] else None
         lines = errors.decode().splitlines()
         said = lines[1] if len(lines) > 1 else f"status {status}"
         tries = of_both_kinds(itertools.chain(certificates(made, draw, most), grid_certificates(made, draw, most // 4)), draw)

@@ -223,7 +223,7 @@ def see_explaining(program, count):
 
 def see_none(program, count):
     for name, made, (first, second) in NONE:
-        answer, written = program.found(made)
+        answer, written = program.found(made, flags=["--strict"])
         count.is_answer(f"{name}, find", answer, Answer(1, b"", f"refused: {first}\n{second}\n".encode()))
         count.see(written is None, f"{name}, find: a certificate was written")
     for name, made, code in [("an empty story", b"", "L1"), ("another version", changed(SAMPLE, 0, 5), "L3"), ("words that fall", changed(with_objects(), 0x361, 0x47), "L10")]:
@@ -240,6 +240,32 @@ def see_none(program, count):
     ]:
         count.is_answer(name, program.run(["check", "story", "certificate"], {"story": made, "certificate": by_hand}), Answer(0, b"accepted\n", b""))
     count.is_answer("no story there to find for", program.run(["find", "absent", "certificate"]), Answer(4, b"", b"failed: file\n"))
+
+
+def see_marked(program, count):
+    """What has no certificate without marks has one with them: play by it is the checked machine's, and each mark is told, with its reason."""
+
+    def seen(case):
+        _, made, _ = case
+        answer, written = program.found(made)
+        files = {"story": made, "certificate": written or b""}
+        check, lines = (program.run([verb, "story", "certificate"], files) for verb in ("check", "list"))
+        places, _ = program.found(made, flags=["--places"])
+        plays = [program.run(["play", "--budget", "100000", *words], files) for words in (["story"], ["story", "certificate"])]
+        return answer, written, check, lines, places, plays
+
+    for (name, _, _), (answer, written, check, lines, places, plays) in zip(NONE, side_by_side(seen, NONE)):
+        marked = re.fullmatch(rb"found(?:, marked: (\d+))?\n", answer.output)
+        count.see(answer.status == 0 and marked is not None and answer.errors == b"", f"{name}, find with marks: {answer}")
+        if marked is None or written is None:
+            continue
+        many = int(marked[1] or b"0")
+        count.see(written[4] == 4, f"{name}, find with marks: no certificate of version 4 was written")
+        count.is_answer(f"{name}, check with marks", check, Answer(0, answer.output.replace(b"found", b"accepted"), b""))
+        told = re.findall(rb"^[0-9a-f]{5} .*\nmarked: I\d+: .*\n", lines.output, flags=re.M)
+        count.see(lines.status == 0 and len(told) == many, f"{name}, list with marks: {lines}")
+        count.is_answer(f"{name}, find with the places of marks", places, Answer(0, answer.output + b"".join(told), b""))
+        count.see(plays[0] == plays[1], f"{name}: {plays[0]}; by its marks: {plays[1]}")
 
 
 def see_found(program, count):
@@ -310,6 +336,7 @@ def see_files(program, count):
 def see_finding(program, count):
     see_explaining(program, count)
     see_none(program, count)
+    see_marked(program, count)
     see_found(program, count)
     see_lists(program, count)
     see_families(program, count)

@@ -41,7 +41,7 @@ def what_is_wrong(program, story, typed):
     with tempfile.TemporaryDirectory(prefix="zpc-") as room:
         with open(os.path.join(room, "story"), "wb") as file:
             file.write(story)
-        found = program.run_in(room, ["find", "story", "cert"])
+        found = program.run_in(room, ["find", "--strict", "story", "cert"])
         if found.status == 1:
             return None if plain.status == 1 or FOUND.fullmatch(found.errors) else f"{found}; played: {plain}"
         if found.status != 0 or found.output != b"found\n":

@@ -46,7 +46,7 @@ class Reader:
     """Reads a file number by number. At a number a cut comes first, then what is wrong with it."""
 
     def __init__(self, file):
-        self.file, self.at = file, 0
+        self.file, self.at, self.marks = file, 0, 0
 
     def take(self, count):
         piece = self.file[self.at : self.at + count]
@@ -106,15 +106,25 @@ class Reader:
             first = self.number(2, least)
             least = self.number(2, first) + 2
 
+    def height(self, _):
+        """How many slots the stack has before an instruction. From version 4 on bit 7 is no part of it: it marks the instruction."""
+        found = self.number(1)
+        if self.version == 4 and found & 0x80:
+            self.marks += 1
+            found -= 0x80
+        if found > 64:
+            raise Refused(7)
+        return found
+
     def read(self):
         if self.take(4) != b"ZPCC":
             raise Refused(1)
         self.version = self.number(1)
-        if self.version not in (1, 2, 3):
+        if self.version not in (1, 2, 3, 4):
             raise Refused(2)
         for count in (2, 6, 2, 4):
             self.take(count)
-        if self.version == 3:
+        if self.version > 2:
             self.number(2, 0, 4096)
         self.ranges()
         for _ in range(240):
@@ -123,9 +133,9 @@ class Reader:
         for _ in self.rising((2,), 131071):
             counts.append(self.number(1, 0, 15))
             self.set()
-        for _ in self.rising((4, 0, 131072), 131071):
+        for address in self.rising((4, 0, 131072), 131071):
             routine = self.number(2, 0, len(counts) - 1)
-            height = self.number(1, 0, 64)
+            height = self.height(address)
             for _ in range(counts[routine] + height):
                 self.set()
         if self.at < len(self.file):
@@ -139,6 +149,13 @@ def refusal(file):
     except Refused as it:
         return it.args[0]
     return None
+
+
+def marks_of(file):
+    """How many instructions a certificate marks."""
+    reader = Reader(file)
+    reader.read()
+    return reader.marks
 
 
 # ---- a table of routines: it draws 1 or 2, takes the routine of that number from a table at 33e, calls it and prints what it gives
@@ -195,7 +212,8 @@ CALLS = [
     ("a list of 64 of which all are given", table_listed(given=list_of(*range(-113, 15, 2))), None),
     # versions
     ("read as version 1", changed(LISTED, 4, 1), "K4"),
-    ("version 4", changed(LISTED, 4, 4), "K2"),
+    ("version 5", changed(LISTED, 4, 5), "K2"),
+    ("read as version 4", changed(LISTED, 4, 4), "K7"),
     ("version 0", changed(LISTED, 4, 0), "K2"),
     ("version 255", changed(LISTED, 4, 255), "K2"),
     ("version 1 read as 2", changed(first_version((1, 2), (411, 413), (5, 7)), 4, 2), "K6"),
@@ -274,6 +292,32 @@ def recoded(file):
     return changed(bytes(reader.made), 4, 2)
 
 
+class Marker(Reader):
+    """Reads version 2, and writes what it reads, with marks at the addresses for which it is said."""
+
+    def __init__(self, file, is_marked):
+        super().__init__(file)
+        self.made, self.is_marked = bytearray(), is_marked
+
+    def take(self, count):
+        piece = super().take(count)
+        self.made += piece
+        return piece
+
+    def height(self, address):
+        found = super().height(address)
+        self.made[-1] |= 0x80 * self.is_marked(address)
+        return found
+
+
+def with_marks(file, is_marked, limit):
+    """A certificate of version 2 in version 4, with these marks, and with this limit of frames behind the loaded length."""
+    reader = Marker(file, is_marked)
+    reader.read()
+    made = changed(bytes(reader.made), 4, 4)
+    return made[:19] + word(limit) + made[19:]
+
+
 # ---- files at random
 
 
@@ -299,7 +343,12 @@ def drawn_certificate(chosen):
         instructions.append((place, routine, locals_there, some(3)))
     ranges = [(0x220 + 8 * at, 0x220 + 8 * at + chosen.randint(0, 6)) for at in range(chosen.randint(0, 2))]
     own = {number: drawn_set(chosen) for number in chosen.sample(range(16, 256), 20)}
-    return certificate(TABLE, instructions, ranges=ranges, routines=routines, own=own)
+    made = certificate(TABLE, instructions, ranges=ranges, routines=routines, own=own)
+    if chosen.random() < 0.6:
+        return made
+    rate, limit = chosen.choice((0, 0.5, 1)), chosen.choice((0, 1, 1024, 4096))
+    later = with_marks(made, lambda _: chosen.random() < rate, limit)
+    return later if rate or chosen.random() < 0.5 else changed(later, 4, 3)
 
 
 def damaged(file, chosen):

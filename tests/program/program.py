@@ -49,12 +49,12 @@ class Program:
         )
         return Answer(done.returncode, done.stdout or b"", done.stderr)
 
-    def found(self, story, seconds=60):
-        """What `find` answers of a story, and the certificate that it wrote, if it wrote one."""
+    def found(self, story, seconds=60, flags=()):
+        """What `find` answers of a story with some flags, and the certificate that it wrote, if it wrote one."""
         with tempfile.TemporaryDirectory(prefix="zpc-") as room:
             with open(os.path.join(room, "story"), "wb") as file:
                 file.write(story)
-            answer = self.run_in(room, ["find", "story", "certificate"], subprocess.PIPE, None, seconds, b"")
+            answer = self.run_in(room, ["find", *flags, "story", "certificate"], subprocess.PIPE, None, seconds, b"")
             written = os.path.join(room, "certificate")
             if not os.path.exists(written):
                 return answer, None

@@ -19,6 +19,7 @@ from frames import see_frames
 from game import see_game
 from lines import see_lines
 from lists import see_lists
+from marks import see_marks
 from objects import see_objects
 from plays import see_plays
 from program import Answer, Count, Program
@@ -446,6 +447,7 @@ def main():
     see_lines(program, count)
     see_lists(program, count, COMMANDS)
     see_frames(program, count)
+    see_marks(program, count)
     see_showing(program, count, help_text("no_address.txt"))
     see_finding(program, count)
     see_dear(program, count)

@@ -162,7 +162,7 @@ frames_are_low rows = go (one_of (codes "frames") rows)
 -- what is read of matches asks for no limit above the greatest
 low_among : (matches : Text × List Row) (command : Command) → IsReadFrom matches command → IsLow command
 low_among matches (commands.List story certificate) h = tt
-low_among matches (commands.Find story certificate frames force) (named, s, c, is, f) = subst (λ (o : Option ℕ). IfSome o (λ n. n ≤ 4096)) (sym is) (frames_are_low matches.1)
+low_among matches (commands.Find story certificate frames strict places force) (named, s, c, is, strictly, told, forced) = subst (λ (o : Option ℕ). IfSome o (λ n. n ≤ 4096)) (sym is) (frames_are_low matches.1)
 low_among matches (commands.Check story certificate) h = tt
 low_among matches (commands.Show story certificate address) h = tt
 low_among matches (commands.Play story certificate seed budget status save tell force) h = tt

@@ -27,13 +27,15 @@ asked :
     × Ask (codes "check" ∷ codes "hello.z3" ∷ codes "hello.cert" ∷ []) (Check (codes "hello.z3") (codes "hello.cert"))
     × Ask (codes "show" ∷ codes "hello.z3" ∷ codes "hello.cert" ∷ []) (Show (codes "hello.z3") (codes "hello.cert") None)
     × Ask (codes "show" ∷ codes "hello.z3" ∷ codes "hello.cert" ∷ codes "00325" ∷ []) (Show (codes "hello.z3") (codes "hello.cert") (Some (codes "00325")))
-    × Ask (codes "find" ∷ codes "hello.z3" ∷ codes "hello.cert" ∷ []) (Find (codes "hello.z3") (codes "hello.cert") None false)
-    × Ask (codes "find" ∷ codes "hello.z3" ∷ codes "hello.cert" ∷ codes "--force" ∷ []) (Find (codes "hello.z3") (codes "hello.cert") None true)
-    × Ask (codes "find" ∷ codes "--frames" ∷ codes "4096" ∷ codes "hello.z3" ∷ codes "hello.cert" ∷ []) (Find (codes "hello.z3") (codes "hello.cert") (Some 4096) false)
+    × Ask (codes "find" ∷ codes "hello.z3" ∷ codes "hello.cert" ∷ []) (Find (codes "hello.z3") (codes "hello.cert") None false false false)
+    × Ask (codes "find" ∷ codes "hello.z3" ∷ codes "hello.cert" ∷ codes "--force" ∷ []) (Find (codes "hello.z3") (codes "hello.cert") None false false true)
+    × Ask (codes "find" ∷ codes "--frames" ∷ codes "4096" ∷ codes "hello.z3" ∷ codes "hello.cert" ∷ []) (Find (codes "hello.z3") (codes "hello.cert") (Some 4096) false false false)
+    × Ask (codes "find" ∷ codes "--strict" ∷ codes "hello.z3" ∷ codes "hello.cert" ∷ []) (Find (codes "hello.z3") (codes "hello.cert") None true false false)
+    × Ask (codes "find" ∷ codes "hello.z3" ∷ codes "hello.cert" ∷ codes "--places" ∷ []) (Find (codes "hello.z3") (codes "hello.cert") None false true false)
     × Ask (codes "explain" ∷ codes "I5" ∷ []) (Explain (codes "I5"))
 unfolding defaults_fault walk_fault walked
 asked =
-    ((refl, (refl, refl, refl)), (refl, (refl, refl, refl)), (refl, (refl, refl, refl, refl, refl, refl, refl, refl, refl)), (refl, (refl, refl, refl, refl, refl, refl, refl, refl, refl)), (refl, (refl, refl, refl, refl, refl, refl, refl, refl, refl)), (refl, (refl, refl, refl, refl, refl, refl, refl, refl, refl)), (refl, (refl, refl, refl)), (refl, (refl, refl, refl, refl)), (refl, (refl, refl, refl, refl)), (refl, (refl, refl, refl, refl, refl)), (refl, (refl, refl, refl, refl, refl)), (refl, (refl, refl, refl, refl, refl)), (refl, (refl, refl)))
+    ((refl, (refl, refl, refl)), (refl, (refl, refl, refl)), (refl, (refl, refl, refl, refl, refl, refl, refl, refl, refl)), (refl, (refl, refl, refl, refl, refl, refl, refl, refl, refl)), (refl, (refl, refl, refl, refl, refl, refl, refl, refl, refl)), (refl, (refl, refl, refl, refl, refl, refl, refl, refl, refl)), (refl, (refl, refl, refl)), (refl, (refl, refl, refl, refl)), (refl, (refl, refl, refl, refl)), (refl, (refl, refl, refl, refl, refl, refl, refl)), (refl, (refl, refl, refl, refl, refl, refl, refl)), (refl, (refl, refl, refl, refl, refl, refl, refl)), (refl, (refl, refl, refl, refl, refl, refl, refl)), (refl, (refl, refl, refl, refl, refl, refl, refl)), (refl, (refl, refl)))
 
 -- a command lacks a file or has too many, or there is none of the name, or none at all, or the budget is 2 to the 32nd or the
 -- seed 2 to the 64th, or the flag has a value, or the option has none or an empty one

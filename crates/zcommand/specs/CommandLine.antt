@@ -42,6 +42,14 @@ budget_rule = record (new_rule (codes "budget")) {
 abbrev pub frames_rule : Rule
 frames_rule = record (new_rule (codes "frames")) { long = Some (codes "frames"); value_names = 1; parser = Some (parsers.Signed (pos 0) (pos 4096)) }
 
+-- `--strict`, a flag
+abbrev pub strict_rule : Rule
+strict_rule = record (new_rule (codes "strict")) { long = Some (codes "strict"); action = Some SetTrue }
+
+-- `--places`, a flag
+abbrev pub places_rule : Rule
+places_rule = record (new_rule (codes "places")) { long = Some (codes "places"); action = Some SetTrue }
+
 -- `--status`, a flag
 abbrev pub status_rule : Rule
 status_rule = record (new_rule (codes "status")) { long = Some (codes "status"); action = Some SetTrue }
@@ -82,9 +90,9 @@ list_app = files_app (codes "list") false
 abbrev pub framing_app : App
 framing_app = with_rule (files_app (codes "find") true) frames_rule
 
--- the same with `--force`
+-- the same with `--strict --places --force`
 abbrev pub find_app : App
-find_app = with_rule framing_app force_rule
+find_app = with_rule (with_rule (with_rule framing_app strict_rule) places_rule) force_rule
 
 -- `check STORY CERT`
 abbrev pub check_app : App
@@ -172,6 +180,14 @@ is_status_asked rows = is_asked (codes "status") rows
 abbrev pub is_tell_asked : List Row → Bool
 is_tell_asked rows = is_asked (codes "tell") rows
 
+-- and whether only a certificate is asked for that marks nothing
+abbrev pub is_strict_asked : List Row → Bool
+is_strict_asked rows = is_asked (codes "strict") rows
+
+-- and whether what is marked is to be told
+abbrev pub is_places_asked : List Row → Bool
+is_places_asked rows = is_asked (codes "places") rows
+
 -- and whether a file may be written over that holds something else
 abbrev pub is_force_asked : List Row → Bool
 is_force_asked rows = is_asked (codes "force") rows
@@ -195,7 +211,7 @@ code_of rows = unwrap_or (first_of (codes "CODE") rows) []
 -- what is asked for, by the names of files
 pub data Request : Type 0 where
   ListStory : (story : Text) (certificate : Option Text) → Request
-  Find : (story certificate : Text) (frames : Option ℕ) (force : Bool) → Request
+  Find : (story certificate : Text) (frames : Option ℕ) (strict places force : Bool) → Request
   Check : (story certificate : Text) → Request
   Show : (story certificate : Text) (address : Option Text) → Request
   Play : (story : Text) (certificate : Option Text) (seed budget : ℕ) (status : Bool) (save : Option Text) (tell force : Bool) → Request
@@ -204,8 +220,9 @@ pub data Request : Type 0 where
 -- the request is the one that clap's matches name, with the values among them
 abbrev pub Asks : Text × List Row → Request → Type 0
 Asks matches (ListStory story certificate) = (matches.0 ≡ codes "list") × (story ≡ story_of matches.1) × (certificate ≡ certificate_of matches.1)
-Asks matches (Find story certificate frames force) =
-    (matches.0 ≡ codes "find") × (story ≡ story_of matches.1) × (certificate ≡ unwrap_or (certificate_of matches.1) []) × (frames ≡ frames_of matches.1) × (force ≡ is_force_asked matches.1)
+Asks matches (Find story certificate frames strict places force) =
+    (matches.0 ≡ codes "find") × (story ≡ story_of matches.1) × (certificate ≡ unwrap_or (certificate_of matches.1) []) × (frames ≡ frames_of matches.1)
+    × (strict ≡ is_strict_asked matches.1) × (places ≡ is_places_asked matches.1) × (force ≡ is_force_asked matches.1)
 Asks matches (Check story certificate) =
     (matches.0 ≡ codes "check") × (story ≡ story_of matches.1) × (certificate ≡ unwrap_or (certificate_of matches.1) [])
 Asks matches (Show story certificate address) =
@@ -218,7 +235,7 @@ Asks matches (Explain code) = (matches.0 ≡ codes "explain") × (code ≡ code_
 -- what a command asks for
 abbrev pub request_of : Command → Request
 request_of (commands.List story certificate) = ListStory story.now (option_map (λ c. c.now) certificate)
-request_of (commands.Find story certificate frames force) = Find story.now certificate.now frames force
+request_of (commands.Find story certificate frames strict places force) = Find story.now certificate.now frames strict places force
 request_of (commands.Check story certificate) = Check story.now certificate.now
 request_of (commands.Show story certificate address) = Show story.now certificate.now (option_map (λ a. a.now) address)
 request_of (commands.Play story certificate seed budget status save tell force) = Play story.now (option_map (λ c. c.now) certificate) seed budget status (option_map (λ f. f.now) save) tell force
@@ -230,5 +247,5 @@ IsReadFrom matches command = Asks matches (request_of command)
 
 -- it asks for no certificate with a limit of frames above the greatest
 abbrev pub IsLow : Command → Type 0
-IsLow (commands.Find story certificate frames force) = IfSome frames (λ n. n ≤ 4096)
+IsLow (commands.Find story certificate frames strict places force) = IfSome frames (λ n. n ≤ 4096)
 IsLow _ = ⊤

@@ -4,7 +4,7 @@ ghost use Rattle.std.specs.Prelude.{◌≡◌, IfOk, IsSomeAnd, codes, false, op
 ghost use Rattle.clap.specs.Walk.{texts};
 ghost use Rattle.clap.specs.Words.{FailsBy, app_of, fault_of, found_of, rows_of, rule_of, subcommand_name_of, subcommand_of, subcommand_rows_of};
 ghost use Rattle.clap.specs.declared.builder.command.Command.TheViews.{out-Command as fields_of};
-ghost use Rattle.zcommand.specs.CommandLine.{IsCommand, IsLow, IsReadFrom, frames_of, frames_rule, framing_app, low_limit, bare_app, budget_rule, certificate_rule, address_rule, certifying_app, check_app, code_rule, explain_app, files_app, find_app, force_rule, list_app, play_app, save_rule, saveless_app, seed_rule, show_app, status_rule, story_rule, tell_rule, word_rule, zpc_app};
+ghost use Rattle.zcommand.specs.CommandLine.{IsCommand, IsLow, IsReadFrom, frames_of, frames_rule, framing_app, low_limit, bare_app, budget_rule, certificate_rule, address_rule, certifying_app, check_app, code_rule, explain_app, files_app, find_app, force_rule, list_app, places_rule, play_app, save_rule, saveless_app, seed_rule, show_app, status_rule, story_rule, strict_rule, tell_rule, word_rule, zpc_app};
 
 use clap::builder::ValueParser;
 use clap::{Arg, ArgAction, ArgMatches, Error, value_parser};
@@ -40,6 +40,10 @@ pub enum Command<'a> {
         certificate: &'a str,
         /// How many frames may stand above the first, if the certificate is to name that.
         frames: Option<u16>,
+        /// Whether only a certificate is asked for that marks no instruction.
+        strict: bool,
+        /// Whether each instruction that is marked is told, with the reason.
+        places: bool,
         /// Whether that file may hold something else now.
         force: bool,
     },
@@ -138,11 +142,15 @@ fn find_of<'a>(matches: &ArgMatches<'a>) -> Command<'a>
     let story = matches.get_str("STORY").unwrap_or("");
     let certificate = matches.get_str("CERT").unwrap_or("");
     let frames = frames_of(matches);
+    let strict = matches.get_one("strict").unwrap_or(false);
+    let places = matches.get_one("places").unwrap_or(false);
     let force = matches.get_one("force").unwrap_or(false);
     Command::Find {
         story,
         certificate,
         frames,
+        strict,
+        places,
         force,
     }
 }
@@ -271,10 +279,11 @@ fn find<'a>(alloc: Global) -> Result<clap::Command<'a>, AllocError>
     ensures app { IfOk result (λ find. app_of find ≡ find_app) }
     ensures local { IfOk result (λ find. (fields_of find).has_globals ≡ false) }
 {
-    framing(alloc)?.arg(force(alloc))
+    let find = framing(alloc)?.arg(strict(alloc))?;
+    find.arg(places(alloc))?.arg(force(alloc))
 }
 
-/// `find` without the flag by which any file may be written over.
+/// `find` without its flags.
 fn framing<'a>(alloc: Global) -> Result<clap::Command<'a>, AllocError>
     ensures app { IfOk result (λ find. app_of find ≡ framing_app) }
     ensures local { IfOk result (λ find. (fields_of find).has_globals ≡ false) }
@@ -422,6 +431,26 @@ fn frames<'a>(alloc: Global) -> Arg<'a>
         .help("The most frames above the first, at most 4096")
         .value_name("N")
         .value_parser(ValueParser::signed(0, i64::from(MOST_FRAMES)))
+}
+
+fn strict<'a>(alloc: Global) -> Arg<'a>
+    ensures rule { rule_of result ≡ strict_rule }
+    ensures local { result.global ≡ false }
+{
+    Arg::new(alloc, "strict")
+        .long("strict")
+        .help("Finds only a certificate that marks no instruction")
+        .action(ArgAction::SetTrue)
+}
+
+fn places<'a>(alloc: Global) -> Arg<'a>
+    ensures rule { rule_of result ≡ places_rule }
+    ensures local { result.global ≡ false }
+{
+    Arg::new(alloc, "places")
+        .long("places")
+        .help("Lists the instructions that are marked, and why")
+        .action(ArgAction::SetTrue)
 }
 
 fn status<'a>(alloc: Global) -> Arg<'a>

@@ -1,5 +1,5 @@
 -- What was read of files, as what is known of them.
-use Rattle.std.proofs.Common.{◌≡◌, ◌≢◌, ◌⊎◌, inl, inr, ◌∙◌, true≢false, ℕ, Bool, List, Option, Some, None, ◌<◌, refl, sym, ap, subst, take, length, length-take, arith}
+use Rattle.std.proofs.Common.{◌≡◌, ◌≢◌, ◌⊎◌, inl, inr, ◌∙◌, true≢false, ℕ, zero, suc, Bool, List, Option, Some, None, ◌<◌, refl, sym, ap, subst, take, length, length-take, arith}
 use Rattle.std.specs.Prelude.{IfOk, IfErr, IfSome, IsErr, IsErrAnd, IsErrOf, Result, Ok, Err}
 use Rattle.zstory.specs.LoadedStory.{LoadedStory}
 use Rattle.zperform.specs.declared.outcome.Failure.TheVariants.{File, Read, Write, Memory}
@@ -10,7 +10,10 @@ use Rattle.zstory.specs.declared.load_error.LoadError.TheVariants.{TooShort}
 use Rattle.zdomain.specs.Domain.{SetOperations}
 use Rattle.zcert.specs.Certificate.{Certificate}
 use Rattle.zcert.specs.Format.{Format}
-use Rattle.zcheck.specs.Passes.{IsRefused as IsRefusedBy}
+use Rattle.zcheck.specs.Judged.{JudgedOver, IsUnjudged, marks_in}
+use Rattle.zcheck.specs.declared.judged.Judged.TheVariants.{Whole, Marked}
+use Rattle.zcheck.specs.Passes.{IsLowestStoryRule}
+use Rattle.zcheck.specs.declared.refusal.StoryRule.{StoryRule}
 use Rattle.zcheck.specs.declared.refusal.Refusal.{Refusal}
 use Rattle.zcheck.specs.declared.refusal.Refusal.TheVariants as refusals
 use Rattle.zperform.specs.Report.{problem_of_checking}
@@ -18,7 +21,7 @@ use Rattle.zfault.specs.Devices.{RisesByOne}
 use Rattle.zperform.specs.Contents.{HasBytes}
 use Rattle.zperform.specs.Devices.{ReadsUnless}
 use Rattle.zperform.specs.Playing.{Holds, IsRefused, IsUnloaded}
-use Rattle.zperform.specs.Accepting.{HoldsCertificate, HoldsStory, IsNoCertificate, IsNoStory, IsUnaccepted}
+use Rattle.zperform.specs.Accepting.{HoldsCertificate, HoldsStory, IsJudgedOf, IsNoCertificate, IsNoStory, IsUnaccepted}
 use Rattle.zperform.proofs.StoryFiles.{holds_whole, reads, refused_whole}
 
 -- a story that nothing speaks against has bytes
@@ -37,13 +40,31 @@ pub story_bytes : (known : Option (List ℕ)) (story : LoadedStory) → HoldsSto
 story_bytes None story held = tt
 story_bytes (Some file) story (same_file, same, holds) = subst (λ (bytes : List ℕ). 0 < length bytes) same (sound_bytes same_file holds.no_cause)
 
+-- whether a certificate marks something is known
+marks_nothing : (n : ℕ) → (n ≡ 0) ⊎ (n ≢ 0)
+marks_nothing zero = inl refl
+marks_nothing (suc n) = inr (λ e. omega (arith, e))
+
+-- a rule of the story that is broken first is a reason, whatever is marked
+pub unjudged_story : {V : Type 0} (o : SetOperations V) (story : LoadedStory) (c : Certificate V) (rule : StoryRule) → IsLowestStoryRule o story c rule → IsUnjudged o story c (refusals.Story rule)
+unjudged_story o story c rule why = go (marks_nothing (marks_in c))
+  where
+    go : (marks_in c ≡ 0) ⊎ (marks_in c ≢ 0) → IsUnjudged o story c (refusals.Story rule)
+    go (inl none) = inl (none, why)
+    go (inr some) = inr (some, why)
+
 module _ {V : Type 0} (o : SetOperations V) (format : Format V) (story_known certificate_known : Option (List ℕ)) where
   -- what is refused of a story and a certificate is refused of their files
   pub refused_of : (story : LoadedStory) (c : Certificate V) → HoldsStory story_known story → HoldsCertificate format certificate_known c
-      → (refusal : Refusal) → IsRefusedBy o story c refusal → IsUnaccepted o format story_known certificate_known (problem_of_checking refusal)
+      → (refusal : Refusal) → IsUnjudged o story c refusal → IsUnaccepted o format story_known certificate_known (problem_of_checking refusal)
   refused_of story c held read (refusals.Story rule) why = record { story = story; certificate = c; held = held; read = read; why = why }
   refused_of story c held read (refusals.Instruction address rule) why = record { story = story; certificate = c; held = held; read = read; why = why }
   refused_of story c held read refusals.OutOfMemory why = story_bytes story_known story held
+
+  -- what is accepted has bytes, with marks or without
+  pub judged_bytes : (j : JudgedOver V) → IsJudgedOf o format story_known certificate_known j → HasBytes story_known
+  judged_bytes (Whole a) accepted = story_bytes story_known a.story accepted.story
+  judged_bytes (Marked m) marked = story_bytes story_known m.story marked.story
 
   -- no story is a story that isn't accepted
   pub no_story_refuses : (problem : Problem) → IsNoStory story_known problem → IsUnaccepted o format story_known certificate_known problem

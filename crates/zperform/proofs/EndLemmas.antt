@@ -8,6 +8,7 @@ use Rattle.zfault.proofs.DeviceLemmas.{AppendsBeginning-whole}
 use Rattle.zperform.specs.Accepting.{Stops}
 use Rattle.zperform.specs.Devices.{Ends, Seen, Writes}
 use Rattle.zperform.specs.Finding.{FindEnds, IsNotFound}
+use Rattle.zperform.specs.declared.finding.Search.{Search}
 use Rattle.zperform.specs.declared.outcome.Failure.TheVariants.{File, Read, Write, Memory}
 use Rattle.zperform.specs.declared.outcome.Problem.{Problem}
 use Rattle.zperform.specs.declared.outcome.Problem.TheVariants.{Refused, Unreadable, BreaksStory, BreaksInstruction, Unlisted, Unfound, Occupied, Failed}
@@ -41,5 +42,5 @@ stops begun IsWhy before (Failed Write) other why = absurd (other refl)
 stops begun IsWhy before (Failed Memory) other why = (why, refl)
 
 -- so does one for which no certificate is found, and no file changed
-pub not_found : (frames : Option ℕ) (story certificate : List ℕ) (held holds : List ℕ → Option (List ℕ)) (before : Option (List ℕ)) (problem : Problem) → problem ≢ Failed Write → IsNotFound frames (held story) problem → holds ≡ held → FindEnds frames story certificate held holds before before (Stopped problem)
-not_found frames story certificate held holds before problem other why same = stops _ (λ (p : Problem). IsNotFound frames (held story) p × (p ≢ Failed File → holds ≡ held)) before problem other (why, λ reads. same)
+pub not_found : (search : Search) (story certificate : List ℕ) (held holds : List ℕ → Option (List ℕ)) (before : Option (List ℕ)) (problem : Problem) → problem ≢ Failed Write → IsNotFound search (held story) problem → holds ≡ held → FindEnds search story certificate held holds before before (Stopped problem)
+not_found search story certificate held holds before problem other why same = stops _ (λ (p : Problem). IsNotFound search (held story) p × (p ≢ Failed File → holds ≡ held)) before problem other (why, λ reads. same)

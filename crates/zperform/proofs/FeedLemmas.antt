@@ -10,15 +10,14 @@ use Rattle.zcert.specs.Reading.{reading}
 use Rattle.zcert.specs.Streaming.{Stream, IsFed, IsFinal, IsRefusal, IsUnread as IsUnreadBytes}
 use Rattle.zcert.specs.declared.error.CertError.{CertError}
 use Rattle.zcert.specs.declared.error.CertError.TheVariants as errors
-use Rattle.zcheck.specs.Acceptance.{AcceptanceOver, IsListingOf}
-use Rattle.zcheck.specs.Passes.{Passes}
+use Rattle.zcheck.specs.Judged.{JudgedOver, IsJudged, IsUnjudgedWith, certificate_of, story_of}
+use Rattle.zcheck.specs.declared.judged.Judged.TheVariants.{Whole, Marked}
 use Rattle.zcheck.specs.declared.refusal.Refusal.TheVariants as refusals
 use Rattle.zcheck.specs.declared.refusal.StreamRefusal.{StreamRefusal}
 use Rattle.zcheck.specs.declared.refusal.StreamRefusal.TheVariants.{Cert, Check}
-use Rattle.zcheck.specs.Streaming.{IsRefusedWith}
 use Rattle.zperform.specs.Contents.{HasBytes, IsBeginning, ReadsPart}
 use Rattle.zperform.specs.Playing.{Reads}
-use Rattle.zperform.specs.Accepting.{HoldsStory, IsAccepted, IsFedTo, IsFedWhole, IsNoCertificate, IsUnaccepted, IsUnread, version_by, version_of}
+use Rattle.zperform.specs.Accepting.{HoldsStory, IsFedTo, IsFedWhole, IsJudgedOf, IsNoCertificate, IsUnaccepted, IsUnread, version_by, version_of}
 use Rattle.zperform.specs.Report.{problem_of_reading, problem_of_stream}
 use Rattle.zperform.specs.declared.outcome.Failure.TheVariants.{File}
 use Rattle.zperform.specs.declared.outcome.Problem.{Problem}
@@ -166,7 +165,7 @@ module _ {V : Type 0} (o : SetOperations V) (format : Format V) (story_known cer
   unread errors.ListForm read = ((story, held), read)
 
   -- what a stream refuses of a story and of the file that it was fed is refused of both files
-  pub unaccepted : (stream : Stream V) (refusal : StreamRefusal) → IsFedWhole format certificate_known stream → ((fed : List ℕ) → IsFed format stream fed → IsRefusedWith o format story fed refusal)
+  pub unaccepted : (stream : Stream V) (refusal : StreamRefusal) → IsFedWhole format certificate_known stream → ((fed : List ℕ) → IsFed format stream fed → IsUnjudgedWith o format story fed refusal)
       → IsUnaccepted o format story_known certificate_known (problem_of_stream refusal)
   unaccepted stream (Cert e) (file, is, (version, came)) why = unread e (file, is, (version, why file came))
   unaccepted stream (Check refusal) (file, is, (version, came)) why =
@@ -174,13 +173,21 @@ module _ {V : Type 0} (o : SetOperations V) (format : Format V) (story_known cer
       refused_of o format story_known certificate_known story found.certificate held (file, is, found.read) refusal found.refused
 
   -- what a stream accepts of a story and of the file that it was fed is accepted of both files
-  pub accepted : (stream : Stream V) (a : AcceptanceOver V) → IsFedWhole format certificate_known stream → a.story ≡ story → ((fed : List ℕ) → IsFed format stream fed → reading format fed ≡ Ok a.certificate) → Passes o a.story a.certificate
-      → IsListingOf a.story a.certificate a.listing → IsAccepted o format story_known certificate_known a
-  accepted stream a (file, is, (version, came)) same read passes lists = record {
+  pub accepted : (stream : Stream V) (j : JudgedOver V) → IsFedWhole format certificate_known stream → story_of j ≡ story → ((fed : List ℕ) → IsFed format stream fed → reading format fed ≡ Ok (certificate_of j)) → IsJudged o j
+      → IsJudgedOf o format story_known certificate_known j
+  accepted stream (Whole a) (file, is, (version, came)) same read (unmarked, passes, lists) = record {
     story = subst (λ (s : LoadedStory). HoldsStory story_known s) (sym same) held;
     certificate = (file, is, read file came);
+    unmarked = unmarked;
     passes = passes;
     lists = lists;
+  }
+  accepted stream (Marked m) (file, is, (version, came)) same read (marked, passes, faults) = record {
+    story = subst (λ (s : LoadedStory). HoldsStory story_known s) (sym same) held;
+    certificate = (file, is, read file came);
+    marked = marked;
+    passes = passes;
+    faults = faults;
   }
 
 -- ---- none of them is a failure of the file

@@ -6,9 +6,12 @@ mod AcceptLemmas
 mod FeedLemmas
 mod EndLemmas
 mod SessionLemmas
+mod MarkLemmas
 mod AddressLemmas
 mod ShowLemmas
+mod LineLemmas
 mod Worked
 mod WorkedClaims
+mod WorkedMarks
 mod WorkedPlays
 mod WorkedShowing

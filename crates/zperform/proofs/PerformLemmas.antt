@@ -73,7 +73,7 @@ module _ (words : List Text) (status : ℕ) (old new : Devices) (outcome : Outco
 pub says_none : (request : Request) (errors : Seen) → SaysEach (said_by request []) errors errors
 says_none (Play story certificate seed budget status save tell force) errors = refl
 says_none (ListStory story certificate) errors = refl
-says_none (Find story certificate frames force) errors = refl
+says_none (Find story certificate frames strict places force) errors = refl
 says_none (Check story certificate) errors = refl
 says_none (Show story certificate address) errors = refl
 says_none (Explain code) errors = refl

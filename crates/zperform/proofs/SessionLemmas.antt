@@ -129,12 +129,12 @@ module _ {V : Type 0} (o : SetOperations V) (format : Format V) (story certifica
 
     pub played : (end : End) → PlayComes (setting_of p.accepted) (Describes o p.accepted) (GivesOrSaves (setting_of p.accepted)) options given p.state state words store before now (Ok end) → ((fault : Fault) (place : ℤ) → end ≢ ends.Fault fault place)
         → PlayEnds o format story certificate options given refusals before now (Played end)
-    played end comes safe = by (Ok end) comes safe
+    played end comes safe = inl (by (Ok end) comes safe)
 
     pub broken : (error : PlayError) → PlayComes (setting_of p.accepted) (Describes o p.accepted) (GivesOrSaves (setting_of p.accepted)) options given p.state state words store before now (Err error) → PlayEnds o format story certificate options given refusals before now (Stopped (problem_of_play error))
-    broken errors.Read comes = by (Err errors.Read) comes tt
-    broken errors.Write comes = by (Err errors.Write) comes tt
-    broken errors.OutOfMemory comes = inr (by (Err errors.OutOfMemory) comes tt)
+    broken errors.Read comes = inl (by (Err errors.Read) comes tt)
+    broken errors.Write comes = inl (by (Err errors.Write) comes tt)
+    broken errors.OutOfMemory comes = inr (inl (by (Err errors.OutOfMemory) comes tt))
 
 -- with a certificate of either version
 module _ (story certificate : Option (List ℕ)) where

@@ -1,4 +1,6 @@
 -- What is shown of a certificate, and why one isn't.
+use Rattle.std.specs.List.{slice_get}
+use Rattle.std.proofs.lemmas.Option.{get_or_from_slice_get, slice_get_within}
 use Rattle.std.proofs.Common.{◌≡◌, ◌≢◌, ◌⊎◌, ◌==◌, inl, inr, ◌∙◌, ℕ, suc, ◌+◌, ◌<◌, ◌≤◌, false, not, List, [], ◌∷◌, ◌++◌, length, Option, Some, None, Ok, refl, sym, ap, subst, take, drop, get_or, add-one, append_assoc, arith}
 use Rattle.std.specs.Prelude.{IfNone, IfSome, IsErr, IsErrAnd, Result, Err, option_map}
 use Rattle.std.specs.List.{prefix_len}
@@ -27,7 +29,7 @@ use Rattle.zperform.specs.Showing.{IsAnswer, IsSpelled, IsToldOf, IsUnshown, ans
 use Rattle.zperform.specs.declared.outcome.Failure.TheVariants.{File, Read, Write, Memory}
 use Rattle.zperform.specs.declared.outcome.Problem.{Problem}
 use Rattle.zperform.specs.declared.outcome.Problem.TheVariants.{Refused, Unreadable, BreaksStory, BreaksInstruction, Unlisted, Unfound, Occupied, Failed}
-use Rattle.zperform.proofs.AcceptLemmas.{story_bytes}
+use Rattle.zperform.proofs.AcceptLemmas.{story_bytes, unjudged_story}
 
 -- ---- lines
 
@@ -40,6 +42,10 @@ four_added old a b d e = simp append_assoc
 
 pub five_added : (old a b d e f : List ℕ) → old ++ a ++ b ++ d ++ e ++ f ≡ old ++ (a ++ b ++ d ++ e ++ f)
 five_added old a b d e f = simp append_assoc
+
+-- one element more
+pub taken_more : {A : Type 0} (xs : List A) (k : ℕ) (x : A) → slice_get xs k ≡ Some x → take (k + 1) xs ≡ take k xs ++ x ∷ []
+taken_more xs k x found = ap (λ (m : ℕ). take m xs) (add-one k) ∙ take-suc xs k x (slice_get_within xs k x found) ∙ ap (λ z. take k xs ++ z ∷ []) (get_or_from_slice_get xs k x x found)
 
 -- one line more
 numbered_with : {A : Type 0} (line : ℕ → A → List ℕ) (n : ℕ) (xs : List A) (x : A) → numbered line n (xs ++ x ∷ []) ≡ numbered line n xs ++ line (n + length xs) x
@@ -65,18 +71,20 @@ first_more lines k b below is other =
 
 -- ---- one instruction
 
+-- what stands at an address
+pub spelled_so : {V : Type 0} (o : SetOperations V) (story : LoadedStory) (c : Certificate V) (address : ℕ) (spelled : Option Spelled) → IfNone spelled ((s : Spelled) → IsThere story address s → ⊥) → IfSome spelled (IsThere story address)
+    → IsSpelled o story c address spelled
+spelled_so o story c address None none some = none
+spelled_so o story c address (Some s) none some = some
+
 module _ {V : Type 0} (o : SetOperations V) (set_text : V → List ℕ) (story : LoadedStory) (c : Certificate V) (address : ℕ) (i : Instruction V) (listed : listed_at c.instructions address ≡ Some i) where
   answered : (answer : Option Rule) → IfNone answer ((entry : Entry V) → (claims_of o c).entry address ≡ Some entry → (rule : Rule) → Keeps o (claims_of o c) story address entry rule)
-      → IfSome answer (λ rule. (entry : Entry V) × ((claims_of o c).entry address ≡ Some entry) × IsLowestBroken o (claims_of o c) story address entry rule) → IsAnswer o set_text story c address i answer
+      → IfSome answer (λ rule. (entry : Entry V) × ((claims_of o c).entry address ≡ Some entry) × IsLowestBroken o (claims_of o c) story address entry rule) → IsAnswer o story c address i answer
   answered None kept broken = kept (entry_of i) (ap (option_map entry_of) listed)
   answered (Some rule) kept (entry, there, lowest) =
       let entered : option_map entry_of (listed_at c.instructions address) ≡ Some (entry_of i) = ap (option_map entry_of) listed in
       let same : entry ≡ entry_of i = cc in
       subst (λ (e : Entry V). IsLowestBroken o (claims_of o c) story address e rule) same lowest
-
-  spelled_so : (spelled : Option Spelled) → IfNone spelled ((s : Spelled) → IsThere story address s → ⊥) → IfSome spelled (IsThere story address) → IsSpelled o set_text story c address spelled
-  spelled_so None none some = none
-  spelled_so (Some s) none some = some
 
   -- what is told of it
   pub told_there : (spelled : Option Spelled) (answer : Option Rule) → IfNone spelled ((s : Spelled) → IsThere story address s → ⊥) → IfSome spelled (IsThere story address)
@@ -85,7 +93,7 @@ module _ {V : Type 0} (o : SetOperations V) (set_text : V → List ℕ) (story :
       → IsToldOf o set_text story c address (listed_at c.instructions address) (spelled_line i spelled ++ frame_text set_text i ++ answer_line answer)
   told_there spelled answer none some kept broken =
       subst (λ (l : Option (Instruction V)). IsToldOf o set_text story c address l (spelled_line i spelled ++ frame_text set_text i ++ answer_line answer)) (sym listed)
-      (record { spelled = spelled; there = spelled_so spelled none some; answer = answer; judged = answered answer kept broken; lines = refl })
+      (record { spelled = spelled; there = spelled_so o story c address spelled none some; answer = answer; judged = answered answer kept broken; lines = refl })
 
 -- ---- why a certificate isn't shown
 
@@ -175,7 +183,7 @@ module _ {V : Type 0} (o : SetOperations V) (format : Format V) (story_known cer
       certificate = c;
       held = held;
       read = read;
-      why = record { broken = other; before = λ rule below. absurd (none_before rule below) };
+      why = unjudged_story o story c rules.Identity (record { broken = other; before = λ rule below. absurd (none_before rule below) });
     }
 
     -- memory was refused

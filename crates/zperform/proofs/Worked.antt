@@ -221,18 +221,18 @@ unread :
     × (IsNoCertificate interval_format None (Failed Read) → ⊥)
 unread = (tt, ([], refl, (refl, empty_certificate)), (λ bytes. omega (arith, bytes)), omega arith, λ never. never)
 
--- the fifth byte tells the kind of sets: that of version 2 where it is 2 or 3, and of all else that of version 1, also where it isn't there
+-- the fifth byte tells the kind of sets: that of version 2 where it is 2, 3 or 4, and of all else that of version 1, also where it isn't there
 versions :
-    (version_of [] ≡ 1) × (version_of (codes "ZPCC") ≡ 1) × (version_of (codes "ZPCC" ++ 0 ∷ []) ≡ 1) × (version_of (codes "ZPCC" ++ 1 ∷ []) ≡ 1) × (version_of (codes "ZPCC" ++ 2 ∷ []) ≡ 2) × (version_of (codes "ZPCC" ++ 3 ∷ []) ≡ 2) × (version_of (codes "ZPCC" ++ 4 ∷ []) ≡ 1)
+    (version_of [] ≡ 1) × (version_of (codes "ZPCC") ≡ 1) × (version_of (codes "ZPCC" ++ 0 ∷ []) ≡ 1) × (version_of (codes "ZPCC" ++ 1 ∷ []) ≡ 1) × (version_of (codes "ZPCC" ++ 2 ∷ []) ≡ 2) × (version_of (codes "ZPCC" ++ 3 ∷ []) ≡ 2) × (version_of (codes "ZPCC" ++ 4 ∷ []) ≡ 2) × (version_of (codes "ZPCC" ++ 5 ∷ []) ≡ 1)
     × (version_of (2 ∷ 2 ∷ 2 ∷ 2 ∷ 1 ∷ 2 ∷ []) ≡ 1) × (version_of (1 ∷ 1 ∷ 1 ∷ 1 ∷ 2 ∷ 1 ∷ []) ≡ 2) × (interval_format.version ≡ 1) × (values_format.version ≡ 2)
-versions = (refl, refl, refl, refl, refl, refl, refl, refl, refl, refl, refl)
+versions = (refl, refl, refl, refl, refl, refl, refl, refl, refl, refl, refl, refl)
 
--- so version 4 is refused in version 1, and a file of version 2 or 3 that is cut off in its own
+-- so version 5 is refused in version 1, and a file of version 2, 3 or 4 that is cut off in its own
 refused_versions :
-    IsUnread interval_format (codes "ZPCC" ++ 4 ∷ []) readings.Version × IsUnread values_format (codes "ZPCC" ++ 3 ∷ []) readings.Truncated × IsUnread values_format (codes "ZPCC" ++ 2 ∷ []) readings.Truncated × ((error : CertError) → IsUnread interval_format (codes "ZPCC" ++ 2 ∷ []) error → ⊥)
+    IsUnread interval_format (codes "ZPCC" ++ 5 ∷ []) readings.Version × IsUnread values_format (codes "ZPCC" ++ 4 ∷ []) readings.Truncated × IsUnread values_format (codes "ZPCC" ++ 3 ∷ []) readings.Truncated × IsUnread values_format (codes "ZPCC" ++ 2 ∷ []) readings.Truncated × ((error : CertError) → IsUnread interval_format (codes "ZPCC" ++ 2 ∷ []) error → ⊥)
     × ((error : CertError) → IsUnread values_format (codes "ZPCC" ++ 1 ∷ []) error → ⊥)
 unfolding reading fields_at heading_at magic_at version_at identity_at
-refused_versions = ((refl, refl), (refl, refl), (refl, refl), (λ error unread. omega (arith, unread.0)), λ error unread. omega (arith, unread.0))
+refused_versions = ((refl, refl), (refl, refl), (refl, refl), (refl, refl), (λ error unread. omega (arith, unread.0)), λ error unread. omega (arith, unread.0))
 
 -- of a file of three bytes a buffer with room for three gets the last two from place 1 on, and none from its end on
 part_given : GivesPart (10 ∷ 20 ∷ 30 ∷ []) 1 2 (20 ∷ 30 ∷ 99 ∷ []) × GivesPart (10 ∷ 20 ∷ 30 ∷ []) 3 0 (99 ∷ [])
@@ -338,7 +338,7 @@ blamed :
     × IsBlamed (Check (5 ∷ []) (6 ∷ [])) (drawer 0 [] [] (5 ∷ [])) × (IsBlamed (Check (5 ∷ []) (6 ∷ [])) (drawer 0 (5 ∷ []) [] (6 ∷ [])) → ⊥) × (IsBlamed (Check (5 ∷ []) (6 ∷ [])) (drawer 0 [] [] (7 ∷ [])) → ⊥)
     × IsBlamed (Play (5 ∷ []) (Some (6 ∷ [])) 1 100 false None false false) (drawer 0 [] [] (5 ∷ [])) × (IsBlamed (Play (5 ∷ []) (Some (6 ∷ [])) 1 100 false None false false) (drawer 0 (5 ∷ []) [] (6 ∷ [])) → ⊥)
     × IsBlamed (Show (5 ∷ []) (6 ∷ []) None) (drawer 0 [] [] (5 ∷ [])) × (IsBlamed (Show (5 ∷ []) (6 ∷ []) None) (drawer 0 (5 ∷ []) [] (6 ∷ [])) → ⊥)
-    × IsBlamed (Find (5 ∷ []) (6 ∷ []) None false) (drawer 0 [] [] (5 ∷ [])) × (IsBlamed (Find (5 ∷ []) (6 ∷ []) None false) (drawer 0 (5 ∷ []) [] (6 ∷ [])) → ⊥) × (IsBlamed (Explain (5 ∷ [])) (drawer 0 [] [] (5 ∷ [])) → ⊥)
+    × IsBlamed (Find (5 ∷ []) (6 ∷ []) None false false false) (drawer 0 [] [] (5 ∷ [])) × (IsBlamed (Find (5 ∷ []) (6 ∷ []) None false false false) (drawer 0 (5 ∷ []) [] (6 ∷ [])) → ⊥) × (IsBlamed (Explain (5 ∷ [])) (drawer 0 [] [] (5 ∷ [])) → ⊥)
 unfolding drawer
 blamed = (
   refl,
@@ -371,9 +371,9 @@ blamed = (
     of_another (inl e) = true≢false (sym e)
     of_another (inr (held, e)) = true≢false (sym e)
 
-    of_none_found : IsBlamed (Find (5 ∷ []) (6 ∷ []) None false) (drawer 0 (5 ∷ []) [] (6 ∷ [])) → ⊥
+    of_none_found : IsBlamed (Find (5 ∷ []) (6 ∷ []) None false false false) (drawer 0 (5 ∷ []) [] (6 ∷ [])) → ⊥
     of_none_found (inl e) = true≢false (sym e)
-    of_none_found (inr ((bytes, (story, held, found)), e)) = empty_holds_none story held
+    of_none_found (inr ((bytes, text, (story, held, found)), e)) = empty_holds_none story held
 
 -- for an empty story's file memory is never wanted, nor is it listed
 unlisted_empty : IsNoListing (Some []) (Failed Memory) → ⊥
@@ -391,12 +391,12 @@ never story certificate before now options outside = (λ no. no, none, λ no. no
     none (inr accepts) = accepts
 
 -- input is read for a play alone
-input_read : (is_quiet (ListStory (codes "hello.z3") None) ≡ true) × (is_quiet (ListStory (codes "hello.z3") (Some (codes "hello.cert"))) ≡ true) × (is_quiet (Find (codes "hello.z3") (codes "hello.cert") None false) ≡ true) × (is_quiet (Explain (codes "I5")) ≡ true) × (is_quiet (Check (codes "hello.z3") (codes "hello.cert")) ≡ true) × (is_quiet (Play (codes "hello.z3") None 1 100 false None false false) ≡ false)
+input_read : (is_quiet (ListStory (codes "hello.z3") None) ≡ true) × (is_quiet (ListStory (codes "hello.z3") (Some (codes "hello.cert"))) ≡ true) × (is_quiet (Find (codes "hello.z3") (codes "hello.cert") None false false false) ≡ true) × (is_quiet (Explain (codes "I5")) ≡ true) × (is_quiet (Check (codes "hello.z3") (codes "hello.cert")) ≡ true) × (is_quiet (Play (codes "hello.z3") None 1 100 false None false false) ≡ false)
 input_read = (refl, refl, refl, refl, refl, refl)
 
 -- a file may be written for a certificate and for saves
 files_written :
-    (written_by (ListStory (codes "hello.z3") None) ≡ None) × (written_by (ListStory (codes "hello.z3") (Some (codes "hello.cert"))) ≡ None) × (written_by (Find (codes "hello.z3") (codes "hello.cert") None false) ≡ Some (codes "hello.cert")) × (written_by (Check (codes "hello.z3") (codes "hello.cert")) ≡ None)
+    (written_by (ListStory (codes "hello.z3") None) ≡ None) × (written_by (ListStory (codes "hello.z3") (Some (codes "hello.cert"))) ≡ None) × (written_by (Find (codes "hello.z3") (codes "hello.cert") None false false false) ≡ Some (codes "hello.cert")) × (written_by (Check (codes "hello.z3") (codes "hello.cert")) ≡ None)
     × (written_by (Play (codes "hello.z3") None 1 100 false (Some (codes "a.qzl")) false false) ≡ Some (codes "a.qzl")) × (written_by (Explain (codes "I5")) ≡ None)
 files_written = (refl, refl, refl, refl, refl, refl)
 
@@ -421,7 +421,7 @@ begun_so = (refl, refl, refl, refl, λ e. absurd cc, λ e. omega (arith, ap (λ 
 
 -- a certificate that is found and saves are kept so, unless any file may be written over
 kept_so :
-    (kept_in (Find (1 ∷ []) (2 ∷ []) None false) ≡ Some (2 ∷ [], purposes.Certificate)) × (kept_in (Find (1 ∷ []) (2 ∷ []) None true) ≡ None)
+    (kept_in (Find (1 ∷ []) (2 ∷ []) None false false false) ≡ Some (2 ∷ [], purposes.Certificate)) × (kept_in (Find (1 ∷ []) (2 ∷ []) None true true true) ≡ None)
     × (kept_in (Play (1 ∷ []) None 1 2 false (Some (7 ∷ [])) true false) ≡ Some (7 ∷ [], purposes.Save)) × (kept_in (Play (1 ∷ []) (Some (2 ∷ [])) 1 2 false (Some (7 ∷ [])) false true) ≡ None)
     × (kept_in (Play (1 ∷ []) None 1 2 true None true false) ≡ None) × (kept_in (Check (1 ∷ []) (2 ∷ [])) ≡ None)
 kept_so = (refl, refl, refl, refl, refl, refl)
@@ -431,7 +431,7 @@ module _ (story saves : List ℕ → Option (List ℕ)) (is : story (7 ∷ []) �
   occupied :
       IsOccupied (Play (7 ∷ []) None 1 2 false (Some (7 ∷ [])) false false) story (Occupied purposes.Save) × (MayWrite (Play (7 ∷ []) None 1 2 false (Some (7 ∷ [])) false false) story → ⊥)
       × MayWrite (Play (1 ∷ []) None 1 2 false (Some (7 ∷ [])) false false) saves × MayWrite (Play (7 ∷ []) None 1 2 false (Some (7 ∷ [])) false true) story
-      × (IsOccupied (Find (1 ∷ []) (7 ∷ []) None false) story (Occupied purposes.Save) → ⊥)
+      × (IsOccupied (Find (1 ∷ []) (7 ∷ []) None false false false) story (Occupied purposes.Save) → ⊥)
   occupied = (((7 ∷ [], purposes.Save), refl, refl, rw is other), rw is other, rw are refl, tt, another)
     where
       number_in : Option (List ℕ × Purpose) → ℕ
@@ -445,7 +445,7 @@ module _ (story saves : List ℕ → Option (List ℕ)) (is : story (7 ∷ []) �
       other : BeginsSo (codes "FORM") (3 ∷ 0 ∷ []) → ⊥
       other e = omega (arith, ap (λ (bytes : List ℕ). slice_index bytes 0) e)
 
-      another : IsOccupied (Find (1 ∷ []) (7 ∷ []) None false) story (Occupied purposes.Save) → ⊥
+      another : IsOccupied (Find (1 ∷ []) (7 ∷ []) None false false false) story (Occupied purposes.Save) → ⊥
       another (file, e, told, held) = omega (arith, ap (λ (o : Option (List ℕ × Purpose)). number_in o) e, ap number_told told)
 
 -- and that is told, as a refusal

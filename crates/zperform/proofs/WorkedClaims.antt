@@ -9,16 +9,17 @@ use Rattle.zstory.specs.LoadedStory.{LoadedStory}
 use Rattle.zstory.specs.declared.load_error.LoadError.{LoadError}
 use Rattle.zstate.specs.State.{Setting, State}
 use Rattle.zdomain.specs.Domain.{SetOperations}
-use Rattle.zcert.specs.Certificate.{Certificate}
+use Rattle.zdomain.specs.Interval.{interval_operations}
+use Rattle.zdomain.specs.Values.{values_operations}
+use Rattle.zcert.specs.Certificate.{Certificate, frame_limit}
 use Rattle.zcert.specs.Format.{Format}
 use Rattle.zcert.specs.Reading.{heading_at, magic_at, reading}
-use Rattle.zlist.specs.declared.record.Record.{Record}
 use Rattle.zrule.specs.declared.rule.Rule.{Rule}
 use Rattle.zcheck.specs.Acceptance.{AcceptanceOver}
 use Rattle.zcheck.specs.declared.refusal.StoryRule.{StoryRule}
 use Rattle.zcommand.specs.CommandLine.{ListStory, Find, Check, Play, Explain}
 use Rattle.zref.specs.Machine.{setting_of}
-use Rattle.zref.specs.declared.scope.Scope.TheVariants.{All}
+use Rattle.zref.specs.declared.scope.Scope.TheVariants.{All, Within}
 use Rattle.zplay.specs.Session.{setting_of as session_of}
 use Rattle.zplayer.specs.declared.end.End.{End}
 use Rattle.zplayer.specs.declared.end.Options.{Options}
@@ -34,13 +35,22 @@ use Rattle.zperform.specs.declared.outcome.Failure.TheVariants.{File, Read, Writ
 use Rattle.zperform.specs.declared.outcome.Problem.TheVariants.{Refused, BreaksStory, BreaksInstruction, Failed}
 use Rattle.zperform.specs.declared.outcome.Outcome.{Outcome}
 use Rattle.zperform.specs.declared.outcome.Outcome.TheVariants.{Listed, Found, Accepted, Explained, NoSuchCode, Played, Stopped}
-use Rattle.zperform.specs.Accepting.{CheckComesTo, HoldsCertificate, HoldsStory, IsAccepted, IsAcceptedStory, IsPlayedBy, IsUnaccepted, IsUnacceptedStory, PlayComesTo, PlayEnds}
+use Rattle.zperform.specs.Accepting.{CheckComesTo, HoldsCertificate, HoldsStory, IsAcceptedStory, IsJudgedOf, IsPlayedBy, IsPlayedMarked, IsUnaccepted, IsUnacceptedStory, PlayComesTo, PlayEnds, Plays}
 use Rattle.zperform.specs.Contents.{CountsNone, ReadsPart, SparesOthers}
 use Rattle.zperform.specs.Devices.{Breaks, Devices, Ends, FlushesUnless, Held, ReadsUnless, Says, Seen, Takes, Told, UsesUnless, Writes, devices}
-use Rattle.zperform.specs.Finding.{ExplainComesTo, FindComesTo, FindEnds, HasAlone, IsFound, IsNotFound, found_line}
-use Rattle.zperform.specs.Listing.{HoldsListed, IsNoListing, ListByComesTo, ListComesTo, listing_text}
+use Rattle.zfind.specs.Found.{marks_of}
+use Rattle.zfind.specs.Marking.{FailsUnmarked, IsFoundMarked, IsFoundUnmarked, IsMarkedFailure}
+use Rattle.zfind.specs.declared.error.FindError.{FindError}
+use Rattle.zfind.specs.declared.found.Found.{Found as FoundCertificate}
+use Rattle.zcheck.specs.Marks.{MarkedOver}
+use Rattle.zcheck.specs.Judged.{JudgedOver}
+use Rattle.zcheck.specs.declared.judged.Judged.TheVariants.{Whole, Marked}
+use Rattle.zperform.specs.Finding.{ExplainComesTo, FailsFor, FindComesTo, FindEnds, HasAlone, IsFound, IsFoundFor, IsFoundText, IsNotFound}
+use Rattle.zperform.specs.Marking.{AreMarksOf, ArePlacesOf, IsListedBy, ListByComesTo}
+use Rattle.zperform.specs.declared.finding.Search.{Search}
+use Rattle.zperform.specs.Listing.{HoldsListed, IsNoListing, ListComesTo, listing_text}
 use Rattle.zperform.specs.Performing.{Begins, Comes, Does, Explains, IsBlamed, Lacks, Performs, Reports, Shows, Tells, given, is_quiet, said_by, save_in, store_of, written_by}
-use Rattle.zperform.specs.Report.{line_of}
+use Rattle.zperform.specs.Report.{found_line, line_of}
 use Rattle.zperform.specs.Telling.{SaysEach, refusal_text, said_of}
 use Rattle.zperform.specs.Playing.{ComesTo, IsPlayed, IsRefused}
 use Rattle.zperform.proofs.AcceptLemmas.{story_bytes}
@@ -169,7 +179,7 @@ each_told = (
 -- they are told where that is asked for and saves are in a file, and by plays alone
 told_where :
     (said_of true (Some (7 ∷ [])) (Length ∷ NotForm ∷ []) ≡ Length ∷ NotForm ∷ []) × (said_of false (Some (7 ∷ [])) (Length ∷ []) ≡ []) × (said_of true None (Length ∷ []) ≡ [])
-    × (said_by (Play (1 ∷ []) None 1 2 false (Some (7 ∷ [])) true false) (Length ∷ []) ≡ Length ∷ []) × (said_by (Play (1 ∷ []) None 1 2 true (Some (7 ∷ [])) false false) (Length ∷ []) ≡ []) × (said_by (Find (1 ∷ []) (2 ∷ []) None false) (Length ∷ []) ≡ [])
+    × (said_by (Play (1 ∷ []) None 1 2 false (Some (7 ∷ [])) true false) (Length ∷ []) ≡ Length ∷ []) × (said_by (Play (1 ∷ []) None 1 2 true (Some (7 ∷ [])) false false) (Length ∷ []) ≡ []) × (said_by (Find (1 ∷ []) (2 ∷ []) None false false false) (Length ∷ []) ≡ [])
 told_where = (refl, refl, refl, refl, refl, refl)
 
 -- want of memory is told, and nothing else is done
@@ -185,10 +195,10 @@ lacking = (
 -- ---- what comes of requests
 
 -- each is of the file that its request names, as it was, and of what was written before and is now
-module _ (frames : Option ℕ) (story certificate : List ℕ) (held holds : List ℕ → Option (List ℕ)) (input before now : Option (List ℕ)) (outcome : Outcome) where
+module _ (search : Search) (story certificate : List ℕ) (held holds : List ℕ → Option (List ℕ)) (input before now : Option (List ℕ)) (outcome : Outcome) where
   comes_of_files :
       (force : Bool) → (Comes (ListStory story None) held holds input [] before now outcome → ListComesTo (held story) before now outcome)
-      × (Comes (ListStory story (Some certificate)) held holds input [] before now outcome → ListByComesTo (held story) (held certificate) before now outcome) × (Comes (Find story certificate frames force) held holds input [] before now outcome → FindComesTo frames story certificate held holds before now outcome)
+      × (Comes (ListStory story (Some certificate)) held holds input [] before now outcome → ListByComesTo (held story) (held certificate) before now outcome) × (Comes (Find story certificate search.frames search.strict search.places force) held holds input [] before now outcome → FindComesTo search story certificate held holds before now outcome)
       × (Comes (Check story certificate) held holds input [] before now outcome → CheckComesTo (held story) (held certificate) before now outcome) × (Comes (Explain story) held holds input [] before now outcome → ExplainComesTo story before now outcome)
   comes_of_files force = (λ comes. comes, λ comes. comes, λ comes. comes, λ comes. comes, λ comes. comes)
 
@@ -235,7 +245,8 @@ unwritten options outside error = (
 
     no_memory_to_accept : {V : Type 0} (o : SetOperations V) (format : Format V) → IsUnwritten (PlayEnds o format (Some []) (Some []) options outside []) (Stopped (Failed Memory))
     no_memory_to_accept o format (inl (same, none, some)) = longer same
-    no_memory_to_accept o format (inr (a, accepted, played)) = omega (arith, story_bytes (Some []) a.story accepted.story)
+    no_memory_to_accept o format (inr (inl (a, accepted, played))) = omega (arith, story_bytes (Some []) a.story accepted.story)
+    no_memory_to_accept o format (inr (inr (m, marked, played))) = omega (arith, story_bytes (Some []) m.story marked.story)
 
 -- what was written before is never taken back, in one part or in two
 never_less : (between : Option (List ℕ)) (first rest : List ℕ) → Appends (Some (1 ∷ [])) between first → Appends between (Some []) rest → ⊥
@@ -254,6 +265,14 @@ of_play options outside file result played = loses _ _ (WantsOrSaves (setting_of
 of_accepted : {V : Type 0} (o : SetOperations V) (options : Options) (outside : World) (a : AcceptanceOver V) (result : Result End PlayError) → IsPlayedBy o a options outside [] (Some (1 ∷ [])) (Some []) result → ⊥
 of_accepted o options outside a result played = loses _ _ (GivesOrSaves (session_of a)) _ _ _ _ _ _ result played.comes
 
+of_marked : {V : Type 0} (options : Options) (outside : World) (m : MarkedOver V) (result : Result End PlayError) → IsPlayedMarked m options outside [] (Some (1 ∷ [])) (Some []) result → ⊥
+of_marked options outside m result played = loses _ _ (WantsOrSaves (setting_of m.story (Within (frame_limit m.certificate)))) _ _ _ _ _ _ result played.comes
+
+-- nor with a certificate, whether it marks something or not
+of_either : {V : Type 0} (o : SetOperations V) (format : Format V) (options : Options) (outside : World) (result : Result End PlayError) → Plays o format None None options outside [] (Some (1 ∷ [])) (Some []) result → ⊥
+of_either o format options outside result (inl (a, accepted, played)) = of_accepted o options outside a result played
+of_either o format options outside result (inr (m, marked, played)) = of_marked options outside m result played
+
 abbrev Loses : (Option (List ℕ) → Option (List ℕ) → Outcome → Type 0) → Outcome → Type 0
 Loses ComesSo outcome = ComesSo (Some (1 ∷ [])) (Some []) outcome → ⊥
 
@@ -266,9 +285,9 @@ played_on options outside end = (
   λ comes. of_play options outside comes.0 (Err errors.Read) comes.2,
   λ comes. of_play options outside comes.0 (Err errors.Write) comes.2,
   no_memory,
-  neither (λ comes. of_accepted _ options outside comes.0 (Ok end) comes.2) (λ comes. of_accepted _ options outside comes.0 (Ok end) comes.2),
-  neither (λ comes. of_accepted _ options outside comes.0 (Err errors.Read) comes.2) (λ comes. of_accepted _ options outside comes.0 (Err errors.Read) comes.2),
-  neither (λ comes. of_accepted _ options outside comes.0 (Err errors.Write) comes.2) (λ comes. of_accepted _ options outside comes.0 (Err errors.Write) comes.2),
+  neither (of_either _ _ options outside (Ok end)) (of_either _ _ options outside (Ok end)),
+  neither (of_either _ _ options outside (Err errors.Read)) (of_either _ _ options outside (Err errors.Read)),
+  neither (of_either _ _ options outside (Err errors.Write)) (of_either _ _ options outside (Err errors.Write)),
   neither (no_memory_to_accept _ _) (no_memory_to_accept _ _),
 )
   where
@@ -281,7 +300,7 @@ played_on options outside end = (
 
     no_memory_to_accept : {V : Type 0} (o : SetOperations V) (format : Format V) → Loses (PlayEnds o format None None options outside []) (Stopped (Failed Memory))
     no_memory_to_accept o format (inl (same, none, some)) = empty same
-    no_memory_to_accept o format (inr (a, accepted, played)) = of_accepted o options outside a (Err errors.OutOfMemory) played
+    no_memory_to_accept o format (inr played) = of_either o format options outside (Err errors.OutOfMemory) played
 
 -- no bytes are no certificate
 unread : {V : Type 0} (format : Format V) (c : Certificate V) → HoldsCertificate format (Some []) c → ⊥
@@ -290,11 +309,22 @@ unread format c held = absurd (let none = subst (λ (file : List ℕ). reading f
 
 -- nothing comes of an empty file, whatever the other one is
 module _ {V : Type 0} (o : SetOperations V) (format : Format V) where
-  no_story_with : (certificate : Option (List ℕ)) (a : AcceptanceOver V) → IsAccepted o format (Some []) certificate a → ⊥
-  no_story_with certificate a accepted = omega (arith, story_bytes (Some []) a.story accepted.story)
+  no_story_with : (certificate : Option (List ℕ)) (j : JudgedOver V) → IsJudgedOf o format (Some []) certificate j → ⊥
+  no_story_with certificate (Whole a) accepted = omega (arith, story_bytes (Some []) a.story accepted.story)
+  no_story_with certificate (Marked m) marked = omega (arith, story_bytes (Some []) m.story marked.story)
 
-  no_certificate_with : (story : Option (List ℕ)) (a : AcceptanceOver V) → IsAccepted o format story (Some []) a → ⊥
-  no_certificate_with story a accepted = unread format a.certificate accepted.certificate
+  no_certificate_with : (story : Option (List ℕ)) (j : JudgedOver V) → IsJudgedOf o format story (Some []) j → ⊥
+  no_certificate_with story (Whole a) accepted = unread format a.certificate accepted.certificate
+  no_certificate_with story (Marked m) marked = unread format m.certificate marked.certificate
+
+  -- nor is it played
+  no_play_of_none : (certificate : Option (List ℕ)) (options : Options) (outside : World) (before now : Option (List ℕ)) (result : Result End PlayError) → Plays o format (Some []) certificate options outside [] before now result → ⊥
+  no_play_of_none certificate options outside before now result (inl (a, accepted, played)) = no_story_with certificate (Whole a) accepted
+  no_play_of_none certificate options outside before now result (inr (m, marked, played)) = no_story_with certificate (Marked m) marked
+
+  no_play_with_none : (story : Option (List ℕ)) (options : Options) (outside : World) (before now : Option (List ℕ)) (result : Result End PlayError) → Plays o format story (Some []) options outside [] before now result → ⊥
+  no_play_with_none story options outside before now result (inl (a, accepted, played)) = no_certificate_with story (Whole a) accepted
+  no_play_with_none story options outside before now result (inr (m, marked, played)) = no_certificate_with story (Marked m) marked
 
 no_story : (a : AcceptedStory) (certificate : Option (List ℕ)) → IsAcceptedStory (Some []) certificate a → ⊥
 no_story (Intervals a) certificate accepted = no_story_with _ _ certificate a accepted
@@ -315,15 +345,15 @@ accepted_of_files :
     × ComesOfNone (CheckComesTo None (Some [])) Accepted × ComesOfNone (CheckComesTo None (Some [])) (Stopped (Failed Write)) × ComesOfNone (PlayComesTo None (Some []) options outside []) (Played end)
     × ComesOfNone (ListByComesTo (Some []) None) Listed × ComesOfNone (ListByComesTo None (Some [])) Listed × ComesOfNone (ListByComesTo None (Some [])) (Stopped (Failed Write))
 accepted_of_files options outside end = (
-  λ comes. no_story comes.0.0 _ comes.0.1,
-  λ comes. no_story comes.0.0 _ comes.0.1,
-  neither (λ comes. no_story_with _ _ _ comes.0 comes.1) (λ comes. no_story_with _ _ _ comes.0 comes.1),
-  neither (λ comes. no_story_with _ _ _ comes.0 comes.1) (λ comes. no_story_with _ _ _ comes.0 comes.1),
-  neither (λ comes. no_story_with _ _ _ comes.0 comes.1) (λ comes. no_story_with _ _ _ comes.0 comes.1),
+  λ comes. no_story comes.0 _ comes.1,
+  λ comes. no_story comes.0 _ comes.1,
+  neither (no_play_of_none _ _ _ options outside None None (Ok end)) (no_play_of_none _ _ _ options outside None None (Ok end)),
+  neither (no_play_of_none _ _ _ options outside None None (Err errors.Read)) (no_play_of_none _ _ _ options outside None None (Err errors.Read)),
+  neither (no_play_of_none _ _ _ options outside None None (Err errors.Write)) (no_play_of_none _ _ _ options outside None None (Err errors.Write)),
   neither (no_memory _ _) (no_memory _ _),
-  λ comes. no_certificate _ comes.0.0 comes.0.1,
-  λ comes. no_certificate _ comes.0.0 comes.0.1,
-  neither (λ comes. no_certificate_with _ _ _ comes.0 comes.1) (λ comes. no_certificate_with _ _ _ comes.0 comes.1),
+  λ comes. no_certificate _ comes.0 comes.1,
+  λ comes. no_certificate _ comes.0 comes.1,
+  neither (no_play_with_none _ _ _ options outside None None (Ok end)) (no_play_with_none _ _ _ options outside None None (Ok end)),
   λ comes. neither (λ held. no_story_with _ _ _ held.0 held.1) (λ held. no_story_with _ _ _ held.0 held.1) comes.1,
   λ comes. neither (λ held. no_certificate_with _ _ _ held.0 held.1) (λ held. no_certificate_with _ _ _ held.0 held.1) comes.1,
   λ comes. neither (λ held. no_certificate_with _ _ _ held.0 held.1) (λ held. no_certificate_with _ _ _ held.0 held.1) comes.1,
@@ -331,31 +361,37 @@ accepted_of_files options outside end = (
   where
     no_memory : {V : Type 0} (o : SetOperations V) (format : Format V) → ComesOfNone (PlayEnds o format (Some []) (Some (1 ∷ [])) options outside []) (Stopped (Failed Memory))
     no_memory o format (inl (same, none, some)) = omega (arith, some)
-    no_memory o format (inr (a, accepted, played)) = no_story_with o format _ a accepted
+    no_memory o format (inr played) = no_play_of_none o format _ options outside None None (Err errors.OutOfMemory) played
 
 -- an acceptance that was begun to be written isn't taken back either
 begun_on : Loses (CheckComesTo None None) (Stopped (Failed Write)) × ((code : List ℕ) → Loses (ExplainComesTo code) Explained × Loses (ExplainComesTo code) (Stopped (Failed Write)))
-begun_on = ((λ comes. absurd (let e = comes.1.grown in cc)), λ code. ((λ comes. absurd (let e = comes.2 in cc)), λ comes. absurd (let e = comes.2.grown in cc)))
+begun_on = ((λ comes. absurd (let e = comes.2.grown in cc)), λ code. ((λ comes. absurd (let e = comes.2 in cc)), λ comes. absurd (let e = comes.2.grown in cc)))
 
--- of a certificate that is accepted each instruction has its line, as its listing has it, behind what was written before
-abbrev records_of : AcceptedStory → List Record
-records_of (Intervals a) = a.listing.records
-records_of (Lists a) = a.listing.records
+-- of a certificate that is accepted each instruction has its line, behind what was written before: as its listing has it, or with its marks
+abbrev IsListedAs : AcceptedStory → List ℕ → Type 0
+IsListedAs (Intervals j) text = IsListedBy interval_operations j text
+IsListedAs (Lists j) text = IsListedBy values_operations j text
 
 module _ (story certificate : Option (List ℕ)) (before now : Option (List ℕ)) where
   listed_by_files :
-      (ListByComesTo story certificate before now Listed → (a : AcceptedStory) × IsAcceptedStory story certificate a × Appends before now (listing_text (records_of a)))
-      × (ListByComesTo story certificate before now (Stopped (Failed Write)) → (a : AcceptedStory) × IsAcceptedStory story certificate a × AppendsBeginning before now (listing_text (records_of a)))
+      (ListByComesTo story certificate before now Listed → (a : AcceptedStory) × (text : List ℕ) × IsAcceptedStory story certificate a × IsListedAs a text × Appends before now text)
+      × (ListByComesTo story certificate before now (Stopped (Failed Write)) → (a : AcceptedStory) × (text : List ℕ) × IsAcceptedStory story certificate a × IsListedAs a text × AppendsBeginning before now text)
       × (ListByComesTo story certificate before now (Stopped (Failed Memory)) → IsUnacceptedStory story certificate (Failed Memory) × (now ≡ before))
   listed_by_files = (listed, begun, λ comes. comes)
     where
-      listed : ListByComesTo story certificate before now Listed → (a : AcceptedStory) × IsAcceptedStory story certificate a × Appends before now (listing_text (records_of a))
-      listed (text, inl (a, accepted, is), took) = (Intervals a, accepted, subst (λ (t : List ℕ). Appends before now t) is took)
-      listed (text, inr (a, accepted, is), took) = (Lists a, accepted, subst (λ (t : List ℕ). Appends before now t) is took)
+      listed : ListByComesTo story certificate before now Listed → (a : AcceptedStory) × (text : List ℕ) × IsAcceptedStory story certificate a × IsListedAs a text × Appends before now text
+      listed (text, inl (j, accepted, is), took) = (Intervals j, text, accepted, is, took)
+      listed (text, inr (j, accepted, is), took) = (Lists j, text, accepted, is, took)
 
-      begun : ListByComesTo story certificate before now (Stopped (Failed Write)) → (a : AcceptedStory) × IsAcceptedStory story certificate a × AppendsBeginning before now (listing_text (records_of a))
-      begun (text, inl (a, accepted, is), took) = (Intervals a, accepted, subst (λ (t : List ℕ). AppendsBeginning before now t) is took)
-      begun (text, inr (a, accepted, is), took) = (Lists a, accepted, subst (λ (t : List ℕ). AppendsBeginning before now t) is took)
+      begun : ListByComesTo story certificate before now (Stopped (Failed Write)) → (a : AcceptedStory) × (text : List ℕ) × IsAcceptedStory story certificate a × IsListedAs a text × AppendsBeginning before now text
+      begun (text, inl (j, accepted, is), took) = (Intervals j, text, accepted, is, took)
+      begun (text, inr (j, accepted, is), took) = (Lists j, text, accepted, is, took)
+
+-- of one that marks nothing the listing has the lines, of one that marks something they tell which and why
+listed_by_marks :
+    {V : Type 0} (o : SetOperations V) (a : AcceptanceOver V) (m : MarkedOver V) (text : List ℕ)
+    → (IsListedBy o (Whole a) text → text ≡ listing_text a.listing.records) × (IsListedBy o (Marked m) text → AreMarksOf o m.story m.certificate false text)
+listed_by_marks o a m text = ((λ listed. listed), (λ listed. listed))
 
 -- memory is wanted for a story's file alone
 unaccepted : (IsUnacceptedStory (Some []) (Some (1 ∷ [])) (Failed Memory) → ⊥) × (CheckComesTo (Some []) (Some (1 ∷ [])) None None (Stopped (Failed Memory)) → ⊥)
@@ -380,15 +416,27 @@ refused_story story certificate error (inl refused) = refused
 refused_story story certificate error (inr refused) = refused
 
 -- a certificate that is found is of the story as it was, and stands in its file now; where none is found no file changes
-module _ (frames : Option ℕ) (story certificate : List ℕ) (held holds : List ℕ → Option (List ℕ)) (before now : Option (List ℕ)) where
+module _ (search : Search) (story certificate : List ℕ) (held holds : List ℕ → Option (List ℕ)) (before now : Option (List ℕ)) where
   found_in_files :
-      (FindEnds frames story certificate held holds before now Found → (bytes : List ℕ) × IsFound frames (held story) bytes × HasAlone bytes (holds certificate) × Appends before now found_line)
-      × (FindEnds frames story certificate held holds before now (Stopped (Failed Write)) → (bytes : List ℕ) × IsFound frames (held story) bytes × HasAlone bytes (holds certificate) × AppendsBeginning before now found_line)
-      × (FindEnds frames story certificate held holds before now (Stopped (Failed Memory)) → (IsNotFound frames (held story) (Failed Memory) × (Failed Memory ≢ Failed File → holds ≡ held)) × (now ≡ before))
+      (FindEnds search story certificate held holds before now Found → (bytes : List ℕ) × (text : List ℕ) × IsFound search (held story) bytes text × HasAlone bytes (holds certificate) × Appends before now text)
+      × (FindEnds search story certificate held holds before now (Stopped (Failed Write)) → (bytes : List ℕ) × (text : List ℕ) × IsFound search (held story) bytes text × HasAlone bytes (holds certificate) × AppendsBeginning before now text)
+      × (FindEnds search story certificate held holds before now (Stopped (Failed Memory)) → (IsNotFound search (held story) (Failed Memory) × (Failed Memory ≢ Failed File → holds ≡ held)) × (now ≡ before))
   found_in_files = (λ ends. ends, λ ends. ends, λ ends. ends)
 
-  found_at_last : (outcome : Outcome) → FindComesTo frames story certificate held holds before now outcome → FindEnds frames story certificate held holds before now outcome × SparesOthers certificate held holds
+  found_at_last : (outcome : Outcome) → FindComesTo search story certificate held holds before now outcome → FindEnds search story certificate held holds before now outcome × SparesOthers certificate held holds
   found_at_last outcome comes = (comes.ends, comes.spared)
+
+  -- with `--strict` it marks nothing, and else it may; how many it marks is told, and with `--places` which
+  found_as_asked :
+      (s : LoadedStory) (found : FoundCertificate) (text : List ℕ)
+      → (IsFoundFor (record search { strict = true }) s found → IsFoundUnmarked s search.frames found) × (IsFoundFor (record search { strict = false }) s found → IsFoundMarked s search.frames found)
+      × (IsFoundText false s found text → text ≡ found_line (marks_of found)) × (IsFoundText true s found text → (places : List ℕ) × ArePlacesOf s found places × (text ≡ found_line (marks_of found) ++ places))
+  found_as_asked s found text = ((λ f. f), (λ f. f), (λ t. t), (λ t. t))
+
+  unfound_as_asked :
+      (s : LoadedStory) (error : FindError)
+      → (FailsFor (record search { strict = true }) s error → FailsUnmarked s search.frames error) × (FailsFor (record search { strict = false }) s error → IsMarkedFailure s search.frames error)
+  unfound_as_asked s error = ((λ f. f), (λ f. f))
 
   listed_of_file :
       (known : Option (List ℕ)) → (ListComesTo known before now Listed → (text : List ℕ) × HoldsListed known text × Appends before now text)

@@ -1,5 +1,5 @@
 -- Values of what `show` writes, computed.
-use Rattle.std.proofs.Common.{◌≡◌, [], ◌∷◌, ◌++◌, None, Some, true, codes, refl}
+use Rattle.std.proofs.Common.{false, ◌≡◌, [], ◌∷◌, ◌++◌, None, Some, true, codes, refl}
 use Rattle.std.specs.Prelude.{pos, negsuc}
 use Rattle.std.specs.Fmt.{digits}
 use Rattle.zdomain.specs.declared.interval.Interval.{Interval}
@@ -53,7 +53,7 @@ unwritten = (refl, refl, refl)
 -- a certificate with one of each
 claims :
     claims_text interval_text 3 interval_kind
-    (record { identity = record { release = 1; serial = []; checksum = 0; length = 64 }; limit = Some 3; ranges = record { first = 544; last = 545 } ∷ []; globals = five ∷ one ∷ []; routines = record { address = 806; locals = 2; result = any } ∷ []; instructions = [] })
+    (record { identity = record { release = 1; serial = []; checksum = 0; length = 64 }; limit = Some 3; marking = false; ranges = record { first = 544; last = 545 } ∷ []; globals = five ∷ one ∷ []; routines = record { address = 806; locals = 2; result = any } ∷ []; instructions = [] })
     ≡ codes "version 3, intervals" ++ 10 ∷ codes "frame limit 3" ++ 10 ∷ codes "frozen 00220 to 00221" ++ 10 ∷ codes "global 16: 0 to 5" ++ 10 ∷ codes "global 17: -7" ++ 10 ∷ codes "routine 1 at 00326, locals 2, result any word" ++ 10 ∷ []
 unfolding digits five any one
 claims = refl
@@ -62,12 +62,12 @@ kinds : values_kind ≡ codes "intervals and lists"
 kinds = refl
 
 frames :
-    frame_text interval_text (record { address = 804; routine = 1; locals = five ∷ []; slots = one ∷ any ∷ [] })
+    frame_text interval_text (record { address = 804; routine = 1; is_marked = false; locals = five ∷ []; slots = one ∷ any ∷ [] })
     ≡ codes "height 2" ++ 10 ∷ codes "local 1: 0 to 5" ++ 10 ∷ codes "slot 1: -7" ++ 10 ∷ codes "slot 2: any word" ++ 10 ∷ []
 unfolding digits five any one
 frames = refl
 
-unspelled : (spelled_line {V = Interval} (record { address = 804; routine = 1; locals = []; slots = [] }) None ≡ codes "00324 1 no instruction" ++ 10 ∷ []) × (unlisted_line 1048575 ≡ codes "fffff isn't listed" ++ 10 ∷ [])
+unspelled : (spelled_line {V = Interval} (record { address = 804; routine = 1; is_marked = false; locals = []; slots = [] }) None ≡ codes "00324 1 no instruction" ++ 10 ∷ []) × (unlisted_line 1048575 ≡ codes "fffff isn't listed" ++ 10 ∷ [])
 unfolding digits
 unspelled = (refl, refl)
 

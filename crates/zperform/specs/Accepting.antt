@@ -1,5 +1,5 @@
 -- What the files of a story and of a certificate come to (own).
-use Rattle.std.specs.Prelude.{◌≡◌, ◌≢◌, ◌⊎◌, ⊤, ℕ, ℤ, true, ◌++◌, ◌∷◌, [], ◌==◌, ◌||◌, List, Option, Result, Ok, Err, IfOk, IfSome, codes, if◌then◌else◌, length}
+use Rattle.std.specs.Prelude.{◌≡◌, ◌≢◌, ◌⊎◌, ⊤, ℕ, ℤ, true, [], ◌==◌, ◌||◌, List, Option, Result, Ok, Err, IfOk, IfSome, if◌then◌else◌, length}
 use Rattle.std.specs.Io.KnownBytes.{Appends}
 use Rattle.zfault.specs.Devices.{AppendsBeginning}
 use Rattle.zfault.specs.declared.fault.Fault.{Fault}
@@ -14,21 +14,26 @@ use Rattle.zplayer.specs.declared.end.Options.{Options}
 use Rattle.zplayer.specs.declared.end.PlayError.{PlayError}
 use Rattle.zplayer.specs.declared.end.PlayError.TheVariants as errors
 use Rattle.zplayer.specs.Outside.{Coming}
-use Rattle.zplayer.specs.Playing.{GivesOrSaves, ComesTo as PlayComes}
+use Rattle.zplayer.specs.Playing.{GivesOrSaves, WantsOrSaves, ComesTo as PlayComes}
+use Rattle.zref.specs.Machine.{setting_of as setting_within}
+use Rattle.zref.specs.declared.scope.Scope.TheVariants.{Within}
 use Rattle.zplayer.specs.Stories.{Describes}
 use Rattle.zplayer.specs.World.{Store, World}
 use Rattle.zdomain.specs.Domain.{SetOperations}
 use Rattle.zdomain.specs.Interval.{interval_operations}
 use Rattle.zdomain.specs.Values.{values_operations}
-use Rattle.zcert.specs.Certificate.{Certificate}
+use Rattle.zcert.specs.Certificate.{Certificate, frame_limit}
 use Rattle.zcert.specs.Format.{Format, interval_format}
 use Rattle.zcert.specs.Lists.{values_format}
 use Rattle.zcert.specs.Reading.{reading}
 use Rattle.zcert.specs.Streaming.{Stream, IsFed}
 use Rattle.zcert.specs.declared.error.CertError.{CertError}
-use Rattle.zcert.specs.declared.limits.TheConstants.{VERSION, LIST_VERSION, LIMIT_VERSION}
+use Rattle.zcert.specs.declared.limits.TheConstants.{VERSION, LIST_VERSION, LIMIT_VERSION, MARK_VERSION}
 use Rattle.zcheck.specs.Acceptance.{AcceptanceOver, IsListingOf}
-use Rattle.zcheck.specs.Passes.{IsCause, Passes}
+use Rattle.zcheck.specs.Judged.{JudgedOver, IsUnjudged, certificate_of, marks_in}
+use Rattle.zcheck.specs.Marks.{FaultsAtMarksAlone, MarkedOver, PassesWhereUnmarked}
+use Rattle.zcheck.specs.Passes.{Passes}
+use Rattle.zcheck.specs.declared.judged.Judged.TheVariants.{Whole, Marked}
 use Rattle.zcheck.specs.declared.refusal.Refusal.{Refusal}
 use Rattle.zcheck.specs.declared.refusal.Refusal.TheVariants.{Story, Instruction}
 use Rattle.zperform.specs.Contents.{HasBytes, IsBeginning}
@@ -41,6 +46,7 @@ use Rattle.zperform.specs.declared.outcome.Problem.TheVariants.{Refused, Unreada
 use Rattle.zperform.specs.declared.outcome.Outcome.{Outcome}
 use Rattle.zperform.specs.declared.outcome.Outcome.TheVariants.{Listed, Found, Accepted, Shown, NoAddress, Explained, NoSuchCode, Played, Stopped}
 use Rattle.zperform.specs.Playing.{Holds, IsRefused, Reads, StaysEmpty}
+use Rattle.zperform.specs.Report.{accepted_line}
 
 -- the story that a file holds
 abbrev pub HoldsStory : Option (List ℕ) → LoadedStory → Type 0
@@ -61,11 +67,11 @@ IsNoStory known problem = ⊥
 abbrev pub IsWhyNone : (LoadedStory → Problem → Type 0) → Option (List ℕ) → Problem → Type 0
 IsWhyNone IsWhy known problem = IsNoStory known problem ⊎ HoldsSuch known (λ story. IsWhy story problem)
 
--- By which sets a certificate's file is read, as its fifth byte says, told by the version that has them and names no limit of frames: by those
--- of version 2 where that is 2 or 3, and else by those of version 1, by which every other number than 1 is refused, and a file that is cut
--- off before it.
+-- By which sets a certificate's file is read, as its fifth byte says, told by the version that has them, names no limit of frames and marks
+-- nothing: by those of version 2 where that is 2, 3 or 4, and else by those of version 1, by which every other number than 1 is refused,
+-- and a file that is cut off before it.
 abbrev pub version_by : ℕ → ℕ
-version_by byte = if (byte == LIST_VERSION) || (byte == LIMIT_VERSION) then LIST_VERSION else VERSION
+version_by byte = if (byte == LIST_VERSION) || (byte == LIMIT_VERSION) || (byte == MARK_VERSION) then LIST_VERSION else VERSION
 
 abbrev pub version_of : List ℕ → ℕ
 version_of file = version_by (byte_at file 4)
@@ -100,15 +106,32 @@ module _ {V : Type 0} (format : Format V) where
 
 -- What two files come to with one kind of sets: how a version of the format writes them, and what is computed with them.
 module _ {V : Type 0} (o : SetOperations V) (format : Format V) (story_known certificate_known : Option (List ℕ)) where
-  -- what two files hold, and the checker accepts
+  -- what two files hold, and the checker accepts; nothing is marked
   pub record IsAccepted (a : AcceptanceOver V) : Type 0 where
     pub story : HoldsStory story_known a.story
     pub certificate : HoldsCertificate format certificate_known a.certificate
+    pub unmarked : marks_in a.certificate ≡ 0
     pub passes : Passes o a.story a.certificate
     pub lists : IsListingOf a.story a.certificate a.listing
 
   abbrev pub Accepts : (AcceptanceOver V → Type 0) → Type 0
   Accepts property = (a : AcceptanceOver V) × IsAccepted a × property a
+
+  -- what two files hold, and the checker accepts but where it is marked; something is, and a fault is there or behind it
+  pub record IsMarkedOf (m : MarkedOver V) : Type 0 where
+    pub story : HoldsStory story_known m.story
+    pub certificate : HoldsCertificate format certificate_known m.certificate
+    pub marked : marks_in m.certificate ≢ 0
+    pub passes : PassesWhereUnmarked o m.story m.certificate
+    pub faults : FaultsAtMarksAlone o m
+
+  abbrev pub Marks : (MarkedOver V → Type 0) → Type 0
+  Marks property = (m : MarkedOver V) × IsMarkedOf m × property m
+
+  -- the one or the other
+  abbrev pub IsJudgedOf : JudgedOver V → Type 0
+  IsJudgedOf (Whole a) = IsAccepted a
+  IsJudgedOf (Marked m) = IsMarkedOf m
 
   -- a certificate that is refused for a story
   pub record Breaks (refusal : Refusal) : Type 0 where
@@ -116,7 +139,7 @@ module _ {V : Type 0} (o : SetOperations V) (format : Format V) (story_known cer
     pub certificate : Certificate V
     pub held : HoldsStory story_known story
     pub read : HoldsCertificate format certificate_known certificate
-    pub why : IsCause o story certificate refusal
+    pub why : IsUnjudged o story certificate refusal
 
   -- Why a story with a certificate isn't accepted: the story is looked at first, then the certificate's file, then whether
   -- it holds. Memory is wanted only where the story's file has bytes.
@@ -142,10 +165,6 @@ abbrev pub Stops : Type 0 → (Problem → Type 0) → Option (List ℕ) → Opt
 Stops begun IsWhy before now (Failed Write) = begun
 Stops begun IsWhy before now problem = IsWhy problem × (now ≡ before)
 
--- what `check` writes where it accepts
-abbrev pub accepted_line : List ℕ
-accepted_line = codes "accepted" ++ 10 ∷ []
-
 -- what was accepted was played from its opening, of which the certificate's listing bounds the scope, and came to this, with no
 -- fault; the saves that were refused were so for these causes, the newest first
 pub record IsPlayedBy {V : Type 0} (o : SetOperations V) (a : AcceptanceOver V) (options : Options) (given : World) (refusals : List SaveError) (before now : Option (List ℕ)) (result : Result End PlayError) : Type 0 where
@@ -157,8 +176,23 @@ pub record IsPlayedBy {V : Type 0} (o : SetOperations V) (a : AcceptanceOver V) 
   pub refused : store.refusals ≡ refusals
   pub safe : IfOk result (λ end. (fault : Fault) (place : ℤ) → end ≢ ends.Fault fault place)
 
+-- what is accepted but where it is marked was played from its opening by the checked machine, with every place in scope and as many frames as
+-- its certificate says, and came to this; the saves that were refused were so for these causes, the newest first
+pub record IsPlayedMarked {V : Type 0} (m : MarkedOver V) (options : Options) (given : World) (refusals : List SaveError) (before now : Option (List ℕ)) (result : Result End PlayError) : Type 0 where
+  pub state : State
+  pub words : Option Coming
+  pub store : Store
+  pub comes : PlayComes (setting_within m.story (Within (frame_limit m.certificate))) (λ _. ⊤) (WantsOrSaves (setting_within m.story (Within (frame_limit m.certificate)))) options given (opening m.story) state words store before now result
+  pub unsaved : StaysEmpty given.store store
+  pub refused : store.refusals ≡ refusals
+
 -- What playing by a certificate comes to with one kind of sets, with why saves were refused, the newest first.
 module _ {V : Type 0} (o : SetOperations V) (format : Format V) (story_known certificate_known : Option (List ℕ)) where
+  -- with marks or without
+  abbrev pub Plays : Options → World → List SaveError → Option (List ℕ) → Option (List ℕ) → Result End PlayError → Type 0
+  Plays options given refusals before now result =
+      Accepts o format story_known certificate_known (λ a. IsPlayedBy o a options given refusals before now result) ⊎ Marks o format story_known certificate_known (λ m. IsPlayedMarked m options given refusals before now result)
+
   abbrev pub PlayEnds : Options → World → List SaveError → Option (List ℕ) → Option (List ℕ) → Outcome → Type 0
   PlayEnds options given refusals before now Listed = ⊥
   PlayEnds options given refusals before now Found = ⊥
@@ -167,19 +201,23 @@ module _ {V : Type 0} (o : SetOperations V) (format : Format V) (story_known cer
   PlayEnds options given refusals before now Explained = ⊥
   PlayEnds options given refusals before now NoSuchCode = ⊥
   PlayEnds options given refusals before now Accepted = ⊥
-  PlayEnds options given refusals before now (Played end) = Accepts o format story_known certificate_known (λ a. IsPlayedBy o a options given refusals before now (Ok end))
-  PlayEnds options given refusals before now (Stopped (Failed Read)) = Accepts o format story_known certificate_known (λ a. IsPlayedBy o a options given refusals before now (Err errors.Read))
-  PlayEnds options given refusals before now (Stopped (Failed Write)) = Accepts o format story_known certificate_known (λ a. IsPlayedBy o a options given refusals before now (Err errors.Write))
-  PlayEnds options given refusals before now (Stopped (Failed Memory)) =
-      ((now ≡ before) × (refusals ≡ []) × HasBytes story_known) ⊎ Accepts o format story_known certificate_known (λ a. IsPlayedBy o a options given refusals before now (Err errors.OutOfMemory))
+  PlayEnds options given refusals before now (Played end) = Plays options given refusals before now (Ok end)
+  PlayEnds options given refusals before now (Stopped (Failed Read)) = Plays options given refusals before now (Err errors.Read)
+  PlayEnds options given refusals before now (Stopped (Failed Write)) = Plays options given refusals before now (Err errors.Write)
+  PlayEnds options given refusals before now (Stopped (Failed Memory)) = ((now ≡ before) × (refusals ≡ []) × HasBytes story_known) ⊎ Plays options given refusals before now (Err errors.OutOfMemory)
   PlayEnds options given refusals before now (Stopped problem) = IsUnaccepted o format story_known certificate_known problem × (now ≡ before) × (refusals ≡ [])
 
 -- ---- with a certificate of either kind of sets, as its file says
 
--- what two files hold, and the checker accepts
+-- what two files hold, and the checker accepts, with marks or without
 abbrev pub IsAcceptedStory : Option (List ℕ) → Option (List ℕ) → AcceptedStory → Type 0
-IsAcceptedStory story_known certificate_known (Intervals a) = IsAccepted interval_operations interval_format story_known certificate_known a
-IsAcceptedStory story_known certificate_known (Lists a) = IsAccepted values_operations values_format story_known certificate_known a
+IsAcceptedStory story_known certificate_known (Intervals j) = IsJudgedOf interval_operations interval_format story_known certificate_known j
+IsAcceptedStory story_known certificate_known (Lists j) = IsJudgedOf values_operations values_format story_known certificate_known j
+
+-- how many marks it has
+abbrev pub marks_of : AcceptedStory → ℕ
+marks_of (Intervals j) = marks_in (certificate_of j)
+marks_of (Lists j) = marks_in (certificate_of j)
 
 -- why a story with a certificate isn't accepted
 abbrev pub IsUnacceptedStory : Option (List ℕ) → Option (List ℕ) → Problem → Type 0
@@ -188,8 +226,7 @@ IsUnacceptedStory story_known certificate_known problem =
 
 -- What checking comes to, with what the writer took before and has taken now.
 abbrev pub CheckComesTo : Option (List ℕ) → Option (List ℕ) → Option (List ℕ) → Option (List ℕ) → Outcome → Type 0
-CheckComesTo story_known certificate_known before now Accepted =
-    ((a : AcceptedStory) × IsAcceptedStory story_known certificate_known a) × Appends before now accepted_line
+CheckComesTo story_known certificate_known before now Accepted = (a : AcceptedStory) × IsAcceptedStory story_known certificate_known a × Appends before now (accepted_line (marks_of a))
 CheckComesTo story_known certificate_known before now Listed = ⊥
 CheckComesTo story_known certificate_known before now Found = ⊥
 CheckComesTo story_known certificate_known before now Shown = ⊥
@@ -198,7 +235,7 @@ CheckComesTo story_known certificate_known before now Explained = ⊥
 CheckComesTo story_known certificate_known before now NoSuchCode = ⊥
 CheckComesTo story_known certificate_known before now (Played end) = ⊥
 CheckComesTo story_known certificate_known before now (Stopped problem) =
-    Stops (((a : AcceptedStory) × IsAcceptedStory story_known certificate_known a) × AppendsBeginning before now accepted_line) (IsUnacceptedStory story_known certificate_known) before now problem
+    Stops ((a : AcceptedStory) × IsAcceptedStory story_known certificate_known a × AppendsBeginning before now (accepted_line (marks_of a))) (IsUnacceptedStory story_known certificate_known) before now problem
 
 -- What playing by a certificate comes to, with why saves were refused, the newest first.
 abbrev pub PlayComesTo : Option (List ℕ) → Option (List ℕ) → Options → World → List SaveError → Option (List ℕ) → Option (List ℕ) → Outcome → Type 0

@@ -8,6 +8,7 @@ pub mod Accepting
 pub mod Keeping
 pub mod Listing
 pub mod Showing
+pub mod Marking
 pub mod Finding
 pub mod Performing
 pub mod Played

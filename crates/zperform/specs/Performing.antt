@@ -13,7 +13,8 @@ use Rattle.zperform.specs.Playing.{ComesTo}
 use Rattle.zperform.specs.Accepting.{CheckComesTo, IsOfEither, PlayComesTo}
 use Rattle.zperform.specs.Finding.{ExplainComesTo, FindComesTo, IsOfStoryOrFound}
 use Rattle.zperform.specs.Keeping.{IsOccupied, MayWrite}
-use Rattle.zperform.specs.Listing.{ListByComesTo, ListComesTo}
+use Rattle.zperform.specs.Listing.{ListComesTo}
+use Rattle.zperform.specs.Marking.{ListByComesTo}
 use Rattle.zperform.specs.Showing.{ShowComesTo}
 use Rattle.zperform.specs.Report.{line_of, status_of, text_of}
 use Rattle.zperform.specs.Telling.{SaysEach, said_of}
@@ -75,7 +76,8 @@ given input seed store = world input (Some (words_of seed)) store
 abbrev pub Comes : Request → (List ℕ → Option (List ℕ)) → (List ℕ → Option (List ℕ)) → Option (List ℕ) → List SaveError → Option (List ℕ) → Option (List ℕ) → Outcome → Type 0
 Comes (ListStory story None) held holds input refusals before now outcome = ListComesTo (held story) before now outcome
 Comes (ListStory story (Some certificate)) held holds input refusals before now outcome = ListByComesTo (held story) (held certificate) before now outcome
-Comes (Find story certificate frames force) held holds input refusals before now outcome = FindComesTo frames story certificate held holds before now outcome
+Comes (Find story certificate frames strict places force) held holds input refusals before now outcome =
+    FindComesTo (record { frames = frames; strict = strict; places = places }) story certificate held holds before now outcome
 Comes (Check story certificate) held holds input refusals before now outcome = CheckComesTo (held story) (held certificate) before now outcome
 Comes (Show story certificate address) held holds input refusals before now outcome = ShowComesTo (held story) (held certificate) address before now outcome
 Comes (Play story None seed budget status save tell force) held holds input refusals before now outcome =
@@ -102,7 +104,7 @@ save_in _ = None
 
 -- the name of the file that a request may write
 abbrev pub written_by : Request → Option Text
-written_by (Find story certificate frames force) = Some certificate
+written_by (Find story certificate frames strict places force) = Some certificate
 written_by request = save_in request
 
 -- the refusals that are said of those that a request met, the newest first
@@ -114,7 +116,7 @@ said_by _ refusals = []
 abbrev pub IsBlamed : Request → Held → Type 0
 IsBlamed (ListStory story None) files = files.can_fail story ≡ true
 IsBlamed (ListStory story (Some certificate)) files = IsOfEither files story certificate
-IsBlamed (Find story certificate frames force) files = IsOfStoryOrFound frames files story certificate
+IsBlamed (Find story certificate frames strict places force) files = IsOfStoryOrFound (record { frames = frames; strict = strict; places = places }) files story certificate
 IsBlamed (Check story certificate) files = IsOfEither files story certificate
 IsBlamed (Show story certificate address) files = IsOfEither files story certificate
 IsBlamed (Play story None seed budget status save tell force) files = files.can_fail story ≡ true

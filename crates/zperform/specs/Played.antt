@@ -3,7 +3,10 @@ use Rattle.std.specs.Prelude.{◌≡◌, ℕ, List, [], Option, Some, None, Resu
 use Rattle.zquetzal.specs.declared.error.SaveError.{SaveError}
 use Rattle.zplayer.specs.Outside.{Coming}
 use Rattle.zplayer.specs.World.{Kept, Store, World, told, world}
+use Rattle.zcheck.specs.declared.judged.Judged.{Judged}
+use Rattle.zcheck.specs.declared.judged.Judged.TheVariants.{Whole, Marked}
 use Rattle.zplayer.specs.declared.end.End.{End}
+use Rattle.zplayer.specs.declared.end.Options.{Options}
 use Rattle.zplayer.specs.declared.outside.World.{World as Lent}
 use Rattle.zperform.specs.Devices.{Seen}
 use Rattle.zperform.specs.Performing.{given, store_of}
@@ -18,6 +21,11 @@ use Rattle.zperform.specs.declared.playing.Devices.{Devices}
 -- the writer took before and has taken now.
 abbrev pub Account : Type 1
 Account = World → List SaveError → Option (List ℕ) → Option (List ℕ) → Outcome → Type 0
+
+-- what is said of a play of what is accepted, with marks or without
+abbrev pub ComesOfEither : {A M : Type 0} → (A → Options → Account) → (M → Options → Account) → Judged A M → Options → Account
+ComesOfEither whole marked (Whole a) options = whole a options
+ComesOfEither whole marked (Marked m) options = marked m options
 
 -- the name of the file that the saves of a play are kept in, if it has one
 abbrev pub file_of : Asked → Option (List ℕ)

@@ -119,6 +119,17 @@ broken_text None = codes "not found"
 broken_text (Some (obstacles.Story rule)) = codes "no certificate: S" ++ decimal (story_rule_number rule)
 broken_text (Some (obstacles.Place place rule)) = codes "no certificate: I" ++ decimal (rule_number rule) ++ codes " at " ++ place_text place
 
+-- how many instructions are marked, if any are
+abbrev pub marks_text : ℕ → List ℕ
+marks_text n = if nat_lt 0 n then codes ", marked: " ++ decimal n else []
+
+-- what `check` writes where it accepts, and `find` where it found one, with so many marks
+abbrev pub accepted_line : ℕ → List ℕ
+accepted_line n = codes "accepted" ++ marks_text n ++ 10 ∷ []
+
+abbrev pub found_line : ℕ → List ℕ
+found_line n = codes "found" ++ marks_text n ++ 10 ∷ []
+
 -- what is said of a code that there isn't, as clap says it of words: three lines with empty ones between
 abbrev pub no_code : List ℕ
 no_code =

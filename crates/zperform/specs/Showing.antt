@@ -1,5 +1,5 @@
 -- What showing a certificate comes to: what it says, in words (own).
-use Rattle.std.specs.Prelude.{is_some, ◌≡◌, ◌⊎◌, ◌==◌, ℕ, suc, pos, negsuc, ◌&&◌, not, int_le, nat_lt, ◌++◌, List, [], ◌∷◌, length, take_while, flat_map, Option, None, Some, MatchOption, unwrap_or, codes, decimal, if◌then◌else◌}
+use Rattle.std.specs.Prelude.{◌≡◌, ◌⊎◌, ◌==◌, ℕ, suc, pos, negsuc, ◌&&◌, not, int_le, nat_lt, ◌++◌, List, [], ◌∷◌, length, take_while, flat_map, Option, None, Some, MatchOption, unwrap_or, codes, decimal, if◌then◌else◌}
 use Rattle.std.specs.Char.{is_digit}
 use Rattle.std.specs.Fmt.{signed_decimal}
 use Rattle.std.specs.List.{list_all}
@@ -14,7 +14,7 @@ use Rattle.zdomain.specs.Values.{values_operations}
 use Rattle.zdomain.specs.declared.interval.Interval.{Interval}
 use Rattle.zdomain.specs.declared.values.Values.{Values}
 use Rattle.zdomain.specs.declared.values.Values.TheVariants.{Run, List as AList}
-use Rattle.zcert.specs.Certificate.{Certificate, Instruction}
+use Rattle.zcert.specs.Certificate.{Certificate, Instruction, edition_of}
 use Rattle.zcert.specs.Format.{Format, interval_format, version_of}
 use Rattle.zcert.specs.Listed.{listed_at}
 use Rattle.zcert.specs.Lists.{values_format}
@@ -143,7 +143,7 @@ answer_line (Some rule) = codes "broken: " ++ explained_text rule ++ 10 ∷ []
 abbrev pub unlisted_line : ℕ → List ℕ
 unlisted_line address = place_text (pos address) ++ codes " isn't listed" ++ 10 ∷ []
 
-module _ {V : Type 0} (o : SetOperations V) (set_text : V → List ℕ) (story : LoadedStory) (c : Certificate V) where
+module _ {V : Type 0} (o : SetOperations V) (story : LoadedStory) (c : Certificate V) where
   -- what stands at an address
   abbrev pub IsSpelled : ℕ → Option Spelled → Type 0
   IsSpelled address spelled = MatchOption spelled ((i : Spelled) → IsThere story address i → ⊥) (IsThere story address)
@@ -152,12 +152,13 @@ module _ {V : Type 0} (o : SetOperations V) (set_text : V → List ℕ) (story :
   abbrev pub IsAnswer : ℕ → Instruction V → Option Rule → Type 0
   IsAnswer address i answer = MatchOption answer ((rule : Rule) → Keeps o (claims_of o c) story address (entry_of i) rule) (IsLowestBroken o (claims_of o c) story address (entry_of i))
 
+module _ {V : Type 0} (o : SetOperations V) (set_text : V → List ℕ) (story : LoadedStory) (c : Certificate V) where
   -- an instruction that is listed at an address: as the story spells it, what is said of its frame, and whether that holds
   pub record IsTold (address : ℕ) (i : Instruction V) (text : List ℕ) : Type 0 where
     pub spelled : Option Spelled
-    pub there : IsSpelled address spelled
+    pub there : IsSpelled o story c address spelled
     pub answer : Option Rule
-    pub judged : IsAnswer address i answer
+    pub judged : IsAnswer o story c address i answer
     pub lines : text ≡ spelled_line i spelled ++ frame_text set_text i ++ answer_line answer
 
   -- what is said of an address
@@ -186,7 +187,7 @@ module _ {V : Type 0} (o : SetOperations V) (format : Format V) (kind : List ℕ
     pub held : HoldsStory story_known story
     pub read : HoldsCertificate format certificate_known certificate
     pub own : certificate.identity ≡ identity_of story
-    pub shown : IsShown o set_text story certificate (version_of format (is_some certificate.limit)) kind address text
+    pub shown : IsShown o set_text story certificate (version_of format (edition_of certificate)) kind address text
 
 module _ {V : Type 0} (o : SetOperations V) (format : Format V) (story_known certificate_known : Option (List ℕ)) where
   -- Why a certificate isn't shown: it isn't read, or it is of another story. Whether it holds else isn't asked.

@@ -1,18 +1,19 @@
 //! Stories and certificates from files.
 
 ghost use Rattle.std.specs.Prelude.{◌≡◌, ◌==◌, ◌||◌, ◌≤◌, ℕ, true, List, Option, IfErr, IfOk, IfSome, IsErrOf, length, take};
-ghost use Rattle.zcert.specs.declared.limits.TheConstants.{LIST_VERSION as version_with_lists, LIMIT_VERSION as version_with_limit};
+ghost use Rattle.zcert.specs.declared.limits.TheConstants.{LIST_VERSION as version_with_lists, LIMIT_VERSION as version_with_limit, MARK_VERSION as version_with_marks};
+ghost use Rattle.zcheck.specs.Judged.{certificate_of, marks_in};
 ghost use Rattle.zstory.specs.Bytes.{byte_at};
 ghost use Rattle.zperform.specs.Devices.{ReadsUnless, held};
 ghost use Rattle.zperform.specs.Playing.{Holds, IsUnloaded};
-ghost use Rattle.zperform.specs.Accepting.{HoldsStory, IsAccepted, IsAcceptedStory, IsNoStory, IsOfEither, IsUnaccepted, IsUnacceptedStory, version_of};
+ghost use Rattle.zperform.specs.Accepting.{HoldsStory, IsAcceptedStory, IsNoStory, IsJudgedOf, IsOfEither, IsUnaccepted, IsUnacceptedStory, marks_of, version_of};
 
 use crate::feeding::{HEADING, feed_certificate};
 use crate::files::{Files, read_file};
 use crate::outcome::{Failure, Problem};
 use std::alloc::Global;
-use zcert::{LIMIT_VERSION, LIST_VERSION, Spelled};
-use zcheck::Accepted;
+use zcert::{LIMIT_VERSION, LIST_VERSION, MARK_VERSION, Spelled};
+use zcheck::{Accepted, Judged, Marked};
 use zdomain::{Interval, Values};
 use zstory::Story;
 
@@ -22,13 +23,35 @@ pub const STORY_LIMIT: usize = 131_073;
 /// The place of the byte that tells the version of a certificate's file.
 const VERSION_AT: usize = 4;
 
-/// A story that is accepted with a certificate of either kind of sets.
+/// A story that is accepted with a certificate of either kind of sets, which may mark instructions.
 #[derive(Drop)]
 pub enum AcceptedStory {
     /// Of version 1.
-    Intervals(Accepted<Interval>),
-    /// Of version 2 or 3.
-    Lists(Accepted<Values>),
+    Intervals(Judged<Accepted<Interval>, Marked<Interval>>),
+    /// Of version 2, 3 or 4.
+    Lists(Judged<Accepted<Values>, Marked<Values>>),
+}
+
+impl AcceptedStory {
+    /// How many instructions the certificate marks.
+    pub fn marks(&self) -> usize
+        ensures { result ≡ marks_of self.now }
+    {
+        match self {
+            AcceptedStory::Intervals(judged) => marks_in(judged),
+            AcceptedStory::Lists(judged) => marks_in(judged),
+        }
+    }
+}
+
+/// How many instructions the certificate of a story marks that is accepted.
+fn marks_in<V: Spelled>(judged: &Judged<Accepted<V>, Marked<V>>) -> usize
+    ensures { result ≡ marks_in (certificate_of judged.now) }
+{
+    match judged {
+        Judged::Whole(accepted) => accepted.certificate().marks(),
+        Judged::Marked(marked) => marked.certificate().marks(),
+    }
 }
 
 /// Accepts the story of a file with the certificate of another, and else says why not: the story is looked at first,
@@ -57,10 +80,12 @@ pub fn accept<F: Files>(
 
 /// Whether a certificate's file that begins so is of a version that has lists.
 pub fn has_lists(first: &[u8]) -> bool
-    ensures { result ≡ ((byte_at first.now 4 == version_with_lists) || (byte_at first.now 4 == version_with_limit)) }
+    ensures { result ≡ ((byte_at first.now 4 == version_with_lists) || (byte_at first.now 4 == version_with_limit) || (byte_at first.now 4 == version_with_marks)) }
 {
     let version = first.get(VERSION_AT);
-    version == Some(&LIST_VERSION) || version == Some(&LIMIT_VERSION)
+    version == Some(&LIST_VERSION)
+        || version == Some(&LIMIT_VERSION)
+        || version == Some(&MARK_VERSION)
 }
 
 /// Accepts a story with the certificate of a file, of which the first bytes were read and tell the version.
@@ -70,17 +95,17 @@ fn accept_story<V: Spelled, F: Files>(
     certificate: &str,
     first: &[u8],
     files: &mut F,
-) -> Result<Accepted<V>, Problem>
+) -> Result<Judged<Accepted<V>, Marked<V>>, Problem>
     requires first { IfSome (F.known files.old certificate.now) (λ file. first.now ≡ take 5 file) }
     requires few { length first.now ≤ 5 }
     requires version { version_of first.now ≡ V.format.version }
-    ensures accepted { IfOk result (λ a. (known : Option (List ℕ)) → HoldsStory known story → IsAccepted V.operations V.format known (F.known files.old certificate.now) a) }
+    ensures accepted { IfOk result (λ j. (known : Option (List ℕ)) → HoldsStory known story → IsJudgedOf V.operations V.format known (F.known files.old certificate.now) j) }
     ensures refused { IfErr result (λ problem. (known : Option (List ℕ)) → HoldsStory known story → IsUnaccepted V.operations V.format known (F.known files.old certificate.now) problem) }
     ensures files { ReadsUnless F.known F.failures F.can_fail files.old files.new (IsErrOf result (Problem.Failed Failure.File)) }
     ensures could { IsErrOf result (Problem.Failed Failure.File) → F.can_fail files.old certificate.now ≡ true }
 {
     let stream = feed_certificate(alloc, story, certificate, first, files)?;
-    Ok(stream.finish(alloc)?)
+    Ok(stream.judge(alloc)?)
 }
 
 /// Loads the story of a file.

@@ -1,6 +1,7 @@
 //! What a certificate says, as lines.
 
-ghost use Rattle.std.specs.Prelude.{is_some, ◌≡◌, ◌++◌, ◌+◌, ◌≤◌, [], ◌∷◌, List, ℕ, Some, None, IfOk, MatchOption, codes, decimal, flat_map};
+ghost use Rattle.std.specs.Prelude.{◌≡◌, ◌++◌, ◌+◌, ◌≤◌, [], ◌∷◌, List, ℕ, Some, None, IfOk, MatchOption, codes, decimal, flat_map};
+ghost use Rattle.zcert.specs.Certificate.{edition_of};
 ghost use Rattle.zcert.specs.Format.{version_of};
 ghost use Rattle.zcert.specs.Listed.{listed_at, seen};
 ghost use Rattle.zrule.specs.declared.rule.Rule.{Rule as ARule};
@@ -28,7 +29,7 @@ pub fn claims_of<V: Told>(
     certificate: &Certificate<V>,
     address: Option<u32>,
 ) -> Result<Vec<u8>, AllocError>
-    ensures { IfOk result (λ text. IsShown V.operations V.set_text story.now certificate.now (version_of V.format (is_some certificate.now.limit)) V.kind_text address text.items) }
+    ensures { IfOk result (λ text. IsShown V.operations V.set_text story.now certificate.now (version_of V.format (edition_of certificate.now)) V.kind_text address text.items) }
 {
     let mut text = Vec::new(alloc);
     add_claims(certificate, &mut text)?;
@@ -38,7 +39,7 @@ pub fn claims_of<V: Told>(
 
 /// Adds what a certificate says beside its instructions.
 fn add_claims<V: Told>(certificate: &Certificate<V>, text: &mut Vec<u8>) -> Result<(), AllocError>
-    ensures { IfOk result (λ _. text.new.items ≡ text.old.items ++ claims_text V.set_text (version_of V.format (is_some certificate.now.limit)) V.kind_text certificate.now) }
+    ensures { IfOk result (λ _. text.new.items ≡ text.old.items ++ claims_text V.set_text (version_of V.format (edition_of certificate.now)) V.kind_text certificate.now) }
 {
     add_heading::<V>(certificate.version(), text)?;
     add_limit(certificate.limit(), text)?;
@@ -225,7 +226,7 @@ fn add_unlisted(address: u32, text: &mut Vec<u8>) -> Result<(), AllocError>
 }
 
 /// Adds the line of a listed instruction as `list` writes it, where one stands there.
-fn add_spelled<V: Told>(
+pub fn add_spelled<V: Told>(
     listed: &Instruction<'_, V>,
     there: Option<Instr>,
     text: &mut Vec<u8>,
@@ -281,7 +282,7 @@ fn add_answer(alloc: Global, answer: Option<Rule>, text: &mut Vec<u8>) -> Result
 }
 
 /// Adds the first line that explains a broken rule.
-fn add_explained(alloc: Global, rule: Rule, text: &mut Vec<u8>) -> Result<(), AllocError>
+pub fn add_explained(alloc: Global, rule: Rule, text: &mut Vec<u8>) -> Result<(), AllocError>
     ensures { IfOk result (λ _. text.new.items ≡ text.old.items ++ explained_text rule) }
 {
     let mut code = String::new(alloc);

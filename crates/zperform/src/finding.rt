@@ -1,101 +1,146 @@
 //! Certificates found for a story's file, and codes explained.
 
-ghost use Rattle.std.specs.Prelude.{◌≡◌, ◌≢◌, ◌≤◌, true, IfErr, IfOk, IfSome, IsErrOf, Some};
+ghost use Rattle.std.specs.Prelude.{◌≡◌, ◌≢◌, ◌≤◌, ◌++◌, ℕ, List, true, IfErr, IfOk, IfSome, IsErrOf};
 ghost use Rattle.zplayer.specs.Outside.{Blames};
 ghost use Rattle.zperform.specs.Devices.{FlushesUnless, ReadsUnless, held};
-ghost use Rattle.zperform.specs.Finding.{ExplainComesTo, FailsFor, FindComesTo, IsCertificateFor, IsFound, IsLimitedOf, IsNotFound, IsOfStoryOrFound, IsUnfound};
+ghost use Rattle.zperform.specs.Finding.{ExplainComesTo, FailsFor, FindComesTo, IsCertificateFor, IsFound, IsFoundFor, IsFoundText, IsNotFound, IsOfStoryOrFound, IsUnfound};
+ghost use Rattle.zperform.specs.Marking.{ArePlacesOf};
 
 use crate::accepting::open_story;
 use crate::files::Files;
+use crate::marking::add_marks;
+use crate::message::Message;
 use crate::outcome::{Failure, Outcome, Problem};
 use crate::performing::write_done;
-use std::alloc::Global;
+use std::alloc::{AllocError, Global};
 use zexplain::explanation;
 use zfault::Sink;
-use zfind::{FindError, broken_in_all, find_limited};
+use zfind::{FindError, Found, broken_in_all, find_marked, find_unmarked};
 use zstory::Story;
 
-/// What is said where a certificate was found.
-const FOUND: &[u8] = b"found\n";
+/// What certificate is looked for, and what is told of it.
+#[derive(Clone, Copy)]
+pub struct Search {
+    /// How many frames may stand above the first, if the certificate is to name that.
+    pub frames: Option<u16>,
+    /// Whether it may mark no instruction.
+    pub strict: bool,
+    /// Whether each instruction that it marks is told, with the reason.
+    pub places: bool,
+}
 
-/// Finds a certificate for the story of a file, which names a limit of frames if one is asked for, keeps it in another, and then says so.
+/// A certificate that was found.
+#[derive(Drop)]
+struct Answer {
+    /// Its bytes.
+    bytes: Vec<u8>,
+    /// What is told of it.
+    text: Vec<u8>,
+}
+
+/// Finds a certificate for the story of a file, keeps it in another, and then says so.
 pub fn find_file<F: Files, W: Sink>(
     alloc: Global,
     story: &str,
     certificate: &str,
-    frames: Option<u16>,
+    search: Search,
     files: &mut F,
     writer: &mut W,
 ) -> Outcome
-    requires low { IfSome frames (λ n. n ≤ 4096) }
-    ensures comes { FindComesTo frames story.now certificate.now (F.known files.old) (F.known files.new) (W.contents writer.old) (W.contents writer.new) result }
+    requires low { IfSome search.frames (λ n. n ≤ 4096) }
+    ensures comes { FindComesTo search story.now certificate.now (F.known files.old) (F.known files.new) (W.contents writer.old) (W.contents writer.new) result }
     ensures writer { FlushesUnless W.failures W.waits writer.old writer.new (result ≡ Outcome.Stopped (Problem.Failed Failure.Write)) }
     ensures files { Blames (result ≡ Outcome.Stopped (Problem.Failed Failure.File)) (F.failures files.old) (F.failures files.new) }
-    ensures could { result ≡ Outcome.Stopped (Problem.Failed Failure.File) → IsOfStoryOrFound frames (held F.known F.failures F.can_fail files.old) story.now certificate.now }
+    ensures could { result ≡ Outcome.Stopped (Problem.Failed Failure.File) → IsOfStoryOrFound search (held F.known F.failures F.can_fail files.old) story.now certificate.now }
 {
-    let bytes = match certificate_of(alloc, story, frames, files) {
-        Ok(bytes) => bytes,
+    let Answer { bytes, text } = match answer_of(alloc, story, search, files) {
+        Ok(answer) => answer,
         Err(problem) => return Outcome::Stopped(problem),
     };
     if !files.put(certificate, &bytes) {
         return Outcome::Stopped(Problem::Failed(Failure::File));
     }
-    write_done(FOUND, Outcome::Found, writer)
+    write_done(&text, Outcome::Found, writer)
 }
 
-/// The bytes of a certificate for the story of a file.
-fn certificate_of<F: Files>(
+/// A certificate for the story of a file.
+fn answer_of<F: Files>(
     alloc: Global,
     name: &str,
-    frames: Option<u16>,
+    search: Search,
     files: &mut F,
-) -> Result<Vec<u8>, Problem>
-    requires low { IfSome frames (λ n. n ≤ 4096) }
-    ensures found { IfOk result (λ bytes. IsFound frames (F.known files.old name.now) bytes.items) }
-    ensures refused { IfErr result (IsNotFound frames (F.known files.old name.now)) }
+) -> Result<Answer, Problem>
+    requires low { IfSome search.frames (λ n. n ≤ 4096) }
+    ensures found { IfOk result (λ answer. IsFound search (F.known files.old name.now) answer.bytes.items answer.text.items) }
+    ensures refused { IfErr result (IsNotFound search (F.known files.old name.now)) }
     ensures files { ReadsUnless F.known F.failures F.can_fail files.old files.new (IsErrOf result (Problem.Failed Failure.File)) }
     ensures could { IsErrOf result (Problem.Failed Failure.File) → F.can_fail files.old name.now ≡ true }
     ensures unwritten { ¬ IsErrOf result (Problem.Failed Failure.Write) }
 {
     let story = open_story(alloc, name, files)?;
-    spelled_certificate(alloc, &story, frames)
+    answer_for(alloc, &story, search)
 }
 
-/// The bytes of a certificate for a story.
-fn spelled_certificate(
+/// A certificate for a story.
+fn answer_for(alloc: Global, story: &Story, search: Search) -> Result<Answer, Problem>
+    requires low { IfSome search.frames (λ n. n ≤ 4096) }
+    ensures found { IfOk result (λ answer. IsCertificateFor search story.now answer.bytes.items answer.text.items) }
+    ensures refused { IfErr result (IsUnfound search story.now) }
+{
+    match look_for(alloc, story, search) {
+        Ok(found) => Ok(Answer {
+            bytes: found.write(alloc)?,
+            text: text_of(alloc, story, &found, search.places)?,
+        }),
+        Err(error) => Err(unfound(alloc, story, search, error)),
+    }
+}
+
+/// The certificate that is found for a story, which may mark instructions unless that isn't asked for.
+fn look_for(alloc: Global, story: &Story, search: Search) -> Result<Found, FindError>
+    requires low { IfSome search.frames (λ n. n ≤ 4096) }
+    ensures found { IfOk result (IsFoundFor search story.now) }
+    ensures failed { IfErr result (FailsFor search story.now) }
+{
+    if search.strict {
+        find_unmarked(alloc, story, search.frames)
+    } else {
+        find_marked(alloc, story, search.frames)
+    }
+}
+
+/// What is told of a certificate that is found.
+fn text_of(alloc: Global, story: &Story, found: &Found, places: bool) -> Result<Vec<u8>, AllocError>
+    ensures { IfOk result (λ text. IsFoundText places story.now found.now text.items) }
+{
+    let mut text = Vec::new(alloc);
+    text.extend_from_slice(Message::of_found(found.marks()).as_slice())?;
+    if places {
+        add_places(alloc, story, found, &mut text)?;
+    }
+    Ok(text)
+}
+
+/// Adds what it marks, and why.
+fn add_places(
     alloc: Global,
     story: &Story,
-    frames: Option<u16>,
-) -> Result<Vec<u8>, Problem>
-    requires low { IfSome frames (λ n. n ≤ 4096) }
-    ensures found { IfOk result (λ bytes. IsCertificateFor frames story.now bytes.items) }
-    ensures refused { IfErr result (IsUnfound frames story.now) }
+    found: &Found,
+    text: &mut Vec<u8>,
+) -> Result<(), AllocError>
+    ensures { IfOk result (λ _. (places : List ℕ) × ArePlacesOf story.now found.now places × (text.new.items ≡ text.old.items ++ places)) }
 {
-    match frames {
-        None => match zfind::find(alloc, story) {
-            Ok(found) => Ok(found.write(alloc)?),
-            Err(error) => Err(unfound(alloc, story, None, error)),
-        },
-        Some(limit) => spelled_with_limit(alloc, story, limit),
+    match found {
+        Found::Intervals(certificate) => add_marks(alloc, story, certificate, true, text),
+        Found::Lists(certificate) => add_marks(alloc, story, certificate, true, text),
+        Found::Marked(certificate) => add_marks(alloc, story, certificate, true, text),
     }
 }
 
-/// The bytes of one that names a limit of frames.
-fn spelled_with_limit(alloc: Global, story: &Story, limit: u16) -> Result<Vec<u8>, Problem>
-    requires low { limit ≤ 4096 }
-    ensures found { IfOk result (λ bytes. IsLimitedOf story.now limit bytes.items) }
-    ensures refused { IfErr result (IsUnfound (Some limit) story.now) }
-{
-    match find_limited(alloc, story, limit) {
-        Ok(certificate) => Ok(zcert::write(alloc, &certificate)?),
-        Err(error) => Err(unfound(alloc, story, Some(limit), error)),
-    }
-}
-
-/// Why no certificate is found for a story, and what is broken in every one, if that is known.
-fn unfound(alloc: Global, story: &Story, frames: Option<u16>, error: FindError) -> Problem
-    requires { FailsFor frames story.now error }
-    ensures { IsUnfound frames story.now result }
+/// Why no certificate is found for a story, and what is broken in every one that marks nothing, if that is known.
+fn unfound(alloc: Global, story: &Story, search: Search, error: FindError) -> Problem
+    requires { FailsFor search story.now error }
+    ensures { IsUnfound search story.now result }
 {
     match error {
         FindError::OutOfMemory => Problem::Failed(Failure::Memory),

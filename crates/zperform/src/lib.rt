@@ -7,6 +7,7 @@ mod feeding;
 mod files;
 mod finding;
 mod listing;
+mod marking;
 mod message;
 mod outcome;
 mod performing;

@@ -1,20 +1,23 @@
 //! The listing of a story's file, or of a certificate's, as lines.
 
-ghost use Rattle.std.specs.Prelude.{◌≡◌, ◌++◌, true, IfErr, IfOk, IsErrOf, pos};
+ghost use Rattle.std.specs.Prelude.{◌≡◌, ◌++◌, false, true, IfErr, IfOk, IsErrOf, pos};
 ghost use Rattle.zperform.specs.Accepting.{IsOfEither, IsUnacceptedStory};
 ghost use Rattle.zperform.specs.Devices.{FlushesUnless, ReadsUnless, held};
-ghost use Rattle.zperform.specs.Listing.{HoldsListed, HoldsListedByEither, IsListedAs, IsNoListing, IsUnlisted, ListByComesTo, ListComesTo, listing_text, record_line};
+ghost use Rattle.zperform.specs.Listing.{HoldsListed, IsListedAs, IsNoListing, IsUnlisted, ListComesTo, listing_text, record_line};
+ghost use Rattle.zperform.specs.Marking.{AreMarksOf, HoldsListedByEither, IsListedBy, ListByComesTo};
 ghost use Rattle.zperform.specs.Report.{place_text};
 
 use crate::accepting::{AcceptedStory, accept, open_story};
 use crate::files::Files;
+use crate::marking::add_marks;
 use crate::message::address_text;
 use crate::outcome::{Failure, Outcome, Problem};
 use crate::performing::write_done;
+use crate::told::Told;
 use itoa::Buffer;
 use std::alloc::{AllocError, Global};
 use zcert::Spelled;
-use zcheck::Accepted;
+use zcheck::{Accepted, Judged, Marked};
 use zfault::Sink;
 use zlist::{Record, list_story};
 use zstory::Story;
@@ -91,12 +94,42 @@ fn listing_by<F: Files>(
     ensures could { IsErrOf result (Problem.Failed Failure.File) → IsOfEither (held F.known F.failures F.can_fail files.old) story.now certificate.now }
 {
     match accept(alloc, story, certificate, files)? {
-        AcceptedStory::Intervals(accepted) => list_accepted(alloc, &accepted),
-        AcceptedStory::Lists(accepted) => list_accepted(alloc, &accepted),
+        AcceptedStory::Intervals(judged) => list_judged(alloc, &judged),
+        AcceptedStory::Lists(judged) => list_judged(alloc, &judged),
     }
 }
 
-/// The lines of the instructions of a certificate that was accepted.
+/// The lines of the instructions of a certificate that was accepted, and where it marks some which, and why.
+fn list_judged<V: Told>(
+    alloc: Global,
+    judged: &Judged<Accepted<V>, Marked<V>>,
+) -> Result<Vec<u8>, Problem>
+    ensures listed { IfOk result (λ text. IsListedBy V.operations judged.now text.items) }
+    ensures wanted { IfErr result (λ problem. problem ≡ Problem.Failed Failure.Memory) }
+{
+    match judged {
+        Judged::Whole(accepted) => list_accepted(alloc, accepted),
+        Judged::Marked(marked) => list_marked(alloc, marked),
+    }
+}
+
+/// The lines of the instructions of one that marks some.
+fn list_marked<V: Told>(alloc: Global, marked: &Marked<V>) -> Result<Vec<u8>, Problem>
+    ensures listed { IfOk result (λ text. AreMarksOf V.operations marked.now.story marked.now.certificate false text.items) }
+    ensures wanted { IfErr result (λ problem. problem ≡ Problem.Failed Failure.Memory) }
+{
+    let mut text = Vec::new(alloc);
+    add_marks(
+        alloc,
+        marked.story(),
+        marked.certificate(),
+        false,
+        &mut text,
+    )?;
+    Ok(text)
+}
+
+/// The lines of the instructions of a certificate that marks none.
 fn list_accepted<V: Spelled>(alloc: Global, accepted: &Accepted<V>) -> Result<Vec<u8>, Problem>
     ensures listed { IfOk result (λ text. text.items ≡ listing_text accepted.now.listing.records) }
     ensures wanted { IfErr result (λ problem. problem ≡ Problem.Failed Failure.Memory) }

@@ -4,7 +4,7 @@ ghost use Rattle.std.specs.Prelude.{◌≡◌, ◌<◌, ◌≤◌, ◌+◌, ◌+
 ghost use Rattle.zfind.specs.Finding.{number_of as find_number};
 ghost use Rattle.zlist.specs.Listed.{number_of, place_of};
 ghost use Rattle.zperform.specs.Telling.{refusal_text};
-ghost use Rattle.zperform.specs.Report.{address_text, broken_text, end_text, failure_text, hex_digit, line_of, place_text, stopped_text, text_of};
+ghost use Rattle.zperform.specs.Report.{accepted_line, address_text, broken_text, end_text, failure_text, found_line, hex_digit, line_of, marks_text, place_text, stopped_text, text_of};
 
 use crate::outcome::{Failure, Outcome, Problem};
 use arrayvec::ArrayVec;
@@ -78,6 +78,40 @@ impl Message {
         message.push_number(error.number());
         message.finish();
         message
+    }
+
+    /// The line of a certificate that is accepted and marks so many instructions, with its end.
+    pub fn of_accepted(marks: usize) -> Message
+        ensures { result ≡ accepted_line marks }
+    {
+        let mut message = Message::new();
+        message.push(b"accepted");
+        message.push_marks(marks);
+        message.push(b"\n");
+        message
+    }
+
+    /// The line of a certificate that is found and marks so many, with its end.
+    pub fn of_found(marks: usize) -> Message
+        ensures { result ≡ found_line marks }
+    {
+        let mut message = Message::new();
+        message.push(b"found");
+        message.push_marks(marks);
+        message.push(b"\n");
+        message
+    }
+
+    /// How many instructions are marked, if any are.
+    fn push_marks(&mut self, marks: usize)
+        requires { length self.old ≤ 8 }
+        ensures text { self.new ≡ self.old ++ marks_text marks }
+        ensures most { length self.new ≤ length self.old + 30 }
+    {
+        if marks > 0 {
+            self.push(b", marked: ");
+            self.push_count(marks);
+        }
     }
 
     /// The bytes of the line.
@@ -224,6 +258,14 @@ impl Message {
         ensures most { length self.new ≤ length self.old + 3 }
     {
         self.push(Buffer::new().format(number).as_bytes());
+    }
+
+    fn push_count(&mut self, count: usize)
+        requires { length self.old + 20 ≤ ROOM }
+        ensures text { self.new ≡ self.old ++ decimal count }
+        ensures most { length self.new ≤ length self.old + 20 }
+    {
+        self.push(Buffer::new().format(count).as_bytes());
     }
 
     fn push_place(&mut self, place: i32)

@@ -16,7 +16,7 @@ ghost use Rattle.zquetzal.specs.declared.error.SaveError.{SaveError as ARefusal}
 
 use crate::accepting::accept;
 use crate::files::Files;
-use crate::finding::{explain_code, find_file};
+use crate::finding::{Search, explain_code, find_file};
 use crate::listing::{list_certificate, list_file};
 use crate::message::Message;
 use crate::outcome::{Failure, Outcome, Problem, Purpose};
@@ -31,9 +31,6 @@ use zplayer::{End, Options};
 
 /// The exit status where the words are wrong.
 const USAGE: u8 = 2;
-
-/// What is said of a certificate that is accepted.
-const ACCEPTED: &[u8] = b"accepted\n";
 
 /// What is said of arguments that are no text.
 const NO_TEXT: &[u8] = b"error: invalid UTF-8 was detected in one or more arguments
@@ -154,8 +151,17 @@ fn fulfil<F: Files, R: Source, W: Sink, E: Sink>(
             story,
             certificate,
             frames,
+            strict,
+            places,
             ..
-        } => find_file(alloc, story, certificate, frames, files, writer),
+        } => {
+            let search = Search {
+                frames,
+                strict,
+                places,
+            };
+            find_file(alloc, story, certificate, search, files, writer)
+        }
         Command::Check { story, certificate } => {
             check_files(alloc, story, certificate, files, writer)
         }
@@ -197,7 +203,7 @@ fn fulfil<F: Files, R: Source, W: Sink, E: Sink>(
     }
 }
 
-/// Says whether a story is accepted with a certificate, each in its file.
+/// Says whether a story is accepted with a certificate, each in its file, and how many instructions are marked, if any are.
 fn check_files<F: Files, W: Sink>(
     alloc: Global,
     story: &str,
@@ -210,11 +216,12 @@ fn check_files<F: Files, W: Sink>(
     ensures files { ReadsUnless F.known F.failures F.can_fail files.old files.new (result ≡ Outcome.Stopped (Problem.Failed Failure.File)) }
     ensures could { result ≡ Outcome.Stopped (Problem.Failed Failure.File) → IsOfEither (held F.known F.failures F.can_fail files.old) story.now certificate.now }
 {
-    match accept(alloc, story, certificate, files) {
-        Ok(_) => {}
+    let accepted = match accept(alloc, story, certificate, files) {
+        Ok(accepted) => accepted,
         Err(problem) => return Outcome::Stopped(problem),
-    }
-    write_done(ACCEPTED, Outcome::Accepted, writer)
+    };
+    let line = Message::of_accepted(accepted.marks());
+    write_done(line.as_slice(), Outcome::Accepted, writer)
 }
 
 /// Writes a text, and answers this outcome of it, or that writing failed.

@@ -4,10 +4,10 @@ ghost use Rattle.std.specs.Prelude.{◌≡◌, ◌≢◌, ℕ, true, IsErrOf, Li
 ghost use Rattle.zplayer.specs.Devices.{SameDevices as SameWorld};
 ghost use Rattle.zplayer.specs.Outside.{Blames};
 ghost use Rattle.zplayer.specs.declared.end.Options.{Options as HowToPlay};
-ghost use Rattle.zperform.specs.Accepting.{IsAccepted, IsOfEither, PlayComesTo, PlayEnds};
+ghost use Rattle.zperform.specs.Accepting.{IsAccepted, IsMarkedOf, IsOfEither, PlayComesTo, PlayEnds};
 ghost use Rattle.zperform.specs.Devices.{FlushesUnless, UsesUnless, held, seen};
 ghost use Rattle.zperform.specs.Performing.{given};
-ghost use Rattle.zperform.specs.Played.{Account, ComesOut, ComesOutIn, ComesOutOf, SameDevices, file_of};
+ghost use Rattle.zperform.specs.Played.{Account, ComesOfEither, ComesOut, ComesOutIn, ComesOutOf, SameDevices, file_of};
 ghost use Rattle.zperform.specs.Playing.{ComesTo, Holds};
 ghost use Rattle.zperform.specs.Report.{outcome_of};
 
@@ -17,7 +17,7 @@ use crate::outcome::{Failure, Problem};
 use crate::saves::{FileSaves, NoSaves};
 use std::alloc::Global;
 use zcert::Spelled;
-use zcheck::Accepted;
+use zcheck::{Accepted, Judged, Marked};
 use zfault::{Sink, Source};
 use zplay::Session;
 use zplayer::{End, Options, SaveStore, Seeded, Words, World, play_checked, play_story};
@@ -123,6 +123,40 @@ impl<V: Spelled> Playable for Accepted<V> {
     }
 }
 
+/// One that is accepted but where it is marked is checked as it is played, with as many frames as its certificate says.
+impl<V: Spelled> Playable for Marked<V> {
+    ghost Comes = { λ marked options given refusals before now outcome. (story certificate : Option (List ℕ)) → IsMarkedOf V.operations V.format story certificate marked → PlayEnds V.operations V.format story certificate options given refusals before now outcome };
+
+    fn play<R: Source, W: Sink, S: SaveStore, G: Words>(
+        &self,
+        alloc: Global,
+        options: Options,
+        world: &mut World<'_, R, W, S, G>,
+    ) -> Result<End, Problem> {
+        let limit = self.certificate().frame_limit();
+        let mut machine = CheckedMachine::new(alloc, self.story(), Scope::Within(limit))?;
+        let end = play_checked(alloc, &mut machine, world, options)?;
+        Ok(end)
+    }
+}
+
+/// The one or the other.
+impl<A: Playable, M: Playable> Playable for Judged<A, M> {
+    ghost Comes = { λ judged options. ComesOfEither A.Comes M.Comes judged options };
+
+    fn play<R: Source, W: Sink, S: SaveStore, G: Words>(
+        &self,
+        alloc: Global,
+        options: Options,
+        world: &mut World<'_, R, W, S, G>,
+    ) -> Result<End, Problem> {
+        match self {
+            Judged::Whole(accepted) => accepted.play(alloc, options, world),
+            Judged::Marked(marked) => marked.play(alloc, options, world),
+        }
+    }
+}
+
 /// Plays a story from its file.
 pub fn play<F: Files, R: Source, W: Sink, E: Sink>(
     alloc: Global,
@@ -158,8 +192,8 @@ pub fn play_by_certificate<F: Files, R: Source, W: Sink, E: Sink>(
     ensures reader { Blames (IsErrOf result (Problem.Failed Failure.Read)) (R.failures devices.old.reader.now) (R.failures devices.new.reader.now) }
 {
     match accept(alloc, story, certificate, devices.files)? {
-        AcceptedStory::Intervals(accepted) => play_saving(alloc, &accepted, asked, devices),
-        AcceptedStory::Lists(accepted) => play_saving(alloc, &accepted, asked, devices),
+        AcceptedStory::Intervals(judged) => play_saving(alloc, &judged, asked, devices),
+        AcceptedStory::Lists(judged) => play_saving(alloc, &judged, asked, devices),
     }
 }
 

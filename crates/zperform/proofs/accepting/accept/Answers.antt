@@ -3,7 +3,7 @@ use Rattle.zdomain.specs.Interval.{interval_operations}
 use Rattle.zdomain.specs.Values.{values_operations}
 use Rattle.zcert.specs.Format.{interval_format}
 use Rattle.zcert.specs.Lists.{values_format}
-use Rattle.zperform.specs.Accepting.{IsAccepted, IsUnaccepted, IsUnacceptedStory}
+use Rattle.zperform.specs.Accepting.{IsJudgedOf, IsUnaccepted, IsUnacceptedStory}
 use Rattle.zperform.proofs.AcceptLemmas.{first_read, first_unread, handed_on, no_story_refuses, read_well}
 use Rattle.zperform.proofs.accepting.accept.Goals as goal
 
@@ -48,12 +48,12 @@ returns-in_err-accepted-2-clause-refused g c =
 pub returns-then-has_lists-clause-accepted : goal.returns-then-has_lists-clause-accepted
 returns-then-has_lists-clause-accepted g c =
     let story_known = g.F.Files.known c.args.files.now c.args.story.now in
-    subst (λ (known : List ℕ → Option (List ℕ)). IsAccepted values_operations values_format story_known (known c.args.certificate.now) c.in_ok-accepted.accepted) (c.read_file.ensures.files.kept ∙ c.open_story.ensures.files.kept) (c.in_ok-accepted.ensures.accepted story_known c.in_ok-story.ensures.held)
+    subst (λ (known : List ℕ → Option (List ℕ)). IsJudgedOf values_operations values_format story_known (known c.args.certificate.now) c.in_ok-accepted.accepted) (c.read_file.ensures.files.kept ∙ c.open_story.ensures.files.kept) (c.in_ok-accepted.ensures.accepted story_known c.in_ok-story.ensures.held)
 
 pub returns-clause-accepted : goal.returns-clause-accepted
 returns-clause-accepted g c =
     let story_known = g.F.Files.known c.args.files.now c.args.story.now in
-    subst (λ (known : List ℕ → Option (List ℕ)). IsAccepted interval_operations interval_format story_known (known c.args.certificate.now) c.in_ok-accepted-2.accepted) (c.read_file.ensures.files.kept ∙ c.open_story.ensures.files.kept) (c.in_ok-accepted-2.ensures.accepted story_known c.in_ok-story.ensures.held)
+    subst (λ (known : List ℕ → Option (List ℕ)). IsJudgedOf interval_operations interval_format story_known (known c.args.certificate.now) c.in_ok-accepted-2.accepted) (c.read_file.ensures.files.kept ∙ c.open_story.ensures.files.kept) (c.in_ok-accepted-2.ensures.accepted story_known c.in_ok-story.ensures.held)
 
 pub returns-then-has_lists-clause-files : goal.returns-then-has_lists-clause-files
 returns-then-has_lists-clause-files g c =

@@ -1,4 +1,5 @@
-use Rattle.std.proofs.Common.{◌≡◌, ℕ, List, ◌++◌, IfOk, codes, flat_map, is_some, subst, rules}
+use Rattle.std.proofs.Common.{◌≡◌, ℕ, List, ◌++◌, IfOk, codes, flat_map, subst, rules}
+use Rattle.zcert.specs.Certificate.{edition_of}
 use Rattle.zcert.specs.Format.{version_of}
 use Rattle.zperform.specs.Showing.{claims_text, heading_text, limit_line, numbered, range_line, routine_line, set_line}
 use Rattle.zperform.proofs.ShowLemmas.{five_added}
@@ -8,7 +9,7 @@ pub returns : goal.returns
 returns g c =
     let old = c.args.text.now.items in
     let certificate = c.args.certificate.now in
-    let version = version_of g.V.Spelled.format (is_some certificate.limit) in
+    let version = version_of g.V.Spelled.format (edition_of certificate) in
     let kind = g.V.Told.kind_text in
     let set_text = g.V.Told.set_text in
     let a = heading_text version kind in

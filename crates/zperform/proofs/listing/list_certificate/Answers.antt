@@ -1,6 +1,6 @@
 use Rattle.std.proofs.Common.{◌≡◌, ◌≢◌, inr, refl, rules, subst, ℕ, List}
 use Rattle.zperform.specs.Accepting.{IsUnacceptedStory}
-use Rattle.zperform.specs.Listing.{HoldsListedByEither, ListByComesTo}
+use Rattle.zperform.specs.Marking.{HoldsListedByEither, ListByComesTo}
 use Rattle.zperform.specs.declared.outcome.Failure.TheVariants.{File, Write}
 use Rattle.zperform.specs.declared.outcome.Problem.TheVariants.{Failed}
 use Rattle.zperform.specs.declared.outcome.Outcome.{Outcome}

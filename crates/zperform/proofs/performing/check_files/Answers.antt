@@ -1,5 +1,6 @@
-use Rattle.std.proofs.Common.{◌≡◌, ◌≢◌, inr, refl}
-use Rattle.zperform.specs.Accepting.{CheckComesTo, IsUnacceptedStory}
+use Rattle.std.proofs.Common.{◌≡◌, ◌≢◌, inr, refl, rules}
+use Rattle.zperform.specs.Accepting.{CheckComesTo, IsUnacceptedStory, marks_of}
+use Rattle.zperform.specs.Report.{accepted_line}
 use Rattle.zperform.specs.declared.outcome.Failure.TheVariants.{File, Write}
 use Rattle.zperform.specs.declared.outcome.Problem.TheVariants.{Failed}
 use Rattle.zperform.specs.declared.outcome.Outcome.{Outcome}
@@ -21,8 +22,9 @@ returns-in-Err-clause-writer g c = record {
 pub returns-clause-comes : goal.returns-clause-comes
 returns-clause-comes g c =
     let known = g.F.Files.known c.args.files.now in
+    let line : c.as_slice.result.now ≡ accepted_line (marks_of c.in-Ok.accepted) = search rules in
     ends_so _ _ _ _ _ (λ (o : Outcome). CheckComesTo (known c.args.story.now) (known c.args.certificate.now) (g.W.Sink.contents c.args.writer.now) (g.W.Sink.contents c.write_done.new.writer) o) c.write_done.ensures.ends
-    (λ written. ((_, c.in-Ok.ensures.accepted), written)) (λ begun. ((_, c.in-Ok.ensures.accepted), begun))
+    (λ written. (_, c.in-Ok.ensures.accepted, rw (← line) written)) (λ begun. (_, c.in-Ok.ensures.accepted, rw (← line) begun))
 
 pub returns-clause-files : goal.returns-clause-files
 returns-clause-files g c = read_on _ _ _ _ _ _ _ c.in-Ok.ensures.files (λ e. cc) (ends_so _ _ _ _ _ (λ (o : Outcome). o ≢ Stopped (Failed File)) c.write_done.ensures.ends (λ _ e. cc) (λ _ e. cc))

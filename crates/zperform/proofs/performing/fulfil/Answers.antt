@@ -22,3 +22,6 @@ returns-in-Check-clause-comes g c = rw c.in-Check.is ([], c.check_files.ensures.
 
 pub returns-in-Show-clause-comes : goal.returns-in-Show-clause-comes
 returns-in-Show-clause-comes g c = rw c.in-Show.is ([], c.show_files.ensures.comes, refl)
+
+pub returns-in-Find-clause-could : goal.returns-in-Find-clause-could
+returns-in-Find-clause-could g c = rw c.in-Find.is c.find_file.ensures.could

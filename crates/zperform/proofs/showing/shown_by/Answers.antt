@@ -1,5 +1,5 @@
 use Rattle.std.proofs.Common.{◌≡◌, ◌∙◌, Option, List, ℕ, ap, sym, subst, true}
-use Rattle.std.specs.Prelude.{is_some}
+use Rattle.zcert.specs.Certificate.{edition_of}
 use Rattle.zcert.specs.Format.{version_of}
 use Rattle.zstory.specs.LoadedStory.{LoadedStory, identity_of}
 use Rattle.zperform.specs.Accepting.{HoldsStory}
@@ -55,5 +55,5 @@ returns-clause-shown g c = λ known held.
       held = held;
       read = stream_read g.V.Domain.operations g.V.Spelled.format known certificate_known c.args.story held _ c.in_ok-story.certificate c.in_ok-stream.ensures.fed c.in_ok-story.ensures.read;
       own = c.is_of.ensures.0 is ∙ ap identity_of same;
-      shown = subst (λ (s : LoadedStory). IsShown g.V.Domain.operations g.V.Told.set_text s c.in_ok-story.certificate (version_of g.V.Spelled.format (is_some c.in_ok-story.certificate.limit)) g.V.Told.kind_text c.args.address c.in_ok-claims_of.field-0.items) same c.in_ok-claims_of.ensures;
+      shown = subst (λ (s : LoadedStory). IsShown g.V.Domain.operations g.V.Told.set_text s c.in_ok-story.certificate (version_of g.V.Spelled.format (edition_of c.in_ok-story.certificate)) g.V.Told.kind_text c.args.address c.in_ok-claims_of.field-0.items) same c.in_ok-claims_of.ensures;
     }
