@@ -1,20 +1,28 @@
-"""What a command line has to answer by the model: exit status, output, errors, and the file of saves (README.md has the forms)."""
+"""What a command line has to answer by the model: exit status, output, errors, and the file that is written (README.md has the forms).
+
+What `find` finds isn't searched for here. It is read, and judged by the rules; and where none is found none may be told by the model's own walk."""
+import re
+
 import certificates
-from instructions import Listing, decode, line_of
+import marking
+from instructions import Listing, NoInstruction, decode, line_of
 from machine import Machine, Store
-from rules import judge
+from known import Known
+from rules import instruction_fault, judge
 from stories import Refused, Story
+
+REASONS = {}  # the first line that `explain` has of each rule: tests/program/finding.py holds its texts
 
 
 def at(place):
     return b"%05x" % place if 0 <= place < 0x100000 else b"%d" % place
 
 
-def answer(case, tally):
-    """What a case has to answer. The tally counts what was met."""
+def answer(case, tally, came):
+    """What a case has to answer, where this came. The tally counts what was met."""
     saved = case.files.get("saved")
     try:
-        status, output, errors, saved = COMMANDS[case.words[0]](case, tally)
+        status, output, errors, saved = found(case, tally, came) if case.words[0] == "find" else COMMANDS[case.words[0]](case, tally)
     except Refused as refused:
         tally.codes[refused.code] += 1
         where = b"" if refused.place is None else b" at " + at(refused.place)
@@ -31,18 +39,70 @@ def accepted(case, name):
     return story, certificate
 
 
+def with_marks(line, certificate, tally):
+    """The line that tells of a certificate, with the count of its marks where it has some."""
+    tally.codes[f"{line}, marked" if certificate.marks else line] += 1
+    return (f"{line}, marked: {len(certificate.marks)}\n" if certificate.marks else f"{line}\n").encode()
+
+
 def checked(case, tally):
-    accepted(case, case.words[2])
-    tally.codes["accepted"] += 1
-    return 0, b"accepted\n", b"", None
+    return 0, with_marks("accepted", accepted(case, case.words[2])[1], tally), b"", None
+
+
+def found(case, tally, came):
+    """What is found has to be a certificate that is accepted, and what isn't has to be named."""
+    story = Story(case.files["story"])
+    options, written = options_of(case.words[1:])[0], came[3]
+    if written is None:
+        return not_found(story, "--strict" in options, came, tally)
+    certificate = certificates.read(written)
+    judge(story, certificate)
+    if certificate.limit != int(options.get("--frames", certificates.USUAL)):
+        return 0, b"another limit of frames", b"", written
+    if "--strict" in options and certificate.marks:
+        return 0, b"found with no mark", b"", written
+    places = lines_of(story, certificate, sorted(certificate.marks)) if "--places" in options else b""
+    return 0, with_marks("found", certificate, tally) + places, b"", written
+
+
+def not_found(story, strict, came, tally):
+    """What is told where none is found. With marks one is, where the walk of the model has one."""
+    status, _, errors, _ = came
+    told = NONE_FOUND.fullmatch(errors)
+    if status != 1 or not told or (told[1] == b"G2" and not strict):
+        return 1, b"", b"refused: G1 or G2", None
+    tally.codes[told[1].decode()] += 1
+    if not strict and marking.certificate_of(story):
+        return 0, b"found, since the walk of the model finds one", b"", None
+    return 1, b"", errors, None
 
 
 def listed(case, tally):
     if len(case.words) == 2:
         return 0, Listing(Story(case.files["story"])).lines(), b"", None
     story, certificate = accepted(case, case.words[2])
-    names = {it: decode(story, story.memory, it).name for it in certificate.instructions}
-    return 0, b"".join(line_of(it, number, names[it]) for it, (number, _, _) in certificate.instructions.items()), b"", None
+    return 0, lines_of(story, certificate, certificate.instructions), b"", None
+
+
+def lines_of(story, certificate, places):
+    """The lines of listed instructions, each with why it is marked if it is."""
+    known, lines = Known(story, certificate), []
+    known.has_property_tables()
+    for place in places:
+        lines.append(line_of(place, certificate.instructions[place][0], name_at(story, place)))
+        if place in certificate.marks:
+            lines.append(b"marked: %s\n" % REASONS.get(instruction_fault(known, place), b"its rule holds"))
+    return b"".join(lines)
+
+
+def name_at(story, place):
+    """The name of an instruction that is listed; where none stands it is marked. In dynamic memory none does, since it may change."""
+    if place < story.static:
+        return "no instruction"
+    try:
+        return decode(story, story.memory, place).name
+    except NoInstruction:
+        return "no instruction"
 
 
 def options_of(words):
@@ -50,7 +110,7 @@ def options_of(words):
     found, files, words = {}, [], list(words)
     while words:
         it = words.pop(0)
-        if it in ("--status", "--tell", "--force"):
+        if it in FLAGS:
             found[it] = True
         elif it.startswith("--"):
             found[it] = words.pop(0)
@@ -69,7 +129,7 @@ def played(case, tally):
     story, certificate = accepted(case, files[1]) if len(files) > 1 else (Story(case.files["story"]), None)
     if is_kept_from(options, case.files.get("saved", b"")):
         raise Refused("N2")
-    tally.codes["played with a certificate"] += certificate is not None
+    tally.codes["played with marks" if certificate and certificate.marks else "played with a certificate"] += certificate is not None
     store = Store(case.files.get("saved"), certificate) if "--save" in options else None
     machine = Machine(story, int(options.get("--seed", 1)), case.typed, "--status" in options, store, tally.opcodes)
     machine.limit = certificate.limit if certificate else machine.limit
@@ -77,7 +137,7 @@ def played(case, tally):
     for code in machine.told:
         tally.codes[code] += 1
     if machine.resumed:
-        tally.codes["restored with a certificate" if certificate else "restored"] += 1
+        tally.codes["restored" + (" with marks" if certificate and certificate.marks else " with a certificate" if certificate else "")] += 1
     told = b"".join(b"save refused: %s\n" % it.encode() for it in machine.told) if "--tell" in options else b""
     saved = store.contents if store else None
     if isinstance(end, int):
@@ -88,3 +148,5 @@ def played(case, tally):
 
 
 COMMANDS = {"list": listed, "check": checked, "play": played}
+FLAGS = {"--status", "--tell", "--force", "--strict", "--places"}
+NONE_FOUND = re.compile(rb"refused: (G[12])( at [0-9a-f]{5})?\n(no certificate: [SIU][0-9]{1,2}( at [0-9a-f]{5})?|not found)\n")

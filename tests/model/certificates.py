@@ -1,4 +1,4 @@
-"""Certificates of versions 1 to 3 as docs/CERTIFICATE.md spells them: how a file is read, and its first refusal (K1 to K7, K9).
+"""Certificates of versions 1 to 4 as docs/CERTIFICATE.md spells them: how a file is read, and its first refusal (K1 to K7, K9).
 
 Each number of the table there is a field by itself, also of a row that has several."""
 import struct
@@ -7,19 +7,29 @@ from sets import SMALL, Numbers
 from stories import Refused
 
 PLACES, LOCALS, HEIGHT, INSTRUCTIONS, FRAMES, USUAL = 131072, 15, 64, 131072, 4096, 1024
+VERSIONS, MARK = (1, 2, 3, 4), 0x80
 
 
 class Certificate:
-    """What a certificate says. Routines are (address, count of locals, result), an instruction at an address is (routine, locals, slots)."""
+    """What a certificate says. Routines are (address, count of locals, result), an instruction at an address is (routine, locals, slots). Marks
+    are the addresses of those that are marked."""
 
     def __init__(self):
-        self.ranges, self.globals, self.routines, self.instructions = [], [], [], {}
+        self.ranges, self.globals, self.routines, self.instructions, self.marks = [], [], [], {}, set()
         self.header = self.length = None
         self.version, self.limit = 1, USUAL
 
     @property
     def has_lists(self):
         return self.version > 1
+
+    @property
+    def names_limit(self):
+        return self.version > 2
+
+    @property
+    def has_marks(self):
+        return self.version > 3
 
 
 class Fields:
@@ -72,10 +82,10 @@ def read(file):
     fields, made = Fields(file), Certificate()
     require(fields.take(">4s") == b"ZPCC", "K1")
     made.version = fields.take(">B")
-    require(made.version in (1, 2, 3), "K2")
+    require(made.version in VERSIONS, "K2")
     fields.has_lists = made.has_lists
     made.header, made.length = fields.take(">10s"), fields.take(">I")
-    if made.version == 3:
+    if made.names_limit:
         made.limit = fields.take(">H")
         require(made.limit <= FRAMES, "K7")
     read_ranges(fields, made)
@@ -113,6 +123,9 @@ def read_instructions(fields, made):
         number = fields.take(">H")
         require(number <= len(made.routines), "K7")
         height = fields.take(">B")
+        if made.has_marks and height & MARK:
+            made.marks.add(address)
+            height -= MARK
         require(height <= HEIGHT, "K7")
         values = [fields.set() for _ in range(made.routines[number - 1][1] if number else 0)]
         made.instructions[address] = (number, values, [fields.set() for _ in range(height)])

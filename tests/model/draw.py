@@ -1,12 +1,13 @@
 """Command lines that are drawn, each from a seed of its own: the words, the files, what is typed. Most are made so that they get far.
 
-What docs/MACHINE.md and docs/CERTIFICATE.md don't say isn't drawn: with a certificate, saves that may be refused by Q10, since what a
-certificate describes stands elsewhere; and a file that is N2 beside a story or certificate that is refused too."""
+What docs/MACHINE.md and docs/CERTIFICATE.md don't say isn't drawn: with a certificate without marks, saves that may be refused by Q10, since
+what a certificate describes stands elsewhere; and a file that is N2 beside a story or certificate that is refused too."""
 import glob
 import os
 import random
 
 import certificates
+import marking
 import saves
 import spoiling
 import worlds
@@ -21,10 +22,11 @@ POOL = 40  # stories with a certificate that is found, for each seed
 
 
 class Case:
-    """A command line: its words, the files beside it, and what is typed."""
+    """A command line: its words, the files beside it, what is typed, and the file that it may write."""
 
     def __init__(self, words, files, typed=b""):
         self.words, self.files, self.typed = words, files, typed
+        self.writes = "found" if words[0] == "find" else "saved"
 
 
 def repository():
@@ -77,6 +79,10 @@ class Drawer:
         story = worlds.story(draw, crossing / 5, crossing=crossing) if crossing else self.story(draw)
         if way < 0.65:
             return Case(["list", "story"], {"story": story if draw.random() < 0.4 or len(story) < 64 else unlisted(draw, story)})
+        if way < 0.68:
+            asked = ["--frames", str(draw.choice([0, 1, 7, 1024, 4096]))] if draw.random() < 0.3 else []
+            asked += [it for it, rate in (("--strict", 0.2), ("--places", 0.4)) if draw.random() < rate]
+            return Case(["find", *asked, "story", "found"], {"story": story})
         return Case(["play", *options(draw), "story"], {"story": story}, typed(draw))
 
     def story(self, draw):
@@ -156,8 +162,8 @@ class Drawer:
             story = spoiling.tables_of(draw, story)
         try:
             loaded = Story(story)
-            made = Walk(loaded, draw.choice([1, 2, 3]), frozen(draw, loaded)).made
-            made.limit = draw.choice([0, 1, 2, 3, 4, 1024, 4096]) if made.version == 3 else made.limit
+            made = Walk(loaded, draw.choice([1, 2, 3, 4]), frozen(draw, loaded)).made
+            made.limit = draw.choice([0, 1, 2, 3, 4, 1024, 4096]) if made.names_limit else made.limit
             certificate = spoiling.spelled(made)
         except Refused:
             return Case(["list", "story"], {"story": story})
@@ -189,7 +195,8 @@ def frozen(draw, story):
 
 
 def accepting(draw, story, certificate):
-    """A command that asks whether a story is accepted with a certificate."""
+    """A command that asks whether a story is accepted with a certificate, of which some are marked."""
+    certificate = marked(draw, story, certificate) if draw.random() < 0.4 else certificate
     files, command = {"story": story, "certificate": certificate}, draw.choice(["check", "check", "play", "play", "play", "list"])
     if command != "play":
         return Case([command, "story", "certificate"], files)
@@ -201,9 +208,25 @@ def accepting(draw, story, certificate):
     return Case(["play", *options(draw), *keeps, "story", "certificate"], files, lines)
 
 
+def marked(draw, story, certificate):
+    """The certificate with marks: wherever a rule is broken, and there with one more or one less, or at some places or all, or at none."""
+    try:
+        made, loaded = certificates.read(certificate), Story(story)
+    except Refused:
+        return certificate
+    made.version = 4
+    if draw.random() < 0.6:
+        marking.mark_broken(loaded, made)
+        if draw.random() < 0.4:
+            spoiling.one_mark(draw, made)
+    else:
+        spoiling.many_marks(draw, made)
+    return spoiling.spelled(made)
+
+
 def save_for(draw, story, certificate, lines):
-    """A file of saves for a play with a certificate: one that was kept by a play of the story, or one that is refused before it is asked
-    what the certificate describes."""
+    """A file of saves for a play with a certificate: one that was kept by a play of the story, or a spoiled one. Where nothing is marked that
+    is one which is refused before it is asked what the certificate describes."""
     try:
         save, made = kept(story, lines), certificates.read(certificate)
     except Refused:
@@ -211,7 +234,7 @@ def save_for(draw, story, certificate, lines):
     if save is None or draw.random() < 0.4:
         return {} if save is None else {"saved": save}
     spoiled, loaded = spoiling.save_of(draw, save), Story(story)
-    return {"saved": spoiled} if saves.judged(loaded, spoiled, loaded.memory, made)[0] else {}
+    return {"saved": spoiled} if made.marks or saves.judged(loaded, spoiled, loaded.memory, made)[0] else {}
 
 
 def kept(story, lines):

@@ -1,5 +1,5 @@
 """Whether a story is accepted with a certificate: the first rule that is broken, of the story (S1 to S8) and of each listed instruction
-(I1 to I18), in the order that docs/CERTIFICATE.md says."""
+(I1 to I18) that isn't marked, in the order that docs/CERTIFICATE.md says."""
 from edges import edges_of
 from instructions import NoInstruction, decode
 from intervals import is_single
@@ -16,7 +16,7 @@ def judge(story, certificate):
         if not holds(known):
             raise Refused(code)
     for place in certificate.instructions:
-        code = instruction_fault(known, place)
+        code = None if place in certificate.marks else instruction_fault(known, place)
         if code:
             raise Refused(code, place)
 

@@ -14,7 +14,7 @@ import tempfile
 
 sys.path.append(os.path.join(os.path.dirname(os.path.abspath(__file__)), "../program"))
 
-from answers import answer
+from answers import REASONS, answer
 from draw import Case, Drawer
 from instructions import OPCODES
 from program import Program, shown
@@ -56,22 +56,22 @@ def by_number(code):
 
 
 def told(answer):
-    status, output, errors, saved = answer
-    return f"status {status}, {shown(output)}, {shown(errors)}" + (f", a save {shown(saved)}" if saved is not None else "")
+    status, output, errors, written = answer
+    return f"status {status}, {shown(output)}, {shown(errors)}" + (f", written {shown(written)}" if written is not None else "")
 
 
 def ran(program, case):
-    """What the program answers: its exit status, its output, its errors, and the file of saves if there is one."""
+    """What the program answers: its exit status, its output, its errors, and the file that it writes if there is one."""
     with tempfile.TemporaryDirectory(prefix="zpc-") as room:
         for name, contents in case.files.items():
             with open(os.path.join(room, name), "wb") as file:
                 file.write(contents)
         came = program.run_in(room, case.words, typed=case.typed)
-        path, saved = os.path.join(room, "saved"), None
+        path, written = os.path.join(room, case.writes), None
         if os.path.exists(path):
             with open(path, "rb") as file:
-                saved = file.read()
-    return came.status, came.output, came.errors, saved
+                written = file.read()
+    return came.status, came.output, came.errors, written
 
 
 def smaller(program, case):
@@ -83,7 +83,8 @@ def smaller(program, case):
 
 
 def differs(program, case, tally):
-    return answer(case, tally) != ran(program, case)
+    came = ran(program, case)
+    return answer(case, tally, came) != came
 
 
 def lesser(case):
@@ -104,9 +105,10 @@ def lesser(case):
 
 def compared(path, count, seed):
     program, tally, drawer = Program(path), Tally(), Drawer(seed, Program(path))
+    REASONS.update((code, program.run(["explain", code]).output.partition(b"\n")[0]) for code in CODES if code[0] == "I")
     with concurrent.futures.ThreadPoolExecutor(AT_ONCE) as pool:
         for number, case, came in pool.map(lambda it: (it, *one(program, drawer.case(it))), range(count)):
-            wanted = answer(case, tally)
+            wanted = answer(case, tally, came)
             if not tally.see(f"{seed}-{number}", case, wanted, came):
                 print(f"model: the same of {' '.join(smaller(program, case).words)}", flush=True)
     return tally.end()

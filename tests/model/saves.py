@@ -1,6 +1,6 @@
 """Saves as docs/MACHINE.md has them, files of the Quetzal 1.4 standard (named Q): how one is written, and the first refusal (Q1 to Q9) of
 one that is read. Of Q10 it says where a save has more frames than a certificate lets stand, and no more; of
-Q11, want of memory, nothing."""
+Q11, want of memory, nothing. A certificate with marks asks of a save what its limit of frames does, and no more."""
 import struct
 
 from stories import word_at
@@ -84,7 +84,7 @@ def frames_of(data):
 
 def judged(story, save, memory, certificate=None):
     """The refusal of a save, and the memory, place and frames in which play goes on from it (Z 15 restore). A certificate lists places,
-    and has a limit of frames."""
+    which one with marks doesn't ask for, and has a limit of frames."""
     fault, parts = form_fault(save)
     if fault:
         return fault, None
@@ -100,7 +100,7 @@ def judged(story, save, memory, certificate=None):
     restored = bytearray(parts[b"UMem"] + story.memory[story.static :])
     flags = bytes([restored[0x10], restored[0x11] & 0xFC | memory[0x11] & 3])
     restored[:64] = story.memory[:0x10] + flags + story.memory[0x12:64]
-    if certificate and place not in certificate.instructions:
+    if certificate and not certificate.marks and place not in certificate.instructions:
         return "Q9", None
     if not 0 <= place < story.length or restored[place] != SAVE or not is_whole(restored, place):
         return "Q9", None

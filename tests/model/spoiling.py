@@ -211,6 +211,18 @@ def all_wide(draw, made):
     made.routines = [(at, count, ALL if draw.random() < rate else result) for at, count, result in made.routines]
 
 
+def one_mark(draw, made):
+    """Marks an instruction that isn't marked, or leaves a mark out."""
+    if made.instructions:
+        made.marks ^= {draw.choice(sorted(made.marks) if made.marks and draw.random() < 0.5 else sorted(made.instructions))}
+
+
+def many_marks(draw, made):
+    """Marks all instructions, some, or none."""
+    rate = draw.choice([0, 0.05, 0.3, 1, 1])
+    made.marks = {it for it in made.instructions if draw.random() < rate}
+
+
 CHANGES = [one_narrower] * 9 + [one_interval] * 4 + [one_global] * 3 + [one_place] * 3 + [one_range] * 2 + [one_routine] * 3 + [all_wide] * 2
 
 
@@ -221,7 +233,11 @@ def certificate_of(draw, file):
         draw.choice(CHANGES)(draw, made)
     if made.has_lists and draw.random() < 0.1:
         misspell(draw, made)
-    if made.version == 3 and draw.random() < 0.2:
+    if made.names_limit and draw.random() < 0.1:
+        made.version = draw.choice([3, 4])
+    if draw.random() < (0.3 if made.has_marks else 0.05):
+        draw.choice([one_mark, one_mark, many_marks])(draw, made)
+    if made.names_limit and draw.random() < 0.2:
         made.limit = draw.choice([0, 1, 2, 3, 4095, 4096, 4097, 65535])
     return spelled(made)
 
@@ -247,16 +263,16 @@ def misspell(draw, made):
 
 
 def spelled(made):
-    """The file of a certificate."""
+    """The file of a certificate. A mark is spelled in each version, though those before the fourth have none."""
     spell = spelled_set if made.has_lists else spelled_interval
-    limit = struct.pack(">H", made.limit) if made.version == 3 else b""
+    limit = struct.pack(">H", made.limit) if made.names_limit else b""
     parts = [b"ZPCC", bytes([made.version]), made.header, struct.pack(">I", made.length), limit, struct.pack(">H", len(made.ranges))]
     parts += [struct.pack(">HH", *it) for it in made.ranges] + [spell(it) for it in made.globals]
     parts.append(struct.pack(">H", len(made.routines)))
     parts += [struct.pack(">IB", at, count) + spell(result) for at, count, result in made.routines]
     parts.append(struct.pack(">I", len(made.instructions)))
     for place, (number, values, slots) in sorted(made.instructions.items()):
-        parts.append(struct.pack(">IHB", place, number, len(slots)))
+        parts.append(struct.pack(">IHB", place, number, len(slots) | certificates.MARK * (place in made.marks)))
         parts += [spell(it) for it in values + slots]
     return b"".join(parts)
 
