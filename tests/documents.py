@@ -21,13 +21,6 @@ def files(pattern):
     return [it for it in found if re.search(pattern, it)]
 
 
-def sections(text, mark):
-    """The parts of a document behind headings of a depth: the heading's first word, the heading, and the part."""
-    for part in re.split(rf"(?m)^{mark} ", text)[1:]:
-        heading, _, body = part.partition("\n")
-        yield re.match(r"\w*", heading)[0], heading, body
-
-
 def crates():
     return re.findall(r"(?m)^(\w+):", text_of("crates.txt"))
 
@@ -48,12 +41,16 @@ def wrong_bugs():
 
 
 def wrong_clauses():
-    """Each crate has a README.md, the clauses and calls that it names stand in its sources, and docs/PROVED.md is their index."""
+    """Each crate has a README.md, which says what is proved of it and what isn't, but of tests; the clauses and calls that it names stand in its
+    sources, and docs/PROVED.md is their index."""
     for crate in crates():
         path = f"crates/{crate}/README.md"
         if not os.path.exists(os.path.join(TOP, path)):
             yield f"{path} isn't there"
             continue
+        for heading in () if f"crates/{crate}" in crates_of_tests() else ("## What is proved", "## What isn't"):
+            if f"\n{heading}\n" not in text_of(path):
+                yield f"{path} has no part {heading[3:]}"
         sources = "".join(text_of(path) for path in files(rf"^crates/{crate}/src/.*\.rt$"))
         for call, clauses in proved.rows_of(text_of(path)):
             for clause in re.findall(r"`(\w+)`", clauses):
@@ -62,8 +59,19 @@ def wrong_clauses():
             for name in re.findall(r"`(?:\w+::)*(\w+)[`(]", call):
                 if name not in sources:
                     yield f"{path}: there is no {name}"
+        for name in public_functions(crate, sources):
+            if not re.search(rf"\b{name}\b", text_of(path)):
+                yield f"{path} has no row of {name}"
     for line in proved.differences():
         yield f"PROVED: {line}"
+
+
+def public_functions(crate, sources):
+    """The functions of a library that it hands out. Methods aren't asked for: accessors have a row in common."""
+    library = f"crates/{crate}/src/lib.rt"
+    handed = re.findall(r"(?m)^pub use [\w:]+::(?:\{([^}]*)\}|(\w+));", text_of(library)) if os.path.exists(os.path.join(TOP, library)) else []
+    names = {it.strip() for several, one in handed for it in (several or one).split(",")}
+    return [it for it in re.findall(r"(?m)^pub (?:const )?fn (\w+)", sources) if it in names]
 
 
 def wrong_crates():
@@ -135,16 +143,16 @@ def wrong_authors():
 
 
 def wrong_tested():
-    """README's section of what is only tested: each sentence names the test that it is of, and the gate runs that."""
-    body = next(it for _, heading, it in sections(text_of("README.md"), "##") if heading == "What is only tested")
+    """docs/TESTED.md: each sentence names the test that it is of, and the gate runs that."""
+    body = text_of("docs/TESTED.md")
     ran = text_of("tests/run")
     for sentence in re.split(r"(?<=\.)\s+(?=[A-Z`])|\n- ", body.partition("\n- ")[2].strip()):
         told = re.findall(r"\b(?:tests/[\w/]+(?:\.(?:py|sh))?|crates/\w+)", sentence)
         if not told:
-            yield f"README: no test is named: {' '.join(sentence.split())}"
+            yield f"TESTED: no test is named: {' '.join(sentence.split())}"
         for path in told:
             if not (path in crates_of_tests() or path in ran or any(path in it for it in files_of_run(ran))):
-                yield f"README names {path}, which the gate doesn't run"
+                yield f"TESTED names {path}, which the gate doesn't run"
 
 
 def crates_of_tests():

@@ -15,12 +15,12 @@ DOCUMENT = "docs/PROVED.md"
 
 HEAD = """# What is proved
 
-Each crate's README.md has its public calls, with the clauses that each ensures on every input that meets its `requires` (most have none);
-each call is safe and returns. It is proved over the logic whose sum `rt version` gives as `dac8208d650f15bf`. The headline, which these
-clauses carry, is in README.md, and how it is proved in docs/PROOF.md.
+Each crate's README.md says what the crate does, has its public calls with their clauses, and says what isn't proved of it. A call ensures its clauses
+on every input that meets its `requires` (most have none); each call is safe and returns. It is proved over the logic whose sum `rt version` gives as
+`dac8208d650f15bf`. The headline, which these clauses carry, is in README.md. How it is proved is in docs/PROOF.md.
 
-That a call takes no memory is said where its answer has no want of memory. That, and how often bytes are gone over, is read off the code,
-and no clause says it.
+That a call takes no memory is said where its answer has no want of memory. That, and how often bytes are gone over, is read off the code:
+no clause says it.
 
 `tests/proved.py` writes this index, and the gate fails where it differs.
 
