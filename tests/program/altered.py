@@ -168,7 +168,7 @@ def see_group(program, calls, count, name, made, listed):
     count.see(answer.status == 0 and not answer.errors and len(told) == len(files), f"{name}: {answer}")
     run = lambda file: program.run(["check", "story", "certificate"], {"story": made, "certificate": file})
     for number, line, checked in zip(files, told, side_by_side(run, listed)):
-        wanted = Answer(0, b"accepted\n", b"") if line == "accepted" else Answer(1, b"", f"refused: {line}\n".encode())
+        wanted = Answer(0, f"{line}\n".encode(), b"") if line.startswith("accepted") else Answer(1, b"", f"refused: {line}\n".encode())
         count.is_answer(f"{name}, {number}", checked, wanted)
 
 

@@ -3,7 +3,7 @@
 use crate::accepting::{has_lists, load};
 use std::{fs, io};
 use zcert::{CertError, Certificate, Spelled, read, write};
-use zcheck::{Accepted, CheckStream, Refusal, StreamRefusal, check};
+use zcheck::{Accepted, CheckStream, Judged, Marked, Refusal, StreamRefusal, check_any};
 use zdomain::{Interval, Values};
 use zstory::Story;
 
@@ -38,7 +38,7 @@ fn feed<V: Spelled>(
             Err(error) => tell_error(rt, error)?,
         }
     }
-    tell(rt, &stream.finish(rt.alloc()))
+    tell(rt, &stream.judge(rt.alloc()))
 }
 
 /// Says of each of the certificates whether a story is accepted with it, or why not, and that it is so wherever it is cut.
@@ -47,14 +47,14 @@ pub fn compare_cuts(rt: &HostRuntime, story: &str, certificates: &[String]) -> i
     for name in certificates {
         let file = fs::read(rt, name)?;
         if has_lists(&file) {
-            let whole: Result<Accepted<Values>, StreamRefusal> = whole(
+            let whole: Result<Judged<Accepted<Values>, Marked<Values>>, StreamRefusal> = whole(
                 rt,
                 load(rt, &story)?,
                 &file,
             );
             compare_each(rt, &story, &file, &whole)?;
         } else {
-            let whole: Result<Accepted<Interval>, StreamRefusal> = whole(
+            let whole: Result<Judged<Accepted<Interval>, Marked<Interval>>, StreamRefusal> = whole(
                 rt,
                 load(rt, &story)?,
                 &file,
@@ -70,7 +70,7 @@ fn compare_each<V: Spelled>(
     rt: &HostRuntime,
     story: &[u8],
     file: &[u8],
-    whole: &Result<Accepted<V>, StreamRefusal>,
+    whole: &Result<Judged<Accepted<V>, Marked<V>>, StreamRefusal>,
 ) -> io::Result<()> {
     tell(rt, whole)?;
     for size in 1..=MOST {
@@ -88,9 +88,9 @@ fn whole<V: Spelled>(
     rt: &HostRuntime,
     story: Story,
     file: &[u8],
-) -> Result<Accepted<V>, StreamRefusal> {
+) -> Result<Judged<Accepted<V>, Marked<V>>, StreamRefusal> {
     let certificate: Certificate<V> = read(rt.alloc(), file)?;
-    Ok(check(rt.alloc(), story, certificate)?)
+    Ok(check_any(rt.alloc(), story, certificate)?)
 }
 
 /// What is answered of one that comes in pieces of a size, with an empty one behind each.
@@ -99,38 +99,49 @@ fn cut<V: Spelled>(
     story: Story,
     file: &[u8],
     size: usize,
-) -> Result<Accepted<V>, StreamRefusal> {
+) -> Result<Judged<Accepted<V>, Marked<V>>, StreamRefusal> {
     let mut stream = CheckStream::new(rt.alloc(), story);
     for piece in file.chunks(size.max(1)) {
         let _ = stream.feed(piece);
         let _ = stream.feed(&[]);
     }
-    stream.finish(rt.alloc())
+    stream.judge(rt.alloc())
 }
 
 /// Whether both are the same answer: the same certificate, or the same refusal.
 fn is_same<V: Spelled>(
     rt: &HostRuntime,
-    one: &Result<Accepted<V>, StreamRefusal>,
-    other: &Result<Accepted<V>, StreamRefusal>,
+    one: &Result<Judged<Accepted<V>, Marked<V>>, StreamRefusal>,
+    other: &Result<Judged<Accepted<V>, Marked<V>>, StreamRefusal>,
 ) -> io::Result<bool> {
     match (one, other) {
         (Ok(one), Ok(other)) => {
-            let bytes = write(rt.alloc(), one.certificate())?;
-            Ok(bytes == write(rt.alloc(), other.certificate())?)
+            let bytes = write(rt.alloc(), certificate_of(one))?;
+            Ok(bytes == write(rt.alloc(), certificate_of(other))?)
         }
         (Err(one), Err(other)) => Ok(one == other),
         _ => Ok(false),
     }
 }
 
+/// The certificate of a story that is accepted.
+fn certificate_of<V: Spelled>(judged: &Judged<Accepted<V>, Marked<V>>) -> &Certificate<V> {
+    match judged {
+        Judged::Whole(accepted) => accepted.certificate(),
+        Judged::Marked(marked) => marked.certificate(),
+    }
+}
+
 /// Says what was answered.
 fn tell<V: Spelled>(
     rt: &HostRuntime,
-    answer: &Result<Accepted<V>, StreamRefusal>,
+    answer: &Result<Judged<Accepted<V>, Marked<V>>, StreamRefusal>,
 ) -> io::Result<()> {
     match answer {
-        Ok(_) => println!(rt; "accepted"),
+        Ok(judged) => match certificate_of(judged).marks() {
+            0 => println!(rt; "accepted"),
+            marks => println!(rt; "accepted, marked: {marks}"),
+        },
         Err(StreamRefusal::Cert(error)) => tell_error(rt, *error),
         Err(StreamRefusal::Check(refusal)) => tell_refusal(rt, *refusal),
     }
