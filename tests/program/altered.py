@@ -267,7 +267,8 @@ class AlteredMarks:
     """The program, and what the story plays like that isn't altered. With marks a play may meet a fault: the one that is met with no certificate."""
 
     def __init__(self, program):
-        self.program, self.plain = program, self.plays({"story": MADE})
+        self.program = program
+        self.plain = self.plays({"story": MADE})
 
     def plays(self, files):
         return self.program.run(["play", "--budget", "1000", "story"], files)
