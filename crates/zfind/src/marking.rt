@@ -8,7 +8,7 @@ ghost use Rattle.zfind.specs.Marking.{AreMarksOf, FailsUnmarked, IsFoundMarked, 
 ghost use Rattle.zfind.specs.declared.error.FindError.TheVariants.{NotFound, OutOfMemory};
 ghost use Rattle.zfind.specs.declared.error.Obstacle.{Obstacle as AnObstacle};
 
-use crate::certificate::{certificate_of, marked_certificate_of};
+use crate::certificate::marked_certificate_of;
 use crate::code::Code;
 use crate::error::FindError;
 use crate::extending::lenient_listing;
@@ -89,7 +89,7 @@ fn marked_by_walks(
 {
     let mut left = allowed(MOST_LIST_WORK);
     let listing = full_listing(alloc, story, &mut left)?;
-    let code = Code::new(alloc, story, &listing)?.marking();
+    let code = Code::new(alloc, story, &listing)?.marking().telling();
     fewest_marks(alloc, story, &code, limit, &mut left)
 }
 
@@ -248,7 +248,7 @@ fn marked_of(
     ensures named { IfOk result (λ certificate. certificate.limit ≡ Some limit) }
     ensures memory { IfErr result (λ error. error ≡ OutOfMemory) }
 {
-    let plain = certificate_of(alloc, code, walk)?;
+    let plain = marked_certificate_of(alloc, code, walk, limit, &[])?;
     let marks = marks_of(alloc, story, &plain)?;
     let marked = marked_certificate_of(alloc, code, walk, limit, &marks)?;
     Ok(marked.with_limit(limit))

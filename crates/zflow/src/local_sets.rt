@@ -135,7 +135,7 @@ pub(crate) fn change_of<V: Domain>(variable: u8, set: V) -> Option<(u8, V)>
 }
 
 /// The set at an index where a change was made, and `set` where that was at another.
-fn at_or<V: Domain>(change: Option<(u8, V)>, index: usize, set: V) -> V
+pub(crate) fn at_or<V: Domain>(change: Option<(u8, V)>, index: usize, set: V) -> V
     ensures { (sets : List V) → slice_get sets index ≡ Some set → slice_get (put change sets) index ≡ Some result }
 {
     match change {

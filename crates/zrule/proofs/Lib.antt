@@ -14,6 +14,7 @@ mod Hearing
 mod Asking
 pub mod Sets
 mod Memory
+mod Told
 mod Fitting
 mod Framed
 mod Settling
