@@ -1,0 +1,4 @@
+pub mod Info
+pub mod Shown
+pub mod Text
+pub mod Object

@@ -1,0 +1,42 @@
+//! Facts of a story.
+
+use zlist::ListError;
+
+/// The checksum that a header states (Z 11.1), beside the sum that `verify` forms (Z 15).
+#[derive(Clone, Copy, Debug, PartialEq, Eq)]
+pub enum Checksum {
+    /// It is the sum.
+    Right(u16),
+    /// None is stated, as in early files; the sum.
+    Unstated(u16),
+    /// The checksum, and another sum.
+    Wrong(u16, u16),
+}
+
+/// What a story lists.
+#[derive(Clone, Copy, Debug, PartialEq, Eq)]
+pub enum Code {
+    /// How many routines that constant calls name, and how many instructions.
+    Listed(usize, usize),
+    /// It has no listing, for what is at fault lowest.
+    Unlisted(ListError),
+}
+
+/// What is told of a story.
+#[derive(Clone, Copy, Debug, PartialEq, Eq)]
+pub struct Info {
+    /// The release number.
+    pub release: u16,
+    /// The serial number, six bytes that needn't be digits.
+    pub serial: [u8; 6],
+    /// The loaded length in bytes, 64 to 131,072.
+    pub length: u32,
+    /// Whether the checksum is right.
+    pub checksum: Checksum,
+    /// How many objects there are.
+    pub objects: u8,
+    /// How many words the dictionary has.
+    pub words: u16,
+    /// What code is listed.
+    pub code: Code,
+}
