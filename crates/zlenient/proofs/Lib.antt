@@ -1,0 +1,9 @@
+mod Staying
+mod Answering
+mod Noting
+mod Settled
+mod Short
+mod Worked
+mod Acted
+mod Excused
+mod Keeping
