@@ -1,0 +1,5 @@
+mod Runs
+mod Cutting
+mod Judged
+mod Made
+mod Worked
