@@ -57,14 +57,14 @@ impl<'a, V: Domain> Known<'a, V> {
     pub fn is_within(&self, locals: &[V], slots: &[V]) -> bool
         ensures { IsTrue result ↔ (AllZip (Within V.operations) self.now.locals locals.now × AllZip (Within V.operations) self.now.slots (reverse slots.now)) }
     {
-        self.locals.are_within(None, locals) && self.slots.are_within(None, slots)
+        self.locals.are_within(&None, locals) && self.slots.are_within(&None, slots)
     }
 
     /// Whether they say no more than this does once the variable `target` is given a value of a set.
     pub fn is_within_given(&self, set: V, target: u8, locals: &[V], slots: &[V]) -> bool
         ensures { IsTrue result ↔ (AllZip (Within V.operations) (with_result (Some set) target self.now).locals locals.now × AllZip (Within V.operations) (with_result (Some set) target self.now).slots (reverse slots.now)) }
     {
-        self.locals.are_within(change_of(target, set), locals)
-            && self.slots.are_within(pushed_by(Some(set), target), slots)
+        self.locals.are_within(&change_of(target, set), locals)
+            && self.slots.are_within(&pushed_by(Some(set), target), slots)
     }
 }

@@ -77,43 +77,43 @@ impl<'a, V: Domain> LocalSets<'a, V> {
         ensures { result ≡ slice_index_or (locals_seen self.now) index V.operations.any }
     {
         match self.at(index) {
-            Some(set) => set,
+            Some(set) => *set,
             None => V::any(),
         }
     }
 
-    /// The set of a local, by its index.
-    fn at(&self, index: usize) -> Option<V>
-        ensures { result ≡ slice_get (locals_seen self.now) index }
+    /// The set of a local, by its index. It is lent, since a set may be a long list.
+    fn at(&self, index: usize) -> Option<&V>
+        ensures { option_map (λ set. set.now) result ≡ slice_get (locals_seen self.now) index }
     {
-        let lent = *self.lent.get(index)?;
-        let assigned = at_or(self.assigned, index, lent);
-        let given = at_or(self.given, index, assigned);
-        let first_kept = at_or(self.first_kept, index, given);
-        Some(at_or(self.second_kept, index, first_kept))
+        let lent = self.lent.get(index)?;
+        let assigned = at_or(&self.assigned, index, lent);
+        let given = at_or(&self.given, index, assigned);
+        let first_kept = at_or(&self.first_kept, index, given);
+        Some(at_or(&self.second_kept, index, first_kept))
     }
 
     /// The set of a local, by its index, with one more change.
-    fn at_with(&self, change: Option<(u8, V)>, index: usize) -> Option<V>
-        ensures { result ≡ slice_get (put change (locals_seen self.now)) index }
+    fn at_with<'s>(&'s self, change: &'s Option<(u8, V)>, index: usize) -> Option<&'s V>
+        ensures { option_map (λ set. set.now) result ≡ slice_get (put change.now (locals_seen self.now)) index }
     {
         let set = self.at(index)?;
         Some(at_or(change, index, set))
     }
 
     /// Whether each set, with one more change, is within the one in the same place.
-    pub(crate) fn are_within(&self, change: Option<(u8, V)>, to: &[V]) -> bool
-        ensures { IsTrue result ↔ AllZip (Within V.operations) (put change (locals_seen self.now)) to.now }
+    pub(crate) fn are_within(&self, change: &Option<(u8, V)>, to: &[V]) -> bool
+        ensures { IsTrue result ↔ AllZip (Within V.operations) (put change.now (locals_seen self.now)) to.now }
     {
         self.are_within_from(change, 0, to)
     }
 
     /// Whether each of them from an index on is within the one in the same place.
-    fn are_within_from(&self, change: Option<(u8, V)>, index: usize, to: &[V]) -> bool
-        ensures { IsTrue result ↔ AllZip (Within V.operations) (drop index (put change (locals_seen self.now))) to.now }
+    fn are_within_from(&self, change: &Option<(u8, V)>, index: usize, to: &[V]) -> bool
+        ensures { IsTrue result ↔ AllZip (Within V.operations) (drop index (put change.now (locals_seen self.now))) to.now }
     {
         let _count = self.lent.len();
-        match (self.at_with(change, index), to) {
+        match ((&*self).at_with(&*change, index), to) {
             (None, []) => true,
             (Some(inner), [outer, to @ ..]) => {
                 inner.is_within(*outer) && self.are_within_from(change, index + 1, to)
@@ -135,11 +135,11 @@ pub(crate) fn change_of<V: Domain>(variable: u8, set: V) -> Option<(u8, V)>
 }
 
 /// The set at an index where a change was made, and `set` where that was at another.
-fn at_or<V: Domain>(change: Option<(u8, V)>, index: usize, set: V) -> V
-    ensures { (sets : List V) → slice_get sets index ≡ Some set → slice_get (put change sets) index ≡ Some result }
+fn at_or<'s, V: Domain>(change: &'s Option<(u8, V)>, index: usize, set: &'s V) -> &'s V
+    ensures { (sets : List V) → slice_get sets index ≡ Some set.now → slice_get (put change.now sets) index ≡ Some result.now }
 {
     match change {
-        Some((changed, new)) if usize::from(changed) == index => new,
+        Some((changed, new)) if usize::from(*changed) == index => new,
         _ => set,
     }
 }

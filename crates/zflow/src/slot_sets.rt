@@ -76,16 +76,16 @@ impl<'a, V: Domain> SlotSets<'a, V> {
     }
 
     /// Whether each set, with one more on top, is within the one in the same place, where the top is the last.
-    pub(crate) fn are_within(&self, top: Option<V>, to: &[V]) -> bool
-        ensures { IsTrue result ↔ AllZip (Within V.operations) (on_top top (slots_seen self.now)) (reverse to.now) }
+    pub(crate) fn are_within(&self, top: &Option<V>, to: &[V]) -> bool
+        ensures { IsTrue result ↔ AllZip (Within V.operations) (on_top top.now (slots_seen self.now)) (reverse to.now) }
     {
         let Some(below_top) = below(top, to) else {
             return false;
         };
-        let Some(below_pushed) = below(self.pushed, below_top) else {
+        let Some(below_pushed) = below(&self.pushed, below_top) else {
             return false;
         };
-        let Some(below_replaced) = below(self.replaced, below_pushed) else {
+        let Some(below_replaced) = below(&self.replaced, below_pushed) else {
             return false;
         };
         each_within(self.lent, below_replaced)
@@ -103,8 +103,8 @@ pub(crate) fn pushed_by<V: Domain>(gives: Option<V>, target: u8) -> Option<V>
 }
 
 /// The sets below the top one, where a set is within that; all, where there is none to compare.
-fn below<V: Domain>(set: Option<V>, to: &[V]) -> Option<&[V]>
-    ensures { (sets : List V) → AllZip (Within V.operations) (on_top set sets) (reverse to.now) ↔ MatchOption result ⊥ (λ rest. AllZip (Within V.operations) sets (reverse rest.now)) }
+fn below<'a, V: Domain>(set: &Option<V>, to: &'a [V]) -> Option<&'a [V]>
+    ensures { (sets : List V) → AllZip (Within V.operations) (on_top set.now sets) (reverse to.now) ↔ MatchOption result ⊥ (λ rest. AllZip (Within V.operations) sets (reverse rest.now)) }
 {
     match (set, to) {
         (None, _) => Some(to),

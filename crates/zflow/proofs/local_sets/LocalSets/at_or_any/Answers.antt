@@ -1,7 +1,7 @@
-use Rattle.std.proofs.Common.{rules, sym, ◌∙◌}
+use Rattle.std.proofs.Common.{rules, sym}
 use Rattle.zflow.specs.Lent.{locals_seen}
 use Rattle.zflow.proofs.Changes.{missing}
 use Rattle.zflow.proofs.local_sets.LocalSets.at_or_any.Goals as goal
 
 pub returns-in-None : goal.returns-in-None
-returns-in-None g c = let gone = missing (locals_seen c.args.self.now) c.args.index g.V.Domain.operations.any (sym c.at.ensures ∙ c.in-None.is) in search (rules, gone)
+returns-in-None g c = let gone = missing (locals_seen c.args.self.now) c.args.index g.V.Domain.operations.any (sym (rw c.in-None.is at c.at.ensures)) in search (rules, gone)
