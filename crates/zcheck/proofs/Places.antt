@@ -16,8 +16,8 @@ use Rattle.zrule.specs.Rules.{Keeps, IsLowestBroken}
 use Rattle.zrule.proofs.Below.{one_more}
 use Rattle.zrule.proofs.Listed.{entry_listed, listed_address}
 use Rattle.zcheck.specs.declared.refusal.StoryRule.{StoryRule}
-use Rattle.zcheck.specs.Passes.{KeepsStory, KeepsBelow, Passes, IsFirstBroken}
-use Rattle.zcheck.specs.Marks.{IsFirstUnmarkedBroken, KeepsUnmarkedBelow, PassesWhereUnmarked, is_marked_in, marked_in}
+use Rattle.zcheck.specs.Passes.{KeepsStory, Passes, IsFirstBroken}
+use Rattle.zcheck.specs.Marks.{IsFirstUnmarkedBroken, PassesWhereUnmarked, is_marked_in, marked_in}
 
 -- what is listed at an address stands somewhere among the instructions
 pub found_at : {V : Type 0} (is : List (Instruction V)) (p : ℕ) (i : Instruction V) → listed_at is p ≡ Some i → (k : ℕ) × (slice_get is k ≡ Some i)

@@ -1,5 +1,5 @@
 -- A story that is accepted with a certificate, whether that marks instructions or not, and why one isn't (own).
-use Rattle.std.specs.Prelude.{◌≡◌, ◌≢◌, ◌⊎◌, ℕ, List, Ok}
+use Rattle.std.specs.Prelude.{◌≡◌, ◌≢◌, ◌⊎◌, ℕ, ⊤, List, Ok}
 use Rattle.zstory.specs.LoadedStory.{LoadedStory}
 use Rattle.zdomain.specs.Domain.{SetOperations}
 use Rattle.zcert.specs.Certificate.{Certificate}
@@ -30,6 +30,11 @@ module _ {V : Type 0} where
   abbrev pub certificate_of : JudgedOver V → Certificate V
   certificate_of (Whole a) = a.certificate
   certificate_of (Marked m) = m.certificate
+
+  -- something is so of a story that is accepted with a certificate that marks nothing
+  abbrev pub OfWhole : (AcceptanceOver V → Type 0) → JudgedOver V → Type 0
+  OfWhole P (Whole a) = P a
+  OfWhole P (Marked m) = ⊤
 
   -- how many instructions a certificate marks
   abbrev pub marks_in : Certificate V → ℕ

@@ -1,7 +1,8 @@
 //! Stories that are accepted, whether their certificates mark instructions or not.
 
 ghost use Rattle.std.specs.Prelude.{◌≡◌, IfErr, IfOk};
-ghost use Rattle.zcheck.specs.Judged.{IsJudged, IsUnjudged, certificate_of, story_of};
+ghost use Rattle.zcheck.specs.Acceptance.{NeverChanges, NeverFaults, PlaysAlike, PlaysSafely};
+ghost use Rattle.zcheck.specs.Judged.{IsJudged, IsUnjudged, OfWhole, certificate_of, story_of};
 
 use crate::accepted::Accepted;
 use crate::checking::check;
@@ -21,7 +22,7 @@ pub enum Judged<A, M> {
 }
 
 /// Accepts a story with a certificate, and else says what is wrong first (own): as `check` does where it marks no instruction, and as
-/// `check_marked` where it marks some. Both are taken over; a refusal hands nothing back.
+/// `check_marked` where it marks some, with all that each says of what it accepts. Both are taken over; a refusal hands nothing back.
 pub fn check_any<V: Spelled>(
     alloc: Global,
     story: Story,
@@ -31,6 +32,10 @@ pub fn check_any<V: Spelled>(
     ensures certificate { IfOk result (λ j. certificate_of j ≡ certificate) }
     ensures judged { IfOk result (IsJudged V.operations) }
     ensures refused { IfErr result (IsUnjudged V.operations story certificate) }
+    ensures never_faults { IfOk result (OfWhole (NeverFaults V.operations)) }
+    ensures never_changes { IfOk result (OfWhole (NeverChanges V.operations)) }
+    ensures plays_alike { IfOk result (OfWhole (PlaysAlike V.operations)) }
+    ensures plays_safely { IfOk result (OfWhole (PlaysSafely V.operations)) }
 {
     if certificate.marks() == 0 {
         match check(alloc, story, certificate) {

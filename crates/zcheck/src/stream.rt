@@ -5,7 +5,7 @@ ghost use Rattle.zcert.specs.Reading.{reading};
 ghost use Rattle.zcert.specs.Streaming.{unfed, IsFed, IsOpen, IsRefusal, IsUnread};
 ghost use Rattle.zcert.specs.declared.error.CertError.{CertError as AnError};
 ghost use Rattle.zcheck.specs.Acceptance.{IsListingOf, NeverChanges, NeverFaults, PlaysAlike, PlaysSafely};
-ghost use Rattle.zcheck.specs.Judged.{IsJudged, IsUnjudgedWith, certificate_of, story_of};
+ghost use Rattle.zcheck.specs.Judged.{IsJudged, IsUnjudgedWith, OfWhole, certificate_of, story_of};
 ghost use Rattle.zcheck.specs.Passes.{Passes};
 ghost use Rattle.zcheck.specs.Streaming.{IsRefusedWith};
 
@@ -94,6 +94,10 @@ impl<V: Spelled> CheckStream<V> {
         ensures judged { IfOk result (IsJudged V.operations) }
         ensures refused { IfErr result (λ refusal. (fed : List ℕ) → IsFed V.format self.stream fed → IsUnjudgedWith V.operations V.format self.story fed refusal) }
         ensures stays { (e : AnError) → self.stream.refused ≡ Some e → result ≡ Err (StreamRefusal.Cert e) }
+        ensures never_faults { IfOk result (OfWhole (NeverFaults V.operations)) }
+        ensures never_changes { IfOk result (OfWhole (NeverChanges V.operations)) }
+        ensures plays_alike { IfOk result (OfWhole (PlaysAlike V.operations)) }
+        ensures plays_safely { IfOk result (OfWhole (PlaysSafely V.operations)) }
     {
         let CheckStream { story, stream } = self;
         let certificate = stream.finish()?;
