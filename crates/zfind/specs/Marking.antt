@@ -15,6 +15,8 @@ use Rattle.zcheck.specs.Marks.{IsUnmarkedCause, PassesWhereUnmarked}
 use Rattle.zfind.specs.declared.error.FindError.{FindError}
 use Rattle.zfind.specs.declared.error.FindError.TheVariants.{NotFound, RoundLimit, OutOfMemory}
 use Rattle.zfind.specs.declared.error.Obstacle.{Obstacle}
+use Rattle.zfind.specs.declared.marking.MarkedRound.{MarkedRound}
+use Rattle.zfind.specs.declared.marking.MarkedRound.TheVariants as rounds
 use Rattle.zfind.specs.declared.found.Found.{Found}
 use Rattle.zfind.specs.declared.found.Found.TheVariants.{Intervals, Lists, Marked}
 use Rattle.zfind.specs.Finding.{IsFailure, IsFailureOf, refused_for}
@@ -42,6 +44,12 @@ module _ (story : LoadedStory) where
   -- it passes but where it marks, and lets at most so many frames stand above the first
   abbrev pub IsMarkedWithin : ℕ → Certificate Values → Type 0
   IsMarkedWithin limit certificate = PassesWhereUnmarked values_operations story certificate × (certificate.limit ≡ Some limit)
+
+  -- what comes of a walk: one that is made is so, and else more is to be listed, or no more is allowed
+  abbrev pub IsMarkedRound : ℕ → MarkedRound → Type 0
+  IsMarkedRound limit (rounds.Made attempt) = IsMarkedWithin limit attempt.certificate
+  IsMarkedRound limit (rounds.Wider listing) = ⊤
+  IsMarkedRound limit rounds.Stopped = ⊤
 
   -- One that marks comes only where none was found that doesn't, and names the limit that was asked for, or 1,024.
   abbrev pub IsFoundMarked : Option ℕ → Found → Type 0

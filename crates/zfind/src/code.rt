@@ -27,8 +27,10 @@ pub(crate) struct Code<'a> {
     callers: Groups,
     /// What loads elements of arrays, or asks for properties.
     loaders: Vec<u32>,
-    /// What calls a routine, or names a variable, by a variable: which one, isn't known beforehand.
-    wanderers: Vec<u32>,
+    /// What calls a routine by a variable: which one, isn't known beforehand.
+    wandering_callers: Vec<u32>,
+    /// What names a variable by a variable.
+    wandering_namers: Vec<u32>,
     /// Whether each routine, by its number, may be entered once more before it returns.
     recursive: Vec<bool>,
     /// Where the property tables are.
@@ -56,7 +58,8 @@ impl<'a> Code<'a> {
             readers: Groups::new(alloc),
             callers: Groups::new(alloc),
             loaders: Vec::new(alloc),
-            wanderers: Vec::new(alloc),
+            wandering_callers: Vec::new(alloc),
+            wandering_namers: Vec::new(alloc),
             recursive: recursive_routines(alloc, listing)?,
             properties: property_span(story),
             unlisted: Gaps::new(alloc, &listed_heads(alloc, story, listing)?)?,
@@ -135,7 +138,7 @@ impl<'a> Code<'a> {
         match instruction.inputs().as_slice().first() {
             Some(Operand::Constant(variable)) => self.note_global(index, *variable),
             _ => {
-                self.wanderers.push(short(index))?;
+                self.wandering_namers.push(short(index))?;
                 Ok(())
             }
         }
@@ -149,7 +152,7 @@ impl<'a> Code<'a> {
                 None => Ok(()),
             },
             _ => {
-                self.wanderers.push(short(index))?;
+                self.wandering_callers.push(short(index))?;
                 Ok(())
             }
         }
@@ -192,9 +195,14 @@ impl<'a> Code<'a> {
         &self.loaders
     }
 
-    /// What calls a routine, or names a variable, by a variable.
-    pub(crate) fn wanderers(&self) -> &[u32] {
-        &self.wanderers
+    /// What calls a routine by a variable.
+    pub(crate) fn wandering_callers(&self) -> &[u32] {
+        &self.wandering_callers
+    }
+
+    /// What names a variable by a variable.
+    pub(crate) fn wandering_namers(&self) -> &[u32] {
+        &self.wandering_namers
     }
 
     /// Where the property tables are.

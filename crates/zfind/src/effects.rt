@@ -94,6 +94,12 @@ impl<V: Kind> Calls<V> {
         self.growths == growths && are_same(self.callees, callees)
     }
 
+    /// Whether the call whose sets are kept so may be given more by the routine at a packed address.
+    pub(crate) fn awaits(calls: &Calls<V::Kept>, shelf: &V::Shelf, packed: u16) -> bool {
+        V::kept(calls.callees, shelf).contains(packed)
+            && !Calls::<V>::kept(calls, shelf).gives_any()
+    }
+
     /// Whether any word may come back, so that no more can.
     fn gives_any(&self) -> bool {
         match self.given {
@@ -401,6 +407,30 @@ pub(crate) fn is_awaited<V: Kind>(code: &Code<'_>, state: &State<V>, callees: V)
 /// The next word of a set behind one.
 pub(crate) fn next_callee<V: Domain>(callees: V, packed: u16) -> Option<u16> {
     callees.least_from(packed.checked_add(1)?)
+}
+
+/// Whether a word is one of a set, if there is one.
+pub(crate) fn has<V: Domain>(set: Option<V>, word: u16) -> bool {
+    match set {
+        Some(set) => set.contains(word),
+        None => false,
+    }
+}
+
+/// Whether all words are of a set, if there is one.
+pub(crate) fn has_all<V: Domain>(set: Option<V>, words: V) -> bool {
+    match set {
+        Some(set) => words.is_within(set),
+        None => false,
+    }
+}
+
+/// Whether nothing is known to come back of calls.
+pub(crate) fn is_stuck<S>(calls: &Option<Calls<S>>) -> bool {
+    match calls {
+        Some(calls) => !calls.comes_back(),
+        None => false,
+    }
 }
 
 /// Whether each set is within the other.

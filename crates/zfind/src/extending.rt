@@ -17,6 +17,8 @@ struct Places<'a> {
     owners: Vec<Option<u32>>,
     /// Whether a routine is listed at each address.
     heads: Vec<bool>,
+    /// Whether each byte is one of an instruction that was followed.
+    taken: Vec<bool>,
     /// The addresses whose instructions are to be followed.
     waiting: Vec<usize>,
     /// What is listed where no instruction stands, if anything is.
@@ -82,6 +84,7 @@ impl<'a> Places<'a> {
             standing: all_standing(alloc, code)?,
             owners: vec![in alloc; None; count]?,
             heads: vec![in alloc; false; count]?,
+            taken: vec![in alloc; false; count]?,
             waiting: Vec::new(alloc),
             stand_in: stand_in(code),
         };
@@ -108,9 +111,7 @@ impl<'a> Places<'a> {
 
     /// Notes that a routine is listed at an address.
     fn note_head(&mut self, address: usize) {
-        if let Some(mark) = self.heads.get_mut(address) {
-            *mark = true;
-        }
+        mark(&mut self.heads, address);
     }
 
     /// Lists the routine at a packed address, if a head stands there.
@@ -149,7 +150,7 @@ impl<'a> Places<'a> {
         for place in 0..end {
             let packed = self.code.word_at(place);
             let head = 2 * usize::from(packed);
-            if head >= end && !self.is_head(head) && self.looks_like_routine(alloc, packed)? {
+            if head >= end && !self.is_known(head) && self.looks_like_routine(alloc, packed)? {
                 self.enter(packed)?;
                 self.follow_all()?;
             }
@@ -164,35 +165,46 @@ impl<'a> Places<'a> {
             .count()
     }
 
-    /// Whether a routine is listed at an address.
-    fn is_head(&self, address: usize) -> bool {
-        self.heads.get(address).copied().unwrap_or(false)
+    /// Whether a routine is listed at an address, or an instruction was followed of which that is a byte.
+    fn is_known(&self, address: usize) -> bool {
+        is_marked(&self.heads, address) || is_marked(&self.taken, address)
     }
 
-    /// Whether a head stands at a packed address, and an instruction wherever the code behind it leads, as far as that is looked at.
+    /// Whether a head stands at a packed address, and behind it what looks like code of a routine, as far as that is looked at: all that
+    /// leads on from its first instruction lies behind it.
     fn looks_like_routine(&self, alloc: Global, packed: u16) -> Result<bool, AllocError> {
         if !self.code.has_head(packed) {
             return Ok(false);
         }
         let head = 2 * usize::from(packed);
-        let words = 2 * usize::from(self.code.byte_at(head));
-        let mut found = vec![in alloc; head + 1 + words]?;
+        let locals = self.code.byte_at(head);
+        let first = head + 1 + 2 * usize::from(locals);
+        let mut found = vec![in alloc; first]?;
         for step in 0..MOST_LOOKED_AT {
             let Some(address) = found.get(step).copied() else {
                 return Ok(true);
             };
-            if !self.look_behind(address, &mut found)? {
+            if address < first || !self.look_behind(address, locals, &mut found)? {
                 return Ok(false);
             }
         }
         Ok(true)
     }
 
-    /// Whether an instruction stands at an address and calls no constant at which no head stands. Where it leads to is found.
-    fn look_behind(&self, address: usize, found: &mut Vec<usize>) -> Result<bool, AllocError> {
+    /// Whether an instruction stands at an address that names no local behind so many, and calls no constant at which no head stands.
+    /// Where it leads to is found.
+    fn look_behind(
+        &self,
+        address: usize,
+        locals: u8,
+        found: &mut Vec<usize>,
+    ) -> Result<bool, AllocError> {
         let Some(instruction) = self.at(address) else {
             return Ok(false);
         };
+        if !has_locals(&instruction, locals) {
+            return Ok(false);
+        }
         let next = address.saturating_add(instruction.length());
         if goes_on(instruction.opcode().operation()) {
             add(found, next)?;
@@ -212,6 +224,7 @@ impl<'a> Places<'a> {
             return Ok(());
         };
         let next = address.saturating_add(instruction.length());
+        self.take(address, next);
         if goes_on(instruction.opcode().operation()) {
             self.reach(next, owner)?;
         }
@@ -221,6 +234,13 @@ impl<'a> Places<'a> {
         match callee(&instruction) {
             Some(packed) => self.enter(packed),
             None => Ok(()),
+        }
+    }
+
+    /// Notes whose bytes those are from an address up to another.
+    fn take(&mut self, address: usize, next: usize) {
+        for place in address..next {
+            mark(&mut self.taken, place);
         }
     }
 
@@ -277,6 +297,52 @@ impl<'a> Places<'a> {
         }
         Ok(records)
     }
+}
+
+/// Marks an address.
+fn mark(marks: &mut Vec<bool>, address: usize) {
+    if let Some(mark) = marks.get_mut(address) {
+        *mark = true;
+    }
+}
+
+/// Whether an address is marked.
+fn is_marked(marks: &[bool], address: usize) -> bool {
+    marks.get(address).copied().unwrap_or(false)
+}
+
+/// Whether an instruction names no local behind so many.
+fn has_locals(instruction: &Instr, locals: u8) -> bool {
+    let inputs = instruction.inputs();
+    let mut read = inputs.as_slice().iter();
+    read.all(|operand| is_operand_there(*operand, locals))
+        && is_there(u16::from(instruction.target()), locals)
+        && is_named_there(instruction, locals)
+}
+
+/// Whether an operand is no local behind so many.
+fn is_operand_there(operand: Operand, locals: u8) -> bool {
+    match operand {
+        Operand::Constant(_) => true,
+        Operand::Variable(variable) => is_there(u16::from(variable), locals),
+    }
+}
+
+/// Whether a constant that names a variable names no local behind so many.
+fn is_named_there(instruction: &Instr, locals: u8) -> bool {
+    let inputs = instruction.inputs();
+    match (instruction.opcode().operation(), inputs.as_slice()) {
+        (
+            Operation::Count(..) | Operation::Store | Operation::Load,
+            [Operand::Constant(variable), ..],
+        ) => is_there(*variable, locals),
+        _ => true,
+    }
+}
+
+/// Whether a variable is no local behind so many.
+fn is_there(variable: u16, locals: u8) -> bool {
+    variable <= u16::from(locals) || variable >= 16
 }
 
 /// What is listed where no instruction stands, if that may be marked.

@@ -4,7 +4,7 @@ ghost use Rattle.std.specs.Prelude.{◌≡◌, ◌≤◌, ◌⊎◌, false, true
 ghost use Rattle.zcert.specs.Listed.{seen};
 ghost use Rattle.zdomain.specs.Values.{values_operations};
 ghost use Rattle.zcheck.specs.Marks.{PassesWhereUnmarked};
-ghost use Rattle.zfind.specs.Marking.{AreMarksOf, FailsUnmarked, IsFoundMarked, IsFoundUnmarked, IsMarkedFailure, IsMarkedWithin, IsMarkOf, IsUnmarkable, IsWrongUnmarked};
+ghost use Rattle.zfind.specs.Marking.{AreMarksOf, FailsUnmarked, IsFoundMarked, IsFoundUnmarked, IsMarkedFailure, IsMarkedRound, IsMarkedWithin, IsMarkOf, IsUnmarkable, IsWrongUnmarked};
 ghost use Rattle.zfind.specs.declared.error.FindError.TheVariants.{NotFound, OutOfMemory};
 ghost use Rattle.zfind.specs.declared.error.Obstacle.{Obstacle as AnObstacle};
 
@@ -15,7 +15,8 @@ use crate::extending::lenient_listing;
 use crate::finding::{MOST_EXTENSIONS, allowed, find, next_plan, wider};
 use crate::found::Found;
 use crate::limited::find_limited;
-use crate::state::Plan;
+use crate::state::{Haste, Plan};
+use crate::thresholds::Thresholds;
 use crate::visits::{Allowance, MOST_LIST_WORK, count_work};
 use crate::walk::Walk;
 use std::alloc::{AllocError, Global};
@@ -33,11 +34,28 @@ const FIRST_DELAY: u16 = 2;
 
 const LATER_DELAYS: [u16; 4] = [2, 2, 10, 60];
 
+/// Where more instructions are listed than this one walk is made, in haste: further ones would take long and leave few marks less.
+const MOST_PATIENT: usize = 1_000;
+
+/// How often a thing grows in such a walk before it goes far.
+const HASTE: u16 = 6;
+
 /// What comes of a walk: its certificate, and how the next one goes, if one is to be made.
 #[derive(Drop)]
 struct MarkedAttempt {
     certificate: Certificate<Values>,
     next: Option<Plan<Values>>,
+}
+
+/// What comes of a walk over a listing.
+#[derive(Drop)]
+enum MarkedRound {
+    /// A certificate, where all is listed that is called.
+    Made(MarkedAttempt),
+    /// What is listed next.
+    Wider(Listing),
+    /// Nothing, since no more is allowed.
+    Stopped,
 }
 
 /// A certificate for a story (own): what `find_unmarked` finds, and where it finds none one that marks where a rule is broken and passes
@@ -88,45 +106,91 @@ fn marked_by_walks(
     ensures failed { IfErr result (IsUnmarkable story.now limit) }
 {
     let mut left = allowed(MOST_LIST_WORK);
-    let listing = full_listing(alloc, story, &mut left)?;
-    let code = Code::new(alloc, story, &listing)?.marking();
-    fewest_marks(alloc, story, &code, limit, &mut left)
-}
-
-/// A listing of what a story lists, whatever is at fault with it, and of the routines that walks find to be called.
-fn full_listing(alloc: Global, story: &Story, left: &mut Allowance) -> Result<Listing, FindError>
-    ensures { IfErr result (λ error. error ≡ OutOfMemory) }
-{
     let mut listing = lenient_listing(alloc, story)?;
     for _ in 0..MOST_EXTENSIONS {
-        match wider_by_walk(alloc, story, &listing, left)? {
-            Some(more) => listing = more,
-            None => return Ok(listing),
+        match marked_round(alloc, story, &listing, limit, &mut left)? {
+            MarkedRound::Made(first) => {
+                return fewest_marks(alloc, story, &listing, first, limit, &mut left);
+            }
+            MarkedRound::Wider(more) => listing = more,
+            MarkedRound::Stopped => return last_marked(alloc, story, &listing, limit, &mut left),
         }
     }
-    Ok(listing)
+    last_marked(alloc, story, &listing, limit, &mut left)
 }
 
-/// A listing with the routines that a walk finds to be called, if there are more.
-fn wider_by_walk(
+/// What comes of a walk over a listing that waits for the routines that are called and not listed.
+#[tactic(auto, using(crate::proofs::Marked::of_memory))]
+fn marked_round(
     alloc: Global,
     story: &Story,
     listing: &Listing,
+    limit: u16,
+    left: &mut Allowance,
+) -> Result<MarkedRound, FindError>
+    requires low { limit ≤ 4096 }
+    ensures passes { IfOk result (IsMarkedRound story.now limit) }
+    ensures failed { IfErr result (IsUnmarkable story.now limit) }
+{
+    let code = Code::new(alloc, story, listing)?.waiting().marking();
+    let mut walk = Walk::new(alloc, &code, first_plan(alloc, &code)?)?;
+    if !went(walk.grow(left))? {
+        return Ok(MarkedRound::Stopped);
+    }
+    if walk.is_wanting() {
+        return match wider_if_left(alloc, &code, walk.into_wanted(), left)? {
+            Some(more) => Ok(MarkedRound::Wider(more)),
+            None => Ok(MarkedRound::Stopped),
+        };
+    }
+    Ok(MarkedRound::Made(attempt_of(alloc, story, &code, walk, true, limit, left)?))
+}
+
+/// A listing with the routines that are wanted, as far as work is left.
+fn wider_if_left(
+    alloc: Global,
+    code: &Code<'_>,
+    wanted: Option<Vec<bool>>,
     left: &mut Allowance,
 ) -> Result<Option<Listing>, FindError>
     ensures { IfErr result (λ error. error ≡ OutOfMemory) }
 {
-    let code = Code::new(alloc, story, listing)?.waiting().marking();
-    let plan = Plan::widening(code.thresholds(alloc)?, Values::single(0));
-    let mut walk = Walk::new(alloc, &code, plan)?;
-    if !went(walk.grow(left))? {
-        return Ok(None);
-    }
-    match wider(alloc, &code, walk.into_wanted(), left) {
+    match wider(alloc, code, wanted, left) {
         Ok(more) => Ok(more),
         Err(FindError::OutOfMemory) => Err(FindError::OutOfMemory),
         Err(_) => Ok(None),
     }
+}
+
+/// The certificate with the fewest marks of walks over all that is listed, which wait for nothing.
+#[tactic(auto, using(crate::proofs::Marked::of_memory))]
+fn last_marked(
+    alloc: Global,
+    story: &Story,
+    listing: &Listing,
+    limit: u16,
+    left: &mut Allowance,
+) -> Result<Certificate<Values>, FindError>
+    requires low { limit ≤ 4096 }
+    ensures passes { IfOk result (IsMarkedWithin story.now limit) }
+    ensures failed { IfErr result (IsUnmarkable story.now limit) }
+{
+    let code = Code::new(alloc, story, listing)?.marking();
+    let first = make_marked(alloc, story, &code, first_plan(alloc, &code)?, limit, left)?;
+    fewest_marks(alloc, story, listing, first, limit, left)
+}
+
+/// How the first walk goes that leads to marks.
+fn first_plan(alloc: Global, code: &Code<'_>) -> Result<Plan<Values>, AllocError> {
+    let mut plan = Plan::widening(code.thresholds(alloc)?, Values::single(0));
+    plan.delay = FIRST_DELAY;
+    if code.records().len() > MOST_PATIENT {
+        plan.haste = Some(Haste {
+            after: HASTE,
+            ends: Thresholds::new(alloc, code.story)?,
+        });
+    }
+    Ok(plan)
 }
 
 /// Whether a walk went to its end. It may stop where no more is allowed.
@@ -140,22 +204,23 @@ fn went(walked: Result<(), FindError>) -> Result<bool, FindError>
     }
 }
 
-/// The certificate with the fewest marks of several walks, of which each is kept from widening beyond what the one before left.
+/// The certificate with the fewest marks of the first walk and some more, of which each is kept from widening beyond what the one before
+/// left.
 #[tactic(auto, using(crate::proofs::Marked::of_memory))]
 fn fewest_marks(
     alloc: Global,
     story: &Story,
-    code: &Code<'_>,
+    listing: &Listing,
+    first: MarkedAttempt,
     limit: u16,
     left: &mut Allowance,
 ) -> Result<Certificate<Values>, FindError>
     requires low { limit ≤ 4096 }
+    requires first { IsMarkedWithin story.now limit first.certificate }
     ensures passes { IfOk result (IsMarkedWithin story.now limit) }
     ensures failed { IfErr result (IsUnmarkable story.now limit) }
 {
-    let mut plan = Plan::widening(code.thresholds(alloc)?, Values::single(0));
-    plan.delay = FIRST_DELAY;
-    let first = make_marked(alloc, story, code, plan, limit, left)?;
+    let code = Code::new(alloc, story, listing)?.marking();
     let mut best = first.certificate;
     let mut next = first.next;
     for delay in LATER_DELAYS {
@@ -163,7 +228,7 @@ fn fewest_marks(
             return Ok(best);
         };
         plan.delay = delay;
-        let attempt = make_marked(alloc, story, code, plan, limit, left)?;
+        let attempt = make_marked(alloc, story, &code, plan, limit, left)?;
         best = with_fewer(best, attempt.certificate);
         next = attempt.next;
     }
@@ -197,9 +262,27 @@ fn make_marked(
 {
     let mut walk = Walk::new(alloc, code, plan)?;
     let grown = has_grown(&mut walk, left)?;
+    attempt_of(alloc, story, code, walk, grown, limit, left)
+}
+
+/// What comes of a walk, which may have been stopped before its end.
+#[tactic(auto, using(crate::proofs::Marked::of_memory, crate::proofs::Marked::of_tried))]
+fn attempt_of(
+    alloc: Global,
+    story: &Story,
+    code: &Code<'_>,
+    mut walk: Walk<'_, Values>,
+    grown: bool,
+    limit: u16,
+    left: &mut Allowance,
+) -> Result<MarkedAttempt, FindError>
+    requires low { limit ≤ 4096 }
+    ensures passes { IfOk result (λ attempt. IsMarkedWithin story.now limit attempt.certificate) }
+    ensures failed { IfErr result (IsUnmarkable story.now limit) }
+{
     let paid = went(count_work(left, walk.cost_of_check()))?;
     let certificate = tried_unmarked(story, marked_of(alloc, story, code, &mut walk, limit)?)?;
-    let next = if grown && paid {
+    let next = if grown && paid && walk.plan.haste.is_none() {
         plan_if_left(alloc, code, walk, left)?
     } else {
         None

@@ -61,6 +61,18 @@ pub(crate) struct State<V: Kind> {
     shelf: V::Shelf,
 }
 
+/// From when on sets go far that grow, so that a walk ends sooner.
+#[derive(Drop)]
+pub(crate) struct Haste {
+    /// How often a thing has grown then where it may be widened.
+    pub(crate) after: u16,
+    /// The few ends at which a set stops then.
+    pub(crate) ends: Thresholds,
+}
+
+/// How often a thing has grown elsewhere when its sets go far, for each time that it has where it may be widened.
+const ELSEWHERE: u16 = 4;
+
 /// How sets grow.
 #[derive(Drop)]
 pub(crate) struct Plan<V: Kind> {
@@ -71,6 +83,8 @@ pub(crate) struct Plan<V: Kind> {
     pub(crate) delay: u16,
     /// Whether anything is widened.
     pub(crate) widens: bool,
+    /// From when on what grows goes far, if it ever does.
+    pub(crate) haste: Option<Haste>,
     /// Whether what grows is said to have any word, so that a walk ends soon.
     pub(crate) is_hasty: bool,
     /// What a routine is said to give that never returns, if that is said.
@@ -92,6 +106,11 @@ impl Growths {
     fn are_enough<V: Kind>(self, may_widen: bool, plan: &Plan<V>) -> bool {
         plan.widens && (may_widen && self.widening >= plan.delay || self.all >= MOST_GROWTHS)
     }
+
+    /// Whether it goes far.
+    fn are_many(self, haste: &Haste) -> bool {
+        self.widening >= haste.after || self.all / ELSEWHERE >= haste.after
+    }
 }
 
 impl<V: Kind> Plan<V> {
@@ -105,6 +124,7 @@ impl<V: Kind> Plan<V> {
             delay: 0,
             widens: true,
             unreturned: Some(unreturned),
+            haste: None,
             is_hasty: false,
             is_settled: false,
         }
@@ -118,17 +138,23 @@ impl<V: Kind> Plan<V> {
             delay: 0,
             widens: false,
             unreturned: None,
+            haste: None,
             is_hasty: false,
             is_settled: false,
         }
     }
 
-    /// A set with the words of another, widened or not; of any word, where a walk is to end soon.
-    fn raised(&self, before: V, more: V, widens: bool, cap: Option<V>) -> V {
+    /// A set with the words of another, where a thing has grown so often before; of any word, where a walk is to end soon.
+    fn raised(&self, before: V, more: V, growths: Growths, may_widen: bool, cap: Option<V>) -> V {
         if self.is_hasty {
-            V::any()
-        } else {
-            self.grown(before, more, widens, cap)
+            return V::any();
+        }
+        match &self.haste {
+            Some(haste) if growths.are_many(haste) => {
+                let joined = before.join(more);
+                capped(haste.ends.widened(before, joined), joined, cap)
+            }
+            _ => self.grown(before, more, growths.are_enough(may_widen, self), cap),
         }
     }
 
@@ -141,11 +167,15 @@ impl<V: Kind> Plan<V> {
         if !widens || joined.few().is_some() {
             return joined;
         }
-        let wide = self.thresholds.widened(before, joined);
-        match cap {
-            Some(cap) if joined.is_within(cap) => wide.meet(cap).unwrap_or(wide),
-            _ => wide,
-        }
+        capped(self.thresholds.widened(before, joined), joined, cap)
+    }
+}
+
+/// A set that was widened, within what it isn't widened beyond, where what it was before lies there.
+fn capped<V: Kind>(wide: V, joined: V, cap: Option<V>) -> V {
+    match cap {
+        Some(cap) if joined.is_within(cap) => wide.meet(cap).unwrap_or(wide),
+        _ => wide,
     }
 }
 
@@ -287,10 +317,9 @@ impl<V: Kind> State<V> {
         if spot.routine != routine || !has_shape(spot, frame) {
             return Ok(false);
         }
-        let widens = spot.growths.are_enough(may_widen, plan);
         let mut is_new = false;
         for (offset, more) in frame.sets().iter().enumerate() {
-            is_new |= self.raise(plan, index, offset, spot.start, *more, widens)?;
+            is_new |= self.raise(plan, index, offset, spot, *more, may_widen)?;
         }
         if is_new {
             self.count_growth(index, may_widen);
@@ -324,24 +353,25 @@ impl<V: Kind> State<V> {
         }
     }
 
-    /// Gives a set of a place, whose sets begin at a start, the words of another, and says whether any was new.
+    /// Gives a set of a place the words of another, and says whether any was new.
     fn raise(
         &mut self,
         plan: &Plan<V>,
         index: usize,
         offset: usize,
-        start: usize,
+        spot: Spot,
         more: V,
-        widens: bool,
+        may_widen: bool,
     ) -> Result<bool, AllocError> {
-        let Some(kept) = self.sets.get_mut(start.saturating_add(offset)) else {
+        let Some(kept) = self.sets.get_mut(spot.start.saturating_add(offset)) else {
             return Ok(false);
         };
         let set = V::kept(*kept, &self.shelf);
         if more.is_within(set) {
             return Ok(false);
         }
-        let grown = plan.raised(set, more, widens, plan.cap_at(index, offset));
+        let cap = plan.cap_at(index, offset);
+        let grown = plan.raised(set, more, spot.growths, may_widen, cap);
         *kept = grown.shelve(&mut self.shelf)?;
         Ok(true)
     }
@@ -358,7 +388,7 @@ impl<V: Kind> State<V> {
         if more.is_within(*set) {
             return false;
         }
-        *set = plan.raised(*set, more, growths.are_enough(true, plan), cap);
+        *set = plan.raised(*set, more, *growths, true, cap);
         *growths = growths.after(true);
         true
     }
@@ -388,8 +418,7 @@ impl<V: Kind> State<V> {
             return Ok(false);
         }
         self.result_growths = self.result_growths.saturating_add(1);
-        let widens = cell.growths.are_enough(may_widen, plan);
-        let grown = plan.raised(set, more, widens, cap);
+        let grown = plan.raised(set, more, cell.growths, may_widen, cap);
         cell.set = Some(grown.shelve(&mut self.shelf)?);
         cell.growths = cell.growths.after(may_widen);
         Ok(true)

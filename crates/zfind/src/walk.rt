@@ -6,7 +6,8 @@ ghost use Rattle.zfind.specs.Finding.{IsLess, IsStopped};
 use crate::bytes::{Bytes, Span};
 use crate::code::{Code, short};
 use crate::effects::{
-    Calls, Effect, Effects, Naming, WORDS, callee_count, is_awaited, next_callee,
+    Calls, Effect, Effects, Naming, WORDS, callee_count, has, has_all, is_awaited, is_stuck,
+    next_callee,
 };
 use crate::error::FindError;
 use crate::frame::Frame;
@@ -448,7 +449,7 @@ impl<'a, V: Kind> Walk<'a, V> {
         let global = variable.saturating_sub(16);
         if self.state.join_global(&self.plan, usize::from(global), set) {
             self.wake_readers(u16::from(global))?;
-            self.wake_wanderers()?;
+            self.wake_namers()?;
         }
         Ok(())
     }
@@ -458,7 +459,7 @@ impl<'a, V: Kind> Walk<'a, V> {
         let may_widen = self.code.is_recursive(routine);
         if self.state.join_result(&self.plan, routine, set, may_widen)? {
             self.wake_callers(routine)?;
-            self.wake_wanderers()?;
+            self.wake_wandering_callers(routine)?;
         }
         Ok(())
     }
@@ -674,14 +675,52 @@ impl<'a, V: Kind> Walk<'a, V> {
         Ok(())
     }
 
-    /// Has all visited that names by a variable what it calls or reads.
-    fn wake_wanderers(&mut self) -> Result<(), AllocError> {
+    /// Has all visited that names by a variable what it reads. In a walk that visits first what was visited least, what calls by a variable
+    /// counts among that.
+    fn wake_namers(&mut self) -> Result<(), AllocError> {
+        let code = self.code;
+        self.wake_each(code.wandering_namers())?;
+        match self.visits {
+            Some(_) => self.wake_each(code.wandering_callers()),
+            None => Ok(()),
+        }
+    }
+
+    /// Has all visited that calls by a variable the routine of a number, which may give more. In a walk that visits first what was visited
+    /// least, it is said of all that names by a variable what it calls or reads.
+    fn wake_wandering_callers(&mut self, number: u16) -> Result<(), AllocError> {
+        if self.visits.is_some() {
+            return self.wake_namers();
+        }
         if self.is_still {
             return Ok(());
         }
         let code = self.code;
-        self.spend(code.wanderers().len());
-        for index in code.wanderers() {
+        let packed = code.packed_of(number);
+        self.spend(code.wandering_callers().len());
+        for index in code.wandering_callers() {
+            if self.may_be_given(*index as usize, packed) {
+                self.wake(*index as usize)?;
+            }
+        }
+        Ok(())
+    }
+
+    /// Whether an instruction called the routine at a packed address, and may be given more than was known.
+    fn may_be_given(&self, index: usize, packed: u16) -> bool {
+        match self.calls.get(index) {
+            Some(Some(calls)) => Calls::<V>::awaits(calls, self.state.shelf(), packed),
+            _ => false,
+        }
+    }
+
+    /// Has these visited.
+    fn wake_each(&mut self, indices: &[u32]) -> Result<(), AllocError> {
+        if self.is_still {
+            return Ok(());
+        }
+        self.spend(indices.len());
+        for index in indices {
             self.wake(*index as usize)?;
         }
         Ok(())
@@ -736,30 +775,6 @@ impl<'a, V: Kind> Walk<'a, V> {
             Some(Some(reach)) => reach.meets(span),
             _ => false,
         }
-    }
-}
-
-/// Whether a word is one of a set, if there is one.
-fn has<V: Kind>(set: Option<V>, word: u16) -> bool {
-    match set {
-        Some(set) => set.contains(word),
-        None => false,
-    }
-}
-
-/// Whether all words are of a set, if there is one.
-fn has_all<V: Kind>(set: Option<V>, words: V) -> bool {
-    match set {
-        Some(set) => words.is_within(set),
-        None => false,
-    }
-}
-
-/// Whether nothing is known to come back of calls.
-fn is_stuck<S>(calls: &Option<Calls<S>>) -> bool {
-    match calls {
-        Some(calls) => !calls.comes_back(),
-        None => false,
     }
 }
 
