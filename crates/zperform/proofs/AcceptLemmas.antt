@@ -138,7 +138,7 @@ read_so_far known failures can_fail old new fails kept unfailed alike still = re
 
 -- files of which nothing failed so far, and then more of them
 module _ {F : Type 0} (known : F → List ℕ → Option (List ℕ)) (failures : F → ℕ) (can_fail : F → List ℕ → Bool) (old mid new : F) (kept : known mid ≡ known old) (unfailed : failures mid ≡ failures old) (alike : can_fail mid ≡ can_fail old) where
-  read_behind : (failed fails : Type 0) → ReadsUnless known failures can_fail mid new failed → (fails → failed) → (failed → fails) → ReadsUnless known failures can_fail old new fails
+  pub read_behind : (failed fails : Type 0) → ReadsUnless known failures can_fail mid new failed → (fails → failed) → (failed → fails) → ReadsUnless known failures can_fail old new fails
   read_behind failed fails files on back = record {
     blamed = ((λ is. subst (λ (n : ℕ). RisesByOne n (failures new)) unfailed (files.blamed.0 (on is))), λ other. files.blamed.1 (λ is. other (back is)) ∙ unfailed);
     kept = files.kept ∙ kept;
