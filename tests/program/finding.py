@@ -4,6 +4,7 @@ import re
 import subprocess
 import tempfile
 
+from orders import FAULTS, played
 from program import Answer, side_by_side
 from samples import CODE, HELLO, NEW_LINE, NOP, QUIT, STATIC, certificate, changed, interval, story, with_objects, word
 
@@ -268,6 +269,26 @@ def see_marked(program, count):
         count.see(plays[0] == plays[1], f"{name}: {plays[0]}; by its marks: {plays[1]}")
 
 
+def see_marked_faults(program, count):
+    """A story for each fault that an instruction has of its own: its place is marked, and play by what was found meets the fault there. Left
+    out are those whose object has a name that can't be decoded, which is against a rule of the story."""
+    faults = [(name, operands, fault) for name, operands, own in FAULTS for fault in own if fault.number != 13 or name == "print_addr"]
+
+    def seen(case):
+        name, operands, fault = case
+        files = played(name, operands, [fault])
+        answer, written = program.found(files["story"], flags=["--places"])
+        files["certificate"] = written or b""
+        return answer, *(program.run([verb, "story", "certificate"], files) for verb in ("check", "play"))
+
+    for (name, operands, fault), (found, checked, faulted) in zip(faults, side_by_side(seen, faults)):
+        what = f"F{fault.number} of {name} {operands}"
+        marks = re.match(rb"found, marked: (\d+)\n", found.output)
+        count.see(found.status == 0 and marks is not None and b"\n00371 " in found.output, f"{what}, find with marks: {found}")
+        count.is_answer(f"{what}, check with marks", checked, Answer(0, b"accepted, marked: %s\n" % (marks[1] if marks else b"?"), b""))
+        count.is_answer(f"{what}, played by its marks", faulted, Answer(3, b"", f"fault: F{fault.number} at 00371\n".encode()))
+
+
 def see_found(program, count):
     for name, made, shown in FOUND + found_by_more():
         answer, written = program.found(made)
@@ -337,6 +358,7 @@ def see_finding(program, count):
     see_explaining(program, count)
     see_none(program, count)
     see_marked(program, count)
+    see_marked_faults(program, count)
     see_found(program, count)
     see_lists(program, count)
     see_families(program, count)
