@@ -77,9 +77,24 @@ def from_peer(program, peer, room, parting, wanted):
         return
     answer = gone_on(program, room, name, parting)
     yield peer.name, f"saves: its own, refused, {parting.number}", None if answer.errors.startswith(b"save refused: Q5\n") else repr(answer)
+    yield peer.name, f"saves: its own, unpacked by zpc, {parting.number}", unpacks(program, room, name, unpacked(kept, parting.story))
     with open(path, "wb") as file:
         file.write(unpacked(kept, parting.story))
     yield peer.name, f"saves: its own, unpacked, {parting.number}", goes_on()
+
+
+def unpacks(program, room, name, wanted):
+    """How what `zpc unpack` makes of a save differs from the one that is wanted in its place, memory or frames, if it does."""
+    answer = program.run_in(room, ["unpack", "story", name, "plain"])
+    path = os.path.join(room, "plain")
+    if answer.status or not os.path.exists(path):
+        return repr(answer)
+    with open(path, "rb") as file:
+        made = dict(chunks(file.read()))
+    os.remove(path)
+    due = dict(chunks(wanted))
+    same = made[b"IFhd"][10:] == due[b"IFhd"][10:] and all(made[kind] == due[kind] for kind in (b"UMem", b"Stks"))
+    return None if same else "what is unpacked differs"
 
 
 def told(wanted, answer):

@@ -17,7 +17,7 @@ use Rattle.clap.specs.Words.{ReadsOne, Row, Text, first_of, first_value, one_of,
 use Rattle.clap.specs.declared.parser.matches.ArgMatches.{ArgMatches}
 use Rattle.clap.specs.declared.parser.matches.ArgMatches.TheViews.{out-ArgMatches, out-SubCommand}
 use Rattle.clap.specs.Simple.{subcommand_rows}
-use Rattle.zcommand.specs.CommandLine.{IsLow, IsReadFrom, address_of, certificate_of, code_of, frames_of, is_asked, limit_in, low_limit, number_in, number_of, save_of, story_of}
+use Rattle.zcommand.specs.CommandLine.{IsLow, IsReadFrom, address_of, certificate_of, code_of, frames_of, is_asked, limit_in, low_limit, number_in, number_of, out_of, packed_of, save_of, story_of}
 use Rattle.zcommand.specs.declared.words.Command.{Command}
 use Rattle.zcommand.specs.declared.words.Command.TheVariants as commands
 
@@ -68,6 +68,13 @@ story_read = text_read (codes "STORY")
 -- the same of a code
 pub code_read : (found : Found) (o : Option (Bor Text)) (d r : Bor Text) → option_map (λ s. s.now) o ≡ first_value found (codes "CODE") → d.now ≡ [] → r ≡ unwrap_or o d → r.now ≡ code_of (rows_of found)
 code_read = text_read (codes "CODE")
+
+-- and of the files of a save and of what is made of it
+pub packed_read : (found : Found) (o : Option (Bor Text)) (d r : Bor Text) → option_map (λ s. s.now) o ≡ first_value found (codes "SAVE") → d.now ≡ [] → r ≡ unwrap_or o d → r.now ≡ packed_of (rows_of found)
+packed_read = text_read (codes "SAVE")
+
+pub out_read : (found : Found) (o : Option (Bor Text)) (d r : Bor Text) → option_map (λ s. s.now) o ≡ first_value found (codes "OUT") → d.now ≡ [] → r ≡ unwrap_or o d → r.now ≡ out_of (rows_of found)
+out_read = text_read (codes "OUT")
 
 -- what the getter of texts gives of a certificate, and else the empty text
 pub certificate_given : (found : Found) (o : Option (Bor Text)) → option_map (λ s. s.now) o ≡ first_value found (codes "CERT") → option_map (λ s. s.now) o ≡ certificate_of (rows_of found)
@@ -167,6 +174,7 @@ low_among matches (commands.Check story certificate) h = tt
 low_among matches (commands.Show story certificate address) h = tt
 low_among matches (commands.Play story certificate seed budget status save tell force) h = tt
 low_among matches (commands.Explain code) h = tt
+low_among matches (commands.Unpack story save out force) h = tt
 
 pub low_if_read : (found : Option (Text × List Row)) (command : Command) → IsSomeAnd found (λ matches. IsReadFrom matches command) → IsLow command
 low_if_read (Some matches) command h = low_among matches command h

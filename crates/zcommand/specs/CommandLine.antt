@@ -74,6 +74,14 @@ certificate_rule required = word_rule (codes "CERT") required
 abbrev pub code_rule : Rule
 code_rule = word_rule (codes "CODE") true
 
+-- `SAVE`, which has to be there
+abbrev pub packed_rule : Rule
+packed_rule = word_rule (codes "SAVE") true
+
+-- `OUT`, which has to be there
+abbrev pub out_rule : Rule
+out_rule = word_rule (codes "OUT") true
+
 -- `ADDRESS`, which may be there
 abbrev pub address_rule : Rule
 address_rule = word_rule (codes "ADDRESS") false
@@ -114,6 +122,14 @@ play_app = with_rule (with_rule (with_rule saveless_app save_rule) tell_rule) fo
 abbrev pub explain_app : App
 explain_app = with_rule (new_app (codes "explain")) code_rule
 
+-- `unpack STORY SAVE`
+abbrev pub naming_app : App
+naming_app = with_rule (with_rule (new_app (codes "unpack")) story_rule) packed_rule
+
+-- the same with `OUT --force`
+abbrev pub unpack_app : App
+unpack_app = with_rule (with_rule naming_app out_rule) force_rule
+
 -- the program, before its commands: its words don't begin with its name, and one of them is a command
 abbrev pub bare_app : App
 bare_app =
@@ -123,13 +139,17 @@ bare_app =
 abbrev pub certifying_app : App
 certifying_app = with_subcommand (with_subcommand (with_subcommand bare_app list_app.top) find_app.top) check_app.top
 
+-- the same, and with the command that plays
+abbrev pub playing_app : App
+playing_app = with_subcommand (with_subcommand certifying_app show_app.top) play_app.top
+
 -- the program
 abbrev pub zpc_app : App
-zpc_app = with_subcommand (with_subcommand (with_subcommand certifying_app show_app.top) play_app.top) explain_app.top
+zpc_app = with_subcommand (with_subcommand playing_app explain_app.top) unpack_app.top
 
 -- the name of one of its commands
 abbrev pub IsCommand : Text → Type 0
-IsCommand name = (name ≡ codes "list") ⊎ (name ≡ codes "find") ⊎ (name ≡ codes "check") ⊎ (name ≡ codes "show") ⊎ (name ≡ codes "play") ⊎ (name ≡ codes "explain")
+IsCommand name = (name ≡ codes "list") ⊎ (name ≡ codes "find") ⊎ (name ≡ codes "check") ⊎ (name ≡ codes "show") ⊎ (name ≡ codes "play") ⊎ (name ≡ codes "explain") ⊎ (name ≡ codes "unpack")
 
 -- the number that a text says in decimal digits, with or without a plus before them, where it has at most so many bits; else 0
 abbrev pub number_in : ℕ → Text → ℕ
@@ -208,6 +228,14 @@ save_of rows = first_of (codes "save") rows
 abbrev pub code_of : List Row → Text
 code_of rows = unwrap_or (first_of (codes "CODE") rows) []
 
+-- the name of the file that has a save among the matches of `unpack`; without one clap makes no matches
+abbrev pub packed_of : List Row → Text
+packed_of rows = unwrap_or (first_of (codes "SAVE") rows) []
+
+-- and of the one that the plain save goes to
+abbrev pub out_of : List Row → Text
+out_of rows = unwrap_or (first_of (codes "OUT") rows) []
+
 -- what is asked for, by the names of files
 pub data Request : Type 0 where
   ListStory : (story : Text) (certificate : Option Text) → Request
@@ -216,6 +244,7 @@ pub data Request : Type 0 where
   Show : (story certificate : Text) (address : Option Text) → Request
   Play : (story : Text) (certificate : Option Text) (seed budget : ℕ) (status : Bool) (save : Option Text) (tell force : Bool) → Request
   Explain : (code : Text) → Request
+  Unpack : (story save out : Text) (force : Bool) → Request
 
 -- the request is the one that clap's matches name, with the values among them
 abbrev pub Asks : Text × List Row → Request → Type 0
@@ -231,6 +260,8 @@ Asks matches (Play story certificate seed budget status save tell force) =
     (matches.0 ≡ codes "play") × (story ≡ story_of matches.1) × (certificate ≡ certificate_of matches.1) × (seed ≡ seed_of matches.1) × (budget ≡ budget_of matches.1)
     × (status ≡ is_status_asked matches.1) × (save ≡ save_of matches.1) × (tell ≡ is_tell_asked matches.1) × (force ≡ is_force_asked matches.1)
 Asks matches (Explain code) = (matches.0 ≡ codes "explain") × (code ≡ code_of matches.1)
+Asks matches (Unpack story save out force) =
+    (matches.0 ≡ codes "unpack") × (story ≡ story_of matches.1) × (save ≡ packed_of matches.1) × (out ≡ out_of matches.1) × (force ≡ is_force_asked matches.1)
 
 -- what a command asks for
 abbrev pub request_of : Command → Request
@@ -240,6 +271,7 @@ request_of (commands.Check story certificate) = Check story.now certificate.now
 request_of (commands.Show story certificate address) = Show story.now certificate.now (option_map (λ a. a.now) address)
 request_of (commands.Play story certificate seed budget status save tell force) = Play story.now (option_map (λ c. c.now) certificate) seed budget status (option_map (λ f. f.now) save) tell force
 request_of (commands.Explain code) = Explain code.now
+request_of (commands.Unpack story save out force) = Unpack story.now save.now out.now force
 
 -- the command is the one that clap's matches name
 abbrev pub IsReadFrom : Text × List Row → Command → Type 0

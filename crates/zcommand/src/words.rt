@@ -4,7 +4,7 @@ ghost use Rattle.std.specs.Prelude.{◌≡◌, IfOk, IsSomeAnd, codes, false, op
 ghost use Rattle.clap.specs.Walk.{texts};
 ghost use Rattle.clap.specs.Words.{FailsBy, app_of, fault_of, found_of, rows_of, rule_of, subcommand_name_of, subcommand_of, subcommand_rows_of};
 ghost use Rattle.clap.specs.declared.builder.command.Command.TheViews.{out-Command as fields_of};
-ghost use Rattle.zcommand.specs.CommandLine.{IsCommand, IsLow, IsReadFrom, frames_of, frames_rule, framing_app, low_limit, bare_app, budget_rule, certificate_rule, address_rule, certifying_app, check_app, code_rule, explain_app, files_app, find_app, force_rule, list_app, places_rule, play_app, save_rule, saveless_app, seed_rule, show_app, status_rule, story_rule, strict_rule, tell_rule, word_rule, zpc_app};
+ghost use Rattle.zcommand.specs.CommandLine.{IsCommand, IsLow, IsReadFrom, frames_of, frames_rule, framing_app, low_limit, bare_app, budget_rule, certificate_rule, address_rule, certifying_app, check_app, code_rule, explain_app, files_app, find_app, force_rule, list_app, places_rule, naming_app, out_rule, packed_rule, play_app, playing_app, save_rule, saveless_app, seed_rule, show_app, status_rule, story_rule, strict_rule, tell_rule, unpack_app, word_rule, zpc_app};
 
 use clap::builder::ValueParser;
 use clap::{Arg, ArgAction, ArgMatches, Error, value_parser};
@@ -87,6 +87,17 @@ pub enum Command<'a> {
         /// The code, which needn't be one.
         code: &'a str,
     },
+    /// Rewrites a save whose memory is compressed as a plain one.
+    Unpack {
+        /// The name of the story's file.
+        story: &'a str,
+        /// The name of the file that has the save.
+        save: &'a str,
+        /// The name of the file that the plain save goes to.
+        out: &'a str,
+        /// Whether that file may hold something else now.
+        force: bool,
+    },
 }
 
 /// Reads the words after the program's name.
@@ -120,8 +131,11 @@ fn command_of<'a>(matches: &ArgMatches<'a>) -> Command<'a>
     if let Some(play) = matches.subcommand_matches("play") {
         return play_of(play);
     }
-    match matches.subcommand_matches("explain") {
-        Some(explain) => explain_of(explain),
+    if let Some(explain) = matches.subcommand_matches("explain") {
+        return explain_of(explain);
+    }
+    match matches.subcommand_matches("unpack") {
+        Some(unpack) => unpack_of(unpack),
         None => unreachable!(),
     }
 }
@@ -232,13 +246,37 @@ fn explain_of<'a>(matches: &ArgMatches<'a>) -> Command<'a>
     Command::Explain { code }
 }
 
+/// `unpack`, with the values that are among its matches.
+fn unpack_of<'a>(matches: &ArgMatches<'a>) -> Command<'a>
+    ensures { IsReadFrom (codes "unpack", rows_of (found_of matches.now)) result }
+{
+    let story = matches.get_str("STORY").unwrap_or("");
+    let save = matches.get_str("SAVE").unwrap_or("");
+    let out = matches.get_str("OUT").unwrap_or("");
+    let force = matches.get_one("force").unwrap_or(false);
+    Command::Unpack {
+        story,
+        save,
+        out,
+        force,
+    }
+}
+
 fn program<'a>(alloc: Global) -> Result<clap::Command<'a>, AllocError>
     ensures { IfOk result (λ program. app_of program ≡ zpc_app) }
 {
+    let program = playing_program(alloc)?;
+    let program = program.subcommand(explain(alloc)?)?;
+    program.subcommand(unpack(alloc)?)
+}
+
+/// The program with its commands on certificates, and the one that plays.
+fn playing_program<'a>(alloc: Global) -> Result<clap::Command<'a>, AllocError>
+    ensures app { IfOk result (λ program. app_of program ≡ playing_app) }
+{
     let program = certifying_program(alloc)?;
     let program = program.subcommand(show(alloc)?)?;
-    let program = program.subcommand(play(alloc)?)?;
-    program.subcommand(explain(alloc)?)
+    program.subcommand(play(alloc)?)
 }
 
 /// The program with its commands on listings and certificates.
@@ -338,6 +376,25 @@ fn explain<'a>(alloc: Global) -> Result<clap::Command<'a>, AllocError>
     explain.arg(code(alloc))
 }
 
+fn unpack<'a>(alloc: Global) -> Result<clap::Command<'a>, AllocError>
+    ensures app { IfOk result (λ unpack. app_of unpack ≡ unpack_app) }
+    ensures local { IfOk result (λ unpack. (fields_of unpack).has_globals ≡ false) }
+{
+    let unpack = naming(alloc)?.arg(out(alloc))?;
+    unpack.arg(force(alloc))
+}
+
+/// `unpack` without the file that it makes.
+fn naming<'a>(alloc: Global) -> Result<clap::Command<'a>, AllocError>
+    ensures app { IfOk result (λ unpack. app_of unpack ≡ naming_app) }
+    ensures local { IfOk result (λ unpack. (fields_of unpack).has_globals ≡ false) }
+{
+    let unpack = clap::Command::new(alloc, "unpack").about(
+        "Rewrites a save of compressed memory as a plain one",
+    );
+    unpack.arg(story(alloc))?.arg(packed(alloc))
+}
+
 /// A command on a story and a certificate, which has to be there or may be.
 fn on_files<'a>(
     alloc: Global,
@@ -372,6 +429,20 @@ fn certificate<'a>(alloc: Global, required: bool) -> Arg<'a>
     ensures local { result.global ≡ false }
 {
     word(alloc, "CERT", "The certificate's file", required)
+}
+
+fn packed<'a>(alloc: Global) -> Arg<'a>
+    ensures rule { rule_of result ≡ packed_rule }
+    ensures local { result.global ≡ false }
+{
+    word(alloc, "SAVE", "The file of a save", true)
+}
+
+fn out<'a>(alloc: Global) -> Arg<'a>
+    ensures rule { rule_of result ≡ out_rule }
+    ensures local { result.global ≡ false }
+{
+    word(alloc, "OUT", "The file that the plain save goes to", true)
 }
 
 fn address<'a>(alloc: Global) -> Arg<'a>

@@ -42,9 +42,9 @@ use Rattle.zperform.specs.declared.accepting.AcceptedStory.{AcceptedStory}
 use Rattle.zperform.specs.declared.accepting.AcceptedStory.TheVariants.{Intervals, Lists}
 use Rattle.zperform.specs.declared.outcome.Failure.TheVariants.{File, Read, Write, Memory}
 use Rattle.zperform.specs.declared.outcome.Problem.{Problem}
-use Rattle.zperform.specs.declared.outcome.Problem.TheVariants.{Refused, Unreadable, BreaksStory, BreaksInstruction, Unlisted, Unfound, Occupied, Failed}
+use Rattle.zperform.specs.declared.outcome.Problem.TheVariants.{Refused, Unreadable, BreaksStory, BreaksInstruction, Unlisted, Unfound, Occupied, Failed, Packed}
 use Rattle.zperform.specs.declared.outcome.Outcome.{Outcome}
-use Rattle.zperform.specs.declared.outcome.Outcome.TheVariants.{Listed, Found, Accepted, Shown, NoAddress, Explained, NoSuchCode, Played, Stopped}
+use Rattle.zperform.specs.declared.outcome.Outcome.TheVariants.{Listed, Found, Accepted, Shown, NoAddress, Explained, NoSuchCode, Played, Stopped, Unpacked}
 use Rattle.zperform.specs.Playing.{Holds, IsRefused, Reads, StaysEmpty}
 use Rattle.zperform.specs.Report.{accepted_line}
 
@@ -151,6 +151,7 @@ module _ {V : Type 0} (o : SetOperations V) (format : Format V) (story_known cer
   IsUnaccepted (Unlisted error) = ⊥
   IsUnaccepted (Unfound error broken) = ⊥
   IsUnaccepted (Occupied purpose) = ⊥
+  IsUnaccepted (Packed error) = ⊥
   IsUnaccepted (Failed File) = ⊤
   IsUnaccepted (Failed Memory) = HasBytes story_known
   IsUnaccepted (Failed Read) = ⊥
@@ -199,6 +200,7 @@ module _ {V : Type 0} (o : SetOperations V) (format : Format V) (story_known cer
   PlayEnds options given refusals before now Shown = ⊥
   PlayEnds options given refusals before now NoAddress = ⊥
   PlayEnds options given refusals before now Explained = ⊥
+  PlayEnds options given refusals before now Unpacked = ⊥
   PlayEnds options given refusals before now NoSuchCode = ⊥
   PlayEnds options given refusals before now Accepted = ⊥
   PlayEnds options given refusals before now (Played end) = Plays options given refusals before now (Ok end)
@@ -232,6 +234,7 @@ CheckComesTo story_known certificate_known before now Found = ⊥
 CheckComesTo story_known certificate_known before now Shown = ⊥
 CheckComesTo story_known certificate_known before now NoAddress = ⊥
 CheckComesTo story_known certificate_known before now Explained = ⊥
+CheckComesTo story_known certificate_known before now Unpacked = ⊥
 CheckComesTo story_known certificate_known before now NoSuchCode = ⊥
 CheckComesTo story_known certificate_known before now (Played end) = ⊥
 CheckComesTo story_known certificate_known before now (Stopped problem) =

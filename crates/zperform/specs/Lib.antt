@@ -3,6 +3,7 @@ pub mod Devices
 pub mod Report
 pub mod Telling
 pub mod TellingLaw
+pub mod Unpacking
 pub mod Playing
 pub mod Accepting
 pub mod Keeping

@@ -4,7 +4,7 @@ use Rattle.clap.specs.Kinds.{IsAmong, Kinds}
 use Rattle.clap.specs.Words.{Row, Text, subcommand_of}
 use Rattle.clap.specs.declared.error.kind.ErrorKind.{ErrorKind}
 use Rattle.clap.specs.declared.error.kind.ErrorKind.TheVariants.{DisplayHelp, DisplayVersion}
-use Rattle.zcommand.specs.CommandLine.{Asks, Request, ListStory, Find, Check, Show, Play, Explain, zpc_app}
+use Rattle.zcommand.specs.CommandLine.{Asks, Request, ListStory, Find, Check, Show, Play, Explain, Unpack, zpc_app}
 use Rattle.zquetzal.specs.declared.error.SaveError.{SaveError}
 use Rattle.zplayer.specs.Outside.{Blames, words_of}
 use Rattle.zplayer.specs.World.{Store, World, world}
@@ -17,6 +17,7 @@ use Rattle.zperform.specs.Listing.{ListComesTo}
 use Rattle.zperform.specs.Marking.{ListByComesTo}
 use Rattle.zperform.specs.Showing.{ShowComesTo}
 use Rattle.zperform.specs.Report.{line_of, status_of, text_of}
+use Rattle.zperform.specs.Unpacking.{IsOfThree, UnpackComesTo}
 use Rattle.zperform.specs.Telling.{SaysEach, said_of}
 use Rattle.zperform.specs.declared.outcome.Failure.TheVariants.{File, Read, Write, Memory}
 use Rattle.zperform.specs.declared.outcome.Problem.{Problem}
@@ -85,6 +86,7 @@ Comes (Play story None seed budget status save tell force) held holds input refu
 Comes (Play story (Some certificate) seed budget status save tell force) held holds input refusals before now outcome =
     PlayComesTo (held story) (held certificate) (record { budget = budget; status = status }) (given input seed (store_of save)) refusals before now outcome
 Comes (Explain code) held holds input refusals before now outcome = ExplainComesTo code before now outcome
+Comes (Unpack story save out force) held holds input refusals before now outcome = UnpackComesTo story save out held holds before now outcome
 
 -- A request is done where its file may be written over. Else that is told, and nothing is done.
 abbrev pub Begins : Request → (List ℕ → Option (List ℕ)) → (List ℕ → Option (List ℕ)) → Option (List ℕ) → List SaveError → Option (List ℕ) → Option (List ℕ) → Outcome → Type 0
@@ -105,6 +107,7 @@ save_in _ = None
 -- the name of the file that a request may write
 abbrev pub written_by : Request → Option Text
 written_by (Find story certificate frames strict places force) = Some certificate
+written_by (Unpack story save out force) = Some out
 written_by request = save_in request
 
 -- the refusals that are said of those that a request met, the newest first
@@ -122,6 +125,7 @@ IsBlamed (Show story certificate address) files = IsOfEither files story certifi
 IsBlamed (Play story None seed budget status save tell force) files = files.can_fail story ≡ true
 IsBlamed (Play story (Some certificate) seed budget status save tell force) files = IsOfEither files story certificate
 IsBlamed (Explain code) files = ⊥
+IsBlamed (Unpack story save out force) files = IsOfThree files story save out
 
 -- A request, with the values among clap's matches: what it comes to is reported, if its file may be written over, behind a line of each save that was refused, where
 -- those are asked for. The writer is blamed just where it failed, and

@@ -15,6 +15,7 @@ mod playing;
 mod saves;
 mod showing;
 mod told;
+mod unpacking;
 
 pub use files::{Disk, Files};
 pub use outcome::{Failure, Outcome, Problem};

@@ -21,7 +21,7 @@ const ROOM: usize = 256;
 
 /// What is said of a code that there isn't.
 const NO_CODE: &[u8] =
-    b"error: there is no such code; there are L1 to L12, K1 to K9, S1 to S8, I1 to I18, U1 to U4, G1 to G3, F1 to F16, J1 to J5, E1 to E3, Q1 to Q11, P1 to P3 and N1 to N2
+    b"error: there is no such code; there are L1 to L12, K1 to K9, S1 to S8, I1 to I18, U1 to U4, G1 to G3, F1 to F16, J1 to J5, E1 to E3, Q1 to Q11, C1 to C10, P1 to P3 and N1 to N2
 
 Usage: zpc explain <CODE>
 
@@ -59,7 +59,8 @@ impl Message {
             | Outcome::Found
             | Outcome::Accepted
             | Outcome::Shown
-            | Outcome::Explained => {}
+            | Outcome::Explained
+            | Outcome::Unpacked => {}
             Outcome::NoAddress => message.push(NO_ADDRESS),
             Outcome::NoSuchCode => message.push(NO_CODE),
             Outcome::Played(end) => message.push_end(end),
@@ -161,6 +162,7 @@ impl Message {
                 self.push_broken(*broken);
             }
             Problem::Occupied(purpose) => self.push_code(b"refused: N", purpose.number()),
+            Problem::Packed(error) => self.push_code(b"refused: C", error.number()),
             Problem::Failed(failure) => self.push(failure_text(*failure)),
         }
     }

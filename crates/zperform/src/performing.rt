@@ -22,6 +22,7 @@ use crate::message::Message;
 use crate::outcome::{Failure, Outcome, Problem, Purpose};
 use crate::playing::{Asked, Devices, play, play_by_certificate};
 use crate::showing::show_files;
+use crate::unpacking::unpack_file;
 use clap::Error;
 use clap::error::ErrorKind;
 use std::alloc::Global;
@@ -117,6 +118,11 @@ fn kept_by<'a>(command: Command<'a>) -> Option<(&'a str, Purpose)>
             force: false,
             ..
         } => Some((save, Purpose::Save)),
+        Command::Unpack {
+            out,
+            force: false,
+            ..
+        } => Some((out, Purpose::Save)),
         _ => None,
     }
 }
@@ -200,6 +206,12 @@ fn fulfil<F: Files, R: Source, W: Sink, E: Sink>(
             }
         }
         Command::Explain { code } => explain_code(code, writer),
+        Command::Unpack {
+            story,
+            save,
+            out,
+            ..
+        } => unpack_file(alloc, story, save, out, files),
     }
 }
 

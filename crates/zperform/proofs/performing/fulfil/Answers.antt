@@ -25,3 +25,9 @@ returns-in-Show-clause-comes g c = rw c.in-Show.is ([], c.show_files.ensures.com
 
 pub returns-in-Find-clause-could : goal.returns-in-Find-clause-could
 returns-in-Find-clause-could g c = rw c.in-Find.is c.find_file.ensures.could
+
+pub returns-in-Unpack-clause-comes : goal.returns-in-Unpack-clause-comes
+returns-in-Unpack-clause-comes g c = rw c.in-Unpack.is ([], record { ends = c.unpack_file.ensures.ends; spared = c.unpack_file.ensures.spared; silent = refl }, refl)
+
+pub returns-in-Unpack-clause-could : goal.returns-in-Unpack-clause-could
+returns-in-Unpack-clause-could g c = rw c.in-Unpack.is c.unpack_file.ensures.could
