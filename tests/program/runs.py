@@ -14,6 +14,7 @@ import threading
 from arrays import see_arrays
 from calls import see_calls
 from dear import see_dear
+from facts import see_facts
 from finding import see_finding
 from frames import see_frames
 from game import see_game
@@ -120,6 +121,8 @@ WORDS = [
     ("help of show, as a command", ["help", "show"], done(help_text("show.txt"))),
     ("help of play", ["play", "--help"], done(help_text("play.txt"))),
     ("help of play, as a command", ["help", "play"], done(help_text("play.txt"))),
+    ("help of info", ["info", "--help"], done(help_text("info.txt"))),
+    ("help of info, as a command", ["help", "info"], done(help_text("info.txt"))),
     ("help of explain", ["explain", "--help"], done(help_text("explain.txt"))),
     ("help of explain, as a command", ["help", "explain"], done(help_text("explain.txt"))),
     ("version", ["--version"], done(b"zpc 0.1.0\n")),
@@ -130,6 +133,7 @@ WORDS = [
     ("no story to list", ["list"], Answer(2, b"", help_text("no_story_to_list.txt"))),
     ("no certificate to find", ["find", "story"], Answer(2, b"", help_text("no_certificate.txt").replace(b"check", b"find"))),
     ("no certificate to show", ["show", "story"], Answer(2, b"", help_text("no_certificate_to_show.txt"))),
+    ("no story to tell of", ["info"], Answer(2, b"", help_text("no_story_to_list.txt").replace(b"list <STORY> [CERT]", b"info <STORY>"))),
     ("no code", ["explain"], Answer(2, b"", help_text("no_code.txt"))),
     ("a code that there isn't", ["explain", "I19"], Answer(2, b"", help_text("unknown_code.txt"))),
     ("a code in small letters", ["explain", "i5"], Answer(2, b"", help_text("unknown_code.txt"))),
@@ -449,6 +453,7 @@ def main():
     see_frames(program, count)
     see_marks(program, count)
     see_showing(program, count, help_text("no_address.txt"))
+    see_facts(program, count)
     see_finding(program, count)
     see_dear(program, count)
     see_game(program, count)

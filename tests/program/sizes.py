@@ -233,6 +233,17 @@ def long_names(program, count):
     count.is_answer("a name that no file can have", program.run(["play", "n" * 100000], {}), Answer(4, b"", b"failed: file\n"))
 
 
+def told_at_length(program, count):
+    """The longest story, told of with a name of 255 bytes, and one with as many routines as a story may call by constants."""
+    made = story(NOP * (LONGEST - CODE - 1) + QUIT)
+    name = "s" * 250
+    answer = program.run(["info", name], {name: made, f"{name}.cert": certificate(made, range(CODE, LONGEST), values=WIDE)})
+    told = f"instructions: {LONGEST - CODE}\ncertificate: version 1, routines 0, instructions {LONGEST - CODE}, marked 0\n"
+    count.see(answer.status == 0 and answer.output.endswith(told.encode()), f"the longest story, told of: {answer}")
+    answer = program.run(["info", "--json", name], {name: made})
+    count.see(answer.status == 0 and f'"instructions":{LONGEST - CODE},'.encode() in answer.output, f"the longest story, told of as an object: {answer}")
+
+
 def many_routines(program, count):
     """A story that calls as many routines by constants, one after another: listed, searched and played."""
     for routines in (500, 501, 18000):
@@ -465,6 +476,18 @@ GROWTH = [
     ("zplayer play_checked", "text and status lines of a turn", status_lines),
     ("zplayer play_story", "text and status lines of a turn", status_lines),
     ("zscreen render", "bytes and status lines of a turn", None),
+    ("zinfo info", "what `list_story` grows by, which it calls", told_at_length),
+    ("zinfo text_of_info", "numbers of a story", told_at_length),
+    ("zinfo text_of_beside", "numbers of a certificate", told_at_length),
+    ("zinfo object_of_info", "letters of a name", told_at_length),
+    ("zinfo shown_text", "bytes of a serial number", told_at_length),
+    ("zbatch name_beside", "letters of a name", told_at_length),
+    ("zbatch summary_line", "a line of five numbers", None),
+    ("zjson line_of", "letters of a name", told_at_length),
+    ("zjson digest_text", "64 digits", told_at_length),
+    ("zjson verdict_line", "what `line_of` grows by, which it calls", None),
+    ("zjson instruction_line", "what `line_of` grows by, which it calls", None),
+    ("zjson explained_line", "what `line_of` grows by, which it calls", None),
     ("zcommand read_words", "words, and letters of a word", long_names),
     ("zperform", "names of files", long_names),
 ]
@@ -478,7 +501,7 @@ def on_small_machines(program, count):
     """Each command on the sample games, with a stack of 512 KB: it does the same. And in 4 MB of address space, of which the C library takes
     3.3: it does the same, or tells that memory was refused."""
     data = os.path.join(os.path.dirname(os.path.abspath(__file__)), "../../crates/zpc/data")
-    commands = ["explain I5", "list story", "check story certificate", "show story certificate", "show story certificate 324", "find story found", "find --frames 4096 story deep", "play story", "play story certificate"]
+    commands = ["explain I5", "info story", "info --json story", "list story", "check story certificate", "show story certificate", "show story certificate 324", "find story found", "find --frames 4096 story deep", "play story", "play story certificate"]
     for name in ["hello", "bell"]:
         made = {}
         for file, ending in [("story", "z3"), ("certificate", "cert")]:

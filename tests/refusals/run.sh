@@ -99,6 +99,8 @@ refuse_each find hello.cert "$work/found.cert"
 refuse_each find absent.z3 "$work/found.cert"
 refuse_each find "$work/story" "$work/found.cert"
 refuse_each explain I5
+refuse_each info hello.z3
+refuse_each info --json hello.z3
 refuse_each explain I19
 refuse_each check hello.z3 hello.cert
 refuse_each check hello.z3 hello.z3

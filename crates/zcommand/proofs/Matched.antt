@@ -166,6 +166,7 @@ low_among matches (commands.Find story certificate frames strict places force) (
 low_among matches (commands.Check story certificate) h = tt
 low_among matches (commands.Show story certificate address) h = tt
 low_among matches (commands.Play story certificate seed budget status save tell force) h = tt
+low_among matches (commands.Info story json) h = tt
 low_among matches (commands.Explain code) h = tt
 
 pub low_if_read : (found : Option (Text × List Row)) (command : Command) → IsSomeAnd found (λ matches. IsReadFrom matches command) → IsLow command

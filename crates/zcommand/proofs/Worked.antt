@@ -5,7 +5,7 @@ use Rattle.clap.specs.Kinds.{Kinds}
 use Rattle.clap.specs.Words.{Text, subcommand_of, fault_of}
 use Rattle.clap.specs.Walk.{walked}
 use Rattle.clap.specs.Faults.{defaults_fault, walk_fault}
-use Rattle.zcommand.specs.CommandLine.{Asks, Request, ListStory, Find, Check, Show, Play, Explain, number_in, zpc_app}
+use Rattle.zcommand.specs.CommandLine.{Asks, Request, ListStory, Find, Check, Show, Play, Info, Explain, number_in, zpc_app}
 
 -- a number is below 2 to the 32nd, or to the 64th, and has digits alone behind one plus
 numbers :
@@ -32,10 +32,12 @@ asked :
     × Ask (codes "find" ∷ codes "--frames" ∷ codes "4096" ∷ codes "hello.z3" ∷ codes "hello.cert" ∷ []) (Find (codes "hello.z3") (codes "hello.cert") (Some 4096) false false false)
     × Ask (codes "find" ∷ codes "--strict" ∷ codes "hello.z3" ∷ codes "hello.cert" ∷ []) (Find (codes "hello.z3") (codes "hello.cert") None true false false)
     × Ask (codes "find" ∷ codes "hello.z3" ∷ codes "hello.cert" ∷ codes "--places" ∷ []) (Find (codes "hello.z3") (codes "hello.cert") None false true false)
+    × Ask (codes "info" ∷ codes "hello.z3" ∷ []) (Info (codes "hello.z3") false)
+    × Ask (codes "info" ∷ codes "--json" ∷ codes "hello.z3" ∷ []) (Info (codes "hello.z3") true)
     × Ask (codes "explain" ∷ codes "I5" ∷ []) (Explain (codes "I5"))
 unfolding defaults_fault walk_fault walked
 asked =
-    ((refl, (refl, refl, refl)), (refl, (refl, refl, refl)), (refl, (refl, refl, refl, refl, refl, refl, refl, refl, refl)), (refl, (refl, refl, refl, refl, refl, refl, refl, refl, refl)), (refl, (refl, refl, refl, refl, refl, refl, refl, refl, refl)), (refl, (refl, refl, refl, refl, refl, refl, refl, refl, refl)), (refl, (refl, refl, refl)), (refl, (refl, refl, refl, refl)), (refl, (refl, refl, refl, refl)), (refl, (refl, refl, refl, refl, refl, refl, refl)), (refl, (refl, refl, refl, refl, refl, refl, refl)), (refl, (refl, refl, refl, refl, refl, refl, refl)), (refl, (refl, refl, refl, refl, refl, refl, refl)), (refl, (refl, refl, refl, refl, refl, refl, refl)), (refl, (refl, refl)))
+    ((refl, (refl, refl, refl)), (refl, (refl, refl, refl)), (refl, (refl, refl, refl, refl, refl, refl, refl, refl, refl)), (refl, (refl, refl, refl, refl, refl, refl, refl, refl, refl)), (refl, (refl, refl, refl, refl, refl, refl, refl, refl, refl)), (refl, (refl, refl, refl, refl, refl, refl, refl, refl, refl)), (refl, (refl, refl, refl)), (refl, (refl, refl, refl, refl)), (refl, (refl, refl, refl, refl)), (refl, (refl, refl, refl, refl, refl, refl, refl)), (refl, (refl, refl, refl, refl, refl, refl, refl)), (refl, (refl, refl, refl, refl, refl, refl, refl)), (refl, (refl, refl, refl, refl, refl, refl, refl)), (refl, (refl, refl, refl, refl, refl, refl, refl)), (refl, (refl, refl, refl)), (refl, (refl, refl, refl)), (refl, (refl, refl)))
 
 -- a command lacks a file or has too many, or there is none of the name, or none at all, or the budget is 2 to the 32nd or the
 -- seed 2 to the 64th, or the flag has a value, or the option has none or an empty one
@@ -49,6 +51,7 @@ wrong :
     × (is_wrong (fault_of zpc_app (codes "find" ∷ codes "hello.z3" ∷ [])) ≡ true) × (is_wrong (fault_of zpc_app (codes "find" ∷ codes "a" ∷ codes "b" ∷ codes "c" ∷ [])) ≡ true)
     × (is_wrong (fault_of zpc_app (codes "find" ∷ codes "--frames" ∷ codes "4097" ∷ codes "a" ∷ codes "b" ∷ [])) ≡ true) × (is_wrong (fault_of zpc_app (codes "find" ∷ codes "a" ∷ codes "b" ∷ codes "--frames" ∷ [])) ≡ true)
     × (is_wrong (fault_of zpc_app (codes "show" ∷ codes "hello.z3" ∷ [])) ≡ true) × (is_wrong (fault_of zpc_app (codes "show" ∷ codes "a" ∷ codes "b" ∷ codes "c" ∷ codes "d" ∷ [])) ≡ true)
+    × (is_wrong (fault_of zpc_app (codes "info" ∷ [])) ≡ true) × (is_wrong (fault_of zpc_app (codes "info" ∷ codes "a" ∷ codes "b" ∷ [])) ≡ true)
     × (is_wrong (fault_of zpc_app (codes "explain" ∷ [])) ≡ true) × (is_wrong (fault_of zpc_app (codes "explain" ∷ codes "I5" ∷ codes "I6" ∷ [])) ≡ true)
     × (is_wrong (fault_of zpc_app []) ≡ true) × (is_wrong (fault_of zpc_app (codes "play" ∷ codes "hello.z3" ∷ codes "--budget" ∷ codes "4294967296" ∷ [])) ≡ true)
     × (is_wrong (fault_of zpc_app (codes "play" ∷ codes "hello.z3" ∷ codes "--status=true" ∷ [])) ≡ true) × (is_wrong (fault_of zpc_app (codes "play" ∷ codes "hello.z3" ∷ codes "--tell=true" ∷ [])) ≡ true)
@@ -56,4 +59,4 @@ wrong :
     × (is_wrong (fault_of zpc_app (codes "play" ∷ codes "hello.z3" ∷ codes "--save" ∷ [] ∷ [])) ≡ true) × (is_wrong (fault_of zpc_app (codes "play" ∷ codes "hello.z3" ∷ codes "--save=" ∷ [])) ≡ true)
     × (is_wrong (fault_of zpc_app (codes "play" ∷ codes "hello.z3" ∷ codes "--seed" ∷ codes "18446744073709551616" ∷ [])) ≡ true)
 unfolding is_wrong defaults_fault walk_fault walked
-wrong = (refl, refl, refl, refl, refl, refl, refl, refl, refl, refl, refl, refl, refl, refl, refl, refl, refl, refl, refl, refl)
+wrong = (refl, refl, refl, refl, refl, refl, refl, refl, refl, refl, refl, refl, refl, refl, refl, refl, refl, refl, refl, refl, refl, refl)

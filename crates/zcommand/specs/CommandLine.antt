@@ -62,6 +62,10 @@ tell_rule = record (new_rule (codes "tell")) { long = Some (codes "tell"); actio
 abbrev pub force_rule : Rule
 force_rule = record (new_rule (codes "force")) { long = Some (codes "force"); action = Some SetTrue }
 
+-- `--json`, a flag
+abbrev pub json_rule : Rule
+json_rule = record (new_rule (codes "json")) { long = Some (codes "json"); action = Some SetTrue }
+
 -- `--save FILE`, where FILE isn't empty
 abbrev pub save_rule : Rule
 save_rule = record (new_rule (codes "save")) { long = Some (codes "save"); value_names = 1; parser = Some parsers.NonEmptyString }
@@ -110,6 +114,10 @@ saveless_app = with_rule (with_rule (with_rule (files_app (codes "play") false) 
 abbrev pub play_app : App
 play_app = with_rule (with_rule (with_rule saveless_app save_rule) tell_rule) force_rule
 
+-- `info STORY --json`
+abbrev pub info_app : App
+info_app = with_rule (with_rule (new_app (codes "info")) story_rule) json_rule
+
 -- `explain CODE`
 abbrev pub explain_app : App
 explain_app = with_rule (new_app (codes "explain")) code_rule
@@ -125,11 +133,11 @@ certifying_app = with_subcommand (with_subcommand (with_subcommand bare_app list
 
 -- the program
 abbrev pub zpc_app : App
-zpc_app = with_subcommand (with_subcommand (with_subcommand certifying_app show_app.top) play_app.top) explain_app.top
+zpc_app = with_subcommand (with_subcommand (with_subcommand (with_subcommand certifying_app show_app.top) play_app.top) info_app.top) explain_app.top
 
 -- the name of one of its commands
 abbrev pub IsCommand : Text → Type 0
-IsCommand name = (name ≡ codes "list") ⊎ (name ≡ codes "find") ⊎ (name ≡ codes "check") ⊎ (name ≡ codes "show") ⊎ (name ≡ codes "play") ⊎ (name ≡ codes "explain")
+IsCommand name = (name ≡ codes "list") ⊎ (name ≡ codes "find") ⊎ (name ≡ codes "check") ⊎ (name ≡ codes "show") ⊎ (name ≡ codes "play") ⊎ (name ≡ codes "info") ⊎ (name ≡ codes "explain")
 
 -- the number that a text says in decimal digits, with or without a plus before them, where it has at most so many bits; else 0
 abbrev pub number_in : ℕ → Text → ℕ
@@ -192,6 +200,10 @@ is_places_asked rows = is_asked (codes "places") rows
 abbrev pub is_force_asked : List Row → Bool
 is_force_asked rows = is_asked (codes "force") rows
 
+-- and whether an object of JSON is to be answered
+abbrev pub is_json_asked : List Row → Bool
+is_json_asked rows = is_asked (codes "json") rows
+
 -- the name of the certificate among the matches of a command, if there is one
 abbrev pub certificate_of : List Row → Option Text
 certificate_of rows = first_of (codes "CERT") rows
@@ -215,6 +227,7 @@ pub data Request : Type 0 where
   Check : (story certificate : Text) → Request
   Show : (story certificate : Text) (address : Option Text) → Request
   Play : (story : Text) (certificate : Option Text) (seed budget : ℕ) (status : Bool) (save : Option Text) (tell force : Bool) → Request
+  Info : (story : Text) (json : Bool) → Request
   Explain : (code : Text) → Request
 
 -- the request is the one that clap's matches name, with the values among them
@@ -230,6 +243,7 @@ Asks matches (Show story certificate address) =
 Asks matches (Play story certificate seed budget status save tell force) =
     (matches.0 ≡ codes "play") × (story ≡ story_of matches.1) × (certificate ≡ certificate_of matches.1) × (seed ≡ seed_of matches.1) × (budget ≡ budget_of matches.1)
     × (status ≡ is_status_asked matches.1) × (save ≡ save_of matches.1) × (tell ≡ is_tell_asked matches.1) × (force ≡ is_force_asked matches.1)
+Asks matches (Info story json) = (matches.0 ≡ codes "info") × (story ≡ story_of matches.1) × (json ≡ is_json_asked matches.1)
 Asks matches (Explain code) = (matches.0 ≡ codes "explain") × (code ≡ code_of matches.1)
 
 -- what a command asks for
@@ -239,6 +253,7 @@ request_of (commands.Find story certificate frames strict places force) = Find s
 request_of (commands.Check story certificate) = Check story.now certificate.now
 request_of (commands.Show story certificate address) = Show story.now certificate.now (option_map (λ a. a.now) address)
 request_of (commands.Play story certificate seed budget status save tell force) = Play story.now (option_map (λ c. c.now) certificate) seed budget status (option_map (λ f. f.now) save) tell force
+request_of (commands.Info story json) = Info story.now json
 request_of (commands.Explain code) = Explain code.now
 
 -- the command is the one that clap's matches name

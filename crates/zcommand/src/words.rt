@@ -4,7 +4,7 @@ ghost use Rattle.std.specs.Prelude.{◌≡◌, IfOk, IsSomeAnd, codes, false, op
 ghost use Rattle.clap.specs.Walk.{texts};
 ghost use Rattle.clap.specs.Words.{FailsBy, app_of, fault_of, found_of, rows_of, rule_of, subcommand_name_of, subcommand_of, subcommand_rows_of};
 ghost use Rattle.clap.specs.declared.builder.command.Command.TheViews.{out-Command as fields_of};
-ghost use Rattle.zcommand.specs.CommandLine.{IsCommand, IsLow, IsReadFrom, frames_of, frames_rule, framing_app, low_limit, bare_app, budget_rule, certificate_rule, address_rule, certifying_app, check_app, code_rule, explain_app, files_app, find_app, force_rule, list_app, places_rule, play_app, save_rule, saveless_app, seed_rule, show_app, status_rule, story_rule, strict_rule, tell_rule, word_rule, zpc_app};
+ghost use Rattle.zcommand.specs.CommandLine.{IsCommand, IsLow, IsReadFrom, frames_of, frames_rule, framing_app, low_limit, bare_app, budget_rule, certificate_rule, address_rule, certifying_app, check_app, code_rule, explain_app, files_app, find_app, force_rule, info_app, json_rule, list_app, places_rule, play_app, save_rule, saveless_app, seed_rule, show_app, status_rule, story_rule, strict_rule, tell_rule, word_rule, zpc_app};
 
 use clap::builder::ValueParser;
 use clap::{Arg, ArgAction, ArgMatches, Error, value_parser};
@@ -21,6 +21,21 @@ const SEED: &str = "1";
 
 /// The greatest limit of frames that a certificate may name.
 const MOST_FRAMES: u16 = 4096;
+
+/// What is behind the help of the program.
+const ENDING: &str =
+    "A certificate is a file that says which values a play of a story may meet. It is found once, and may come from anyone: whoever
+has it checks it. A play of a story that is accepted with it never meets a fault, but where it marks instructions.
+
+Exit status:
+  0  done
+  1  refused: a story, a certificate, or a file that would be written over; or no certificate is found
+  2  the words are wrong
+  3  the story met a fault
+  4  a file or device failed, or memory was refused
+
+Example:
+  zpc find story.z3 story.cert && zpc play story.z3 story.cert";
 
 /// What the words ask for.
 #[derive(Clone, Copy, Debug, PartialEq, Eq)]
@@ -82,6 +97,13 @@ pub enum Command<'a> {
         /// Whether the file for saves may hold something else now.
         force: bool,
     },
+    /// Tells what a story says of itself, and what it has.
+    Info {
+        /// The name of the story's file.
+        story: &'a str,
+        /// Whether it is told as an object of JSON.
+        json: bool,
+    },
     /// Says what a code means.
     Explain {
         /// The code, which needn't be one.
@@ -119,6 +141,9 @@ fn command_of<'a>(matches: &ArgMatches<'a>) -> Command<'a>
     }
     if let Some(play) = matches.subcommand_matches("play") {
         return play_of(play);
+    }
+    if let Some(info) = matches.subcommand_matches("info") {
+        return info_of(info);
     }
     match matches.subcommand_matches("explain") {
         Some(explain) => explain_of(explain),
@@ -224,6 +249,15 @@ fn play_of<'a>(matches: &ArgMatches<'a>) -> Command<'a>
     }
 }
 
+/// `info`, with the values that are among its matches.
+fn info_of<'a>(matches: &ArgMatches<'a>) -> Command<'a>
+    ensures { IsReadFrom (codes "info", rows_of (found_of matches.now)) result }
+{
+    let story = matches.get_str("STORY").unwrap_or("");
+    let json = matches.get_one("json").unwrap_or(false);
+    Command::Info { story, json }
+}
+
 /// `explain`, with the value that is among its matches.
 fn explain_of<'a>(matches: &ArgMatches<'a>) -> Command<'a>
     ensures { IsReadFrom (codes "explain", rows_of (found_of matches.now)) result }
@@ -238,6 +272,7 @@ fn program<'a>(alloc: Global) -> Result<clap::Command<'a>, AllocError>
     let program = certifying_program(alloc)?;
     let program = program.subcommand(show(alloc)?)?;
     let program = program.subcommand(play(alloc)?)?;
+    let program = program.subcommand(info(alloc)?)?;
     program.subcommand(explain(alloc)?)
 }
 
@@ -257,6 +292,7 @@ fn bare_program<'a>(alloc: Global) -> Result<clap::Command<'a>, AllocError>
 {
     clap::Command::new(alloc, "zpc")
         .about("Lists, checks and plays Z-machine version 3 stories, and finds certificates")
+        .after_help(ENDING)
         .version(VERSION)
         .no_binary_name(true)
         .subcommand_required(true)
@@ -267,12 +303,13 @@ fn list<'a>(alloc: Global) -> Result<clap::Command<'a>, AllocError>
     ensures app { IfOk result (λ list. app_of list ≡ list_app) }
     ensures local { IfOk result (λ list. (fields_of list).has_globals ≡ false) }
 {
-    on_files(
+    let list = on_files(
         alloc,
         "list",
         "Lists the instructions of a story, or of a certificate",
         false,
-    )
+    )?;
+    Ok(list.after_help("Example:\n  zpc list story.z3 story.cert"))
 }
 
 fn find<'a>(alloc: Global) -> Result<clap::Command<'a>, AllocError>
@@ -289,14 +326,16 @@ fn framing<'a>(alloc: Global) -> Result<clap::Command<'a>, AllocError>
     ensures local { IfOk result (λ find. (fields_of find).has_globals ≡ false) }
 {
     let find = on_files(alloc, "find", "Finds a certificate of a story", true)?;
-    find.arg(frames(alloc))
+    find.after_help("Example:\n  zpc find story.z3 story.cert")
+        .arg(frames(alloc))
 }
 
 fn check<'a>(alloc: Global) -> Result<clap::Command<'a>, AllocError>
     ensures app { IfOk result (λ check. app_of check ≡ check_app) }
     ensures local { IfOk result (λ check. (fields_of check).has_globals ≡ false) }
 {
-    on_files(alloc, "check", "Checks a certificate of a story", true)
+    let check = on_files(alloc, "check", "Checks a certificate of a story", true)?;
+    Ok(check.after_help("Example:\n  zpc check story.z3 story.cert"))
 }
 
 fn show<'a>(alloc: Global) -> Result<clap::Command<'a>, AllocError>
@@ -304,7 +343,8 @@ fn show<'a>(alloc: Global) -> Result<clap::Command<'a>, AllocError>
     ensures local { IfOk result (λ show. (fields_of show).has_globals ≡ false) }
 {
     let show = on_files(alloc, "show", "Shows what a certificate says", true)?;
-    show.arg(address(alloc))
+    show.after_help("Example:\n  zpc show story.z3 story.cert 00325")
+        .arg(address(alloc))
 }
 
 fn play<'a>(alloc: Global) -> Result<clap::Command<'a>, AllocError>
@@ -326,8 +366,20 @@ fn saveless<'a>(alloc: Global) -> Result<clap::Command<'a>, AllocError>
         "Plays a story, with a certificate or without",
         false,
     )?;
+    let play = play.after_help("Example:\n  zpc play --save my.qzl story.z3 story.cert");
     let play = play.arg(seed(alloc))?.arg(budget(alloc))?;
     play.arg(status(alloc))
+}
+
+fn info<'a>(alloc: Global) -> Result<clap::Command<'a>, AllocError>
+    ensures app { IfOk result (λ info. app_of info ≡ info_app) }
+    ensures local { IfOk result (λ info. (fields_of info).has_globals ≡ false) }
+{
+    let info = clap::Command::new(alloc, "info").about(
+        "Tells what a story says of itself, and what it has",
+    );
+    let info = info.after_help("Example:\n  zpc info --json story.z3");
+    info.arg(story(alloc))?.arg(json(alloc))
 }
 
 fn explain<'a>(alloc: Global) -> Result<clap::Command<'a>, AllocError>
@@ -335,6 +387,7 @@ fn explain<'a>(alloc: Global) -> Result<clap::Command<'a>, AllocError>
     ensures local { IfOk result (λ explain. (fields_of explain).has_globals ≡ false) }
 {
     let explain = clap::Command::new(alloc, "explain").about("Says what a code means");
+    let explain = explain.after_help("Example:\n  zpc explain I5");
     explain.arg(code(alloc))
 }
 
@@ -472,6 +525,16 @@ fn save<'a>(alloc: Global) -> Arg<'a>
         .help("The file that saves are kept in")
         .value_name("FILE")
         .value_parser(ValueParser::NonEmptyString)
+}
+
+fn json<'a>(alloc: Global) -> Arg<'a>
+    ensures rule { rule_of result ≡ json_rule }
+    ensures local { result.global ≡ false }
+{
+    Arg::new(alloc, "json")
+        .long("json")
+        .help("Answers with an object of JSON on a line")
+        .action(ArgAction::SetTrue)
 }
 
 fn tell<'a>(alloc: Global) -> Arg<'a>

@@ -9,6 +9,7 @@ mod SessionLemmas
 mod MarkLemmas
 mod AddressLemmas
 mod ShowLemmas
+mod InfoLemmas
 mod LineLemmas
 mod Worked
 mod WorkedClaims

@@ -5,7 +5,7 @@ use Rattle.clap.specs.Words.{Row, Text, fault_of, subcommand_of}
 use Rattle.zplayer.specs.declared.end.End.{End}
 use Rattle.zplayer.specs.Outside.{Blames}
 use Rattle.zquetzal.specs.declared.error.SaveError.{SaveError}
-use Rattle.zcommand.specs.CommandLine.{Asks, Check, Explain, Find, ListStory, Play, Request, Show, zpc_app}
+use Rattle.zcommand.specs.CommandLine.{Asks, Check, Explain, Find, Info, ListStory, Play, Request, Show, zpc_app}
 use Rattle.zperform.specs.Devices.{Devices, FlushesUnless, Held, Seen, UsesUnless, seen, told}
 use Rattle.zperform.specs.Performing.{Begins, Explains, IsBlamed, Performs, Reports, is_quiet, said_by, save_in, written_by}
 use Rattle.zperform.specs.Telling.{SaysEach}
@@ -76,6 +76,7 @@ says_none (ListStory story certificate) errors = refl
 says_none (Find story certificate frames strict places force) errors = refl
 says_none (Check story certificate) errors = refl
 says_none (Show story certificate address) errors = refl
+says_none (Info story json) errors = refl
 says_none (Explain code) errors = refl
 
 -- what is told of a source that wasn't asked

@@ -20,7 +20,7 @@ use Rattle.zperform.specs.declared.outcome.Failure.TheVariants.{File, Read, Writ
 use Rattle.zperform.specs.declared.outcome.Problem.{Problem}
 use Rattle.zperform.specs.declared.outcome.Problem.TheVariants.{Refused, Unreadable, BreaksStory, BreaksInstruction, Unlisted, Unfound, Occupied, Failed}
 use Rattle.zperform.specs.declared.outcome.Outcome.{Outcome}
-use Rattle.zperform.specs.declared.outcome.Outcome.TheVariants.{Listed, Found, Accepted, Shown, NoAddress, Explained, NoSuchCode, Played, Stopped}
+use Rattle.zperform.specs.declared.outcome.Outcome.TheVariants.{Listed, Found, Accepted, Shown, NoAddress, Informed, Explained, NoSuchCode, Played, Stopped}
 use Rattle.zperform.specs.Played.{Account, ComesOutOf}
 use Rattle.zperform.specs.Playing.{ComesTo, Holds, IsPlayed, IsRefused, IsUnloaded, Reads, StaysEmpty}
 use Rattle.zperform.specs.Report.{outcome_of, problem_of_load, problem_of_play}
@@ -63,6 +63,7 @@ module _ (known : Option (List ℕ)) (taken : List ℕ) (options : Options) (giv
   of_part Found h = h
   of_part Shown h = h
   of_part NoAddress h = h
+  of_part Informed h = h
   of_part Explained h = h
   of_part NoSuchCode h = h
   of_part Accepted h = h

@@ -5,6 +5,7 @@ use Rattle.zstory.specs.LoadedStory.{LoadedStory}
 use Rattle.zstory.specs.Refusal.{IsCause, IsLowest, NoneBelow}
 use Rattle.zstory.specs.declared.load_error.LoadError.{LoadError}
 use Rattle.zstory.specs.declared.load_error.LoadError.TheVariants.{TooShort, TooLong, NotVersion3, LengthWord, StaticBase, Globals, Objects, Dictionary, EntryLength, DictionaryOrder, FirstInstruction, OutOfMemory}
+use Rattle.zjson.specs.Digest.{digest_text}
 use Rattle.zperform.specs.Playing.{Holds, IsRefused, Reads}
 
 -- the part is the whole file, or is too long as the file is
@@ -57,6 +58,14 @@ module _ (most : ℕ) (taken file : List ℕ) (wide : 131072 < most) (part : tak
   long_file DictionaryOrder long all (cause, none) = absurd (none TooLong (omega arith) long)
   long_file FirstInstruction long all (cause, none) = absurd (none TooLong (omega arith) long)
   long_file OutOfMemory long all (cause, none) = absurd (none TooLong (omega arith) long)
+
+  -- and has the digest of that
+  pub digested_whole : (story : LoadedStory) (digest : List ℕ) → Holds taken story × (digest ≡ digest_text taken) → Holds file story × (digest ≡ digest_text file)
+  digested_whole story digest (holds, is) = go (whole_or_long most taken file wide part)
+    where
+      go : (taken ≡ file) ⊎ ((131072 < length taken) × (131072 < length file)) → Holds file story × (digest ≡ digest_text file)
+      go (inl same) = subst (λ (bytes : List ℕ). Holds bytes story × (digest ≡ digest_text bytes)) same (holds, is)
+      go (inr (long, all)) = absurd (holds.no_cause TooLong (omega arith) long)
 
   pub refused_whole : (error : LoadError) → IsRefused taken error → IsRefused file error
   refused_whole error refused = go (whole_or_long most taken file wide part)

@@ -44,7 +44,7 @@ use Rattle.zperform.specs.declared.outcome.Failure.TheVariants.{File, Read, Writ
 use Rattle.zperform.specs.declared.outcome.Problem.{Problem}
 use Rattle.zperform.specs.declared.outcome.Problem.TheVariants.{Refused, Unreadable, BreaksStory, BreaksInstruction, Unlisted, Unfound, Occupied, Failed}
 use Rattle.zperform.specs.declared.outcome.Outcome.{Outcome}
-use Rattle.zperform.specs.declared.outcome.Outcome.TheVariants.{Listed, Found, Accepted, Shown, NoAddress, Explained, NoSuchCode, Played, Stopped}
+use Rattle.zperform.specs.declared.outcome.Outcome.TheVariants.{Listed, Found, Accepted, Shown, NoAddress, Informed, Explained, NoSuchCode, Played, Stopped}
 use Rattle.zperform.specs.Playing.{Holds, IsRefused, Reads, StaysEmpty}
 use Rattle.zperform.specs.Report.{accepted_line}
 
@@ -198,6 +198,7 @@ module _ {V : Type 0} (o : SetOperations V) (format : Format V) (story_known cer
   PlayEnds options given refusals before now Found = ⊥
   PlayEnds options given refusals before now Shown = ⊥
   PlayEnds options given refusals before now NoAddress = ⊥
+  PlayEnds options given refusals before now Informed = ⊥
   PlayEnds options given refusals before now Explained = ⊥
   PlayEnds options given refusals before now NoSuchCode = ⊥
   PlayEnds options given refusals before now Accepted = ⊥
@@ -231,6 +232,7 @@ CheckComesTo story_known certificate_known before now Listed = ⊥
 CheckComesTo story_known certificate_known before now Found = ⊥
 CheckComesTo story_known certificate_known before now Shown = ⊥
 CheckComesTo story_known certificate_known before now NoAddress = ⊥
+CheckComesTo story_known certificate_known before now Informed = ⊥
 CheckComesTo story_known certificate_known before now Explained = ⊥
 CheckComesTo story_known certificate_known before now NoSuchCode = ⊥
 CheckComesTo story_known certificate_known before now (Played end) = ⊥

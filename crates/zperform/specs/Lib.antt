@@ -10,5 +10,6 @@ pub mod Listing
 pub mod Showing
 pub mod Marking
 pub mod Finding
+pub mod Informing
 pub mod Performing
 pub mod Played

@@ -4,7 +4,7 @@ use Rattle.clap.specs.Kinds.{IsAmong, Kinds}
 use Rattle.clap.specs.Words.{Row, Text, subcommand_of}
 use Rattle.clap.specs.declared.error.kind.ErrorKind.{ErrorKind}
 use Rattle.clap.specs.declared.error.kind.ErrorKind.TheVariants.{DisplayHelp, DisplayVersion}
-use Rattle.zcommand.specs.CommandLine.{Asks, Request, ListStory, Find, Check, Show, Play, Explain, zpc_app}
+use Rattle.zcommand.specs.CommandLine.{Asks, Request, ListStory, Find, Check, Show, Play, Info, Explain, zpc_app}
 use Rattle.zquetzal.specs.declared.error.SaveError.{SaveError}
 use Rattle.zplayer.specs.Outside.{Blames, words_of}
 use Rattle.zplayer.specs.World.{Store, World, world}
@@ -12,6 +12,7 @@ use Rattle.zperform.specs.Devices.{Breaks, Devices, FlushesUnless, Held, Says, S
 use Rattle.zperform.specs.Playing.{ComesTo}
 use Rattle.zperform.specs.Accepting.{CheckComesTo, IsOfEither, PlayComesTo}
 use Rattle.zperform.specs.Finding.{ExplainComesTo, FindComesTo, IsOfStoryOrFound}
+use Rattle.zperform.specs.Informing.{InfoComesTo, name_of_certificate}
 use Rattle.zperform.specs.Keeping.{IsOccupied, MayWrite}
 use Rattle.zperform.specs.Listing.{ListComesTo}
 use Rattle.zperform.specs.Marking.{ListByComesTo}
@@ -84,6 +85,7 @@ Comes (Play story None seed budget status save tell force) held holds input refu
     ComesTo (held story) (record { budget = budget; status = status }) (given input seed (store_of save)) refusals before now outcome
 Comes (Play story (Some certificate) seed budget status save tell force) held holds input refusals before now outcome =
     PlayComesTo (held story) (held certificate) (record { budget = budget; status = status }) (given input seed (store_of save)) refusals before now outcome
+Comes (Info story json) held holds input refusals before now outcome = InfoComesTo json story held before now outcome
 Comes (Explain code) held holds input refusals before now outcome = ExplainComesTo code before now outcome
 
 -- A request is done where its file may be written over. Else that is told, and nothing is done.
@@ -121,6 +123,7 @@ IsBlamed (Check story certificate) files = IsOfEither files story certificate
 IsBlamed (Show story certificate address) files = IsOfEither files story certificate
 IsBlamed (Play story None seed budget status save tell force) files = files.can_fail story ≡ true
 IsBlamed (Play story (Some certificate) seed budget status save tell force) files = IsOfEither files story certificate
+IsBlamed (Info story json) files = IsOfEither files story (name_of_certificate story)
 IsBlamed (Explain code) files = ⊥
 
 -- A request, with the values among clap's matches: what it comes to is reported, if its file may be written over, behind a line of each save that was refused, where

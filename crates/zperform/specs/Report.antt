@@ -32,7 +32,7 @@ use Rattle.zperform.specs.declared.outcome.Failure.TheVariants.{File, Read, Writ
 use Rattle.zperform.specs.declared.outcome.Problem.{Problem}
 use Rattle.zperform.specs.declared.outcome.Problem.TheVariants.{Refused, Unreadable, BreaksStory, BreaksInstruction, Unlisted, Unfound, Occupied, Failed}
 use Rattle.zperform.specs.declared.outcome.Outcome.{Outcome}
-use Rattle.zperform.specs.declared.outcome.Outcome.TheVariants.{Listed, Found, Accepted, Shown, NoAddress, Explained, NoSuchCode, Played, Stopped}
+use Rattle.zperform.specs.declared.outcome.Outcome.TheVariants.{Listed, Found, Accepted, Shown, NoAddress, Informed, Explained, NoSuchCode, Played, Stopped}
 
 -- a story that isn't loaded is refused, but for want of memory
 abbrev pub problem_of_load : LoadError → Problem
@@ -75,6 +75,7 @@ status_of Found = 0
 status_of Accepted = 0
 status_of Shown = 0
 status_of NoAddress = 2
+status_of Informed = 0
 status_of Explained = 0
 status_of NoSuchCode = 2
 status_of (Stopped (Failed failure)) = 4
@@ -147,6 +148,7 @@ text_of Found = []
 text_of Accepted = []
 text_of Shown = []
 text_of NoAddress = no_address
+text_of Informed = []
 text_of Explained = []
 text_of NoSuchCode = no_code
 text_of (Played end) = end_text end

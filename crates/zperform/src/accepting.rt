@@ -119,6 +119,14 @@ pub fn open_story<F: Files>(alloc: Global, name: &str, files: &mut F) -> Result<
     load(alloc, file)
 }
 
+/// Loads a story of bytes.
+pub fn load_bytes(alloc: Global, file: &[u8]) -> Result<Story, Problem>
+    ensures loaded { IfOk result (Holds file.now) }
+    ensures unloaded { IfErr result (IsUnloaded file.now) }
+{
+    Ok(Story::load(alloc, file)?)
+}
+
 /// Loads a story, and frees the bytes of its file.
 pub fn load(alloc: Global, file: Vec<u8>) -> Result<Story, Problem>
     ensures loaded { IfOk result (Holds file.items) }

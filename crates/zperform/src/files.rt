@@ -46,6 +46,10 @@ pub trait Files {
         ensures could { result ≡ None → can_fail self.old name.now ≡ true }
         ensures alike { can_fail self.new ≡ can_fail self.old };
 
+    /// Whether there is a file of a name, or a folder or a device. One of which something is known is there.
+    fn is_there(&self, name: &str) -> bool
+        ensures { IfSome (known self.now name.now) (λ _. result ≡ true) };
+
     /// Whether the file of a name may be written over by one that begins with these four bytes: unless it is a plain file that holds others.
     /// One that isn't there or can't be read may.
     fn may_replace(&self, name: &str, magic: [u8; 4]) -> bool
@@ -134,6 +138,10 @@ impl<'a, R: Runtime> Files for Disk<'a, R> {
             self.count_failure();
         }
         count
+    }
+
+    fn is_there(&self, name: &str) -> bool {
+        fs::metadata(self.rt, name).is_ok()
     }
 
     fn may_replace(&self, name: &str, magic: [u8; 4]) -> bool {

@@ -6,6 +6,7 @@ mod claims;
 mod feeding;
 mod files;
 mod finding;
+mod informing;
 mod listing;
 mod marking;
 mod message;

@@ -59,6 +59,7 @@ impl Message {
             | Outcome::Found
             | Outcome::Accepted
             | Outcome::Shown
+            | Outcome::Informed
             | Outcome::Explained => {}
             Outcome::NoAddress => message.push(NO_ADDRESS),
             Outcome::NoSuchCode => message.push(NO_CODE),

@@ -91,6 +91,8 @@ pub enum Outcome {
     Shown,
     /// The word is no address.
     NoAddress,
+    /// What the story has was told.
+    Informed,
     /// The code was explained.
     Explained,
     /// There is no such code.
@@ -112,6 +114,7 @@ impl Outcome {
             | Outcome::Found
             | Outcome::Accepted
             | Outcome::Shown
+            | Outcome::Informed
             | Outcome::Explained
             | Outcome::Played(_) => 0,
             Outcome::NoAddress | Outcome::NoSuchCode => 2,

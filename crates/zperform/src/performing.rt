@@ -17,6 +17,7 @@ ghost use Rattle.zquetzal.specs.declared.error.SaveError.{SaveError as ARefusal}
 use crate::accepting::accept;
 use crate::files::Files;
 use crate::finding::{Search, explain_code, find_file};
+use crate::informing::inform;
 use crate::listing::{list_certificate, list_file};
 use crate::message::Message;
 use crate::outcome::{Failure, Outcome, Problem, Purpose};
@@ -199,6 +200,7 @@ fn fulfil<F: Files, R: Source, W: Sink, E: Sink>(
                 )),
             }
         }
+        Command::Info { story, json } => inform(alloc, story, json, files, writer),
         Command::Explain { code } => explain_code(code, writer),
     }
 }

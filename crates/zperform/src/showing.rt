@@ -15,7 +15,7 @@ use crate::outcome::{Failure, Outcome, Problem};
 use crate::performing::write_done;
 use crate::told::Told;
 use std::alloc::Global;
-use zcert::Certificate;
+use zcert::{Certificate, Spelled};
 use zcheck::StoryRule;
 use zdomain::{Interval, Values};
 use zfault::Sink;
@@ -135,7 +135,7 @@ fn shown_by<V: Told, F: Files>(
 }
 
 /// Whether a certificate is of a story.
-fn is_of<V: Told>(story: &Story, certificate: &Certificate<V>) -> bool
+pub fn is_of<V: Spelled>(story: &Story, certificate: &Certificate<V>) -> bool
     ensures { IsTrue result ↔ (certificate.now.identity ≡ identity_of story.now) }
 {
     certificate.identity() == story.identity()

@@ -4,4 +4,8 @@
 #[cfg(test)]
 mod answers;
 #[cfg(test)]
+mod facts;
+#[cfg(test)]
+mod many;
+#[cfg(test)]
 mod messages;

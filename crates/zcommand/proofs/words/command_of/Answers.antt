@@ -17,5 +17,8 @@ returns-in-Some-subcommand_matches-3 c = rw (rows_named _ _ _ (c.in-Some-subcomm
 pub returns-in-Some-subcommand_matches-4 : goal.returns-in-Some-subcommand_matches-4
 returns-in-Some-subcommand_matches-4 c = rw (rows_named _ _ _ (c.in-Some-subcommand_matches-4.ensures.found.0 refl) c.in-Some-subcommand_matches-4.ensures.rows) c.play_of.ensures
 
+pub returns-in-Some-subcommand_matches-5 : goal.returns-in-Some-subcommand_matches-5
+returns-in-Some-subcommand_matches-5 c = rw (rows_named _ _ _ (c.in-Some-subcommand_matches-5.ensures.found.0 refl) c.in-Some-subcommand_matches-5.ensures.rows) c.info_of.ensures
+
 pub returns : goal.returns
-returns c = rw (rows_named _ _ _ (c.in-Some-subcommand_matches-5.ensures.found.0 refl) c.in-Some-subcommand_matches-5.ensures.rows) c.explain_of.ensures
+returns c = rw (rows_named _ _ _ (c.in-Some-subcommand_matches-6.ensures.found.0 refl) c.in-Some-subcommand_matches-6.ensures.rows) c.explain_of.ensures

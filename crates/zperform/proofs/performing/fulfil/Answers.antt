@@ -25,3 +25,6 @@ returns-in-Show-clause-comes g c = rw c.in-Show.is ([], c.show_files.ensures.com
 
 pub returns-in-Find-clause-could : goal.returns-in-Find-clause-could
 returns-in-Find-clause-could g c = rw c.in-Find.is c.find_file.ensures.could
+
+pub returns-in-Info-clause-comes : goal.returns-in-Info-clause-comes
+returns-in-Info-clause-comes g c = rw c.in-Info.is ([], c.inform.ensures.comes, refl)

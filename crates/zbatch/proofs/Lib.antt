@@ -1,0 +1,4 @@
+mod Names
+pub mod Counts
+pub mod Goes
+mod Worked

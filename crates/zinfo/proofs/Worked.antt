@@ -1,0 +1,65 @@
+-- Values of the definitions, computed.
+use Rattle.std.proofs.Common.{◌≡◌, List, ℕ, [], ◌∷◌, ◌++◌, codes, refl}
+use Rattle.std.specs.Fmt.{digits}
+use Rattle.std.specs.Prelude.{pos, negsuc, Some}
+use Rattle.json.specs.Print.{print_from, escape_byte}
+use Rattle.zcode.specs.declared.error.DecodeError.TheVariants.{Truncated, NotInProfile}
+use Rattle.zcode.specs.declared.opcode.Excluded.TheVariants.{SetWindow}
+use Rattle.zlist.specs.declared.list_error.ListError.TheVariants.{Decode, TwoRoutines}
+use Rattle.zinfo.specs.Beside.{text_of_beside}
+use Rattle.zinfo.specs.Info.{checksum_by}
+use Rattle.zinfo.specs.Object.{object_of_info}
+use Rattle.zinfo.specs.Shown.{shown}
+use Rattle.zinfo.specs.Text.{checksum_text, text_of_info, unlisted_text}
+use Rattle.zinfo.specs.declared.facts.Beside.TheVariants.{Nothing, Unreadable, OfAnother, Own}
+use Rattle.zinfo.specs.declared.facts.Checksum.{Checksum}
+use Rattle.zinfo.specs.declared.facts.Checksum.TheVariants.{Right, Unstated, Wrong}
+use Rattle.zinfo.specs.declared.facts.Code.{Code}
+use Rattle.zinfo.specs.declared.facts.Code.TheVariants.{Listed, Unlisted}
+use Rattle.zinfo.specs.declared.facts.Info.{Info}
+use Rattle.zinfo.specs.declared.facts.Kept.{Kept}
+
+-- a serial number of digits, one with a backslash and bytes that aren't printed
+serials :
+    (shown (codes "860101") ≡ codes "860101") × (shown (92 ∷ 0 ∷ 32 ∷ 126 ∷ 127 ∷ 255 ∷ []) ≡ codes "\\x5c\\x00 ~\\x7f\\xff")
+serials = (refl, refl)
+
+-- a checksum that is the sum, that is 0 for a sum that isn't, that is another, and a sum of 0
+checksums :
+    (checksum_by 0x396E 0x396E ≡ Right 0x396E) × (checksum_by 0 0x396E ≡ Unstated 0x396E) × (checksum_by 0x396F 0x396E ≡ Wrong 0x396F 0x396E) × (checksum_by 0 0 ≡ Right 0)
+    × (checksum_text (Right 0x396E) ≡ codes "396e, right") × (checksum_text (Unstated 0x396E) ≡ codes "none, the sum is 396e") × (checksum_text (Wrong 0x1A 0x396E) ≡ codes "001a, wrong, the sum is 396e")
+checksums = (refl, refl, refl, refl, refl, refl, refl)
+
+-- what is at fault, in memory and outside
+faults :
+    (unlisted_text (Decode (pos 0x325) (NotInProfile SetWindow)) ≡ codes "U1 at 00325, J3 set_window") × (unlisted_text (Decode (negsuc 1) Truncated) ≡ codes "U1 at -2, J1")
+    × (unlisted_text (TwoRoutines 0x1FFFF) ≡ codes "U2 at 1ffff")
+unfolding digits
+faults = (refl, refl, refl)
+
+-- a story with a listing
+small : Code → Info
+small code = record { release = 1; serial = codes "260101"; length = 808; checksum = Right 0x396E; objects = 0; words = 0; code = code }
+
+listed :
+    text_of_info (small (Listed 0 2))
+    ≡ codes "release: 1" ++ 10 ∷ codes "serial: 260101" ++ 10 ∷ codes "length: 808" ++ 10 ∷ codes "checksum: 396e, right" ++ 10 ∷ codes "objects: 0" ++ 10 ∷ codes "words: 0" ++ 10 ∷ codes "routines: 0" ++ 10
+    ∷ codes "instructions: 2" ++ 10 ∷ []
+unfolding digits small
+listed = refl
+
+object :
+    object_of_info (codes "a.z3") (codes "00ff") (small (Unlisted (Decode (pos 0x325) (NotInProfile SetWindow)))) (codes "a.cert") Nothing
+    ≡ codes "{\"file\":\"a.z3\",\"sha256\":\"00ff\",\"release\":1,\"serial\":\"260101\",\"length\":808,\"checksum\":14702,\"sum\":14702,\"checksum_right\":true,\"objects\":0,\"words\":0,\"routines\":null,\"instructions\":null,\"code\":\"U1\",\"address\":\"00325\",\"cause\":\"J3\",\"opcode\":\"set_window\",\"certificate\":null,\"certificate_code\":null,\"certificate_version\":null,\"certificate_frames\":null,\"certificate_routines\":null,\"certificate_instructions\":null,\"certificate_marks\":null}" ++ 10 ∷ []
+unfolding digits print_from escape_byte small
+object = refl
+
+-- what stands beside a story
+kept : Kept
+kept = record { version = 4; frames = Some 1024; routines = 3; instructions = 40; marks = 2 }
+
+beside :
+    (text_of_beside Nothing ≡ codes "certificate: none" ++ 10 ∷ []) × (text_of_beside (Unreadable 3) ≡ codes "certificate: refused, K3" ++ 10 ∷ []) × (text_of_beside OfAnother ≡ codes "certificate: refused, S1" ++ 10 ∷ [])
+    × (text_of_beside (Own kept) ≡ codes "certificate: version 4, frames 1024, routines 3, instructions 40, marked 2" ++ 10 ∷ [])
+unfolding digits kept
+beside = (refl, refl, refl, refl)

@@ -1,0 +1,70 @@
+//! Facts of a story, and of the certificate beside it.
+
+use zlist::ListError;
+
+/// The checksum that a header states (Z 11.1), beside the sum that `verify` forms (Z 15).
+#[derive(Clone, Copy, Debug, PartialEq, Eq)]
+pub enum Checksum {
+    /// It is the sum.
+    Right(u16),
+    /// None is stated, as in early files; the sum.
+    Unstated(u16),
+    /// The checksum, and another sum.
+    Wrong(u16, u16),
+}
+
+/// What a story lists.
+#[derive(Clone, Copy, Debug, PartialEq, Eq)]
+pub enum Code {
+    /// How many routines that constant calls name, and how many instructions.
+    Listed(usize, usize),
+    /// It has no listing, for what is at fault lowest.
+    Unlisted(ListError),
+}
+
+/// What is told of a story.
+#[derive(Clone, Copy, Debug, PartialEq, Eq)]
+pub struct Info {
+    /// The release number.
+    pub release: u16,
+    /// The serial number, six bytes that needn't be digits.
+    pub serial: [u8; 6],
+    /// The loaded length in bytes, 64 to 131,072.
+    pub length: u32,
+    /// Whether the checksum is right.
+    pub checksum: Checksum,
+    /// How many objects there are.
+    pub objects: u8,
+    /// How many words the dictionary has.
+    pub words: u16,
+    /// What code is listed.
+    pub code: Code,
+}
+
+/// What a certificate has.
+#[derive(Clone, Copy, Debug, PartialEq, Eq)]
+pub struct Kept {
+    /// The version of its format.
+    pub version: u8,
+    /// How many frames may stand above the first, where it names that.
+    pub frames: Option<u16>,
+    /// How many routines it has.
+    pub routines: usize,
+    /// How many instructions it lists.
+    pub instructions: usize,
+    /// How many of them it marks.
+    pub marks: usize,
+}
+
+/// What stands beside a story, by the name of a certificate.
+#[derive(Clone, Copy, Debug, PartialEq, Eq)]
+pub enum Beside {
+    /// No file.
+    Nothing,
+    /// A file that is no certificate, by the number of what is wrong with it.
+    Unreadable(u8),
+    /// The certificate of another story.
+    OfAnother,
+    /// A certificate of this story, accepted or not.
+    Own(Kept),
+}

@@ -1,0 +1,18 @@
+//! What a story says of itself, and what it has: for people as lines, and for programs as an object of JSON.
+#![tactic(auto)]
+
+mod asking;
+mod beside;
+mod facts;
+mod laws;
+mod object;
+mod shown;
+mod text;
+
+pub use asking::info;
+pub use beside::text_of_beside;
+pub use facts::{Beside, Checksum, Code, Info, Kept};
+pub use laws::shown_bytes_are_told_apart;
+pub use object::object_of_info;
+pub use shown::shown_text;
+pub use text::text_of_info;

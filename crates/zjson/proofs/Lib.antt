@@ -1,0 +1,4 @@
+mod Lines
+pub mod Members
+mod OneLine
+mod Worked
