@@ -20,6 +20,7 @@ from frames import see_frames
 from game import see_game
 from lines import see_lines
 from lists import see_lists
+from many import see_many
 from marks import see_marks
 from objects import see_objects
 from plays import see_plays
@@ -138,11 +139,9 @@ WORDS = [
     ("a code that there isn't", ["explain", "I19"], Answer(2, b"", help_text("unknown_code.txt"))),
     ("a code in small letters", ["explain", "i5"], Answer(2, b"", help_text("unknown_code.txt"))),
     ("an empty code", ["explain", ""], Answer(2, b"", help_text("unknown_code.txt"))),
-    ("no certificate", ["check", "story"], Answer(2, b"", help_text("no_certificate.txt"))),
     ("too many words to list", ["list", "a", "b", "c"], Answer(2, b"", help_text("too_many_to_list.txt"))),
     ("too many words to find", ["find", "a", "b", "c"], Answer(2, b"", help_text("too_many_to_check.txt").replace(b"check", b"find [OPTIONS]"))),
     ("too many words to explain", ["explain", "a", "b"], Answer(2, b"", help_text("too_many_to_explain.txt"))),
-    ("too many words to check", ["check", "a", "b", "c"], Answer(2, b"", help_text("too_many_to_check.txt"))),
     ("too many words to show", ["show", "a", "b", "c", "d"], Answer(2, b"", help_text("too_many_to_show.txt"))),
     ("too many words to play", ["play", "a", "b", "c"], Answer(2, b"", help_text("too_many_to_play.txt"))),
     ("a budget that is no number", ["play", "--budget", "x", "story"], Answer(2, b"", help_text("no_number.txt"))),
@@ -153,12 +152,12 @@ WORDS = [
     ("an empty name for saves", ["play", "--save", "", "story"], Answer(2, b"", help_text("empty_name.txt"))),
     ("no name for saves", ["play", "--save=", "story"], Answer(2, b"", help_text("empty_name.txt"))),
     ("two budgets", ["play", "--budget", "1", "--budget", "2", "story"], Answer(2, b"", help_text("two_budgets.txt"))),
-    ("a budget to check", ["check", "--budget", "3", "story", "certificate"], Answer(2, b"", help_text("budget_to_check.txt"))),
+    ("a budget to check", ["check", "--budget", "3", "story", "certificate"], Answer(2, b"", help_text("budget_to_check.txt").replace(b"<STORY> <CERT>", b"<FILE>..."))),
     ("a budget to list", ["list", "--budget", "3", "story"], Answer(2, b"", help_text("budget_to_list.txt"))),
     ("two flags", ["play", "--status", "story", "--status"], Answer(2, b"", help_text("two_flags.txt"))),
     ("a flag with a value", ["play", "--status=true", "story"], Answer(2, b"", help_text("flag_with_a_value.txt"))),
     ("a budget to find", ["find", "--budget", "3", "story", "certificate"], Answer(2, b"", help_text("budget_to_check.txt").replace(b"check", b"find [OPTIONS]"))),
-    ("a flag to check", ["check", "--status", "story", "certificate"], Answer(2, b"", help_text("status_to_check.txt"))),
+    ("a flag to check", ["check", "--status", "story", "certificate"], Answer(2, b"", help_text("status_to_check.txt").replace(b"<STORY> <CERT>", b"<FILE>..."))),
     ("an unknown option", ["play", "--bugdet", "3", "story"], Answer(2, b"", help_text("unknown_option.txt"))),
     ("a word that isn't UTF-8", [b"a\xff"], Answer(2, b"", help_text("no_text.txt"))),
     ("a name that isn't UTF-8", ["play", b"a\xff"], Answer(2, b"", help_text("no_text.txt"))),
@@ -454,6 +453,7 @@ def main():
     see_marks(program, count)
     see_showing(program, count, help_text("no_address.txt"))
     see_facts(program, count)
+    see_many(program, count, help_text("no_file_to_check.txt"))
     see_finding(program, count)
     see_dear(program, count)
     see_game(program, count)

@@ -227,7 +227,7 @@ module _ (program : Command) (m : ArgMatches) (words : List Text) (is : app_of p
   pub no_fault : fault_of zpc_app words ≡ []
   no_fault = subst (λ (a : App). fault_of a words ≡ []) is (free (ap is_simple_and_free is))
 
-  rows_same : HasMatchesOf (app_of program) words m → subcommand_rows_of m ≡ subcommand_of zpc_app words
+  pub rows_same : HasMatchesOf (app_of program) words m → subcommand_rows_of m ≡ subcommand_of zpc_app words
   rows_same matches = (matches (ap is_simple is)).1 ∙ ap (λ (a : App). subcommand_of a words) is
 
   -- what holds of the matches that it makes holds of those of the definition

@@ -1,6 +1,6 @@
 -- What is read of the matches of a command.
 use Rattle.std.proofs.Common.{◌≡◌, ◌∙◌, ◌&&◌, ◌≤◌, ℕ, Bool, true, false, refl, sym, ap, subst, List, [], ◌∷◌, length, IfSome, IsSomeAnd, Option, Some, None, Result, Ok, Err, lt-ltb, ltb-true, leb-true, nat_le, nat_lt, ◌<◌, ◌^◌, arith, if◌then◌else◌, option_and_then}
-use Rattle.std.specs.Prelude.{Box, codes, option_map, unwrap_or}
+use Rattle.std.specs.Prelude.{Box, codes, option_map, unwrap_or, map, get_or}
 use Rattle.std.specs.Box.{box_value}
 use Rattle.std.specs.Option.{option_map_or}
 use Rattle.std.specs.declared.alloc.Global.{Global}
@@ -12,12 +12,13 @@ use Rattle.std.specs.Char.{digit_value}
 use Rattle.std.specs.Str.{bytes_eq}
 use Rattle.std.specs.Str.Parse.{AllDigits, ParsesBool, ParsesUnsigned, digits_value, without_leading_plus}
 use Rattle.std.proofs.lemmas.Slice.Eq.{bytes_eq-Decides}
-use Rattle.clap.proofs.WalkLemmas.{both, first_value-rows, one_text-rows}
-use Rattle.clap.specs.Words.{ReadsOne, Row, Text, first_of, first_value, one_of, one_text, rows_of, subcommand_name_of, subcommand_rows_of}
+use Rattle.clap.proofs.WalkLemmas.{both, first_value-rows, one_text-rows, raw_values-rows}
+use Rattle.clap.specs.Words.{ReadsOne, Row, Text, first_of, first_value, matched_of, one_of, one_text, raw_values, rows_of, subcommand_name_of, subcommand_rows_of}
 use Rattle.clap.specs.declared.parser.matches.ArgMatches.{ArgMatches}
 use Rattle.clap.specs.declared.parser.matches.ArgMatches.TheViews.{out-ArgMatches, out-SubCommand}
 use Rattle.clap.specs.Simple.{subcommand_rows}
-use Rattle.zcommand.specs.CommandLine.{IsLow, IsReadFrom, address_of, certificate_of, code_of, frames_of, is_asked, limit_in, low_limit, number_in, number_of, save_of, story_of}
+use Rattle.zbatch.specs.Naming.{is_story_name}
+use Rattle.zcommand.specs.CommandLine.{IsLow, IsReadFrom, address_of, certificate_of, code_of, files_of, pair_by, pair_of, frames_of, is_asked, limit_in, low_limit, number_in, number_of, save_of, story_of}
 use Rattle.zcommand.specs.declared.words.Command.{Command}
 use Rattle.zcommand.specs.declared.words.Command.TheVariants as commands
 
@@ -64,6 +65,34 @@ text_read name found o d r given empty is =
 
 pub story_read : (found : Found) (o : Option (Bor Text)) (d r : Bor Text) → option_map (λ s. s.now) o ≡ first_value found (codes "STORY") → d.now ≡ [] → r ≡ unwrap_or o d → r.now ≡ story_of (rows_of found)
 story_read = text_read (codes "STORY")
+
+-- what the getter of several texts gives, or else none
+pub files_read : (found : Found) (o : Option (Bor (List (Bor Text)))) (d r : Bor (List (Bor Text))) → option_map (λ s. map (λ v. v.now) s.now) o ≡ option_map raw_values (matched_of found (codes "FILE")) → d.now ≡ [] → r ≡ unwrap_or o d
+    → map (λ v. v.now) r.now ≡ files_of (rows_of found)
+files_read found o d r given empty is =
+    ap (λ (s : Bor (List (Bor Text))). map (λ (v : Bor Text). v.now) s.now) is ∙ default o d empty ∙ ap (λ (x : Option (List Text)). unwrap_or x []) (given ∙ raw_values-rows found (codes "FILE"))
+  where
+    default : (o : Option (Bor (List (Bor Text)))) (d : Bor (List (Bor Text))) → d.now ≡ [] → map (λ v. v.now) (unwrap_or o d).now ≡ unwrap_or (option_map (λ s. map (λ v. v.now) s.now) o) []
+    default None d e = ap (map (λ (v : Bor Text). v.now)) e
+    default (Some s) d e = refl
+
+-- a story and its certificate's file among the files, or none
+pub pair_read : (read files : List Text) (o : Option (Bor Text × Bor Text)) → option_map (λ pair. (pair.0.now, pair.1.now)) o ≡ pair_of read → read ≡ files → option_map (λ pair. (pair.0.now, pair.1.now)) o ≡ pair_of files
+pair_read read files o given same = given ∙ ap pair_of same
+
+-- two files are a pair unless the second ends as a story does
+pub pair_of_two : (files : List (Bor Text)) (d : Bor Text) → length files ≡ 2 → pair_of (map (λ name. name.now) files) ≡ pair_by (is_story_name (get_or files 1 d).now) (get_or files 0 d).now (get_or files 1 d).now
+pair_of_two [] d two = absurd cc
+pair_of_two (story ∷ []) d two = absurd cc
+pair_of_two (story ∷ certificate ∷ []) d two = refl
+pair_of_two (story ∷ certificate ∷ other ∷ files) d two = absurd (omega (arith, two))
+
+-- other files are none
+pub no_pair : (files : List (Bor Text)) → (length files ≡ 2 → ⊥) → pair_of (map (λ name. name.now) files) ≡ None
+no_pair [] other = refl
+no_pair (story ∷ []) other = refl
+no_pair (story ∷ certificate ∷ []) other = absurd (other refl)
+no_pair (story ∷ certificate ∷ third ∷ files) other = refl
 
 -- the same of a code
 pub code_read : (found : Found) (o : Option (Bor Text)) (d r : Bor Text) → option_map (λ s. s.now) o ≡ first_value found (codes "CODE") → d.now ≡ [] → r ≡ unwrap_or o d → r.now ≡ code_of (rows_of found)
@@ -164,14 +193,14 @@ low_among : (matches : Text × List Row) (command : Command) → IsReadFrom matc
 low_among matches (commands.List story certificate) h = tt
 low_among matches (commands.Find story certificate frames strict places force) (named, s, c, is, strictly, told, forced) = subst (λ (o : Option ℕ). IfSome o (λ n. n ≤ 4096)) (sym is) (frames_are_low matches.1)
 low_among matches (commands.Check story certificate) h = tt
+low_among matches (commands.CheckEach stories) h = tt
 low_among matches (commands.Show story certificate address) h = tt
 low_among matches (commands.Play story certificate seed budget status save tell force) h = tt
 low_among matches (commands.Info story json) h = tt
 low_among matches (commands.Explain code) h = tt
 
-pub low_if_read : (found : Option (Text × List Row)) (command : Command) → IsSomeAnd found (λ matches. IsReadFrom matches command) → IsLow command
-low_if_read (Some matches) command h = low_among matches command h
-low_if_read None command h = absurd h
+pub low_read : (matches : Text × List Row) (command : Command) → IsReadFrom matches command → IsLow command
+low_read = low_among
 
 -- what the getter of flags gives, or else false
 pub flag_read : (name : Text) (E : Type 0) (found : Found) (o : Option Bool) (r : Bool)

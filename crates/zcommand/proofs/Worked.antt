@@ -5,7 +5,7 @@ use Rattle.clap.specs.Kinds.{Kinds}
 use Rattle.clap.specs.Words.{Text, subcommand_of, fault_of}
 use Rattle.clap.specs.Walk.{walked}
 use Rattle.clap.specs.Faults.{defaults_fault, walk_fault}
-use Rattle.zcommand.specs.CommandLine.{Asks, Request, ListStory, Find, Check, Show, Play, Info, Explain, number_in, zpc_app}
+use Rattle.zcommand.specs.CommandLine.{Asks, Request, ListStory, Find, Check, CheckEach, Show, Play, Info, Explain, number_in, zpc_app}
 
 -- a number is below 2 to the 32nd, or to the 64th, and has digits alone behind one plus
 numbers :
@@ -25,6 +25,9 @@ asked :
     × Ask (codes "play" ∷ codes "--save" ∷ codes "a.qzl" ∷ codes "--tell" ∷ codes "--seed" ∷ codes "0" ∷ codes "--budget" ∷ codes "0" ∷ codes "hello.z3" ∷ []) (Play (codes "hello.z3") None 0 0 false (Some (codes "a.qzl")) true false)
     × Ask (codes "play" ∷ codes "--force" ∷ codes "--save" ∷ codes "a.qzl" ∷ codes "hello.z3" ∷ []) (Play (codes "hello.z3") None 1 1000000000 false (Some (codes "a.qzl")) false true)
     × Ask (codes "check" ∷ codes "hello.z3" ∷ codes "hello.cert" ∷ []) (Check (codes "hello.z3") (codes "hello.cert"))
+    × Ask (codes "check" ∷ codes "hello.z3" ∷ []) (CheckEach (codes "hello.z3" ∷ []))
+    × Ask (codes "check" ∷ codes "a.z3" ∷ codes "b.Z3" ∷ []) (CheckEach (codes "a.z3" ∷ codes "b.Z3" ∷ []))
+    × Ask (codes "check" ∷ codes "a.z3" ∷ codes "b" ∷ codes "c" ∷ []) (CheckEach (codes "a.z3" ∷ codes "b" ∷ codes "c" ∷ []))
     × Ask (codes "show" ∷ codes "hello.z3" ∷ codes "hello.cert" ∷ []) (Show (codes "hello.z3") (codes "hello.cert") None)
     × Ask (codes "show" ∷ codes "hello.z3" ∷ codes "hello.cert" ∷ codes "00325" ∷ []) (Show (codes "hello.z3") (codes "hello.cert") (Some (codes "00325")))
     × Ask (codes "find" ∷ codes "hello.z3" ∷ codes "hello.cert" ∷ []) (Find (codes "hello.z3") (codes "hello.cert") None false false false)
@@ -37,7 +40,7 @@ asked :
     × Ask (codes "explain" ∷ codes "I5" ∷ []) (Explain (codes "I5"))
 unfolding defaults_fault walk_fault walked
 asked =
-    ((refl, (refl, refl, refl)), (refl, (refl, refl, refl)), (refl, (refl, refl, refl, refl, refl, refl, refl, refl, refl)), (refl, (refl, refl, refl, refl, refl, refl, refl, refl, refl)), (refl, (refl, refl, refl, refl, refl, refl, refl, refl, refl)), (refl, (refl, refl, refl, refl, refl, refl, refl, refl, refl)), (refl, (refl, refl, refl)), (refl, (refl, refl, refl, refl)), (refl, (refl, refl, refl, refl)), (refl, (refl, refl, refl, refl, refl, refl, refl)), (refl, (refl, refl, refl, refl, refl, refl, refl)), (refl, (refl, refl, refl, refl, refl, refl, refl)), (refl, (refl, refl, refl, refl, refl, refl, refl)), (refl, (refl, refl, refl, refl, refl, refl, refl)), (refl, (refl, refl, refl)), (refl, (refl, refl, refl)), (refl, (refl, refl)))
+    ((refl, (refl, refl, refl)), (refl, (refl, refl, refl)), (refl, (refl, refl, refl, refl, refl, refl, refl, refl, refl)), (refl, (refl, refl, refl, refl, refl, refl, refl, refl, refl)), (refl, (refl, refl, refl, refl, refl, refl, refl, refl, refl)), (refl, (refl, refl, refl, refl, refl, refl, refl, refl, refl)), (refl, (refl, refl)), (refl, (refl, refl, refl)), (refl, (refl, refl, refl)), (refl, (refl, refl, refl)), (refl, (refl, refl, refl, refl)), (refl, (refl, refl, refl, refl)), (refl, (refl, refl, refl, refl, refl, refl, refl)), (refl, (refl, refl, refl, refl, refl, refl, refl)), (refl, (refl, refl, refl, refl, refl, refl, refl)), (refl, (refl, refl, refl, refl, refl, refl, refl)), (refl, (refl, refl, refl, refl, refl, refl, refl)), (refl, (refl, refl, refl)), (refl, (refl, refl, refl)), (refl, (refl, refl)))
 
 -- a command lacks a file or has too many, or there is none of the name, or none at all, or the budget is 2 to the 32nd or the
 -- seed 2 to the 64th, or the flag has a value, or the option has none or an empty one
@@ -46,7 +49,7 @@ is_wrong [] = false
 is_wrong (kind ∷ kinds) = true
 
 wrong :
-    (is_wrong (fault_of zpc_app (codes "check" ∷ codes "hello.z3" ∷ [])) ≡ true) × (is_wrong (fault_of zpc_app (codes "sing" ∷ [])) ≡ true)
+    (is_wrong (fault_of zpc_app (codes "check" ∷ [])) ≡ true) × (is_wrong (fault_of zpc_app (codes "sing" ∷ [])) ≡ true)
     × (is_wrong (fault_of zpc_app (codes "list" ∷ [])) ≡ true) × (is_wrong (fault_of zpc_app (codes "list" ∷ codes "a" ∷ codes "b" ∷ codes "c" ∷ [])) ≡ true)
     × (is_wrong (fault_of zpc_app (codes "find" ∷ codes "hello.z3" ∷ [])) ≡ true) × (is_wrong (fault_of zpc_app (codes "find" ∷ codes "a" ∷ codes "b" ∷ codes "c" ∷ [])) ≡ true)
     × (is_wrong (fault_of zpc_app (codes "find" ∷ codes "--frames" ∷ codes "4097" ∷ codes "a" ∷ codes "b" ∷ [])) ≡ true) × (is_wrong (fault_of zpc_app (codes "find" ∷ codes "a" ∷ codes "b" ∷ codes "--frames" ∷ [])) ≡ true)

@@ -1,14 +1,15 @@
 -- The command line: which words the program takes, in the terms of clap's definitions, and what the matches that clap
 -- makes of them ask for (own).
-use Rattle.std.specs.Prelude.{◌≡◌, ◌⊎◌, ◌≤◌, ⊤, ℕ, ◌^◌, ◌&&◌, Bool, true, false, List, [], ◌∷◌, IfSome, Option, None, Some, nat_le, option_map, length, codes, if◌then◌else◌, nat_lt, pos, unwrap_or}
+use Rattle.std.specs.Prelude.{◌≡◌, ◌⊎◌, ◌≤◌, ⊤, ℕ, ◌^◌, ◌&&◌, Bool, true, false, List, [], ◌∷◌, IfSome, Option, None, Some, nat_le, option_map, map, length, codes, if◌then◌else◌, nat_lt, pos, unwrap_or}
 use Rattle.std.specs.List.{list_all}
 use Rattle.std.specs.Option.{option_map_or}
 use Rattle.std.specs.Char.{digit_value}
 use Rattle.std.specs.Str.{bytes_eq}
 use Rattle.std.specs.Str.Parse.{digits_value, without_leading_plus}
-use Rattle.clap.specs.Words.{App, Row, Rule, Text, first_of, new_app, new_rule, one_of, with_rule, with_subcommand}
-use Rattle.clap.specs.declared.builder.action.ArgAction.TheVariants.{SetTrue}
+use Rattle.clap.specs.Words.{App, Row, Rule, Text, all_of, first_of, new_app, new_rule, one_of, with_rule, with_subcommand}
+use Rattle.clap.specs.declared.builder.action.ArgAction.TheVariants.{Append, SetTrue}
 use Rattle.clap.specs.declared.builder.value_parser.ValueParser.TheVariants as parsers
+use Rattle.zbatch.specs.Naming.{is_story_name}
 use Rattle.zcommand.specs.declared.words.Command.{Command}
 use Rattle.zcommand.specs.declared.words.Command.TheVariants as commands
 
@@ -74,6 +75,10 @@ save_rule = record (new_rule (codes "save")) { long = Some (codes "save"); value
 abbrev pub certificate_rule : Bool → Rule
 certificate_rule required = word_rule (codes "CERT") required
 
+-- `FILE..`, of which at least one has to be there
+abbrev pub files_rule : Rule
+files_rule = record (word_rule (codes "FILE") true) { action = Some Append }
+
 -- `CODE`, which has to be there
 abbrev pub code_rule : Rule
 code_rule = word_rule (codes "CODE") true
@@ -98,9 +103,9 @@ framing_app = with_rule (files_app (codes "find") true) frames_rule
 abbrev pub find_app : App
 find_app = with_rule (with_rule (with_rule framing_app strict_rule) places_rule) force_rule
 
--- `check STORY CERT`
+-- `check FILE..`
 abbrev pub check_app : App
-check_app = files_app (codes "check") true
+check_app = with_rule (new_app (codes "check")) files_rule
 
 -- `show STORY CERT [ADDRESS]`
 abbrev pub show_app : App
@@ -208,6 +213,19 @@ is_json_asked rows = is_asked (codes "json") rows
 abbrev pub certificate_of : List Row → Option Text
 certificate_of rows = first_of (codes "CERT") rows
 
+-- the files among the matches of `check`
+abbrev pub files_of : List Row → List Text
+files_of rows = unwrap_or (all_of (codes "FILE") rows) []
+
+-- of two files the first is a story, and the second its certificate's, unless it ends as a story's does
+abbrev pub pair_by : Bool → Text → Text → Option (Text × Text)
+pair_by true story certificate = None
+pair_by false story certificate = Some (story, certificate)
+
+abbrev pub pair_of : List Text → Option (Text × Text)
+pair_of (story ∷ certificate ∷ []) = pair_by (is_story_name certificate) story certificate
+pair_of files = None
+
 -- the address among the matches of `show`, if there is one
 abbrev pub address_of : List Row → Option Text
 address_of rows = first_of (codes "ADDRESS") rows
@@ -225,6 +243,7 @@ pub data Request : Type 0 where
   ListStory : (story : Text) (certificate : Option Text) → Request
   Find : (story certificate : Text) (frames : Option ℕ) (strict places force : Bool) → Request
   Check : (story certificate : Text) → Request
+  CheckEach : (stories : List Text) → Request
   Show : (story certificate : Text) (address : Option Text) → Request
   Play : (story : Text) (certificate : Option Text) (seed budget : ℕ) (status : Bool) (save : Option Text) (tell force : Bool) → Request
   Info : (story : Text) (json : Bool) → Request
@@ -237,7 +256,8 @@ Asks matches (Find story certificate frames strict places force) =
     (matches.0 ≡ codes "find") × (story ≡ story_of matches.1) × (certificate ≡ unwrap_or (certificate_of matches.1) []) × (frames ≡ frames_of matches.1)
     × (strict ≡ is_strict_asked matches.1) × (places ≡ is_places_asked matches.1) × (force ≡ is_force_asked matches.1)
 Asks matches (Check story certificate) =
-    (matches.0 ≡ codes "check") × (story ≡ story_of matches.1) × (certificate ≡ unwrap_or (certificate_of matches.1) [])
+    (matches.0 ≡ codes "check") × (pair_of (files_of matches.1) ≡ Some (story, certificate))
+Asks matches (CheckEach stories) = (matches.0 ≡ codes "check") × (pair_of (files_of matches.1) ≡ None) × (stories ≡ files_of matches.1)
 Asks matches (Show story certificate address) =
     (matches.0 ≡ codes "show") × (story ≡ story_of matches.1) × (certificate ≡ unwrap_or (certificate_of matches.1) []) × (address ≡ address_of matches.1)
 Asks matches (Play story certificate seed budget status save tell force) =
@@ -251,6 +271,7 @@ abbrev pub request_of : Command → Request
 request_of (commands.List story certificate) = ListStory story.now (option_map (λ c. c.now) certificate)
 request_of (commands.Find story certificate frames strict places force) = Find story.now certificate.now frames strict places force
 request_of (commands.Check story certificate) = Check story.now certificate.now
+request_of (commands.CheckEach stories) = CheckEach (map (λ s. s.now) stories.now)
 request_of (commands.Show story certificate address) = Show story.now certificate.now (option_map (λ a. a.now) address)
 request_of (commands.Play story certificate seed budget status save tell force) = Play story.now (option_map (λ c. c.now) certificate) seed budget status (option_map (λ f. f.now) save) tell force
 request_of (commands.Info story json) = Info story.now json

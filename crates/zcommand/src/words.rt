@@ -1,14 +1,15 @@
 //! The words after the program's name.
 
-ghost use Rattle.std.specs.Prelude.{◌≡◌, IfOk, IsSomeAnd, codes, false, option_and_then};
+ghost use Rattle.std.specs.Prelude.{◌≡◌, IfOk, IsSomeAnd, codes, false, map, option_and_then, option_map};
 ghost use Rattle.clap.specs.Walk.{texts};
 ghost use Rattle.clap.specs.Words.{FailsBy, app_of, fault_of, found_of, rows_of, rule_of, subcommand_name_of, subcommand_of, subcommand_rows_of};
 ghost use Rattle.clap.specs.declared.builder.command.Command.TheViews.{out-Command as fields_of};
-ghost use Rattle.zcommand.specs.CommandLine.{IsCommand, IsLow, IsReadFrom, frames_of, frames_rule, framing_app, low_limit, bare_app, budget_rule, certificate_rule, address_rule, certifying_app, check_app, code_rule, explain_app, files_app, find_app, force_rule, info_app, json_rule, list_app, places_rule, play_app, save_rule, saveless_app, seed_rule, show_app, status_rule, story_rule, strict_rule, tell_rule, word_rule, zpc_app};
+ghost use Rattle.zcommand.specs.CommandLine.{IsCommand, IsLow, IsReadFrom, frames_of, frames_rule, framing_app, low_limit, bare_app, budget_rule, certificate_rule, address_rule, certifying_app, check_app, code_rule, explain_app, files_app, files_of, files_rule, find_app, force_rule, info_app, json_rule, list_app, pair_of, places_rule, play_app, save_rule, saveless_app, seed_rule, show_app, status_rule, story_rule, strict_rule, tell_rule, word_rule, zpc_app};
 
 use clap::builder::ValueParser;
 use clap::{Arg, ArgAction, ArgMatches, Error, value_parser};
 use std::alloc::{AllocError, Global};
+use zbatch::is_story_name;
 
 /// The version of the program, which `--version` prints.
 const VERSION: &str = "0.1.0";
@@ -39,7 +40,7 @@ Example:
 
 /// What the words ask for.
 #[derive(Clone, Copy, Debug, PartialEq, Eq)]
-pub enum Command<'a> {
+pub enum Command<'s, 'a> {
     /// Lists the instructions of a story, or those of its certificate.
     List {
         /// The name of the story's file.
@@ -68,6 +69,11 @@ pub enum Command<'a> {
         story: &'a str,
         /// The name of the certificate's file.
         certificate: &'a str,
+    },
+    /// Checks the certificate beside each of many stories.
+    CheckEach {
+        /// The names of the stories' files.
+        stories: &'s [&'a str],
     },
     /// Shows what a certificate says.
     Show {
@@ -111,21 +117,22 @@ pub enum Command<'a> {
     },
 }
 
-/// Reads the words after the program's name.
-pub fn read_words<'a>(alloc: Global, words: &'a [&'a str]) -> Result<Command<'a>, Error>
-    ensures read { IfOk result (λ command. IsSomeAnd (subcommand_of zpc_app (texts words.entry.now)) (λ matches. IsReadFrom matches command)) }
+/// Reads the words after the program's name: what `command_of` takes a command from.
+pub fn read_words<'a>(alloc: Global, words: &'a [&'a str]) -> Result<ArgMatches<'a>, Error>
+    ensures read { IfOk result (λ matches. subcommand_rows_of matches ≡ subcommand_of zpc_app (texts words.entry.now)) }
+    ensures named { IfOk result (λ matches. IsSomeAnd (subcommand_name_of matches) IsCommand) }
     ensures fails { FailsBy (fault_of zpc_app (texts words.entry.now)) result }
-    // No certificate is asked for that names more frames than it may.
-    ensures low { IfOk result IsLow }
 {
     let matches = program(alloc)?.try_get_matches_from(words)?;
-    Ok(command_of(&matches))
+    Ok(matches)
 }
 
 /// The command that the matches name, with its values.
-fn command_of<'a>(matches: &ArgMatches<'a>) -> Command<'a>
+pub fn command_of<'s, 'a>(matches: &'s ArgMatches<'a>) -> Command<'s, 'a>
     requires { IsSomeAnd (subcommand_name_of matches.now) IsCommand }
-    ensures { IsSomeAnd (subcommand_rows_of matches.now) (λ matches. IsReadFrom matches result) }
+    ensures read { IsSomeAnd (subcommand_rows_of matches.now) (λ matches. IsReadFrom matches result) }
+    // No certificate is asked for that names more frames than it may.
+    ensures low { IsLow result }
 {
     if let Some(list) = matches.subcommand_matches("list") {
         return list_of(list);
@@ -152,7 +159,7 @@ fn command_of<'a>(matches: &ArgMatches<'a>) -> Command<'a>
 }
 
 /// `list`, with the values that are among its matches.
-fn list_of<'a>(matches: &ArgMatches<'a>) -> Command<'a>
+fn list_of<'s, 'a>(matches: &'s ArgMatches<'a>) -> Command<'s, 'a>
     ensures { IsReadFrom (codes "list", rows_of (found_of matches.now)) result }
 {
     let story = matches.get_str("STORY").unwrap_or("");
@@ -161,7 +168,7 @@ fn list_of<'a>(matches: &ArgMatches<'a>) -> Command<'a>
 }
 
 /// `find`, with the values that are among its matches.
-fn find_of<'a>(matches: &ArgMatches<'a>) -> Command<'a>
+fn find_of<'s, 'a>(matches: &'s ArgMatches<'a>) -> Command<'s, 'a>
     ensures { IsReadFrom (codes "find", rows_of (found_of matches.now)) result }
 {
     let story = matches.get_str("STORY").unwrap_or("");
@@ -201,17 +208,41 @@ fn limit_of(frames: Option<u16>) -> Option<u16>
     }
 }
 
-/// `check`, with the values that are among its matches.
-fn check_of<'a>(matches: &ArgMatches<'a>) -> Command<'a>
+/// The files among the matches of `check`.
+fn files_of<'s, 'a>(matches: &'s ArgMatches<'a>) -> &'s [&'a str]
+    ensures { map (λ name. name.now) result.now ≡ files_of (rows_of (found_of matches.now)) }
+{
+    matches.get_strs("FILE").unwrap_or(&[])
+}
+
+/// A story and the file of its certificate, where two files are named and the second isn't named as a story.
+fn pair_of<'a>(files: &[&'a str]) -> Option<(&'a str, &'a str)>
+    ensures { option_map (λ pair. (pair.0.now, pair.1.now)) result ≡ pair_of (map (λ name. name.now) files.now) }
+{
+    if files.len() != 2 {
+        return None;
+    }
+    let (story, certificate) = (files[0], files[1]);
+    if is_story_name(certificate) {
+        None
+    } else {
+        Some((story, certificate))
+    }
+}
+
+/// `check`, with the values that are among its matches: of a story and the file of its certificate, or of many stories.
+fn check_of<'s, 'a>(matches: &'s ArgMatches<'a>) -> Command<'s, 'a>
     ensures { IsReadFrom (codes "check", rows_of (found_of matches.now)) result }
 {
-    let story = matches.get_str("STORY").unwrap_or("");
-    let certificate = matches.get_str("CERT").unwrap_or("");
-    Command::Check { story, certificate }
+    let stories = files_of(matches);
+    match pair_of(stories) {
+        Some((story, certificate)) => Command::Check { story, certificate },
+        None => Command::CheckEach { stories },
+    }
 }
 
 /// `show`, with the values that are among its matches.
-fn show_of<'a>(matches: &ArgMatches<'a>) -> Command<'a>
+fn show_of<'s, 'a>(matches: &'s ArgMatches<'a>) -> Command<'s, 'a>
     ensures { IsReadFrom (codes "show", rows_of (found_of matches.now)) result }
 {
     let story = matches.get_str("STORY").unwrap_or("");
@@ -225,7 +256,7 @@ fn show_of<'a>(matches: &ArgMatches<'a>) -> Command<'a>
 }
 
 /// `play`, with the values that are among its matches.
-fn play_of<'a>(matches: &ArgMatches<'a>) -> Command<'a>
+fn play_of<'s, 'a>(matches: &'s ArgMatches<'a>) -> Command<'s, 'a>
     ensures { IsReadFrom (codes "play", rows_of (found_of matches.now)) result }
 {
     let story = matches.get_str("STORY").unwrap_or("");
@@ -250,7 +281,7 @@ fn play_of<'a>(matches: &ArgMatches<'a>) -> Command<'a>
 }
 
 /// `info`, with the values that are among its matches.
-fn info_of<'a>(matches: &ArgMatches<'a>) -> Command<'a>
+fn info_of<'s, 'a>(matches: &'s ArgMatches<'a>) -> Command<'s, 'a>
     ensures { IsReadFrom (codes "info", rows_of (found_of matches.now)) result }
 {
     let story = matches.get_str("STORY").unwrap_or("");
@@ -259,7 +290,7 @@ fn info_of<'a>(matches: &ArgMatches<'a>) -> Command<'a>
 }
 
 /// `explain`, with the value that is among its matches.
-fn explain_of<'a>(matches: &ArgMatches<'a>) -> Command<'a>
+fn explain_of<'s, 'a>(matches: &'s ArgMatches<'a>) -> Command<'s, 'a>
     ensures { IsReadFrom (codes "explain", rows_of (found_of matches.now)) result }
 {
     let code = matches.get_str("CODE").unwrap_or("");
@@ -334,8 +365,13 @@ fn check<'a>(alloc: Global) -> Result<clap::Command<'a>, AllocError>
     ensures app { IfOk result (λ check. app_of check ≡ check_app) }
     ensures local { IfOk result (λ check. (fields_of check).has_globals ≡ false) }
 {
-    let check = on_files(alloc, "check", "Checks a certificate of a story", true)?;
-    Ok(check.after_help("Example:\n  zpc check story.z3 story.cert"))
+    let check = clap::Command::new(alloc, "check").about("Checks certificates of stories");
+    let check = check.after_help(
+        "Examples:
+  zpc check story.z3 story.cert
+  zpc check *.z3",
+    );
+    check.arg(files(alloc))
 }
 
 fn show<'a>(alloc: Global) -> Result<clap::Command<'a>, AllocError>
@@ -425,6 +461,19 @@ fn certificate<'a>(alloc: Global, required: bool) -> Arg<'a>
     ensures local { result.global ≡ false }
 {
     word(alloc, "CERT", "The certificate's file", required)
+}
+
+fn files<'a>(alloc: Global) -> Arg<'a>
+    ensures rule { rule_of result ≡ files_rule }
+    ensures local { result.global ≡ false }
+{
+    word(
+        alloc,
+        "FILE",
+        "A story's file and its certificate's, or stories' files, each with its certificate's beside it: story.cert for story.z3",
+        true,
+    )
+    .action(ArgAction::Append)
 }
 
 fn address<'a>(alloc: Global) -> Arg<'a>

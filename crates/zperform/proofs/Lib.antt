@@ -10,6 +10,7 @@ mod MarkLemmas
 mod AddressLemmas
 mod ShowLemmas
 mod InfoLemmas
+mod ManyLemmas
 mod LineLemmas
 mod Worked
 mod WorkedClaims

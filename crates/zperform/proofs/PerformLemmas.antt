@@ -5,9 +5,9 @@ use Rattle.clap.specs.Words.{Row, Text, fault_of, subcommand_of}
 use Rattle.zplayer.specs.declared.end.End.{End}
 use Rattle.zplayer.specs.Outside.{Blames}
 use Rattle.zquetzal.specs.declared.error.SaveError.{SaveError}
-use Rattle.zcommand.specs.CommandLine.{Asks, Check, Explain, Find, Info, ListStory, Play, Request, Show, zpc_app}
+use Rattle.zcommand.specs.CommandLine.{Asks, Check, CheckEach, Explain, Find, Info, ListStory, Play, Request, Show, zpc_app}
 use Rattle.zperform.specs.Devices.{Devices, FlushesUnless, Held, Seen, UsesUnless, seen, told}
-use Rattle.zperform.specs.Performing.{Begins, Explains, IsBlamed, Performs, Reports, is_quiet, said_by, save_in, written_by}
+use Rattle.zperform.specs.Performing.{Begins, Explains, IsBlamed, Performs, Reports, is_quiet, said_by, spared_in, written_by}
 use Rattle.zperform.specs.Telling.{SaysEach}
 use Rattle.zperform.specs.declared.outcome.Failure.TheVariants.{File, Read, Write}
 use Rattle.zperform.specs.Report.{outcome_of}
@@ -59,7 +59,7 @@ module _ (words : List Text) (status : ℕ) (old new : Devices) (outcome : Outco
     (writer : FlushesUnless (λ (s : Seen). s.failures) (λ (s : Seen). s.waits) old.writer new.writer (outcome ≡ Stopped (Failed Write)))
     (reader : Blames (outcome ≡ Stopped (Failed Read)) old.reader.failures new.reader.failures)
     (between : Seen) (reported : Reports outcome status between new.errors) where
-  pub performs_request : (request : Request) (refusals : List SaveError) → SaysEach (said_by request refusals) old.errors between → UsesUnless (λ (f : Held). f.known) (λ (f : Held). f.failures) old.files new.files (save_in request) (written_by request) (outcome ≡ Stopped (Failed File)) → (outcome ≡ Stopped (Failed File) → IsBlamed request old.files)
+  pub performs_request : (request : Request) (refusals : List SaveError) → SaysEach (said_by request refusals) old.errors between → UsesUnless (λ (f : Held). f.known) (λ (f : Held). f.failures) old.files new.files (spared_in request) (written_by request) (outcome ≡ Stopped (Failed File)) → (outcome ≡ Stopped (Failed File) → IsBlamed request old.files)
       → (is_quiet request ≡ true → new.reader ≡ old.reader) → Begins request old.files.known new.files.known old.reader.remaining refusals old.writer.contents new.writer.contents outcome → IsSomeAnd (subcommand_of zpc_app words) (λ matches. Asks matches request)
       → Performs words status old new
   performs_request request refusals told files could unasked comes read = go (subcommand_of zpc_app words) refl read
@@ -75,6 +75,7 @@ says_none (Play story certificate seed budget status save tell force) errors = r
 says_none (ListStory story certificate) errors = refl
 says_none (Find story certificate frames strict places force) errors = refl
 says_none (Check story certificate) errors = refl
+says_none (CheckEach stories) errors = refl
 says_none (Show story certificate address) errors = refl
 says_none (Info story json) errors = refl
 says_none (Explain code) errors = refl

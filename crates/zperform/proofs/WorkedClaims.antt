@@ -49,7 +49,7 @@ use Rattle.zperform.specs.Finding.{ExplainComesTo, FailsFor, FindComesTo, FindEn
 use Rattle.zperform.specs.Marking.{AreMarksOf, ArePlacesOf, IsListedBy, ListByComesTo}
 use Rattle.zperform.specs.declared.finding.Search.{Search}
 use Rattle.zperform.specs.Listing.{HoldsListed, IsNoListing, ListComesTo, listing_text}
-use Rattle.zperform.specs.Performing.{Begins, Comes, Does, Explains, IsBlamed, Lacks, Performs, Reports, Shows, Tells, given, is_quiet, said_by, save_in, store_of, written_by}
+use Rattle.zperform.specs.Performing.{Begins, Comes, Does, Explains, IsBlamed, Lacks, Performs, Reports, Shows, Tells, given, is_quiet, said_by, spared_in, store_of, written_by}
 use Rattle.zperform.specs.Report.{found_line, line_of}
 use Rattle.zperform.specs.Telling.{SaysEach, refusal_text, said_of}
 use Rattle.zperform.specs.Playing.{ComesTo, IsPlayed, IsRefused}
@@ -484,5 +484,5 @@ module _ (words : List (List ℕ)) (status : ℕ) (old new : Devices) where
       (did : Does words status old new) → Begins did.request old.files.known new.files.known old.reader.remaining did.refusals old.writer.contents new.writer.contents did.outcome
       × (did.outcome ≡ Stopped (Failed File) → IsBlamed did.request old.files) × Blames (did.outcome ≡ Stopped (Failed Read)) old.reader.failures new.reader.failures × (is_quiet did.request ≡ true → new.reader ≡ old.reader)
       × SaysEach (said_by did.request did.refusals) old.errors did.between × Reports did.outcome status did.between new.errors × FlushesUnless (λ (s : Seen). s.failures) (λ (s : Seen). s.waits) old.writer new.writer (did.outcome ≡ Stopped (Failed Write))
-      × UsesUnless (λ (f : Held). f.known) (λ (f : Held). f.failures) old.files new.files (save_in did.request) (written_by did.request) (did.outcome ≡ Stopped (Failed File))
+      × UsesUnless (λ (f : Held). f.known) (λ (f : Held). f.failures) old.files new.files (spared_in did.request) (written_by did.request) (did.outcome ≡ Stopped (Failed File))
   done did = (did.comes, did.could, did.reader, did.unasked, did.told, did.reported, did.writer, did.files)

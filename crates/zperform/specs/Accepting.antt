@@ -44,7 +44,7 @@ use Rattle.zperform.specs.declared.outcome.Failure.TheVariants.{File, Read, Writ
 use Rattle.zperform.specs.declared.outcome.Problem.{Problem}
 use Rattle.zperform.specs.declared.outcome.Problem.TheVariants.{Refused, Unreadable, BreaksStory, BreaksInstruction, Unlisted, Unfound, Occupied, Failed}
 use Rattle.zperform.specs.declared.outcome.Outcome.{Outcome}
-use Rattle.zperform.specs.declared.outcome.Outcome.TheVariants.{Listed, Found, Accepted, Shown, NoAddress, Informed, Explained, NoSuchCode, Played, Stopped}
+use Rattle.zperform.specs.declared.outcome.Outcome.TheVariants.{Listed, Found, Accepted, Checked, Shown, NoAddress, Informed, Explained, NoSuchCode, Played, Stopped}
 use Rattle.zperform.specs.Playing.{Holds, IsRefused, Reads, StaysEmpty}
 use Rattle.zperform.specs.Report.{accepted_line}
 
@@ -202,6 +202,7 @@ module _ {V : Type 0} (o : SetOperations V) (format : Format V) (story_known cer
   PlayEnds options given refusals before now Explained = ⊥
   PlayEnds options given refusals before now NoSuchCode = ⊥
   PlayEnds options given refusals before now Accepted = ⊥
+  PlayEnds options given refusals before now (Checked tally) = ⊥
   PlayEnds options given refusals before now (Played end) = Plays options given refusals before now (Ok end)
   PlayEnds options given refusals before now (Stopped (Failed Read)) = Plays options given refusals before now (Err errors.Read)
   PlayEnds options given refusals before now (Stopped (Failed Write)) = Plays options given refusals before now (Err errors.Write)
@@ -228,6 +229,7 @@ IsUnacceptedStory story_known certificate_known problem =
 -- What checking comes to, with what the writer took before and has taken now.
 abbrev pub CheckComesTo : Option (List ℕ) → Option (List ℕ) → Option (List ℕ) → Option (List ℕ) → Outcome → Type 0
 CheckComesTo story_known certificate_known before now Accepted = (a : AcceptedStory) × IsAcceptedStory story_known certificate_known a × Appends before now (accepted_line (marks_of a))
+CheckComesTo story_known certificate_known before now (Checked tally) = ⊥
 CheckComesTo story_known certificate_known before now Listed = ⊥
 CheckComesTo story_known certificate_known before now Found = ⊥
 CheckComesTo story_known certificate_known before now Shown = ⊥

@@ -11,5 +11,6 @@ pub mod Showing
 pub mod Marking
 pub mod Finding
 pub mod Informing
+pub mod Many
 pub mod Performing
 pub mod Played

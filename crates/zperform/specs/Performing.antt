@@ -1,10 +1,10 @@
 -- What the words of a command line come to: what is done, what is said of it, and the exit status (own).
-use Rattle.std.specs.Prelude.{◌≡◌, ◌⊎◌, ℕ, Bool, true, false, List, [], Option, None, Some, MatchBool}
+use Rattle.std.specs.Prelude.{◌≡◌, ◌⊎◌, ℕ, Bool, true, false, List, [], flat_map, Option, None, Some, MatchBool}
 use Rattle.clap.specs.Kinds.{IsAmong, Kinds}
 use Rattle.clap.specs.Words.{Row, Text, subcommand_of}
 use Rattle.clap.specs.declared.error.kind.ErrorKind.{ErrorKind}
 use Rattle.clap.specs.declared.error.kind.ErrorKind.TheVariants.{DisplayHelp, DisplayVersion}
-use Rattle.zcommand.specs.CommandLine.{Asks, Request, ListStory, Find, Check, Show, Play, Info, Explain, zpc_app}
+use Rattle.zcommand.specs.CommandLine.{Asks, Request, ListStory, Find, Check, CheckEach, Show, Play, Info, Explain, zpc_app}
 use Rattle.zquetzal.specs.declared.error.SaveError.{SaveError}
 use Rattle.zplayer.specs.Outside.{Blames, words_of}
 use Rattle.zplayer.specs.World.{Store, World, world}
@@ -15,6 +15,7 @@ use Rattle.zperform.specs.Finding.{ExplainComesTo, FindComesTo, IsOfStoryOrFound
 use Rattle.zperform.specs.Informing.{InfoComesTo, name_of_certificate}
 use Rattle.zperform.specs.Keeping.{IsOccupied, MayWrite}
 use Rattle.zperform.specs.Listing.{ListComesTo}
+use Rattle.zperform.specs.Many.{CheckEachComesTo}
 use Rattle.zperform.specs.Marking.{ListByComesTo}
 use Rattle.zperform.specs.Showing.{ShowComesTo}
 use Rattle.zperform.specs.Report.{line_of, status_of, text_of}
@@ -80,6 +81,7 @@ Comes (ListStory story (Some certificate)) held holds input refusals before now 
 Comes (Find story certificate frames strict places force) held holds input refusals before now outcome =
     FindComesTo (record { frames = frames; strict = strict; places = places }) story certificate held holds before now outcome
 Comes (Check story certificate) held holds input refusals before now outcome = CheckComesTo (held story) (held certificate) before now outcome
+Comes (CheckEach stories) held holds input refusals before now outcome = CheckEachComesTo stories held before now outcome
 Comes (Show story certificate address) held holds input refusals before now outcome = ShowComesTo (held story) (held certificate) address before now outcome
 Comes (Play story None seed budget status save tell force) held holds input refusals before now outcome =
     ComesTo (held story) (record { budget = budget; status = status }) (given input seed (store_of save)) refusals before now outcome
@@ -98,6 +100,12 @@ Begins request held holds input refusals before now outcome =
 abbrev pub is_quiet : Request → Bool
 is_quiet (Play story certificate seed budget status save tell force) = false
 is_quiet _ = true
+
+-- What names files of which a failure needn't end a request, if it has such: that for saves, or many stories, one behind another.
+abbrev pub spared_in : Request → Option Text
+spared_in (Play story certificate seed budget status save tell force) = save
+spared_in (CheckEach stories) = Some (flat_map (λ story. story) stories)
+spared_in request = None
 
 -- the name of the file that saves are kept in, if a request has one
 abbrev pub save_in : Request → Option Text
@@ -120,6 +128,7 @@ IsBlamed (ListStory story None) files = files.can_fail story ≡ true
 IsBlamed (ListStory story (Some certificate)) files = IsOfEither files story certificate
 IsBlamed (Find story certificate frames strict places force) files = IsOfStoryOrFound (record { frames = frames; strict = strict; places = places }) files story certificate
 IsBlamed (Check story certificate) files = IsOfEither files story certificate
+IsBlamed (CheckEach stories) files = ⊥
 IsBlamed (Show story certificate address) files = IsOfEither files story certificate
 IsBlamed (Play story None seed budget status save tell force) files = files.can_fail story ≡ true
 IsBlamed (Play story (Some certificate) seed budget status save tell force) files = IsOfEither files story certificate
@@ -140,7 +149,7 @@ pub record Does (words : List Text) (status : ℕ) (old new : Devices) : Type 0 
   pub refusals : List SaveError
   pub comes : Begins request old.files.known new.files.known old.reader.remaining refusals old.writer.contents new.writer.contents outcome
   pub writer : FlushesUnless (λ (s : Seen). s.failures) (λ (s : Seen). s.waits) old.writer new.writer (outcome ≡ Stopped (Failed Write))
-  pub files : UsesUnless (λ (f : Held). f.known) (λ (f : Held). f.failures) old.files new.files (save_in request) (written_by request) (outcome ≡ Stopped (Failed File))
+  pub files : UsesUnless (λ (f : Held). f.known) (λ (f : Held). f.failures) old.files new.files (spared_in request) (written_by request) (outcome ≡ Stopped (Failed File))
   pub could : outcome ≡ Stopped (Failed File) → IsBlamed request old.files
   pub reader : Blames (outcome ≡ Stopped (Failed Read)) old.reader.failures new.reader.failures
   pub unasked : is_quiet request ≡ true → new.reader ≡ old.reader

@@ -26,13 +26,14 @@ use Rattle.zplayer.specs.declared.end.End.{End}
 use Rattle.zplayer.specs.declared.end.End.TheVariants as ends
 use Rattle.zplayer.specs.declared.end.PlayError.{PlayError}
 use Rattle.zplayer.specs.declared.end.PlayError.TheVariants as errors
+use Rattle.zbatch.specs.Summary.{status_of as tally_status}
 use Rattle.zperform.specs.Keeping.{purpose_number}
 use Rattle.zperform.specs.declared.outcome.Failure.{Failure}
 use Rattle.zperform.specs.declared.outcome.Failure.TheVariants.{File, Read, Write, Memory}
 use Rattle.zperform.specs.declared.outcome.Problem.{Problem}
 use Rattle.zperform.specs.declared.outcome.Problem.TheVariants.{Refused, Unreadable, BreaksStory, BreaksInstruction, Unlisted, Unfound, Occupied, Failed}
 use Rattle.zperform.specs.declared.outcome.Outcome.{Outcome}
-use Rattle.zperform.specs.declared.outcome.Outcome.TheVariants.{Listed, Found, Accepted, Shown, NoAddress, Informed, Explained, NoSuchCode, Played, Stopped}
+use Rattle.zperform.specs.declared.outcome.Outcome.TheVariants.{Listed, Found, Accepted, Checked, Shown, NoAddress, Informed, Explained, NoSuchCode, Played, Stopped}
 
 -- a story that isn't loaded is refused, but for want of memory
 abbrev pub problem_of_load : LoadError → Problem
@@ -73,6 +74,7 @@ status_of (Played end) = 0
 status_of Listed = 0
 status_of Found = 0
 status_of Accepted = 0
+status_of (Checked tally) = tally_status tally
 status_of Shown = 0
 status_of NoAddress = 2
 status_of Informed = 0
@@ -146,6 +148,7 @@ abbrev pub text_of : Outcome → List ℕ
 text_of Listed = []
 text_of Found = []
 text_of Accepted = []
+text_of (Checked tally) = []
 text_of Shown = []
 text_of NoAddress = no_address
 text_of Informed = []

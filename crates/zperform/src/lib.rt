@@ -8,6 +8,7 @@ mod files;
 mod finding;
 mod informing;
 mod listing;
+mod many;
 mod marking;
 mod message;
 mod outcome;

@@ -58,6 +58,7 @@ impl Message {
             Outcome::Listed
             | Outcome::Found
             | Outcome::Accepted
+            | Outcome::Checked(_)
             | Outcome::Shown
             | Outcome::Informed
             | Outcome::Explained => {}

@@ -5,6 +5,7 @@ ghost use Rattle.zperform.specs.Keeping.{magic_of, purpose_number};
 ghost use Rattle.zperform.specs.Report.{problem_of_checking, problem_of_listing, problem_of_load, problem_of_play, problem_of_reading, problem_of_stream, status_of};
 
 use std::alloc::AllocError;
+use zbatch::Tally;
 use zcert::CertError;
 use zcheck::{Refusal, StoryRule, StreamRefusal};
 use zfind::{FindError, Obstacle};
@@ -87,6 +88,8 @@ pub enum Outcome {
     Found,
     /// The certificate was accepted.
     Accepted,
+    /// The certificate beside each of many stories was checked, and so many ended in each way.
+    Checked(Tally),
     /// The certificate was shown.
     Shown,
     /// The word is no address.
@@ -117,6 +120,7 @@ impl Outcome {
             | Outcome::Informed
             | Outcome::Explained
             | Outcome::Played(_) => 0,
+            Outcome::Checked(tally) => tally.status(),
             Outcome::NoAddress | Outcome::NoSuchCode => 2,
             Outcome::Stopped(Problem::Failed(_)) => 4,
             Outcome::Stopped(_) => 1,

@@ -9,7 +9,7 @@ ghost use Rattle.zplayer.specs.Outside.{Blames};
 ghost use Rattle.zperform.specs.Accepting.{CheckComesTo, IsOfEither};
 ghost use Rattle.zperform.specs.Devices.{Ends, FlushesUnless, Held, ReadsUnless, Says, Told, UsesUnless, Writes, devices, held, seen, told};
 ghost use Rattle.zperform.specs.Keeping.{IsOccupied, MayWrite, kept_in};
-ghost use Rattle.zperform.specs.Performing.{Begins, Comes, Explains, IsBlamed, Performs, is_quiet, said_by, save_in, written_by};
+ghost use Rattle.zperform.specs.Performing.{Begins, Comes, Explains, IsBlamed, Performs, is_quiet, said_by, spared_in, written_by};
 ghost use Rattle.zperform.specs.Report.{failure_text, line_of, no_text, outcome_of, status_of, text_of};
 ghost use Rattle.zperform.specs.Telling.{SaysEach};
 ghost use Rattle.zquetzal.specs.declared.error.SaveError.{SaveError as ARefusal};
@@ -19,6 +19,7 @@ use crate::files::Files;
 use crate::finding::{Search, explain_code, find_file};
 use crate::informing::inform;
 use crate::listing::{list_certificate, list_file};
+use crate::many::check_each;
 use crate::message::Message;
 use crate::outcome::{Failure, Outcome, Problem, Purpose};
 use crate::playing::{Asked, Devices, play, play_by_certificate};
@@ -26,7 +27,7 @@ use crate::showing::show_files;
 use clap::Error;
 use clap::error::ErrorKind;
 use std::alloc::Global;
-use zcommand::{Command, read_words};
+use zcommand::{Command, command_of, read_words};
 use zfault::{Failed, Sink, Source, write_whole};
 use zplayer::{End, Options};
 
@@ -59,7 +60,8 @@ pub fn perform<F: Files, R: Source, W: Sink, E: Sink>(
     ensures explains { fault_of zpc_app (texts words.entry.now) ≢ [] → Explains (fault_of zpc_app (texts words.entry.now)) result (devices (held F.known F.failures F.can_fail files.old) (told R.remaining R.failures reader.old) (seen W.contents W.failures W.waits writer.old) (seen E.contents E.failures E.waits errors.old)) (devices (held F.known F.failures F.can_fail files.new) (told R.remaining R.failures reader.new) (seen W.contents W.failures W.waits writer.new) (seen E.contents E.failures E.waits errors.new)) }
 {
     match read_words(alloc, words) {
-        Ok(command) => {
+        Ok(matches) => {
+            let command = command_of(&matches);
             let outcome = carry_out(alloc, command, files, reader, writer, errors);
             report(&outcome, errors)
         }
@@ -70,7 +72,7 @@ pub fn perform<F: Files, R: Source, W: Sink, E: Sink>(
 /// Does what a command asks for, unless its file isn't to be written over.
 fn carry_out<F: Files, R: Source, W: Sink, E: Sink>(
     alloc: Global,
-    command: Command<'_>,
+    command: Command<'_, '_>,
     files: &mut F,
     reader: &mut R,
     writer: &mut W,
@@ -79,7 +81,7 @@ fn carry_out<F: Files, R: Source, W: Sink, E: Sink>(
     requires low { IsLow command }
     ensures comes { (refusals : List ARefusal) × Begins (request_of command.entry) (F.known files.old) (F.known files.new) (R.remaining reader.old) refusals (W.contents writer.old) (W.contents writer.new) result × SaysEach (said_by (request_of command.entry) refusals) (seen E.contents E.failures E.waits errors.old) (seen E.contents E.failures E.waits errors.new) }
     ensures writer { FlushesUnless W.failures W.waits writer.old writer.new (result ≡ Outcome.Stopped (Problem.Failed Failure.Write)) }
-    ensures files { UsesUnless F.known F.failures files.old files.new (save_in (request_of command.entry)) (written_by (request_of command.entry)) (result ≡ Outcome.Stopped (Problem.Failed Failure.File)) }
+    ensures files { UsesUnless F.known F.failures files.old files.new (spared_in (request_of command.entry)) (written_by (request_of command.entry)) (result ≡ Outcome.Stopped (Problem.Failed Failure.File)) }
     ensures could { result ≡ Outcome.Stopped (Problem.Failed Failure.File) → IsBlamed (request_of command.entry) (held F.known F.failures F.can_fail files.old) }
     ensures reader { Blames (result ≡ Outcome.Stopped (Problem.Failed Failure.Read)) (R.failures reader.old) (R.failures reader.new) }
     ensures unasked { is_quiet (request_of command.entry) ≡ true → reader.new ≡ reader.old }
@@ -91,7 +93,7 @@ fn carry_out<F: Files, R: Source, W: Sink, E: Sink>(
 }
 
 /// What the file is for that a command may write, where it holds something else.
-fn occupied<F: Files>(command: Command<'_>, files: &F) -> Option<Purpose>
+fn occupied<F: Files>(command: Command<'_, '_>, files: &F) -> Option<Purpose>
     ensures occupied { IfSome result (λ purpose. IsOccupied (request_of command.entry) (F.known files.now) (Problem.Occupied purpose)) }
     ensures free { result ≡ None → MayWrite (request_of command.entry) (F.known files.now) }
 {
@@ -104,7 +106,7 @@ fn occupied<F: Files>(command: Command<'_>, files: &F) -> Option<Purpose>
 }
 
 /// The file that a command may write and what it is for, unless it may be written over whatever it holds.
-fn kept_by<'a>(command: Command<'a>) -> Option<(&'a str, Purpose)>
+fn kept_by<'a>(command: Command<'_, 'a>) -> Option<(&'a str, Purpose)>
     ensures { option_map (λ file. (file.0.now, file.1)) result ≡ kept_in (request_of command.entry) }
 {
     match command {
@@ -125,7 +127,7 @@ fn kept_by<'a>(command: Command<'a>) -> Option<(&'a str, Purpose)>
 /// Does what a command asks for.
 fn fulfil<F: Files, R: Source, W: Sink, E: Sink>(
     alloc: Global,
-    command: Command<'_>,
+    command: Command<'_, '_>,
     files: &mut F,
     reader: &mut R,
     writer: &mut W,
@@ -134,7 +136,7 @@ fn fulfil<F: Files, R: Source, W: Sink, E: Sink>(
     requires low { IsLow command }
     ensures comes { (refusals : List ARefusal) × Comes (request_of command.entry) (F.known files.old) (F.known files.new) (R.remaining reader.old) refusals (W.contents writer.old) (W.contents writer.new) result × SaysEach (said_by (request_of command.entry) refusals) (seen E.contents E.failures E.waits errors.old) (seen E.contents E.failures E.waits errors.new) }
     ensures writer { FlushesUnless W.failures W.waits writer.old writer.new (result ≡ Outcome.Stopped (Problem.Failed Failure.Write)) }
-    ensures files { UsesUnless F.known F.failures files.old files.new (save_in (request_of command.entry)) (written_by (request_of command.entry)) (result ≡ Outcome.Stopped (Problem.Failed Failure.File)) }
+    ensures files { UsesUnless F.known F.failures files.old files.new (spared_in (request_of command.entry)) (written_by (request_of command.entry)) (result ≡ Outcome.Stopped (Problem.Failed Failure.File)) }
     ensures could { result ≡ Outcome.Stopped (Problem.Failed Failure.File) → IsBlamed (request_of command.entry) (held F.known F.failures F.can_fail files.old) }
     ensures reader { Blames (result ≡ Outcome.Stopped (Problem.Failed Failure.Read)) (R.failures reader.old) (R.failures reader.new) }
     ensures unasked { is_quiet (request_of command.entry) ≡ true → reader.new ≡ reader.old }
@@ -166,6 +168,7 @@ fn fulfil<F: Files, R: Source, W: Sink, E: Sink>(
         Command::Check { story, certificate } => {
             check_files(alloc, story, certificate, files, writer)
         }
+        Command::CheckEach { stories } => check_each(alloc, stories, files, writer),
         Command::Show {
             story,
             certificate,

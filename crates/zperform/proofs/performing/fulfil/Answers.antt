@@ -1,4 +1,4 @@
-use Rattle.std.proofs.Common.{[], refl, rules}
+use Rattle.std.proofs.Common.{[], ap, refl, rules, List, Option, ℕ}
 use Rattle.zperform.proofs.PerformLemmas.{as_outcome, files_as_outcome, writer_as_outcome}
 use Rattle.zperform.proofs.performing.fulfil.Goals as goal
 
@@ -20,6 +20,9 @@ returns-in-List-default-Some-clause-comes g c = rw c.in-List-default-Some.is ([]
 pub returns-in-Check-clause-comes : goal.returns-in-Check-clause-comes
 returns-in-Check-clause-comes g c = rw c.in-Check.is ([], c.check_files.ensures.comes, refl)
 
+pub returns-in-CheckEach-clause-comes : goal.returns-in-CheckEach-clause-comes
+returns-in-CheckEach-clause-comes g c = rw c.in-CheckEach.is ([], c.check_each.ensures.comes, refl)
+
 pub returns-in-Show-clause-comes : goal.returns-in-Show-clause-comes
 returns-in-Show-clause-comes g c = rw c.in-Show.is ([], c.show_files.ensures.comes, refl)
 
@@ -28,3 +31,11 @@ returns-in-Find-clause-could g c = rw c.in-Find.is c.find_file.ensures.could
 
 pub returns-in-Info-clause-comes : goal.returns-in-Info-clause-comes
 returns-in-Info-clause-comes g c = rw c.in-Info.is ([], c.inform.ensures.comes, refl)
+
+pub returns-in-CheckEach-clause-files : goal.returns-in-CheckEach-clause-files
+returns-in-CheckEach-clause-files g c = rw c.in-CheckEach.is (record {
+  unread = λ e. absurd (c.check_each.ensures.no_file e);
+  unfailed = λ none. absurd cc;
+  kept = λ none. c.check_each.ensures.kept;
+  spared = λ other another. ap (λ (known : List ℕ → Option (List ℕ)). known other) c.check_each.ensures.kept;
+})
