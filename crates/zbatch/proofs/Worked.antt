@@ -1,7 +1,7 @@
 -- Values of the definitions, computed.
 use Rattle.std.proofs.Common.{◌≡◌, List, ℕ, [], ◌∷◌, ◌++◌, codes, true, false, refl}
 use Rattle.std.specs.Fmt.{digits}
-use Rattle.zbatch.specs.Naming.{name_beside}
+use Rattle.zbatch.specs.Naming.{is_story_name, name_beside}
 use Rattle.zbatch.specs.Summary.{greatest_status, status_of, summary_text}
 use Rattle.zbatch.specs.Working.{tally_of}
 use Rattle.zbatch.specs.declared.summary.Wording.TheVariants.{Accepted, Found}
@@ -17,6 +17,12 @@ names :
     × (beside (codes "zorkz3") ≡ codes "zorkz3.cert") × (beside (codes ".z3") ≡ codes ".cert") × (beside (codes "z3") ≡ codes "z3.cert") × (beside [] ≡ codes ".cert")
 unfolding beside
 names = (refl, refl, refl, refl, refl, refl, refl, refl)
+
+-- names of stories, and others
+stories :
+    (is_story_name (codes "a.z3") ≡ true) × (is_story_name (codes "A.Z3") ≡ true) × (is_story_name (codes ".z3") ≡ true) × (is_story_name (codes "z3") ≡ false) × (is_story_name (codes "a.z5") ≡ false)
+    × (is_story_name (codes "a.z3.cert") ≡ false) × (is_story_name [] ≡ false)
+stories = (refl, refl, refl, refl, refl, refl, refl)
 
 said : List Ended → List ℕ
 said ends = summary_text (tally_of ends) Accepted

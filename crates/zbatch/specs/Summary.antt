@@ -1,5 +1,5 @@
 -- What is said of many files at the end, and the exit status (own).
-use Rattle.std.specs.Prelude.{ℕ, ◌+◌, max, Bool, true, false, ◌||◌, ◌==◌, nat_lt, if◌then◌else◌, List, [], ◌∷◌, ◌++◌, codes, decimal}
+use Rattle.std.specs.Prelude.{ℕ, ◌+◌, max, ◌||◌, ◌==◌, nat_lt, if◌then◌else◌, List, [], ◌∷◌, ◌++◌, codes, decimal}
 use Rattle.zbatch.specs.declared.tally.Tally.{Tally}
 use Rattle.zbatch.specs.declared.summary.Wording.{Wording}
 use Rattle.zbatch.specs.declared.summary.Wording.TheVariants.{Accepted, Found}

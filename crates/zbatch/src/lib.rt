@@ -8,7 +8,7 @@ mod tally;
 mod work;
 
 pub use laws::{names_are_told_by_stems, status_is_the_greatest};
-pub use naming::name_beside;
+pub use naming::{is_story_name, name_beside};
 pub use summary::{Wording, summary_line};
 pub use tally::Tally;
 pub use work::{Ended, Work, work_through};

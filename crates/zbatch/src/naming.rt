@@ -1,7 +1,7 @@
 //! The name of the file beside a story's.
 
 ghost use Rattle.std.specs.Prelude.{◌≡◌, IfOk, string_bytes};
-ghost use Rattle.zbatch.specs.Naming.{name_beside, stem};
+ghost use Rattle.zbatch.specs.Naming.{is_story_name, name_beside, stem};
 
 use std::alloc::{AllocError, Global};
 
@@ -18,6 +18,19 @@ pub fn name_beside(alloc: Global, story: &str, ending: &str) -> Result<String, A
     name.push('.')?;
     name.push_str(ending)?;
     Ok(name)
+}
+
+/// Whether a name ends as a story's does, in `.z3` or `.Z3`.
+pub fn is_story_name(name: &str) -> bool
+    ensures { result ≡ is_story_name name.now }
+{
+    let Some(at) = name.len().checked_sub(ENDING_LENGTH) else {
+        return false;
+    };
+    match name.as_bytes().get(at..) {
+        Some(ending) => ending == b".z3".as_slice() || ending == b".Z3".as_slice(),
+        None => false,
+    }
 }
 
 /// A name without the ending of stories.

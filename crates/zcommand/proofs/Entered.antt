@@ -227,12 +227,8 @@ module _ (program : Command) (m : ArgMatches) (words : List Text) (is : app_of p
   pub no_fault : fault_of zpc_app words ≡ []
   no_fault = subst (λ (a : App). fault_of a words ≡ []) is (free (ap is_simple_and_free is))
 
-  rows_same : HasMatchesOf (app_of program) words m → subcommand_rows_of m ≡ subcommand_of zpc_app words
+  pub rows_same : HasMatchesOf (app_of program) words m → subcommand_rows_of m ≡ subcommand_of zpc_app words
   rows_same matches = (matches (ap is_simple is)).1 ∙ ap (λ (a : App). subcommand_of a words) is
-
-  -- what holds of the matches that it makes holds of those of the definition
-  pub command_read : (P : Text × List Row → Type 0) → HasMatchesOf (app_of program) words m → IsSomeAnd (subcommand_rows_of m) P → IsSomeAnd (subcommand_of zpc_app words) P
-  command_read P matches h = subst (λ (o : Option (Text × List Row)). IsSomeAnd o P) (rows_same matches) h
 
   pub command_named : HasMatchesOf (app_of program) words m → IsSomeAnd (subcommand_name_of m) IsCommand
   command_named matches = go (command_entered words no_fault)

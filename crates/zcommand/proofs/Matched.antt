@@ -1,8 +1,8 @@
 -- What is read of the matches of a command.
-use Rattle.std.proofs.Common.{◌≡◌, ◌∙◌, ◌&&◌, ◌≤◌, ℕ, Bool, true, false, refl, sym, ap, subst, List, [], ◌∷◌, length, IfSome, IsSomeAnd, Option, Some, None, Result, Ok, Err, lt-ltb, ltb-true, leb-true, nat_le, nat_lt, ◌<◌, ◌^◌, arith, if◌then◌else◌, option_and_then}
-use Rattle.std.specs.Prelude.{Box, codes, option_map, unwrap_or}
+use Rattle.std.proofs.Common.{◌≡◌, ◌∙◌, ◌&&◌, ◌≤◌, ℕ, Bool, true, false, true≢false, not, refl, sym, ap, ap₂, subst, List, [], ◌∷◌, length, IfSome, IsSomeAnd, Option, Some, None, Result, Ok, Err, lt-ltb, ltb-true, leb-true, nat_le, nat_lt, ◌<◌, ◌^◌, arith, if◌then◌else◌, option_and_then}
+use Rattle.std.specs.Prelude.{Box, codes, is_some, option_map, unwrap_or, map}
 use Rattle.std.specs.Box.{box_value}
-use Rattle.std.specs.Option.{option_map_or}
+use Rattle.std.specs.Option.{UnwrapsOrElse, option_map_or}
 use Rattle.std.specs.declared.alloc.Global.{Global}
 use Rattle.clap.specs.declared.parser.matches.Found.{Found}
 use Rattle.clap.specs.declared.parser.matches.SubCommand.{SubCommand}
@@ -12,12 +12,12 @@ use Rattle.std.specs.Char.{digit_value}
 use Rattle.std.specs.Str.{bytes_eq}
 use Rattle.std.specs.Str.Parse.{AllDigits, ParsesBool, ParsesUnsigned, digits_value, without_leading_plus}
 use Rattle.std.proofs.lemmas.Slice.Eq.{bytes_eq-Decides}
-use Rattle.clap.proofs.WalkLemmas.{both, first_value-rows, one_text-rows}
-use Rattle.clap.specs.Words.{ReadsOne, Row, Text, first_of, first_value, one_of, one_text, rows_of, subcommand_name_of, subcommand_rows_of}
+use Rattle.clap.proofs.WalkLemmas.{both, first_value-rows, one_text-rows, raw_values-rows}
+use Rattle.clap.specs.Words.{ReadsOne, Row, Text, first_of, first_value, matched_of, one_of, one_text, raw_values, rows_of, subcommand_name_of, subcommand_rows_of}
 use Rattle.clap.specs.declared.parser.matches.ArgMatches.{ArgMatches}
 use Rattle.clap.specs.declared.parser.matches.ArgMatches.TheViews.{out-ArgMatches, out-SubCommand}
 use Rattle.clap.specs.Simple.{subcommand_rows}
-use Rattle.zcommand.specs.CommandLine.{IsLow, IsReadFrom, address_of, certificate_of, code_of, frames_of, is_asked, limit_in, low_limit, number_in, number_of, save_of, story_of}
+use Rattle.zcommand.specs.CommandLine.{IsLow, IsReadFrom, address_of, certificate_of, code_of, files_of, output_of, pair_of, target_of, frames_of, is_asked, limit_in, low_limit, number_in, number_of, save_of, story_of}
 use Rattle.zcommand.specs.declared.words.Command.{Command}
 use Rattle.zcommand.specs.declared.words.Command.TheVariants as commands
 
@@ -65,9 +65,45 @@ text_read name found o d r given empty is =
 pub story_read : (found : Found) (o : Option (Bor Text)) (d r : Bor Text) → option_map (λ s. s.now) o ≡ first_value found (codes "STORY") → d.now ≡ [] → r ≡ unwrap_or o d → r.now ≡ story_of (rows_of found)
 story_read = text_read (codes "STORY")
 
--- the same of a code
-pub code_read : (found : Found) (o : Option (Bor Text)) (d r : Bor Text) → option_map (λ s. s.now) o ≡ first_value found (codes "CODE") → d.now ≡ [] → r ≡ unwrap_or o d → r.now ≡ code_of (rows_of found)
-code_read = text_read (codes "CODE")
+-- what the getter of several texts gives, or else none
+pub files_read : (found : Found) (o : Option (Bor (List (Bor Text)))) (r : Bor (List (Bor Text))) → option_map (λ s. map (λ v. v.now) s.now) o ≡ option_map raw_values (matched_of found (codes "FILE")) → UnwrapsOrElse o (λ x. x.now ≡ []) r
+    → map (λ v. v.now) r.now ≡ files_of (rows_of found)
+files_read found o r given is = default o r is ∙ ap (λ (x : Option (List Text)). unwrap_or x []) (given ∙ raw_values-rows found (codes "FILE"))
+  where
+    default : (o : Option (Bor (List (Bor Text)))) (r : Bor (List (Bor Text))) → UnwrapsOrElse o (λ x. x.now ≡ []) r → map (λ v. v.now) r.now ≡ unwrap_or (option_map (λ s. map (λ v. v.now) s.now) o) []
+    default None r e = ap (map (λ (v : Bor Text). v.now)) e
+    default (Some s) r e = ap (λ (s : Bor (List (Bor Text))). map (λ (v : Bor Text). v.now) s.now) e
+
+-- what names the files of a pair
+abbrev pub names_of : Option (Bor Text × Bor Text) → Option (Text × Text)
+names_of o = option_map (λ pair. (pair.0.now, pair.1.now)) o
+
+-- a story and its certificate's file among the files, or none
+pub pair_read : (read files : List Text) (o : Option (Bor Text × Bor Text)) → names_of o ≡ pair_of read → read ≡ files → names_of o ≡ pair_of files
+pair_read read files o given same = given ∙ ap pair_of same
+
+-- and so among the files and what `-o` names
+pub target_read : (read files : List Text) (named output : Option Text) (o : Option (Bor Text × Bor Text)) → names_of o ≡ target_of read named → read ≡ files → named ≡ output → names_of o ≡ target_of files output
+target_read read files named output o given same also = given ∙ ap₂ target_of same also
+
+-- where there is no target
+pub no_target : (o : Option (Bor Text × Bor Text)) (is_none : Bool) → is_some o ≡ not is_none → is_none ≡ true → names_of o ≡ None
+no_target None is_none is so = refl
+no_target (Some target) true is so = absurd (true≢false is)
+no_target (Some target) false is so = absurd (true≢false (sym so))
+
+-- where an `-o` is there, and where there is none
+pub output_there : (o : Option (Bor Text)) (output : Option Text) (there : Bool) → there ≡ is_some o → there ≡ true → option_map (λ s. s.now) o ≡ output → is_some output ≡ true
+output_there None output there is so same = absurd (true≢false (sym so ∙ is))
+output_there (Some name) output there is so same = ap is_some (sym same)
+
+pub no_output : (o : Option (Bor Text)) (output : Option Text) (there : Bool) → there ≡ is_some o → there ≡ false → option_map (λ s. s.now) o ≡ output → output ≡ None
+no_output None output there is so same = sym same
+no_output (Some name) output there is so same = absurd (true≢false (sym is ∙ so))
+
+-- there is no target, and it is said that there is one
+pub no_target_there : (o : Option (Bor Text × Bor Text)) (is_none : Bool) → is_some o ≡ not is_none → is_none ≡ false → o ≡ None → ⊥
+no_target_there o is_none is so none = true≢false (sym (ap not so) ∙ sym is ∙ ap is_some none)
 
 -- what the getter of texts gives of a certificate, and else the empty text
 pub certificate_given : (found : Found) (o : Option (Bor Text)) → option_map (λ s. s.now) o ≡ first_value found (codes "CERT") → option_map (λ s. s.now) o ≡ certificate_of (rows_of found)
@@ -76,6 +112,14 @@ certificate_given found o given = given ∙ first_value-rows found (codes "CERT"
 -- of an address
 pub address_given : (found : Found) (o : Option (Bor Text)) → option_map (λ s. s.now) o ≡ first_value found (codes "ADDRESS") → option_map (λ s. s.now) o ≡ address_of (rows_of found)
 address_given found o given = given ∙ first_value-rows found (codes "ADDRESS")
+
+-- of a code
+pub code_given : (found : Found) (o : Option (Bor Text)) → option_map (λ s. s.now) o ≡ first_value found (codes "CODE") → option_map (λ s. s.now) o ≡ code_of (rows_of found)
+code_given found o given = given ∙ first_value-rows found (codes "CODE")
+
+-- of the file that `-o` names
+pub output_given : (found : Found) (o : Option (Bor Text)) → option_map (λ s. s.now) o ≡ first_value found (codes "output") → option_map (λ s. s.now) o ≡ output_of (rows_of found)
+output_given found o given = given ∙ first_value-rows found (codes "output")
 
 -- and of a file for saves
 pub save_given : (found : Found) (o : Option (Bor Text)) → option_map (λ s. s.now) o ≡ first_value found (codes "save") → option_map (λ s. s.now) o ≡ save_of (rows_of found)
@@ -161,13 +205,16 @@ frames_are_low rows = go (one_of (codes "frames") rows)
 
 -- what is read of matches asks for no limit above the greatest
 low_among : (matches : Text × List Row) (command : Command) → IsReadFrom matches command → IsLow command
-low_among matches (commands.List story certificate) h = tt
-low_among matches (commands.Find story certificate frames strict places force) (named, s, c, is, strictly, told, forced) = subst (λ (o : Option ℕ). IfSome o (λ n. n ≤ 4096)) (sym is) (frames_are_low matches.1)
-low_among matches (commands.Check story certificate) h = tt
+low_among matches (commands.List story certificate json) h = tt
+low_among matches (commands.Find story certificate frames strict places force json) (named, target, (is, strictly, told, forced, asked)) = subst (λ (o : Option ℕ). IfSome o (λ n. n ≤ 4096)) (sym is) (frames_are_low matches.1)
+low_among matches (commands.FindEach stories frames strict places force json) (named, target, beside, all, (is, strictly, told, forced, asked)) = subst (λ (o : Option ℕ). IfSome o (λ n. n ≤ 4096)) (sym is) (frames_are_low matches.1)
+low_among matches commands.OneForMany h = tt
+low_among matches (commands.Check story certificate json) h = tt
+low_among matches (commands.CheckEach stories json) h = tt
 low_among matches (commands.Show story certificate address) h = tt
 low_among matches (commands.Play story certificate seed budget status save tell force) h = tt
 low_among matches (commands.Info story json) h = tt
-low_among matches (commands.Explain code) h = tt
+low_among matches (commands.Explain code json) h = tt
 
 pub low_if_read : (found : Option (Text × List Row)) (command : Command) → IsSomeAnd found (λ matches. IsReadFrom matches command) → IsLow command
 low_if_read (Some matches) command h = low_among matches command h

@@ -1,11 +1,13 @@
 -- Values of the definitions, computed.
 use Rattle.std.proofs.Common.{◌≡◌, List, [], ◌∷◌, Bool, true, false, codes, refl}
 use Rattle.std.specs.Prelude.{IsSomeAnd, None, Some}
+use Rattle.std.specs.Char.{encode_utf8}
+use Rattle.std.specs.Str.{chars}
 use Rattle.clap.specs.Kinds.{Kinds}
 use Rattle.clap.specs.Words.{Text, subcommand_of, fault_of}
-use Rattle.clap.specs.Walk.{walked}
-use Rattle.clap.specs.Faults.{defaults_fault, walk_fault}
-use Rattle.zcommand.specs.CommandLine.{Asks, Request, ListStory, Find, Check, Show, Play, Info, Explain, number_in, zpc_app}
+use Rattle.clap.specs.Walk.{bundle_met, walked}
+use Rattle.clap.specs.Faults.{defaults_fault, flags_fault, walk_fault}
+use Rattle.zcommand.specs.CommandLine.{Asks, Request, ListStory, Find, FindEach, OneForMany, Check, CheckEach, Show, Play, Info, Explain, number_in, zpc_app}
 
 -- a number is below 2 to the 32nd, or to the 64th, and has digits alone behind one plus
 numbers :
@@ -18,45 +20,76 @@ abbrev Ask : List Text → Request → Type 0
 Ask words request = (fault_of zpc_app words ≡ []) × IsSomeAnd (subcommand_of zpc_app words) (λ matches. Asks matches request)
 
 asked :
-    Ask (codes "list" ∷ codes "hello.z3" ∷ []) (ListStory (codes "hello.z3") None)
-    × Ask (codes "list" ∷ codes "hello.z3" ∷ codes "hello.cert" ∷ []) (ListStory (codes "hello.z3") (Some (codes "hello.cert")))
+    Ask (codes "list" ∷ codes "hello.z3" ∷ []) (ListStory (codes "hello.z3") None false)
+    × Ask (codes "list" ∷ codes "hello.z3" ∷ codes "hello.cert" ∷ []) (ListStory (codes "hello.z3") (Some (codes "hello.cert")) false)
+    × Ask (codes "list" ∷ codes "--json" ∷ codes "a.z3" ∷ []) (ListStory (codes "a.z3") None true)
     × Ask (codes "play" ∷ codes "hello.z3" ∷ []) (Play (codes "hello.z3") None 1 1000000000 false None false false)
     × Ask (codes "play" ∷ codes "--budget" ∷ codes "4294967295" ∷ codes "hello.z3" ∷ codes "hello.cert" ∷ codes "--status" ∷ codes "--seed" ∷ codes "18446744073709551615" ∷ []) (Play (codes "hello.z3") (Some (codes "hello.cert")) 18446744073709551615 4294967295 true None false false)
     × Ask (codes "play" ∷ codes "--save" ∷ codes "a.qzl" ∷ codes "--tell" ∷ codes "--seed" ∷ codes "0" ∷ codes "--budget" ∷ codes "0" ∷ codes "hello.z3" ∷ []) (Play (codes "hello.z3") None 0 0 false (Some (codes "a.qzl")) true false)
     × Ask (codes "play" ∷ codes "--force" ∷ codes "--save" ∷ codes "a.qzl" ∷ codes "hello.z3" ∷ []) (Play (codes "hello.z3") None 1 1000000000 false (Some (codes "a.qzl")) false true)
-    × Ask (codes "check" ∷ codes "hello.z3" ∷ codes "hello.cert" ∷ []) (Check (codes "hello.z3") (codes "hello.cert"))
+    × Ask (codes "check" ∷ codes "hello.z3" ∷ codes "hello.cert" ∷ []) (Check (codes "hello.z3") (codes "hello.cert") false)
+    × Ask (codes "check" ∷ codes "--json" ∷ codes "a" ∷ codes "b" ∷ []) (Check (codes "a") (codes "b") true)
+    × Ask (codes "check" ∷ codes "hello.z3" ∷ []) (CheckEach (codes "hello.z3" ∷ []) false)
+    × Ask (codes "check" ∷ codes "a.z3" ∷ codes "--json" ∷ []) (CheckEach (codes "a.z3" ∷ []) true)
+    × Ask (codes "check" ∷ codes "a.z3" ∷ codes "b.Z3" ∷ []) (CheckEach (codes "a.z3" ∷ codes "b.Z3" ∷ []) false)
+    × Ask (codes "check" ∷ codes "a.z3" ∷ codes "b" ∷ codes "c" ∷ []) (CheckEach (codes "a.z3" ∷ codes "b" ∷ codes "c" ∷ []) false)
     × Ask (codes "show" ∷ codes "hello.z3" ∷ codes "hello.cert" ∷ []) (Show (codes "hello.z3") (codes "hello.cert") None)
     × Ask (codes "show" ∷ codes "hello.z3" ∷ codes "hello.cert" ∷ codes "00325" ∷ []) (Show (codes "hello.z3") (codes "hello.cert") (Some (codes "00325")))
-    × Ask (codes "find" ∷ codes "hello.z3" ∷ codes "hello.cert" ∷ []) (Find (codes "hello.z3") (codes "hello.cert") None false false false)
-    × Ask (codes "find" ∷ codes "hello.z3" ∷ codes "hello.cert" ∷ codes "--force" ∷ []) (Find (codes "hello.z3") (codes "hello.cert") None false false true)
-    × Ask (codes "find" ∷ codes "--frames" ∷ codes "4096" ∷ codes "hello.z3" ∷ codes "hello.cert" ∷ []) (Find (codes "hello.z3") (codes "hello.cert") (Some 4096) false false false)
-    × Ask (codes "find" ∷ codes "--strict" ∷ codes "hello.z3" ∷ codes "hello.cert" ∷ []) (Find (codes "hello.z3") (codes "hello.cert") None true false false)
-    × Ask (codes "find" ∷ codes "hello.z3" ∷ codes "hello.cert" ∷ codes "--places" ∷ []) (Find (codes "hello.z3") (codes "hello.cert") None false true false)
+    × Ask (codes "find" ∷ codes "hello.z3" ∷ codes "hello.cert" ∷ []) (Find (codes "hello.z3") (codes "hello.cert") None false false false false)
+    × Ask (codes "find" ∷ codes "a.z3" ∷ codes "b.cert" ∷ codes "--force" ∷ []) (Find (codes "a.z3") (codes "b.cert") None false false true false)
+    × Ask (codes "find" ∷ codes "--frames" ∷ codes "4096" ∷ codes "hello.z3" ∷ codes "hello.cert" ∷ []) (Find (codes "hello.z3") (codes "hello.cert") (Some 4096) false false false false)
+    × Ask (codes "find" ∷ codes "--strict" ∷ codes "hello.z3" ∷ codes "hello.cert" ∷ []) (Find (codes "hello.z3") (codes "hello.cert") None true false false false)
+    × Ask (codes "find" ∷ codes "hello.z3" ∷ codes "hello.cert" ∷ codes "--places" ∷ codes "--json" ∷ []) (Find (codes "hello.z3") (codes "hello.cert") None false true false true)
+    × Ask (codes "find" ∷ codes "a.z3" ∷ codes "-o" ∷ codes "c" ∷ []) (Find (codes "a.z3") (codes "c") None false false false false)
+    × Ask (codes "find" ∷ codes "-oc" ∷ codes "a.z3" ∷ []) (Find (codes "a.z3") (codes "c") None false false false false)
+    × Ask (codes "find" ∷ codes "--output" ∷ codes "c.z3" ∷ codes "a" ∷ []) (Find (codes "a") (codes "c.z3") None false false false false)
+    × Ask (codes "find" ∷ codes "a.z3" ∷ []) (FindEach (codes "a.z3" ∷ []) None false false false false)
+    × Ask (codes "find" ∷ codes "a.z3" ∷ codes "b.z3" ∷ codes "--frames" ∷ codes "7" ∷ codes "--json" ∷ []) (FindEach (codes "a.z3" ∷ codes "b.z3" ∷ []) (Some 7) false false false true)
+    × Ask (codes "find" ∷ codes "--strict" ∷ codes "--places" ∷ codes "--force" ∷ codes "a.z3" ∷ codes "b.Z3" ∷ codes "c" ∷ []) (FindEach (codes "a.z3" ∷ codes "b.Z3" ∷ codes "c" ∷ []) None true true true false)
+    × Ask (codes "find" ∷ codes "a.z3" ∷ codes "b.z3" ∷ codes "-o" ∷ codes "c" ∷ []) OneForMany
+    × Ask (codes "find" ∷ codes "a.z3" ∷ codes "b" ∷ codes "-o" ∷ codes "c" ∷ []) OneForMany
     × Ask (codes "info" ∷ codes "hello.z3" ∷ []) (Info (codes "hello.z3") false)
     × Ask (codes "info" ∷ codes "--json" ∷ codes "hello.z3" ∷ []) (Info (codes "hello.z3") true)
-    × Ask (codes "explain" ∷ codes "I5" ∷ []) (Explain (codes "I5"))
-unfolding defaults_fault walk_fault walked
+    × Ask (codes "explain" ∷ []) (Explain None false)
+    × Ask (codes "explain" ∷ codes "I5" ∷ []) (Explain (Some (codes "I5")) false)
+    × Ask (codes "explain" ∷ codes "i5" ∷ codes "--json" ∷ []) (Explain (Some (codes "i5")) true)
+unfolding walked bundle_met chars encode_utf8 flags_fault walk_fault defaults_fault
 asked =
-    ((refl, (refl, refl, refl)), (refl, (refl, refl, refl)), (refl, (refl, refl, refl, refl, refl, refl, refl, refl, refl)), (refl, (refl, refl, refl, refl, refl, refl, refl, refl, refl)), (refl, (refl, refl, refl, refl, refl, refl, refl, refl, refl)), (refl, (refl, refl, refl, refl, refl, refl, refl, refl, refl)), (refl, (refl, refl, refl)), (refl, (refl, refl, refl, refl)), (refl, (refl, refl, refl, refl)), (refl, (refl, refl, refl, refl, refl, refl, refl)), (refl, (refl, refl, refl, refl, refl, refl, refl)), (refl, (refl, refl, refl, refl, refl, refl, refl)), (refl, (refl, refl, refl, refl, refl, refl, refl)), (refl, (refl, refl, refl, refl, refl, refl, refl)), (refl, (refl, refl, refl)), (refl, (refl, refl, refl)), (refl, (refl, refl)))
+    ((refl, (refl, refl, refl, refl)), (refl, (refl, refl, refl, refl)), (refl, (refl, refl, refl, refl)), (refl, (refl, refl, refl, refl, refl, refl, refl, refl, refl)), (refl, (refl, refl, refl, refl, refl, refl, refl, refl, refl)), (refl, (refl, refl, refl, refl, refl, refl, refl, refl, refl)), (refl, (refl, refl, refl, refl, refl, refl, refl, refl, refl)), (refl, (refl, refl, refl)), (refl, (refl, refl, refl)), (refl, (refl, refl, refl, refl)), (refl, (refl, refl, refl, refl)), (refl, (refl, refl, refl, refl)), (refl, (refl, refl, refl, refl)), (refl, (refl, refl, refl, refl)), (refl, (refl, refl, refl, refl)), (refl, (refl, refl, (refl, refl, refl, refl, refl))), (refl, (refl, refl, (refl, refl, refl, refl, refl))), (refl, (refl, refl, (refl, refl, refl, refl, refl))), (refl, (refl, refl, (refl, refl, refl, refl, refl))), (refl, (refl, refl, (refl, refl, refl, refl, refl))), (refl, (refl, refl, (refl, refl, refl, refl, refl))), (refl, (refl, refl, (refl, refl, refl, refl, refl))), (refl, (refl, refl, (refl, refl, refl, refl, refl))), (refl, (refl, refl, refl, refl, (refl, refl, refl, refl, refl))), (refl, (refl, refl, refl, refl, (refl, refl, refl, refl, refl))), (refl, (refl, refl, refl, refl, (refl, refl, refl, refl, refl))), (refl, (refl, refl, refl)), (refl, (refl, refl, refl)), (refl, (refl, refl, refl)), (refl, (refl, refl, refl)), (refl, (refl, refl, refl)), (refl, (refl, refl, refl)), (refl, (refl, refl, refl)))
 
 -- a command lacks a file or has too many, or there is none of the name, or none at all, or the budget is 2 to the 32nd or the
--- seed 2 to the 64th, or the flag has a value, or the option has none or an empty one
+-- seed 2 to the 64th, or the flag has a value, or the option has none or an empty one, or is there twice
 is_wrong : Kinds → Bool
 is_wrong [] = false
 is_wrong (kind ∷ kinds) = true
 
 wrong :
-    (is_wrong (fault_of zpc_app (codes "check" ∷ codes "hello.z3" ∷ [])) ≡ true) × (is_wrong (fault_of zpc_app (codes "sing" ∷ [])) ≡ true)
-    × (is_wrong (fault_of zpc_app (codes "list" ∷ [])) ≡ true) × (is_wrong (fault_of zpc_app (codes "list" ∷ codes "a" ∷ codes "b" ∷ codes "c" ∷ [])) ≡ true)
-    × (is_wrong (fault_of zpc_app (codes "find" ∷ codes "hello.z3" ∷ [])) ≡ true) × (is_wrong (fault_of zpc_app (codes "find" ∷ codes "a" ∷ codes "b" ∷ codes "c" ∷ [])) ≡ true)
-    × (is_wrong (fault_of zpc_app (codes "find" ∷ codes "--frames" ∷ codes "4097" ∷ codes "a" ∷ codes "b" ∷ [])) ≡ true) × (is_wrong (fault_of zpc_app (codes "find" ∷ codes "a" ∷ codes "b" ∷ codes "--frames" ∷ [])) ≡ true)
-    × (is_wrong (fault_of zpc_app (codes "show" ∷ codes "hello.z3" ∷ [])) ≡ true) × (is_wrong (fault_of zpc_app (codes "show" ∷ codes "a" ∷ codes "b" ∷ codes "c" ∷ codes "d" ∷ [])) ≡ true)
-    × (is_wrong (fault_of zpc_app (codes "info" ∷ [])) ≡ true) × (is_wrong (fault_of zpc_app (codes "info" ∷ codes "a" ∷ codes "b" ∷ [])) ≡ true)
-    × (is_wrong (fault_of zpc_app (codes "explain" ∷ [])) ≡ true) × (is_wrong (fault_of zpc_app (codes "explain" ∷ codes "I5" ∷ codes "I6" ∷ [])) ≡ true)
-    × (is_wrong (fault_of zpc_app []) ≡ true) × (is_wrong (fault_of zpc_app (codes "play" ∷ codes "hello.z3" ∷ codes "--budget" ∷ codes "4294967296" ∷ [])) ≡ true)
-    × (is_wrong (fault_of zpc_app (codes "play" ∷ codes "hello.z3" ∷ codes "--status=true" ∷ [])) ≡ true) × (is_wrong (fault_of zpc_app (codes "play" ∷ codes "hello.z3" ∷ codes "--tell=true" ∷ [])) ≡ true)
+    (is_wrong (fault_of zpc_app (codes "check" ∷ [])) ≡ true)
+    × (is_wrong (fault_of zpc_app (codes "sing" ∷ [])) ≡ true)
+    × (is_wrong (fault_of zpc_app (codes "list" ∷ [])) ≡ true)
+    × (is_wrong (fault_of zpc_app (codes "list" ∷ codes "a" ∷ codes "b" ∷ codes "c" ∷ [])) ≡ true)
+    × (is_wrong (fault_of zpc_app (codes "list" ∷ codes "--json" ∷ [])) ≡ true)
+    × (is_wrong (fault_of zpc_app (codes "find" ∷ [])) ≡ true)
+    × (is_wrong (fault_of zpc_app (codes "find" ∷ codes "--frames" ∷ codes "4097" ∷ codes "a" ∷ codes "b" ∷ [])) ≡ true)
+    × (is_wrong (fault_of zpc_app (codes "find" ∷ codes "a" ∷ codes "b" ∷ codes "--frames" ∷ [])) ≡ true)
+    × (is_wrong (fault_of zpc_app (codes "find" ∷ codes "a" ∷ codes "-o" ∷ [])) ≡ true)
+    × (is_wrong (fault_of zpc_app (codes "find" ∷ codes "-o" ∷ codes "c" ∷ [])) ≡ true)
+    × (is_wrong (fault_of zpc_app (codes "find" ∷ codes "a" ∷ codes "-o" ∷ [] ∷ [])) ≡ true)
+    × (is_wrong (fault_of zpc_app (codes "find" ∷ codes "a" ∷ codes "--output=" ∷ [])) ≡ true)
+    × (is_wrong (fault_of zpc_app (codes "find" ∷ codes "a" ∷ codes "-o" ∷ codes "c" ∷ codes "--output" ∷ codes "d" ∷ [])) ≡ true)
+    × (is_wrong (fault_of zpc_app (codes "check" ∷ codes "a" ∷ codes "-o" ∷ codes "c" ∷ [])) ≡ true)
+    × (is_wrong (fault_of zpc_app (codes "show" ∷ codes "hello.z3" ∷ [])) ≡ true)
+    × (is_wrong (fault_of zpc_app (codes "show" ∷ codes "a" ∷ codes "b" ∷ codes "c" ∷ codes "d" ∷ [])) ≡ true)
+    × (is_wrong (fault_of zpc_app (codes "info" ∷ [])) ≡ true)
+    × (is_wrong (fault_of zpc_app (codes "info" ∷ codes "a" ∷ codes "b" ∷ [])) ≡ true)
+    × (is_wrong (fault_of zpc_app (codes "explain" ∷ codes "I5" ∷ codes "I6" ∷ [])) ≡ true)
+    × (is_wrong (fault_of zpc_app []) ≡ true)
+    × (is_wrong (fault_of zpc_app (codes "play" ∷ codes "hello.z3" ∷ codes "--budget" ∷ codes "4294967296" ∷ [])) ≡ true)
+    × (is_wrong (fault_of zpc_app (codes "play" ∷ codes "hello.z3" ∷ codes "--status=true" ∷ [])) ≡ true)
+    × (is_wrong (fault_of zpc_app (codes "play" ∷ codes "hello.z3" ∷ codes "--tell=true" ∷ [])) ≡ true)
     × (is_wrong (fault_of zpc_app (codes "play" ∷ codes "hello.z3" ∷ codes "--save" ∷ [])) ≡ true)
-    × (is_wrong (fault_of zpc_app (codes "play" ∷ codes "hello.z3" ∷ codes "--save" ∷ [] ∷ [])) ≡ true) × (is_wrong (fault_of zpc_app (codes "play" ∷ codes "hello.z3" ∷ codes "--save=" ∷ [])) ≡ true)
+    × (is_wrong (fault_of zpc_app (codes "play" ∷ codes "hello.z3" ∷ codes "--save" ∷ [] ∷ [])) ≡ true)
+    × (is_wrong (fault_of zpc_app (codes "play" ∷ codes "hello.z3" ∷ codes "--save=" ∷ [])) ≡ true)
     × (is_wrong (fault_of zpc_app (codes "play" ∷ codes "hello.z3" ∷ codes "--seed" ∷ codes "18446744073709551616" ∷ [])) ≡ true)
-unfolding is_wrong defaults_fault walk_fault walked
-wrong = (refl, refl, refl, refl, refl, refl, refl, refl, refl, refl, refl, refl, refl, refl, refl, refl, refl, refl, refl, refl, refl, refl)
+unfolding is_wrong walked bundle_met chars encode_utf8 flags_fault walk_fault defaults_fault
+wrong = (refl, refl, refl, refl, refl, refl, refl, refl, refl, refl, refl, refl, refl, refl, refl, refl, refl, refl, refl, refl, refl, refl, refl, refl, refl, refl, refl)

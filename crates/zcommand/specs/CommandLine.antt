@@ -1,14 +1,15 @@
 -- The command line: which words the program takes, in the terms of clap's definitions, and what the matches that clap
 -- makes of them ask for (own).
-use Rattle.std.specs.Prelude.{◌≡◌, ◌⊎◌, ◌≤◌, ⊤, ℕ, ◌^◌, ◌&&◌, Bool, true, false, List, [], ◌∷◌, IfSome, Option, None, Some, nat_le, option_map, length, codes, if◌then◌else◌, nat_lt, pos, unwrap_or}
+use Rattle.std.specs.Prelude.{◌≡◌, ◌⊎◌, ◌≤◌, ⊤, ℕ, ◌^◌, ◌&&◌, Bool, true, false, List, [], ◌∷◌, IfSome, Option, None, Some, nat_le, option_map, map, is_some, length, codes, if◌then◌else◌, nat_lt, pos, unwrap_or}
 use Rattle.std.specs.List.{list_all}
 use Rattle.std.specs.Option.{option_map_or}
 use Rattle.std.specs.Char.{digit_value}
 use Rattle.std.specs.Str.{bytes_eq}
 use Rattle.std.specs.Str.Parse.{digits_value, without_leading_plus}
-use Rattle.clap.specs.Words.{App, Row, Rule, Text, first_of, new_app, new_rule, one_of, with_rule, with_subcommand}
-use Rattle.clap.specs.declared.builder.action.ArgAction.TheVariants.{SetTrue}
+use Rattle.clap.specs.Words.{App, Row, Rule, Text, all_of, first_of, new_app, new_rule, one_of, with_rule, with_subcommand}
+use Rattle.clap.specs.declared.builder.action.ArgAction.TheVariants.{Append, SetTrue}
 use Rattle.clap.specs.declared.builder.value_parser.ValueParser.TheVariants as parsers
+use Rattle.zbatch.specs.Naming.{is_story_name}
 use Rattle.zcommand.specs.declared.words.Command.{Command}
 use Rattle.zcommand.specs.declared.words.Command.TheVariants as commands
 
@@ -66,17 +67,29 @@ force_rule = record (new_rule (codes "force")) { long = Some (codes "force"); ac
 abbrev pub json_rule : Rule
 json_rule = record (new_rule (codes "json")) { long = Some (codes "json"); action = Some SetTrue }
 
--- `--save FILE`, where FILE isn't empty
+-- `--NAME FILE`, where FILE isn't empty
+abbrev pub file_rule : Text → Rule
+file_rule name = record (new_rule name) { long = Some name; value_names = 1; parser = Some parsers.NonEmptyString }
+
+-- `--save FILE`
 abbrev pub save_rule : Rule
-save_rule = record (new_rule (codes "save")) { long = Some (codes "save"); value_names = 1; parser = Some parsers.NonEmptyString }
+save_rule = file_rule (codes "save")
 
 -- `CERT`, which has to be there or may be
 abbrev pub certificate_rule : Bool → Rule
 certificate_rule required = word_rule (codes "CERT") required
 
--- `CODE`, which has to be there
+-- `FILE..`, of which at least one has to be there
+abbrev pub files_rule : Rule
+files_rule = record (word_rule (codes "FILE") true) { action = Some Append }
+
+-- `-o CERT`, or `--output CERT`
+abbrev pub output_rule : Rule
+output_rule = record (file_rule (codes "output")) { short = Some 111 }
+
+-- `CODE`, which may be there
 abbrev pub code_rule : Rule
-code_rule = word_rule (codes "CODE") true
+code_rule = word_rule (codes "CODE") false
 
 -- `ADDRESS`, which may be there
 abbrev pub address_rule : Rule
@@ -86,21 +99,25 @@ address_rule = word_rule (codes "ADDRESS") false
 abbrev pub files_app : Text → Bool → App
 files_app name required = with_rule (with_rule (new_app name) story_rule) (certificate_rule required)
 
--- `list STORY [CERT]`
+-- `list STORY [CERT] --json`
 abbrev pub list_app : App
-list_app = files_app (codes "list") false
+list_app = with_rule (files_app (codes "list") false) json_rule
 
--- `find STORY CERT --frames N`
+-- a command on FILE..
+abbrev pub many_app : Text → App
+many_app name = with_rule (new_app name) files_rule
+
+-- `find FILE.. -o CERT --frames N`
 abbrev pub framing_app : App
-framing_app = with_rule (files_app (codes "find") true) frames_rule
+framing_app = with_rule (with_rule (many_app (codes "find")) output_rule) frames_rule
 
--- the same with `--strict --places --force`
+-- the same with `--strict --places --force --json`
 abbrev pub find_app : App
-find_app = with_rule (with_rule (with_rule framing_app strict_rule) places_rule) force_rule
+find_app = with_rule (with_rule (with_rule (with_rule framing_app strict_rule) places_rule) force_rule) json_rule
 
--- `check STORY CERT`
+-- `check FILE.. --json`
 abbrev pub check_app : App
-check_app = files_app (codes "check") true
+check_app = with_rule (many_app (codes "check")) json_rule
 
 -- `show STORY CERT [ADDRESS]`
 abbrev pub show_app : App
@@ -118,9 +135,9 @@ play_app = with_rule (with_rule (with_rule saveless_app save_rule) tell_rule) fo
 abbrev pub info_app : App
 info_app = with_rule (with_rule (new_app (codes "info")) story_rule) json_rule
 
--- `explain CODE`
+-- `explain [CODE] --json`
 abbrev pub explain_app : App
-explain_app = with_rule (new_app (codes "explain")) code_rule
+explain_app = with_rule (with_rule (new_app (codes "explain")) code_rule) json_rule
 
 -- the program, before its commands: its words don't begin with its name, and one of them is a command
 abbrev pub bare_app : App
@@ -212,6 +229,25 @@ is_json_asked rows = is_asked (codes "json") rows
 abbrev pub certificate_of : List Row → Option Text
 certificate_of rows = first_of (codes "CERT") rows
 
+-- the files among the matches of `check` or `find`; without one clap makes no matches
+abbrev pub files_of : List Row → List Text
+files_of rows = unwrap_or (all_of (codes "FILE") rows) []
+
+-- the name that `-o` gives among the matches of `find`, if it is there
+abbrev pub output_of : List Row → Option Text
+output_of rows = first_of (codes "output") rows
+
+-- two files are a story and its certificate's, unless the second is named as a story
+abbrev pub pair_of : List Text → Option (Text × Text)
+pair_of (story ∷ certificate ∷ []) = if is_story_name certificate then None else Some (story, certificate)
+pair_of files = None
+
+-- the one story and its certificate's file that files and an `-o` name, if they do: the file that `-o` names is that of one story
+abbrev pub target_of : List Text → Option Text → Option (Text × Text)
+target_of files None = pair_of files
+target_of (story ∷ []) (Some certificate) = Some (story, certificate)
+target_of files (Some certificate) = None
+
 -- the address among the matches of `show`, if there is one
 abbrev pub address_of : List Row → Option Text
 address_of rows = first_of (codes "ADDRESS") rows
@@ -220,45 +256,61 @@ address_of rows = first_of (codes "ADDRESS") rows
 abbrev pub save_of : List Row → Option Text
 save_of rows = first_of (codes "save") rows
 
--- the code among the matches of `explain`; without one clap makes no matches
-abbrev pub code_of : List Row → Text
-code_of rows = unwrap_or (first_of (codes "CODE") rows) []
+-- the code among the matches of `explain`, if there is one
+abbrev pub code_of : List Row → Option Text
+code_of rows = first_of (codes "CODE") rows
 
 -- what is asked for, by the names of files
 pub data Request : Type 0 where
-  ListStory : (story : Text) (certificate : Option Text) → Request
-  Find : (story certificate : Text) (frames : Option ℕ) (strict places force : Bool) → Request
-  Check : (story certificate : Text) → Request
+  ListStory : (story : Text) (certificate : Option Text) (json : Bool) → Request
+  Find : (story certificate : Text) (frames : Option ℕ) (strict places force json : Bool) → Request
+  FindEach : (stories : List Text) (frames : Option ℕ) (strict places force json : Bool) → Request
+  OneForMany : Request
+  Check : (story certificate : Text) (json : Bool) → Request
+  CheckEach : (stories : List Text) (json : Bool) → Request
   Show : (story certificate : Text) (address : Option Text) → Request
   Play : (story : Text) (certificate : Option Text) (seed budget : ℕ) (status : Bool) (save : Option Text) (tell force : Bool) → Request
   Info : (story : Text) (json : Bool) → Request
-  Explain : (code : Text) → Request
+  Explain : (code : Option Text) (json : Bool) → Request
+
+-- what is asked of `find` beside its files
+abbrev pub AsksToFind : List Row → Option ℕ → Bool → Bool → Bool → Bool → Type 0
+AsksToFind rows frames strict places force json =
+    (frames ≡ frames_of rows) × (strict ≡ is_strict_asked rows) × (places ≡ is_places_asked rows) × (force ≡ is_force_asked rows) × (json ≡ is_json_asked rows)
 
 -- the request is the one that clap's matches name, with the values among them
 abbrev pub Asks : Text × List Row → Request → Type 0
-Asks matches (ListStory story certificate) = (matches.0 ≡ codes "list") × (story ≡ story_of matches.1) × (certificate ≡ certificate_of matches.1)
-Asks matches (Find story certificate frames strict places force) =
-    (matches.0 ≡ codes "find") × (story ≡ story_of matches.1) × (certificate ≡ unwrap_or (certificate_of matches.1) []) × (frames ≡ frames_of matches.1)
-    × (strict ≡ is_strict_asked matches.1) × (places ≡ is_places_asked matches.1) × (force ≡ is_force_asked matches.1)
-Asks matches (Check story certificate) =
-    (matches.0 ≡ codes "check") × (story ≡ story_of matches.1) × (certificate ≡ unwrap_or (certificate_of matches.1) [])
+Asks matches (ListStory story certificate json) =
+    (matches.0 ≡ codes "list") × (story ≡ story_of matches.1) × (certificate ≡ certificate_of matches.1) × (json ≡ is_json_asked matches.1)
+Asks matches (Find story certificate frames strict places force json) =
+    (matches.0 ≡ codes "find") × (target_of (files_of matches.1) (output_of matches.1) ≡ Some (story, certificate)) × AsksToFind matches.1 frames strict places force json
+Asks matches (FindEach stories frames strict places force json) =
+    (matches.0 ≡ codes "find") × (target_of (files_of matches.1) (output_of matches.1) ≡ None) × (output_of matches.1 ≡ None) × (stories ≡ files_of matches.1)
+    × AsksToFind matches.1 frames strict places force json
+Asks matches OneForMany = (matches.0 ≡ codes "find") × (target_of (files_of matches.1) (output_of matches.1) ≡ None) × (is_some (output_of matches.1) ≡ true)
+Asks matches (Check story certificate json) = (matches.0 ≡ codes "check") × (pair_of (files_of matches.1) ≡ Some (story, certificate)) × (json ≡ is_json_asked matches.1)
+Asks matches (CheckEach stories json) =
+    (matches.0 ≡ codes "check") × (pair_of (files_of matches.1) ≡ None) × (stories ≡ files_of matches.1) × (json ≡ is_json_asked matches.1)
 Asks matches (Show story certificate address) =
     (matches.0 ≡ codes "show") × (story ≡ story_of matches.1) × (certificate ≡ unwrap_or (certificate_of matches.1) []) × (address ≡ address_of matches.1)
 Asks matches (Play story certificate seed budget status save tell force) =
     (matches.0 ≡ codes "play") × (story ≡ story_of matches.1) × (certificate ≡ certificate_of matches.1) × (seed ≡ seed_of matches.1) × (budget ≡ budget_of matches.1)
     × (status ≡ is_status_asked matches.1) × (save ≡ save_of matches.1) × (tell ≡ is_tell_asked matches.1) × (force ≡ is_force_asked matches.1)
 Asks matches (Info story json) = (matches.0 ≡ codes "info") × (story ≡ story_of matches.1) × (json ≡ is_json_asked matches.1)
-Asks matches (Explain code) = (matches.0 ≡ codes "explain") × (code ≡ code_of matches.1)
+Asks matches (Explain code json) = (matches.0 ≡ codes "explain") × (code ≡ code_of matches.1) × (json ≡ is_json_asked matches.1)
 
 -- what a command asks for
 abbrev pub request_of : Command → Request
-request_of (commands.List story certificate) = ListStory story.now (option_map (λ c. c.now) certificate)
-request_of (commands.Find story certificate frames strict places force) = Find story.now certificate.now frames strict places force
-request_of (commands.Check story certificate) = Check story.now certificate.now
+request_of (commands.List story certificate json) = ListStory story.now (option_map (λ c. c.now) certificate) json
+request_of (commands.Find story certificate frames strict places force json) = Find story.now certificate.now frames strict places force json
+request_of (commands.FindEach stories frames strict places force json) = FindEach (map (λ s. s.now) stories.now) frames strict places force json
+request_of commands.OneForMany = OneForMany
+request_of (commands.Check story certificate json) = Check story.now certificate.now json
+request_of (commands.CheckEach stories json) = CheckEach (map (λ s. s.now) stories.now) json
 request_of (commands.Show story certificate address) = Show story.now certificate.now (option_map (λ a. a.now) address)
 request_of (commands.Play story certificate seed budget status save tell force) = Play story.now (option_map (λ c. c.now) certificate) seed budget status (option_map (λ f. f.now) save) tell force
 request_of (commands.Info story json) = Info story.now json
-request_of (commands.Explain code) = Explain code.now
+request_of (commands.Explain code json) = Explain (option_map (λ c. c.now) code) json
 
 -- the command is the one that clap's matches name
 abbrev pub IsReadFrom : Text × List Row → Command → Type 0
@@ -266,5 +318,6 @@ IsReadFrom matches command = Asks matches (request_of command)
 
 -- it asks for no certificate with a limit of frames above the greatest
 abbrev pub IsLow : Command → Type 0
-IsLow (commands.Find story certificate frames strict places force) = IfSome frames (λ n. n ≤ 4096)
+IsLow (commands.Find story certificate frames strict places force json) = IfSome frames (λ n. n ≤ 4096)
+IsLow (commands.FindEach stories frames strict places force json) = IfSome frames (λ n. n ≤ 4096)
 IsLow _ = ⊤

@@ -3,4 +3,4 @@
 
 mod words;
 
-pub use words::{Command, read_words};
+pub use words::{Command, command_of, read_words};

@@ -1,9 +1,7 @@
-use Rattle.std.proofs.Common.{codes, refl}
+use Rattle.std.proofs.Common.{refl}
 use Rattle.clap.specs.Words.{found_of}
-use Rattle.zcommand.proofs.Matched.{flag_read, story_read}
+use Rattle.zcommand.proofs.Matched.{story_read}
 use Rattle.zcommand.proofs.words.info_of.Goals as goal
 
 pub returns : goal.returns
-returns c =
-    let found = found_of c.args.matches.now in
-    (refl, story_read found _ _ _ c.get_str.ensures refl c.unwrap_or-story.ensures, flag_read (codes "json") _ found _ _ c.get_one.ensures.none c.get_one.ensures.value c.unwrap_or-json.ensures)
+returns c = (refl, story_read (found_of c.args.matches.now) _ _ _ c.get_str.ensures refl c.unwrap_or-story.ensures, c.is_json_asked-json.ensures)

@@ -1,11 +1,5 @@
-use Rattle.zcommand.proofs.Entered.{no_fault, command_fails, command_named, command_read}
-use Rattle.zcommand.proofs.Matched.{low_if_read}
+use Rattle.zcommand.proofs.Entered.{no_fault, command_fails, command_named, rows_same}
 use Rattle.zcommand.proofs.words.read_words.Goals as goal
-
-pub command_of-requires : goal.command_of-requires
-command_of-requires c =
-    let parsed = c.in_ok-matches.ensures in
-    command_named _ _ _ c.in_ok-program.ensures parsed.kinds parsed.matches
 
 pub returns-in_err-matches-clause-fails : goal.returns-in_err-matches-clause-fails
 returns-in_err-matches-clause-fails c = command_fails _ _ _ _ c.in_ok-program.ensures c.in_err-matches.ensures.kinds c.from_residual-in_err-matches.ensures
@@ -13,12 +7,12 @@ returns-in_err-matches-clause-fails c = command_fails _ _ _ _ c.in_ok-program.en
 pub returns-clause-read : goal.returns-clause-read
 returns-clause-read c =
     let parsed = c.in_ok-matches.ensures in
-    command_read _ _ _ c.in_ok-program.ensures parsed.kinds _ parsed.matches c.command_of.ensures
+    rows_same _ _ _ c.in_ok-program.ensures parsed.kinds parsed.matches
 
-pub returns-clause-low : goal.returns-clause-low
-returns-clause-low c =
+pub returns-clause-named : goal.returns-clause-named
+returns-clause-named c =
     let parsed = c.in_ok-matches.ensures in
-    low_if_read _ c.command_of.result (command_read _ _ _ c.in_ok-program.ensures parsed.kinds _ parsed.matches c.command_of.ensures)
+    command_named _ _ _ c.in_ok-program.ensures parsed.kinds parsed.matches
 
 pub returns-clause-fails : goal.returns-clause-fails
 returns-clause-fails c = no_fault _ c.in_ok-matches.matches _ c.in_ok-program.ensures c.in_ok-matches.ensures.kinds
