@@ -1,2 +1,4 @@
 mod Among
+mod Joined
+mod Stops
 mod Worked

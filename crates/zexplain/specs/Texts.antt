@@ -1,5 +1,6 @@
 -- The texts of the codes, which stand in the tables of the sources alone (own).
-use Rattle.std.specs.Prelude.{List, ℕ, Option, Some, None, find, map, option_map}
+use Rattle.std.specs.Prelude.{List, ℕ, [], ◌∷◌, Option, Some, None, find, map, option_map}
+use Rattle.std.specs.Char.{to_ascii_uppercase}
 use Rattle.std.specs.Str.{bytes_eq}
 use Rattle.zexplain.specs.declared.certificates.TheConstants.{FINDING, FITTING, READING}
 use Rattle.zexplain.specs.declared.faults.TheConstants.{FAULTS}
@@ -74,5 +75,14 @@ abbrev pub of_play : List ℕ → Option (List ℕ)
 of_play code = or_else (or_else (or_else (fault_text code) (saving_text code)) (playing_text code)) (keeping_text code)
 
 -- the text of a code, if it is one
+abbrev pub text_of : List ℕ → Option (List ℕ)
+text_of code = or_else (or_else (of_stories code) (of_certificates code)) (of_play code)
+
+-- a word whose first byte, if it is a letter a to z, is the capital
+abbrev pub with_capital : List ℕ → List ℕ
+with_capital [] = []
+with_capital (first ∷ others) = to_ascii_uppercase first ∷ others
+
+-- what a word means that is a code, but that its letter may be small
 abbrev pub explanation_of : List ℕ → Option (List ℕ)
-explanation_of code = or_else (or_else (of_stories code) (of_certificates code)) (of_play code)
+explanation_of word = text_of (with_capital word)

@@ -12,7 +12,7 @@ Do: name the certificate behind the story, or find one anew with zpc find.
     (
         "K2",
         "K2: the certificate is of another version.
-Rule: its fifth byte is 1, 2 or 3 (own).
+Rule: its fifth byte is 1, 2, 3 or 4 (own).
 Do: find a certificate anew with this program's zpc find.
 ",
     ),
@@ -72,8 +72,9 @@ pub const FITTING: [(&str, &str); 8] = [
     (
         "S1",
         "S1: the certificate is of another story.
-Rule: release, serial number, checksum and length are those of the story's header (Z 11.1).
-Do: find a certificate anew with zpc find whenever the story is compiled anew.
+Rule: release, serial number, checksum and loaded length are the story's (Z 11.1).
+Do: name the story's own certificate, as story.cert beside story.z3. Whenever a story is compiled anew, find one anew with
+zpc find.
 ",
     ),
     (
@@ -133,9 +134,10 @@ pub const FINDING: [(&str, &str); 3] = [
         "G1",
         "G1: no certificate was found.
 Rule: what zpc find answers has passed its own check (own). The address is where that stopped, if it was at one.
-Do: read the second line. \"no certificate: I5 at 00b99\" says that no certificate exists: see zpc explain I5 and
-docs/AUTHORS.md. \"not found\" says that it isn't known whether one exists; zpc list says what is wrong with the story's
-listing, if that is what is at fault, as an opcode that isn't played (zpc explain U1).
+Do: read the second line. \"no certificate: I5 at 00b99\" says that none exists that marks nothing: leave out --strict, or see
+zpc explain I5 and docs/AUTHORS.md. \"no certificate: S5\" says that none exists at all: see zpc explain S5. \"not found\" says that it
+isn't known whether one exists; zpc list story.z3 says what is wrong with the story's listing, if that is what is at fault, as an
+opcode that isn't played (zpc explain U1).
 ",
     ),
     (

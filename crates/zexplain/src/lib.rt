@@ -6,6 +6,13 @@ mod explaining;
 mod faults;
 mod playing;
 mod rules;
+mod short;
 mod stories;
 
+pub use certificates::{FINDING, FITTING, READING};
 pub use explaining::explanation;
+pub use faults::FAULTS;
+pub use playing::{KEEPING, PLAYING, SAVING};
+pub use rules::RULES;
+pub use short::{all_codes, in_short};
+pub use stories::{DECODING, LISTING, LOADING, TEXTS};

@@ -34,7 +34,7 @@ Do: save again; the program that wrote it doesn't keep to the standard.
         "Q5",
         "Q5: the save's memory is compressed.
 Rule: memory is read uncompressed, as UMem, and not as CMem (Q 3; own). The story is told that restoring failed.
-Do: save in this program, or in one that writes UMem.
+Do: go on in the program that wrote it, or let that write UMem, if it can. This program writes UMem.
 ",
     ),
     (

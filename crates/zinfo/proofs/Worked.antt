@@ -1,17 +1,18 @@
 -- Values of the definitions, computed.
 use Rattle.std.proofs.Common.{◌≡◌, List, ℕ, [], ◌∷◌, ◌++◌, codes, refl}
 use Rattle.std.specs.Fmt.{digits}
-use Rattle.std.specs.Prelude.{pos, negsuc, Some}
+use Rattle.std.specs.Prelude.{pos, negsuc, None, Some, true, false}
+use Rattle.json.specs.Json.{boolean, null, string}
 use Rattle.json.specs.Print.{print_from, escape_byte}
 use Rattle.zcode.specs.declared.error.DecodeError.TheVariants.{Truncated, NotInProfile}
 use Rattle.zcode.specs.declared.opcode.Excluded.TheVariants.{SetWindow}
 use Rattle.zlist.specs.declared.list_error.ListError.TheVariants.{Decode, TwoRoutines}
-use Rattle.zinfo.specs.Beside.{text_of_beside}
+use Rattle.zinfo.specs.Beside.{code_of, text_of_beside}
 use Rattle.zinfo.specs.Info.{checksum_by}
-use Rattle.zinfo.specs.Object.{object_of_info}
-use Rattle.zinfo.specs.Shown.{shown}
-use Rattle.zinfo.specs.Text.{checksum_text, text_of_info, unlisted_text}
-use Rattle.zinfo.specs.declared.facts.Beside.TheVariants.{Nothing, Unreadable, OfAnother, Own}
+use Rattle.zinfo.specs.Object.{kept_of, name_of, object_of_info, readable_of}
+use Rattle.zinfo.specs.Shown.{five_digits, shown}
+use Rattle.zinfo.specs.Text.{checksum_text, place_text, text_of_info, unlisted_text}
+use Rattle.zinfo.specs.declared.facts.Beside.TheVariants.{Nothing, Unreadable, Closed, OfAnother, Own}
 use Rattle.zinfo.specs.declared.facts.Checksum.{Checksum}
 use Rattle.zinfo.specs.declared.facts.Checksum.TheVariants.{Right, Unstated, Wrong}
 use Rattle.zinfo.specs.declared.facts.Code.{Code}
@@ -50,7 +51,7 @@ listed = refl
 
 object :
     object_of_info (codes "a.z3") (codes "00ff") (small (Unlisted (Decode (pos 0x325) (NotInProfile SetWindow)))) (codes "a.cert") Nothing
-    ≡ codes "{\"file\":\"a.z3\",\"sha256\":\"00ff\",\"release\":1,\"serial\":\"260101\",\"length\":808,\"checksum\":14702,\"sum\":14702,\"checksum_right\":true,\"objects\":0,\"words\":0,\"routines\":null,\"instructions\":null,\"code\":\"U1\",\"address\":\"00325\",\"cause\":\"J3\",\"opcode\":\"set_window\",\"certificate\":null,\"certificate_code\":null,\"certificate_version\":null,\"certificate_frames\":null,\"certificate_routines\":null,\"certificate_instructions\":null,\"certificate_marks\":null}" ++ 10 ∷ []
+    ≡ codes "{\"file\":\"a.z3\",\"sha256\":\"00ff\",\"release\":1,\"serial\":\"260101\",\"length\":808,\"checksum\":14702,\"sum\":14702,\"checksum_right\":true,\"objects\":0,\"words\":0,\"routines\":null,\"instructions\":null,\"code\":\"U1\",\"address\":\"00325\",\"cause\":\"J3\",\"opcode\":\"set_window\",\"certificate\":null,\"certificate_code\":null,\"certificate_readable\":null,\"certificate_version\":null,\"certificate_frames\":null,\"certificate_routines\":null,\"certificate_instructions\":null,\"certificate_marks\":null}" ++ 10 ∷ []
 unfolding digits print_from escape_byte small
 object = refl
 
@@ -63,3 +64,15 @@ beside :
     × (text_of_beside (Own kept) ≡ codes "certificate: version 4, frames 1024, routines 3, instructions 40, marked 2" ++ 10 ∷ [])
 unfolding digits kept
 beside = (refl, refl, refl, refl)
+
+-- a file beside it that can't be read: it has a name, and nothing else is known of it
+closed :
+    (text_of_beside Closed ≡ codes "certificate: can't be read" ++ 10 ∷ []) × (code_of Closed ≡ None) × (name_of (codes "a.cert") Closed ≡ string (codes "a.cert")) × (kept_of Closed ≡ None)
+    × (readable_of Nothing ≡ null) × (readable_of Closed ≡ boolean false) × (readable_of (Unreadable 3) ≡ boolean true) × (readable_of OfAnother ≡ boolean true) × (readable_of (Own kept) ≡ boolean true)
+closed = (refl, refl, refl, refl, refl, refl, refl, refl, refl)
+
+-- addresses in five digits, and places that are none
+places :
+    (five_digits 0x325 ≡ codes "00325") × (five_digits 0xFFFFF ≡ codes "fffff") × (five_digits 0x1A0B9 ≡ codes "1a0b9") × (place_text (pos 0x100000) ≡ codes "1048576") × (place_text (negsuc 0) ≡ codes "-1")
+unfolding digits
+places = (refl, refl, refl, refl, refl)

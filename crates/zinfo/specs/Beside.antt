@@ -2,7 +2,7 @@
 use Rattle.std.specs.Prelude.{ℕ, Option, None, Some, List, [], ◌++◌, codes, decimal}
 use Rattle.zinfo.specs.Text.{line_of}
 use Rattle.zinfo.specs.declared.facts.Beside.{Beside}
-use Rattle.zinfo.specs.declared.facts.Beside.TheVariants.{Nothing, Unreadable, OfAnother, Own}
+use Rattle.zinfo.specs.declared.facts.Beside.TheVariants.{Nothing, Unreadable, Closed, OfAnother, Own}
 use Rattle.zinfo.specs.declared.facts.Kept.{Kept}
 
 -- a name and a number
@@ -24,12 +24,14 @@ kept_text kept =
 abbrev pub code_of : Beside → Option (List ℕ)
 code_of Nothing = None
 code_of (Unreadable number) = Some (codes "K" ++ decimal number)
+code_of Closed = None
 code_of OfAnother = Some (codes "S1")
 code_of (Own kept) = None
 
 abbrev pub beside_text : Beside → List ℕ
 beside_text Nothing = codes "none"
 beside_text (Unreadable number) = count_text (codes "refused, K") number
+beside_text Closed = codes "can't be read"
 beside_text OfAnother = codes "refused, S1"
 beside_text (Own kept) = kept_text kept
 

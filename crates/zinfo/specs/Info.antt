@@ -8,7 +8,12 @@ use Rattle.zinfo.specs.declared.facts.Checksum.{Checksum}
 use Rattle.zinfo.specs.declared.facts.Checksum.TheVariants.{Right, Unstated, Wrong}
 use Rattle.zinfo.specs.declared.facts.Code.{Code}
 use Rattle.zinfo.specs.declared.facts.Code.TheVariants.{Listed, Unlisted}
+use Rattle.zinfo.specs.declared.facts.Heading.{Heading}
 use Rattle.zinfo.specs.declared.facts.Info.{Info}
+
+-- what names a story: its release, its serial number and the checksum that it states (Z 11.1)
+abbrev pub heading_of : LoadedStory → Heading
+heading_of story = record { release = release story; serial = serial story; checksum = checksum story }
 
 -- The checksum is right where it is the sum that `verify` forms. Where it is another and 0, none is stated (Z 11.1, 15).
 abbrev pub checksum_by : ℕ → ℕ → Checksum

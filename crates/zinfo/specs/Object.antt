@@ -11,7 +11,7 @@ use Rattle.zinfo.specs.Beside.{code_of}
 use Rattle.zinfo.specs.Shown.{shown}
 use Rattle.zinfo.specs.Text.{cause_code, fault_code, place_text, unplayed}
 use Rattle.zinfo.specs.declared.facts.Beside.{Beside}
-use Rattle.zinfo.specs.declared.facts.Beside.TheVariants.{Nothing, Own}
+use Rattle.zinfo.specs.declared.facts.Beside.TheVariants.{Nothing, Closed, Own}
 use Rattle.zinfo.specs.declared.facts.Kept.{Kept}
 use Rattle.zinfo.specs.declared.facts.Checksum.{Checksum}
 use Rattle.zinfo.specs.declared.facts.Checksum.TheVariants.{Right, Unstated, Wrong}
@@ -77,6 +77,12 @@ abbrev pub name_of : List ℕ → Beside → Json
 name_of name Nothing = null
 name_of name beside = string name
 
+-- whether that can be read, if it is there
+abbrev pub readable_of : Beside → Json
+readable_of Nothing = null
+readable_of Closed = boolean false
+readable_of beside = boolean true
+
 -- what the certificate has that is of the story, if it is
 abbrev pub kept_of : Beside → Option Kept
 kept_of (Own kept) = Some kept
@@ -100,7 +106,8 @@ marks_of kept = option_map (λ k. k.marks) kept
 -- what stands beside it, by this name
 abbrev pub beside_pairs : List ℕ → Beside → List Pair
 beside_pairs certificate beside =
-    (codes "certificate", name_of certificate beside) ∷ (codes "certificate_code", text_or_null (code_of beside)) ∷ (codes "certificate_version", number_or_null (version_of (kept_of beside)))
+    (codes "certificate", name_of certificate beside) ∷ (codes "certificate_code", text_or_null (code_of beside)) ∷ (codes "certificate_readable", readable_of beside)
+    ∷ (codes "certificate_version", number_or_null (version_of (kept_of beside)))
     ∷ (codes "certificate_frames", number_or_null (frames_of (kept_of beside))) ∷ (codes "certificate_routines", number_or_null (parts_of (kept_of beside)))
     ∷ (codes "certificate_instructions", number_or_null (listed_of (kept_of beside))) ∷ (codes "certificate_marks", number_or_null (marks_of (kept_of beside))) ∷ []
 

@@ -5,6 +5,10 @@ use Rattle.std.specs.Prelude.{ℕ, ◌/◌, ◌%◌, ◌==◌, ◌&&◌, Bool, n
 abbrev pub hex_digit : ℕ → ℕ
 hex_digit n = slice_index (codes "0123456789abcdef") n
 
+-- the five digits of a number below 0x100000
+abbrev pub five_digits : ℕ → List ℕ
+five_digits n = hex_digit (n / 65536) ∷ hex_digit (n / 4096 % 16) ∷ hex_digit (n / 256 % 16) ∷ hex_digit (n / 16 % 16) ∷ hex_digit (n % 16) ∷ []
+
 -- a printable character of ASCII but the backslash
 abbrev pub is_plain : ℕ → Bool
 is_plain byte = nat_le 32 byte && nat_le byte 126 && not (byte == 92)

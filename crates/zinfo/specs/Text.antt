@@ -8,7 +8,7 @@ use Rattle.zcode.specs.declared.error.DecodeError.TheVariants.{Truncated, NoSuch
 use Rattle.zlist.specs.Listed.{place_of}
 use Rattle.zlist.specs.declared.list_error.ListError.{ListError}
 use Rattle.zlist.specs.declared.list_error.ListError.TheVariants.{Decode, TwoRoutines, ComputedJump, OutOfMemory}
-use Rattle.zinfo.specs.Shown.{hex_digit, shown}
+use Rattle.zinfo.specs.Shown.{five_digits, hex_digit, shown}
 use Rattle.zinfo.specs.declared.facts.Checksum.{Checksum}
 use Rattle.zinfo.specs.declared.facts.Checksum.TheVariants.{Right, Unstated, Wrong}
 use Rattle.zinfo.specs.declared.facts.Code.{Code}
@@ -18,10 +18,6 @@ use Rattle.zinfo.specs.declared.facts.Info.{Info}
 -- the four hexadecimal digits of a word
 abbrev pub four_digits : ℕ → List ℕ
 four_digits word = hex_digit (word / 4096) ∷ hex_digit (word / 256 % 16) ∷ hex_digit (word / 16 % 16) ∷ hex_digit (word % 16) ∷ []
-
--- the five of a number below 0x100000
-abbrev pub five_digits : ℕ → List ℕ
-five_digits number = hex_digit (number / 65536) ∷ four_digits (number % 65536)
 
 -- a place: an address from 0 to 0xfffff in five hexadecimal digits, and any other number in decimal
 abbrev pub place_text : ℤ → List ℕ

@@ -2,9 +2,9 @@
 
 ghost use Rattle.std.specs.Prelude.{◌≡◌, IfOk};
 ghost use Rattle.zstory.specs.Dictionary.{entry_count};
-ghost use Rattle.zinfo.specs.Info.{IsCodeOf, IsInfoOf, checksum_by};
+ghost use Rattle.zinfo.specs.Info.{IsCodeOf, IsInfoOf, checksum_by, heading_of};
 
-use crate::facts::{Checksum, Code, Info};
+use crate::facts::{Checksum, Code, Heading, Info};
 use byteorder::{BigEndian, ByteOrder};
 use std::alloc::{AllocError, Global};
 use zlist::{ListError, list_story};
@@ -28,6 +28,19 @@ pub fn info(alloc: Global, story: &Story) -> Result<Info, AllocError>
         words: word_count(story),
         code,
     })
+}
+
+/// What names a story: what its header states (Z 11.1). No memory is wanted, and nothing is listed.
+pub fn heading(story: &Story) -> Heading
+    ensures { result ≡ heading_of story.now }
+{
+    let identity = story.identity();
+    let serial = identity.serial;
+    Heading {
+        release: identity.release,
+        serial,
+        checksum: identity.checksum,
+    }
 }
 
 fn checksum_by(stated: u16, sum: u16) -> Checksum

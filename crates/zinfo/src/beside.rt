@@ -7,8 +7,8 @@ use crate::facts::{Beside, Kept};
 use itoa::Buffer;
 use std::alloc::{AllocError, Global};
 
-/// What stands beside a story, on a line: `certificate: none`, or as `certificate: refused, K3` why it is no certificate of the story, or
-/// what it has. Fails only for want of memory.
+/// What stands beside a story, on a line: `certificate: none`, `certificate: can't be read`, or as `certificate: refused, K3` why it is no
+/// certificate of the story, or what it has. Fails only for want of memory.
 pub fn text_of_beside(alloc: Global, beside: &Beside) -> Result<String, AllocError>
     ensures { IfOk result (λ text. string_bytes text ≡ text_of_beside beside.now) }
 {
@@ -25,6 +25,7 @@ fn push_beside(beside: Beside, text: &mut String) -> Result<(), AllocError>
     match beside {
         Beside::Nothing => text.push_str("none"),
         Beside::Unreadable(number) => push_count("refused, K", u64::from(number), text),
+        Beside::Closed => text.push_str("can't be read"),
         Beside::OfAnother => text.push_str("refused, S1"),
         Beside::Own(kept) => push_kept(kept, text),
     }

@@ -2,6 +2,17 @@
 
 use zlist::ListError;
 
+/// What names a story: fields of its header (Z 11.1).
+#[derive(Clone, Copy, Debug, PartialEq, Eq)]
+pub struct Heading {
+    /// The release number.
+    pub release: u16,
+    /// The serial number, six bytes that needn't be digits.
+    pub serial: [u8; 6],
+    /// The checksum that is stated, 0 in early files.
+    pub checksum: u16,
+}
+
 /// The checksum that a header states (Z 11.1), beside the sum that `verify` forms (Z 15).
 #[derive(Clone, Copy, Debug, PartialEq, Eq)]
 pub enum Checksum {
@@ -63,6 +74,8 @@ pub enum Beside {
     Nothing,
     /// A file that is no certificate, by the number of what is wrong with it.
     Unreadable(u8),
+    /// A file, or a folder or a device, that can't be read.
+    Closed,
     /// The certificate of another story.
     OfAnother,
     /// A certificate of this story, accepted or not.

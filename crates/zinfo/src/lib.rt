@@ -9,10 +9,10 @@ mod object;
 mod shown;
 mod text;
 
-pub use asking::info;
+pub use asking::{heading, info};
 pub use beside::text_of_beside;
-pub use facts::{Beside, Checksum, Code, Info, Kept};
+pub use facts::{Beside, Checksum, Code, Heading, Info, Kept};
 pub use laws::shown_bytes_are_told_apart;
 pub use object::object_of_info;
-pub use shown::shown_text;
-pub use text::text_of_info;
+pub use shown::{five_digits, shown_text};
+pub use text::{fault_code, push_address, push_place, text_of_info};

@@ -2,7 +2,7 @@
 
 ghost use Rattle.std.specs.Prelude.{◌≡◌, IfOk, option_map, string_bytes};
 ghost use Rattle.zinfo.specs.Beside.{code_of};
-ghost use Rattle.zinfo.specs.Object.{address_of, cause_of, fault_of, frames_of, instructions_of, kept_of, listed_of, marks_of, name_of, object_of_info, opcode_of, parts_of, right_of, routines_of, stated_of, sum_of, version_of};
+ghost use Rattle.zinfo.specs.Object.{address_of, cause_of, fault_of, frames_of, instructions_of, kept_of, listed_of, marks_of, name_of, object_of_info, opcode_of, parts_of, readable_of, right_of, routines_of, stated_of, sum_of, version_of};
 ghost use Rattle.zjson.specs.Objects.{value_of};
 
 use crate::facts::{Beside, Checksum, Code, Info, Kept};
@@ -18,7 +18,7 @@ use zlist::ListError;
 /// as `shown_text` shows it, `length`, `checksum` (0 where none is stated), `sum`, `checksum_right` (null where none is stated),
 /// `objects`, `words`, and `routines` and `instructions`, or in their place what is at fault: `code`, `address`, and of an instruction
 /// `cause` and `opcode`. Then comes what stands beside it: `certificate`, the name of the file if there is one, `certificate_code` where it
-/// is no certificate of the story, and else `certificate_version`, `certificate_frames`, `certificate_routines`,
+/// is no certificate of the story, `certificate_readable`, whether it can be read, and of a certificate of the story `certificate_version`, `certificate_frames`, `certificate_routines`,
 /// `certificate_instructions` and `certificate_marks`. What there isn't is null. Fails only for want of memory.
 pub fn object_of_info(
     alloc: Global,
@@ -56,6 +56,7 @@ pub fn object_of_info(
         Member::new("opcode", Value::of_text(opcode_of(info.code))),
         Member::new("certificate", name_of(certificate.as_str(), *beside)),
         Member::new("certificate_code", Value::of_text(borrowed(&code))),
+        Member::new("certificate_readable", readable_of(*beside)),
         Member::new("certificate_version", Value::of_number(version_of(kept))),
         Member::new("certificate_frames", Value::of_number(frames_of(kept))),
         Member::new("certificate_routines", Value::of_number(parts_of(kept))),
@@ -174,7 +175,20 @@ fn name_of<'a>(name: &'a str, beside: Beside) -> Value<'a>
 {
     match beside {
         Beside::Nothing => Value::Nothing,
-        Beside::Unreadable(_) | Beside::OfAnother | Beside::Own(_) => Value::Text(name),
+        Beside::Unreadable(_) | Beside::Closed | Beside::OfAnother | Beside::Own(_) => {
+            Value::Text(name)
+        }
+    }
+}
+
+/// Whether it can be read, if it is there.
+fn readable_of(beside: Beside) -> Value<'static>
+    ensures { value_of result ≡ readable_of beside }
+{
+    match beside {
+        Beside::Nothing => Value::Nothing,
+        Beside::Closed => Value::Flag(false),
+        Beside::Unreadable(_) | Beside::OfAnother | Beside::Own(_) => Value::Flag(true),
     }
 }
 
@@ -183,7 +197,7 @@ fn code_of(alloc: Global, beside: Beside) -> Result<Option<String>, AllocError>
     ensures { IfOk result (λ code. option_map string_bytes code ≡ code_of beside) }
 {
     match beside {
-        Beside::Nothing | Beside::Own(_) => Ok(None),
+        Beside::Nothing | Beside::Closed | Beside::Own(_) => Ok(None),
         Beside::Unreadable(number) => {
             let mut code = String::from_str(alloc, "K")?;
             code.push_str(Buffer::new().format(number))?;
@@ -199,7 +213,7 @@ fn kept_of(beside: Beside) -> Option<Kept>
 {
     match beside {
         Beside::Own(kept) => Some(kept),
-        Beside::Nothing | Beside::Unreadable(_) | Beside::OfAnother => None,
+        Beside::Nothing | Beside::Unreadable(_) | Beside::Closed | Beside::OfAnother => None,
     }
 }
 

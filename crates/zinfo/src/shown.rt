@@ -1,7 +1,7 @@
 //! Bytes that needn't be text, as text.
 
 ghost use Rattle.std.specs.Prelude.{◌≡◌, ◌<◌, ◌++◌, [], ◌∷◌, IfOk, OnOk, string_bytes};
-ghost use Rattle.zinfo.specs.Shown.{hex_digit, is_plain, shown, shown_byte};
+ghost use Rattle.zinfo.specs.Shown.{five_digits, hex_digit, is_plain, shown, shown_byte};
 
 use std::alloc::{AllocError, Global};
 
@@ -42,6 +42,40 @@ pub(crate) fn push_digit(n: u16, text: &mut String) -> Result<(), AllocError>
     requires { n < 16 }
     ensures { OnOk result (string_bytes text.new ≡ string_bytes text.old ++ hex_digit n ∷ []) }
 {
-    text.push(char::from(b"0123456789abcdef"[usize::from(n)]))?;
+    text.push(char::from(hex_digit(u32::from(n))))?;
     Ok(())
+}
+
+/// Adds the five hexadecimal digits of an address.
+pub(crate) fn push_five_digits(address: u32, text: &mut String) -> Result<(), AllocError>
+    requires { address < 0x100000 }
+    ensures { OnOk result (string_bytes text.new ≡ string_bytes text.old ++ five_digits address) }
+{
+    let digits = five_digits(address);
+    for digit in &digits {
+        text.push(char::from(*digit))?;
+    }
+    Ok(())
+}
+
+/// The five lower-case hexadecimal digits of an address below 0x100000, as `00325`. No memory is wanted.
+pub fn five_digits(address: u32) -> [u8; 5]
+    requires { address < 0x100000 }
+    ensures { result ≡ five_digits address }
+{
+    [
+        hex_digit(address / 0x10000),
+        hex_digit(address / 0x1000 % 0x10),
+        hex_digit(address / 0x100 % 0x10),
+        hex_digit(address / 0x10 % 0x10),
+        hex_digit(address % 0x10),
+    ]
+}
+
+/// The lower-case hexadecimal digit of a number below 16.
+fn hex_digit(n: u32) -> u8
+    requires { n < 16 }
+    ensures { result ≡ hex_digit n }
+{
+    b"0123456789abcdef"[n as usize]
 }

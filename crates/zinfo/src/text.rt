@@ -2,10 +2,10 @@
 
 ghost use Rattle.std.specs.Prelude.{◌≡◌, ◌++◌, ◌<◌, codes, pos, IfOk, OnOk, string_bytes};
 ghost use Rattle.zlist.specs.Listed.{place_of};
-ghost use Rattle.zinfo.specs.Text.{cause_code, checksum_text, code_text, fault_code, five_digits, four_digits, line_of, number_line, place_text, text_of_info, unlisted_text};
+ghost use Rattle.zinfo.specs.Text.{cause_code, checksum_text, code_text, fault_code, four_digits, line_of, number_line, place_text, text_of_info, unlisted_text};
 
 use crate::facts::{Checksum, Code, Info};
-use crate::shown::{push_digit, shown_text};
+use crate::shown::{push_digit, push_five_digits, shown_text};
 use itoa::Buffer;
 use std::alloc::{AllocError, Global};
 use zcode::DecodeError;
@@ -109,8 +109,8 @@ fn push_fault(error: ListError, text: &mut String) -> Result<(), AllocError>
     Ok(())
 }
 
-/// The code of what is at fault with a listing.
-pub(crate) fn fault_code(error: ListError) -> &'static str
+/// The code of what is at fault with a listing: `U1` to `U4`.
+pub fn fault_code(error: ListError) -> &'static str
     ensures { result.now ≡ fault_code error }
 {
     match error {
@@ -147,7 +147,8 @@ pub(crate) fn cause_code(cause: DecodeError) -> &'static str
     }
 }
 
-fn push_place(place: i32, text: &mut String) -> Result<(), AllocError>
+/// Adds a place: five hexadecimal digits, or the number in decimal where it is no address below 0x100000. Fails only for want of memory.
+pub fn push_place(place: i32, text: &mut String) -> Result<(), AllocError>
     ensures { OnOk result (string_bytes text.new ≡ string_bytes text.old ++ place_text place) }
 {
     if 0 <= place && place < 0x100000 {
@@ -157,7 +158,8 @@ fn push_place(place: i32, text: &mut String) -> Result<(), AllocError>
     }
 }
 
-fn push_address(address: u32, text: &mut String) -> Result<(), AllocError>
+/// Adds the place that an address is. Fails only for want of memory.
+pub fn push_address(address: u32, text: &mut String) -> Result<(), AllocError>
     ensures { OnOk result (string_bytes text.new ≡ string_bytes text.old ++ place_text (pos address)) }
 {
     if address < 0x100000 {
@@ -165,15 +167,6 @@ fn push_address(address: u32, text: &mut String) -> Result<(), AllocError>
     } else {
         text.push_str(Buffer::new().format(address))
     }
-}
-
-/// Adds the five hexadecimal digits of an address.
-fn push_five_digits(address: u32, text: &mut String) -> Result<(), AllocError>
-    requires { address < 0x100000 }
-    ensures { OnOk result (string_bytes text.new ≡ string_bytes text.old ++ five_digits address) }
-{
-    push_digit((address / 0x10000) as u16, text)?;
-    push_word((address % 0x10000) as u16, text)
 }
 
 /// Adds the four hexadecimal digits of a word.

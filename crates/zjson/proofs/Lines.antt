@@ -1,12 +1,12 @@
 -- The tokens of members, and how they read back.
-use Rattle.std.proofs.Common.{◌≡◌, ◌≤◌, ◌<◌, ◌^◌, ℕ, List, [], ◌∷◌, ◌++◌, refl, sym, ap, ◌∙◌, subst, arith, append_assoc, length, take, map}
-use Rattle.std.specs.Prelude.{Some, option_and_then, flat_map, decimal}
+use Rattle.std.proofs.Common.{◌≡◌, ◌≤◌, ℕ, List, [], ◌∷◌, ◌++◌, refl, sym, ap, ◌∙◌, subst, arith, append_assoc, length, take}
+use Rattle.std.specs.Prelude.{Some, option_and_then, flat_map}
 use Rattle.std.proofs.lemmas.List.{append-nil, take_all}
 use Rattle.json.specs.Token.{Token, end_object, begin_object}
 use Rattle.json.specs.Lex.{tokens}
 use Rattle.json.specs.Json.{Json, document, if_last, max_depth, value}
 use Rattle.json.specs.Json as json
-use Rattle.json.specs.Print.{IsNumber, print}
+use Rattle.json.specs.Print.{IsNumber}
 use Rattle.json.specs.Tree.{HasNumbers, MembersHaveNumbers, json_tokens, members_tokens, depth, members_depth}
 use Rattle.json.proofs.Printed.Decimals.{IsNumber-decimal}
 use Rattle.json.proofs.Printed.Trees.{document-print, value-json_tokens}

@@ -6,7 +6,7 @@ mod digest;
 mod laws;
 mod object;
 
-pub use answers::{Verdict, explained_line, instruction_line, verdict_line};
+pub use answers::{Listed, Verdict, explained_line, instruction_line, listed_line, verdict_line};
 pub use digest::digest_text;
 pub use laws::{objects_are_lines, objects_read_back};
 pub use object::{Member, Value, line_of};
