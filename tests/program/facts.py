@@ -1,6 +1,8 @@
 """Runs of `info`: what a story says of itself, and what stands beside it. Each line is worked out by hand."""
 import hashlib
 import json
+import os
+import tempfile
 
 from frames import limited
 from program import Answer
@@ -52,16 +54,16 @@ RUNS = [
 
 ALONE = {
     "file": "story", "release": 1, "serial": "260101", "length": 0x32A, "checksum": SUM, "sum": SUM, "checksum_right": True, "objects": 0, "words": 0,
-    "routines": 0, "instructions": 2, "code": None, "address": None, "cause": None, "opcode": None, "certificate": None, "certificate_code": None,
+    "routines": 0, "instructions": 2, "code": None, "address": None, "cause": None, "opcode": None, "certificate": None, "certificate_code": None, "certificate_readable": None,
     "certificate_version": None, "certificate_frames": None, "certificate_routines": None, "certificate_instructions": None, "certificate_marks": None,
 }
-OWN = {"certificate": "story.cert", "certificate_version": 1, "certificate_routines": 0, "certificate_instructions": 2, "certificate_marks": 0}
+OWN = {"certificate": "story.cert", "certificate_readable": True, "certificate_version": 1, "certificate_routines": 0, "certificate_instructions": 2, "certificate_marks": 0}
 OBJECT_RUNS = [
     ("a story alone", {"story": SAMPLE}, {}),
     ("with its certificate", {"story": SAMPLE, "story.cert": ITS_CERTIFICATE}, OWN),
     ("with one that names a limit", {"story": SAMPLE, "story.cert": limited(ITS_CERTIFICATE, 7)}, {**OWN, "certificate_version": 3, "certificate_frames": 7}),
-    ("with another file", {"story": SAMPLE, "story.cert": SAMPLE}, {"certificate": "story.cert", "certificate_code": "K1"}),
-    ("with one of another story", {"story": SAMPLE, "story.cert": certificate(SAMPLE, [CODE], release=2)}, {"certificate": "story.cert", "certificate_code": "S1"}),
+    ("with another file", {"story": SAMPLE, "story.cert": SAMPLE}, {"certificate": "story.cert", "certificate_readable": True, "certificate_code": "K1"}),
+    ("with one of another story", {"story": SAMPLE, "story.cert": certificate(SAMPLE, [CODE], release=2)}, {"certificate": "story.cert", "certificate_readable": True, "certificate_code": "S1"}),
     ("with no checksum", {"story": changed(SAMPLE, 0x1C, 0, 0)}, {"checksum": 0, "checksum_right": None}),
     ("with a wrong one", {"story": changed(SAMPLE, 0x1C, 0, 1)}, {"checksum": 1, "checksum_right": False}),
     (
@@ -84,6 +86,14 @@ def see_facts(program, count):
         wanted = {**ALONE, "sha256": hashlib.sha256(files["story"]).hexdigest(), **other}
         well = answer.status == 0 and answer.errors == b"" and answer.output.count(b"\n") == 1
         count.see(well and json.loads(answer.output) == wanted, f"info as an object, {name}: {answer}; wanted was {wanted}")
+    with tempfile.TemporaryDirectory(prefix="zpc-") as room:
+        with open(os.path.join(room, "story"), "wb") as file:
+            file.write(SAMPLE)
+        os.mkdir(os.path.join(room, "story.cert"))
+        count.is_answer("info, a folder of the certificate's name", program.run_in(room, INFO), facts(beside="can't be read"))
+        answer = program.run_in(room, [*INFO, "--json"])
+        told = json.loads(answer.output)
+        count.see((answer.status, told["certificate"], told["certificate_readable"]) == (0, "story.cert", False), f"info as an object, a folder of the certificate's name: {answer}")
     odd = 'a "b"\n\u00e9'
     answer = program.run(["info", "--json", odd], {odd: SAMPLE})
     count.see(json.loads(answer.output or b"{}").get("file") == odd, f"info as an object, of an odd name: {answer}")

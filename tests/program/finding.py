@@ -1,4 +1,5 @@
 """Runs of `find` and `explain`: what is written, where, and what is said of stories that have no certificate."""
+import json
 import os
 import re
 import subprocess
@@ -217,6 +218,19 @@ def see_explaining(program, count):
     asked = lambda it: (it, program.run(["explain", it[0]]))
     for (code, text), answer in side_by_side(asked, explained()):
         count.is_answer(f"explain {code}", answer, Answer(0, text, b""))
+    small = lambda it: (it, program.run(["explain", it[0].lower()]))
+    for (code, text), answer in side_by_side(small, explained()[::7]):
+        count.is_answer(f"explain {code} in a small letter", answer, Answer(0, text, b""))
+    # Codes of instructions and of texts stand behind those of loading, with which they belong.
+    texts = dict(explained())
+    ordered = [code for letter in "LJEUKSGIFQPN" for code in texts if code[0] == letter]
+    lines = b"".join(texts[code].split(b"\n")[0] + b"\n" for code in ordered)
+    count.is_answer("explain all", program.run(["explain"]), Answer(0, lines, b""))
+    one = program.run(["explain", "--json", "i5"])
+    count.see((one.status, one.errors, json.loads(one.output)) == (0, b"", {"code": "i5", "text": EXPLAINED.decode()}), f"explain i5 as an object: {one}")
+    all_told = program.run(["explain", "--json"])
+    told = [json.loads(line) for line in all_told.output.splitlines()]
+    count.see(told == [{"code": code, "text": texts[code].decode()} for code in ordered], f"explain all as objects: {all_told}")
     for name, script in [("a full device", '"$1" explain I5 >/dev/full'), ("a closed output", '"$1" explain I5 >&-')]:
         ran = subprocess.run(["bash", "-c", script, "run", program.path], stdin=subprocess.DEVNULL, capture_output=True, timeout=60)
         count.is_answer(f"explain to {name}", Answer(ran.returncode, ran.stdout, ran.stderr), Answer(4, b"", b"failed: write\n"))

@@ -20,6 +20,7 @@ from frames import see_frames
 from game import see_game
 from lines import see_lines
 from lists import see_lists
+from many import see_many
 from marks import see_marks
 from objects import see_objects
 from plays import see_plays
@@ -28,6 +29,7 @@ from properties import see_properties
 from samples import CODE, HELLO, NEW_LINE, NOP, QUIT, certificate, changed, interval, story, with_objects
 from showing import see_showing
 from texts import see_texts
+from words import see_words
 
 HERE = os.path.dirname(os.path.abspath(__file__))
 SAMPLE = story(HELLO + QUIT)
@@ -131,18 +133,16 @@ WORDS = [
     ("an unknown command", ["sing", "story"], Answer(2, b"", help_text("unknown_command.txt"))),
     ("no story", ["play"], Answer(2, b"", help_text("no_story.txt"))),
     ("no story to list", ["list"], Answer(2, b"", help_text("no_story_to_list.txt"))),
-    ("no certificate to find", ["find", "story"], Answer(2, b"", help_text("no_certificate.txt").replace(b"check", b"find"))),
+    ("no file to find one of", ["find"], Answer(2, b"", help_text("no_file_to_check.txt").replace(b"check", b"find"))),
+    ("an empty name for a certificate", ["find", "story", "--output", ""], Answer(2, b"", help_text("empty_certificate.txt"))),
     ("no certificate to show", ["show", "story"], Answer(2, b"", help_text("no_certificate_to_show.txt"))),
     ("no story to tell of", ["info"], Answer(2, b"", help_text("no_story_to_list.txt").replace(b"list <STORY> [CERT]", b"info <STORY>"))),
-    ("no code", ["explain"], Answer(2, b"", help_text("no_code.txt"))),
     ("a code that there isn't", ["explain", "I19"], Answer(2, b"", help_text("unknown_code.txt"))),
-    ("a code in small letters", ["explain", "i5"], Answer(2, b"", help_text("unknown_code.txt"))),
+    ("a code of another small letter", ["explain", "z5"], Answer(2, b"", help_text("unknown_code.txt"))),
     ("an empty code", ["explain", ""], Answer(2, b"", help_text("unknown_code.txt"))),
-    ("no certificate", ["check", "story"], Answer(2, b"", help_text("no_certificate.txt"))),
+    ("no file to check", ["check"], Answer(2, b"", help_text("no_file_to_check.txt"))),
     ("too many words to list", ["list", "a", "b", "c"], Answer(2, b"", help_text("too_many_to_list.txt"))),
-    ("too many words to find", ["find", "a", "b", "c"], Answer(2, b"", help_text("too_many_to_check.txt").replace(b"check", b"find [OPTIONS]"))),
     ("too many words to explain", ["explain", "a", "b"], Answer(2, b"", help_text("too_many_to_explain.txt"))),
-    ("too many words to check", ["check", "a", "b", "c"], Answer(2, b"", help_text("too_many_to_check.txt"))),
     ("too many words to show", ["show", "a", "b", "c", "d"], Answer(2, b"", help_text("too_many_to_show.txt"))),
     ("too many words to play", ["play", "a", "b", "c"], Answer(2, b"", help_text("too_many_to_play.txt"))),
     ("a budget that is no number", ["play", "--budget", "x", "story"], Answer(2, b"", help_text("no_number.txt"))),
@@ -157,7 +157,7 @@ WORDS = [
     ("a budget to list", ["list", "--budget", "3", "story"], Answer(2, b"", help_text("budget_to_list.txt"))),
     ("two flags", ["play", "--status", "story", "--status"], Answer(2, b"", help_text("two_flags.txt"))),
     ("a flag with a value", ["play", "--status=true", "story"], Answer(2, b"", help_text("flag_with_a_value.txt"))),
-    ("a budget to find", ["find", "--budget", "3", "story", "certificate"], Answer(2, b"", help_text("budget_to_check.txt").replace(b"check", b"find [OPTIONS]"))),
+    ("a budget to find", ["find", "--budget", "3", "story", "certificate"], Answer(2, b"", help_text("budget_to_check.txt").replace(b"check", b"find"))),
     ("a flag to check", ["check", "--status", "story", "certificate"], Answer(2, b"", help_text("status_to_check.txt"))),
     ("an unknown option", ["play", "--bugdet", "3", "story"], Answer(2, b"", help_text("unknown_option.txt"))),
     ("a word that isn't UTF-8", [b"a\xff"], Answer(2, b"", help_text("no_text.txt"))),
@@ -454,6 +454,8 @@ def main():
     see_marks(program, count)
     see_showing(program, count, help_text("no_address.txt"))
     see_facts(program, count)
+    see_many(program, count, help_text("no_file_to_check.txt"), help_text("one_for_many.txt"))
+    see_words(program, count)
     see_finding(program, count)
     see_dear(program, count)
     see_game(program, count)

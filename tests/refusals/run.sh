@@ -35,6 +35,8 @@ for name, contents in (
 
 # what a play prints besides, where memory to read a save was refused: that is a failure of the store, which the story is told
 unrestored=
+# what each line is of many stories, where memory for one was refused: that is told in its line, and in the exit status
+each=
 
 # answer NAME SETTINGS WORD..: the status, output and errors of a run, in files of that name. The settings are of the
 # program's environment alone.
@@ -65,6 +67,8 @@ refuse_each() {
             passed=$((passed + 1))
         elif [ "$(cat "$work/refused.status")" = 4 ] && [ "$(cat "$work/refused.err")" = "failed: memory" ] && is_beginning "$work/refused.out" "$work/ample.out"; then
             passed=$((passed + 1))
+        elif [ -n "$each" ] && [ "$(cat "$work/refused.status")" = 4 ] && [ ! -s "$work/refused.err" ] && ! grep -qvE "$each" "$work/refused.out"; then
+            passed=$((passed + 1))
         elif [ -n "$unrestored" ] && [ "$(cat "$work/refused.status")" = 0 ] && [ "$(cat "$work/refused.out")" = "$unrestored" ] && [ ! -s "$work/refused.err" ]; then
             passed=$((passed + 1))
         else
@@ -89,6 +93,8 @@ refuse_each play hello.z3
 refuse_each play --budget 0 hello.z3
 refuse_each play absent.z3
 refuse_each list hello.z3
+refuse_each list --json hello.z3
+refuse_each list --json hello.z3 hello.cert
 refuse_each list absent.z3
 refuse_each list hello.z3 hello.cert
 refuse_each list hello.z3 absent.cert
@@ -99,11 +105,14 @@ refuse_each find hello.cert "$work/found.cert"
 refuse_each find absent.z3 "$work/found.cert"
 refuse_each find "$work/story" "$work/found.cert"
 refuse_each explain I5
+refuse_each explain
+refuse_each explain --json
+refuse_each explain --json I5
 refuse_each info hello.z3
 refuse_each info --json hello.z3
 refuse_each explain I19
 refuse_each check hello.z3 hello.cert
-refuse_each check hello.z3 hello.z3
+refuse_each check hello.z3 "$work/story"
 refuse_each check hello.z3 absent.cert
 refuse_each show hello.z3 hello.cert
 refuse_each show hello.z3 hello.cert 00324
@@ -128,8 +137,14 @@ refuse_each play --save "$work/kept" "$work/restores"
 refuse_each play --save "$work/deep" "$work/restores"
 refuse_each play --save "$work/kept" "$work/restores" "$work/restores.cert"
 unrestored=
-refuse_each play
+each='^(.*hello\.z3: (accepted|found|failed: memory)|[12] files?: [01] (accepted|found), [12] failed)$'
+cp hello.z3 "$work/hello.z3"
 refuse_each check hello.z3
+refuse_each check hello.z3 hello.z3
+refuse_each find "$work/hello.z3"
+each=
+refuse_each play
+refuse_each check
 refuse_each --help
 refuse_each --version
 echo "refusals: $passed passed, $failed failed"

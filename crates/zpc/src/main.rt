@@ -6,10 +6,10 @@ ghost use Rattle.clap.specs.Walk.{texts};
 
 use std::alloc::{AllocError, Global};
 use std::env;
-use std::io::ErrorKind;
+use std::io::{ErrorKind, IsTerminal};
 use std::process::ExitCode;
 use zfault::{FromRead, ToWrite};
-use zperform::{Disk, Failure, fail, perform, refuse_bytes};
+use zperform::{Disk, Failure, Speech, fail, perform, refuse_bytes};
 
 fn main(rt: HostRuntime) -> ExitCode {
     ExitCode::from(run(&rt))
@@ -38,11 +38,21 @@ fn run(rt: &HostRuntime) -> u8 {
     perform(
         rt.alloc(),
         &words,
+        speech_to(rt),
         &mut Disk::new(rt),
         &mut reader,
         &mut writer,
         &mut errors,
     )
+}
+
+/// How a line on the errors is told: a person who reads them on a terminal gets words, and anything else codes.
+fn speech_to(rt: &HostRuntime) -> Speech {
+    if rt.stderr().is_terminal() {
+        Speech::Words
+    } else {
+        Speech::Codes
+    }
 }
 
 /// The arguments as words, one for each.

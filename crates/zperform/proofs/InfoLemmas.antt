@@ -11,7 +11,7 @@ use Rattle.zcert.specs.declared.error.CertError.{CertError}
 use Rattle.zcert.specs.declared.error.CertError.TheVariants as errors
 use Rattle.zcheck.specs.declared.refusal.StoryRule.TheVariants as rules
 use Rattle.zinfo.specs.declared.facts.Beside.{Beside}
-use Rattle.zinfo.specs.declared.facts.Beside.TheVariants.{Nothing, Unreadable as NoCertificate, OfAnother, Own}
+use Rattle.zinfo.specs.declared.facts.Beside.TheVariants.{Nothing, Unreadable as NoCertificate, OfAnother, Closed, Own}
 use Rattle.zinfo.specs.declared.facts.Kept.{Kept}
 use Rattle.zjson.specs.Digest.{digest_text}
 use Rattle.zperform.specs.Accepting.{HoldsCertificate, HoldsStory, IsFedWhole, IsNoCertificate, IsNoStory, version_of}
@@ -36,13 +36,16 @@ digested known taken part story digest holds is =
 
 -- nothing is told where a file can't be read, or where memory is wanting
 pub untold_so : (known : Option (List ℕ)) (problem : Problem) → IsUntold problem → IsNoInfo known problem
-untold_so known problem (inl is) = inl (subst (IsNoStory known) (sym is) tt)
-untold_so known problem (inr is) = inr is
+untold_so known problem is = inr is
+
+-- nor where it isn't read
+pub unread_so : (known : Option (List ℕ)) (problem : Problem) → (problem ≡ Failed File) ⊎ (problem ≡ Failed Memory) → IsNoInfo known problem
+unread_so known problem (inl is) = inl (subst (IsNoStory known) (sym is) tt)
+unread_so known problem (inr is) = inr is
 
 -- it isn't the writer's fault
 pub untold_unwritten : IsUntold (Failed Write) → ⊥
-untold_unwritten (inl is) = cc
-untold_unwritten (inr is) = cc
+untold_unwritten is = cc
 
 -- a story whose file has a digest
 pub holds_story : (known : Option (List ℕ)) (story : LoadedStory) (digest : List ℕ) → HoldsDigested known story digest → HoldsStory known story
@@ -105,7 +108,10 @@ module _ {V : Type 0} (format : Format V) (known : Option (List ℕ)) (story : L
   stands (Err (Unlisted error)) h why = tt
   stands (Err (Unfound error broken)) h why = tt
   stands (Err (Occupied purpose)) h why = tt
-  stands (Err (Failed failure)) h why = tt
+  stands (Err (Failed File)) h why = tt
+  stands (Err (Failed Read)) h why = absurd why
+  stands (Err (Failed Write)) h why = absurd why
+  stands (Err (Failed Memory)) h why = tt
 
   -- or isn't known
   handed : (r : Result Kept Problem) → IfErr r (IsNotKept format known story) → IfErr (beside_by r) IsUntold
@@ -117,10 +123,10 @@ module _ {V : Type 0} (format : Format V) (known : Option (List ℕ)) (story : L
   handed (Err (Unlisted error)) why = absurd why
   handed (Err (Unfound error broken)) why = absurd why
   handed (Err (Occupied purpose)) why = absurd why
-  handed (Err (Failed File)) why = inl refl
+  handed (Err (Failed File)) why = tt
   handed (Err (Failed Read)) why = absurd why
   handed (Err (Failed Write)) why = absurd why
-  handed (Err (Failed Memory)) why = inr refl
+  handed (Err (Failed Memory)) why = refl
 
   pub untold_beside : (r : Result Kept Problem) (answer : Result Beside Problem) → answer ≡ beside_by r → IfErr r (IsNotKept format known story) → IfErr answer IsUntold
   untold_beside r answer is why = subst (λ (a : Result Beside Problem). IfErr a IsUntold) (sym is) (handed r why)
@@ -129,12 +135,14 @@ by_intervals : (known : Option (List ℕ)) (story : LoadedStory) (b : Beside) �
 by_intervals known story Nothing h = absurd h
 by_intervals known story (NoCertificate number) h = inl h
 by_intervals known story OfAnother h = inl h
+by_intervals known story Closed h = inl h
 by_intervals known story (Own kept) h = inl h
 
 by_lists : (known : Option (List ℕ)) (story : LoadedStory) (b : Beside) → IsBesideBy values_format known story b → IsBeside known story b
 by_lists known story Nothing h = absurd h
 by_lists known story (NoCertificate number) h = inr h
 by_lists known story OfAnother h = inr h
+by_lists known story Closed h = inr h
 by_lists known story (Own kept) h = inr h
 
 -- what stands beside a story, by what was read of files that have what they had before
@@ -151,23 +159,11 @@ module _ (mid known : Option (List ℕ)) (story : LoadedStory) (r : Result Kept 
       let here = subst (λ (k : Option (List ℕ)). IfOk (beside_by r) (IsBeside k story)) same found in
       subst (λ (a : Result Beside Problem). IfOk a (IsBeside known story)) (sym is) here
 
--- a file failed just where that is answered
-failed_so : (r : Result Kept Problem) → beside_by r ≡ Err (Failed File) → r ≡ Err (Failed File)
-failed_so (Ok kept) e = absurd cc
-failed_so (Err (Refused error)) e = absurd cc
-failed_so (Err (Unreadable error)) e = absurd cc
-failed_so (Err (BreaksStory rule)) e = absurd cc
-failed_so (Err (BreaksInstruction address rule)) e = absurd cc
-failed_so (Err (Unlisted error)) e = absurd cc
-failed_so (Err (Unfound error broken)) e = absurd cc
-failed_so (Err (Occupied purpose)) e = absurd cc
-failed_so (Err (Failed File)) e = refl
-failed_so (Err (Failed Read)) e = absurd cc
-failed_so (Err (Failed Write)) e = absurd cc
-failed_so (Err (Failed Memory)) e = absurd cc
+-- the first bytes of a file weren't read
+pub beside_unread : (known : Option (List ℕ)) (story : LoadedStory) (problem : Problem) (answer : Result Beside Problem) → answer ≡ beside_by (Err problem) → (problem ≡ Failed File) ⊎ (problem ≡ Failed Memory) → IfOk answer (IsBeside known story) × IfErr answer IsUntold
+beside_unread known story problem answer is (inl e) = subst (λ (a : Result Beside Problem). IfOk a (IsBeside known story) × IfErr a IsUntold) (sym (is ∙ ap (λ (p : Problem). beside_by (Err p)) e)) (inl tt, tt)
+beside_unread known story problem answer is (inr e) = subst (λ (a : Result Beside Problem). IfOk a (IsBeside known story) × IfErr a IsUntold) (sym (is ∙ ap (λ (p : Problem). beside_by (Err p)) e)) (tt, refl)
 
-pub failed_first : (r : Result Kept Problem) (answer : Result Beside Problem) → answer ≡ beside_by r → answer ≡ Err (Failed File) → r ≡ Err (Failed File)
-failed_first r answer is e = failed_so r (sym is ∙ e)
-
-pub failed_then : (r : Result Kept Problem) (answer : Result Beside Problem) → answer ≡ beside_by r → r ≡ Err (Failed File) → answer ≡ Err (Failed File)
-failed_then r answer is e = is ∙ ap beside_by e
+-- what isn't told isn't for a file that can't be read
+pub untold_file : (problem : Problem) → IsUntold problem → problem ≡ Failed File → ⊥
+untold_file problem is e = absurd (let other : Failed Memory ≡ Failed File = sym is ∙ e in cc)

@@ -10,6 +10,10 @@ mod MarkLemmas
 mod AddressLemmas
 mod ShowLemmas
 mod InfoLemmas
+mod EachLemmas
+mod VerdictLemmas
+mod SeekLemmas
+mod Joined
 mod LineLemmas
 mod Worked
 mod WorkedClaims

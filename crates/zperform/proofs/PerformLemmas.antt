@@ -5,9 +5,10 @@ use Rattle.clap.specs.Words.{Row, Text, fault_of, subcommand_of}
 use Rattle.zplayer.specs.declared.end.End.{End}
 use Rattle.zplayer.specs.Outside.{Blames}
 use Rattle.zquetzal.specs.declared.error.SaveError.{SaveError}
-use Rattle.zcommand.specs.CommandLine.{Asks, Check, Explain, Find, Info, ListStory, Play, Request, Show, zpc_app}
+use Rattle.zcommand.specs.CommandLine.{Asks, Check, CheckEach, Explain, Find, FindEach, Info, ListStory, OneForMany, Play, Request, Show, zpc_app}
 use Rattle.zperform.specs.Devices.{Devices, FlushesUnless, Held, Seen, UsesUnless, seen, told}
-use Rattle.zperform.specs.Performing.{Begins, Explains, IsBlamed, Performs, Reports, is_quiet, said_by, save_in, written_by}
+use Rattle.zperform.specs.Performing.{Begins, Explains, IsBlamed, Performs, Reports, is_each, is_quiet, said_by, spared_in, written_by}
+use Rattle.zperform.specs.declared.wording.Speech.{Speech}
 use Rattle.zperform.specs.Telling.{SaysEach}
 use Rattle.zperform.specs.declared.outcome.Failure.TheVariants.{File, Read, Write}
 use Rattle.zperform.specs.Report.{outcome_of}
@@ -22,9 +23,9 @@ stopped_is (Ok end) problem e = absurd cc
 stopped_is (Err q) problem e = ap Err (let same : q ≡ problem = cc in same)
 
 -- with no fault in the words, only memory can be wanting
-pub performs_lacking : (words : List Text) (status : ℕ) (old new : Devices) → fault_of zpc_app words ≡ [] → Explains (fault_of zpc_app words) status old new → Performs words status old new
-performs_lacking words status old new none (inl lacks) = inr lacks
-performs_lacking words status old new none (inr told) = absurd (subst (IsAmong told.0) none told.2)
+pub performs_lacking : (words : List Text) (speech : Speech) (status : ℕ) (old new : Devices) → fault_of zpc_app words ≡ [] → Explains (fault_of zpc_app words) status old new → Performs words speech status old new
+performs_lacking words speech status old new none (inl lacks) = inr lacks
+performs_lacking words speech status old new none (inr told) = absurd (subst (IsAmong told.0) none told.2)
 
 -- a play fails just where its outcome tells it
 pub as_outcome : (r : Result End Problem) (outcome : Outcome) (problem : Problem) (old new : ℕ) → outcome ≡ outcome_of r → Blames (IsErrOf r problem) old new → Blames (outcome ≡ Stopped problem) old new
@@ -55,16 +56,16 @@ writer_as_seen contents failures waits old new fails writer = record { blamed = 
     flushed (inl none) = inl none
     flushed (inr same) = inr (ap (seen contents failures waits) same)
 
-module _ (words : List Text) (status : ℕ) (old new : Devices) (outcome : Outcome)
+module _ (words : List Text) (speech : Speech) (status : ℕ) (old new : Devices) (outcome : Outcome)
     (writer : FlushesUnless (λ (s : Seen). s.failures) (λ (s : Seen). s.waits) old.writer new.writer (outcome ≡ Stopped (Failed Write)))
     (reader : Blames (outcome ≡ Stopped (Failed Read)) old.reader.failures new.reader.failures)
-    (between : Seen) (reported : Reports outcome status between new.errors) where
-  pub performs_request : (request : Request) (refusals : List SaveError) → SaysEach (said_by request refusals) old.errors between → UsesUnless (λ (f : Held). f.known) (λ (f : Held). f.failures) old.files new.files (save_in request) (written_by request) (outcome ≡ Stopped (Failed File)) → (outcome ≡ Stopped (Failed File) → IsBlamed request old.files)
-      → (is_quiet request ≡ true → new.reader ≡ old.reader) → Begins request old.files.known new.files.known old.reader.remaining refusals old.writer.contents new.writer.contents outcome → IsSomeAnd (subcommand_of zpc_app words) (λ matches. Asks matches request)
-      → Performs words status old new
+    (between : Seen) (reported : Reports speech new.files.blamed outcome status between new.errors) where
+  pub performs_request : (request : Request) (refusals : List SaveError) → SaysEach (said_by request refusals) old.errors between → (is_each request ≡ false → UsesUnless (λ (f : Held). f.known) (λ (f : Held). f.failures) old.files new.files (spared_in request) (written_by request) (outcome ≡ Stopped (Failed File))) → (outcome ≡ Stopped (Failed File) → IsBlamed request old.files)
+      → (is_quiet request ≡ true → new.reader ≡ old.reader) → Begins request old.files new.files old.reader.remaining refusals old.writer.contents new.writer.contents outcome → IsSomeAnd (subcommand_of zpc_app words) (λ matches. Asks matches request)
+      → Performs words speech status old new
   performs_request request refusals told files could unasked comes read = go (subcommand_of zpc_app words) refl read
     where
-      go : (o : Option (Text × List Row)) → subcommand_of zpc_app words ≡ o → IsSomeAnd o (λ matches. Asks matches request) → Performs words status old new
+      go : (o : Option (Text × List Row)) → subcommand_of zpc_app words ≡ o → IsSomeAnd o (λ matches. Asks matches request) → Performs words speech status old new
       go None e h = absurd h
       go (Some matches) e asks =
           inl (record { matches = matches; named = e; request = request; asks = asks; outcome = outcome; comes = comes; writer = writer; files = files; could = could; reader = reader; unasked = unasked; refusals = refusals; between = between; told = told; reported = reported })
@@ -72,12 +73,15 @@ module _ (words : List Text) (status : ℕ) (old new : Devices) (outcome : Outco
 -- where no save was refused, nothing is said of one
 pub says_none : (request : Request) (errors : Seen) → SaysEach (said_by request []) errors errors
 says_none (Play story certificate seed budget status save tell force) errors = refl
-says_none (ListStory story certificate) errors = refl
-says_none (Find story certificate frames strict places force) errors = refl
-says_none (Check story certificate) errors = refl
+says_none (ListStory story certificate json) errors = refl
+says_none (Find story certificate frames strict places force json) errors = refl
+says_none (FindEach stories frames strict places force json) errors = refl
+says_none OneForMany errors = refl
+says_none (Check story certificate json) errors = refl
+says_none (CheckEach stories json) errors = refl
 says_none (Show story certificate address) errors = refl
 says_none (Info story json) errors = refl
-says_none (Explain code) errors = refl
+says_none (Explain code json) errors = refl
 
 -- what is told of a source that wasn't asked
 pub told_same : {R : Type 0} (remaining : R → Option (List ℕ)) (failures : R → ℕ) (old new : R) → new ≡ old → told remaining failures new ≡ told remaining failures old

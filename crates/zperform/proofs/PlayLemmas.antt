@@ -20,7 +20,7 @@ use Rattle.zperform.specs.declared.outcome.Failure.TheVariants.{File, Read, Writ
 use Rattle.zperform.specs.declared.outcome.Problem.{Problem}
 use Rattle.zperform.specs.declared.outcome.Problem.TheVariants.{Refused, Unreadable, BreaksStory, BreaksInstruction, Unlisted, Unfound, Occupied, Failed}
 use Rattle.zperform.specs.declared.outcome.Outcome.{Outcome}
-use Rattle.zperform.specs.declared.outcome.Outcome.TheVariants.{Listed, Found, Accepted, Shown, NoAddress, Informed, Explained, NoSuchCode, Played, Stopped}
+use Rattle.zperform.specs.declared.outcome.Outcome.TheVariants.{Listed, Found, Accepted, Through, Shown, NoAddress, Informed, Explained, NoSuchCode, OneForMany, Played, Stopped}
 use Rattle.zperform.specs.Played.{Account, ComesOutOf}
 use Rattle.zperform.specs.Playing.{ComesTo, Holds, IsPlayed, IsRefused, IsUnloaded, Reads, StaysEmpty}
 use Rattle.zperform.specs.Report.{outcome_of, problem_of_load, problem_of_play}
@@ -67,6 +67,8 @@ module _ (known : Option (List ℕ)) (taken : List ℕ) (options : Options) (giv
   of_part Explained h = h
   of_part NoSuchCode h = h
   of_part Accepted h = h
+  of_part (Through tally) h = h
+  of_part OneForMany h = h
   of_part (Stopped (Unreadable error)) h = h
   of_part (Stopped (BreaksStory rule)) h = h
   of_part (Stopped (BreaksInstruction address rule)) h = h

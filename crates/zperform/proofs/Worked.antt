@@ -305,7 +305,7 @@ through = (
 
 -- files of which one has bytes, and one can fail
 drawer : ℕ → List ℕ → List ℕ → List ℕ → Held
-drawer failures name bytes weak = record { known = λ asked. if bytes_eq asked name then Some bytes else None; failures = failures; can_fail = λ asked. bytes_eq asked weak }
+drawer failures name bytes weak = record { known = λ asked. if bytes_eq asked name then Some bytes else None; failures = failures; can_fail = λ asked. bytes_eq asked weak; blamed = None }
 
 -- files fail in silence only where saves are kept in one, and only that one is written
 used :
@@ -331,14 +331,14 @@ used = (
 
 -- a failure is of the story's file, or of the other that a request names once there is a story; of no file that it doesn't name
 blamed :
-    IsBlamed (ListStory (5 ∷ []) None) (drawer 0 [] [] (5 ∷ [])) × (IsBlamed (ListStory (5 ∷ []) None) (drawer 0 [] [] (6 ∷ [])) → ⊥)
-    × IsBlamed (ListStory (5 ∷ []) (Some (6 ∷ []))) (drawer 0 [] [] (5 ∷ [])) × (IsBlamed (ListStory (5 ∷ []) (Some (6 ∷ []))) (drawer 0 (5 ∷ []) [] (6 ∷ [])) → ⊥)
-    × (IsBlamed (ListStory (5 ∷ []) (Some (6 ∷ []))) (drawer 0 [] [] (7 ∷ [])) → ⊥)
+    IsBlamed (ListStory (5 ∷ []) None false) (drawer 0 [] [] (5 ∷ [])) × (IsBlamed (ListStory (5 ∷ []) None false) (drawer 0 [] [] (6 ∷ [])) → ⊥)
+    × IsBlamed (ListStory (5 ∷ []) (Some (6 ∷ [])) false) (drawer 0 [] [] (5 ∷ [])) × (IsBlamed (ListStory (5 ∷ []) (Some (6 ∷ [])) false) (drawer 0 (5 ∷ []) [] (6 ∷ [])) → ⊥)
+    × (IsBlamed (ListStory (5 ∷ []) (Some (6 ∷ [])) false) (drawer 0 [] [] (7 ∷ [])) → ⊥)
     × IsBlamed (Play (5 ∷ []) None 1 100 false (Some (6 ∷ [])) false false) (drawer 0 [] [] (5 ∷ [])) × (IsBlamed (Play (5 ∷ []) None 1 100 false (Some (6 ∷ [])) false false) (drawer 0 [] [] (6 ∷ [])) → ⊥)
-    × IsBlamed (Check (5 ∷ []) (6 ∷ [])) (drawer 0 [] [] (5 ∷ [])) × (IsBlamed (Check (5 ∷ []) (6 ∷ [])) (drawer 0 (5 ∷ []) [] (6 ∷ [])) → ⊥) × (IsBlamed (Check (5 ∷ []) (6 ∷ [])) (drawer 0 [] [] (7 ∷ [])) → ⊥)
+    × IsBlamed (Check (5 ∷ []) (6 ∷ []) false) (drawer 0 [] [] (5 ∷ [])) × (IsBlamed (Check (5 ∷ []) (6 ∷ []) false) (drawer 0 (5 ∷ []) [] (6 ∷ [])) → ⊥) × (IsBlamed (Check (5 ∷ []) (6 ∷ []) false) (drawer 0 [] [] (7 ∷ [])) → ⊥)
     × IsBlamed (Play (5 ∷ []) (Some (6 ∷ [])) 1 100 false None false false) (drawer 0 [] [] (5 ∷ [])) × (IsBlamed (Play (5 ∷ []) (Some (6 ∷ [])) 1 100 false None false false) (drawer 0 (5 ∷ []) [] (6 ∷ [])) → ⊥)
     × IsBlamed (Show (5 ∷ []) (6 ∷ []) None) (drawer 0 [] [] (5 ∷ [])) × (IsBlamed (Show (5 ∷ []) (6 ∷ []) None) (drawer 0 (5 ∷ []) [] (6 ∷ [])) → ⊥)
-    × IsBlamed (Find (5 ∷ []) (6 ∷ []) None false false false) (drawer 0 [] [] (5 ∷ [])) × (IsBlamed (Find (5 ∷ []) (6 ∷ []) None false false false) (drawer 0 (5 ∷ []) [] (6 ∷ [])) → ⊥) × (IsBlamed (Explain (5 ∷ [])) (drawer 0 [] [] (5 ∷ [])) → ⊥)
+    × IsBlamed (Find (5 ∷ []) (6 ∷ []) None false false false false) (drawer 0 [] [] (5 ∷ [])) × (IsBlamed (Find (5 ∷ []) (6 ∷ []) None false false false false) (drawer 0 (5 ∷ []) [] (6 ∷ [])) → ⊥) × (IsBlamed (Explain (Some (5 ∷ [])) false) (drawer 0 [] [] (5 ∷ [])) → ⊥)
 unfolding drawer
 blamed = (
   refl,
@@ -355,7 +355,7 @@ blamed = (
   of_none,
   inl refl,
   of_none,
-  inl refl,
+  (refl, inl refl),
   of_none_found,
   λ no. no,
 )
@@ -363,17 +363,17 @@ blamed = (
     empty_holds_none : (story : LoadedStory) → HoldsStory (Some []) story → ⊥
     empty_holds_none story held = omega (arith, story_bytes (Some []) story held)
 
-    of_none : IsBlamed (Check (5 ∷ []) (6 ∷ [])) (drawer 0 (5 ∷ []) [] (6 ∷ [])) → ⊥
+    of_none : IsBlamed (Check (5 ∷ []) (6 ∷ []) false) (drawer 0 (5 ∷ []) [] (6 ∷ [])) → ⊥
     of_none (inl e) = true≢false (sym e)
     of_none (inr ((story, held), e)) = empty_holds_none story held
 
-    of_another : IsBlamed (Check (5 ∷ []) (6 ∷ [])) (drawer 0 [] [] (7 ∷ [])) → ⊥
+    of_another : IsBlamed (Check (5 ∷ []) (6 ∷ []) false) (drawer 0 [] [] (7 ∷ [])) → ⊥
     of_another (inl e) = true≢false (sym e)
     of_another (inr (held, e)) = true≢false (sym e)
 
-    of_none_found : IsBlamed (Find (5 ∷ []) (6 ∷ []) None false false false) (drawer 0 (5 ∷ []) [] (6 ∷ [])) → ⊥
-    of_none_found (inl e) = true≢false (sym e)
-    of_none_found (inr ((bytes, text, (story, held, found)), e)) = empty_holds_none story held
+    of_none_found : IsBlamed (Find (5 ∷ []) (6 ∷ []) None false false false false) (drawer 0 (5 ∷ []) [] (6 ∷ [])) → ⊥
+    of_none_found (plain, inl e) = true≢false (sym e)
+    of_none_found (plain, inr ((bytes, text, marks, (story, held, found)), e)) = empty_holds_none story held
 
 -- for an empty story's file memory is never wanted, nor is it listed
 unlisted_empty : IsNoListing (Some []) (Failed Memory) → ⊥
@@ -391,13 +391,13 @@ never story certificate before now options outside = (λ no. no, none, λ no. no
     none (inr accepts) = accepts
 
 -- input is read for a play alone
-input_read : (is_quiet (ListStory (codes "hello.z3") None) ≡ true) × (is_quiet (ListStory (codes "hello.z3") (Some (codes "hello.cert"))) ≡ true) × (is_quiet (Find (codes "hello.z3") (codes "hello.cert") None false false false) ≡ true) × (is_quiet (Explain (codes "I5")) ≡ true) × (is_quiet (Check (codes "hello.z3") (codes "hello.cert")) ≡ true) × (is_quiet (Play (codes "hello.z3") None 1 100 false None false false) ≡ false)
+input_read : (is_quiet (ListStory (codes "hello.z3") None true) ≡ true) × (is_quiet (ListStory (codes "hello.z3") (Some (codes "hello.cert")) true) ≡ true) × (is_quiet (Find (codes "hello.z3") (codes "hello.cert") None false false false true) ≡ true) × (is_quiet (Explain (Some (codes "I5")) true) ≡ true) × (is_quiet (Check (codes "hello.z3") (codes "hello.cert") true) ≡ true) × (is_quiet (Play (codes "hello.z3") None 1 100 false None false false) ≡ false)
 input_read = (refl, refl, refl, refl, refl, refl)
 
 -- a file may be written for a certificate and for saves
 files_written :
-    (written_by (ListStory (codes "hello.z3") None) ≡ None) × (written_by (ListStory (codes "hello.z3") (Some (codes "hello.cert"))) ≡ None) × (written_by (Find (codes "hello.z3") (codes "hello.cert") None false false false) ≡ Some (codes "hello.cert")) × (written_by (Check (codes "hello.z3") (codes "hello.cert")) ≡ None)
-    × (written_by (Play (codes "hello.z3") None 1 100 false (Some (codes "a.qzl")) false false) ≡ Some (codes "a.qzl")) × (written_by (Explain (codes "I5")) ≡ None)
+    (written_by (ListStory (codes "hello.z3") None true) ≡ None) × (written_by (ListStory (codes "hello.z3") (Some (codes "hello.cert")) true) ≡ None) × (written_by (Find (codes "hello.z3") (codes "hello.cert") None false false false true) ≡ Some (codes "hello.cert")) × (written_by (Check (codes "hello.z3") (codes "hello.cert") true) ≡ None)
+    × (written_by (Play (codes "hello.z3") None 1 100 false (Some (codes "a.qzl")) false false) ≡ Some (codes "a.qzl")) × (written_by (Explain (Some (codes "I5")) true) ≡ None)
 files_written = (refl, refl, refl, refl, refl, refl)
 
 -- a text that was found isn't kept by a file of other bytes
@@ -421,9 +421,9 @@ begun_so = (refl, refl, refl, refl, λ e. absurd cc, λ e. omega (arith, ap (λ 
 
 -- a certificate that is found and saves are kept so, unless any file may be written over
 kept_so :
-    (kept_in (Find (1 ∷ []) (2 ∷ []) None false false false) ≡ Some (2 ∷ [], purposes.Certificate)) × (kept_in (Find (1 ∷ []) (2 ∷ []) None true true true) ≡ None)
+    (kept_in (Find (1 ∷ []) (2 ∷ []) None false false false false) ≡ Some (2 ∷ [], purposes.Certificate)) × (kept_in (Find (1 ∷ []) (2 ∷ []) None true true true false) ≡ None)
     × (kept_in (Play (1 ∷ []) None 1 2 false (Some (7 ∷ [])) true false) ≡ Some (7 ∷ [], purposes.Save)) × (kept_in (Play (1 ∷ []) (Some (2 ∷ [])) 1 2 false (Some (7 ∷ [])) false true) ≡ None)
-    × (kept_in (Play (1 ∷ []) None 1 2 true None true false) ≡ None) × (kept_in (Check (1 ∷ []) (2 ∷ [])) ≡ None)
+    × (kept_in (Play (1 ∷ []) None 1 2 true None true false) ≡ None) × (kept_in (Check (1 ∷ []) (2 ∷ []) false) ≡ None)
 kept_so = (refl, refl, refl, refl, refl, refl)
 
 -- a story's file isn't written over by saves, and a file of saves is, or by anything where that is asked for
@@ -431,7 +431,7 @@ module _ (story saves : List ℕ → Option (List ℕ)) (is : story (7 ∷ []) �
   occupied :
       IsOccupied (Play (7 ∷ []) None 1 2 false (Some (7 ∷ [])) false false) story (Occupied purposes.Save) × (MayWrite (Play (7 ∷ []) None 1 2 false (Some (7 ∷ [])) false false) story → ⊥)
       × MayWrite (Play (1 ∷ []) None 1 2 false (Some (7 ∷ [])) false false) saves × MayWrite (Play (7 ∷ []) None 1 2 false (Some (7 ∷ [])) false true) story
-      × (IsOccupied (Find (1 ∷ []) (7 ∷ []) None false false false) story (Occupied purposes.Save) → ⊥)
+      × (IsOccupied (Find (1 ∷ []) (7 ∷ []) None false false false false) story (Occupied purposes.Save) → ⊥)
   occupied = (((7 ∷ [], purposes.Save), refl, refl, rw is other), rw is other, rw are refl, tt, another)
     where
       number_in : Option (List ℕ × Purpose) → ℕ
@@ -445,7 +445,7 @@ module _ (story saves : List ℕ → Option (List ℕ)) (is : story (7 ∷ []) �
       other : BeginsSo (codes "FORM") (3 ∷ 0 ∷ []) → ⊥
       other e = omega (arith, ap (λ (bytes : List ℕ). slice_index bytes 0) e)
 
-      another : IsOccupied (Find (1 ∷ []) (7 ∷ []) None false false false) story (Occupied purposes.Save) → ⊥
+      another : IsOccupied (Find (1 ∷ []) (7 ∷ []) None false false false false) story (Occupied purposes.Save) → ⊥
       another (file, e, told, held) = omega (arith, ap (λ (o : Option (List ℕ × Purpose)). number_in o) e, ap number_told told)
 
 -- and that is told, as a refusal

@@ -1,5 +1,5 @@
 -- What devices and outcomes are told to be, before and after: which of the two each claim is of.
-use Rattle.std.proofs.Common.{◌≡◌, ◌≢◌, ◌⊎◌, inl, inr, ℕ, List, [], ◌∷◌, ◌++◌, Bool, true, false, codes, ap, refl, subst, arith, length}
+use Rattle.std.proofs.Common.{◌≡◌, ◌≢◌, ◌⊎◌, inl, inr, ℕ, List, [], ◌∷◌, ◌++◌, Bool, true, false, codes, ap, refl, sym, subst, arith, length}
 use Rattle.std.specs.Prelude.{⊤, Option, None, Some, IfSome, Result, Ok, Err, decimal}
 use Rattle.std.specs.Io.KnownBytes.{Appends}
 use Rattle.std.proofs.KnownBytes.{Appends-trans}
@@ -17,7 +17,7 @@ use Rattle.zcert.specs.Reading.{heading_at, magic_at, reading}
 use Rattle.zrule.specs.declared.rule.Rule.{Rule}
 use Rattle.zcheck.specs.Acceptance.{AcceptanceOver}
 use Rattle.zcheck.specs.declared.refusal.StoryRule.{StoryRule}
-use Rattle.zcommand.specs.CommandLine.{ListStory, Find, Check, Play, Explain}
+use Rattle.zcommand.specs.CommandLine.{ListStory, Find, FindEach, Check, CheckEach, Play, Explain}
 use Rattle.zref.specs.Machine.{setting_of}
 use Rattle.zref.specs.declared.scope.Scope.TheVariants.{All, Within}
 use Rattle.zplay.specs.Session.{setting_of as session_of}
@@ -49,8 +49,12 @@ use Rattle.zperform.specs.Finding.{ExplainComesTo, FailsFor, FindComesTo, FindEn
 use Rattle.zperform.specs.Marking.{AreMarksOf, ArePlacesOf, IsListedBy, ListByComesTo}
 use Rattle.zperform.specs.declared.finding.Search.{Search}
 use Rattle.zperform.specs.Listing.{HoldsListed, IsNoListing, ListComesTo, listing_text}
-use Rattle.zperform.specs.Performing.{Begins, Comes, Does, Explains, IsBlamed, Lacks, Performs, Reports, Shows, Tells, given, is_quiet, said_by, save_in, store_of, written_by}
+use Rattle.zperform.specs.Performing.{Begins, Comes, Does, Explains, IsBlamed, Lacks, Performs, Reports, Shows, Tells, given, is_each, is_quiet, said_by, spared_in, store_of, written_by}
 use Rattle.zperform.specs.Report.{found_line, line_of}
+use Rattle.zperform.specs.Checking.{CheckEachComesTo}
+use Rattle.zperform.specs.Seeking.{FindEachComesTo}
+use Rattle.zperform.specs.declared.wording.Speech.{Speech}
+use Rattle.zperform.specs.declared.wording.Speech.TheVariants.{Codes}
 use Rattle.zperform.specs.Telling.{SaysEach, refusal_text, said_of}
 use Rattle.zperform.specs.Playing.{ComesTo, IsPlayed, IsRefused}
 use Rattle.zperform.proofs.AcceptLemmas.{story_bytes}
@@ -65,7 +69,7 @@ source bytes failures = record { remaining = Some bytes; failures = failures }
 
 -- files that all have the same bytes
 abbrev files : List ℕ → ℕ → Bool → Held
-files bytes failures weak = record { known = λ name. Some bytes; failures = failures; can_fail = λ name. weak }
+files bytes failures weak = record { known = λ name. Some bytes; failures = failures; can_fail = λ name. weak; blamed = None }
 
 abbrev all : ℕ → ℕ → ℕ → ℕ → Devices
 all f r w e = devices (files (f ∷ []) 0 true) (source (r ∷ []) 0) (sink (w ∷ []) 0 false) (sink (e ∷ []) 0 false)
@@ -132,8 +136,8 @@ spared = ((λ other another. refl), λ spares. full (spares [] (λ e. omega (ari
 abbrev memory_line : List ℕ
 memory_line = codes "failed: memory" ++ 10 ∷ []
 
-reported : Reports (Stopped (Failed Memory)) 4 (sink (1 ∷ []) 0 true) (sink (1 ∷ memory_line) 0 false)
-reported = record { status_is = refl; said = inl (record { whole = refl; quiet = refl; flushed = refl }) }
+reported : Reports Codes None (Stopped (Failed Memory)) 4 (sink (1 ∷ []) 0 true) (sink (1 ∷ memory_line) 0 false)
+reported = record { status_is = refl; said = (_, refl, inl (record { whole = refl; quiet = refl; flushed = refl })) }
 
 abbrev with_errors : ℕ → List ℕ → Devices
 with_errors w bytes = devices (files (1 ∷ []) 0 true) (source (2 ∷ []) 0) (sink (w ∷ []) 0 false) (sink bytes 0 false)
@@ -146,7 +150,7 @@ shown : Shows (5 ∷ []) 0 (with_writer (3 ∷ []) 0 (4 ∷ [])) (with_writer (3
 shown = (
   inl (record { whole = refl; quiet = refl; flushed = refl }, refl, refl),
   told_too,
-  inr (record { begun = record { taken = 0; grown = refl }; blamed = refl }, record { status_is = refl; said = inl (record { whole = refl; quiet = refl; flushed = refl }) }),
+  inr (record { begun = record { taken = 0; grown = refl }; blamed = refl }, record { status_is = refl; said = (_, refl, inl (record { whole = refl; quiet = refl; flushed = refl })) }),
 )
   where
     told_too : Shows (5 ∷ []) 0 (with_writer (3 ∷ []) 0 (4 ∷ [])) (with_writer (3 ∷ 5 ∷ []) 0 []) → ⊥
@@ -179,14 +183,14 @@ each_told = (
 -- they are told where that is asked for and saves are in a file, and by plays alone
 told_where :
     (said_of true (Some (7 ∷ [])) (Length ∷ NotForm ∷ []) ≡ Length ∷ NotForm ∷ []) × (said_of false (Some (7 ∷ [])) (Length ∷ []) ≡ []) × (said_of true None (Length ∷ []) ≡ [])
-    × (said_by (Play (1 ∷ []) None 1 2 false (Some (7 ∷ [])) true false) (Length ∷ []) ≡ Length ∷ []) × (said_by (Play (1 ∷ []) None 1 2 true (Some (7 ∷ [])) false false) (Length ∷ []) ≡ []) × (said_by (Find (1 ∷ []) (2 ∷ []) None false false false) (Length ∷ []) ≡ [])
+    × (said_by (Play (1 ∷ []) None 1 2 false (Some (7 ∷ [])) true false) (Length ∷ []) ≡ Length ∷ []) × (said_by (Play (1 ∷ []) None 1 2 true (Some (7 ∷ [])) false false) (Length ∷ []) ≡ []) × (said_by (Find (1 ∷ []) (2 ∷ []) None false false false false) (Length ∷ []) ≡ [])
 told_where = (refl, refl, refl, refl, refl, refl)
 
 -- want of memory is told, and nothing else is done
 lacking :
     Lacks 4 (with_errors 3 (4 ∷ [])) (with_errors 3 (4 ∷ memory_line)) × (Lacks 4 (all 1 2 3 4) (all 1 2 5 4) → ⊥) × (Lacks 4 (all 1 2 3 4) (all 5 2 3 4) → ⊥) × (Lacks 4 (all 1 2 3 4) (all 1 5 3 4) → ⊥)
 lacking = (
-  record { reported = record { status_is = refl; said = inl (record { whole = refl; quiet = refl; flushed = refl }) }; writer = refl; files = refl; reader = refl },
+  record { reported = record { status_is = refl; said = (_, refl, inl (record { whole = refl; quiet = refl; flushed = refl })) }; writer = refl; files = refl; reader = refl },
   λ lacks. absurd (let e = ap (λ (s : Seen). s.contents) lacks.writer in cc),
   λ lacks. absurd (let e = ap (λ (f : Held). f.known []) lacks.files in cc),
   λ lacks. absurd (let e = ap (λ (s : Told). s.remaining) lacks.reader in cc),
@@ -195,17 +199,28 @@ lacking = (
 -- ---- what comes of requests
 
 -- each is of the file that its request names, as it was, and of what was written before and is now
-module _ (search : Search) (story certificate : List ℕ) (held holds : List ℕ → Option (List ℕ)) (input before now : Option (List ℕ)) (outcome : Outcome) where
+module _ (search : Search) (story certificate : List ℕ) (held later : Held) (input before now : Option (List ℕ)) (outcome : Outcome) where
   comes_of_files :
-      (force : Bool) → (Comes (ListStory story None) held holds input [] before now outcome → ListComesTo (held story) before now outcome)
-      × (Comes (ListStory story (Some certificate)) held holds input [] before now outcome → ListByComesTo (held story) (held certificate) before now outcome) × (Comes (Find story certificate search.frames search.strict search.places force) held holds input [] before now outcome → FindComesTo search story certificate held holds before now outcome)
-      × (Comes (Check story certificate) held holds input [] before now outcome → CheckComesTo (held story) (held certificate) before now outcome) × (Comes (Explain story) held holds input [] before now outcome → ExplainComesTo story before now outcome)
-  comes_of_files force = (λ comes. comes, λ comes. comes, λ comes. comes, λ comes. comes, λ comes. comes)
+      (force json : Bool) → (Comes (ListStory story None json) held later input [] before now outcome → ListComesTo json (held.known story) before now outcome)
+      × (Comes (ListStory story (Some certificate) json) held later input [] before now outcome → ListByComesTo json (held.known story) (held.known certificate) before now outcome)
+      × (Comes (Find story certificate search.frames search.strict search.places force false) held later input [] before now outcome → FindComesTo (record search { json = false }) story certificate held.known later.known before now outcome)
+      × (Comes (Check story certificate false) held later input [] before now outcome → CheckComesTo (held.known story) (held.known certificate) before now outcome)
+      × (Comes (Explain (Some story) json) held later input [] before now outcome → ExplainComesTo (Some story) json before now outcome)
+  comes_of_files force json = (λ comes. comes, λ comes. comes, λ comes. comes, λ comes. comes, λ comes. comes)
+
+  -- what is told of each of many stories is of it and of its certificate: the one that is named, or the one beside it
+  comes_of_each :
+      (stories : List (List ℕ)) (force json : Bool)
+      → (Comes (Find story certificate search.frames search.strict search.places force true) held later input [] before now outcome → FindEachComesTo (record search { json = true }) force (Some certificate) (story ∷ []) held later before now outcome)
+      × (Comes (FindEach stories search.frames search.strict search.places force json) held later input [] before now outcome → FindEachComesTo (record search { json = json }) force None stories held later before now outcome)
+      × (Comes (Check story certificate true) held later input [] before now outcome → CheckEachComesTo true (Some certificate) (story ∷ []) held later before now outcome)
+      × (Comes (CheckEach stories json) held later input [] before now outcome → CheckEachComesTo json None stories held later before now outcome)
+  comes_of_each stories force json = (λ comes. comes, λ comes. comes, λ comes. comes, λ comes. comes)
 
   comes_of_plays :
       (seed budget : ℕ) (status : Bool) (save : Option (List ℕ)) (tell force : Bool)
-      → (Comes (Play story None seed budget status save tell force) held holds input [] before now outcome → ComesTo (held story) (record { budget = budget; status = status }) (given input seed (store_of save)) [] before now outcome)
-      × (Comes (Play story (Some certificate) seed budget status save tell force) held holds input [] before now outcome → PlayComesTo (held story) (held certificate) (record { budget = budget; status = status }) (given input seed (store_of save)) [] before now outcome)
+      → (Comes (Play story None seed budget status save tell force) held later input [] before now outcome → ComesTo (held.known story) (record { budget = budget; status = status }) (given input seed (store_of save)) [] before now outcome)
+      × (Comes (Play story (Some certificate) seed budget status save tell force) held later input [] before now outcome → PlayComesTo (held.known story) (held.known certificate) (record { budget = budget; status = status }) (given input seed (store_of save)) [] before now outcome)
   comes_of_plays seed budget status save tell force = (λ comes. comes, λ comes. comes)
 
 -- what holds with a certificate of neither version
@@ -224,7 +239,7 @@ unwritten :
     (options : Options) (outside : World) (error : LoadError)
     → IsUnwritten (ComesTo (Some []) options outside []) (Stopped (Failed File)) × IsUnwritten (ComesTo (Some []) options outside []) (Stopped (Refused error)) × IsUnwritten (ComesTo (Some []) options outside []) (Stopped (Failed Memory))
     × IsUnwritten (PlayComesTo (Some []) (Some []) options outside []) (Stopped (Failed File)) × IsUnwritten (PlayComesTo (Some []) (Some []) options outside []) (Stopped (Refused error)) × IsUnwritten (PlayComesTo (Some []) (Some []) options outside []) (Stopped (Failed Memory))
-    × IsUnwritten (ListComesTo (Some [])) (Stopped (Failed File)) × IsUnwritten (ListComesTo (Some [])) (Stopped (Failed Memory)) × IsUnwritten (ListByComesTo (Some []) (Some [])) (Stopped (Failed File)) × IsUnwritten (CheckComesTo (Some []) (Some [])) (Stopped (Failed File)) × IsUnwritten (ExplainComesTo (codes "X9")) NoSuchCode
+    × IsUnwritten (ListComesTo false (Some [])) (Stopped (Failed File)) × IsUnwritten (ListComesTo false (Some [])) (Stopped (Failed Memory)) × IsUnwritten (ListByComesTo false (Some []) (Some [])) (Stopped (Failed File)) × IsUnwritten (CheckComesTo (Some []) (Some [])) (Stopped (Failed File)) × IsUnwritten (ExplainComesTo (Some (codes "X9")) false) NoSuchCode
 unwritten options outside error = (
   λ comes. longer comes.0,
   λ comes. longer comes.1,
@@ -343,7 +358,7 @@ accepted_of_files :
     → ComesOfNone (CheckComesTo (Some []) None) Accepted × ComesOfNone (CheckComesTo (Some []) None) (Stopped (Failed Write)) × ComesOfNone (PlayComesTo (Some []) None options outside []) (Played end)
     × ComesOfNone (PlayComesTo (Some []) None options outside []) (Stopped (Failed Read)) × ComesOfNone (PlayComesTo (Some []) None options outside []) (Stopped (Failed Write)) × ComesOfNone (PlayComesTo (Some []) (Some (1 ∷ [])) options outside []) (Stopped (Failed Memory))
     × ComesOfNone (CheckComesTo None (Some [])) Accepted × ComesOfNone (CheckComesTo None (Some [])) (Stopped (Failed Write)) × ComesOfNone (PlayComesTo None (Some []) options outside []) (Played end)
-    × ComesOfNone (ListByComesTo (Some []) None) Listed × ComesOfNone (ListByComesTo None (Some [])) Listed × ComesOfNone (ListByComesTo None (Some [])) (Stopped (Failed Write))
+    × ComesOfNone (ListByComesTo false (Some []) None) Listed × ComesOfNone (ListByComesTo false None (Some [])) Listed × ComesOfNone (ListByComesTo false None (Some [])) (Stopped (Failed Write))
 accepted_of_files options outside end = (
   λ comes. no_story comes.0 _ comes.1,
   λ comes. no_story comes.0 _ comes.1,
@@ -364,33 +379,33 @@ accepted_of_files options outside end = (
     no_memory o format (inr played) = no_play_of_none o format _ options outside None None (Err errors.OutOfMemory) played
 
 -- an acceptance that was begun to be written isn't taken back either
-begun_on : Loses (CheckComesTo None None) (Stopped (Failed Write)) × ((code : List ℕ) → Loses (ExplainComesTo code) Explained × Loses (ExplainComesTo code) (Stopped (Failed Write)))
-begun_on = ((λ comes. absurd (let e = comes.2.grown in cc)), λ code. ((λ comes. absurd (let e = comes.2 in cc)), λ comes. absurd (let e = comes.2.grown in cc)))
+begun_on : Loses (CheckComesTo None None) (Stopped (Failed Write)) × ((code : Option (List ℕ)) (json : Bool) → Loses (ExplainComesTo code json) Explained × Loses (ExplainComesTo code json) (Stopped (Failed Write)))
+begun_on = ((λ comes. absurd (let e = comes.2.grown in cc)), λ code json. ((λ comes. absurd (let e = comes.2 in cc)), λ comes. absurd (let e = comes.2.grown in cc)))
 
 -- of a certificate that is accepted each instruction has its line, behind what was written before: as its listing has it, or with its marks
-abbrev IsListedAs : AcceptedStory → List ℕ → Type 0
-IsListedAs (Intervals j) text = IsListedBy interval_operations j text
-IsListedAs (Lists j) text = IsListedBy values_operations j text
+abbrev IsListedAs : Bool → AcceptedStory → List ℕ → Type 0
+IsListedAs json (Intervals j) text = IsListedBy json interval_operations j text
+IsListedAs json (Lists j) text = IsListedBy json values_operations j text
 
-module _ (story certificate : Option (List ℕ)) (before now : Option (List ℕ)) where
+module _ (json : Bool) (story certificate : Option (List ℕ)) (before now : Option (List ℕ)) where
   listed_by_files :
-      (ListByComesTo story certificate before now Listed → (a : AcceptedStory) × (text : List ℕ) × IsAcceptedStory story certificate a × IsListedAs a text × Appends before now text)
-      × (ListByComesTo story certificate before now (Stopped (Failed Write)) → (a : AcceptedStory) × (text : List ℕ) × IsAcceptedStory story certificate a × IsListedAs a text × AppendsBeginning before now text)
-      × (ListByComesTo story certificate before now (Stopped (Failed Memory)) → IsUnacceptedStory story certificate (Failed Memory) × (now ≡ before))
+      (ListByComesTo json story certificate before now Listed → (a : AcceptedStory) × (text : List ℕ) × IsAcceptedStory story certificate a × IsListedAs json a text × Appends before now text)
+      × (ListByComesTo json story certificate before now (Stopped (Failed Write)) → (a : AcceptedStory) × (text : List ℕ) × IsAcceptedStory story certificate a × IsListedAs json a text × AppendsBeginning before now text)
+      × (ListByComesTo json story certificate before now (Stopped (Failed Memory)) → IsUnacceptedStory story certificate (Failed Memory) × (now ≡ before))
   listed_by_files = (listed, begun, λ comes. comes)
     where
-      listed : ListByComesTo story certificate before now Listed → (a : AcceptedStory) × (text : List ℕ) × IsAcceptedStory story certificate a × IsListedAs a text × Appends before now text
+      listed : ListByComesTo json story certificate before now Listed → (a : AcceptedStory) × (text : List ℕ) × IsAcceptedStory story certificate a × IsListedAs json a text × Appends before now text
       listed (text, inl (j, accepted, is), took) = (Intervals j, text, accepted, is, took)
       listed (text, inr (j, accepted, is), took) = (Lists j, text, accepted, is, took)
 
-      begun : ListByComesTo story certificate before now (Stopped (Failed Write)) → (a : AcceptedStory) × (text : List ℕ) × IsAcceptedStory story certificate a × IsListedAs a text × AppendsBeginning before now text
+      begun : ListByComesTo json story certificate before now (Stopped (Failed Write)) → (a : AcceptedStory) × (text : List ℕ) × IsAcceptedStory story certificate a × IsListedAs json a text × AppendsBeginning before now text
       begun (text, inl (j, accepted, is), took) = (Intervals j, text, accepted, is, took)
       begun (text, inr (j, accepted, is), took) = (Lists j, text, accepted, is, took)
 
 -- of one that marks nothing the listing has the lines, of one that marks something they tell which and why
 listed_by_marks :
     {V : Type 0} (o : SetOperations V) (a : AcceptanceOver V) (m : MarkedOver V) (text : List ℕ)
-    → (IsListedBy o (Whole a) text → text ≡ listing_text a.listing.records) × (IsListedBy o (Marked m) text → AreMarksOf o m.story m.certificate false text)
+    → (IsListedBy false o (Whole a) text → text ≡ listing_text a.listing.records) × (IsListedBy true o (Marked m) text → AreMarksOf o m.story m.certificate true false text)
 listed_by_marks o a m text = ((λ listed. listed), (λ listed. listed))
 
 -- memory is wanted for a story's file alone
@@ -418,8 +433,8 @@ refused_story story certificate error (inr refused) = refused
 -- a certificate that is found is of the story as it was, and stands in its file now; where none is found no file changes
 module _ (search : Search) (story certificate : List ℕ) (held holds : List ℕ → Option (List ℕ)) (before now : Option (List ℕ)) where
   found_in_files :
-      (FindEnds search story certificate held holds before now Found → (bytes : List ℕ) × (text : List ℕ) × IsFound search (held story) bytes text × HasAlone bytes (holds certificate) × Appends before now text)
-      × (FindEnds search story certificate held holds before now (Stopped (Failed Write)) → (bytes : List ℕ) × (text : List ℕ) × IsFound search (held story) bytes text × HasAlone bytes (holds certificate) × AppendsBeginning before now text)
+      (FindEnds search story certificate held holds before now Found → (bytes : List ℕ) × (text : List ℕ) × (marks : ℕ) × IsFound search (held story) bytes text marks × HasAlone bytes (holds certificate) × Appends before now text)
+      × (FindEnds search story certificate held holds before now (Stopped (Failed Write)) → (bytes : List ℕ) × (text : List ℕ) × (marks : ℕ) × IsFound search (held story) bytes text marks × HasAlone bytes (holds certificate) × AppendsBeginning before now text)
       × (FindEnds search story certificate held holds before now (Stopped (Failed Memory)) → (IsNotFound search (held story) (Failed Memory) × (Failed Memory ≢ Failed File → holds ≡ held)) × (now ≡ before))
   found_in_files = (λ ends. ends, λ ends. ends, λ ends. ends)
 
@@ -430,8 +445,9 @@ module _ (search : Search) (story certificate : List ℕ) (held holds : List ℕ
   found_as_asked :
       (s : LoadedStory) (found : FoundCertificate) (text : List ℕ)
       → (IsFoundFor (record search { strict = true }) s found → IsFoundUnmarked s search.frames found) × (IsFoundFor (record search { strict = false }) s found → IsFoundMarked s search.frames found)
-      × (IsFoundText false s found text → text ≡ found_line (marks_of found)) × (IsFoundText true s found text → (places : List ℕ) × ArePlacesOf s found places × (text ≡ found_line (marks_of found) ++ places))
-  found_as_asked s found text = ((λ f. f), (λ f. f), (λ t. t), (λ t. t))
+      × (IsFoundText false false s found text → text ≡ found_line (marks_of found)) × (IsFoundText false true s found text → (places : List ℕ) × ArePlacesOf false s found places × (text ≡ found_line (marks_of found) ++ places))
+      × (IsFoundText true true s found text → ArePlacesOf true s found text)
+  found_as_asked s found text = ((λ f. f), (λ f. f), (λ t. t), (λ t. t), (λ t. subst (ArePlacesOf true s found) (sym t.2) t.1))
 
   unfound_as_asked :
       (s : LoadedStory) (error : FindError)
@@ -439,9 +455,9 @@ module _ (search : Search) (story certificate : List ℕ) (held holds : List ℕ
   unfound_as_asked s error = ((λ f. f), (λ f. f))
 
   listed_of_file :
-      (known : Option (List ℕ)) → (ListComesTo known before now Listed → (text : List ℕ) × HoldsListed known text × Appends before now text)
-      × (ListComesTo known before now (Stopped (Failed Write)) → (text : List ℕ) × HoldsListed known text × AppendsBeginning before now text) × (ListComesTo known before now (Stopped (Failed Memory)) → IsNoListing known (Failed Memory) × (now ≡ before))
-  listed_of_file known = (λ comes. comes, λ comes. comes, λ comes. comes)
+      (json : Bool) (known : Option (List ℕ)) → (ListComesTo json known before now Listed → (text : List ℕ) × HoldsListed json known text × Appends before now text)
+      × (ListComesTo json known before now (Stopped (Failed Write)) → (text : List ℕ) × HoldsListed json known text × AppendsBeginning before now text) × (ListComesTo json known before now (Stopped (Failed Memory)) → IsNoListing known (Failed Memory) × (now ≡ before))
+  listed_of_file json known = (λ comes. comes, λ comes. comes, λ comes. comes)
 
 -- ---- parts of files, and calls that fail
 
@@ -474,15 +490,15 @@ explained = (
 
 -- ---- all that is done
 
-module _ (words : List (List ℕ)) (status : ℕ) (old new : Devices) where
+module _ (words : List (List ℕ)) (speech : Speech) (status : ℕ) (old new : Devices) where
   -- the words do it, or there was no memory to read them
-  performed : Performs words status old new → Does words status old new ⊎ Lacks status old new
+  performed : Performs words speech status old new → Does words speech status old new ⊎ Lacks status old new
   performed performs = performs
 
   -- what is done is of the devices as they were and as they are
   done :
-      (did : Does words status old new) → Begins did.request old.files.known new.files.known old.reader.remaining did.refusals old.writer.contents new.writer.contents did.outcome
+      (did : Does words speech status old new) → Begins did.request old.files new.files old.reader.remaining did.refusals old.writer.contents new.writer.contents did.outcome
       × (did.outcome ≡ Stopped (Failed File) → IsBlamed did.request old.files) × Blames (did.outcome ≡ Stopped (Failed Read)) old.reader.failures new.reader.failures × (is_quiet did.request ≡ true → new.reader ≡ old.reader)
-      × SaysEach (said_by did.request did.refusals) old.errors did.between × Reports did.outcome status did.between new.errors × FlushesUnless (λ (s : Seen). s.failures) (λ (s : Seen). s.waits) old.writer new.writer (did.outcome ≡ Stopped (Failed Write))
-      × UsesUnless (λ (f : Held). f.known) (λ (f : Held). f.failures) old.files new.files (save_in did.request) (written_by did.request) (did.outcome ≡ Stopped (Failed File))
+      × SaysEach (said_by did.request did.refusals) old.errors did.between × Reports speech new.files.blamed did.outcome status did.between new.errors × FlushesUnless (λ (s : Seen). s.failures) (λ (s : Seen). s.waits) old.writer new.writer (did.outcome ≡ Stopped (Failed Write))
+      × (is_each did.request ≡ false → UsesUnless (λ (f : Held). f.known) (λ (f : Held). f.failures) old.files new.files (spared_in did.request) (written_by did.request) (did.outcome ≡ Stopped (Failed File)))
   done did = (did.comes, did.could, did.reader, did.unasked, did.told, did.reported, did.writer, did.files)

@@ -1,5 +1,5 @@
 -- Values of what is told of marked instructions, computed.
-use Rattle.std.proofs.Common.{◌≡◌, ℕ, true, false, List, [], ◌∷◌, ◌++◌, None, Some, codes, refl, sym}
+use Rattle.std.proofs.Common.{◌≡◌, ℕ, Bool, true, false, List, [], ◌∷◌, ◌++◌, None, Some, codes, refl, sym}
 use Rattle.std.proofs.lemmas.List.{append-nil}
 use Rattle.std.specs.Fmt.{digits}
 use Rattle.std.specs.List.{filter}
@@ -36,8 +36,8 @@ unfolding plain marked
 chosen = (refl, refl)
 
 -- lines come in the order of the instructions, and of none there are none
-module _ (story : LoadedStory) (c : Certificate Interval) (first rest : List ℕ) where
+module _ (story : LoadedStory) (c : Certificate Interval) (json : Bool) (first rest : List ℕ) where
   lines :
-      AreLinesOf interval_operations story c [] [] × (AreLinesOf interval_operations story c [] (10 ∷ []) → ⊥)
-      × (IsLineOf interval_operations story c plain first → IsLineOf interval_operations story c marked rest → AreLinesOf interval_operations story c (plain ∷ marked ∷ []) (first ++ rest))
+      AreLinesOf interval_operations story c json [] [] × (AreLinesOf interval_operations story c json [] (10 ∷ []) → ⊥)
+      × (IsLineOf interval_operations story c json plain first → IsLineOf interval_operations story c json marked rest → AreLinesOf interval_operations story c json (plain ∷ marked ∷ []) (first ++ rest))
   lines = (refl, (λ e. absurd cc), λ one other. (first, rest, one, (rest, [], other, refl, sym (append-nil rest)), refl))

@@ -44,7 +44,7 @@ use Rattle.zperform.specs.declared.outcome.Failure.TheVariants.{File, Read, Writ
 use Rattle.zperform.specs.declared.outcome.Problem.{Problem}
 use Rattle.zperform.specs.declared.outcome.Problem.TheVariants.{Refused, Unreadable, BreaksStory, BreaksInstruction, Unlisted, Unfound, Occupied, Failed}
 use Rattle.zperform.specs.declared.outcome.Outcome.{Outcome}
-use Rattle.zperform.specs.declared.outcome.Outcome.TheVariants.{Listed, Found, Accepted, Shown, NoAddress, Informed, Explained, NoSuchCode, Played, Stopped}
+use Rattle.zperform.specs.declared.outcome.Outcome.TheVariants.{Listed, Found, Accepted, Through, Shown, NoAddress, Informed, Explained, NoSuchCode, OneForMany, Played, Stopped}
 use Rattle.zperform.specs.Playing.{Holds, IsRefused, Reads, StaysEmpty}
 use Rattle.zperform.specs.Report.{accepted_line}
 
@@ -201,7 +201,9 @@ module _ {V : Type 0} (o : SetOperations V) (format : Format V) (story_known cer
   PlayEnds options given refusals before now Informed = ⊥
   PlayEnds options given refusals before now Explained = ⊥
   PlayEnds options given refusals before now NoSuchCode = ⊥
+  PlayEnds options given refusals before now OneForMany = ⊥
   PlayEnds options given refusals before now Accepted = ⊥
+  PlayEnds options given refusals before now (Through tally) = ⊥
   PlayEnds options given refusals before now (Played end) = Plays options given refusals before now (Ok end)
   PlayEnds options given refusals before now (Stopped (Failed Read)) = Plays options given refusals before now (Err errors.Read)
   PlayEnds options given refusals before now (Stopped (Failed Write)) = Plays options given refusals before now (Err errors.Write)
@@ -228,6 +230,7 @@ IsUnacceptedStory story_known certificate_known problem =
 -- What checking comes to, with what the writer took before and has taken now.
 abbrev pub CheckComesTo : Option (List ℕ) → Option (List ℕ) → Option (List ℕ) → Option (List ℕ) → Outcome → Type 0
 CheckComesTo story_known certificate_known before now Accepted = (a : AcceptedStory) × IsAcceptedStory story_known certificate_known a × Appends before now (accepted_line (marks_of a))
+CheckComesTo story_known certificate_known before now (Through tally) = ⊥
 CheckComesTo story_known certificate_known before now Listed = ⊥
 CheckComesTo story_known certificate_known before now Found = ⊥
 CheckComesTo story_known certificate_known before now Shown = ⊥
@@ -235,6 +238,7 @@ CheckComesTo story_known certificate_known before now NoAddress = ⊥
 CheckComesTo story_known certificate_known before now Informed = ⊥
 CheckComesTo story_known certificate_known before now Explained = ⊥
 CheckComesTo story_known certificate_known before now NoSuchCode = ⊥
+CheckComesTo story_known certificate_known before now OneForMany = ⊥
 CheckComesTo story_known certificate_known before now (Played end) = ⊥
 CheckComesTo story_known certificate_known before now (Stopped problem) =
     Stops ((a : AcceptedStory) × IsAcceptedStory story_known certificate_known a × AppendsBeginning before now (accepted_line (marks_of a))) (IsUnacceptedStory story_known certificate_known) before now problem

@@ -3,6 +3,7 @@ use Rattle.std.specs.Prelude.{◌≡◌, ◌≢◌, ◌⊎◌, ℕ, Bool, false,
 use Rattle.std.specs.Io.KnownBytes.{Appends}
 use Rattle.zfault.specs.Devices.{AppendsBeginning, RisesByOne}
 use Rattle.zplayer.specs.Outside.{Blames}
+use Rattle.zperform.specs.declared.blame.Blame.{Blame}
 use Rattle.zperform.specs.declared.outcome.Failure.TheVariants.{Write}
 use Rattle.zperform.specs.declared.outcome.Problem.TheVariants.{Failed}
 use Rattle.zperform.specs.declared.outcome.Outcome.{Outcome}
@@ -27,14 +28,15 @@ pub record Told : Type 0 where
 abbrev pub told : {Source : Type 0} → (Source → Option (List ℕ)) → (Source → ℕ) → Source → Told
 told remaining failures source = record { remaining = remaining source; failures = failures source }
 
--- what is told of files: the bytes of each, by its name, where they are known, their count of failures, and which can fail
+-- what is told of files: the bytes of each, by its name, where they are known, their count of failures, which can fail, and which failed last
 pub record Held : Type 0 where
   pub known : List ℕ → Option (List ℕ)
   pub failures : ℕ
   pub can_fail : List ℕ → Bool
+  pub blamed : Option Blame
 
-abbrev pub held : {Files : Type 0} → (Files → List ℕ → Option (List ℕ)) → (Files → ℕ) → (Files → List ℕ → Bool) → Files → Held
-held known failures can_fail files = record { known = known files; failures = failures files; can_fail = can_fail files }
+abbrev pub held : {Files : Type 0} → (Files → List ℕ → Option (List ℕ)) → (Files → ℕ) → (Files → List ℕ → Bool) → (Files → Option Blame) → Files → Held
+held known failures can_fail blamed files = record { known = known files; failures = failures files; can_fail = can_fail files; blamed = blamed files }
 
 -- the files, the reader, the writer, and the errors
 pub record Devices : Type 0 where

@@ -1,5 +1,5 @@
 -- What finding a certificate of a story file comes to, and what explaining a code does (own).
-use Rattle.std.specs.Prelude.{◌≡◌, ◌≢◌, ◌⊎◌, ⊤, ℕ, Bool, true, false, MatchBool, ◌++◌, List, Option, None, Some, IfSome}
+use Rattle.std.specs.Prelude.{◌≡◌, ◌≢◌, ◌⊎◌, ⊤, ℕ, Bool, true, false, MatchBool, ◌++◌, List, [], Option, None, Some, IfSome, option_map, flat_map}
 use Rattle.std.specs.Io.KnownBytes.{Appends}
 use Rattle.zfault.specs.Devices.{AppendsBeginning}
 use Rattle.zstory.specs.LoadedStory.{LoadedStory}
@@ -9,7 +9,14 @@ use Rattle.zfind.specs.Marking.{FailsUnmarked, IsFoundMarked, IsFoundUnmarked, I
 use Rattle.zfind.specs.declared.found.Found.{Found as FoundCertificate}
 use Rattle.zfind.specs.declared.error.FindError.{FindError}
 use Rattle.zfind.specs.declared.error.FindError.TheVariants.{OutOfMemory as NoMemoryToFind}
+use Rattle.zexplain.specs.Short.{all_codes}
+use Rattle.zexplain.specs.declared.certificates.TheConstants.{FINDING, FITTING, READING}
+use Rattle.zexplain.specs.declared.faults.TheConstants.{FAULTS}
+use Rattle.zexplain.specs.declared.playing.TheConstants.{KEEPING, PLAYING, SAVING}
+use Rattle.zexplain.specs.declared.rules.TheConstants.{RULES}
+use Rattle.zexplain.specs.declared.stories.TheConstants.{DECODING, LISTING, LOADING, TEXTS}
 use Rattle.zexplain.specs.Texts.{explanation_of}
+use Rattle.zjson.specs.Answers.{explained_line}
 use Rattle.zperform.specs.Contents.{SparesOthers}
 use Rattle.zperform.specs.Devices.{Held}
 use Rattle.zperform.specs.Accepting.{HoldsSuch, IsWhyNone, Stops}
@@ -30,17 +37,23 @@ IsFoundFor search story found = MatchBool search.strict (IsFoundUnmarked story s
 abbrev pub FailsFor : Search → LoadedStory → FindError → Type 0
 FailsFor search story error = MatchBool search.strict (FailsUnmarked story search.frames error) (IsMarkedFailure story search.frames error)
 
--- what is told of it: how many instructions it marks, and if that is asked for which, and why
-abbrev pub IsFoundText : Bool → LoadedStory → FoundCertificate → List ℕ → Type 0
-IsFoundText false story found text = text ≡ found_line (marks_of found)
-IsFoundText true story found text = (places : List ℕ) × ArePlacesOf story found places × (text ≡ found_line (marks_of found) ++ places)
+-- how many instructions it marks; of objects that stands in the one of the story
+abbrev pub lead_text : Bool → FoundCertificate → List ℕ
+lead_text true found = []
+lead_text false found = found_line (marks_of found)
 
--- the bytes spell a certificate that is found for a story, of which this is told
-pub record IsCertificateFor (search : Search) (story : LoadedStory) (bytes text : List ℕ) : Type 0 where
+-- what is told of it: how many instructions it marks, and if that is asked for which, and why
+abbrev pub IsFoundText : Bool → Bool → LoadedStory → FoundCertificate → List ℕ → Type 0
+IsFoundText json false story found text = text ≡ lead_text json found
+IsFoundText json true story found text = (places : List ℕ) × ArePlacesOf json story found places × (text ≡ lead_text json found ++ places)
+
+-- the bytes spell a certificate that is found for a story, of which this is told, and which marks so many instructions
+pub record IsCertificateFor (search : Search) (story : LoadedStory) (bytes text : List ℕ) (marks : ℕ) : Type 0 where
   pub certificate : FoundCertificate
   pub found : IsFoundFor search story certificate
   pub spelled : bytes ≡ spelling_of certificate
-  pub told : IsFoundText search.places story certificate text
+  pub told : IsFoundText search.json search.places story certificate text
+  pub counted : marks ≡ marks_of certificate
 
 -- why none is found for a story, but for want of memory, and what is told to stand in the way of every one that marks nothing
 abbrev pub IsUnfound : Search → LoadedStory → Problem → Type 0
@@ -48,9 +61,9 @@ IsUnfound search story (Unfound error broken) = FailsFor search story error × (
 IsUnfound search story (Failed Memory) = ⊤
 IsUnfound search story problem = ⊥
 
--- the bytes spell a certificate of the story that a file holds, of which this is told
-abbrev pub IsFound : Search → Option (List ℕ) → List ℕ → List ℕ → Type 0
-IsFound search known bytes text = HoldsSuch known (λ story. IsCertificateFor search story bytes text)
+-- the bytes spell a certificate of the story that a file holds, of which this is told, and which marks so many instructions
+abbrev pub IsFound : Search → Option (List ℕ) → List ℕ → List ℕ → ℕ → Type 0
+IsFound search known bytes text marks = HoldsSuch known (λ story. IsCertificateFor search story bytes text marks)
 
 -- why none is found for the story of a file: it holds no story, or one for which none is found
 abbrev pub IsNotFound : Search → Option (List ℕ) → Problem → Type 0
@@ -64,9 +77,9 @@ HasAlone bytes known = IfSome known (λ file. file ≡ bytes)
 -- that is found stands in its file before a word is said of it.
 abbrev pub FindEnds : Search → List ℕ → List ℕ → (List ℕ → Option (List ℕ)) → (List ℕ → Option (List ℕ)) → Option (List ℕ) → Option (List ℕ) → Outcome → Type 0
 FindEnds search story certificate held holds before now Found =
-    (bytes : List ℕ) × (text : List ℕ) × IsFound search (held story) bytes text × HasAlone bytes (holds certificate) × Appends before now text
+    (bytes : List ℕ) × (text : List ℕ) × (marks : ℕ) × IsFound search (held story) bytes text marks × HasAlone bytes (holds certificate) × Appends before now text
 FindEnds search story certificate held holds before now (Stopped problem) =
-    Stops ((bytes : List ℕ) × (text : List ℕ) × IsFound search (held story) bytes text × HasAlone bytes (holds certificate) × AppendsBeginning before now text)
+    Stops ((bytes : List ℕ) × (text : List ℕ) × (marks : ℕ) × IsFound search (held story) bytes text marks × HasAlone bytes (holds certificate) × AppendsBeginning before now text)
     (λ why. IsNotFound search (held story) why × (why ≢ Failed File → holds ≡ held)) before now problem
 FindEnds search story certificate held holds before now outcome = ⊥
 
@@ -77,11 +90,36 @@ pub record FindComesTo (search : Search) (story certificate : List ℕ) (held ho
 
 -- which file a failure is of: the story's, or the one that a certificate was to be written to
 abbrev pub IsOfStoryOrFound : Search → Held → List ℕ → List ℕ → Type 0
-IsOfStoryOrFound search files story certificate = (files.can_fail story ≡ true) ⊎ (((bytes : List ℕ) × (text : List ℕ) × IsFound search (files.known story) bytes text) × (files.can_fail certificate ≡ true))
+IsOfStoryOrFound search files story certificate = (files.can_fail story ≡ true) ⊎ (((bytes : List ℕ) × (text : List ℕ) × (marks : ℕ) × IsFound search (files.known story) bytes text marks) × (files.can_fail certificate ≡ true))
 
--- What explaining a code comes to, with what the writer took before and has taken now: its text is written, if it is one.
-abbrev pub ExplainComesTo : List ℕ → Option (List ℕ) → Option (List ℕ) → Outcome → Type 0
-ExplainComesTo code before now Explained = (text : List ℕ) × (explanation_of code ≡ Some text) × Appends before now text
-ExplainComesTo code before now (Stopped (Failed Write)) = (text : List ℕ) × (explanation_of code ≡ Some text) × AppendsBeginning before now text
-ExplainComesTo code before now NoSuchCode = (explanation_of code ≡ None) × (now ≡ before)
-ExplainComesTo code before now outcome = ⊥
+-- what is told of a code: its text, alone or in an object
+abbrev pub explained_text : Bool → List ℕ → List ℕ → List ℕ
+explained_text false code text = text
+explained_text true code text = explained_line code text
+
+-- the objects of all codes
+unfoldable pub objects_of_stories : List ℕ
+objects_of_stories = flat_map (λ e. explained_line e.0.now e.1.now) LOADING ++ flat_map (λ e. explained_line e.0.now e.1.now) DECODING ++ flat_map (λ e. explained_line e.0.now e.1.now) TEXTS ++ flat_map (λ e. explained_line e.0.now e.1.now) LISTING
+
+unfoldable pub objects_of_certificates : List ℕ
+objects_of_certificates = flat_map (λ e. explained_line e.0.now e.1.now) READING ++ flat_map (λ e. explained_line e.0.now e.1.now) FITTING ++ flat_map (λ e. explained_line e.0.now e.1.now) FINDING ++ flat_map (λ e. explained_line e.0.now e.1.now) RULES
+
+unfoldable pub objects_of_play : List ℕ
+objects_of_play = flat_map (λ e. explained_line e.0.now e.1.now) FAULTS ++ flat_map (λ e. explained_line e.0.now e.1.now) SAVING ++ flat_map (λ e. explained_line e.0.now e.1.now) PLAYING ++ flat_map (λ e. explained_line e.0.now e.1.now) KEEPING
+
+abbrev pub all_objects : List ℕ
+all_objects = objects_of_stories ++ objects_of_certificates ++ objects_of_play
+
+-- what is told of codes: of one, if it is one, or of all, a line or an object each
+abbrev pub codes_text : Option (List ℕ) → Bool → Option (List ℕ)
+codes_text None false = Some all_codes
+codes_text None true = Some all_objects
+codes_text (Some code) json = option_map (explained_text json code) (explanation_of code)
+
+-- What explaining codes comes to, with what the writer took before and has taken now: that is written, unless there is no such code.
+abbrev pub ExplainComesTo : Option (List ℕ) → Bool → Option (List ℕ) → Option (List ℕ) → Outcome → Type 0
+ExplainComesTo code json before now Explained = (text : List ℕ) × (codes_text code json ≡ Some text) × Appends before now text
+ExplainComesTo code json before now (Stopped (Failed Write)) = (text : List ℕ) × (codes_text code json ≡ Some text) × AppendsBeginning before now text
+ExplainComesTo code json before now NoSuchCode = (codes_text code json ≡ None) × (now ≡ before)
+ExplainComesTo code json before now (Stopped (Failed Memory)) = now ≡ before
+ExplainComesTo code json before now outcome = ⊥

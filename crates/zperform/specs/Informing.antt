@@ -16,7 +16,7 @@ use Rattle.zinfo.specs.Info.{IsInfoOf}
 use Rattle.zinfo.specs.Object.{object_of_info}
 use Rattle.zinfo.specs.Text.{text_of_info}
 use Rattle.zinfo.specs.declared.facts.Beside.{Beside}
-use Rattle.zinfo.specs.declared.facts.Beside.TheVariants.{Nothing, Unreadable as NoCertificate, OfAnother, Own}
+use Rattle.zinfo.specs.declared.facts.Beside.TheVariants.{Nothing, Unreadable as NoCertificate, OfAnother, Closed, Own}
 use Rattle.zinfo.specs.declared.facts.Info.{Info}
 use Rattle.zinfo.specs.declared.facts.Kept.{Kept}
 use Rattle.zjson.specs.Digest.{digest_text}
@@ -66,22 +66,24 @@ module _ {V : Type 0} (format : Format V) (known : Option (List ℕ)) (story : L
   IsBesideBy Nothing = ⊥
   IsBesideBy (NoCertificate number) = (error : CertError) × (number ≡ number_of error) × Reads known (λ file. IsUnread format file error)
   IsBesideBy OfAnother = IsOfAnother
+  IsBesideBy Closed = ⊤
   IsBesideBy (Own kept) = IsKeptOf kept
 
--- what stands beside a story: no file of which anything is known, or one that is read by either kind of sets
+-- what stands beside a story: no file of which anything is known, one that can't be read, or one that is read by either kind of sets
 abbrev pub IsBeside : Option (List ℕ) → LoadedStory → Beside → Type 0
 IsBeside known story Nothing = known ≡ None
 IsBeside known story beside = IsBesideBy interval_format known story beside ⊎ IsBesideBy values_format known story beside
 
--- that isn't known where the file can't be read, or memory is wanting
+-- that isn't known where memory is wanting
 abbrev pub IsUntold : Problem → Type 0
-IsUntold problem = (problem ≡ Failed File) ⊎ (problem ≡ Failed Memory)
+IsUntold problem = problem ≡ Failed Memory
 
 -- for a private clause: what is told of what a certificate has, or of why there is none
 abbrev pub beside_by : Result Kept Problem → Result Beside Problem
 beside_by (Ok kept) = Ok (Own kept)
 beside_by (Err (Unreadable error)) = Ok (NoCertificate (number_of error))
 beside_by (Err (BreaksStory rule)) = Ok OfAnother
+beside_by (Err (Failed File)) = Ok Closed
 beside_by (Err problem) = Err problem
 
 -- ---- what is told

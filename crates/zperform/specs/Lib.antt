@@ -1,3 +1,4 @@
+pub mod Blaming
 pub mod Contents
 pub mod Devices
 pub mod Report
@@ -11,5 +12,10 @@ pub mod Showing
 pub mod Marking
 pub mod Finding
 pub mod Informing
+pub mod Wording
+pub mod Verdicts
+pub mod Each
+pub mod Checking
+pub mod Seeking
 pub mod Performing
 pub mod Played

@@ -1,34 +1,45 @@
 -- What the words of a command line come to: what is done, what is said of it, and the exit status (own).
-use Rattle.std.specs.Prelude.{◌≡◌, ◌⊎◌, ℕ, Bool, true, false, List, [], Option, None, Some, MatchBool}
+use Rattle.std.specs.Prelude.{◌≡◌, ◌⊎◌, ℕ, Bool, true, false, List, [], ◌∷◌, Option, None, Some, MatchBool}
 use Rattle.clap.specs.Kinds.{IsAmong, Kinds}
 use Rattle.clap.specs.Words.{Row, Text, subcommand_of}
 use Rattle.clap.specs.declared.error.kind.ErrorKind.{ErrorKind}
 use Rattle.clap.specs.declared.error.kind.ErrorKind.TheVariants.{DisplayHelp, DisplayVersion}
-use Rattle.zcommand.specs.CommandLine.{Asks, Request, ListStory, Find, Check, Show, Play, Info, Explain, zpc_app}
+use Rattle.zcommand.specs.CommandLine.{Asks, Request, ListStory, Find, FindEach, OneForMany as NotOne, Check, CheckEach, Show, Play, Info, Explain, zpc_app}
 use Rattle.zquetzal.specs.declared.error.SaveError.{SaveError}
 use Rattle.zplayer.specs.Outside.{Blames, words_of}
 use Rattle.zplayer.specs.World.{Store, World, world}
 use Rattle.zperform.specs.Devices.{Breaks, Devices, FlushesUnless, Held, Says, Seen, Takes, UsesUnless}
 use Rattle.zperform.specs.Playing.{ComesTo}
+use Rattle.zperform.specs.Checking.{CheckEachComesTo}
 use Rattle.zperform.specs.Accepting.{CheckComesTo, IsOfEither, PlayComesTo}
-use Rattle.zperform.specs.Finding.{ExplainComesTo, FindComesTo, IsOfStoryOrFound}
+use Rattle.zperform.specs.Finding.{ExplainComesTo}
 use Rattle.zperform.specs.Informing.{InfoComesTo, name_of_certificate}
 use Rattle.zperform.specs.Keeping.{IsOccupied, MayWrite}
 use Rattle.zperform.specs.Listing.{ListComesTo}
 use Rattle.zperform.specs.Marking.{ListByComesTo}
+use Rattle.zperform.specs.Seeking.{FindEachComesTo, FindOneComesTo, IsOfOne}
 use Rattle.zperform.specs.Showing.{ShowComesTo}
-use Rattle.zperform.specs.Report.{line_of, status_of, text_of}
+use Rattle.zperform.specs.Report.{status_of}
+use Rattle.zperform.specs.Wording.{IsSaidSo}
+use Rattle.zperform.specs.declared.blame.Blame.{Blame}
+use Rattle.zperform.specs.declared.wording.Speech.{Speech}
+use Rattle.zperform.specs.declared.wording.Speech.TheVariants.{Codes}
 use Rattle.zperform.specs.Telling.{SaysEach, said_of}
+use Rattle.zperform.specs.declared.finding.Search.{Search}
 use Rattle.zperform.specs.declared.outcome.Failure.TheVariants.{File, Read, Write, Memory}
 use Rattle.zperform.specs.declared.outcome.Problem.{Problem}
 use Rattle.zperform.specs.declared.outcome.Problem.TheVariants.{Failed}
 use Rattle.zperform.specs.declared.outcome.Outcome.{Outcome}
-use Rattle.zperform.specs.declared.outcome.Outcome.TheVariants.{Stopped}
+use Rattle.zperform.specs.declared.outcome.Outcome.TheVariants.{OneForMany, Stopped}
 
--- an outcome's exit status, and its line
-pub record Reports (outcome : Outcome) (status : ℕ) (old new : Seen) : Type 0 where
+-- an outcome's lines are said, by codes or in words, with the file that failed last
+abbrev pub SaysOutcome : Speech → Option Blame → Outcome → Seen → Seen → Type 0
+SaysOutcome speech blame outcome old new = (text : List ℕ) × IsSaidSo speech blame outcome text × Says old new text
+
+-- an outcome's exit status, and its lines
+pub record Reports (speech : Speech) (blame : Option Blame) (outcome : Outcome) (status : ℕ) (old new : Seen) : Type 0 where
   pub status_is : status ≡ status_of outcome
-  pub said : Says old new (line_of (text_of outcome))
+  pub said : SaysOutcome speech blame outcome old new
 
 -- ---- words that name no command
 
@@ -42,7 +53,7 @@ is_request _ = false
 abbrev pub Shows : List ℕ → ℕ → Devices → Devices → Type 0
 Shows text status old new =
     (Takes old.writer new.writer text × (status ≡ 0) × (new.errors ≡ old.errors))
-    ⊎ (Breaks old.writer new.writer text × Reports (Stopped (Failed Write)) status old.errors new.errors)
+    ⊎ (Breaks old.writer new.writer text × Reports Codes None (Stopped (Failed Write)) status old.errors new.errors)
 
 -- a mistake is told on the errors
 abbrev pub Tells : List ℕ → ℕ → Devices → Devices → Type 0
@@ -50,7 +61,7 @@ Tells text status old new = Says old.errors new.errors text × (status ≡ 2) ×
 
 -- memory was refused while the words were read, and nothing was shown, nor a file or any input read
 pub record Lacks (status : ℕ) (old new : Devices) : Type 0 where
-  pub reported : Reports (Stopped (Failed Memory)) status old.errors new.errors
+  pub reported : Reports Codes None (Stopped (Failed Memory)) status old.errors new.errors
   pub writer : new.writer ≡ old.writer
   pub files : new.files ≡ old.files
   pub reader : new.reader ≡ old.reader
@@ -72,32 +83,61 @@ store_of (Some name) = record { kept = None; failures = 0; refusals = [] }
 abbrev pub given : Option (List ℕ) → ℕ → Store → World
 given input seed store = world input (Some (words_of seed)) store
 
--- what comes of a request, with the bytes of files before and now, with the input, with why saves were refused, the newest first, and with
+-- what is looked for
+abbrev pub sought : Option ℕ → Bool → Bool → Bool → Search
+sought frames strict places json = record { frames = frames; strict = strict; places = places; json = json }
+
+-- nothing is done of words that name one certificate for more stories than one
+pub record RefusesMany (held holds : List ℕ → Option (List ℕ)) (before now : Option (List ℕ)) (outcome : Outcome) : Type 0 where
+  pub outcome_is : outcome ≡ OneForMany
+  pub files_stay : holds ≡ held
+  pub nothing_said : now ≡ before
+
+-- what comes of a request, with the files before and now, with the input, with why saves were refused, the newest first, and with
 -- what the writer took before and has taken now
-abbrev pub Comes : Request → (List ℕ → Option (List ℕ)) → (List ℕ → Option (List ℕ)) → Option (List ℕ) → List SaveError → Option (List ℕ) → Option (List ℕ) → Outcome → Type 0
-Comes (ListStory story None) held holds input refusals before now outcome = ListComesTo (held story) before now outcome
-Comes (ListStory story (Some certificate)) held holds input refusals before now outcome = ListByComesTo (held story) (held certificate) before now outcome
-Comes (Find story certificate frames strict places force) held holds input refusals before now outcome =
-    FindComesTo (record { frames = frames; strict = strict; places = places }) story certificate held holds before now outcome
-Comes (Check story certificate) held holds input refusals before now outcome = CheckComesTo (held story) (held certificate) before now outcome
-Comes (Show story certificate address) held holds input refusals before now outcome = ShowComesTo (held story) (held certificate) address before now outcome
-Comes (Play story None seed budget status save tell force) held holds input refusals before now outcome =
-    ComesTo (held story) (record { budget = budget; status = status }) (given input seed (store_of save)) refusals before now outcome
-Comes (Play story (Some certificate) seed budget status save tell force) held holds input refusals before now outcome =
-    PlayComesTo (held story) (held certificate) (record { budget = budget; status = status }) (given input seed (store_of save)) refusals before now outcome
-Comes (Info story json) held holds input refusals before now outcome = InfoComesTo json story held before now outcome
-Comes (Explain code) held holds input refusals before now outcome = ExplainComesTo code before now outcome
+abbrev pub Comes : Request → Held → Held → Option (List ℕ) → List SaveError → Option (List ℕ) → Option (List ℕ) → Outcome → Type 0
+Comes (ListStory story None json) files later input refusals before now outcome = ListComesTo json (files.known story) before now outcome
+Comes (ListStory story (Some certificate) json) files later input refusals before now outcome = ListByComesTo json (files.known story) (files.known certificate) before now outcome
+Comes (Find story certificate frames strict places force json) files later input refusals before now outcome =
+    FindOneComesTo (sought frames strict places json) force story certificate files later before now outcome
+Comes (FindEach stories frames strict places force json) files later input refusals before now outcome =
+    FindEachComesTo (sought frames strict places json) force None stories files later before now outcome
+Comes NotOne files later input refusals before now outcome = RefusesMany files.known later.known before now outcome
+Comes (Check story certificate false) files later input refusals before now outcome = CheckComesTo (files.known story) (files.known certificate) before now outcome
+Comes (Check story certificate true) files later input refusals before now outcome = CheckEachComesTo true (Some certificate) (story ∷ []) files later before now outcome
+Comes (CheckEach stories json) files later input refusals before now outcome = CheckEachComesTo json None stories files later before now outcome
+Comes (Show story certificate address) files later input refusals before now outcome = ShowComesTo (files.known story) (files.known certificate) address before now outcome
+Comes (Play story None seed budget status save tell force) files later input refusals before now outcome =
+    ComesTo (files.known story) (record { budget = budget; status = status }) (given input seed (store_of save)) refusals before now outcome
+Comes (Play story (Some certificate) seed budget status save tell force) files later input refusals before now outcome =
+    PlayComesTo (files.known story) (files.known certificate) (record { budget = budget; status = status }) (given input seed (store_of save)) refusals before now outcome
+Comes (Info story json) files later input refusals before now outcome = InfoComesTo json story files.known before now outcome
+Comes (Explain code json) files later input refusals before now outcome = ExplainComesTo code json before now outcome
 
 -- A request is done where its file may be written over. Else that is told, and nothing is done.
-abbrev pub Begins : Request → (List ℕ → Option (List ℕ)) → (List ℕ → Option (List ℕ)) → Option (List ℕ) → List SaveError → Option (List ℕ) → Option (List ℕ) → Outcome → Type 0
-Begins request held holds input refusals before now outcome =
-    (MayWrite request held × Comes request held holds input refusals before now outcome)
-    ⊎ ((problem : Problem) × (outcome ≡ Stopped problem) × IsOccupied request held problem × (holds ≡ held) × (now ≡ before))
+abbrev pub Begins : Request → Held → Held → Option (List ℕ) → List SaveError → Option (List ℕ) → Option (List ℕ) → Outcome → Type 0
+Begins request files later input refusals before now outcome =
+    (MayWrite request files.known × Comes request files later input refusals before now outcome)
+    ⊎ ((problem : Problem) × (outcome ≡ Stopped problem) × IsOccupied request files.known problem × (later.known ≡ files.known) × (now ≡ before))
 
 -- a request whose answer needs no input
 abbrev pub is_quiet : Request → Bool
 is_quiet (Play story certificate seed budget status save tell force) = false
 is_quiet _ = true
+
+-- a request that goes through stories one after another, and tells of each what it comes to
+abbrev pub is_each : Request → Bool
+is_each (Find story certificate frames strict places force json) = json
+is_each (FindEach stories frames strict places force json) = true
+is_each (Check story certificate json) = json
+is_each (CheckEach stories json) = true
+is_each request = false
+
+-- the name of a file of which a failure needn't end a request, if there is one: that for saves, or a certificate beside a story
+abbrev pub spared_in : Request → Option Text
+spared_in (Play story certificate seed budget status save tell force) = save
+spared_in (Info story json) = Some (name_of_certificate story)
+spared_in request = None
 
 -- the name of the file that saves are kept in, if a request has one
 abbrev pub save_in : Request → Option Text
@@ -106,7 +146,7 @@ save_in _ = None
 
 -- the name of the file that a request may write
 abbrev pub written_by : Request → Option Text
-written_by (Find story certificate frames strict places force) = Some certificate
+written_by (Find story certificate frames strict places force json) = Some certificate
 written_by request = save_in request
 
 -- the refusals that are said of those that a request met, the newest first
@@ -116,38 +156,42 @@ said_by _ refusals = []
 
 -- which file a failure of files is of, by what is asked for
 abbrev pub IsBlamed : Request → Held → Type 0
-IsBlamed (ListStory story None) files = files.can_fail story ≡ true
-IsBlamed (ListStory story (Some certificate)) files = IsOfEither files story certificate
-IsBlamed (Find story certificate frames strict places force) files = IsOfStoryOrFound (record { frames = frames; strict = strict; places = places }) files story certificate
-IsBlamed (Check story certificate) files = IsOfEither files story certificate
+IsBlamed (ListStory story None json) files = files.can_fail story ≡ true
+IsBlamed (ListStory story (Some certificate) json) files = IsOfEither files story certificate
+IsBlamed (Find story certificate frames strict places force json) files = IsOfOne (sought frames strict places json) files story certificate
+IsBlamed (FindEach stories frames strict places force json) files = ⊥
+IsBlamed NotOne files = ⊥
+IsBlamed (Check story certificate false) files = IsOfEither files story certificate
+IsBlamed (Check story certificate true) files = ⊥
+IsBlamed (CheckEach stories json) files = ⊥
 IsBlamed (Show story certificate address) files = IsOfEither files story certificate
 IsBlamed (Play story None seed budget status save tell force) files = files.can_fail story ≡ true
 IsBlamed (Play story (Some certificate) seed budget status save tell force) files = IsOfEither files story certificate
-IsBlamed (Info story json) files = IsOfEither files story (name_of_certificate story)
-IsBlamed (Explain code) files = ⊥
+IsBlamed (Info story json) files = files.can_fail story ≡ true
+IsBlamed (Explain code json) files = ⊥
 
 -- A request, with the values among clap's matches: what it comes to is reported, if its file may be written over, behind a line of each save that was refused, where
 -- those are asked for. The writer is blamed just where it failed, and
 -- so are the reader, which isn't asked but for a play, and the files, unless saves are kept in one: then they may fail, and the play goes
 -- on. A failure of files is one of a file that the request names. No file is written but the one for saves or for a certificate that is
 -- found. What was written is flushed unless the writer failed.
-pub record Does (words : List Text) (status : ℕ) (old new : Devices) : Type 0 where
+pub record Does (words : List Text) (speech : Speech) (status : ℕ) (old new : Devices) : Type 0 where
   pub matches : Text × List Row
   pub named : subcommand_of zpc_app words ≡ Some matches
   pub request : Request
   pub asks : Asks matches request
   pub outcome : Outcome
   pub refusals : List SaveError
-  pub comes : Begins request old.files.known new.files.known old.reader.remaining refusals old.writer.contents new.writer.contents outcome
+  pub comes : Begins request old.files new.files old.reader.remaining refusals old.writer.contents new.writer.contents outcome
   pub writer : FlushesUnless (λ (s : Seen). s.failures) (λ (s : Seen). s.waits) old.writer new.writer (outcome ≡ Stopped (Failed Write))
-  pub files : UsesUnless (λ (f : Held). f.known) (λ (f : Held). f.failures) old.files new.files (save_in request) (written_by request) (outcome ≡ Stopped (Failed File))
+  pub files : is_each request ≡ false → UsesUnless (λ (f : Held). f.known) (λ (f : Held). f.failures) old.files new.files (spared_in request) (written_by request) (outcome ≡ Stopped (Failed File))
   pub could : outcome ≡ Stopped (Failed File) → IsBlamed request old.files
   pub reader : Blames (outcome ≡ Stopped (Failed Read)) old.reader.failures new.reader.failures
   pub unasked : is_quiet request ≡ true → new.reader ≡ old.reader
   pub between : Seen
   pub told : SaysEach (said_by request refusals) old.errors between
-  pub reported : Reports outcome status between new.errors
+  pub reported : Reports speech new.files.blamed outcome status between new.errors
 
 -- the request of the words was done, as far as there was memory to read them
-abbrev pub Performs : List Text → ℕ → Devices → Devices → Type 0
-Performs words status old new = Does words status old new ⊎ Lacks status old new
+abbrev pub Performs : List Text → Speech → ℕ → Devices → Devices → Type 0
+Performs words speech status old new = Does words speech status old new ⊎ Lacks status old new

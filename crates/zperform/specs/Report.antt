@@ -11,6 +11,7 @@ use Rattle.zcert.specs.declared.error.CertError.TheVariants.{OutOfMemory as NoMe
 use Rattle.zrule.specs.Numbers.{number_of as rule_number}
 use Rattle.zcheck.specs.Numbers.{number_of as story_rule_number}
 use Rattle.zcheck.specs.declared.refusal.Refusal.{Refusal}
+use Rattle.zcheck.specs.declared.refusal.StoryRule.{StoryRule}
 use Rattle.zcheck.specs.declared.refusal.Refusal.TheVariants as refusals
 use Rattle.zcheck.specs.declared.refusal.StreamRefusal.{StreamRefusal}
 use Rattle.zcheck.specs.declared.refusal.StreamRefusal.TheVariants.{Cert, Check}
@@ -26,13 +27,14 @@ use Rattle.zplayer.specs.declared.end.End.{End}
 use Rattle.zplayer.specs.declared.end.End.TheVariants as ends
 use Rattle.zplayer.specs.declared.end.PlayError.{PlayError}
 use Rattle.zplayer.specs.declared.end.PlayError.TheVariants as errors
+use Rattle.zbatch.specs.Summary.{status_of as tally_status}
 use Rattle.zperform.specs.Keeping.{purpose_number}
 use Rattle.zperform.specs.declared.outcome.Failure.{Failure}
 use Rattle.zperform.specs.declared.outcome.Failure.TheVariants.{File, Read, Write, Memory}
 use Rattle.zperform.specs.declared.outcome.Problem.{Problem}
 use Rattle.zperform.specs.declared.outcome.Problem.TheVariants.{Refused, Unreadable, BreaksStory, BreaksInstruction, Unlisted, Unfound, Occupied, Failed}
 use Rattle.zperform.specs.declared.outcome.Outcome.{Outcome}
-use Rattle.zperform.specs.declared.outcome.Outcome.TheVariants.{Listed, Found, Accepted, Shown, NoAddress, Informed, Explained, NoSuchCode, Played, Stopped}
+use Rattle.zperform.specs.declared.outcome.Outcome.TheVariants.{Listed, Found, Accepted, Through, Shown, NoAddress, Informed, Explained, NoSuchCode, OneForMany, Played, Stopped}
 
 -- a story that isn't loaded is refused, but for want of memory
 abbrev pub problem_of_load : LoadError → Problem
@@ -73,11 +75,13 @@ status_of (Played end) = 0
 status_of Listed = 0
 status_of Found = 0
 status_of Accepted = 0
+status_of (Through tally) = tally_status tally
 status_of Shown = 0
 status_of NoAddress = 2
 status_of Informed = 0
 status_of Explained = 0
 status_of NoSuchCode = 2
+status_of OneForMany = 2
 status_of (Stopped (Failed failure)) = 4
 status_of (Stopped problem) = 1
 
@@ -135,31 +139,60 @@ found_line n = codes "found" ++ marks_text n ++ 10 ∷ []
 abbrev pub no_code : List ℕ
 no_code =
     codes "error: there is no such code; there are L1 to L12, K1 to K9, S1 to S8, I1 to I18, U1 to U4, G1 to G3, F1 to F16, J1 to J5, E1 to E3, Q1 to Q11, P1 to P3 and N1 to N2"
-    ++ 10 ∷ 10 ∷ codes "Usage: zpc explain <CODE>" ++ 10 ∷ 10 ∷ codes "For more information, try '--help'."
+    ++ 10 ∷ 10 ∷ codes "Usage: zpc explain [OPTIONS] [CODE]" ++ 10 ∷ 10 ∷ codes "For more information, try '--help'."
 
 -- what is said of a word that is no address, in the same form
 abbrev pub no_address : List ℕ
 no_address =
     codes "error: an address has one to five hexadecimal digits, as 00325" ++ 10 ∷ 10 ∷ codes "Usage: zpc show <STORY> <CERT> [ADDRESS]" ++ 10 ∷ 10 ∷ codes "For more information, try '--help'."
 
+-- what is said where one certificate is named for more stories than one
+abbrev pub one_for_many : List ℕ
+one_for_many =
+    codes "error: '--output' names the certificate of one story, and there isn't just one" ++ 10 ∷ 10 ∷ codes "Usage: zpc find [OPTIONS] <FILE>..." ++ 10 ∷ 10 ∷ codes "For more information, try '--help'."
+
+-- a problem's first line
+abbrev pub first_text : Problem → List ℕ
+first_text (Refused error) = codes "refused: L" ++ decimal (refusal_number error)
+first_text (Unreadable error) = codes "refused: K" ++ decimal (reading_number error)
+first_text (BreaksStory rule) = codes "refused: S" ++ decimal (story_rule_number rule)
+first_text (BreaksInstruction address rule) = codes "refused: I" ++ decimal (rule_number rule) ++ codes " at " ++ place_text (pos address)
+first_text (Unlisted error) = codes "refused: U" ++ decimal (list_number error) ++ codes " at " ++ place_text (list_place error)
+first_text (Unfound error broken) = codes "refused: G" ++ decimal (find_number error) ++ stopped_text error
+first_text (Occupied purpose) = codes "refused: N" ++ decimal (purpose_number purpose)
+first_text (Failed failure) = failure_text failure
+
+-- a rule of the story ended a search: that one is told, unless one is broken in every certificate
+abbrev pub story_text : StoryRule → Option Obstacle → List ℕ
+story_text rule None = codes "broken: S" ++ decimal (story_rule_number rule)
+story_text rule (Some (obstacles.Place place other)) = codes "broken: S" ++ decimal (story_rule_number rule)
+story_text rule (Some (obstacles.Story other)) = broken_text (Some (obstacles.Story other))
+
+-- what is told of why no certificate was found
+abbrev pub why_text : FindError → Option Obstacle → List ℕ
+why_text (NotFound (obstacles.Story rule)) broken = story_text rule broken
+why_text (NotFound (obstacles.Place place rule)) broken = broken_text broken
+why_text RoundLimit broken = broken_text broken
+why_text NoMemoryToFind broken = broken_text broken
+
+-- the lines behind the first, each with the end of the line before it
+abbrev pub rest_text : Problem → List ℕ
+rest_text (Unfound error broken) = 10 ∷ why_text error broken
+rest_text problem = []
+
 abbrev pub text_of : Outcome → List ℕ
 text_of Listed = []
 text_of Found = []
 text_of Accepted = []
+text_of (Through tally) = []
 text_of Shown = []
 text_of NoAddress = no_address
 text_of Informed = []
 text_of Explained = []
 text_of NoSuchCode = no_code
+text_of OneForMany = one_for_many
 text_of (Played end) = end_text end
-text_of (Stopped (Refused error)) = codes "refused: L" ++ decimal (refusal_number error)
-text_of (Stopped (Unreadable error)) = codes "refused: K" ++ decimal (reading_number error)
-text_of (Stopped (BreaksStory rule)) = codes "refused: S" ++ decimal (story_rule_number rule)
-text_of (Stopped (BreaksInstruction address rule)) = codes "refused: I" ++ decimal (rule_number rule) ++ codes " at " ++ place_text (pos address)
-text_of (Stopped (Unlisted error)) = codes "refused: U" ++ decimal (list_number error) ++ codes " at " ++ place_text (list_place error)
-text_of (Stopped (Unfound error broken)) = codes "refused: G" ++ decimal (find_number error) ++ stopped_text error ++ 10 ∷ broken_text broken
-text_of (Stopped (Occupied purpose)) = codes "refused: N" ++ decimal (purpose_number purpose)
-text_of (Stopped (Failed failure)) = failure_text failure
+text_of (Stopped problem) = first_text problem ++ rest_text problem
 
 -- what comes of playing, or of what kept it from being done
 abbrev pub outcome_of : Result End Problem → Outcome

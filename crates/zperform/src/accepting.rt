@@ -65,7 +65,7 @@ pub fn accept<F: Files>(
     ensures accepted { IfOk result (IsAcceptedStory (F.known files.old story.now) (F.known files.old certificate.now)) }
     ensures refused { IfErr result (IsUnacceptedStory (F.known files.old story.now) (F.known files.old certificate.now)) }
     ensures files { ReadsUnless F.known F.failures F.can_fail files.old files.new (IsErrOf result (Problem.Failed Failure.File)) }
-    ensures could { IsErrOf result (Problem.Failed Failure.File) → IsOfEither (held F.known F.failures F.can_fail files.old) story.now certificate.now }
+    ensures could { IsErrOf result (Problem.Failed Failure.File) → IsOfEither (held F.known F.failures F.can_fail F.blamed files.old) story.now certificate.now }
 {
     let story = open_story(alloc, story, files)?;
     let first = read_file(alloc, files, certificate, HEADING)?;

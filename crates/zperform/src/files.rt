@@ -1,13 +1,16 @@
 //! The files that commands name.
 
-ghost use Rattle.std.specs.Prelude.{◌≡◌, ◌<◌, ◌≤◌, ◌+◌, ℕ, Bool, true, false, List, None, Option, ◌⊎◌, Ok, Err, IfErr, IfOk, IfSome, IsErrOf, IsTrue, OnOk, ◌↔◌, Some, length, take, vec_len};
+ghost use Rattle.std.specs.Prelude.{◌≡◌, ◌<◌, ◌≤◌, ◌+◌, ℕ, Bool, true, false, List, None, Option, ◌⊎◌, Ok, Err, IfErr, IfOk, IfSome, IsErrOf, IsTrue, MatchBool, MatchOption, OnOk, ◌↔◌, Some, length, option_map, take, vec_len};
 ghost use Rattle.zfault.specs.Devices.{RisesByOne};
 ghost use Rattle.zplayer.specs.Outside.{CountsRefusal};
+ghost use Rattle.zperform.specs.Blaming.{IsOf};
+ghost use Rattle.zperform.specs.declared.blame.Blame.{Blame as Blamed};
 ghost use Rattle.zperform.specs.Contents.{CountsNone, HasBytes, IsBeginning, ReadsPart, SparesOthers};
 ghost use Rattle.zperform.specs.Devices.{ReadsUnless};
 ghost use Rattle.zperform.specs.Finding.{HasAlone};
 ghost use Rattle.zperform.specs.Keeping.{BeginsSo};
 
+use crate::blame::{Action, Blame, Cause, NAME_LIMIT};
 use crate::outcome::{Failure, Problem};
 use arrayvec::{ArrayString, ArrayVec};
 use itoa::Buffer;
@@ -22,9 +25,6 @@ use std::rt::Runtime;
 /// The most bytes that are read of a file in one call.
 pub const PIECE: usize = 4096;
 
-/// The longest name of a file that the system opens.
-const NAME_LIMIT: usize = 4096;
-
 /// Files by name.
 pub trait Files {
     /// The bytes of the file of a name, where they are known.
@@ -36,6 +36,13 @@ pub trait Files {
     /// Whether a call on the file of a name can fail.
     ghost can_fail: { Self → List ℕ → Bool } = { λ _ _. true };
 
+    /// The file of which a call failed last, and why, if one failed.
+    ghost blamed: { Self → Option Blamed };
+
+    /// The file of which a call failed last, and why, if one failed.
+    fn blame(&self) -> Option<&Blame>
+        ensures { option_map (λ blame. blame.now) result ≡ blamed self.now };
+
     /// Reads bytes of a file, from a place on, to the front of the buffer and answers how many: 0 of a buffer with room
     /// is the end of the file. `None` where it failed, and only then the count of failures rises, by one.
     fn read_at(&mut self, name: &str, from: u64, buffer: &mut [u8]) -> Option<usize>
@@ -43,6 +50,7 @@ pub trait Files {
         ensures bytes { IfSome result (λ count. ReadsPart (known self.old name.now) from count buffer.new) }
         ensures kept { known self.new ≡ known self.old }
         ensures counts { CountsNone (failures self.old) (failures self.new) result }
+        ensures blamed { MatchOption result (IsOf name.now Action.Read (blamed self.new)) (λ _. blamed self.new ≡ blamed self.old) }
         ensures could { result ≡ None → can_fail self.old name.now ≡ true }
         ensures alike { can_fail self.new ≡ can_fail self.old };
 
@@ -60,6 +68,7 @@ pub trait Files {
         ensures whole { result ≡ true → HasAlone bytes.now (known self.new name.now) }
         ensures spared { SparesOthers name.now (known self.old) (known self.new) }
         ensures counts { CountsRefusal (failures self.old) (failures self.new) result }
+        ensures blamed { MatchBool result (blamed self.new ≡ blamed self.old) (IsOf name.now Action.Write (blamed self.new)) }
         ensures could { result ≡ false → can_fail self.old name.now ≡ true }
         ensures alike { can_fail self.new ≡ can_fail self.old };
 }
@@ -79,65 +88,85 @@ pub struct Disk<'a, R: Runtime> {
     rt: &'a R,
     last: Option<Opened<R::File>>,
     failures: u64,
+    blame: Option<Blame>,
 }
 
 impl<'a, R: Runtime> Disk<'a, R> {
     /// The files that the runtime reaches.
     pub fn new(rt: &'a R) -> Disk<'a, R>
-        ensures { result.failures ≡ 0 }
+        ensures failures { result.failures ≡ 0 }
+        ensures blame { result.blame ≡ None }
     {
         Disk {
             rt,
             last: None,
             failures: 0,
+            blame: None,
         }
     }
 
     /// Opens a file to be read from a place on.
-    fn open(&self, name: &str, from: u64) -> Option<Opened<R::File>> {
+    fn open(&self, name: &str, from: u64) -> io::Result<Opened<R::File>> {
         let mut opened = Opened {
             name: ArrayVec::new(),
-            file: fs::open(self.rt, name).ok()?,
+            file: fs::open(self.rt, name)?,
             at: from,
         };
-        opened.name.try_extend_from_slice(name.as_bytes()).ok()?;
-        if from > 0 {
-            opened.file.seek(SeekFrom::Start(from)).ok()?;
+        if opened.name.try_extend_from_slice(name.as_bytes()).is_err() {
+            return Err(io::Error::from(ErrorKind::InvalidFilename));
         }
-        Some(opened)
+        if from > 0 {
+            opened.file.seek(SeekFrom::Start(from))?;
+        }
+        Ok(opened)
     }
 
     /// Reads bytes of a file from a place on, where the file that was read last stands or else of a file opened anew.
-    fn read_from(&mut self, name: &str, from: u64, buffer: &mut [u8]) -> Option<usize>
-        ensures bound { IfSome result (λ count. count ≤ length buffer.new) }
+    fn read_from(&mut self, name: &str, from: u64, buffer: &mut [u8]) -> io::Result<usize>
+        ensures bound { IfOk result (λ count. count ≤ length buffer.new) }
         ensures failures { self.new.failures ≡ self.old.failures }
+        ensures blame { self.new.blame ≡ self.old.blame }
     {
         let mut opened = match self.last.take() {
             Some(last) if last.at == from && last.name.as_slice() == name.as_bytes() => last,
             _ => self.open(name, from)?,
         };
-        let count = opened.file.read(buffer).ok()?;
-        opened.at = opened.at.checked_add(count as u64)?;
+        let count = opened.file.read(buffer)?;
+        let Some(at) = opened.at.checked_add(count as u64) else {
+            return Err(io::Error::from(ErrorKind::FileTooLarge));
+        };
+        opened.at = at;
         self.last = Some(opened);
-        Some(count)
+        Ok(count)
     }
 
-    fn count_failure(&mut self)
-        ensures { RisesByOne self.old.failures self.new.failures }
+    /// Counts a failure, and blames the file of a name for it.
+    fn fail(&mut self, name: &str, action: Action, cause: Cause)
+        ensures counted { RisesByOne self.old.failures self.new.failures }
+        ensures blamed { IsOf name.now action self.new.blame }
     {
         self.failures = self.failures.saturating_add(1);
+        self.blame = Some(Blame::new(name, action, cause));
     }
 }
 
 impl<'a, R: Runtime> Files for Disk<'a, R> {
     ghost failures = { λ disk. disk.failures };
 
+    ghost blamed = { λ disk. disk.blame };
+
+    fn blame(&self) -> Option<&Blame> {
+        self.blame.as_ref()
+    }
+
     fn read_at(&mut self, name: &str, from: u64, buffer: &mut [u8]) -> Option<usize> {
-        let count = self.read_from(name, from, buffer);
-        if count.is_none() {
-            self.count_failure();
+        match self.read_from(name, from, buffer) {
+            Ok(count) => Some(count),
+            Err(error) => {
+                self.fail(name, Action::Read, Cause::of(error.kind()));
+                None
+            }
         }
-        count
     }
 
     fn is_there(&self, name: &str) -> bool {
@@ -150,11 +179,13 @@ impl<'a, R: Runtime> Files for Disk<'a, R> {
 
     fn put(&mut self, name: &str, bytes: &[u8]) -> bool {
         self.last = None;
-        let done = replace(self.rt, name, bytes).is_ok();
-        if !done {
-            self.count_failure();
+        match replace(self.rt, name, bytes) {
+            Ok(()) => true,
+            Err(error) => {
+                self.fail(name, Action::Write, Cause::of(error.kind()));
+                false
+            }
         }
-        done
     }
 }
 

@@ -3,7 +3,7 @@
 ghost use Rattle.std.specs.Prelude.{◌≡◌, ◌≢◌, ◌≤◌, ◌++◌, ℕ, List, true, IfErr, IfOk, IfSome, IsErrOf};
 ghost use Rattle.zplayer.specs.Outside.{Blames};
 ghost use Rattle.zperform.specs.Devices.{FlushesUnless, ReadsUnless, held};
-ghost use Rattle.zperform.specs.Finding.{ExplainComesTo, FailsFor, FindComesTo, IsCertificateFor, IsFound, IsFoundFor, IsFoundText, IsNotFound, IsOfStoryOrFound, IsUnfound};
+ghost use Rattle.zperform.specs.Finding.{FailsFor, FindComesTo, IsCertificateFor, IsFound, IsFoundFor, IsFoundText, IsNotFound, IsOfStoryOrFound, IsUnfound, lead_text};
 ghost use Rattle.zperform.specs.Marking.{ArePlacesOf};
 
 use crate::accepting::open_story;
@@ -13,7 +13,6 @@ use crate::message::Message;
 use crate::outcome::{Failure, Outcome, Problem};
 use crate::performing::write_done;
 use std::alloc::{AllocError, Global};
-use zexplain::explanation;
 use zfault::Sink;
 use zfind::{FindError, Found, broken_in_all, find_marked, find_unmarked};
 use zstory::Story;
@@ -27,15 +26,19 @@ pub struct Search {
     pub strict: bool,
     /// Whether each instruction that it marks is told, with the reason.
     pub places: bool,
+    /// Whether they are told as objects.
+    pub json: bool,
 }
 
 /// A certificate that was found.
 #[derive(Drop)]
-struct Answer {
+pub struct Answer {
     /// Its bytes.
-    bytes: Vec<u8>,
+    pub bytes: Vec<u8>,
     /// What is told of it.
-    text: Vec<u8>,
+    pub text: Vec<u8>,
+    /// How many instructions it marks.
+    pub marks: usize,
 }
 
 /// Finds a certificate for the story of a file, keeps it in another, and then says so.
@@ -51,9 +54,9 @@ pub fn find_file<F: Files, W: Sink>(
     ensures comes { FindComesTo search story.now certificate.now (F.known files.old) (F.known files.new) (W.contents writer.old) (W.contents writer.new) result }
     ensures writer { FlushesUnless W.failures W.waits writer.old writer.new (result ≡ Outcome.Stopped (Problem.Failed Failure.Write)) }
     ensures files { Blames (result ≡ Outcome.Stopped (Problem.Failed Failure.File)) (F.failures files.old) (F.failures files.new) }
-    ensures could { result ≡ Outcome.Stopped (Problem.Failed Failure.File) → IsOfStoryOrFound search (held F.known F.failures F.can_fail files.old) story.now certificate.now }
+    ensures could { result ≡ Outcome.Stopped (Problem.Failed Failure.File) → IsOfStoryOrFound search (held F.known F.failures F.can_fail F.blamed files.old) story.now certificate.now }
 {
-    let Answer { bytes, text } = match answer_of(alloc, story, search, files) {
+    let Answer { bytes, text, .. } = match answer_of(alloc, story, search, files) {
         Ok(answer) => answer,
         Err(problem) => return Outcome::Stopped(problem),
     };
@@ -64,14 +67,14 @@ pub fn find_file<F: Files, W: Sink>(
 }
 
 /// A certificate for the story of a file.
-fn answer_of<F: Files>(
+pub fn answer_of<F: Files>(
     alloc: Global,
     name: &str,
     search: Search,
     files: &mut F,
 ) -> Result<Answer, Problem>
     requires low { IfSome search.frames (λ n. n ≤ 4096) }
-    ensures found { IfOk result (λ answer. IsFound search (F.known files.old name.now) answer.bytes.items answer.text.items) }
+    ensures found { IfOk result (λ answer. IsFound search (F.known files.old name.now) answer.bytes.items answer.text.items answer.marks) }
     ensures refused { IfErr result (IsNotFound search (F.known files.old name.now)) }
     ensures files { ReadsUnless F.known F.failures F.can_fail files.old files.new (IsErrOf result (Problem.Failed Failure.File)) }
     ensures could { IsErrOf result (Problem.Failed Failure.File) → F.can_fail files.old name.now ≡ true }
@@ -84,13 +87,14 @@ fn answer_of<F: Files>(
 /// A certificate for a story.
 fn answer_for(alloc: Global, story: &Story, search: Search) -> Result<Answer, Problem>
     requires low { IfSome search.frames (λ n. n ≤ 4096) }
-    ensures found { IfOk result (λ answer. IsCertificateFor search story.now answer.bytes.items answer.text.items) }
+    ensures found { IfOk result (λ answer. IsCertificateFor search story.now answer.bytes.items answer.text.items answer.marks) }
     ensures refused { IfErr result (IsUnfound search story.now) }
 {
     match look_for(alloc, story, search) {
         Ok(found) => Ok(Answer {
             bytes: found.write(alloc)?,
-            text: text_of(alloc, story, &found, search.places)?,
+            text: text_of(alloc, story, &found, search)?,
+            marks: found.marks(),
         }),
         Err(error) => Err(unfound(alloc, story, search, error)),
     }
@@ -110,13 +114,28 @@ fn look_for(alloc: Global, story: &Story, search: Search) -> Result<Found, FindE
 }
 
 /// What is told of a certificate that is found.
-fn text_of(alloc: Global, story: &Story, found: &Found, places: bool) -> Result<Vec<u8>, AllocError>
-    ensures { IfOk result (λ text. IsFoundText places story.now found.now text.items) }
+fn text_of(
+    alloc: Global,
+    story: &Story,
+    found: &Found,
+    search: Search,
+) -> Result<Vec<u8>, AllocError>
+    ensures { IfOk result (λ text. IsFoundText search.json search.places story.now found.now text.items) }
+{
+    let mut text = lead_of(alloc, found, search.json)?;
+    if search.places {
+        add_places(alloc, story, found, search.json, &mut text)?;
+    }
+    Ok(text)
+}
+
+/// How many instructions it marks, unless the object of the story tells that.
+fn lead_of(alloc: Global, found: &Found, json: bool) -> Result<Vec<u8>, AllocError>
+    ensures { IfOk result (λ text. text.items ≡ lead_text json found.now) }
 {
     let mut text = Vec::new(alloc);
-    text.extend_from_slice(Message::of_found(found.marks()).as_slice())?;
-    if places {
-        add_places(alloc, story, found, &mut text)?;
+    if !json {
+        text.extend_from_slice(Message::of_found(found.marks()).as_slice())?;
     }
     Ok(text)
 }
@@ -126,14 +145,15 @@ fn add_places(
     alloc: Global,
     story: &Story,
     found: &Found,
+    json: bool,
     text: &mut Vec<u8>,
 ) -> Result<(), AllocError>
-    ensures { IfOk result (λ _. (places : List ℕ) × ArePlacesOf story.now found.now places × (text.new.items ≡ text.old.items ++ places)) }
+    ensures { IfOk result (λ _. (places : List ℕ) × ArePlacesOf json story.now found.now places × (text.new.items ≡ text.old.items ++ places)) }
 {
     match found {
-        Found::Intervals(certificate) => add_marks(alloc, story, certificate, true, text),
-        Found::Lists(certificate) => add_marks(alloc, story, certificate, true, text),
-        Found::Marked(certificate) => add_marks(alloc, story, certificate, true, text),
+        Found::Intervals(certificate) => add_marks(alloc, story, certificate, json, true, text),
+        Found::Lists(certificate) => add_marks(alloc, story, certificate, json, true, text),
+        Found::Marked(certificate) => add_marks(alloc, story, certificate, json, true, text),
     }
 }
 
@@ -148,18 +168,5 @@ fn unfound(alloc: Global, story: &Story, search: Search, error: FindError) -> Pr
             Ok(broken) => Problem::Unfound(error, broken),
             Err(_) => Problem::Failed(Failure::Memory),
         },
-    }
-}
-
-/// Writes the text of a code, if it is one.
-pub fn explain_code<W: Sink>(code: &str, writer: &mut W) -> Outcome
-    ensures comes { ExplainComesTo code.now (W.contents writer.old) (W.contents writer.new) result }
-    ensures writer { FlushesUnless W.failures W.waits writer.old writer.new (result ≡ Outcome.Stopped (Problem.Failed Failure.Write)) }
-    ensures no_file { result ≢ Outcome.Stopped (Problem.Failed Failure.File) }
-    ensures no_input { result ≢ Outcome.Stopped (Problem.Failed Failure.Read) }
-{
-    match explanation(code) {
-        Some(text) => write_done(text.as_bytes(), Outcome::Explained, writer),
-        None => Outcome::NoSuchCode,
     }
 }

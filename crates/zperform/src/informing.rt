@@ -1,8 +1,9 @@
 //! What is told of a story's file, and of the certificate beside it.
 
 ghost use Rattle.std.specs.Prelude.{◌≡◌, ◌≤◌, true, IfErr, IfOk, IfSome, IsErrOf, length, string_bytes, take};
-ghost use Rattle.zperform.specs.Accepting.{IsOfEither, version_of};
-ghost use Rattle.zperform.specs.Devices.{FlushesUnless, ReadsUnless, held};
+ghost use Rattle.zfault.specs.Devices.{RisesByOne};
+ghost use Rattle.zperform.specs.Accepting.{version_of};
+ghost use Rattle.zperform.specs.Devices.{FlushesUnless, ReadsUnless};
 ghost use Rattle.zperform.specs.Informing.{HoldsDigested, HoldsInfo, InfoComesTo, IsBeside, IsKeptOf, IsNoInfo, IsNotKept, IsUntold, beside_by, info_text, kept_of, lines_of, name_of_certificate};
 
 use crate::accepting::{STORY_LIMIT, has_lists, load_bytes};
@@ -35,8 +36,9 @@ pub fn inform<F: Files, W: Sink>(
 ) -> Outcome
     ensures comes { InfoComesTo json story.now (F.known files.old) (W.contents writer.old) (W.contents writer.new) result }
     ensures writer { FlushesUnless W.failures W.waits writer.old writer.new (result ≡ Outcome.Stopped (Problem.Failed Failure.Write)) }
-    ensures files { ReadsUnless F.known F.failures F.can_fail files.old files.new (result ≡ Outcome.Stopped (Problem.Failed Failure.File)) }
-    ensures could { result ≡ Outcome.Stopped (Problem.Failed Failure.File) → IsOfEither (held F.known F.failures F.can_fail files.old) story.now (name_of_certificate story.now) }
+    ensures kept { F.known files.new ≡ F.known files.old }
+    ensures unread { result ≡ Outcome.Stopped (Problem.Failed Failure.File) → RisesByOne (F.failures files.old) (F.failures files.new) }
+    ensures could { result ≡ Outcome.Stopped (Problem.Failed Failure.File) → F.can_fail files.old story.now ≡ true }
 {
     match informed(alloc, story, json, files) {
         Ok(text) => write_done(&text, Outcome::Informed, writer),
@@ -53,8 +55,9 @@ fn informed<F: Files>(
 ) -> Result<Vec<u8>, Problem>
     ensures informed { IfOk result (λ text. HoldsInfo json name.now (F.known files.old) text.items) }
     ensures refused { IfErr result (IsNoInfo (F.known files.old name.now)) }
-    ensures files { ReadsUnless F.known F.failures F.can_fail files.old files.new (IsErrOf result (Problem.Failed Failure.File)) }
-    ensures could { IsErrOf result (Problem.Failed Failure.File) → IsOfEither (held F.known F.failures F.can_fail files.old) name.now (name_of_certificate name.now) }
+    ensures kept { F.known files.new ≡ F.known files.old }
+    ensures unread { IsErrOf result (Problem.Failed Failure.File) → RisesByOne (F.failures files.old) (F.failures files.new) }
+    ensures could { IsErrOf result (Problem.Failed Failure.File) → F.can_fail files.old name.now ≡ true }
     ensures unwritten { ¬ IsErrOf result (Problem.Failed Failure.Write) }
 {
     let (story, digest) = open_digested(alloc, name, files)?;
@@ -129,13 +132,15 @@ fn beside_of<F: Files>(
 ) -> Result<Beside, Problem>
     ensures beside { IfOk result (IsBeside (F.known files.old name.now) story) }
     ensures untold { IfErr result IsUntold }
-    ensures files { ReadsUnless F.known F.failures F.can_fail files.old files.new (IsErrOf result (Problem.Failed Failure.File)) }
-    ensures could { IsErrOf result (Problem.Failed Failure.File) → F.can_fail files.old name.now ≡ true }
+    ensures kept { F.known files.new ≡ F.known files.old }
 {
     if !files.is_there(name) {
         return Ok(Beside::Nothing);
     }
-    let first = read_file(alloc, files, name, HEADING)?;
+    let first = match read_file(alloc, files, name, HEADING) {
+        Ok(first) => first,
+        Err(problem) => return beside_by(Err(problem)),
+    };
     if has_lists(&first) {
         beside_by(kept_by::<Values, F>(alloc, story, name, &first, files))
     } else {
@@ -143,7 +148,8 @@ fn beside_of<F: Files>(
     }
 }
 
-/// What stands beside a story: a certificate that has this, or one that can't be read or is of another story, or it isn't known.
+/// What stands beside a story: a certificate that has this, or one that is refused or of another story, or a file that can't be read; or it
+/// isn't known.
 fn beside_by(kept: Result<Kept, Problem>) -> Result<Beside, Problem>
     ensures { result ≡ beside_by kept }
 {
@@ -151,6 +157,7 @@ fn beside_by(kept: Result<Kept, Problem>) -> Result<Beside, Problem>
         Ok(kept) => Ok(Beside::Own(kept)),
         Err(Problem::Unreadable(error)) => Ok(Beside::Unreadable(error.number())),
         Err(Problem::BreaksStory(_)) => Ok(Beside::OfAnother),
+        Err(Problem::Failed(Failure::File)) => Ok(Beside::Closed),
         Err(problem) => Err(problem),
     }
 }

@@ -2,7 +2,11 @@
 #![tactic(auto)]
 
 mod accepting;
+mod blame;
+mod checking;
 mod claims;
+mod each;
+mod explaining;
 mod feeding;
 mod files;
 mod finding;
@@ -14,9 +18,14 @@ mod outcome;
 mod performing;
 mod playing;
 mod saves;
+mod seeking;
 mod showing;
 mod told;
+mod verdict;
+mod wording;
 
+pub use blame::{Action, Blame, Cause};
 pub use files::{Disk, Files};
 pub use outcome::{Failure, Outcome, Problem};
 pub use performing::{fail, perform, refuse_bytes};
+pub use wording::Speech;

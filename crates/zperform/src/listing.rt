@@ -1,9 +1,9 @@
 //! The listing of a story's file, or of a certificate's, as lines.
 
-ghost use Rattle.std.specs.Prelude.{◌≡◌, ◌++◌, false, true, IfErr, IfOk, IsErrOf, pos};
+ghost use Rattle.std.specs.Prelude.{◌≡◌, ◌++◌, false, true, IfErr, IfOk, IsErrOf, flat_map, pos};
 ghost use Rattle.zperform.specs.Accepting.{IsOfEither, IsUnacceptedStory};
 ghost use Rattle.zperform.specs.Devices.{FlushesUnless, ReadsUnless, held};
-ghost use Rattle.zperform.specs.Listing.{HoldsListed, IsListedAs, IsNoListing, IsUnlisted, ListComesTo, listing_text, record_line};
+ghost use Rattle.zperform.specs.Listing.{HoldsListed, IsListedAs, IsNoListing, IsUnlisted, ListComesTo, listed_text, listing_text, record_line, record_object};
 ghost use Rattle.zperform.specs.Marking.{AreMarksOf, HoldsListedByEither, IsListedBy, ListByComesTo};
 ghost use Rattle.zperform.specs.Report.{place_text};
 
@@ -19,6 +19,8 @@ use std::alloc::{AllocError, Global};
 use zcert::Spelled;
 use zcheck::{Accepted, Judged, Marked};
 use zfault::Sink;
+use zinfo::push_address;
+use zjson::instruction_line;
 use zlist::{Record, list_story};
 use zstory::Story;
 
@@ -26,39 +28,45 @@ use zstory::Story;
 pub fn list_file<F: Files, W: Sink>(
     alloc: Global,
     story: &str,
+    json: bool,
     files: &mut F,
     writer: &mut W,
 ) -> Outcome
-    ensures comes { ListComesTo (F.known files.old story.now) (W.contents writer.old) (W.contents writer.new) result }
+    ensures comes { ListComesTo json (F.known files.old story.now) (W.contents writer.old) (W.contents writer.new) result }
     ensures writer { FlushesUnless W.failures W.waits writer.old writer.new (result ≡ Outcome.Stopped (Problem.Failed Failure.Write)) }
     ensures files { ReadsUnless F.known F.failures F.can_fail files.old files.new (result ≡ Outcome.Stopped (Problem.Failed Failure.File)) }
     ensures could { result ≡ Outcome.Stopped (Problem.Failed Failure.File) → F.can_fail files.old story.now ≡ true }
 {
-    match listing_of(alloc, story, files) {
+    match listing_of(alloc, story, json, files) {
         Ok(text) => write_done(&text, Outcome::Listed, writer),
         Err(problem) => Outcome::Stopped(problem),
     }
 }
 
 /// The lines of the listing of a story's file.
-fn listing_of<F: Files>(alloc: Global, name: &str, files: &mut F) -> Result<Vec<u8>, Problem>
-    ensures listed { IfOk result (λ text. HoldsListed (F.known files.old name.now) text.items) }
+fn listing_of<F: Files>(
+    alloc: Global,
+    name: &str,
+    json: bool,
+    files: &mut F,
+) -> Result<Vec<u8>, Problem>
+    ensures listed { IfOk result (λ text. HoldsListed json (F.known files.old name.now) text.items) }
     ensures refused { IfErr result (IsNoListing (F.known files.old name.now)) }
     ensures files { ReadsUnless F.known F.failures F.can_fail files.old files.new (IsErrOf result (Problem.Failed Failure.File)) }
     ensures could { IsErrOf result (Problem.Failed Failure.File) → F.can_fail files.old name.now ≡ true }
     ensures unwritten { ¬ IsErrOf result (Problem.Failed Failure.Write) }
 {
     let story = open_story(alloc, name, files)?;
-    list_loaded(alloc, &story)
+    list_loaded(alloc, &story, json)
 }
 
 /// The lines of the listing of a story.
-fn list_loaded(alloc: Global, story: &Story) -> Result<Vec<u8>, Problem>
-    ensures listed { IfOk result (λ text. IsListedAs story.now text.items) }
+fn list_loaded(alloc: Global, story: &Story, json: bool) -> Result<Vec<u8>, Problem>
+    ensures listed { IfOk result (λ text. IsListedAs json story.now text.items) }
     ensures refused { IfErr result (IsUnlisted story.now) }
 {
     let listing = list_story(alloc, story)?;
-    let text = lines_of(alloc, listing.records())?;
+    let text = text_of(alloc, listing.records(), json)?;
     Ok(text)
 }
 
@@ -67,15 +75,16 @@ pub fn list_certificate<F: Files, W: Sink>(
     alloc: Global,
     story: &str,
     certificate: &str,
+    json: bool,
     files: &mut F,
     writer: &mut W,
 ) -> Outcome
-    ensures comes { ListByComesTo (F.known files.old story.now) (F.known files.old certificate.now) (W.contents writer.old) (W.contents writer.new) result }
+    ensures comes { ListByComesTo json (F.known files.old story.now) (F.known files.old certificate.now) (W.contents writer.old) (W.contents writer.new) result }
     ensures writer { FlushesUnless W.failures W.waits writer.old writer.new (result ≡ Outcome.Stopped (Problem.Failed Failure.Write)) }
     ensures files { ReadsUnless F.known F.failures F.can_fail files.old files.new (result ≡ Outcome.Stopped (Problem.Failed Failure.File)) }
-    ensures could { result ≡ Outcome.Stopped (Problem.Failed Failure.File) → IsOfEither (held F.known F.failures F.can_fail files.old) story.now certificate.now }
+    ensures could { result ≡ Outcome.Stopped (Problem.Failed Failure.File) → IsOfEither (held F.known F.failures F.can_fail F.blamed files.old) story.now certificate.now }
 {
-    match listing_by(alloc, story, certificate, files) {
+    match listing_by(alloc, story, certificate, json, files) {
         Ok(text) => write_done(&text, Outcome::Listed, writer),
         Err(problem) => Outcome::Stopped(problem),
     }
@@ -86,16 +95,17 @@ fn listing_by<F: Files>(
     alloc: Global,
     story: &str,
     certificate: &str,
+    json: bool,
     files: &mut F,
 ) -> Result<Vec<u8>, Problem>
-    ensures listed { IfOk result (λ text. HoldsListedByEither (F.known files.old story.now) (F.known files.old certificate.now) text.items) }
+    ensures listed { IfOk result (λ text. HoldsListedByEither json (F.known files.old story.now) (F.known files.old certificate.now) text.items) }
     ensures refused { IfErr result (IsUnacceptedStory (F.known files.old story.now) (F.known files.old certificate.now)) }
     ensures files { ReadsUnless F.known F.failures F.can_fail files.old files.new (IsErrOf result (Problem.Failed Failure.File)) }
-    ensures could { IsErrOf result (Problem.Failed Failure.File) → IsOfEither (held F.known F.failures F.can_fail files.old) story.now certificate.now }
+    ensures could { IsErrOf result (Problem.Failed Failure.File) → IsOfEither (held F.known F.failures F.can_fail F.blamed files.old) story.now certificate.now }
 {
     match accept(alloc, story, certificate, files)? {
-        AcceptedStory::Intervals(judged) => list_judged(alloc, &judged),
-        AcceptedStory::Lists(judged) => list_judged(alloc, &judged),
+        AcceptedStory::Intervals(judged) => list_judged(alloc, &judged, json),
+        AcceptedStory::Lists(judged) => list_judged(alloc, &judged, json),
     }
 }
 
@@ -103,19 +113,20 @@ fn listing_by<F: Files>(
 fn list_judged<V: Told>(
     alloc: Global,
     judged: &Judged<Accepted<V>, Marked<V>>,
+    json: bool,
 ) -> Result<Vec<u8>, Problem>
-    ensures listed { IfOk result (λ text. IsListedBy V.operations judged.now text.items) }
+    ensures listed { IfOk result (λ text. IsListedBy json V.operations judged.now text.items) }
     ensures wanted { IfErr result (λ problem. problem ≡ Problem.Failed Failure.Memory) }
 {
     match judged {
-        Judged::Whole(accepted) => list_accepted(alloc, accepted),
-        Judged::Marked(marked) => list_marked(alloc, marked),
+        Judged::Whole(accepted) => list_accepted(alloc, accepted, json),
+        Judged::Marked(marked) => list_marked(alloc, marked, json),
     }
 }
 
 /// The lines of the instructions of one that marks some.
-fn list_marked<V: Told>(alloc: Global, marked: &Marked<V>) -> Result<Vec<u8>, Problem>
-    ensures listed { IfOk result (λ text. AreMarksOf V.operations marked.now.story marked.now.certificate false text.items) }
+fn list_marked<V: Told>(alloc: Global, marked: &Marked<V>, json: bool) -> Result<Vec<u8>, Problem>
+    ensures listed { IfOk result (λ text. AreMarksOf V.operations marked.now.story marked.now.certificate json false text.items) }
     ensures wanted { IfErr result (λ problem. problem ≡ Problem.Failed Failure.Memory) }
 {
     let mut text = Vec::new(alloc);
@@ -123,6 +134,7 @@ fn list_marked<V: Told>(alloc: Global, marked: &Marked<V>) -> Result<Vec<u8>, Pr
         alloc,
         marked.story(),
         marked.certificate(),
+        json,
         false,
         &mut text,
     )?;
@@ -130,12 +142,49 @@ fn list_marked<V: Told>(alloc: Global, marked: &Marked<V>) -> Result<Vec<u8>, Pr
 }
 
 /// The lines of the instructions of a certificate that marks none.
-fn list_accepted<V: Spelled>(alloc: Global, accepted: &Accepted<V>) -> Result<Vec<u8>, Problem>
-    ensures listed { IfOk result (λ text. text.items ≡ listing_text accepted.now.listing.records) }
+fn list_accepted<V: Spelled>(
+    alloc: Global,
+    accepted: &Accepted<V>,
+    json: bool,
+) -> Result<Vec<u8>, Problem>
+    ensures listed { IfOk result (λ text. text.items ≡ listed_text json accepted.now.listing.records) }
     ensures wanted { IfErr result (λ problem. problem ≡ Problem.Failed Failure.Memory) }
 {
-    let text = lines_of(alloc, accepted.listing().records())?;
+    let text = text_of(alloc, accepted.listing().records(), json)?;
     Ok(text)
+}
+
+/// What is told of each instruction, in order: a line, or an object.
+fn text_of(alloc: Global, records: &[Record], json: bool) -> Result<Vec<u8>, AllocError>
+    ensures { IfOk result (λ text. text.items ≡ listed_text json records.now) }
+{
+    if json {
+        objects_of(alloc, records)
+    } else {
+        lines_of(alloc, records)
+    }
+}
+
+/// An object for each instruction, in order.
+fn objects_of(alloc: Global, records: &[Record]) -> Result<Vec<u8>, AllocError>
+    ensures { IfOk result (λ text. text.items ≡ flat_map record_object records.now) }
+{
+    let mut text = Vec::new(alloc);
+    for listed in records {
+        add_object(alloc, listed, &mut text)?;
+    }
+    Ok(text)
+}
+
+/// Adds the object of an instruction.
+fn add_object(alloc: Global, listed: &Record, text: &mut Vec<u8>) -> Result<(), AllocError>
+    ensures { IfOk result (λ _. text.new.items ≡ text.old.items ++ record_object listed.now) }
+{
+    let mut address = String::new(alloc);
+    push_address(listed.address, &mut address)?;
+    let name = listed.instruction.opcode().name();
+    let object = instruction_line(alloc, address.as_str(), listed.routine, name)?;
+    text.extend_from_slice(&object)
 }
 
 /// A line for each instruction, in order.

@@ -4,7 +4,7 @@ ghost use Rattle.std.specs.Prelude.{◌≡◌, ◌<◌, ◌≤◌, ◌+◌, ◌+
 ghost use Rattle.zfind.specs.Finding.{number_of as find_number};
 ghost use Rattle.zlist.specs.Listed.{number_of, place_of};
 ghost use Rattle.zperform.specs.Telling.{refusal_text};
-ghost use Rattle.zperform.specs.Report.{accepted_line, address_text, broken_text, end_text, failure_text, found_line, hex_digit, line_of, marks_text, place_text, stopped_text, text_of};
+ghost use Rattle.zperform.specs.Report.{accepted_line, address_text, broken_text, end_text, failure_text, first_text, found_line, hex_digit, line_of, marks_text, place_text, rest_text, stopped_text, text_of, why_text};
 
 use crate::outcome::{Failure, Outcome, Problem};
 use arrayvec::ArrayVec;
@@ -23,7 +23,15 @@ const ROOM: usize = 256;
 const NO_CODE: &[u8] =
     b"error: there is no such code; there are L1 to L12, K1 to K9, S1 to S8, I1 to I18, U1 to U4, G1 to G3, F1 to F16, J1 to J5, E1 to E3, Q1 to Q11, P1 to P3 and N1 to N2
 
-Usage: zpc explain <CODE>
+Usage: zpc explain [OPTIONS] [CODE]
+
+For more information, try '--help'.";
+
+/// What is said where one certificate is named for more stories than one.
+const ONE_FOR_MANY: &[u8] =
+    b"error: '--output' names the certificate of one story, and there isn't just one
+
+Usage: zpc find [OPTIONS] <FILE>...
 
 For more information, try '--help'.";
 
@@ -58,15 +66,26 @@ impl Message {
             Outcome::Listed
             | Outcome::Found
             | Outcome::Accepted
+            | Outcome::Through(_)
             | Outcome::Shown
             | Outcome::Informed
             | Outcome::Explained => {}
             Outcome::NoAddress => message.push(NO_ADDRESS),
             Outcome::NoSuchCode => message.push(NO_CODE),
+            Outcome::OneForMany => message.push(ONE_FOR_MANY),
             Outcome::Played(end) => message.push_end(end),
             Outcome::Stopped(problem) => message.push_problem(problem),
         }
         message.finish();
+        message
+    }
+
+    /// The line of a fault without its end.
+    pub fn of_fault(fault: Fault, place: i32) -> Message
+        ensures { result ≡ end_text (End.Fault fault place) }
+    {
+        let mut message = Message::new();
+        message.push_fault(fault, place);
         message
     }
 
@@ -137,10 +156,68 @@ impl Message {
         let _ = self.bytes.try_extend_from_slice(text);
     }
 
+    /// The first line of a problem, without its end.
+    pub fn first_of(problem: &Problem) -> Message
+        ensures { result ≡ first_text problem.now }
+    {
+        let mut message = Message::new();
+        message.push_first(problem);
+        message
+    }
+
+    /// The lines behind that, each with the end of the line before it.
+    pub fn rest_of(problem: &Problem) -> Message
+        ensures { result ≡ rest_text problem.now }
+    {
+        let mut message = Message::new();
+        message.push_rest(problem);
+        message
+    }
+
     fn push_problem(&mut self, problem: &Problem)
         requires { self.old ≡ [] }
         ensures text { self.new ≡ text_of (Outcome.Stopped problem.now) }
         ensures room { length self.new < ROOM }
+    {
+        self.push_first(problem);
+        self.push_rest(problem);
+    }
+
+    /// Adds the lines behind the first one.
+    fn push_rest(&mut self, problem: &Problem)
+        requires { length self.old ≤ 28 }
+        ensures text { self.new ≡ self.old ++ rest_text problem.now }
+        ensures most { length self.new ≤ length self.old + 36 }
+    {
+        if let Problem::Unfound(error, broken) = problem {
+            self.push(b"\n");
+            self.push_why(*error, *broken);
+        }
+    }
+
+    /// What is told of why no certificate was found: what is broken in every one, if that is known, but where a rule of the story ended the
+    /// search that one.
+    fn push_why(&mut self, error: FindError, broken: Option<Obstacle>)
+        requires { length self.old + 35 ≤ ROOM }
+        ensures text { self.new ≡ self.old ++ why_text error broken }
+        ensures most { length self.new ≤ length self.old + 35 }
+    {
+        match (error, broken) {
+            (FindError::NotFound(Obstacle::Story(_)), Some(Obstacle::Story(_))) => {
+                self.push_broken(broken);
+            }
+            (FindError::NotFound(Obstacle::Story(rule)), _) => {
+                self.push(b"broken: S");
+                self.push_number(rule.number());
+            }
+            _ => self.push_broken(broken),
+        }
+    }
+
+    fn push_first(&mut self, problem: &Problem)
+        requires { self.old ≡ [] }
+        ensures text { self.new ≡ first_text problem.now }
+        ensures most { length self.new ≤ 28 }
     {
         match problem {
             Problem::Refused(error) => self.push_code(b"refused: L", error.number()),
@@ -156,11 +233,7 @@ impl Message {
                 self.push(b" at ");
                 self.push_place_of(*error);
             }
-            Problem::Unfound(error, broken) => {
-                self.push_unfound(*error);
-                self.push(b"\n");
-                self.push_broken(*broken);
-            }
+            Problem::Unfound(error, _) => self.push_unfound(*error),
             Problem::Occupied(purpose) => self.push_code(b"refused: N", purpose.number()),
             Problem::Failed(failure) => self.push(failure_text(*failure)),
         }
@@ -305,7 +378,7 @@ impl Message {
 
 fn failure_text(failure: Failure) -> &'static [u8]
     ensures text { result.now ≡ failure_text failure }
-    ensures room { length result.now < ROOM }
+    ensures most { length result.now ≤ 28 }
 {
     match failure {
         Failure::File => b"failed: file",
@@ -316,7 +389,7 @@ fn failure_text(failure: Failure) -> &'static [u8]
 }
 
 /// The number of what is at fault with a listing.
-fn number_of(error: ListError) -> u8
+pub fn number_of(error: ListError) -> u8
     ensures { result ≡ number_of error }
 {
     match error {

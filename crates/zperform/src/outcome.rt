@@ -5,6 +5,7 @@ ghost use Rattle.zperform.specs.Keeping.{magic_of, purpose_number};
 ghost use Rattle.zperform.specs.Report.{problem_of_checking, problem_of_listing, problem_of_load, problem_of_play, problem_of_reading, problem_of_stream, status_of};
 
 use std::alloc::AllocError;
+use zbatch::Tally;
 use zcert::CertError;
 use zcheck::{Refusal, StoryRule, StreamRefusal};
 use zfind::{FindError, Obstacle};
@@ -87,6 +88,8 @@ pub enum Outcome {
     Found,
     /// The certificate was accepted.
     Accepted,
+    /// Each of many stories was gone through, and so many ended in each way.
+    Through(Tally),
     /// The certificate was shown.
     Shown,
     /// The word is no address.
@@ -97,6 +100,8 @@ pub enum Outcome {
     Explained,
     /// There is no such code.
     NoSuchCode,
+    /// One certificate is named for more stories than one, or for none.
+    OneForMany,
     /// The story was played, and ended so.
     Played(End),
     /// The command wasn't done, or not to its end.
@@ -117,7 +122,8 @@ impl Outcome {
             | Outcome::Informed
             | Outcome::Explained
             | Outcome::Played(_) => 0,
-            Outcome::NoAddress | Outcome::NoSuchCode => 2,
+            Outcome::Through(tally) => tally.status(),
+            Outcome::NoAddress | Outcome::NoSuchCode | Outcome::OneForMany => 2,
             Outcome::Stopped(Problem::Failed(_)) => 4,
             Outcome::Stopped(_) => 1,
         }

@@ -1,6 +1,6 @@
 //! Doing what the words ask for.
 
-ghost use Rattle.std.specs.Prelude.{◌≡◌, ◌≢◌, [], true, IfSome, List, None, option_map};
+ghost use Rattle.std.specs.Prelude.{◌≡◌, ◌≢◌, [], false, true, IfSome, List, None, option_map};
 ghost use Rattle.clap.specs.Kinds.{HasKind, Kinds};
 ghost use Rattle.clap.specs.Walk.{texts};
 ghost use Rattle.clap.specs.Words.{fault_of};
@@ -9,24 +9,29 @@ ghost use Rattle.zplayer.specs.Outside.{Blames};
 ghost use Rattle.zperform.specs.Accepting.{CheckComesTo, IsOfEither};
 ghost use Rattle.zperform.specs.Devices.{Ends, FlushesUnless, Held, ReadsUnless, Says, Told, UsesUnless, Writes, devices, held, seen, told};
 ghost use Rattle.zperform.specs.Keeping.{IsOccupied, MayWrite, kept_in};
-ghost use Rattle.zperform.specs.Performing.{Begins, Comes, Explains, IsBlamed, Performs, is_quiet, said_by, save_in, written_by};
-ghost use Rattle.zperform.specs.Report.{failure_text, line_of, no_text, outcome_of, status_of, text_of};
+ghost use Rattle.zperform.specs.Performing.{Begins, Comes, Explains, IsBlamed, Performs, Reports, SaysOutcome, is_each, is_quiet, said_by, spared_in, written_by};
+ghost use Rattle.zperform.specs.Report.{line_of, no_text, outcome_of, text_of};
 ghost use Rattle.zperform.specs.Telling.{SaysEach};
 ghost use Rattle.zquetzal.specs.declared.error.SaveError.{SaveError as ARefusal};
 
 use crate::accepting::accept;
+use crate::blame::Blame;
+use crate::checking::check_each;
+use crate::explaining::explain_code;
 use crate::files::Files;
-use crate::finding::{Search, explain_code, find_file};
+use crate::finding::Search;
 use crate::informing::inform;
 use crate::listing::{list_certificate, list_file};
 use crate::message::Message;
 use crate::outcome::{Failure, Outcome, Problem, Purpose};
 use crate::playing::{Asked, Devices, play, play_by_certificate};
+use crate::seeking::{find_each, find_one};
 use crate::showing::show_files;
+use crate::wording::{Speech, worded};
 use clap::Error;
 use clap::error::ErrorKind;
 use std::alloc::Global;
-use zcommand::{Command, read_words};
+use zcommand::{Command, command_of, read_words};
 use zfault::{Failed, Sink, Source, write_whole};
 use zplayer::{End, Options};
 
@@ -50,18 +55,20 @@ For more information, try '--help'.
 pub fn perform<F: Files, R: Source, W: Sink, E: Sink>(
     alloc: Global,
     words: &[&str],
+    speech: Speech,
     files: &mut F,
     reader: &mut R,
     writer: &mut W,
     errors: &mut E,
 ) -> u8
-    ensures performs { fault_of zpc_app (texts words.entry.now) ≡ [] → Performs (texts words.entry.now) result (devices (held F.known F.failures F.can_fail files.old) (told R.remaining R.failures reader.old) (seen W.contents W.failures W.waits writer.old) (seen E.contents E.failures E.waits errors.old)) (devices (held F.known F.failures F.can_fail files.new) (told R.remaining R.failures reader.new) (seen W.contents W.failures W.waits writer.new) (seen E.contents E.failures E.waits errors.new)) }
-    ensures explains { fault_of zpc_app (texts words.entry.now) ≢ [] → Explains (fault_of zpc_app (texts words.entry.now)) result (devices (held F.known F.failures F.can_fail files.old) (told R.remaining R.failures reader.old) (seen W.contents W.failures W.waits writer.old) (seen E.contents E.failures E.waits errors.old)) (devices (held F.known F.failures F.can_fail files.new) (told R.remaining R.failures reader.new) (seen W.contents W.failures W.waits writer.new) (seen E.contents E.failures E.waits errors.new)) }
+    ensures performs { fault_of zpc_app (texts words.entry.now) ≡ [] → Performs (texts words.entry.now) speech result (devices (held F.known F.failures F.can_fail F.blamed files.old) (told R.remaining R.failures reader.old) (seen W.contents W.failures W.waits writer.old) (seen E.contents E.failures E.waits errors.old)) (devices (held F.known F.failures F.can_fail F.blamed files.new) (told R.remaining R.failures reader.new) (seen W.contents W.failures W.waits writer.new) (seen E.contents E.failures E.waits errors.new)) }
+    ensures explains { fault_of zpc_app (texts words.entry.now) ≢ [] → Explains (fault_of zpc_app (texts words.entry.now)) result (devices (held F.known F.failures F.can_fail F.blamed files.old) (told R.remaining R.failures reader.old) (seen W.contents W.failures W.waits writer.old) (seen E.contents E.failures E.waits errors.old)) (devices (held F.known F.failures F.can_fail F.blamed files.new) (told R.remaining R.failures reader.new) (seen W.contents W.failures W.waits writer.new) (seen E.contents E.failures E.waits errors.new)) }
 {
     match read_words(alloc, words) {
-        Ok(command) => {
+        Ok(matches) => {
+            let command = command_of(&matches);
             let outcome = carry_out(alloc, command, files, reader, writer, errors);
-            report(&outcome, errors)
+            report(alloc, &outcome, speech, files.blame(), errors)
         }
         Err(error) => explain(alloc, &error, writer, errors),
     }
@@ -70,17 +77,17 @@ pub fn perform<F: Files, R: Source, W: Sink, E: Sink>(
 /// Does what a command asks for, unless its file isn't to be written over.
 fn carry_out<F: Files, R: Source, W: Sink, E: Sink>(
     alloc: Global,
-    command: Command<'_>,
+    command: Command<'_, '_>,
     files: &mut F,
     reader: &mut R,
     writer: &mut W,
     errors: &mut E,
 ) -> Outcome
     requires low { IsLow command }
-    ensures comes { (refusals : List ARefusal) × Begins (request_of command.entry) (F.known files.old) (F.known files.new) (R.remaining reader.old) refusals (W.contents writer.old) (W.contents writer.new) result × SaysEach (said_by (request_of command.entry) refusals) (seen E.contents E.failures E.waits errors.old) (seen E.contents E.failures E.waits errors.new) }
+    ensures comes { (refusals : List ARefusal) × Begins (request_of command.entry) (held F.known F.failures F.can_fail F.blamed files.old) (held F.known F.failures F.can_fail F.blamed files.new) (R.remaining reader.old) refusals (W.contents writer.old) (W.contents writer.new) result × SaysEach (said_by (request_of command.entry) refusals) (seen E.contents E.failures E.waits errors.old) (seen E.contents E.failures E.waits errors.new) }
     ensures writer { FlushesUnless W.failures W.waits writer.old writer.new (result ≡ Outcome.Stopped (Problem.Failed Failure.Write)) }
-    ensures files { UsesUnless F.known F.failures files.old files.new (save_in (request_of command.entry)) (written_by (request_of command.entry)) (result ≡ Outcome.Stopped (Problem.Failed Failure.File)) }
-    ensures could { result ≡ Outcome.Stopped (Problem.Failed Failure.File) → IsBlamed (request_of command.entry) (held F.known F.failures F.can_fail files.old) }
+    ensures files { is_each (request_of command.entry) ≡ false → UsesUnless F.known F.failures files.old files.new (spared_in (request_of command.entry)) (written_by (request_of command.entry)) (result ≡ Outcome.Stopped (Problem.Failed Failure.File)) }
+    ensures could { result ≡ Outcome.Stopped (Problem.Failed Failure.File) → IsBlamed (request_of command.entry) (held F.known F.failures F.can_fail F.blamed files.old) }
     ensures reader { Blames (result ≡ Outcome.Stopped (Problem.Failed Failure.Read)) (R.failures reader.old) (R.failures reader.new) }
     ensures unasked { is_quiet (request_of command.entry) ≡ true → reader.new ≡ reader.old }
 {
@@ -91,7 +98,7 @@ fn carry_out<F: Files, R: Source, W: Sink, E: Sink>(
 }
 
 /// What the file is for that a command may write, where it holds something else.
-fn occupied<F: Files>(command: Command<'_>, files: &F) -> Option<Purpose>
+fn occupied<F: Files>(command: Command<'_, '_>, files: &F) -> Option<Purpose>
     ensures occupied { IfSome result (λ purpose. IsOccupied (request_of command.entry) (F.known files.now) (Problem.Occupied purpose)) }
     ensures free { result ≡ None → MayWrite (request_of command.entry) (F.known files.now) }
 {
@@ -104,13 +111,14 @@ fn occupied<F: Files>(command: Command<'_>, files: &F) -> Option<Purpose>
 }
 
 /// The file that a command may write and what it is for, unless it may be written over whatever it holds.
-fn kept_by<'a>(command: Command<'a>) -> Option<(&'a str, Purpose)>
+fn kept_by<'a>(command: Command<'_, 'a>) -> Option<(&'a str, Purpose)>
     ensures { option_map (λ file. (file.0.now, file.1)) result ≡ kept_in (request_of command.entry) }
 {
     match command {
         Command::Find {
             certificate,
             force: false,
+            json: false,
             ..
         } => Some((certificate, Purpose::Certificate)),
         Command::Play {
@@ -125,17 +133,17 @@ fn kept_by<'a>(command: Command<'a>) -> Option<(&'a str, Purpose)>
 /// Does what a command asks for.
 fn fulfil<F: Files, R: Source, W: Sink, E: Sink>(
     alloc: Global,
-    command: Command<'_>,
+    command: Command<'_, '_>,
     files: &mut F,
     reader: &mut R,
     writer: &mut W,
     errors: &mut E,
 ) -> Outcome
     requires low { IsLow command }
-    ensures comes { (refusals : List ARefusal) × Comes (request_of command.entry) (F.known files.old) (F.known files.new) (R.remaining reader.old) refusals (W.contents writer.old) (W.contents writer.new) result × SaysEach (said_by (request_of command.entry) refusals) (seen E.contents E.failures E.waits errors.old) (seen E.contents E.failures E.waits errors.new) }
+    ensures comes { (refusals : List ARefusal) × Comes (request_of command.entry) (held F.known F.failures F.can_fail F.blamed files.old) (held F.known F.failures F.can_fail F.blamed files.new) (R.remaining reader.old) refusals (W.contents writer.old) (W.contents writer.new) result × SaysEach (said_by (request_of command.entry) refusals) (seen E.contents E.failures E.waits errors.old) (seen E.contents E.failures E.waits errors.new) }
     ensures writer { FlushesUnless W.failures W.waits writer.old writer.new (result ≡ Outcome.Stopped (Problem.Failed Failure.Write)) }
-    ensures files { UsesUnless F.known F.failures files.old files.new (save_in (request_of command.entry)) (written_by (request_of command.entry)) (result ≡ Outcome.Stopped (Problem.Failed Failure.File)) }
-    ensures could { result ≡ Outcome.Stopped (Problem.Failed Failure.File) → IsBlamed (request_of command.entry) (held F.known F.failures F.can_fail files.old) }
+    ensures files { is_each (request_of command.entry) ≡ false → UsesUnless F.known F.failures files.old files.new (spared_in (request_of command.entry)) (written_by (request_of command.entry)) (result ≡ Outcome.Stopped (Problem.Failed Failure.File)) }
+    ensures could { result ≡ Outcome.Stopped (Problem.Failed Failure.File) → IsBlamed (request_of command.entry) (held F.known F.failures F.can_fail F.blamed files.old) }
     ensures reader { Blames (result ≡ Outcome.Stopped (Problem.Failed Failure.Read)) (R.failures reader.old) (R.failures reader.new) }
     ensures unasked { is_quiet (request_of command.entry) ≡ true → reader.new ≡ reader.old }
 {
@@ -143,28 +151,59 @@ fn fulfil<F: Files, R: Source, W: Sink, E: Sink>(
         Command::List {
             story,
             certificate: None,
-        } => list_file(alloc, story, files, writer),
+            json,
+        } => list_file(alloc, story, json, files, writer),
         Command::List {
             story,
             certificate: Some(certificate),
-        } => list_certificate(alloc, story, certificate, files, writer),
+            json,
+        } => list_certificate(alloc, story, certificate, json, files, writer),
         Command::Find {
             story,
             certificate,
             frames,
             strict,
             places,
-            ..
+            force,
+            json,
         } => {
             let search = Search {
                 frames,
                 strict,
                 places,
+                json,
             };
-            find_file(alloc, story, certificate, search, files, writer)
+            find_one(alloc, story, certificate, search, force, files, writer)
         }
-        Command::Check { story, certificate } => {
-            check_files(alloc, story, certificate, files, writer)
+        Command::FindEach {
+            stories,
+            frames,
+            strict,
+            places,
+            force,
+            json,
+        } => {
+            let search = Search {
+                frames,
+                strict,
+                places,
+                json,
+            };
+            find_each(alloc, stories, None, search, force, files, writer)
+        }
+        Command::OneForMany => Outcome::OneForMany,
+        Command::Check {
+            story,
+            certificate,
+            json: false,
+        } => check_files(alloc, story, certificate, files, writer),
+        Command::Check {
+            story,
+            certificate,
+            json: true,
+        } => check_each(alloc, &[story], Some(certificate), true, files, writer),
+        Command::CheckEach { stories, json } => {
+            check_each(alloc, stories, None, json, files, writer)
         }
         Command::Show {
             story,
@@ -201,7 +240,7 @@ fn fulfil<F: Files, R: Source, W: Sink, E: Sink>(
             }
         }
         Command::Info { story, json } => inform(alloc, story, json, files, writer),
-        Command::Explain { code } => explain_code(code, writer),
+        Command::Explain { code, json } => explain_code(alloc, code, json, writer),
     }
 }
 
@@ -216,7 +255,7 @@ fn check_files<F: Files, W: Sink>(
     ensures comes { CheckComesTo (F.known files.old story.now) (F.known files.old certificate.now) (W.contents writer.old) (W.contents writer.new) result }
     ensures writer { FlushesUnless W.failures W.waits writer.old writer.new (result ≡ Outcome.Stopped (Problem.Failed Failure.Write)) }
     ensures files { ReadsUnless F.known F.failures F.can_fail files.old files.new (result ≡ Outcome.Stopped (Problem.Failed Failure.File)) }
-    ensures could { result ≡ Outcome.Stopped (Problem.Failed Failure.File) → IsOfEither (held F.known F.failures F.can_fail files.old) story.now certificate.now }
+    ensures could { result ≡ Outcome.Stopped (Problem.Failed Failure.File) → IsOfEither (held F.known F.failures F.can_fail F.blamed files.old) story.now certificate.now }
 {
     let accepted = match accept(alloc, story, certificate, files) {
         Ok(accepted) => accepted,
@@ -256,12 +295,30 @@ fn outcome_of(played: Result<End, Problem>) -> Outcome
 }
 
 /// Says what a command came to, and answers the exit status.
-pub fn report<E: Sink>(outcome: &Outcome, errors: &mut E) -> u8
-    ensures status { result ≡ status_of outcome.now }
-    ensures said { Says (seen E.contents E.failures E.waits errors.old) (seen E.contents E.failures E.waits errors.new) (line_of (text_of outcome.now)) }
+fn report<E: Sink>(
+    alloc: Global,
+    outcome: &Outcome,
+    speech: Speech,
+    blame: Option<&Blame>,
+    errors: &mut E,
+) -> u8
+    ensures { Reports speech (option_map (λ b. b.now) blame.entry) outcome.now result (seen E.contents E.failures E.waits errors.old) (seen E.contents E.failures E.waits errors.new) }
 {
-    say(Message::of(outcome).as_slice(), errors);
+    match speech {
+        Speech::Codes => say(Message::of(outcome).as_slice(), errors),
+        Speech::Words => say_worded(alloc, outcome, blame, errors),
+    }
     outcome.status()
+}
+
+/// Says it in words, and by its code alone where memory for words is wanting.
+fn say_worded<E: Sink>(alloc: Global, outcome: &Outcome, blame: Option<&Blame>, errors: &mut E)
+    ensures { SaysOutcome Speech.Words (option_map (λ b. b.now) blame.entry) outcome.now (seen E.contents E.failures E.waits errors.old) (seen E.contents E.failures E.waits errors.new) }
+{
+    match worded(alloc, outcome, blame) {
+        Ok(text) => say(&text, errors),
+        Err(_) => say(Message::of(outcome).as_slice(), errors),
+    }
 }
 
 /// Writes a text and flushes it, where a failure is ignored. With no text nothing is called.
@@ -305,7 +362,9 @@ pub fn refuse_bytes<E: Sink>(errors: &mut E) -> u8
 /// Says what failed, and answers the exit status.
 pub fn fail<E: Sink>(failure: Failure, errors: &mut E) -> u8
     ensures status { result ≡ 4 }
-    ensures said { Says (seen E.contents E.failures E.waits errors.old) (seen E.contents E.failures E.waits errors.new) (line_of (failure_text failure)) }
+    ensures said { Says (seen E.contents E.failures E.waits errors.old) (seen E.contents E.failures E.waits errors.new) (line_of (text_of (Outcome.Stopped (Problem.Failed failure)))) }
 {
-    report(&Outcome::Stopped(Problem::Failed(failure)), errors)
+    let outcome = Outcome::Stopped(Problem::Failed(failure));
+    say(Message::of(&outcome).as_slice(), errors);
+    outcome.status()
 }

@@ -188,7 +188,7 @@ pub fn play_by_certificate<F: Files, R: Source, W: Sink, E: Sink>(
     ensures comes { ComesOut R.remaining W.contents (seen E.contents E.failures E.waits) (PlayComesTo (F.known devices.old.files.now story.now) (F.known devices.old.files.now certificate.now) asked.entry.options) asked.entry devices.old devices.new result }
     ensures writer { FlushesUnless W.failures W.waits devices.old.writer.now devices.new.writer.now (IsErrOf result (Problem.Failed Failure.Write)) }
     ensures files { UsesUnless F.known F.failures devices.old.files.now devices.new.files.now (file_of asked.entry) (file_of asked.entry) (IsErrOf result (Problem.Failed Failure.File)) }
-    ensures could { IsErrOf result (Problem.Failed Failure.File) → IsOfEither (held F.known F.failures F.can_fail devices.old.files.now) story.now certificate.now }
+    ensures could { IsErrOf result (Problem.Failed Failure.File) → IsOfEither (held F.known F.failures F.can_fail F.blamed devices.old.files.now) story.now certificate.now }
     ensures reader { Blames (IsErrOf result (Problem.Failed Failure.Read)) (R.failures devices.old.reader.now) (R.failures devices.new.reader.now) }
 {
     match accept(alloc, story, certificate, devices.files)? {

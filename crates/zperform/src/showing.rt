@@ -37,7 +37,7 @@ pub fn show_files<F: Files, W: Sink>(
     ensures comes { ShowComesTo (F.known files.old story.now) (F.known files.old certificate.now) (option_map (λ a. a.now) address.entry) (W.contents writer.old) (W.contents writer.new) result }
     ensures writer { FlushesUnless W.failures W.waits writer.old writer.new (result ≡ Outcome.Stopped (Problem.Failed Failure.Write)) }
     ensures files { ReadsUnless F.known F.failures F.can_fail files.old files.new (result ≡ Outcome.Stopped (Problem.Failed Failure.File)) }
-    ensures could { result ≡ Outcome.Stopped (Problem.Failed Failure.File) → IsOfEither (held F.known F.failures F.can_fail files.old) story.now certificate.now }
+    ensures could { result ≡ Outcome.Stopped (Problem.Failed Failure.File) → IsOfEither (held F.known F.failures F.can_fail F.blamed files.old) story.now certificate.now }
 {
     let Some(word) = address else {
         return show_at(alloc, story, certificate, None, files, writer);
@@ -77,7 +77,7 @@ fn show_at<F: Files, W: Sink>(
     ensures comes { ShowEnds (F.known files.old story.now) (F.known files.old certificate.now) address (W.contents writer.old) (W.contents writer.new) result }
     ensures writer { FlushesUnless W.failures W.waits writer.old writer.new (result ≡ Outcome.Stopped (Problem.Failed Failure.Write)) }
     ensures files { ReadsUnless F.known F.failures F.can_fail files.old files.new (result ≡ Outcome.Stopped (Problem.Failed Failure.File)) }
-    ensures could { result ≡ Outcome.Stopped (Problem.Failed Failure.File) → IsOfEither (held F.known F.failures F.can_fail files.old) story.now certificate.now }
+    ensures could { result ≡ Outcome.Stopped (Problem.Failed Failure.File) → IsOfEither (held F.known F.failures F.can_fail F.blamed files.old) story.now certificate.now }
 {
     match shown(alloc, story, certificate, address, files) {
         Ok(text) => write_done(&text, Outcome::Shown, writer),
@@ -97,7 +97,7 @@ fn shown<F: Files>(
     ensures shown { IfOk result (λ text. HoldsShown (F.known files.old story.now) (F.known files.old certificate.now) address text.items) }
     ensures refused { IfErr result (IsUnshownStory (F.known files.old story.now) (F.known files.old certificate.now)) }
     ensures files { ReadsUnless F.known F.failures F.can_fail files.old files.new (IsErrOf result (Problem.Failed Failure.File)) }
-    ensures could { IsErrOf result (Problem.Failed Failure.File) → IsOfEither (held F.known F.failures F.can_fail files.old) story.now certificate.now }
+    ensures could { IsErrOf result (Problem.Failed Failure.File) → IsOfEither (held F.known F.failures F.can_fail F.blamed files.old) story.now certificate.now }
 {
     let story = open_story(alloc, story, files)?;
     let first = read_file(alloc, files, certificate, HEADING)?;

@@ -29,7 +29,7 @@ returns-clause-comes g c =
     let whole = subst (λ (bytes : List ℕ). HasAlone bytes (holds c.args.certificate.now)) same (c.put.ensures.whole (search rules)) in
     record {
       ends = ends_so _ _ _ _ _ (λ (o : Outcome). FindEnds c.args.search c.args.story.now c.args.certificate.now (g.F.Files.known c.args.files.now) holds (g.W.Sink.contents c.args.writer.now) (g.W.Sink.contents c.write_done.new.writer) o) c.write_done.ensures.ends
-          (λ written. (bytes, c.in-Ok.answer.text.items, c.in-Ok.ensures.found, whole, rw (← told) written)) (λ begun. (bytes, c.in-Ok.answer.text.items, c.in-Ok.ensures.found, whole, rw (← told) begun));
+          (λ written. (bytes, c.in-Ok.answer.text.items, c.in-Ok.answer.marks, c.in-Ok.ensures.found, whole, rw (← told) written)) (λ begun. (bytes, c.in-Ok.answer.text.items, c.in-Ok.answer.marks, c.in-Ok.ensures.found, whole, rw (← told) begun));
       spared = λ name other. c.put.ensures.spared name other ∙ ap (λ (known : List ℕ → Option (List ℕ)). known name) c.answer_of.ensures.files.kept;
     }
 

@@ -1,9 +1,7 @@
-use Rattle.std.proofs.Common.{◌≡◌, ◌∙◌, inl, inr, ap, refl, rules, subst, sym, Bool, true, Err, Option, List, ℕ}
+use Rattle.std.proofs.Common.{◌≡◌, inr, refl, rules, subst, Option, List, ℕ}
 use Rattle.zperform.specs.Informing.{IsBeside, IsNoInfo, name_of_certificate}
 use Rattle.zperform.proofs.AcceptLemmas.{handed_on}
-use Rattle.zperform.specs.declared.outcome.Failure.TheVariants.{File}
-use Rattle.zperform.specs.declared.outcome.Problem.TheVariants.{Failed}
-use Rattle.zperform.proofs.InfoLemmas.{handed_as, holds_story, untold_so}
+use Rattle.zperform.proofs.InfoLemmas.{untold_so}
 use Rattle.zperform.proofs.informing.informed.Goals as goal
 
 pub returns-in_err-facts-clause-refused : goal.returns-in_err-facts-clause-refused
@@ -18,14 +16,6 @@ returns-in_err-beside-clause-refused g c =
 
 pub returns-in_err-text-clause-refused : goal.returns-in_err-text-clause-refused
 returns-in_err-text-clause-refused g c = handed_on (IsNoInfo (g.F.Files.known c.args.files.now c.args.name.now)) c.from_residual-in_err-text.result _ c.from_residual-in_err-text.ensures (inr refl)
-
-pub returns-in_err-beside-clause-could : goal.returns-in_err-beside-clause-could
-returns-in_err-beside-clause-could g c = λ e.
-    let is = handed_as c.from_residual-in_err-beside.result _ (Failed File) c.from_residual-in_err-beside.ensures e in
-    let here : c.as_str.result.now ≡ name_of_certificate c.args.name.now = search rules in
-    let fails = c.in_err-beside.ensures.could (ap Err is) in
-    let before = ap (λ (can : List ℕ → Bool). can c.as_str.result.now) (sym c.in_ok-story.ensures.files.alike) ∙ fails in
-    inr ((c.in_ok-story.story, holds_story _ c.in_ok-story.story _ c.in_ok-story.ensures.held), subst (λ (n : List ℕ). g.F.Files.can_fail c.args.files.now n ≡ true) here before)
 
 pub returns-clause-informed : goal.returns-clause-informed
 returns-clause-informed g c =

@@ -3,12 +3,12 @@ use Rattle.zjson.specs.Digest.{digest_text}
 use Rattle.zperform.specs.Informing.{IsNoInfo}
 use Rattle.zperform.specs.Playing.{Holds, IsUnloaded}
 use Rattle.zperform.proofs.AcceptLemmas.{handed_on, no_story}
-use Rattle.zperform.proofs.InfoLemmas.{digested, untold_so}
+use Rattle.zperform.proofs.InfoLemmas.{digested, unread_so}
 use Rattle.zperform.proofs.informing.open_digested.Goals as goal
 
 pub returns-in_err-file-clause-refused : goal.returns-in_err-file-clause-refused
 returns-in_err-file-clause-refused g c =
-    handed_on (IsNoInfo (g.F.Files.known c.args.files.now c.args.name.now)) c.from_residual.result _ c.from_residual.ensures (untold_so _ c.in_err-file.field-0.0 c.in_err-file.ensures.failed)
+    handed_on (IsNoInfo (g.F.Files.known c.args.files.now c.args.name.now)) c.from_residual.result _ c.from_residual.ensures (unread_so _ c.in_err-file.field-0.0 c.in_err-file.ensures.failed)
 
 pub returns-in_err-story-clause-refused : goal.returns-in_err-story-clause-refused
 returns-in_err-story-clause-refused g c =

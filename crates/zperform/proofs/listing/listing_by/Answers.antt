@@ -16,7 +16,7 @@ returns-in-Intervals-clause-listed g c =
     let story_known = g.F.Files.known c.args.files.now c.args.story.now in
     let certificate_known = g.F.Files.known c.args.files.now c.args.certificate.now in
     let has : IsJudgedOf interval_operations interval_format story_known certificate_known c.in-Intervals.judged = subst (IsAcceptedStory story_known certificate_known) c.in-Intervals.is c.in_ok-judged.ensures.accepted in
-    for_value (λ text. IsListedBy interval_operations c.in-Intervals.judged text.items) (λ text. HoldsListedByEither story_known certificate_known text.items) c.list_judged.result (λ text e. inl (c.in-Intervals.judged, has, e)) c.list_judged.ensures.listed
+    for_value (λ text. IsListedBy c.args.json interval_operations c.in-Intervals.judged text.items) (λ text. HoldsListedByEither c.args.json story_known certificate_known text.items) c.list_judged.result (λ text e. inl (c.in-Intervals.judged, has, e)) c.list_judged.ensures.listed
 
 pub returns-in-Intervals-clause-refused : goal.returns-in-Intervals-clause-refused
 returns-in-Intervals-clause-refused g c =
@@ -30,7 +30,7 @@ returns-in-Lists-clause-listed g c =
     let story_known = g.F.Files.known c.args.files.now c.args.story.now in
     let certificate_known = g.F.Files.known c.args.files.now c.args.certificate.now in
     let has : IsJudgedOf values_operations values_format story_known certificate_known c.in-Lists.judged = subst (IsAcceptedStory story_known certificate_known) c.in-Lists.is c.in_ok-judged.ensures.accepted in
-    for_value (λ text. IsListedBy values_operations c.in-Lists.judged text.items) (λ text. HoldsListedByEither story_known certificate_known text.items) c.list_judged-in-Lists.result (λ text e. inr (c.in-Lists.judged, has, e)) c.list_judged-in-Lists.ensures.listed
+    for_value (λ text. IsListedBy c.args.json values_operations c.in-Lists.judged text.items) (λ text. HoldsListedByEither c.args.json story_known certificate_known text.items) c.list_judged-in-Lists.result (λ text e. inr (c.in-Lists.judged, has, e)) c.list_judged-in-Lists.ensures.listed
 
 pub returns-in-Lists-clause-refused : goal.returns-in-Lists-clause-refused
 returns-in-Lists-clause-refused g c =

@@ -4,6 +4,6 @@ use Rattle.zperform.proofs.marking.add_marks.Given as goal
 
 abbrev pub invariant-loop-index : goal.invariant-loop-index
 invariant-loop-index g l = record {
-  told : TellsFirst g.V.Domain.operations l.story l.certificate l.marked_alone l.index l.fn.text.items l.text.items;
+  told : TellsFirst g.V.Domain.operations l.story l.certificate l.json l.marked_alone l.index l.fn.text.items l.text.items;
   same : l.ends ≡ l.story.memory;
 }

@@ -6,25 +6,27 @@ pub returns-in-Some-clause-writer : goal.returns-in-Some-clause-writer
 returns-in-Some-clause-writer g c = search (rules, writer_as_outcome _ _ _ _ c.play_by_certificate.result _ _ c.outcome_of-in-Some.ensures c.play_by_certificate.ensures.writer)
 
 pub returns-in-Some-clause-files : goal.returns-in-Some-clause-files
-returns-in-Some-clause-files g c = search (rules, c.in-Some.is, files_as_outcome _ _ _ _ _ _ _ c.play_by_certificate.result _ _ c.outcome_of-in-Some.ensures refl refl c.play_by_certificate.ensures.files)
+returns-in-Some-clause-files g c = λ one. search (rules, c.in-Some.is, files_as_outcome _ _ _ _ _ _ _ c.play_by_certificate.result _ _ c.outcome_of-in-Some.ensures refl refl c.play_by_certificate.ensures.files)
 
 pub returns-in-Some-clause-reader : goal.returns-in-Some-clause-reader
 returns-in-Some-clause-reader g c = search (rules, as_outcome c.play_by_certificate.result _ _ _ _ c.outcome_of-in-Some.ensures c.play_by_certificate.ensures.reader)
 
-pub returns-in-List-default-None-clause-comes : goal.returns-in-List-default-None-clause-comes
-returns-in-List-default-None-clause-comes g c = rw c.in-List-default-None.is ([], search (rules, c.in-List-default-None.certificate-is, c.list_file.ensures.comes), refl)
-
-pub returns-in-List-default-Some-clause-comes : goal.returns-in-List-default-Some-clause-comes
-returns-in-List-default-Some-clause-comes g c = rw c.in-List-default-Some.is ([], search (rules, c.in-List-default-Some.certificate-is, c.list_certificate.ensures.comes), refl)
-
-pub returns-in-Check-clause-comes : goal.returns-in-Check-clause-comes
-returns-in-Check-clause-comes g c = rw c.in-Check.is ([], c.check_files.ensures.comes, refl)
-
 pub returns-in-Show-clause-comes : goal.returns-in-Show-clause-comes
 returns-in-Show-clause-comes g c = rw c.in-Show.is ([], c.show_files.ensures.comes, refl)
 
-pub returns-in-Find-clause-could : goal.returns-in-Find-clause-could
-returns-in-Find-clause-could g c = rw c.in-Find.is c.find_file.ensures.could
-
 pub returns-in-Info-clause-comes : goal.returns-in-Info-clause-comes
 returns-in-Info-clause-comes g c = rw c.in-Info.is ([], c.inform.ensures.comes, refl)
+
+pub returns-in-List-default-None-default-clause-comes : goal.returns-in-List-default-None-default-clause-comes
+returns-in-List-default-None-default-clause-comes g c =
+    rw c.in-List-default-None-default.is ([], search (rules, c.in-List-default-None-default.certificate-is, c.list_file.ensures.comes), refl)
+
+pub returns-in-List-default-Some-default-clause-comes : goal.returns-in-List-default-Some-default-clause-comes
+returns-in-List-default-Some-default-clause-comes g c =
+    rw c.in-List-default-Some-default.is ([], search (rules, c.in-List-default-Some-default.certificate-is, c.list_certificate.ensures.comes), refl)
+
+pub returns-in-Check-default-default-false-clause-comes : goal.returns-in-Check-default-default-false-clause-comes
+returns-in-Check-default-default-false-clause-comes g c = rw c.in-Check-default-default-false.is ([], search (rules, c.in-Check-default-default-false.json-is, c.check_files.ensures.comes), refl)
+
+pub returns-in-Find-clause-could : goal.returns-in-Find-clause-could
+returns-in-Find-clause-could g c = rw c.in-Find.is c.find_one.ensures.could

@@ -1,0 +1,50 @@
+-- What is known of a file, of which a part was read.
+use Rattle.std.proofs.Common.{◌≡◌, ◌∙◌, ℕ, Bool, true, false, nat_le, leb-true, leb-false, min, List, ◌≤◌, ◌<◌, length, take, length-take, Option, Some, None, ap, sym, refl, arith}
+use Rattle.std.specs.Prelude.{IfSome, string_bytes}
+use Rattle.std.proofs.lemmas.List.{take_all}
+use Rattle.zstory.specs.LoadedStory.{LoadedStory}
+use Rattle.zinfo.specs.Info.{heading_of}
+use Rattle.zinfo.specs.declared.facts.Heading.{Heading}
+use Rattle.zjson.specs.Digest.{digest_text}
+use Rattle.zperform.specs.Accepting.{HoldsSuch}
+use Rattle.zperform.specs.Playing.{Holds, Reads}
+use Rattle.zperform.specs.Verdicts.{AreFactsOf}
+use Rattle.zperform.specs.declared.verdict.Facts.{Facts}
+use Rattle.zperform.proofs.AcceptLemmas.{story_held}
+use Rattle.zperform.proofs.StoryFiles.{reads}
+
+module _ (known : Option (List ℕ)) (taken : List ℕ) (part : (file : List ℕ) → known ≡ Some file → taken ≡ take 131073 file) where
+  -- a part that is shorter than it may be is the file
+  whole : (file : List ℕ) → taken ≡ take 131073 file → length taken < 131073 → taken ≡ file
+  whole file e short =
+      let few : length file ≤ 131073 = omega (arith, ap length e, length-take 131073 file, short) in
+      e ∙ take_all 131073 file few
+
+  digest_known : (text : List ℕ) → length taken < 131073 → text ≡ digest_text taken → Reads known (λ file. text ≡ digest_text file)
+  digest_known text short is = reads known 131073 taken (λ file. text ≡ digest_text file) part (λ file e p. p ∙ ap digest_text (whole file e short)) is
+
+  heading_known : (heading : Heading) (story : LoadedStory) → Holds taken story → heading ≡ heading_of story → HoldsSuch known (λ story. heading ≡ heading_of story)
+  heading_known heading story holds is = (story, story_held known taken part story holds, is)
+
+  pub facts_known : (facts : Facts) → IfSome facts.digest (λ digest. (length taken < 131073) × (string_bytes digest ≡ digest_text taken)) → IfSome facts.heading (λ heading. (story : LoadedStory) × Holds taken story × (heading ≡ heading_of story)) → AreFactsOf known facts
+  facts_known facts digest heading = record { digest_is = digests string_bytes facts.digest digest; heading_is = headings facts.heading heading }
+    where
+      digests : {D : Type 0} (bytes_of : D → List ℕ) (d : Option D) → IfSome d (λ digest. (length taken < 131073) × (bytes_of digest ≡ digest_text taken)) → IfSome d (λ digest. Reads known (λ file. bytes_of digest ≡ digest_text file))
+      digests bytes_of None h = tt
+      digests bytes_of (Some d) (short, is) = digest_known (bytes_of d) short is
+
+      headings : (o : Option Heading) → IfSome o (λ heading. (story : LoadedStory) × Holds taken story × (heading ≡ heading_of story)) → IfSome o (λ heading. HoldsSuch known (λ story. heading ≡ heading_of story))
+      headings None h = tt
+      headings (Some h) (story, holds, is) = heading_known h story holds is
+
+-- the front of a name
+pub front_taken : (name : List ℕ) → take (min (length name) 4096) name ≡ take 4096 name
+front_taken name = go (nat_le (length name) 4096) refl
+  where
+    go : (b : Bool) → nat_le (length name) 4096 ≡ b → take (min (length name) 4096) name ≡ take 4096 name
+    go true few =
+        let n : length name ≤ 4096 = leb-true (length name) 4096 few in
+        ap (λ (k : ℕ). take k name) (let same : min (length name) 4096 ≡ length name = omega arith in same) ∙ take_all (length name) name (omega arith) ∙ sym (take_all 4096 name n)
+    go false many =
+        let n : 4096 < length name = leb-false (length name) 4096 many in
+        ap (λ (k : ℕ). take k name) (let same : min (length name) 4096 ≡ 4096 = omega arith in same)
