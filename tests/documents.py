@@ -8,6 +8,7 @@ import re
 import sys
 
 import believe
+import manual
 import proved
 from definitions import TOP, text_of
 
@@ -191,6 +192,14 @@ def wrong_belief():
         yield f"BELIEVE: {line}"
 
 
+def wrong_manual():
+    """docs/zpc.1 is what tests/manual.py writes of the stored texts of help, each of which a stored run compares with what the program says."""
+    for line in manual.differences(manual.written()):
+        yield f"manual: {line}"
+    for name in manual.unseen():
+        yield f"manual: no stored run of tests/program/runs.py compares the help of {name}"
+
+
 def wrong_shape():
     if len(text_of("README.md").split("\n")) > 250:
         yield "README.md has over 250 lines"
@@ -203,7 +212,10 @@ def wrong_shape():
 
 def main():
     passed = failed = 0
-    asked = (wrong_bugs, wrong_clauses, wrong_crates, wrong_names, wrong_codes, wrong_authors, wrong_tested, wrong_edits, wrong_belief, wrong_shape)
+    asked = (
+        wrong_bugs, wrong_clauses, wrong_crates, wrong_names, wrong_codes, wrong_authors, wrong_tested, wrong_edits, wrong_belief, wrong_manual,
+        wrong_shape,
+    )
     for check in asked:
         found = list(check())
         for line in found:
