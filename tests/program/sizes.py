@@ -487,7 +487,9 @@ GROWTH = [
     ("zjson digest_text", "64 digits", told_at_length),
     ("zjson verdict_line", "what `line_of` grows by, which it calls", None),
     ("zjson instruction_line", "what `line_of` grows by, which it calls", None),
+    ("zjson listed_line", "what `line_of` grows by, which it calls", None),
     ("zjson explained_line", "what `line_of` grows by, which it calls", None),
+    ("zexplain all_codes", "a line of each of the codes, which are always the same", None),
     ("zcommand read_words", "words, and letters of a word", long_names),
     ("zperform", "names of files", long_names),
 ]
