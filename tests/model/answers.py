@@ -69,11 +69,13 @@ def not_found(story, strict, came, tally):
     """What is told where none is found. With marks one is, where the walk of the model has one."""
     status, _, errors, _ = came
     told = NONE_FOUND.fullmatch(errors)
-    if status != 1 or not told or (told[1] == b"G2" and not strict):
+    if status != 1 or not told or (told[2] == b"G2" and not strict):
         return 1, b"", b"refused: G1 or G2", None
-    tally.codes[told[1].decode()] += 1
+    tally.codes[(told[2] or b"G1").decode()] += 1
     if not strict and marking.certificate_of(story):
         return 0, b"found, since the walk of the model finds one", b"", None
+    if told[1] and not marking.breaks(story, told[1].decode()):
+        return 1, b"", b"another rule of the story, since the walk of the model keeps this one", None
     return 1, b"", errors, None
 
 
@@ -149,4 +151,6 @@ def played(case, tally):
 
 COMMANDS = {"list": listed, "check": checked, "play": played}
 FLAGS = {"--status", "--tell", "--force", "--strict", "--places"}
-NONE_FOUND = re.compile(rb"refused: (G[12])( at [0-9a-f]{5})?\n(no certificate: [SIU][0-9]{1,2}( at [0-9a-f]{5})?|not found)\n")
+NONE_FOUND = re.compile(
+    rb"refused: (?:G1\nbroken: (S[1-8])|(G[12])( at [0-9a-f]{5})?\n(no certificate: [SIU][0-9]{1,2}( at [0-9a-f]{5})?|not found))\n"
+)

@@ -1,6 +1,6 @@
 """Marks of certificates (docs/CERTIFICATE.md): where the rules of a story ask for them."""
 from known import Known
-from rules import instruction_fault, judge
+from rules import STORY_RULES, instruction_fault, judge
 from stories import Refused
 from walking import Walk
 
@@ -21,3 +21,10 @@ def certificate_of(story):
     except Refused:
         return None
     return made
+
+
+def breaks(story, code):
+    """Whether the certificate of that walk breaks this rule of the story."""
+    made = Walk(story, 4).made
+    mark_broken(story, made)
+    return not dict(STORY_RULES)[code](Known(story, made))
