@@ -27,6 +27,7 @@ from program import Answer, Count, Program
 from properties import see_properties
 from samples import CODE, HELLO, NEW_LINE, NOP, QUIT, certificate, changed, interval, story, with_objects
 from showing import see_showing
+from stated import see_stated
 from texts import see_texts
 
 HERE = os.path.dirname(os.path.abspath(__file__))
@@ -452,8 +453,11 @@ def main():
     see_lists(program, count, COMMANDS)
     see_frames(program, count)
     see_marks(program, count)
+    see_facts(program, count)
+    see_stated(program, count)
     see_showing(program, count, help_text("no_address.txt"))
     see_facts(program, count)
+    see_stated(program, count)
     see_finding(program, count)
     see_dear(program, count)
     see_game(program, count)

@@ -13,6 +13,7 @@ use crate::refusal::StoryRule;
 use crate::tables::{has_abbreviations, has_disjoint_tables, has_globals};
 use zcert::{Certificate, Instruction, Routine, Spelled};
 use zplace::has_property_tables;
+use zrule::hold_anyway;
 use zstory::Story;
 
 /// The rules by their numbers.
@@ -58,13 +59,14 @@ fn keeps<V: Spelled>(story: &Story, certificate: &Certificate<V>, rule: StoryRul
     }
 }
 
-/// Whether the first place is listed as the main code begins.
+/// Whether the first place is listed as the main code begins, and the facts there hold of all that the globals may have.
 fn has_first_place<V: Spelled>(story: &Story, certificate: &Certificate<V>) -> bool
     ensures { IsTrue result ↔ HasFirstPlace V.operations (claims_of V.operations certificate.now) story.now }
 {
     let mut room = V::room();
-    match certificate.instruction_at(first_place(story), &mut room) {
-        Some(first) => is_bare(&first),
+    let place = first_place(story);
+    match certificate.instruction_at(place, &mut room) {
+        Some(first) => is_bare(&first) && hold_anyway(certificate, place),
         None => false,
     }
 }

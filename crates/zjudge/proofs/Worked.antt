@@ -40,7 +40,7 @@ listed_at_place p = if p == 100 then Some in_main else (if p == 200 then Some in
 
 -- where the routine gives from 1 up to this
 abbrev giving : (hi : ℤ) → int_le (pos 1) hi ≡ true → Claims Interval
-giving hi e = record { ranges = []; globals = []; entry = listed_at_place; result = λ r. from (pos 1) hi e; routine_at = λ p. None }
+giving hi e = record { ranges = []; globals = []; facts = λ p. []; entry = listed_at_place; result = λ r. from (pos 1) hi e; routine_at = λ p. None }
 
 abbrev five : Claims Interval
 five = giving (pos 5) refl

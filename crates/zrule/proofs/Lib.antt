@@ -14,8 +14,10 @@ mod Hearing
 mod Asking
 pub mod Sets
 mod Memory
+mod Told
 mod Fitting
 mod Framed
+mod Assigned
 mod Settling
 mod Parts
 pub mod Stepping
