@@ -19,7 +19,7 @@ pub fn argument_set<V: Domain>(
     instruction: &Instr,
     index: usize,
 ) -> Option<V>
-    ensures { result ≡ slice_get (argument_sets V.operations (globals_seen globals) instruction.now (shape_of locals.now slots.now)) index }
+    ensures { result ≡ slice_get (argument_sets V.operations (globals_seen globals.entry) instruction.now (shape_of locals.now slots.now)) index }
 {
     let before = View {
         globals,

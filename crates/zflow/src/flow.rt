@@ -50,7 +50,7 @@ pub fn flow_of<'a, V: Domain>(
     slots: &'a [V],
     instruction: &Instr,
 ) -> Flow<'a, V>
-    ensures { IsFlow V.operations (globals_seen globals) tables.now instruction.now (shape_of locals.now slots.now) result }
+    ensures { IsFlow V.operations (globals_seen globals.entry) tables.now instruction.now (shape_of locals.now slots.now) result }
 {
     let before = View {
         globals,
@@ -87,7 +87,7 @@ pub fn first_known<V: Domain>(
     slots: &[V],
     instruction: &Instr,
 ) -> Option<u16>
-    ensures { result ≡ V.operations.known (read_set V.operations (globals_seen globals) instruction.now (shape_of locals.now slots.now) 0) }
+    ensures { result ≡ V.operations.known (read_set V.operations (globals_seen globals.entry) instruction.now (shape_of locals.now slots.now) 0) }
 {
     let before = View {
         globals,

@@ -59,7 +59,7 @@ pub fn global_behind<V: Domain>(
     target: u8,
     index: u8,
 ) -> Option<V>
-    ensures { result ≡ slice_get (globals_after (globals_seen globals) target outcome.now) index }
+    ensures { result ≡ slice_get (globals_after (globals_seen globals.entry) target outcome.now) index }
 {
     let index = usize::from(index);
     let before = globals.get(index)?;

@@ -6,7 +6,7 @@ ghost use Rattle.zdomain.specs.Domain.{Within};
 ghost use Rattle.zcert.specs.Listed.{seen};
 ghost use Rattle.zflow.specs.Transfer.{argument_sets};
 ghost use Rattle.zrule.specs.Blocks.{sets_of};
-ghost use Rattle.zrule.specs.Claims.{entry_of, globals_at};
+ghost use Rattle.zrule.specs.Claims.{claims_of, entry_of, globals_at};
 
 use crate::site::Site;
 use zcert::Spelled;
