@@ -368,7 +368,7 @@ impl<V: Kind> State<V> {
         }
         for nth in 0..usize::from(spot.told_count) {
             let at = spot.told_start.saturating_add(nth);
-            is_new |= self.raise_told(plan, index, at, frame, widens)?;
+            is_new |= self.raise_told(plan, index, at, spot, frame, may_widen)?;
         }
         if is_new {
             self.count_growth(index, may_widen);
@@ -442,8 +442,9 @@ impl<V: Kind> State<V> {
         plan: &Plan<V>,
         index: usize,
         at: usize,
+        spot: Spot,
         frame: &Frame<V>,
-        widens: bool,
+        may_widen: bool,
     ) -> Result<bool, AllocError> {
         let Some(told) = self.told.get_mut(at) else {
             return Ok(false);
@@ -460,7 +461,7 @@ impl<V: Kind> State<V> {
             return Ok(false);
         }
         let cap = plan.told_cap(index, told.global);
-        let grown = plan.raised(set, more, widens, cap);
+        let grown = plan.raised(set, more, spot.growths, may_widen, cap);
         told.set = Some(grown.shelve(&mut self.shelf)?);
         Ok(true)
     }
