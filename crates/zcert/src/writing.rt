@@ -202,6 +202,15 @@ fn put_front<V: Spelled>(out: &mut Vec<u8>, contents: &Contents<V>) -> Result<()
     put_limit(out, contents.limit)
 }
 
+// The routines and the instructions.
+fn put_code<V: Spelled>(out: &mut Vec<u8>, contents: &Contents<V>) -> Result<(), AllocError>
+    requires { HasSpelling V.format (content_of contents.now) }
+    ensures { OnOk result (out.new.items ≡ out.old.items ++ (counted numbers.RoutineCount (routine_bytes V.format) (content_of contents.now).routines ++ counted numbers.InstructionCount (instruction_bytes V.format) (content_of contents.now).instructions)) }
+{
+    put_routines(out, &contents.routines)?;
+    put_instructions(out, contents)
+}
+
 // All that a certificate says, apart from the vector, which would be dropped where any of these is refused.
 fn put_all<V: Spelled>(out: &mut Vec<u8>, contents: &Contents<V>) -> Result<(), AllocError>
     requires { HasSpelling V.format (content_of contents.now) }
@@ -210,8 +219,7 @@ fn put_all<V: Spelled>(out: &mut Vec<u8>, contents: &Contents<V>) -> Result<(), 
     put_front(out, contents)?;
     put_ranges(out, &contents.ranges)?;
     put_values(out, &contents.globals)?;
-    put_routines(out, &contents.routines)?;
-    put_instructions(out, contents)?;
+    put_code(out, contents)?;
     put_stated(out, contents.stating, &contents.facts)
 }
 

@@ -15,6 +15,7 @@ returns g c =
     let up = facts_in_order 0 0 facts c.requires in
     let first = IsPartitionPoint-from_clause (λ (f : Fact _). ltb f.address address) facts start c.partition_point-start.ensures.partitioned (IsPartitionedBy-ltb (λ (f : Fact _). f.address) facts address up) (λ a r q k. search rules) in
     let behind = order_behind facts start up in
-    let second = rw take_rest at IsPartitionPoint-from_clause (λ (f : Fact _). leb f.address address) _ count c.partition_point-count.ensures.partitioned (IsPartitionedBy-leb (λ (f : Fact _). f.address) _ address (rw take_rest behind)) (λ a r q k. search rules) in
+    let told = rw take_rest at c.partition_point-count.ensures.partitioned in
+    let second = IsPartitionPoint-from_clause (λ (f : Fact _). leb f.address address) (drop start facts) count told (IsPartitionedBy-leb (λ (f : Fact _). f.address) (drop start facts) address behind) (λ a r q k. search rules) in
     let few : count ≤ length (drop start facts) = rw take_rest at c.partition_point-count.ensures.bound in
     rw take_rest (kept address (drop start facts) count few (from_first address facts start first.1) second ∙ sym (skipped address facts start first.0 c.partition_point-start.ensures.bound))
