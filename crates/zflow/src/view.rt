@@ -1,6 +1,6 @@
 //! What is known before an instruction, and what of it is read.
 
-ghost use Rattle.std.specs.Prelude.{◌≡◌, ◌≤◌, drop, length, reverse};
+ghost use Rattle.std.specs.Prelude.{◌≡◌, ◌≤◌, drop, length, reverse, slice_index_or};
 ghost use Rattle.zflow.specs.Transfer.{below, operand_set, pops, values_of, variable_set};
 ghost use Rattle.zflow.specs.Lent.{globals_seen};
 ghost use Rattle.zflow.specs.View.{seen};
@@ -55,12 +55,24 @@ impl<'a, V: Domain> View<'a, V> {
     pub(crate) fn variable_set(self, variable: u8) -> V
         ensures { result ≡ variable_set V.operations (globals_seen self.entry.globals) variable (seen self.entry) }
     {
+        if variable >= 16 {
+            return self.global_set(usize::from(variable) - 16);
+        }
         let found = match variable {
-            0 => self.slots.last().copied(),
-            1..16 => self.locals.get(usize::from(variable) - 1).copied(),
-            _ => self.globals.get(usize::from(variable) - 16),
+            0 => self.slots.last(),
+            _ => self.locals.get(usize::from(variable) - 1),
         };
         match found {
+            Some(set) => *set,
+            None => V::any(),
+        }
+    }
+
+    /// The values of a global, by its index; one that isn't there may have any.
+    fn global_set(self, index: usize) -> V
+        ensures { result ≡ slice_index_or (globals_seen self.entry.globals) index V.operations.any }
+    {
+        match self.globals.get(index) {
             Some(set) => set,
             None => V::any(),
         }
