@@ -1,5 +1,5 @@
 -- An edge to a listed place.
-use Rattle.std.proofs.Common.{◌≡◌, ◌↔◌, ℕ, ◌<◌, Bool, true, false, List, Some, None, length, arith, ap, inl, inr, refl, sym, ◌∙◌, subst}
+use Rattle.std.proofs.Common.{◌≡◌, ◌↔◌, ℕ, ◌<◌, Bool, ℤ, pos, ◌+ℤ◌, true, false, List, Some, None, length, arith, ap, inl, inr, refl, sym, ◌∙◌, subst}
 use Rattle.std.proofs.lemmas.Option.{same_Some}
 use Rattle.std.specs.Prelude.{IfSome, IsTrue, option_map, slice_get}
 use Rattle.std.proofs.lemmas.Option.{slice_get_cases}
@@ -44,7 +44,11 @@ module _ {V : Type 0} (o : SetOperations V) (c : Certificate V) (routine : ℕ) 
 
   -- where the frame fits, the facts decide
   pub leads_by_facts : (d : Bool) → b ≡ true → IsTrue d ↔ AreImplied o globals (facts_at c.facts to) → IsTrue d ↔ LeadsThere
-  leads_by_facts d yes told = (λ t. leads_found.0 (subst IsTrue (sym yes) refl, told.0 t), λ l. told.1 (leads_found.1 l).1)
+  leads_by_facts d fits told = (λ t. leads_found.0 (subst IsTrue (sym fits) refl, told.0 t), λ l. told.1 (leads_found.1 l).1)
 
   pub leads_unfit : (d : Bool) → b ≡ false → d ≡ false → IsTrue d ↔ LeadsThere
-  leads_unfit d no none = (λ t. absurd (let e = none in cc), λ l. absurd (let yes = (leads_found.1 l).0 in let f = no in cc))
+  leads_unfit d unfit none = (λ t. absurd (let e = none in cc), λ l. absurd (let fits = (leads_found.1 l).0 in let f = unfit in cc))
+
+-- where a place so far ahead is one
+pub ahead_where : (q to : ℕ) (d : ℤ) (There : ℕ → Type 0) (b : Bool) → pos q +ℤ d ≡ pos to → IsTrue b ↔ There to → IsTrue b ↔ ((x : ℕ) × (pos q +ℤ d ≡ pos x) × There x)
+ahead_where q to d There b same told = (λ t. (to, same, told.0 t), λ h. told.1 (let is : h.0 ≡ to = (let other = h.1 in cc) in subst There is h.2))

@@ -339,6 +339,7 @@ alone = record {
     before rules.Status less = absurd (omega (arith, less))
 
 pub rest_keep : ((rule : Rule) → Keeps interval_operations claims story 803 bare_entry rule) × ((rule : Rule) → Keeps interval_operations claims story 804 bare_entry rule)
+unfolding claims claims_at certificate_at
 rest_keep = (
   λ rule. (asks_keeps interval_operations claims story 803 bare_entry line (there_at 803 line (omega arith) reads.1) rule).0 (asks_line claims leads_on.1 rule),
   λ rule. (asks_keeps interval_operations claims story 804 bare_entry stop (there_at 804 stop (omega arith) reads.2) rule).0 (asks_stop claims rule),

@@ -15,6 +15,7 @@ mod Asking
 pub mod Sets
 mod Memory
 mod Told
+mod Implied
 mod Fitting
 mod Framed
 mod Assigned

@@ -42,11 +42,11 @@ module _ {V : Type 0} where
   set_same (z ∷ xs) zero x y e = same_Some x y e
   set_same (z ∷ xs) (suc n) x y e = set_same xs n x y e
 
-  by_place : (k n : ℕ) → (k ≡ n) ⊎ (k ≡ n → ⊥)
-  by_place k n = elim (cases_lt k n) [
-    | inl less ↦ inr (λ same. omega (arith, less, same))
-    | inr most ↦ elim (cases_lt n k) [ inl more ↦ inr (λ same. omega (arith, more, same)) | inr least ↦ inl (omega (arith, most, least)) ]
-  ]
+by_place : (k n : ℕ) → (k ≡ n) ⊎ (k ≡ n → ⊥)
+by_place k n = elim (cases_lt k n) [
+  | inl less ↦ inr (λ same. omega (arith, less, same))
+  | inr most ↦ elim (cases_lt n k) [ inl more ↦ inr (λ same. omega (arith, more, same)) | inr least ↦ inl (omega (arith, most, least)) ]
+]
 
 -- a variable that is a global has a number below 256
 pub global_small : {V : Type 0} (o : SetOperations V) (claims : Claims V) (e : Shape V) (v : ℕ) → IsVariable o claims e v → 16 ≤ v → v < 256

@@ -30,7 +30,7 @@ module _ {V : Type 0} (o : SetOperations V) (claims : Claims V) (story : LoadedS
 
     same : (x : Edge V) → x.after ≡ after o (globals_at claims p) i e x.outcome → x.lead ≡ leading o x.outcome i.branch → P x.after x.lead x.outcome ↔ Holds x.outcome
     unfolding Holds
-    same x a l = (λ p. subst (λ (k : Lead V). P (after o (globals_at claims p) i e x.outcome) k x.outcome) l (subst (λ (f : Option (Shape V)). P f x.lead x.outcome) a p), λ h. subst (λ (f : Option (Shape V)). P f x.lead x.outcome) (sym a) (subst (λ (k : Lead V). P (after o (globals_at claims p) i e x.outcome) k x.outcome) (sym l) h))
+    same x a l = (λ held. subst (λ (k : Lead V). P (after o (globals_at claims p) i e x.outcome) k x.outcome) l (subst (λ (f : Option (Shape V)). P f x.lead x.outcome) a held), λ h. subst (λ (f : Option (Shape V)). P f x.lead x.outcome) (sym a) (subst (λ (k : Lead V). P (after o (globals_at claims p) i e x.outcome) k x.outcome) (sym l) h))
 
     there : (c : Bool) (edge : Option (Edge V)) → IsEdge o (globals_at claims p) (told_of claims story) i e c edge → Asked edge → (w : Outcome V) → outcome_at o (globals_at claims p) i e (told_of claims story) c ≡ Some w → Holds w
     unfolding Asked

@@ -467,6 +467,7 @@ uncovered a b q d p x same listed inside outside goes =
     outside ((subst (λ (e : Entry Interval). Covers interval_operations (before (a ∷ []) []) e.shape) is leads.covered).locals.0 x inside)
 
 covered : (a b : Interval) (p : ℕ) → small.entry p ≡ Some (of_one b) → Within interval_operations a b → Leads interval_operations small 1 small.globals (before (a ∷ []) []) p
+unfolding small
 covered a b p listed within = record { entry = of_one b; listed = listed; same = refl; covered = record { locals = (within, tt); slots = tt }; implied = tt }
 
 -- of a branch that is never taken only what follows has to be listed, and else where it leads too
@@ -579,7 +580,7 @@ begins_with : ℕ → Shape Interval → Claims Interval
 begins_with number said = record small { entry = λ p. Some (record { routine = number; shape = said }) }
 
 first_place : HasFirstPlace interval_operations (begins_with 0 (before [] [])) nowhere × (HasFirstPlace interval_operations (begins_with 1 (before [] [])) nowhere → ⊥)
-unfolding begins_with
+unfolding begins_with small
 first_place = (record { entry = record { routine = 0; shape = before [] [] }; listed = refl; main = refl; no_locals = refl; no_slots = refl; implied = tt }, λ f. let is = same_Some _ _ f.listed in omega (arith, ap (λ (e : Entry Interval). e.routine) is, f.main))
 
 first_place_empty : (HasFirstPlace interval_operations (begins_with 0 (before (point 1 ∷ []) [])) nowhere → ⊥) × (HasFirstPlace interval_operations (begins_with 0 (before [] (point 1 ∷ []))) nowhere → ⊥)

@@ -6,6 +6,7 @@ ghost use Rattle.zdomain.specs.Domain.{Within};
 ghost use Rattle.zrule.specs.Rules.{AreImplied};
 
 use zcert::{Certificate, Fact, Spelled};
+use zflow::Globals;
 
 /// Whether what is known of the global of a fact, if it is there, lies in the set of the fact.
 pub(crate) fn is_implied<V: Spelled>(known: Option<V>, fact: Fact<V>) -> bool
@@ -31,8 +32,8 @@ fn are_implied<V: Spelled>(globals: &[V], facts: &[Fact<V>]) -> bool
     match facts {
         [] => true,
         [fact, rest @ ..] => {
-            is_implied(globals.get(usize::from(fact.global)).copied(), *fact)
-                && are_implied(globals, rest)
+            let known = Globals::of(globals).get(usize::from(fact.global));
+            is_implied(known, *fact) && are_implied(globals, rest)
         }
     }
 }
