@@ -7,4 +7,4 @@ pub returns-clause-bytes : goal.returns-clause-bytes
 returns-clause-bytes g c = subst AreBytes c.memory.ensures c.are_bytes.ensures
 
 pub returns-clause-facts : goal.returns-clause-facts
-returns-clause-facts g c = λ p. globals_at_place p _ (are_globals g.V.Spelled.format _ c.facts.ensures.keeps.facts)
+returns-clause-facts g c = λ p. globals_at_place p _ (are_globals g.V.Spelled.format _ c.facts-facts.ensures.keeps.facts)
