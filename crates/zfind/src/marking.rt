@@ -132,7 +132,10 @@ fn marked_round(
     ensures passes { IfOk result (IsMarkedRound story.now limit) }
     ensures failed { IfErr result (IsUnmarkable story.now limit) }
 {
-    let code = Code::new(alloc, story, listing)?.waiting().marking().telling();
+    let code = Code::new(alloc, story, listing)?
+        .waiting()
+        .marking()
+        .telling();
     let mut walk = Walk::new(alloc, &code, first_plan(alloc, &code)?)?;
     if !went(walk.grow(left))? {
         return Ok(MarkedRound::Stopped);

@@ -66,7 +66,8 @@ fn hold_in<V: Spelled>(story: &Story, facts: &[Fact<V>], saved: &[u8]) -> bool
     match facts {
         [] => true,
         [fact, rest @ ..] => {
-            fact.values.contains(global_at(story, saved, usize::from(fact.global)))
+            fact.values
+                .contains(global_at(story, saved, usize::from(fact.global)))
                 && hold_in(story, rest, saved)
         }
     }

@@ -37,7 +37,7 @@ returns-else-are_frames_described-clause-value g c =
     let memory : IsTrue c.is_memory_described.result ↔ IsDescribedMemory o claims story view.memory = subst (λ (m : List ℕ). IsTrue c.is_memory_described.result ↔ IsDescribedMemory o claims story m) c.memory.ensures c.is_memory_described.ensures in
     let back : IsDescribedMemory o claims story view.memory → AreDescribed o claims (map taken_frame view.frames) (view.place - 1) → c.if-is_memory_described.value ≡ true = λ is frames. elim c.if-is_memory_described.branch [
       | then-is_memory_described w ↦
-        w.value-is ∙ w.are_frames_described.ensures.value.1 (subst (λ (fs : List SavedFrame). AreDescribed o claims (map taken_frame fs) (c.place-at.result - 1)) (sym w.frames.ensures.value) (subst (λ (p : ℕ). AreDescribed o claims (map taken_frame view.frames) (p - 1)) (sym place) frames))
+          w.value-is ∙ w.are_frames_described.ensures.value.1 (subst (λ (fs : List SavedFrame). AreDescribed o claims (map taken_frame fs) (c.place-at.result - 1)) (sym w.frames.ensures.value) (subst (λ (p : ℕ). AreDescribed o claims (map taken_frame view.frames) (p - 1)) (sym place) frames))
       | else-is_memory_described w ↦ absurd (no_and_yes c.is_memory_described.result w.if-is_memory_described.false (memory.1 is))
     ] in
     (λ t. absurd (no_and_yes c.if-is_memory_described.value c.if-are_frames_described.false t), λ all. back all.0 all.1)
