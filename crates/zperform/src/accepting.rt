@@ -1,7 +1,7 @@
 //! Stories and certificates from files.
 
 ghost use Rattle.std.specs.Prelude.{◌≡◌, ◌==◌, ◌||◌, ◌≤◌, ℕ, true, List, Option, IfErr, IfOk, IfSome, IsErrOf, length, take};
-ghost use Rattle.zcert.specs.declared.limits.TheConstants.{LIST_VERSION as version_with_lists, LIMIT_VERSION as version_with_limit, MARK_VERSION as version_with_marks};
+ghost use Rattle.zcert.specs.declared.limits.TheConstants.{LIST_VERSION as version_with_lists, LIMIT_VERSION as version_with_limit, MARK_VERSION as version_with_marks, FACT_VERSION as version_with_facts};
 ghost use Rattle.zcheck.specs.Judged.{certificate_of, marks_in};
 ghost use Rattle.zstory.specs.Bytes.{byte_at};
 ghost use Rattle.zperform.specs.Devices.{ReadsUnless, held};
@@ -12,7 +12,7 @@ use crate::feeding::{HEADING, feed_certificate};
 use crate::files::{Files, read_file};
 use crate::outcome::{Failure, Problem};
 use std::alloc::Global;
-use zcert::{LIMIT_VERSION, LIST_VERSION, MARK_VERSION, Spelled};
+use zcert::{FACT_VERSION, LIMIT_VERSION, LIST_VERSION, MARK_VERSION, Spelled};
 use zcheck::{Accepted, Judged, Marked};
 use zdomain::{Interval, Values};
 use zstory::Story;
@@ -28,7 +28,7 @@ const VERSION_AT: usize = 4;
 pub enum AcceptedStory {
     /// Of version 1.
     Intervals(Judged<Accepted<Interval>, Marked<Interval>>),
-    /// Of version 2, 3 or 4.
+    /// Of version 2, 3, 4 or 5.
     Lists(Judged<Accepted<Values>, Marked<Values>>),
 }
 
@@ -80,12 +80,13 @@ pub fn accept<F: Files>(
 
 /// Whether a certificate's file that begins so is of a version that has lists.
 pub fn has_lists(first: &[u8]) -> bool
-    ensures { result ≡ ((byte_at first.now 4 == version_with_lists) || (byte_at first.now 4 == version_with_limit) || (byte_at first.now 4 == version_with_marks)) }
+    ensures { result ≡ ((byte_at first.now 4 == version_with_lists) || (byte_at first.now 4 == version_with_limit) || (byte_at first.now 4 == version_with_marks) || (byte_at first.now 4 == version_with_facts)) }
 {
     let version = first.get(VERSION_AT);
     version == Some(&LIST_VERSION)
         || version == Some(&LIMIT_VERSION)
         || version == Some(&MARK_VERSION)
+        || version == Some(&FACT_VERSION)
 }
 
 /// Accepts a story with the certificate of a file, of which the first bytes were read and tell the version.
