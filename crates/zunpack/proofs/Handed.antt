@@ -79,6 +79,9 @@ reads_back story text (Err d) false same none e = (d, sym same)
 reads_back story text (Ok s) false same none e = absurd cc
 reads_back story text (Err d) true same none e = absurd cc
 
+pub back_as : (story : LoadedStory) (a b : List ℕ) (x y : Bool) → a ≡ b → x ≡ y → ReadsBack story a x → ReadsBack story b y
+back_as story a b x y same alike back = subst (λ (t : List ℕ). ReadsBack story t y) same (subst (λ (z : Bool). ReadsBack story a z) alike back)
+
 pub lacks : {T : Type 0} (story : LoadedStory) (text : List ℕ) (r : Result T UnpackError) → HandsOn r errors.OutOfMemory → IfErr r (FailsFor story text)
 lacks story text r is = handed (FailsFor story text) r errors.OutOfMemory is tt
 
