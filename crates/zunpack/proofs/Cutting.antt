@@ -1,14 +1,14 @@
 -- Bytes are chunks in one way alone, and how often one of them has given letters.
-use Rattle.std.proofs.Common.{◌≡◌, ◌⊎◌, inl, inr, ℕ, zero, suc, ◌+◌, ◌*◌, ◌%◌, ◌^◌, ◌<◌, ◌≤◌, Bool, true, false, List, [], ◌∷◌, ◌++◌, length, take, drop, get_or, Option, Some, None, refl, sym, ap, subst, ◌∙◌, append_assoc, arith, length-append}
+use Rattle.std.proofs.Common.{◌≡◌, ◌⊎◌, inl, inr, ℕ, ◌+◌, ◌%◌, ◌<◌, List, [], ◌∷◌, ◌++◌, length, take, drop, Option, Some, None, refl, sym, ap, subst, ◌∙◌, append_assoc, arith, length-append}
 use Rattle.std.specs.Prelude.{◌==◌, replicate}
 use Rattle.std.specs.List.{flat_map, AllByRecursion}
-use Rattle.std.proofs.lemmas.Bool.{cases_Bool, eqb-true, eqb-false}
+use Rattle.std.proofs.lemmas.Bool.{cases_Bool, eqb-true}
 use Rattle.std.proofs.lemmas.List.{take_at, drop_at, length-replicate}
 use Rattle.byteorder.specs.Endian.{big_bytes, big_number}
 use Rattle.zquetzal.specs.Grammar.{Chunk, IsChunk, chunk_bytes}
 use Rattle.zquetzal.specs.Causes.{AreChunksOf, of_kind}
 use Rattle.zquetzal.specs.Reading.{Found, Absent, Once, Often, found, found_then, found_in}
-use Rattle.zquetzal.proofs.Numbers.{IsBytes, IsBytes-drop, IsBytes-take, number_again, drop_number}
+use Rattle.zquetzal.proofs.Numbers.{IsBytes, IsBytes-drop, IsBytes-take, number_again}
 use Rattle.zunpack.specs.View.{BeginsWith, IsCut, HasChunk, HasChunks, the_only}
 
 abbrev pads : Chunk → List ℕ

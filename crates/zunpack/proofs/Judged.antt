@@ -1,25 +1,19 @@
 -- Which refusal is the lowest, and what a file is that has none.
-use Rattle.std.proofs.Common.{◌≡◌, ◌⊎◌, inl, inr, ℕ, zero, suc, ◌+◌, ◌*◌, ◌%◌, ◌^◌, ◌<◌, ◌≤◌, Bool, true, false, List, [], ◌∷◌, ◌++◌, length, take, drop, Option, Some, None, Result, Ok, Err, refl, sym, ap, subst, ◌∙◌, arith, length-append}
-use Rattle.std.specs.Prelude.{◌≢◌, ◌==◌, IfOk, IfErr, OnOk}
-use Rattle.std.specs.List.{flat_map, AllByRecursion}
-use Rattle.std.proofs.lemmas.Bool.{cases_Bool, eqb-true, eqb-false, cases_lt}
-use Rattle.byteorder.specs.Endian.{big_bytes, big_number}
-use Rattle.zstory.specs.LoadedStory.{LoadedStory, static_base}
+use Rattle.std.proofs.Common.{◌≡◌, ◌⊎◌, inl, inr, ℕ, zero, suc, ◌<◌, ◌≤◌, List, [], ◌∷◌, length, drop, Some, None, refl, sym, ap, subst, ◌∙◌, arith}
+use Rattle.std.proofs.lemmas.Bool.{cases_lt}
+use Rattle.zstory.specs.LoadedStory.{LoadedStory}
 use Rattle.zquetzal.specs.declared.error.SaveError.{SaveError}
 use Rattle.zquetzal.specs.declared.error.SaveError.TheVariants as saves
-use Rattle.zquetzal.specs.declared.limits.TheConstants.{FORM, IFZS, IFHD, UMEM, CMEM, STKS}
+use Rattle.zquetzal.specs.declared.limits.TheConstants.{UMEM, CMEM}
 use Rattle.zquetzal.specs.Refusal.{number_of as save_number}
 use Rattle.zquetzal.specs.Saved.{Saved}
-use Rattle.zquetzal.specs.Grammar.{Chunk, chunk_bytes, form_bytes, ReadsAs}
-use Rattle.zquetzal.specs.Reading.{is_of, frames_of}
-use Rattle.zquetzal.specs.Causes.{IsNoForm, AreChunksOf, HasWrongLength, of_kind, IsMissing, IsLate, LacksChunk, IsRepeated, RepeatsChunk, NamesStory, NamesAnother, TellsFrames, HasWrongFrames, HasFlaw as HasSaveFlaw, IsCause as IsSaveCause, IsLowest as IsLowestOfSave, HasNone as HasNoneOfSave}
-use Rattle.zquetzal.proofs.Numbers.{IsBytes, IsBytes-drop, number_again, number_fits, front_4}
+use Rattle.zquetzal.specs.Grammar.{Chunk, ReadsAs}
+use Rattle.zquetzal.specs.Causes.{IsNoForm, AreChunksOf, of_kind, IsMissing, HasFlaw as HasSaveFlaw, IsCause as IsSaveCause, IsLowest as IsLowestOfSave, HasNone as HasNoneOfSave}
 use Rattle.zunpack.specs.declared.error.UnpackError.{UnpackError}
 use Rattle.zunpack.specs.declared.error.UnpackError.TheVariants as errors
 use Rattle.zunpack.specs.Refusal.{number_of}
-use Rattle.zunpack.specs.Causes.{RepeatsPart, IsFinished, FitsIn, IsFlaw, HasFlaw, IsCause, NoneBelow, IsLowest, HasNone}
-use Rattle.zunpack.specs.PackedSave.{dynamic_of}
-use Rattle.zunpack.specs.View.{IsCut, IsForm, IsJudged, Parts, ArePartsOf, refusal_of}
+use Rattle.zunpack.specs.Causes.{RepeatsPart, IsFlaw, HasFlaw, IsCause, NoneBelow, IsLowest}
+use Rattle.zunpack.specs.View.{IsForm, IsJudged, refusal_of}
 use Rattle.zunpack.proofs.Cutting.{cut_behind, one_way}
 
 -- ---- numbers

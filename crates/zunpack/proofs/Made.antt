@@ -1,33 +1,32 @@
 -- What is made of a compressed save: the plain one that tells the same, or the lowest refusal.
-use Rattle.std.proofs.Common.{◌≡◌, ◌⊎◌, inl, inr, ℕ, zero, suc, ◌+◌, ◌-◌, ◌*◌, ◌%◌, ◌^◌, ◌<◌, ◌≤◌, Bool, true, false, List, [], ◌∷◌, ◌++◌, length, take, drop, Option, Some, None, Result, Ok, Err, refl, sym, ap, subst, ◌∙◌, append_assoc, arith, length-append}
-use Rattle.std.specs.Prelude.{◌≢◌, ◌==◌, is_err, is_some, replicate, slice_range, nat_le, IfOk, IfErr, OnOk}
+use Rattle.std.proofs.Common.{◌≡◌, ◌⊎◌, inl, inr, ℕ, zero, suc, ◌+◌, ◌-◌, ◌%◌, ◌^◌, ◌<◌, ◌≤◌, true, false, List, [], ◌∷◌, ◌++◌, length, take, drop, Option, Some, None, Result, Ok, Err, refl, sym, ap, subst, ◌∙◌, append_assoc, arith, length-append}
+use Rattle.std.specs.Prelude.{◌≢◌, ◌==◌, is_some, replicate, slice_range, nat_le, OnOk}
 use Rattle.std.specs.List.{flat_map, AllByRecursion}
-use Rattle.std.proofs.lemmas.Bool.{cases_Bool, eqb-true, eqb-false, eq-eqb, leb-true, leb-false, cases_lt}
+use Rattle.std.proofs.lemmas.Bool.{cases_Bool, eqb-true, eqb-false, leb-true, leb-false}
 use Rattle.std.proofs.lemmas.List.{append-nil, length-take, length-drop, drop-drop}
 use Rattle.byteorder.specs.Endian.{big_bytes, big_number}
 use Rattle.zstory.specs.LoadedStory.{LoadedStory, IsSound, static_base}
 use Rattle.zquetzal.specs.declared.error.SaveError.{SaveError}
 use Rattle.zquetzal.specs.declared.error.SaveError.TheVariants as saves
 use Rattle.zquetzal.specs.declared.origin.Origin.{Origin}
-use Rattle.zquetzal.specs.declared.limits.TheConstants.{FORM, IFZS, IFHD, UMEM, CMEM, STKS, MOST_FRAMES}
-use Rattle.zquetzal.specs.Saved.{Saved, Frame, IsFrame, AreFrames, IsSaved, origin_of}
-use Rattle.zquetzal.specs.Grammar.{Chunk, IsChunk, chunk_bytes, form_bytes, header_bytes, frames_bytes, header_chunk, stacks_chunk, save_text, IsOrigin, Names, ReadsAs}
+use Rattle.zquetzal.specs.declared.limits.TheConstants.{FORM, IFZS, IFHD, UMEM, CMEM, STKS}
+use Rattle.zquetzal.specs.Saved.{Saved, Frame, AreFrames, IsSaved, origin_of}
+use Rattle.zquetzal.specs.Grammar.{Chunk, IsChunk, chunk_bytes, form_bytes, header_bytes, frames_bytes, save_text}
 use Rattle.zquetzal.specs.Reading.{is_of, frames_of, reading}
-use Rattle.zquetzal.specs.Causes.{IsNoForm, AreChunksOf, HasWrongLength, of_kind, IsMissing, IsLate, LacksChunk, IsRepeated, RepeatsChunk, NamesStory, TellsFrames, IsCause as IsSaveCause, HasNone as HasNoneOfSave}
+use Rattle.zquetzal.specs.Causes.{IsNoForm, AreChunksOf, HasWrongLength, of_kind, IsMissing, IsLate, LacksChunk, RepeatsChunk, NamesStory, TellsFrames, IsCause as IsSaveCause, HasNone as HasNoneOfSave}
 use Rattle.zquetzal.proofs.Numbers.{IsBytes, IsBytes-drop, number_again, number_fits, front_4}
-use Rattle.zquetzal.proofs.Saves.{HasHeader, header_again, header_takes, six_long, of_story, named, frames_of_again, frames_of_takes, frames_bound, header_long as saved_header_long, length-chunk, written, again}
+use Rattle.zquetzal.proofs.Saves.{header_again, header_takes, six_long, of_story, named, frames_of_again, frames_of_takes, frames_bound, header_long as saved_header_long, length-chunk, written, again}
 use Rattle.zquetzal.proofs.Steps.{ok_is}
 use Rattle.zquetzal.proofs.Lowest.{no_frames, names_other}
 use Rattle.zunpack.specs.declared.error.UnpackError.{UnpackError}
 use Rattle.zunpack.specs.declared.error.UnpackError.TheVariants as errors
-use Rattle.zunpack.specs.Refusal.{number_of}
-use Rattle.zunpack.specs.Packing.{Run, AreRuns, Packs, runs_of, runs_differences, changed, unpacked, unpacked_by}
-use Rattle.zunpack.specs.Causes.{RepeatsPart, IsFinished, FitsIn, IsFlaw, HasFlaw, IsCause, NoneBelow, IsLowest, HasNone, IsRefused}
+use Rattle.zunpack.specs.Packing.{Run, runs_of, runs_differences, changed, unpacked, unpacked_by}
+use Rattle.zunpack.specs.Causes.{RepeatsPart, IsFinished, FitsIn, IsCause, NoneBelow, IsLowest, HasNone, IsRefused}
 use Rattle.zunpack.specs.PackedSave.{dynamic_of, packed_chunk, PackedAs}
 use Rattle.zunpack.specs.View.{GivesSome, IsCut, IsForm, IsJudged, the_only, Parts, ArePartsOf, AreTaken, ArgueAgainst, ReadsBack, FailsFor, told, plain_header, plain_memory, plain_stacks, plain_chunks, plain_bytes}
-use Rattle.zunpack.proofs.Runs.{runs_again, runs_taken, length-changed, unpacked_again, unpacked_takes, told_is}
+use Rattle.zunpack.proofs.Runs.{runs_again, runs_taken, length-changed, unpacked_again, unpacked_takes}
 use Rattle.zunpack.proofs.Cutting.{cut_behind, one_cut, one_way, fits_cut, of_the_one, one_has, one_lacks, one_or, single_is}
-use Rattle.zunpack.proofs.Judged.{none_first, one_further, flawless, below_4, judged_of, long_enough}
+use Rattle.zunpack.proofs.Judged.{one_further, flawless, below_4, judged_of, long_enough}
 
 -- ---- a header
 

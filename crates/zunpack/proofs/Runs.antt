@@ -1,5 +1,5 @@
 -- Bytes as runs: what is spelled is read, and what is read is spelled.
-use Rattle.std.proofs.Common.{◌≡◌, ◌⊎◌, inl, inr, ℕ, zero, suc, ◌+◌, ◌-◌, ◌<◌, ◌≤◌, Bool, true, false, List, [], ◌∷◌, ◌++◌, length, take, drop, get_or, Option, Some, None, Result, Ok, Err, refl, sym, ap, subst, ◌∙◌, append_assoc, arith, length-append}
+use Rattle.std.proofs.Common.{◌≡◌, inl, inr, ℕ, zero, suc, ◌-◌, ◌<◌, ◌≤◌, List, [], ◌∷◌, ◌++◌, length, take, drop, get_or, Option, Some, None, Result, Ok, Err, refl, sym, ap, subst, ◌∙◌, append_assoc, arith, length-append}
 use Rattle.std.specs.Prelude.{replicate, nat_le}
 use Rattle.std.specs.List.{flat_map, AllByRecursion}
 use Rattle.std.specs.Int.Bits.{bit_xor, xor_self, xor_zero_l, xor_zero_r, xor_assoc}
@@ -10,7 +10,7 @@ use Rattle.zquetzal.proofs.Numbers.{IsBytes, IsBytes-drop}
 use Rattle.zunpack.specs.declared.error.UnpackError.{UnpackError}
 use Rattle.zunpack.specs.declared.error.UnpackError.TheVariants.{Unfinished, TooLong}
 use Rattle.zunpack.specs.Packing.{Run, Changed, Same, IsRun, run_bytes, run_differences, runs_differences, AreRuns, differences, Packs, with_run, runs_of, changed, unpacked_by, unpacked, run_for, packed}
-use Rattle.zunpack.specs.View.{run_at, told, Measures}
+use Rattle.zunpack.specs.View.{run_at, told}
 
 -- ---- runs
 

@@ -1,5 +1,5 @@
 -- Values of the definitions, computed.
-use Rattle.std.proofs.Common.{◌≡◌, List, [], ◌∷◌, length, Some, None, Ok, Err, refl}
+use Rattle.std.proofs.Common.{◌≡◌, [], ◌∷◌, length, Some, None, Ok, Err, refl}
 use Rattle.zunpack.specs.declared.error.UnpackError.TheVariants.{NotForm, Length, ChunkMissing, ChunkTwice, Plain, OtherStory, Unfinished, TooLong, Frames, OutOfMemory}
 use Rattle.zunpack.specs.Packing.{Changed, Same, run_bytes, run_differences, runs_of, differences, changed, unpacked, packed}
 use Rattle.zunpack.specs.Refusal.{number_of}

@@ -1,5 +1,5 @@
 -- Why bytes can't be unpacked: each cause with its number, and which of several decides (Q 2, 3, 4, 5, 8, own).
-use Rattle.std.specs.Prelude.{◌≡◌, ◌⊎◌, ℕ, ◌<◌, ◌≤◌, List, length}
+use Rattle.std.specs.Prelude.{◌⊎◌, ℕ, ◌<◌, ◌≤◌, List, length}
 use Rattle.std.specs.List.{AllByRecursion}
 use Rattle.zstory.specs.LoadedStory.{LoadedStory}
 use Rattle.zquetzal.specs.declared.limits.TheConstants.{UMEM, CMEM}

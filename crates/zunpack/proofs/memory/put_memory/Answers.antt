@@ -1,4 +1,4 @@
-use Rattle.std.proofs.Common.{◌≡◌, ◌++◌, List, ℕ, length, sym, ap, ◌∙◌, arith, length-append}
+use Rattle.std.proofs.Common.{◌++◌, List, ℕ, length, sym, ap, ◌∙◌, arith, length-append}
 use Rattle.zunpack.specs.Packing.{changed, run_differences}
 use Rattle.zunpack.specs.View.{seen_run, told}
 use Rattle.zunpack.proofs.Runs.{run_told}

@@ -1,4 +1,4 @@
-use Rattle.std.proofs.Common.{◌≡◌, ◌<◌, ◌≤◌, ◌+◌, ◌++◌, suc, List, ℕ, length, take, drop, ap, ◌∙◌, arith}
+use Rattle.std.proofs.Common.{◌≡◌, ◌≤◌, ◌+◌, ◌++◌, suc, List, ℕ, length, take, drop, ap, ◌∙◌, arith}
 use Rattle.zunpack.specs.Packing.{changed, Same, run_differences}
 use Rattle.zunpack.proofs.Runs.{few_same, same_more}
 use Rattle.zunpack.proofs.memory.put_run.Goals as goal

@@ -1,4 +1,4 @@
-use Rattle.std.proofs.Common.{◌≡◌, Bool, true, false, refl, sym, ◌∙◌, rules, tests}
+use Rattle.std.proofs.Common.{◌≡◌, true, false, refl, sym, ◌∙◌, rules, tests}
 use Rattle.std.specs.Prelude.{is_some}
 use Rattle.zquetzal.specs.declared.limits.TheConstants.{UMEM}
 use Rattle.zquetzal.specs.Causes.{of_kind}

@@ -1,4 +1,4 @@
-use Rattle.std.proofs.Common.{◌≡◌, rules}
+use Rattle.std.proofs.Common.{rules}
 use Rattle.zquetzal.proofs.Numbers.{IsBytes}
 use Rattle.zunpack.specs.Causes.{IsCause, IsLowest}
 use Rattle.zunpack.specs.View.{HasParts, seen_parts}

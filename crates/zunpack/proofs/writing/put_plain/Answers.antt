@@ -1,7 +1,6 @@
-use Rattle.std.proofs.Common.{◌≡◌, ◌++◌, ℕ, List, length, ap, ◌∙◌}
+use Rattle.std.proofs.Common.{◌++◌, ℕ, List, length, ap, ◌∙◌}
 use Rattle.std.specs.Prelude.{◌%◌, replicate}
 use Rattle.zquetzal.specs.declared.limits.TheConstants.{UMEM}
-use Rattle.byteorder.specs.Endian.{big_bytes}
 use Rattle.zunpack.specs.Packing.{changed}
 use Rattle.zunpack.specs.View.{told}
 use Rattle.zunpack.proofs.Runs.{length-changed}
