@@ -219,29 +219,11 @@ none_due view (Some x) due gives e = absurd cc
 pub both_there : (body d : List ℕ) (cs : List Chunk) → IsJudged body → IsCut body cs → the_only (of_kind UMEM cs) ≡ Some d → RepeatsPart cs
 both_there body d cs is cut e = inr (inr (there d (of_kind UMEM cs) e, (judged_so body cs is cut).2))
 
-no_header : (cs : List Chunk) → Whole cs → the_only (of_kind IFHD cs) ≡ None → ⊥
-no_header cs is e = elim (one_or (of_kind IFHD cs) e) [
-  | inl none ↦ is.0 (inl none)
-  | inr many ↦ is.1 (inl many)
-]
-
-no_stacks : (cs : List Chunk) → Whole cs → the_only (of_kind STKS cs) ≡ None → ⊥
-no_stacks cs is e = elim (one_or (of_kind STKS cs) e) [
-  | inl none ↦ is.0 (inr (inl none))
-  | inr many ↦ is.1 (inr (inl many))
-]
-
 no_plain : (cs : List Chunk) → Whole cs → the_only (of_kind UMEM cs) ≡ None → of_kind UMEM cs ≡ []
 no_plain cs is e = elim (one_or (of_kind UMEM cs) e) [
   | inl none ↦ none
   | inr many ↦ absurd (is.1 (inr (inr many)))
 ]
-
-pub header_there : (body : List ℕ) (cs : List Chunk) → IsJudged body → IsCut body cs → the_only (of_kind IFHD cs) ≡ None → RepeatsPart cs
-header_there body cs is cut e = absurd (no_header cs (judged_so body cs is cut) e)
-
-pub stacks_there : (body : List ℕ) (cs : List Chunk) → IsJudged body → IsCut body cs → the_only (of_kind STKS cs) ≡ None → RepeatsPart cs
-stacks_there body cs is cut e = absurd (no_stacks cs (judged_so body cs is cut) e)
 
 pub packed_twice : (body : List ℕ) (cs : List Chunk) → IsJudged body → IsCut body cs → the_only (of_kind CMEM cs) ≡ None → RepeatsPart cs
 packed_twice body cs is cut e = elim (one_or (of_kind CMEM cs) e) [

@@ -8,7 +8,7 @@ use Rattle.std.proofs.lemmas.Bool.{le-leb, lt-leb, leb-true, cases_Bool}
 use Rattle.std.proofs.lemmas.List.{append-nil, length-replicate}
 use Rattle.zquetzal.proofs.Numbers.{IsBytes, IsBytes-drop}
 use Rattle.zunpack.specs.declared.error.UnpackError.{UnpackError}
-use Rattle.zunpack.specs.declared.error.UnpackError.TheVariants.{Unfinished, TooLong}
+use Rattle.zunpack.specs.declared.error.UnpackError.TheVariants.{TooLong}
 use Rattle.zunpack.specs.Packing.{Run, Changed, Same, IsRun, run_bytes, run_differences, runs_differences, AreRuns, differences, Packs, with_run, runs_of, changed, unpacked_by, unpacked, run_for, packed}
 use Rattle.zunpack.specs.View.{run_at, told}
 
@@ -251,9 +251,6 @@ changed_zeros_then (suc n) [] ds few = absurd (omega (arith, few))
 changed_zeros_then (suc n) (b ∷ bytes) ds few = rw (xor_zero_r b, changed_zeros_then n bytes ds (omega (arith, few))) refl
 
 -- what is refused is no memory's
-pub refused_runs : (dynamic bytes : List ℕ) → runs_of bytes ≡ None → unpacked dynamic bytes ≡ Err Unfinished
-refused_runs dynamic bytes e = ap (unpacked_by dynamic) e
-
 pub refused_length : (dynamic bytes : List ℕ) (runs : List Run) → runs_of bytes ≡ Some runs → length dynamic < length (told bytes) → unpacked dynamic bytes ≡ Err TooLong
 refused_length dynamic bytes runs e many =
     let ds = runs_differences runs in
