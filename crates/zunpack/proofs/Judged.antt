@@ -97,8 +97,8 @@ form_of story bytes is =
       packed = is.holds.flaw;
     }
 
-pub judged_of : (story : LoadedStory) (bytes : List ℕ) (cs : List Chunk) → IsForm bytes cs → IsJudged (drop 12 bytes)
-judged_of story bytes cs is = record { chunks = cs; cut = cut_behind bytes cs is.are; whole = is.whole; single = is.single; packed = is.packed }
+pub judged_of : (bytes : List ℕ) (cs : List Chunk) → IsForm bytes cs → IsJudged (drop 12 bytes)
+judged_of bytes cs is = record { chunks = cs; cut = cut_behind bytes cs is.are; whole = is.whole; single = is.single; packed = is.packed }
 
 pub long_enough : (bytes : List ℕ) → ¬ IsNoForm bytes → 12 ≤ length bytes
 long_enough bytes form =

@@ -95,8 +95,8 @@ pub record AreParted (story : LoadedStory) (bytes : List ℕ) (cs : List Chunk) 
 abbrev HasBytes : Chunk → Type 0
 HasBytes c = IsBytes c.contents
 
-bytes_of : (story : LoadedStory) (bytes : List ℕ) (cs : List Chunk) (id : ℕ) (c : Chunk) → IsForm bytes cs → IsBytes bytes → of_kind id cs ≡ c ∷ [] → IsBytes c.contents
-bytes_of story bytes cs id c form fits e = of_the_one HasBytes id cs c (fits_cut (drop 12 bytes) cs (IsBytes-drop 12 bytes fits) (cut_behind bytes cs form.are)) e
+bytes_of : (bytes : List ℕ) (cs : List Chunk) (id : ℕ) (c : Chunk) → IsForm bytes cs → IsBytes bytes → of_kind id cs ≡ c ∷ [] → IsBytes c.contents
+bytes_of bytes cs id c form fits e = of_the_one HasBytes id cs c (fits_cut (drop 12 bytes) cs (IsBytes-drop 12 bytes fits) (cut_behind bytes cs form.are)) e
 
 pub header_long : (story : LoadedStory) (bytes : List ℕ) (cs : List Chunk) (p : Parts) → AreParted story bytes cs p → length p.header ≡ 13
 header_long story bytes cs p is = (of_the_one IsChunk IFHD cs _ is.form.are.each is.parts.header).header refl
@@ -105,13 +105,13 @@ pub packed_short : (story : LoadedStory) (bytes : List ℕ) (cs : List Chunk) (p
 packed_short story bytes cs p is = (of_the_one IsChunk CMEM cs _ is.form.are.each is.parts.compressed).size
 
 header_fits : (story : LoadedStory) (bytes : List ℕ) (cs : List Chunk) (p : Parts) → AreParted story bytes cs p → IsBytes p.header
-header_fits story bytes cs p is = bytes_of story bytes cs IFHD _ is.form is.fits is.parts.header
+header_fits story bytes cs p is = bytes_of bytes cs IFHD _ is.form is.fits is.parts.header
 
 packed_fits : (story : LoadedStory) (bytes : List ℕ) (cs : List Chunk) (p : Parts) → AreParted story bytes cs p → IsBytes p.packed
-packed_fits story bytes cs p is = bytes_of story bytes cs CMEM _ is.form is.fits is.parts.compressed
+packed_fits story bytes cs p is = bytes_of bytes cs CMEM _ is.form is.fits is.parts.compressed
 
 stacks_fit : (story : LoadedStory) (bytes : List ℕ) (cs : List Chunk) (p : Parts) → AreParted story bytes cs p → IsBytes p.stacks
-stacks_fit story bytes cs p is = bytes_of story bytes cs STKS _ is.form is.fits is.parts.stacks
+stacks_fit story bytes cs p is = bytes_of bytes cs STKS _ is.form is.fits is.parts.stacks
 
 -- a memory is there once, and compressed
 never_twice : (ms ks : List Chunk) (k : Chunk) → ms ≡ [] → ks ≡ k ∷ [] → ¬ ((1 < length ks) ⊎ ((¬ (ms ≡ [])) × (¬ (ks ≡ []))))
@@ -635,5 +635,5 @@ behind_head file = take_whole (length file - 12) (drop 12 file) (sym (length-dro
 pub cut_part : (file : List ℕ) (cs : List Chunk) → AreChunksOf file cs → IsCut (take (length file - 12) (drop 12 file)) cs
 cut_part file cs are = subst (λ (x : List ℕ). IsCut x cs) (sym (behind_head file)) (cut_behind file cs are)
 
-pub judged_part : (story : LoadedStory) (file : List ℕ) (cs : List Chunk) → IsForm file cs → IsJudged (take (length file - 12) (drop 12 file))
-judged_part story file cs is = subst (λ (x : List ℕ). IsJudged x) (sym (behind_head file)) (judged_of story file cs is)
+pub judged_part : (file : List ℕ) (cs : List Chunk) → IsForm file cs → IsJudged (take (length file - 12) (drop 12 file))
+judged_part file cs is = subst (λ (x : List ℕ). IsJudged x) (sym (behind_head file)) (judged_of file cs is)

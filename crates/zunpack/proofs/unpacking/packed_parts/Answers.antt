@@ -21,7 +21,7 @@ slice_bounds-parts_of-count c =
 pub parts_of-requires : goal.parts_of-requires
 parts_of-requires c =
     let chosen = c.in_ok-check_form.ensures.ok in
-    judged_part c.args.story.now c.args.file.now chosen.holds.chunks (form_of c.args.story.now c.args.file.now chosen)
+    judged_part c.args.file.now chosen.holds.chunks (form_of c.args.story.now c.args.file.now chosen)
 
 pub returns-clause-ok : goal.returns-clause-ok
 returns-clause-ok c =
