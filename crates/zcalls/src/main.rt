@@ -4,7 +4,8 @@
 //!
 //! With the names of a story, of its certificate and of saves as its words it compares both machines instead, step by step: from the
 //! opening, or from each save. With `pieces`, the name of a story and those of files it feeds these to a stream that checks the story,
-//! one after another, and with `cuts` it feeds each of them in pieces of many sizes.
+//! one after another, and with `cuts` it feeds each of them in pieces of many sizes. With `debug` and the names of files that Inform 6 wrote
+//! about stories it prints what these answer.
 #![tactic(auto)]
 
 mod accepting;
@@ -13,6 +14,7 @@ mod machine;
 mod outside;
 mod pair;
 mod pieces;
+mod places;
 mod saving;
 mod single;
 mod streams;
@@ -21,6 +23,7 @@ use crate::accepting::{accept, has_lists};
 use crate::cutting::{compare_cuts, feed_files};
 use crate::pair::compare;
 use crate::pieces::{Way, go};
+use crate::places::answer_files;
 use crate::saving::{save_and_restore, write_parts};
 use crate::single::call_each;
 use std::alloc::AllocError;
@@ -51,6 +54,7 @@ fn main(rt: HostRuntime) -> io::Result<()> {
         [kind, story, files @ ..] if kind.as_str() == "cuts" => return compare_cuts(
             &rt, story, files,
         ),
+        [kind, files @ ..] if kind.as_str() == "debug" => return answer_files(&rt, files),
         [story, certificate, saves @ ..] => {
             return compare_files(&rt, story, certificate, saves);
         }
