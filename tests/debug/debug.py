@@ -189,16 +189,23 @@ def see_shown(program, count, file):
         count.see(line in lines, f"{new}: not told: {line}")
 
 
+def written(source, *options):
+    """What the compiler writes of a source."""
+    with tempfile.TemporaryDirectory(prefix="zpc-") as room:
+        for path in (source, os.path.join(HERE, "ebb&flow.h")):
+            shutil.copy(path, room)
+        words = ["inform6", "-v3", "-k", "-w", *options, os.path.basename(source), "story.z3"]
+        subprocess.run(words, cwd=room, check=True, stdout=subprocess.DEVNULL)
+        with open(os.path.join(room, "gameinfo.dbg"), "rb") as file:
+            return file.read()
+
+
 def see_compiled(program, count):
-    """What the compiler writes now, of each source of the tests."""
-    sources = [os.path.join(HERE, "tide.inf"), os.path.join(TOP, "crates/zpc/data/bell.inf"), *sorted(glob.glob(os.path.join(TOP, "tests/authors/*.inf")))]
-    for source in sources:
-        with tempfile.TemporaryDirectory(prefix="zpc-") as room:
-            for path in (source, os.path.join(HERE, "ebb&flow.h")):
-                shutil.copy(path, room)
-            subprocess.run(["inform6", "-v3", "-k", "-w", os.path.basename(source), "story.z3"], cwd=room, check=True, stdout=subprocess.DEVNULL)
-            with open(os.path.join(room, "gameinfo.dbg"), "rb") as written:
-                see_another(program, count, os.path.basename(source), written.read())
+    """What the compiler writes now, of each source of the tests, and of one from which it leaves out a routine that nobody calls."""
+    own = os.path.join(HERE, "tide.inf")
+    see_another(program, count, "a routine left out", written(own, "$OMIT_UNUSED_ROUTINES=1"))
+    for source in [own, os.path.join(TOP, "crates/zpc/data/bell.inf"), *sorted(glob.glob(os.path.join(TOP, "tests/authors/*.inf")))]:
+        see_another(program, count, os.path.basename(source), written(source))
 
 
 def main():
