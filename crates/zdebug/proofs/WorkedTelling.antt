@@ -2,7 +2,6 @@
 use Rattle.std.proofs.Common.{◌≡◌, ℕ, Bool, true, cond, List, [], ◌∷◌, None, Some, Ok, Err, length, refl, ap}
 use Rattle.std.specs.Fmt.{digits}
 use Rattle.std.specs.Prelude.{codes, nat_lt}
-use Rattle.zdebug.specs.Places.{Spot}
 use Rattle.zdebug.specs.Records.{Found, nothing}
 use Rattle.zdebug.specs.Reading.{file_reading, reading}
 use Rattle.zdebug.specs.Refusal.{number_of}
