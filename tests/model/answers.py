@@ -151,6 +151,7 @@ def played(case, tally):
 
 COMMANDS = {"list": listed, "check": checked, "play": played}
 FLAGS = {"--status", "--tell", "--force", "--strict", "--places"}
+PLACE = rb"( at ([0-9a-f]{5}|-[0-9]+|[0-9]{7,}))?"  # as `at` tells it
 NONE_FOUND = re.compile(
-    rb"refused: (?:G1\nbroken: (S[1-8])|(G[12])( at [0-9a-f]{5})?\n(no certificate: [SIU][0-9]{1,2}( at [0-9a-f]{5})?|not found))\n"
+    rb"refused: (?:G1\nbroken: (S[1-8])|(G[12])" + PLACE + rb"\n(no certificate: [SIU][0-9]{1,2}" + PLACE + rb"|not found))\n"
 )
