@@ -160,6 +160,8 @@ def one_global(draw, made):
 
 def one_place(draw, made):
     """Leaves an instruction out, gives it another routine, or another height."""
+    if not made.instructions:
+        return
     place = draw.choice(sorted(made.instructions))
     number, values, slots = made.instructions.pop(place)
     way = draw.random()
