@@ -1,4 +1,4 @@
-"""Certificates of versions 1 to 4 as docs/CERTIFICATE.md spells them: how a file is read, and its first refusal (K1 to K7, K9).
+"""Certificates of versions 1 to 5 as docs/CERTIFICATE.md spells them: how a file is read, and its first refusal (K1 to K7, K9).
 
 Each number of the table there is a field by itself, also of a row that has several."""
 import struct
@@ -7,17 +7,17 @@ from sets import SMALL, Numbers
 from stories import Refused
 
 PLACES, LOCALS, HEIGHT, INSTRUCTIONS, FRAMES, USUAL = 131072, 15, 64, 131072, 4096, 1024
-VERSIONS, MARK = (1, 2, 3, 4), 0x80
+VERSIONS, MARK, FACTS = (1, 2, 3, 4, 5), 0x80, 1048576
 
 
 class Certificate:
     """What a certificate says. Routines are (address, count of locals, result), an instruction at an address is (routine, locals, slots). Marks
-    are the addresses of those that are marked."""
+    are the addresses of those that are marked, and facts are sets by addresses and globals, which are counted from variable 16 on."""
 
     def __init__(self):
         self.ranges, self.globals, self.routines, self.instructions, self.marks = [], [], [], {}, set()
         self.header = self.length = None
-        self.version, self.limit = 1, USUAL
+        self.version, self.limit, self.facts = 1, USUAL, {}
 
     @property
     def has_lists(self):
@@ -30,6 +30,14 @@ class Certificate:
     @property
     def has_marks(self):
         return self.version > 3
+
+    @property
+    def has_facts(self):
+        return self.version > 4
+
+    def facts_at(self, address):
+        """The sets that are stated at an address, by globals."""
+        return self.facts.get(address, {}) if self.has_facts else {}
 
 
 class Fields:
@@ -92,6 +100,8 @@ def read(file):
     made.globals = [fields.set() for _ in range(240)]
     read_routines(fields, made)
     read_instructions(fields, made)
+    if made.has_facts:
+        read_facts(fields, made)
     require(fields.at == len(file), "K4")
     return made
 
@@ -130,3 +140,17 @@ def read_instructions(fields, made):
         values = [fields.set() for _ in range(made.routines[number - 1][1] if number else 0)]
         made.instructions[address] = (number, values, [fields.set() for _ in range(height)])
         before = address
+
+
+def read_facts(fields, made):
+    count, floor, least = fields.take(">I"), 0, 0
+    require(count <= FACTS, "K7")
+    for _ in range(count):
+        address = fields.take(">I")
+        require(address >= floor, "K5")
+        require(address < PLACES, "K7")
+        number = fields.take(">B")
+        require(number >= (least if address == floor else 0), "K5")
+        require(number < len(made.globals), "K7")
+        made.facts.setdefault(address, {})[number] = fields.set()
+        floor, least = address, number + 1

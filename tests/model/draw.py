@@ -214,7 +214,7 @@ def marked(draw, story, certificate):
         made, loaded = certificates.read(certificate), Story(story)
     except Refused:
         return certificate
-    made.version = 4
+    made.version = max(made.version, 4)
     if draw.random() < 0.6:
         marking.mark_broken(loaded, made)
         if draw.random() < 0.4:

@@ -1,7 +1,7 @@
 """What may come of an instruction: its edges that can be taken, each with what is known after it (docs/CERTIFICATE.md, "What is known after
 an instruction")."""
 from intervals import ALL, BYTE, by_ends, hull, single, told, worked_out
-from sets import has, left_of, packed
+from sets import has, left_of, packed, within
 from stories import signed, word_at
 
 NEVER_TAKEN = {"quit", "restart"}
@@ -9,10 +9,12 @@ RETURNS = {"rtrue": 1, "rfalse": 0, "print_ret": 1}
 
 
 class Edge:
-    """One way behind an instruction: locals and slots after it, what globals are given, and where it leads or what it returns."""
+    """One way behind an instruction: locals and slots after it, what globals are given, what else is known of globals then, by their indices, and
+    where it leads or what it returns."""
 
     def __init__(self, site):
         self.site, self.locals, self.slots, self.globals = site, list(site.locals), list(site.slots), []
+        self.facts = dict(site.facts)
         self.goes, self.returned = site.it.end, None
 
     @property
@@ -33,6 +35,11 @@ class Edge:
             self.locals[number - 1] = value
         else:
             self.globals.append((number, value))
+            self.facts[number - 16] = value
+
+    def lies_in(self, number, kept):
+        """Whether all that a global may be after it lies in a set."""
+        return within(self.facts.get(number, self.site.known.certificate.globals[number]), kept)
 
 
 def edges_of(site):
@@ -127,12 +134,19 @@ def calls(site):
     """The edges of a call: a routine is entered, of each that may be, and 0 is called."""
     called, found = site.values[0], []
     if called != (0, 0):
-        found += [behind(site, it) for at, _, it in site.known.certificate.routines if at % 2 == 0 and at and has_word(called, at // 2)]
+        found += [returned(site, it) for at, _, it in site.known.certificate.routines if at % 2 == 0 and at and has_word(called, at // 2)]
     return found + ([behind(site, (0, 0))] if has(called, 0) else [])
 
 
 def has_word(some, word):
     return has(some, signed(word))
+
+
+def returned(site, value):
+    """The edge behind a routine, which may have given each global any value of its own set."""
+    edge = behind(site, value)
+    edge.facts = {}
+    return edge
 
 
 def behind(site, value):
@@ -169,7 +183,7 @@ def lead(site, edge):
 
 
 def narrow(site, edge, left):
-    """Keeps what is told of locals; False where nothing is left of a value."""
+    """Keeps what is told of locals and globals; False where nothing is left of a value."""
     if None in left:
         return False
     for (is_variable, number), value, kept in zip(site.it.operands, site.values, left):
@@ -180,6 +194,8 @@ def narrow(site, edge, left):
             if both is None:
                 return False
             edge.locals[number - 1] = both
+        elif is_variable and number >= 16:
+            edge.facts[number - 16] = left_of(value, kept)
     return True
 
 

@@ -32,7 +32,12 @@ def is_same_story(known):
 
 def begins_listed(known):
     found = known.certificate.instructions.get(known.story.first)
-    return found is not None and found[0] == 0 and not found[2]
+    return found is not None and found[0] == 0 and not found[2] and hold_anyway(known.certificate, known.story.first)
+
+
+def hold_anyway(certificate, place):
+    """Whether the facts at a place hold of all that the globals may have."""
+    return all(within(certificate.globals[number], kept) for number, kept in certificate.facts_at(place).items())
 
 
 def has_routines(known):
@@ -196,8 +201,9 @@ def enters(site, word):
     if number is None:
         return False
     head, count, _ = certificate.routines[number - 1]
-    found = certificate.instructions.get(head + 1 + 2 * count)
-    if found is None or found[0] != number or found[2]:
+    first = head + 1 + 2 * count
+    found = certificate.instructions.get(first)
+    if found is None or found[0] != number or found[2] or not hold_anyway(certificate, first):
         return False
     initial = [(it, it) for it in (site.known.loaded_word(head + 1 + 2 * k) for k in range(count))]
     initial[: len(site.values) - 1] = site.values[1 : count + 1]
@@ -256,7 +262,10 @@ def goes_on(site, edge):
     """I4, of one edge."""
     if edge.returned is not None:
         return True
-    found = site.known.certificate.instructions.get(edge.goes)
+    certificate = site.known.certificate
+    found = certificate.instructions.get(edge.goes)
+    if not all(edge.lies_in(number, kept) for number, kept in certificate.facts_at(edge.goes).items()):
+        return False
     if found is None or found[0] != site.routine or len(found[2]) != len(edge.slots):
         return False
     return all(within(value, kept) for value, kept in zip(edge.locals + edge.slots, found[1] + found[2]))

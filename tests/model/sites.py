@@ -16,7 +16,7 @@ class Site:
     def __init__(self, known, it):
         self.known, self.story, self.it, self.has_lists = known, known.story, it, known.certificate.has_lists
         self.routine, values, slots = known.certificate.instructions[it.place]
-        self.locals, self.slots = list(values), list(slots)
+        self.locals, self.slots, self.facts = list(values), list(slots), known.certificate.facts_at(it.place)
         self.lacks_slot = self.lacks_local = False
         self.values = [self.variable(number) if is_variable else single(number) for is_variable, number in it.operands]
         self.taken = self.pop() if it.name in POPPING else None
@@ -36,7 +36,7 @@ class Site:
     def kept(self, number):
         """The set of a local or a global, or None where there is no such local."""
         if number >= 16:
-            return self.known.certificate.globals[number - 16]
+            return self.facts.get(number - 16, self.known.certificate.globals[number - 16])
         if number > len(self.locals):
             self.lacks_local = True
             return None

@@ -219,6 +219,18 @@ def one_mark(draw, made):
         made.marks ^= {draw.choice(sorted(made.marks) if made.marks and draw.random() < 0.5 else sorted(made.instructions))}
 
 
+def one_fact(draw, made):
+    """Leaves a fact out, changes it, has it at another place, or states one more."""
+    way, stated = draw.random(), [(place, number) for place, several in made.facts.items() for number in several]
+    place, number = draw.choice(stated) if stated else (draw.choice(sorted(made.instructions)), draw.randrange(240))
+    some = made.facts.get(place, {}).pop(number, made.globals[number])
+    if way < 0.2:
+        return
+    if way < 0.6:
+        place = draw.choice(sorted(made.instructions))
+    made.facts.setdefault(place, {})[number] = set_of(draw, some, True) if draw.random() < 0.8 else some
+
+
 def many_marks(draw, made):
     """Marks all instructions, some, or none."""
     rate = draw.choice([0, 0.05, 0.3, 1, 1])
@@ -236,7 +248,9 @@ def certificate_of(draw, file):
     if made.has_lists and draw.random() < 0.1:
         misspell(draw, made)
     if made.names_limit and draw.random() < 0.1:
-        made.version = draw.choice([3, 4])
+        made.version = draw.choice([3, 4, 5])
+    if made.has_facts and made.instructions and draw.random() < 0.5:
+        one_fact(draw, made)
     if draw.random() < (0.3 if made.has_marks else 0.05):
         draw.choice([one_mark, one_mark, many_marks])(draw, made)
     if made.names_limit and draw.random() < 0.2:
@@ -276,6 +290,10 @@ def spelled(made):
     for place, (number, values, slots) in sorted(made.instructions.items()):
         parts.append(struct.pack(">IHB", place, number, len(slots) | certificates.MARK * (place in made.marks)))
         parts += [spell(it) for it in values + slots]
+    if made.has_facts:
+        facts = [(place, *it) for place, stated in sorted(made.facts.items()) for it in sorted(stated.items())]
+        parts.append(struct.pack(">I", len(facts)))
+        parts += [struct.pack(">IB", place, number) + spell(some) for place, number, some in facts]
     return b"".join(parts)
 
 

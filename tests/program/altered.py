@@ -57,7 +57,7 @@ STORY_BYTES = [
 ]
 CERTIFICATE_BYTES = [
     ("another version", 4, [9], "K2"),
-    ("version 5", 4, [5], "K2"),
+    ("version 6", 4, [6], "K2"),
     ("an address twice", 990, [0x29], "K5"),
     ("another first address", 990, [0x25], "S2"),
     ("one instruction", 986, [1], "K4"),

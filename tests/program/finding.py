@@ -275,7 +275,7 @@ def see_marked(program, count):
         if marked is None or written is None:
             continue
         many = int(marked[1] or b"0")
-        count.see(written[4] == 4, f"{name}, find with marks: no certificate of version 4 was written")
+        count.see(written[4] == 5, f"{name}, find with marks: no certificate of version 5 was written")
         count.is_answer(f"{name}, check with marks", check, Answer(0, answer.output.replace(b"found", b"accepted"), b""))
         told = re.findall(rb"^[0-9a-f]{5} .*\nmarked: I\d+: .*\n", lines.output, flags=re.M)
         count.see(lines.status == 0 and len(told) == many, f"{name}, list with marks: {lines}")

@@ -109,18 +109,26 @@ class Reader:
     def height(self, _):
         """How many slots the stack has before an instruction. From version 4 on bit 7 is no part of it: it marks the instruction."""
         found = self.number(1)
-        if self.version == 4 and found & 0x80:
+        if self.version > 3 and found & 0x80:
             self.marks += 1
             found -= 0x80
         if found > 64:
             raise Refused(7)
         return found
 
+    def facts(self):
+        floor = least = 0
+        for _ in range(self.number(4, 0, 1048576)):
+            address = self.number(4, floor, 131071)
+            least = self.number(1, least if address == floor else 0, 239) + 1
+            floor = address
+            self.set()
+
     def read(self):
         if self.take(4) != b"ZPCC":
             raise Refused(1)
         self.version = self.number(1)
-        if self.version not in (1, 2, 3, 4):
+        if self.version not in (1, 2, 3, 4, 5):
             raise Refused(2)
         for count in (2, 6, 2, 4):
             self.take(count)
@@ -138,6 +146,8 @@ class Reader:
             height = self.height(address)
             for _ in range(counts[routine] + height):
                 self.set()
+        if self.version > 4:
+            self.facts()
         if self.at < len(self.file):
             raise Refused(4)
 
@@ -212,8 +222,9 @@ CALLS = [
     ("a list of 64 of which all are given", table_listed(given=list_of(*range(-113, 15, 2))), None),
     # versions
     ("read as version 1", changed(LISTED, 4, 1), "K4"),
-    ("version 5", changed(LISTED, 4, 5), "K2"),
+    ("version 6", changed(LISTED, 4, 6), "K2"),
     ("read as version 4", changed(LISTED, 4, 4), "K7"),
+    ("read as version 5", changed(LISTED, 4, 5), "K7"),
     ("version 0", changed(LISTED, 4, 0), "K2"),
     ("version 255", changed(LISTED, 4, 255), "K2"),
     ("version 1 read as 2", changed(first_version((1, 2), (411, 413), (5, 7)), 4, 2), "K6"),

@@ -12,6 +12,7 @@ import tempfile
 import threading
 
 from arrays import see_arrays
+from asides import see_asides
 from calls import see_calls
 from dear import see_dear
 from facts import see_facts
@@ -28,6 +29,7 @@ from program import Answer, Count, Program
 from properties import see_properties
 from samples import CODE, HELLO, NEW_LINE, NOP, QUIT, certificate, changed, interval, story, with_objects
 from showing import see_showing
+from stated import see_stated
 from texts import see_texts
 from words import see_words
 
@@ -454,8 +456,10 @@ def main():
     see_marks(program, count)
     see_showing(program, count, help_text("no_address.txt"))
     see_facts(program, count)
+    see_stated(program, count)
     see_many(program, count, help_text("no_file_to_check.txt"), help_text("one_for_many.txt"))
     see_words(program, count)
+    see_asides(program, count)
     see_finding(program, count)
     see_dear(program, count)
     see_game(program, count)

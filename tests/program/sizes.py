@@ -15,10 +15,13 @@ import tempfile
 from calls import RET_POPPED, RTRUE, WIDE, call, call_with, deep, files, printing, routine
 from frames import MOST, limited
 from lines import telling
+from lists import run_of
+from marks import ANY
 from plays import PRINT_TOP, PUSH, ended, placed
 from program import Answer, Count, Program
 from samples import CODE, DICTIONARY, NEW_LINE, NOP, QUIT, STATIC, certificate, changed, interval, letter, printed, story, text, word
 from saves import RESTORE, SAVE
+from stated import stated
 
 LONGEST = 131072
 
@@ -158,6 +161,15 @@ def long_certificates(program, count):
         made = story(NEW_LINE * (instructions - 1) + QUIT)
         listed = certificate(made, range(CODE, CODE + instructions), values=WIDE)
         see(program, count, f"{instructions} instructions", made, listed, b"\n" * (instructions - 1))
+
+
+def many_facts(program, count):
+    """A certificate with a fact on each global at each of 250 instructions, and one with ten facts at each of 4,000."""
+    for instructions, globals_ in ((250, 240), (4000, 10)):
+        made = story(NEW_LINE * (instructions - 1) + QUIT)
+        addresses = range(CODE, CODE + instructions)
+        listed = stated(certificate(made, addresses), [(at, number, run_of(*ANY)) for at in addresses for number in range(globals_)])
+        see(program, count, f"{instructions * globals_} facts", made, listed, b"\n" * (instructions - 1))
 
 
 def long_texts(program, count):
@@ -415,6 +427,7 @@ GROWTH = [
     ("zcert new", "frozen ranges of one", most_ranges),
     ("zcert limited", "what `new` grows by: it names a limit besides", long_certificates),
     ("zcert marking", "what `new` grows by: it may mark besides", long_certificates),
+    ("zcert stating", "what `marking` grows by, and facts: it may state some", many_facts),
     ("zcert read", "what a certificate in pieces grows by: it is fed at once", long_certificates),
     ("zcert write", "instructions", searched),
     ("zcert write", "routines", many_routines),

@@ -2,16 +2,19 @@
 
 use std::fs;
 use std::io::{self, ErrorKind};
-use zcert::{CertError, Certificate, LIMIT_VERSION, LIST_VERSION, MARK_VERSION, Spelled};
+use zcert::{
+    CertError, Certificate, FACT_VERSION, LIMIT_VERSION, LIST_VERSION, MARK_VERSION, Spelled,
+};
 use zcheck::{Accepted, Refusal, check};
 use zstory::{LoadError, Story};
 
-/// Whether the file of a certificate is of version 2, 3 or 4.
+/// Whether the file of a certificate is of version 2, 3, 4 or 5.
 pub fn has_lists(file: &[u8]) -> bool {
     let version = file.get(4);
     version == Some(&LIST_VERSION)
         || version == Some(&LIMIT_VERSION)
         || version == Some(&MARK_VERSION)
+        || version == Some(&FACT_VERSION)
 }
 
 /// Accepts the story of a file with the certificate of another.

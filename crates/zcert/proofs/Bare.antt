@@ -30,11 +30,12 @@ module _ {V : Type 0} (format : Format V) where
   bare_rise floor [] rise = tt
   bare_rise floor (p ∷ ps) rise = (rise.0, bare_rise (p + 1) ps rise.1)
 
-  pub has_spelling : (i : Identity) (v : V) (ps : List ℕ) → IsIdentity i → format.Has v → length ps ≤ MAX_INSTRUCTIONS → AllByRecursion (λ p. p < ADDRESS_LIMIT) ps → Rise (λ (p : ℕ). p) 0 ps → HasSpelling format (record { identity = i; limit = None; marking = false; ranges = []; globals = replicate 240 v; routines = []; instructions = map bare ps })
+  pub has_spelling : (i : Identity) (v : V) (ps : List ℕ) → IsIdentity i → format.Has v → length ps ≤ MAX_INSTRUCTIONS → AllByRecursion (λ p. p < ADDRESS_LIMIT) ps → Rise (λ (p : ℕ). p) 0 ps → HasSpelling format (record { identity = i; limit = None; marking = false; stating = false; ranges = []; globals = replicate 240 v; routines = []; instructions = map bare ps; facts = [] })
   has_spelling i v ps identity has few low rise = record {
     identity = identity;
     limit = tt;
     marking = refl;
+    stating = refl;
     few_ranges = omega arith;
     ranges = tt;
     ranges_apart = tt;
@@ -47,4 +48,8 @@ module _ {V : Type 0} (format : Format V) where
     instructions = each_bare ps low;
     instructions_rise = bare_rise 0 ps rise;
     instructions_markable = bare_unmarked ps;
+    few_facts = omega arith;
+    facts = tt;
+    facts_rise = tt;
+    facts_stated = refl;
   }

@@ -1,5 +1,5 @@
 -- What is known of the fields that were taken: they are spelled one after another by the certificate that they make.
-use Rattle.std.proofs.Common.{◌≡◌, ℕ, zero, suc, ◌+◌, ◌<◌, Option, None, Some, List, [], ◌∷◌, ◌++◌, length, Result, Ok, Err, refl, sym, subst, arith, length-append}
+use Rattle.std.proofs.Common.{◌≡◌, ℕ, zero, suc, ◌+◌, ◌<◌, Bool, true, false, Option, None, Some, List, [], ◌∷◌, ◌++◌, length, Result, Ok, Err, refl, sym, subst, arith, length-append}
 use Rattle.std.specs.Prelude.{nat_le}
 use Rattle.std.specs.List.{AllByRecursion}
 use Rattle.zcert.specs.declared.error.CertError.{CertError}
@@ -8,16 +8,16 @@ use Rattle.zcert.specs.declared.field.Field.TheVariants as fields
 use Rattle.zcert.specs.declared.field.Header.{Header}
 use Rattle.zcert.specs.declared.field.Turn.{Turn}
 use Rattle.zcert.specs.declared.field.Turn.TheVariants as turns
-use Rattle.zcert.specs.declared.limits.TheConstants.{GLOBALS, ADDRESS_LIMIT, MAX_LOCALS, MAX_INSTRUCTIONS, MAX_RANGES, MAX_ROUTINES, MAX_HEIGHT, MAX_FRAMES}
+use Rattle.zcert.specs.declared.limits.TheConstants.{GLOBALS, ADDRESS_LIMIT, MAX_LOCALS, MAX_INSTRUCTIONS, MAX_RANGES, MAX_ROUTINES, MAX_HEIGHT, MAX_FRAMES, MAX_FACTS}
 use Rattle.zcert.specs.Certificate.{locals_of}
 use Rattle.zcert.specs.Marks.{height_in}
 use Rattle.zcert.specs.Format.{Format}
-use Rattle.zcert.specs.Reading.{address_fits}
-use Rattle.zcert.specs.Building.{Progress, opening, before_ranges, before_globals, before_routines, before_instructions, before_values, header_of, taken, all_taken, IsDue, after_release, after_serial, after_checksum, after_loaded_length, after_frame_limit, after_range_count, behind_identity, after_range_first, after_range_last, after_global, after_routine_count, after_routine_address, after_local_count, after_routine_result, after_instruction_count, after_instruction_address, after_routine_number, after_height, after_value}
+use Rattle.zcert.specs.Reading.{address_fits, global_fits}
+use Rattle.zcert.specs.Building.{Progress, opening, before_ranges, before_globals, before_routines, before_instructions, behind_instructions, before_facts, before_values, header_of, taken, all_taken, IsDue, after_release, after_serial, after_checksum, after_loaded_length, after_frame_limit, after_range_count, behind_identity, after_range_first, after_range_last, after_global, after_routine_count, after_routine_address, after_local_count, after_routine_result, after_instruction_count, after_instruction_address, after_routine_number, after_height, after_value, after_fact_count, after_fact_address, after_fact_global, after_fact_values}
 use Rattle.zcert.specs.Fields.{IsField, IsReached}
 use Rattle.zcert.specs.View.{Takes}
 use Rattle.zcert.specs.FormatLaw.Stepping.{bind_ok, need_ok, ok_is}
-use Rattle.zcert.proofs.Found.{address_is}
+use Rattle.zcert.proofs.Found.{address_is, global_is}
 
 -- ---- a part that is unfinished is as it should be
 
@@ -34,16 +34,24 @@ module _ {V : Type 0} where
   due_routines zero values = tt
   due_routines (suc n) values = tt
 
-  due_instructions : (n : ℕ) (values : List V) → IsDue (before_instructions n) values
-  due_instructions zero values = tt
-  due_instructions (suc n) values = tt
+  due_end : (stating : Bool) (values : List V) → IsDue (behind_instructions stating) values
+  due_end true values = tt
+  due_end false values = tt
+
+  due_instructions : (stating : Bool) (n : ℕ) (values : List V) → IsDue (before_instructions stating n) values
+  due_instructions stating zero values = due_end stating values
+  due_instructions stating (suc n) values = tt
+
+  due_facts : (least n : ℕ) (values : List V) → IsDue (before_facts least n) values
+  due_facts least zero values = tt
+  due_facts least (suc n) values = tt
 
   due_behind : (limit : Option ℕ) (values : List V) → IsDue (behind_identity limit) values
   due_behind None values = tt
   due_behind (Some n) values = tt
 
   due_values : (left more : ℕ) (h : Header) (p : Progress V) → h.address < ADDRESS_LIMIT → length p.values + left ≡ h.locals + h.height → IsDue (before_values left more h p).turn (before_values left more h p).values
-  due_values zero more h p low counted = due_instructions more p.values
+  due_values zero more h p low counted = due_instructions p.content.stating more p.values
   due_values (suc left) more h p low counted = (low, counted)
 
   abbrev DueAfter : Turn → Progress V → Result (Progress V) CertError → Type 0
@@ -110,7 +118,7 @@ module _ {V : Type 0} where
   due_routine_result v _ p due q e = absurd cc
 
   due_instruction_count : (n : ℕ) (t : Turn) (p : Progress V) → DueAfter t p (after_instruction_count n t p)
-  due_instruction_count n turns.InstructionCount p due q e = due_is _ q (need_ok (nat_le n MAX_INSTRUCTIONS) _ _ q e).1 (due_instructions n p.values)
+  due_instruction_count n turns.InstructionCount p due q e = due_is _ q (need_ok (nat_le n MAX_INSTRUCTIONS) _ _ q e).1 (due_instructions p.content.stating n p.values)
   due_instruction_count n _ p due q e = absurd cc
 
   due_instruction_address : (address : ℕ) (t : Turn) (p : Progress V) → DueAfter t p (after_instruction_address address t p)
@@ -134,6 +142,26 @@ module _ {V : Type 0} where
       due_is _ q e (due_values left more h (record p { values = p.values ++ v ∷ [] }) due.0 (omega (arith, due.1, length-append p.values (v ∷ []))))
   due_value v _ p due q e = absurd cc
 
+  due_fact_count : (n : ℕ) (t : Turn) (p : Progress V) → DueAfter t p (after_fact_count n t p)
+  due_fact_count n turns.FactCount p due q e = due_is _ q (need_ok (nat_le n MAX_FACTS) _ _ q e).1 (due_facts 0 n p.values)
+  due_fact_count n _ p due q e = absurd cc
+
+  due_fact_address : (address : ℕ) (t : Turn) (p : Progress V) → DueAfter t p (after_fact_address address t p)
+  due_fact_address address (turns.FactAddress more least) p due q e =
+      let a = bind_ok (address_fits p.floor address) _ q e in
+      due_is _ q a.2 tt
+  due_fact_address address _ p due q e = absurd cc
+
+  due_fact_global : (global : ℕ) (t : Turn) (p : Progress V) → DueAfter t p (after_fact_global global t p)
+  due_fact_global global (turns.FactGlobal more address least) p due q e =
+      let a = bind_ok (global_fits least global) _ q e in
+      due_is _ q a.2 (global_is least global a.0 a.1).1
+  due_fact_global global _ p due q e = absurd cc
+
+  due_fact_values : (v : V) (t : Turn) (p : Progress V) → DueAfter t p (after_fact_values v t p)
+  due_fact_values v (turns.FactValues more address global) p due q e = due_is _ q e (due_facts (global + 1) more p.values)
+  due_fact_values v _ p due q e = absurd cc
+
   due_taken : (f : Field V) (p q : Progress V) → taken p f ≡ Ok q → IsDue p.turn p.values → IsDue q.turn q.values
   due_taken (fields.Release n) p q e due = due_release n p.turn p due q e
   due_taken (fields.Serial s) p q e due = due_serial s p.turn p due q e
@@ -153,6 +181,10 @@ module _ {V : Type 0} where
   due_taken (fields.RoutineNumber n) p q e due = due_routine_number n p.turn p due q e
   due_taken (fields.Height n) p q e due = due_height n p.turn p due q e
   due_taken (fields.Value v) p q e due = due_value v p.turn p due q e
+  due_taken (fields.FactCount n) p q e due = due_fact_count n p.turn p due q e
+  due_taken (fields.FactAddress n) p q e due = due_fact_address n p.turn p due q e
+  due_taken (fields.FactGlobal n) p q e due = due_fact_global n p.turn p due q e
+  due_taken (fields.FactValues v) p q e due = due_fact_values v p.turn p due q e
 
   due_all : (fs : List (Field V)) (p q : Progress V) → all_taken p fs ≡ Ok q → IsDue p.turn p.values → IsDue q.turn q.values
   due_all [] p q e due = due_is p q e due

@@ -12,7 +12,7 @@ use Rattle.zcert.specs.Numbers.{Number, number, width, HasRoom}
 use Rattle.zcert.specs.Numbers as numbers
 use Rattle.zcert.specs.Steps.{number_at, serial_at}
 use Rattle.zcert.specs.Format.{Format}
-use Rattle.zcert.specs.Building.{Progress, InTurn, taken, all_taken, after_release, after_serial, after_checksum, after_loaded_length, after_frame_limit, after_range_count, after_range_first, after_range_last, after_global, after_routine_count, after_routine_address, after_local_count, after_routine_result, after_instruction_count, after_instruction_address, after_routine_number, after_height, after_value}
+use Rattle.zcert.specs.Building.{Progress, InTurn, taken, all_taken, after_release, after_serial, after_checksum, after_loaded_length, after_frame_limit, after_range_count, after_range_first, after_range_last, after_global, after_routine_count, after_routine_address, after_local_count, after_routine_result, after_instruction_count, after_instruction_address, after_routine_number, after_height, after_value, after_fact_count, after_fact_address, after_fact_global, after_fact_values}
 use Rattle.zcert.specs.Fields.{field_bytes, IsField, as_field, field_at}
 use Rattle.zcert.specs.FormatLaw.Stepping.{IsBytes-append, IsBytes-number, by_place, width_some, bind_ok, ok_is, number_takes, number_again, serial_takes, serial_again}
 use Rattle.zcert.specs.FormatLaw.{IsBytes, Takes, IsFormat}
@@ -97,6 +97,22 @@ module _ {V : Type 0} where
   turn_value v (turns.Value more h left) p = inl tt
   turn_value v _ p = inr refl
 
+  turn_fact_count : (n : ℕ) (t : Turn) (p : Progress V) → InTurn {V = V} t (fields.FactCount n) ⊎ (after_fact_count n t p ≡ Err errors.Order)
+  turn_fact_count n turns.FactCount p = inl tt
+  turn_fact_count n _ p = inr refl
+
+  turn_fact_address : (n : ℕ) (t : Turn) (p : Progress V) → InTurn {V = V} t (fields.FactAddress n) ⊎ (after_fact_address n t p ≡ Err errors.Order)
+  turn_fact_address n (turns.FactAddress more least) p = inl tt
+  turn_fact_address n _ p = inr refl
+
+  turn_fact_global : (n : ℕ) (t : Turn) (p : Progress V) → InTurn {V = V} t (fields.FactGlobal n) ⊎ (after_fact_global n t p ≡ Err errors.Order)
+  turn_fact_global n (turns.FactGlobal more address least) p = inl tt
+  turn_fact_global n _ p = inr refl
+
+  turn_fact_values : (v : V) (t : Turn) (p : Progress V) → InTurn {V = V} t (fields.FactValues v) ⊎ (after_fact_values v t p ≡ Err errors.Order)
+  turn_fact_values v (turns.FactValues more address global) p = inl tt
+  turn_fact_values v _ p = inr refl
+
   pub in_turn_or : (f : Field V) (p : Progress V) → InTurn p.turn f ⊎ (taken p f ≡ Err errors.Order)
   in_turn_or (fields.Release n) p = turn_release n p.turn p
   in_turn_or (fields.Serial s) p = turn_serial s p.turn p
@@ -116,6 +132,10 @@ module _ {V : Type 0} where
   in_turn_or (fields.RoutineNumber n) p = turn_routine_number n p.turn p
   in_turn_or (fields.Height n) p = turn_height n p.turn p
   in_turn_or (fields.Value v) p = turn_value v p.turn p
+  in_turn_or (fields.FactCount n) p = turn_fact_count n p.turn p
+  in_turn_or (fields.FactAddress n) p = turn_fact_address n p.turn p
+  in_turn_or (fields.FactGlobal n) p = turn_fact_global n p.turn p
+  in_turn_or (fields.FactValues v) p = turn_fact_values v p.turn p
 
   in_turn_of : (t : Turn) (f : Field V) (answer : Result (Progress V) CertError) (q : Progress V) → InTurn t f ⊎ (answer ≡ Err errors.Order) → answer ≡ Ok q → InTurn t f
   in_turn_of t f answer q (inl due) e = due
@@ -148,6 +168,10 @@ module _ {V : Type 0} (format : Format V) (law : IsFormat format) where
   again_at (turns.RoutineNumber more address) (fields.RoutineNumber n) rest is due = rw (number_again numbers.RoutineNumber n rest is) refl
   again_at (turns.Height more address routine) (fields.Height n) rest is due = rw (number_again numbers.Height n rest is) refl
   again_at (turns.Value more h left) (fields.Value v) rest is due = rw (law.again v rest is) refl
+  again_at turns.FactCount (fields.FactCount n) rest is due = rw (number_again numbers.FactCount n rest is) refl
+  again_at (turns.FactAddress more least) (fields.FactAddress n) rest is due = rw (number_again numbers.FactAddress n rest is) refl
+  again_at (turns.FactGlobal more address least) (fields.FactGlobal n) rest is due = rw (number_again numbers.FactGlobal n rest is) refl
+  again_at (turns.FactValues more address global) (fields.FactValues v) rest is due = rw (law.again v rest is) refl
   again_at _ _ rest is due = absurd due
 
   field_again : (f : Field V) (p q : Progress V) (rest : List ℕ) → IsField format f → taken p f ≡ Ok q → IsReadAgain p.turn f rest
@@ -231,6 +255,10 @@ module _ {V : Type 0} (format : Format V) (law : IsFormat format) where
   field_takes (turns.RoutineNumber more address) bytes f rest fits e = number_field numbers.RoutineNumber fields.RoutineNumber bytes f rest (λ n. refl) (λ n h. h) fits e
   field_takes (turns.Height more address routine) bytes f rest fits e = number_field numbers.Height fields.Height bytes f rest (λ n. refl) (λ n h. h) fits e
   field_takes (turns.Value more h left) bytes f rest fits e = value_field fields.Value bytes f rest (λ v. refl) (λ v k. k) fits e
+  field_takes turns.FactCount bytes f rest fits e = number_field numbers.FactCount fields.FactCount bytes f rest (λ n. refl) (λ n h. h) fits e
+  field_takes (turns.FactAddress more least) bytes f rest fits e = number_field numbers.FactAddress fields.FactAddress bytes f rest (λ n. refl) (λ n h. h) fits e
+  field_takes (turns.FactGlobal more address least) bytes f rest fits e = number_field numbers.FactGlobal fields.FactGlobal bytes f rest (λ n. refl) (λ n h. h) fits e
+  field_takes (turns.FactValues more address global) bytes f rest fits e = value_field fields.FactValues bytes f rest (λ v. refl) (λ v h. h) fits e
   field_takes turns.Complete bytes f rest fits e = absurd cc
 
   -- the bytes of a field are bytes
@@ -253,6 +281,10 @@ module _ {V : Type 0} (format : Format V) (law : IsFormat format) where
   IsBytes-field (fields.RoutineNumber n) is = IsBytes-number numbers.RoutineNumber n
   IsBytes-field (fields.Height n) is = IsBytes-number numbers.Height n
   IsBytes-field (fields.Value v) is = law.bytes v is
+  IsBytes-field (fields.FactCount n) is = IsBytes-number numbers.FactCount n
+  IsBytes-field (fields.FactAddress n) is = IsBytes-number numbers.FactAddress n
+  IsBytes-field (fields.FactGlobal n) is = IsBytes-number numbers.FactGlobal n
+  IsBytes-field (fields.FactValues v) is = law.bytes v is
 
   pub IsBytes-fields : (fs : List (Field V)) → AllByRecursion (IsField format) fs → IsBytes (flat_map (field_bytes format) fs)
   IsBytes-fields [] each = λ i. omega arith

@@ -53,6 +53,10 @@ module _ {V : Type 0} (format : Format V) (law : IsFormat format) where
   field_stays (turns.RoutineNumber more address) = made_stays format fields.RoutineNumber (sized_at 2) (number_stays 2)
   field_stays (turns.Height more address routine) = made_stays format fields.Height (sized_at 1) (number_stays 1)
   field_stays (turns.Value more h left) = made_stays format fields.Value format.value_at law.stays
+  field_stays turns.FactCount = made_stays format fields.FactCount (sized_at 4) (number_stays 4)
+  field_stays (turns.FactAddress more least) = made_stays format fields.FactAddress (sized_at 4) (number_stays 4)
+  field_stays (turns.FactGlobal more address least) = made_stays format fields.FactGlobal (sized_at 1) (number_stays 1)
+  field_stays (turns.FactValues more address global) = made_stays format fields.FactValues format.value_at law.stays
   field_stays turns.Complete = λ bytes more whole. refl
 
 module _ {V P : Type 0} (format : Format V) (sets : Turns P) (are : AreTurns format sets) where
@@ -75,6 +79,10 @@ module _ {V P : Type 0} (format : Format V) (sets : Turns P) (are : AreTurns for
   field_awaits (turns.RoutineNumber more address) p kept part short = rw (part (λ x. x), sized_short 2 kept short) refl
   field_awaits (turns.Height more address routine) p kept part short = rw (part (λ x. x), sized_short 1 kept short) refl
   field_awaits (turns.Value more h left) p kept part short = rw (are.short p kept short) refl
+  field_awaits turns.FactCount p kept part short = rw (part (λ x. x), sized_short 4 kept short) refl
+  field_awaits (turns.FactAddress more least) p kept part short = rw (part (λ x. x), sized_short 4 kept short) refl
+  field_awaits (turns.FactGlobal more address least) p kept part short = rw (part (λ x. x), sized_short 1 kept short) refl
+  field_awaits (turns.FactValues more address global) p kept part short = rw (are.short p kept short) refl
   field_awaits turns.Complete p kept part short = rw (part (λ x. x)) (nil_from_length kept (omega (arith, short)))
 
   -- what has come of what comes next is cut off

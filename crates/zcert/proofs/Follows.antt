@@ -13,7 +13,7 @@ use Rattle.zcert.specs.declared.field.Turn.{Turn}
 use Rattle.zcert.specs.declared.field.Turn.TheVariants as turns
 use Rattle.zcert.specs.declared.stage.Stage.{Stage}
 use Rattle.zcert.specs.declared.stage.Stage.TheVariants as stages
-use Rattle.zcert.specs.declared.limits.TheConstants.{MAGIC, LIMIT_VERSION, MARK_VERSION}
+use Rattle.zcert.specs.declared.limits.TheConstants.{MAGIC, LIMIT_VERSION, MARK_VERSION, FACT_VERSION}
 use Rattle.zcert.specs.Numbers.{number}
 use Rattle.zcert.specs.Numbers as numbers
 use Rattle.zcert.specs.Certificate.{Certificate}
@@ -85,11 +85,12 @@ module _ {B C : Type 0} (n : ℕ) (pair : B → List ℕ → C) (test : ℕ → 
 uncut_magic : (m : ℕ) → need (m == MAGIC) errors.Magic ≢ Err errors.Truncated
 uncut_magic m = uncut_need (m == MAGIC) errors.Magic (λ e. absurd cc)
 
-uncut_edition : (plain limit mark : Bool) → edition_where plain limit mark ≢ Err errors.Truncated
-uncut_edition true limit mark e = absurd cc
-uncut_edition false true mark e = absurd cc
-uncut_edition false false true e = absurd cc
-uncut_edition false false false e = absurd cc
+uncut_edition : (plain limit mark fact : Bool) → edition_where plain limit mark fact ≢ Err errors.Truncated
+uncut_edition true limit mark fact e = absurd cc
+uncut_edition false true mark fact e = absurd cc
+uncut_edition false false true fact e = absurd cc
+uncut_edition false false false true e = absurd cc
+uncut_edition false false false false e = absurd cc
 
 abbrev rest_alone : Unit {0} → List ℕ → List ℕ
 rest_alone u bytes = bytes
@@ -98,7 +99,7 @@ abbrev both_parts : Edition → List ℕ → Edition × List ℕ
 both_parts edition bytes = (edition, bytes)
 
 abbrev named_by : {V : Type 0} → Format V → ℕ → Result Edition CertError
-named_by format m = edition_where (m == format.version) (format.limited && (m == LIMIT_VERSION)) (format.limited && (m == MARK_VERSION))
+named_by format m = edition_where (m == format.version) (format.limited && (m == LIMIT_VERSION)) (format.limited && (m == MARK_VERSION)) (format.limited && (m == FACT_VERSION))
 
 pub magic_whole : (bytes : List ℕ) → length bytes ≡ 4 → magic_at bytes ≢ Err errors.Truncated
 unfolding magic_at
@@ -114,7 +115,7 @@ magic_final bytes more e whole h = tested_final 4 rest_alone (λ m. need (m == M
 
 pub version_whole : {V : Type 0} (format : Format V) (bytes : List ℕ) → length bytes ≡ 1 → version_at format bytes ≢ Err errors.Truncated
 unfolding version_at
-version_whole format bytes same = tested_whole 1 both_parts (named_by format) (λ m. uncut_edition _ _ _) bytes same
+version_whole format bytes same = tested_whole 1 both_parts (named_by format) (λ m. uncut_edition _ _ _ _) bytes same
 
 pub version_short : {V : Type 0} (format : Format V) (bytes : List ℕ) → length bytes < 1 → version_at format bytes ≡ Err errors.Truncated
 unfolding version_at

@@ -9,21 +9,23 @@ use Rattle.zcert.specs.declared.edition.Edition.{Edition}
 use Rattle.zcert.specs.declared.edition.Edition.TheVariants as editions
 use Rattle.zcert.specs.declared.error.CertError.{CertError}
 use Rattle.zcert.specs.declared.error.CertError.TheVariants as errors
+use Rattle.zcert.specs.declared.parts.Fact.{Fact}
 use Rattle.zcert.specs.declared.parts.Range.{Range}
 use Rattle.zcert.specs.declared.parts.Routine.{Routine}
-use Rattle.zcert.specs.declared.limits.TheConstants.{MAGIC, GLOBALS, ADDRESS_LIMIT, MAX_LOCALS, MAX_INSTRUCTIONS, MAX_RANGES, MAX_ROUTINES, MAX_HEIGHT, MAX_FRAMES, LIMIT_VERSION, MARK_VERSION}
+use Rattle.zcert.specs.declared.limits.TheConstants.{MAGIC, GLOBALS, ADDRESS_LIMIT, MAX_LOCALS, MAX_INSTRUCTIONS, MAX_RANGES, MAX_ROUTINES, MAX_HEIGHT, MAX_FRAMES, MAX_FACTS, LIMIT_VERSION, MARK_VERSION, FACT_VERSION}
 use Rattle.zcert.specs.Numbers.{number}
 use Rattle.zcert.specs.Numbers as numbers
 use Rattle.zcert.specs.Certificate.{Instruction, Certificate, locals_of, edition_of}
-use Rattle.zcert.specs.Editions.{is_limited, is_marking}
+use Rattle.zcert.specs.Editions.{is_limited, is_marking, is_stating}
 use Rattle.zcert.specs.Marks.{height_byte, is_mark, height_in, IsMarkable}
+use Rattle.zcert.specs.Facts.{least_global, FactsRise, AreStated}
 use Rattle.zcert.specs.Steps.{need, number_at, serial_at}
 use Rattle.zcert.specs.Format.{Format, version_of, IsAllowed}
-use Rattle.zcert.specs.Spelling.{identity_bytes, limit_bytes, range_bytes, values_bytes, routine_bytes, instruction_bytes, counted, heading, spelling, IsIdentity, IsLimit, IsRange, AreApart, Rise, IsRoutine, IsInstruction, HasSpelling}
-use Rattle.zcert.specs.Reading.{magic_at, edition_where, version_at, heading_at, identity_at, limit_at, fields_at, range_at, ranges_at, all_ranges_at, address_fits, values_at, routine_at, routines_at, all_routines_at, instruction_at, instructions_at, all_instructions_at, at_end, reading}
+use Rattle.zcert.specs.Spelling.{identity_bytes, limit_bytes, range_bytes, values_bytes, routine_bytes, instruction_bytes, fact_bytes, facts_bytes, counted, heading, spelling, IsIdentity, IsLimit, IsRange, AreApart, Rise, IsRoutine, IsInstruction, IsFact, HasSpelling}
+use Rattle.zcert.specs.Reading.{magic_at, edition_where, version_at, heading_at, identity_at, limit_at, fields_at, range_at, ranges_at, all_ranges_at, address_fits, global_fits, values_at, routine_at, routines_at, all_routines_at, instruction_at, instructions_at, all_instructions_at, fact_at, facts_from, all_facts_at, at_end, reading}
 use Rattle.zcert.specs.FormatLaw.Stepping.{Takes-then, bind_ok, need_ok, ok_is, number_takes, serial_takes}
 use Rattle.zcert.specs.FormatLaw.{IsBytes, Takes, IsFormat}
-use Rattle.zcert.proofs.Marked.{byte_again, markable, edition_again, may_mark, may_limit}
+use Rattle.zcert.proofs.Marked.{byte_again, markable, edition_again, may_mark, may_state, may_limit}
 
 -- what was taken is all
 all_taken : (bytes text rest : List ℕ) → Takes bytes text rest → rest ≡ [] → bytes ≡ text
@@ -47,19 +49,20 @@ both_hold n m true false both is = absurd cc
 both_hold n m false b both is = absurd cc
 
 -- a version is that of the edition that is told
-version_is : {V : Type 0} (format : Format V) (n : ℕ) (plain limit mark : Bool) (edition : Edition) → (n == format.version) ≡ plain → (format.limited && (n == LIMIT_VERSION)) ≡ limit → (format.limited && (n == MARK_VERSION)) ≡ mark → edition_where plain limit mark ≡ Ok edition → (n ≡ version_of format edition) × IsAllowed format edition
-version_is format n true limit mark editions.Plain p q r e = (eqb-true _ _ p, tt)
-version_is format n false true mark editions.Limited p q r e = both_hold n LIMIT_VERSION format.limited (n == LIMIT_VERSION) q refl
-version_is format n false false true editions.Marking p q r e = both_hold n MARK_VERSION format.limited (n == MARK_VERSION) r refl
-version_is format n _ _ _ _ p q r e = absurd cc
+version_is : {V : Type 0} (format : Format V) (n : ℕ) (plain limit mark fact : Bool) (edition : Edition) → (n == format.version) ≡ plain → (format.limited && (n == LIMIT_VERSION)) ≡ limit → (format.limited && (n == MARK_VERSION)) ≡ mark → (format.limited && (n == FACT_VERSION)) ≡ fact → edition_where plain limit mark fact ≡ Ok edition → (n ≡ version_of format edition) × IsAllowed format edition
+version_is format n true limit mark fact editions.Plain p q r s e = (eqb-true _ _ p, tt)
+version_is format n false true mark fact editions.Limited p q r s e = both_hold n LIMIT_VERSION format.limited (n == LIMIT_VERSION) q refl
+version_is format n false false true fact editions.Marking p q r s e = both_hold n MARK_VERSION format.limited (n == MARK_VERSION) r refl
+version_is format n false false false true editions.Stating p q r s e = both_hold n FACT_VERSION format.limited (n == FACT_VERSION) s refl
+version_is format n _ _ _ _ _ p q r s e = absurd cc
 
 pub version_takes : {V : Type 0} (format : Format V) (bytes : List ℕ) (x : Edition × List ℕ) → IsBytes bytes → version_at format bytes ≡ Ok x → Takes bytes (number numbers.Version (version_of format x.0)) x.1 × IsAllowed format x.0
 unfolding version_at
 version_takes format bytes x fits e =
     let a = bind_ok (number_at numbers.Version bytes) _ _ e in
-    let b = bind_ok (edition_where (a.0.0 == format.version) (format.limited && (a.0.0 == LIMIT_VERSION)) (format.limited && (a.0.0 == MARK_VERSION))) _ _ a.2 in
+    let b = bind_ok (edition_where (a.0.0 == format.version) (format.limited && (a.0.0 == LIMIT_VERSION)) (format.limited && (a.0.0 == MARK_VERSION)) (format.limited && (a.0.0 == FACT_VERSION))) _ _ a.2 in
     let t = number_takes numbers.Version bytes a.0.0 a.0.1 fits a.1 in
-    let is = version_is format a.0.0 _ _ _ b.0 refl refl refl b.1 in
+    let is = version_is format a.0.0 _ _ _ _ b.0 refl refl refl refl b.1 in
     let made : Edition × List ℕ = (b.0, a.0.1) in
     subst (λ (y : Edition × List ℕ). Takes bytes (number numbers.Version (version_of format y.0)) y.1 × IsAllowed format y.0) {x = made} (ok_is made x b.2) (subst (λ (n : ℕ). Takes bytes (number numbers.Version n) a.0.1) is.0 t.0, is.1)
 
@@ -173,6 +176,11 @@ pub address_is : (floor address : ℕ) (u : Unit {0}) → address_fits floor add
 address_is floor address u e =
     let o = need_ok (nat_le floor address) _ _ _ e in
     (leb-true _ _ o.0, ltb-true _ _ (need_is (nat_lt address ADDRESS_LIMIT) errors.Limit u o.1))
+
+pub global_is : (least global : ℕ) (u : Unit {0}) → global_fits least global ≡ Ok u → (least ≤ global) × (global < GLOBALS)
+global_is least global u e =
+    let o = need_ok (nat_le least global) _ _ _ e in
+    (leb-true _ _ o.0, ltb-true _ _ (need_is (nat_lt global GLOBALS) errors.Limit u o.1))
 
 module _ {V : Type 0} (format : Format V) (law : IsFormat format) where
   pub record TakesValues (n : ℕ) (bytes : List ℕ) (vs : List V) (rest : List ℕ) : Type 0 where
@@ -345,6 +353,81 @@ module _ {V : Type 0} (format : Format V) (law : IsFormat format) where
       let whole = Takes-then bytes _ a.0.1 _ x.1 ta.0 tb.takes in
       (rw tb.count whole, rw tb.count (leb-true _ _ o.0), tb.each, tb.rise, tb.may)
 
+  -- what is known of a fact that was read
+  pub record TakesFact (floor least : ℕ) (bytes : List ℕ) (f : Fact V) (rest : List ℕ) : Type 0 where
+    pub takes : Takes bytes (fact_bytes format f) rest
+    pub above : floor ≤ f.address
+    pub behind : least_global floor least f.address ≤ f.global
+    pub is : IsFact format f
+
+  fact_takes : (floor least : ℕ) (bytes : List ℕ) (x : Fact V × List ℕ) → IsBytes bytes → fact_at format floor least bytes ≡ Ok x → TakesFact floor least bytes x.0 x.1
+  unfolding fact_at
+  fact_takes floor least bytes x fits e =
+      let a = bind_ok (number_at numbers.FactAddress bytes) _ _ e in
+      let o = bind_ok (address_fits floor a.0.0) _ _ a.2 in
+      let b = bind_ok (number_at numbers.FactGlobal a.0.1) _ _ o.2 in
+      let p = bind_ok (global_fits (least_global floor least a.0.0) b.0.0) _ _ b.2 in
+      let c = bind_ok (format.value_at b.0.1) _ _ p.2 in
+      let ta = number_takes numbers.FactAddress bytes a.0.0 a.0.1 fits a.1 in
+      let tb = number_takes numbers.FactGlobal a.0.1 b.0.0 b.0.1 ta.0.rest_fits b.1 in
+      let tc = law.takes b.0.1 c.0.0 c.0.1 tb.0.rest_fits c.1 in
+      let ab = Takes-then bytes _ a.0.1 _ b.0.1 ta.0 tb.0 in
+      let all = Takes-then bytes _ b.0.1 _ c.0.1 ab tc.0 in
+      let address = address_is floor a.0.0 o.0 o.1 in
+      let global = global_is (least_global floor least a.0.0) b.0.0 p.0 p.1 in
+      let made : Fact V × List ℕ = (record { address = a.0.0; global = b.0.0; values = c.0.0 }, c.0.1) in
+      subst (λ (y : Fact V × List ℕ). TakesFact floor least bytes y.0 y.1) {x = made} (ok_is made x c.2) (record {
+        takes = all;
+        above = address.0;
+        behind = global.0;
+        is = record { address = address.1; global = global.1; values = tc.1 };
+      })
+
+  pub record TakesFacts (n floor least : ℕ) (bytes : List ℕ) (fs : List (Fact V)) (rest : List ℕ) : Type 0 where
+    pub takes : Takes bytes (flat_map (fact_bytes format) fs) rest
+    pub count : length fs ≡ n
+    pub each : AllByRecursion (IsFact format) fs
+    pub rise : FactsRise floor least fs
+
+  facts_take : (n floor least : ℕ) (bytes : List ℕ) (x : List (Fact V) × List ℕ) → IsBytes bytes → facts_from format n floor least bytes ≡ Ok x → TakesFacts n floor least bytes x.0 x.1
+  unfolding facts_from
+  facts_take zero floor least bytes x fits e =
+      let made : List (Fact V) × List ℕ = ([], bytes) in
+      subst (λ (y : List (Fact V) × List ℕ). TakesFacts 0 floor least bytes y.0 y.1) {x = made} (ok_is made x e) (record { takes = record { parts = refl; rest_fits = fits }; count = refl; each = tt; rise = tt })
+  facts_take (suc n) floor least bytes x fits e =
+      let a = bind_ok (fact_at format floor least bytes) _ _ e in
+      let b = bind_ok (facts_from format n a.0.0.address (a.0.0.global + 1) a.0.1) _ _ a.2 in
+      let first = fact_takes floor least bytes a.0 fits a.1 in
+      let others = facts_take n a.0.0.address (a.0.0.global + 1) a.0.1 b.0 first.takes.rest_fits b.1 in
+      let made : List (Fact V) × List ℕ = (a.0.0 ∷ b.0.0, b.0.1) in
+      subst (λ (y : List (Fact V) × List ℕ). TakesFacts (suc n) floor least bytes y.0 y.1) {x = made} (ok_is made x b.2) (record {
+        takes = Takes-then bytes _ a.0.1 _ b.0.1 first.takes others.takes;
+        count = ap suc others.count;
+        each = (first.is, others.each);
+        rise = (first.above, first.behind, others.rise);
+      })
+
+  -- what is known of all facts that were read
+  pub record TakesStated (stating : Bool) (bytes : List ℕ) (fs : List (Fact V)) (rest : List ℕ) : Type 0 where
+    pub takes : Takes bytes (facts_bytes format stating fs) rest
+    pub few : length fs ≤ MAX_FACTS
+    pub each : AllByRecursion (IsFact format) fs
+    pub rise : FactsRise 0 0 fs
+    pub stated : AreStated stating fs
+
+  all_facts_take : (stating : Bool) (bytes : List ℕ) (x : List (Fact V) × List ℕ) → IsBytes bytes → all_facts_at format stating bytes ≡ Ok x → TakesStated stating bytes x.0 x.1
+  unfolding all_facts_at
+  all_facts_take false bytes x fits e =
+      let made : List (Fact V) × List ℕ = ([], bytes) in
+      subst (λ (y : List (Fact V) × List ℕ). TakesStated false bytes y.0 y.1) {x = made} (ok_is made x e) (record { takes = none_taken bytes fits; few = omega arith; each = tt; rise = tt; stated = refl })
+  all_facts_take true bytes x fits e =
+      let a = bind_ok (number_at numbers.FactCount bytes) _ _ e in
+      let o = need_ok (nat_le a.0.0 MAX_FACTS) _ _ _ a.2 in
+      let ta = number_takes numbers.FactCount bytes a.0.0 a.0.1 fits a.1 in
+      let tb = facts_take a.0.0 0 0 a.0.1 x ta.0.rest_fits o.1 in
+      let whole = Takes-then bytes _ a.0.1 _ x.1 ta.0 tb.takes in
+      record { takes = rw tb.count whole; few = rw tb.count (leb-true _ _ o.0); each = tb.each; rise = tb.rise; stated = tt }
+
   end_is : (c d : Certificate V) (bytes : List ℕ) → at_end format c bytes ≡ Ok d → (c ≡ d) × (bytes ≡ [])
   unfolding at_end
   end_is c d [] e = (ok_is c d e, refl)
@@ -362,6 +445,7 @@ module _ {V : Type 0} (format : Format V) (law : IsFormat format) where
       let g = bind_ok (values_at format GLOBALS r.0.1) _ _ r.2 in
       let s = bind_ok (all_routines_at format g.0.1) _ _ g.2 in
       let n = bind_ok (all_instructions_at format (is_marking edition) s.0.0 s.0.1) _ _ s.2 in
+      let f = bind_ok (all_facts_at format (is_stating edition) n.0.1) _ _ n.2 in
       let tv = heading_takes format bytes v.0 fits v.1 in
       let ti = identity_takes v.0.1 i.0 tv.0.rest_fits i.1 in
       let tl = limit_takes format (is_limited edition) i.0.1 l.0 (may_limit format edition tv.1) ti.0.rest_fits l.1 in
@@ -369,22 +453,25 @@ module _ {V : Type 0} (format : Format V) (law : IsFormat format) where
       let tg = values_take GLOBALS r.0.1 g.0 tr.0.rest_fits g.1 in
       let ts = all_routines_take g.0.1 s.0 tg.takes.rest_fits s.1 in
       let tn = all_instructions_take (is_marking edition) s.0.0 s.0.1 n.0 ts.0.rest_fits n.1 in
-      let made : Certificate V = record { identity = i.0.0; limit = l.0.0; marking = is_marking edition; ranges = r.0.0; globals = g.0.0; routines = s.0.0; instructions = n.0.0 } in
-      let done = end_is made c n.0.1 n.2 in
+      let tf = all_facts_take (is_stating edition) n.0.1 f.0 tn.0.rest_fits f.1 in
+      let made : Certificate V = record { identity = i.0.0; limit = l.0.0; marking = is_marking edition; stating = is_stating edition; ranges = r.0.0; globals = g.0.0; routines = s.0.0; instructions = n.0.0; facts = f.0.0 } in
+      let done = end_is made c f.0.1 f.2 in
       let headed : Takes bytes (heading format (edition_of made)) v.0.1 = rw (edition_again edition l.0.0 tl.named) tv.0 in
       let vi = Takes-then bytes _ v.0.1 _ i.0.1 headed ti.0 in
       let vil = Takes-then bytes _ i.0.1 _ l.0.1 vi tl.takes in
       let vir = Takes-then bytes _ l.0.1 _ r.0.1 vil tr.0 in
       let virg = Takes-then bytes _ r.0.1 _ g.0.1 vir tg.takes in
       let virgs = Takes-then bytes _ g.0.1 _ s.0.1 virg ts.0 in
-      let all = Takes-then bytes _ s.0.1 _ n.0.1 virgs tn.0 in
-      let whole : bytes ≡ spelling format made = all_taken bytes (spelling format made) n.0.1 all done.1 in
+      let virgsn = Takes-then bytes _ s.0.1 _ n.0.1 virgs tn.0 in
+      let all = Takes-then bytes _ n.0.1 _ f.0.1 virgsn tf.takes in
+      let whole : bytes ≡ spelling format made = all_taken bytes (spelling format made) f.0.1 all done.1 in
       subst (λ (d : Certificate V). (bytes ≡ spelling format d) × HasSpelling format d) {x = made} done.0 (
         whole,
         record {
           identity = ti.1;
           limit = tl.is;
           marking = may_mark edition l.0.0 tl.named;
+          stating = may_state edition;
           few_ranges = tr.1;
           ranges = tr.2;
           ranges_apart = tr.3;
@@ -397,5 +484,9 @@ module _ {V : Type 0} (format : Format V) (law : IsFormat format) where
           instructions = tn.2;
           instructions_rise = tn.3;
           instructions_markable = tn.4;
+          few_facts = tf.few;
+          facts = tf.each;
+          facts_rise = tf.rise;
+          facts_stated = tf.stated;
         },
       )

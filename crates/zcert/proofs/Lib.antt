@@ -2,6 +2,7 @@ mod Sample
 mod Worked
 mod WorkedLists
 mod WorkedMarks
+mod WorkedFacts
 pub mod Bare
 pub mod Found
 pub mod Only
@@ -23,3 +24,4 @@ pub mod Words
 pub mod Fronts
 pub mod Limit
 pub mod Marked
+pub mod Stated

@@ -1,5 +1,5 @@
 -- Calls of a builder and certificates belong together.
-use Rattle.std.proofs.Common.{◌≡◌, ℕ, zero, suc, ◌≤◌, Option, None, Some, List, [], ◌∷◌, ◌++◌, length, Ok, Err, refl, sym, ap, subst, ◌∙◌, append_assoc, arith, ◌⊎◌, inl, inr}
+use Rattle.std.proofs.Common.{◌≡◌, ℕ, zero, suc, ◌≤◌, Bool, true, false, Option, None, Some, List, [], ◌∷◌, ◌++◌, length, Ok, Err, refl, sym, ap, subst, ◌∙◌, append_assoc, arith, ◌⊎◌, inl, inr}
 use Rattle.std.specs.List.{flat_map, AllByRecursion}
 use Rattle.std.proofs.lemmas.List.{append-nil}
 use Rattle.zcert.specs.declared.edition.Edition.{Edition}
@@ -8,6 +8,7 @@ use Rattle.zcert.specs.declared.field.Field.{Field}
 use Rattle.zcert.specs.declared.field.Turn.{Turn}
 use Rattle.zcert.specs.declared.field.Turn.TheVariants as turns
 use Rattle.zstory.specs.declared.identity.Identity.{Identity}
+use Rattle.zcert.specs.declared.parts.Fact.{Fact}
 use Rattle.zcert.specs.declared.parts.Range.{Range}
 use Rattle.zcert.specs.declared.parts.Routine.{Routine}
 use Rattle.zcert.specs.declared.limits.TheConstants.{MAGIC}
@@ -17,7 +18,7 @@ use Rattle.zcert.specs.Certificate.{Certificate, Instruction, edition_of}
 use Rattle.zcert.specs.Marks.{height_byte}
 use Rattle.zcert.specs.Steps.{◌>>=◌}
 use Rattle.zcert.specs.Format.{Format, version_of, IsAllowed}
-use Rattle.zcert.specs.Spelling.{identity_bytes, limit_bytes, range_bytes, counted, values_bytes, routine_bytes, instruction_bytes, heading, spelling, IsIdentity, IsRange, IsRoutine, IsInstruction, HasSpelling}
+use Rattle.zcert.specs.Spelling.{identity_bytes, limit_bytes, range_bytes, counted, values_bytes, routine_bytes, instruction_bytes, fact_bytes, facts_bytes, heading, spelling, IsIdentity, IsRange, IsRoutine, IsInstruction, IsFact, HasSpelling}
 use Rattle.zcert.specs.Reading.{reading}
 use Rattle.zcert.specs.Building.{Progress, opening, taken, all_taken}
 use Rattle.zcert.specs.Fields.{field_bytes, IsField, field_at, IsReached, Makes}
@@ -133,6 +134,14 @@ module _ {V : Type 0} (format : Format V) (law : IsFormat format) where
       (three_bytes address routine height (IsBytes-number numbers.InstructionAddress i.address) (IsBytes-number numbers.RoutineNumber i.routine) (IsBytes-number numbers.Height byte))
       (IsBytes-flat_map format.spelled format.Has law.bytes (i.locals ++ i.slots) (both_each format law i.locals i.slots is.local_values is.slot_values))
 
+  IsBytes-fact : (f : Fact V) → IsFact format f → IsBytes (fact_bytes format f)
+  IsBytes-fact f is =
+      three_bytes (number numbers.FactAddress f.address) (number numbers.FactGlobal f.global) (format.spelled f.values) (IsBytes-number numbers.FactAddress f.address) (IsBytes-number numbers.FactGlobal f.global) (law.bytes f.values is.values)
+
+  IsBytes-facts : (stating : Bool) (fs : List (Fact V)) → AllByRecursion (IsFact format) fs → IsBytes (facts_bytes format stating fs)
+  IsBytes-facts false fs each = λ i. omega arith
+  IsBytes-facts true fs each = IsBytes-counted numbers.FactCount (fact_bytes format) (IsFact format) IsBytes-fact fs each
+
   -- what follows the heading
   abbrev body : Certificate V → List ℕ
   body c =
@@ -141,7 +150,8 @@ module _ {V : Type 0} (format : Format V) (law : IsFormat format) where
       ++ (counted numbers.RangeCount range_bytes c.ranges
       ++ (values_bytes format c.globals
       ++ (counted numbers.RoutineCount (routine_bytes format) c.routines
-      ++ counted numbers.InstructionCount (instruction_bytes format) c.instructions))))
+      ++ (counted numbers.InstructionCount (instruction_bytes format) c.instructions
+      ++ facts_bytes format c.stating c.facts)))))
 
   IsBytes-body : (c : Certificate V) → HasSpelling format c → IsBytes (body c)
   IsBytes-body c has =
@@ -149,24 +159,27 @@ module _ {V : Type 0} (format : Format V) (law : IsFormat format) where
       let globals = values_bytes format c.globals in
       let routines = counted numbers.RoutineCount (routine_bytes format) c.routines in
       let instructions = counted numbers.InstructionCount (instruction_bytes format) c.instructions in
-      let last = IsBytes-append routines instructions (IsBytes-counted numbers.RoutineCount (routine_bytes format) (IsRoutine format) IsBytes-routine c.routines has.routines) (IsBytes-counted numbers.InstructionCount (instruction_bytes format) (IsInstruction format c.routines) (IsBytes-instruction c.routines) c.instructions has.instructions) in
-      let from_globals = IsBytes-append globals (routines ++ instructions) (IsBytes-flat_map format.spelled format.Has law.bytes c.globals has.global_values) last in
-      let from_ranges = IsBytes-append ranges (globals ++ (routines ++ instructions)) (IsBytes-counted numbers.RangeCount range_bytes IsRange IsBytes-range c.ranges has.ranges) from_globals in
-      let from_limit = IsBytes-append (limit_bytes c.limit) (ranges ++ (globals ++ (routines ++ instructions))) (IsBytes-limit c.limit) from_ranges in
-      IsBytes-append (identity_bytes c.identity) (limit_bytes c.limit ++ (ranges ++ (globals ++ (routines ++ instructions)))) (IsBytes-identity c.identity has.identity) from_limit
+      let facts = facts_bytes format c.stating c.facts in
+      let behind_globals = routines ++ (instructions ++ facts) in
+      let last = IsBytes-append instructions facts (IsBytes-counted numbers.InstructionCount (instruction_bytes format) (IsInstruction format c.routines) (IsBytes-instruction c.routines) c.instructions has.instructions) (IsBytes-facts c.stating c.facts has.facts) in
+      let from_routines = IsBytes-append routines (instructions ++ facts) (IsBytes-counted numbers.RoutineCount (routine_bytes format) (IsRoutine format) IsBytes-routine c.routines has.routines) last in
+      let from_globals = IsBytes-append globals behind_globals (IsBytes-flat_map format.spelled format.Has law.bytes c.globals has.global_values) from_routines in
+      let from_ranges = IsBytes-append ranges (globals ++ behind_globals) (IsBytes-counted numbers.RangeCount range_bytes IsRange IsBytes-range c.ranges has.ranges) from_globals in
+      let from_limit = IsBytes-append (limit_bytes c.limit) (ranges ++ (globals ++ behind_globals)) (IsBytes-limit c.limit) from_ranges in
+      IsBytes-append (identity_bytes c.identity) (limit_bytes c.limit ++ (ranges ++ (globals ++ behind_globals))) (IsBytes-identity c.identity has.identity) from_limit
 
-  in_two : (a b l c d e f : List ℕ) → a ++ b ++ l ++ c ++ d ++ e ++ f ≡ a ++ (b ++ (l ++ (c ++ (d ++ (e ++ f)))))
-  in_two a b l c d e f = simp append_assoc
+  in_two : (a b l c d e f g : List ℕ) → a ++ b ++ l ++ c ++ d ++ e ++ f ++ g ≡ a ++ (b ++ (l ++ (c ++ (d ++ (e ++ (f ++ g))))))
+  in_two a b l c d e f g = simp append_assoc
 
   -- a spelling is its heading and what follows it
   parts_of : (c : Certificate V) → spelling format c ≡ heading format (edition_of c) ++ body c
-  parts_of c = in_two (heading format (edition_of c)) (identity_bytes c.identity) (limit_bytes c.limit) (counted numbers.RangeCount range_bytes c.ranges) (values_bytes format c.globals) (counted numbers.RoutineCount (routine_bytes format) c.routines) (counted numbers.InstructionCount (instruction_bytes format) c.instructions)
+  parts_of c = in_two (heading format (edition_of c)) (identity_bytes c.identity) (limit_bytes c.limit) (counted numbers.RangeCount range_bytes c.ranges) (values_bytes format c.globals) (counted numbers.RoutineCount (routine_bytes format) c.routines) (counted numbers.InstructionCount (instruction_bytes format) c.instructions) (facts_bytes format c.stating c.facts)
 
   -- each certificate that has a spelling is made by some fields
   pub each_is_made : (c : Certificate V) → HasSpelling format c → (fs : List (Field V)) × Makes format fs c
   each_is_made c has =
       let edition : Edition = edition_of c in
-      let may = edition_allowed format c.limit c.marking has.limit in
+      let may = edition_allowed format c.limit c.marking c.stating has.limit in
       let read : rest_of format (opening edition) (body c) ≡ Ok c = sym (after_heading edition (body c) may) ∙ ap (reading format) (sym (parts_of c)) ∙ only format law c has in
       let m = along (length (body c)) (opening edition) (body c) c (omega arith) (IsBytes-body c has) read (complete_or_more turns.Release) in
       (m.0, record { end = m.1; allowed = may; each = m.2; led = m.3; complete = m.4; content = m.5 })

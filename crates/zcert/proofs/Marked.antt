@@ -10,11 +10,11 @@ use Rattle.zcert.specs.declared.instructions.Stored.{Stored}
 use Rattle.zcert.specs.declared.limits.TheConstants.{MARK, MAX_HEIGHT}
 use Rattle.zcert.specs.Certificate.{Instruction}
 use Rattle.zcert.specs.Contents.{has_mark, stored_instruction}
-use Rattle.zcert.specs.Editions.{is_limited, is_marking, edition_by}
+use Rattle.zcert.specs.Editions.{is_limited, is_marking, is_stating, edition_by}
 use Rattle.zcert.specs.Format.{Format, IsAllowed}
 use Rattle.zcert.specs.Keeping.{Keeping}
 use Rattle.zcert.specs.Marks.{height_byte, is_mark, without, height_in, IsMarkable, marks}
-use Rattle.zcert.specs.Spelling.{MayMark, IsLimit}
+use Rattle.zcert.specs.Spelling.{MayMark, MayState, IsLimit}
 
 -- ---- the byte of a height
 
@@ -67,23 +67,34 @@ module _ {V C : Type 0} (keeping : Keeping V C) (cells : List C) where
 
 -- ---- editions
 
-pub limited_by : (limit : Option ℕ) (marking : Bool) → is_limited (edition_by limit marking) ≡ is_some limit
-limited_by None marking = refl
-limited_by (Some n) true = refl
-limited_by (Some n) false = refl
+pub limited_by : (limit : Option ℕ) (marking stating : Bool) → is_limited (edition_by limit marking stating) ≡ is_some limit
+limited_by None marking stating = refl
+limited_by (Some n) true true = refl
+limited_by (Some n) true false = refl
+limited_by (Some n) false stating = refl
 
-pub marking_by : (limit : Option ℕ) (marking : Bool) → MayMark limit marking → is_marking (edition_by limit marking) ≡ marking
-marking_by None marking may = sym may
-marking_by (Some n) true may = refl
-marking_by (Some n) false may = refl
+pub marking_by : (limit : Option ℕ) (marking stating : Bool) → MayMark limit marking → is_marking (edition_by limit marking stating) ≡ marking
+marking_by None marking stating may = sym may
+marking_by (Some n) true true may = refl
+marking_by (Some n) true false may = refl
+marking_by (Some n) false stating may = refl
 
-pub edition_again : (edition : Edition) (limit : Option ℕ) → is_some limit ≡ is_limited edition → edition_by limit (is_marking edition) ≡ edition
+pub stating_by : (limit : Option ℕ) (marking stating : Bool) → MayMark limit marking → MayState marking stating → is_stating (edition_by limit marking stating) ≡ stating
+stating_by None true stating may state = absurd cc
+stating_by None false stating may state = sym state
+stating_by (Some n) true true may state = refl
+stating_by (Some n) true false may state = refl
+stating_by (Some n) false stating may state = sym state
+
+pub edition_again : (edition : Edition) (limit : Option ℕ) → is_some limit ≡ is_limited edition → edition_by limit (is_marking edition) (is_stating edition) ≡ edition
 edition_again editions.Plain None e = refl
 edition_again editions.Plain (Some n) e = absurd cc
 edition_again editions.Limited None e = absurd cc
 edition_again editions.Limited (Some n) e = refl
 edition_again editions.Marking None e = absurd cc
 edition_again editions.Marking (Some n) e = refl
+edition_again editions.Stating None e = absurd cc
+edition_again editions.Stating (Some n) e = refl
 
 pub may_mark : (edition : Edition) (limit : Option ℕ) → is_some limit ≡ is_limited edition → MayMark limit (is_marking edition)
 may_mark editions.Plain None e = refl
@@ -92,14 +103,24 @@ may_mark editions.Limited None e = absurd cc
 may_mark editions.Limited (Some n) e = tt
 may_mark editions.Marking None e = absurd cc
 may_mark editions.Marking (Some n) e = tt
+may_mark editions.Stating None e = absurd cc
+may_mark editions.Stating (Some n) e = tt
+
+pub may_state : (edition : Edition) → MayState (is_marking edition) (is_stating edition)
+may_state editions.Plain = refl
+may_state editions.Limited = refl
+may_state editions.Marking = tt
+may_state editions.Stating = tt
 
 module _ {V : Type 0} (format : Format V) where
   pub may_limit : (edition : Edition) → IsAllowed format edition → is_limited edition ≡ true → format.limited ≡ true
   may_limit editions.Plain may e = absurd cc
   may_limit editions.Limited may e = may
   may_limit editions.Marking may e = may
+  may_limit editions.Stating may e = may
 
-  pub edition_allowed : (limit : Option ℕ) (marking : Bool) → IsLimit format limit → IsAllowed format (edition_by limit marking)
-  edition_allowed None marking is = tt
-  edition_allowed (Some n) true is = is.0
-  edition_allowed (Some n) false is = is.0
+  pub edition_allowed : (limit : Option ℕ) (marking stating : Bool) → IsLimit format limit → IsAllowed format (edition_by limit marking stating)
+  edition_allowed None marking stating is = tt
+  edition_allowed (Some n) true true is = is.0
+  edition_allowed (Some n) true false is = is.0
+  edition_allowed (Some n) false stating is = is.0

@@ -8,19 +8,21 @@ use Rattle.zstory.specs.declared.identity.Identity.{Identity}
 use Rattle.zcert.specs.declared.edition.Edition.{Edition}
 use Rattle.zcert.specs.declared.edition.Edition.TheVariants as editions
 use Rattle.zcert.specs.declared.error.CertError.{CertError}
+use Rattle.zcert.specs.declared.parts.Fact.{Fact}
 use Rattle.zcert.specs.declared.parts.Range.{Range}
 use Rattle.zcert.specs.declared.parts.Routine.{Routine}
-use Rattle.zcert.specs.declared.limits.TheConstants.{MAGIC, GLOBALS, ADDRESS_LIMIT, MAX_LOCALS, MAX_INSTRUCTIONS, MAX_RANGES, MAX_ROUTINES, MAX_HEIGHT, MAX_FRAMES, LIMIT_VERSION, MARK_VERSION}
+use Rattle.zcert.specs.declared.limits.TheConstants.{MAGIC, GLOBALS, ADDRESS_LIMIT, MAX_LOCALS, MAX_INSTRUCTIONS, MAX_RANGES, MAX_ROUTINES, MAX_HEIGHT, MAX_FRAMES, MAX_FACTS, LIMIT_VERSION, MARK_VERSION, FACT_VERSION}
 use Rattle.zcert.specs.Numbers.{number, HasRoom}
 use Rattle.zcert.specs.Numbers as numbers
 use Rattle.zcert.specs.Certificate.{Instruction, Certificate, locals_of, edition_of}
 use Rattle.zcert.specs.Marks.{height_byte, is_mark, height_in, IsMarkable}
+use Rattle.zcert.specs.Facts.{least_global, FactsRise, AreStated}
 use Rattle.zcert.specs.Format.{Format, version_of, IsAllowed}
-use Rattle.zcert.specs.Spelling.{identity_bytes, limit_bytes, range_bytes, values_bytes, routine_bytes, instruction_bytes, counted, heading, spelling, IsIdentity, IsLimit, IsRange, AreApart, Rise, IsRoutine, IsInstruction, HasSpelling}
-use Rattle.zcert.specs.Reading.{magic_at, version_at, heading_at, identity_at, limit_at, fields_at, range_at, ranges_at, all_ranges_at, address_fits, values_at, routine_at, routines_at, all_routines_at, instruction_at, instructions_at, all_instructions_at, at_end, reading}
+use Rattle.zcert.specs.Spelling.{identity_bytes, limit_bytes, range_bytes, values_bytes, routine_bytes, instruction_bytes, fact_bytes, facts_bytes, counted, heading, spelling, IsIdentity, IsLimit, IsRange, AreApart, Rise, IsRoutine, IsInstruction, IsFact, HasSpelling}
+use Rattle.zcert.specs.Reading.{magic_at, version_at, heading_at, identity_at, limit_at, fields_at, range_at, ranges_at, all_ranges_at, address_fits, values_at, routine_at, routines_at, all_routines_at, instruction_at, instructions_at, all_instructions_at, fact_at, facts_from, all_facts_at, at_end, reading}
 use Rattle.zcert.specs.FormatLaw.Stepping.{number_again, serial_again}
 use Rattle.zcert.specs.FormatLaw.{IsFormat}
-use Rattle.zcert.proofs.Marked.{byte_has_room, mark_again, height_again, limited_by, marking_by, edition_allowed}
+use Rattle.zcert.proofs.Marked.{byte_has_room, mark_again, height_again, limited_by, marking_by, stating_by, edition_allowed}
 
 -- parts one after another, before what follows
 two : (a b rest : List ℕ) → (a ++ b) ++ rest ≡ a ++ (b ++ rest)
@@ -52,6 +54,9 @@ version_again format law editions.Limited rest may =
 version_again format law editions.Marking rest may =
     let other : (MARK_VERSION == format.version) ≡ false = other_version _ MARK_VERSION format.version law.unmarked refl in
     rw (number_again numbers.Version MARK_VERSION rest (omega arith), other, may) refl
+version_again format law editions.Stating rest may =
+    let other : (FACT_VERSION == format.version) ≡ false = other_version _ FACT_VERSION format.version law.unstated refl in
+    rw (number_again numbers.Version FACT_VERSION rest (omega arith), other, may) refl
 
 pub heading_again : {V : Type 0} (format : Format V) (law : IsFormat format) (edition : Edition) (rest : List ℕ) → IsAllowed format edition → heading_at format (heading format edition ++ rest) ≡ Ok (edition, rest)
 unfolding heading_at
@@ -198,8 +203,41 @@ module _ {V : Type 0} (format : Format V) (law : IsFormat format) where
         le-leb (length is) MAX_INSTRUCTIONS few,
       ) (instructions_again marking routines 0 is rest few_routines each may rise)
 
-  in_parts : (a b l c d e f : List ℕ) → a ++ b ++ l ++ c ++ d ++ e ++ f ≡ a ++ (b ++ (l ++ (c ++ (d ++ (e ++ (f ++ []))))))
-  in_parts a b l c d e f = simp (append_assoc, append-nil)
+  fact_again : (floor least : ℕ) (f : Fact V) (rest : List ℕ) → floor ≤ f.address → least_global floor least f.address ≤ f.global → IsFact format f → fact_at format floor least (fact_bytes format f ++ rest) ≡ Ok (f, rest)
+  unfolding fact_at
+  fact_again floor least f rest above behind is =
+      let global = number numbers.FactGlobal f.global in
+      let values = format.spelled f.values in
+      ap (fact_at format floor least) (three (number numbers.FactAddress f.address) global values rest) ∙ rw (
+        number_again numbers.FactAddress f.address (global ++ (values ++ rest)) (omega (arith, is.address)),
+        le-leb floor f.address above,
+        lt-ltb f.address ADDRESS_LIMIT is.address,
+        number_again numbers.FactGlobal f.global (values ++ rest) (omega (arith, is.global)),
+        le-leb (least_global floor least f.address) f.global behind,
+        lt-ltb f.global GLOBALS is.global,
+        law.again f.values rest is.values,
+      ) refl
+
+  facts_again : (floor least : ℕ) (fs : List (Fact V)) (rest : List ℕ) → AllByRecursion (IsFact format) fs → FactsRise floor least fs → facts_from format (length fs) floor least (flat_map (fact_bytes format) fs ++ rest) ≡ Ok (fs, rest)
+  unfolding facts_from
+  facts_again floor least [] rest each rise = refl
+  facts_again floor least (f ∷ fs) rest each rise =
+      ap (facts_from format (suc (length fs)) floor least) (two (fact_bytes format f) (flat_map (fact_bytes format) fs) rest) ∙ rw (
+        fact_again floor least f (flat_map (fact_bytes format) fs ++ rest) rise.0 rise.1 each.0,
+        facts_again f.address (f.global + 1) fs rest each.1 rise.2,
+      ) refl
+
+  all_facts_again : (stating : Bool) (fs : List (Fact V)) (rest : List ℕ) → length fs ≤ MAX_FACTS → AllByRecursion (IsFact format) fs → FactsRise 0 0 fs → AreStated stating fs → all_facts_at format stating (facts_bytes format stating fs ++ rest) ≡ Ok (fs, rest)
+  unfolding all_facts_at
+  all_facts_again false fs rest few each rise none = ap (λ (l : List (Fact V)). Ok (l, rest)) (sym none)
+  all_facts_again true fs rest few each rise stated =
+      ap (all_facts_at format true) (two (number numbers.FactCount (length fs)) (flat_map (fact_bytes format) fs) rest) ∙ rw (
+        number_again numbers.FactCount (length fs) (flat_map (fact_bytes format) fs ++ rest) (omega (arith, few)),
+        le-leb (length fs) MAX_FACTS few,
+      ) (facts_again 0 0 fs rest each rise)
+
+  in_parts : (a b l c d e f g : List ℕ) → a ++ b ++ l ++ c ++ d ++ e ++ f ++ g ≡ a ++ (b ++ (l ++ (c ++ (d ++ (e ++ (f ++ (g ++ [])))))))
+  in_parts a b l c d e f g = simp (append_assoc, append-nil)
 
   -- what has a spelling is read from it
   pub only : (c : Certificate V) → HasSpelling format c → reading format (spelling format c) ≡ Ok c
@@ -211,19 +249,24 @@ module _ {V : Type 0} (format : Format V) (law : IsFormat format) where
       let globals = values_bytes format c.globals in
       let routines = counted numbers.RoutineCount (routine_bytes format) c.routines in
       let instructions = counted numbers.InstructionCount (instruction_bytes format) c.instructions in
-      let globals_read : values_at format GLOBALS (globals ++ (routines ++ (instructions ++ []))) ≡ Ok (c.globals, routines ++ (instructions ++ [])) =
-      ap (λ (n : ℕ). values_at format n (globals ++ (routines ++ (instructions ++ [])))) (sym has.globals) ∙ values_again c.globals (routines ++ (instructions ++ [])) has.global_values
+      let facts = facts_bytes format c.stating c.facts in
+      let behind_routines = instructions ++ (facts ++ []) in
+      let behind_globals = routines ++ behind_routines in
+      let globals_read : values_at format GLOBALS (globals ++ behind_globals) ≡ Ok (c.globals, behind_globals) =
+      ap (λ (n : ℕ). values_at format n (globals ++ behind_globals)) (sym has.globals) ∙ values_again c.globals behind_globals has.global_values
       in
-      ap (reading format) (in_parts (heading format (edition_of c)) identity limit ranges globals routines instructions) ∙ rw (
-        heading_again format law (edition_of c) (identity ++ (limit ++ (ranges ++ (globals ++ (routines ++ (instructions ++ [])))))) (edition_allowed format c.limit c.marking has.limit),
-        identity_again c.identity (limit ++ (ranges ++ (globals ++ (routines ++ (instructions ++ []))))) has.identity,
-        limited_by c.limit c.marking,
-        marking_by c.limit c.marking has.marking,
-        limit_again format c.limit (ranges ++ (globals ++ (routines ++ (instructions ++ [])))) has.limit,
-        all_ranges_again c.ranges (globals ++ (routines ++ (instructions ++ []))) has.few_ranges has.ranges has.ranges_apart,
+      ap (reading format) (in_parts (heading format (edition_of c)) identity limit ranges globals routines instructions facts) ∙ rw (
+        heading_again format law (edition_of c) (identity ++ (limit ++ (ranges ++ (globals ++ behind_globals)))) (edition_allowed format c.limit c.marking c.stating has.limit),
+        identity_again c.identity (limit ++ (ranges ++ (globals ++ behind_globals))) has.identity,
+        limited_by c.limit c.marking c.stating,
+        marking_by c.limit c.marking c.stating has.marking,
+        stating_by c.limit c.marking c.stating has.marking has.stating,
+        limit_again format c.limit (ranges ++ (globals ++ behind_globals)) has.limit,
+        all_ranges_again c.ranges (globals ++ behind_globals) has.few_ranges has.ranges has.ranges_apart,
         globals_read,
-        all_routines_again c.routines (instructions ++ []) has.few_routines has.routines has.routines_rise,
-        all_instructions_again c.marking c.routines c.instructions [] has.few_routines has.few_instructions has.instructions has.instructions_markable has.instructions_rise,
+        all_routines_again c.routines behind_routines has.few_routines has.routines has.routines_rise,
+        all_instructions_again c.marking c.routines c.instructions (facts ++ []) has.few_routines has.few_instructions has.instructions has.instructions_markable has.instructions_rise,
+        all_facts_again c.stating c.facts [] has.few_facts has.facts has.facts_rise has.facts_stated,
       ) refl
 
   same_answer : (c d : Certificate V) (r : Result (Certificate V) CertError) → r ≡ Ok c → r ≡ Ok d → c ≡ d

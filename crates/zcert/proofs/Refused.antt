@@ -47,6 +47,7 @@ module _ {V : Type 0} (format : Format V) (law : IsFormat format) where
   cut_at (turns.Global more) due = rw no_set refl
   cut_at (turns.RoutineResult more address locals) due = rw no_set refl
   cut_at (turns.Value more h left) due = rw no_set refl
+  cut_at (turns.FactValues more address global) due = rw no_set refl
   cut_at turns.Complete due = absurd (due refl)
   cut_at _ due = refl
 

@@ -1,5 +1,5 @@
 -- What the rest of the bytes would be read as, once some fields are taken; and that to take a field is to read on.
-use Rattle.std.proofs.Common.{◌≡◌, ℕ, zero, suc, ◌+◌, Bool, true, Option, None, Some, List, [], ◌∷◌, ◌++◌, length, Result, Ok, Err, refl, sym, ap, ◌∙◌, append_assoc}
+use Rattle.std.proofs.Common.{◌≡◌, ℕ, zero, suc, ◌+◌, Bool, true, false, Option, None, Some, List, [], ◌∷◌, ◌++◌, length, Result, Ok, Err, refl, sym, ap, ◌∙◌, append_assoc}
 use Rattle.std.proofs.lemmas.List.{append-nil}
 use Rattle.std.specs.Prelude.{nat_le, is_some}
 use Rattle.zstory.specs.declared.identity.Identity.{Identity}
@@ -10,16 +10,18 @@ use Rattle.zcert.specs.declared.error.CertError.TheVariants as errors
 use Rattle.zcert.specs.declared.field.Header.{Header}
 use Rattle.zcert.specs.declared.field.Turn.{Turn}
 use Rattle.zcert.specs.declared.field.Turn.TheVariants as turns
+use Rattle.zcert.specs.declared.parts.Fact.{Fact}
 use Rattle.zcert.specs.declared.parts.Range.{Range}
 use Rattle.zcert.specs.declared.parts.Routine.{Routine}
-use Rattle.zcert.specs.declared.limits.TheConstants.{GLOBALS, MAX_LOCALS, MAX_INSTRUCTIONS, MAX_RANGES, MAX_ROUTINES, MAX_HEIGHT, MAX_FRAMES}
+use Rattle.zcert.specs.declared.limits.TheConstants.{GLOBALS, MAX_LOCALS, MAX_INSTRUCTIONS, MAX_RANGES, MAX_ROUTINES, MAX_HEIGHT, MAX_FRAMES, MAX_FACTS}
 use Rattle.zcert.specs.Numbers as numbers
 use Rattle.zcert.specs.Certificate.{Instruction, Certificate, locals_of}
 use Rattle.zcert.specs.Marks.{is_mark, height_in}
+use Rattle.zcert.specs.Facts.{least_global}
 use Rattle.zcert.specs.Steps.{◌>>=◌, need, number_at, serial_at}
 use Rattle.zcert.specs.Format.{Format}
-use Rattle.zcert.specs.Reading.{heading_at, identity_at, limit_at, fields_at, range_at, ranges_at, all_ranges_at, address_fits, values_at, routine_at, routines_at, all_routines_at, instruction_at, instructions_at, all_instructions_at, at_end, reading}
-use Rattle.zcert.specs.Building.{Progress, opening, instruction_of, with_identity, with_range, behind_identity, with_global, with_routine, with_instruction, before_ranges, before_globals, before_routines, before_instructions, before_values, taken}
+use Rattle.zcert.specs.Reading.{heading_at, identity_at, limit_at, fields_at, range_at, ranges_at, all_ranges_at, address_fits, global_fits, values_at, routine_at, routines_at, all_routines_at, instruction_at, instructions_at, all_instructions_at, fact_at, facts_from, all_facts_at, at_end, reading}
+use Rattle.zcert.specs.Building.{Progress, opening, instruction_of, with_identity, with_range, behind_identity, with_global, with_routine, with_instruction, with_fact, behind_instructions, before_facts, before_ranges, before_globals, before_routines, before_instructions, before_values, taken}
 use Rattle.zcert.specs.Fields.{field_at}
 
 -- one more part in front of the others
@@ -53,9 +55,15 @@ module _ {V : Type 0} (format : Format V) where
   abbrev and_ranges : Certificate V → List Range → Certificate V
   and_ranges c rs = record c { ranges = c.ranges ++ rs }
 
+  abbrev and_facts : Certificate V → List (Fact V) → Certificate V
+  and_facts c fs = record c { facts = c.facts ++ fs }
+
   -- what follows each part
+  abbrev then_facts : Certificate V → Result (List (Fact V) × List ℕ) CertError → Result (Certificate V) CertError
+  then_facts c read = read >>= λ fs. at_end format (and_facts c fs.0) fs.1
+
   abbrev then_instructions : Certificate V → Result (List (Instruction V) × List ℕ) CertError → Result (Certificate V) CertError
-  then_instructions c read = read >>= λ is. at_end format (and_instructions c is.0) is.1
+  then_instructions c read = read >>= λ is. then_facts (and_instructions c is.0) (all_facts_at format c.stating is.1)
 
   abbrev then_routines : Certificate V → Result (List (Routine V) × List ℕ) CertError → Result (Certificate V) CertError
   then_routines c read = read >>= λ rs. then_instructions (and_routines c rs.0) (all_instructions_at format c.marking (and_routines c rs.0).routines rs.1)
@@ -120,6 +128,15 @@ module _ {V : Type 0} (format : Format V) where
   abbrev and_more_instructions : Bool → List (Routine V) → ℕ → Result (Instruction V × List ℕ) CertError → Result (List (Instruction V) × List ℕ) CertError
   and_more_instructions marking routines more read = read >>= λ i. preceded i.0 (instructions_at format marking routines more (i.0.address + 1) i.1)
 
+  abbrev fact_from_values : ℕ → ℕ → List ℕ → Result (Fact V × List ℕ) CertError
+  fact_from_values address global bytes = format.value_at bytes >>= λ v. Ok (record { address = address; global = global; values = v.0 }, v.1)
+
+  abbrev fact_from_global : ℕ → ℕ → List ℕ → Result (Fact V × List ℕ) CertError
+  fact_from_global address least bytes = number_at numbers.FactGlobal bytes >>= λ n. global_fits least n.0 >>= λ _. fact_from_values address n.0 n.1
+
+  abbrev and_more_facts : ℕ → Result (Fact V × List ℕ) CertError → Result (List (Fact V) × List ℕ) CertError
+  and_more_facts more read = read >>= λ f. preceded f.0 (facts_from format more f.0.address (f.0.global + 1) f.1)
+
   -- what the rest of the bytes would be read as
   abbrev rest_from : Turn → Progress V → List ℕ → Result (Certificate V) CertError
   rest_from turns.Release p bytes = then_identity p.content (identity_from_release p.content.identity bytes)
@@ -140,6 +157,10 @@ module _ {V : Type 0} (format : Format V) where
   rest_from (turns.RoutineNumber more address) p bytes = then_instructions p.content (and_more_instructions p.content.marking p.content.routines more (instruction_from_routine p.content.marking p.content.routines p.values address bytes))
   rest_from (turns.Height more address routine) p bytes = then_instructions p.content (and_more_instructions p.content.marking p.content.routines more (instruction_from_height p.content.marking p.content.routines p.values address routine bytes))
   rest_from (turns.Value more h left) p bytes = then_instructions p.content (and_more_instructions p.content.marking p.content.routines more (instruction_from_values h p.values (values_at format (suc left) bytes)))
+  rest_from turns.FactCount p bytes = then_facts p.content (all_facts_at format true bytes)
+  rest_from (turns.FactAddress more least) p bytes = then_facts p.content (facts_from format (suc more) p.floor least bytes)
+  rest_from (turns.FactGlobal more address least) p bytes = then_facts p.content (and_more_facts more (fact_from_global address least bytes))
+  rest_from (turns.FactValues more address global) p bytes = then_facts p.content (and_more_facts more (fact_from_values address global bytes))
   rest_from turns.Complete p bytes = at_end format p.content bytes
 
   unfoldable pub rest_of : Progress V → List ℕ → Result (Certificate V) CertError
@@ -166,9 +187,23 @@ module _ {V : Type 0} (format : Format V) where
   no_instructions c = ap (λ is. record c { instructions = is }) (append-nil c.instructions)
 
   -- to read so many parts is to read from the turn before them
-  from_instructions : (n : ℕ) (c : Certificate V) (values : List V) (floor : ℕ) (bytes : List ℕ) → then_instructions c (instructions_at format c.marking c.routines n floor bytes) ≡ rest_of (at_turn c values floor (before_instructions n)) bytes
+  no_facts : (c : Certificate V) → and_facts c [] ≡ c
+  no_facts c = ap (λ fs. record c { facts = fs }) (append-nil c.facts)
+
+  from_facts : (n : ℕ) (c : Certificate V) (values : List V) (floor least : ℕ) (bytes : List ℕ) → then_facts c (facts_from format n floor least bytes) ≡ rest_of (at_turn c values floor (before_facts least n)) bytes
+  unfolding rest_of facts_from
+  from_facts zero c values floor least bytes = ap (λ d. at_end format d bytes) (no_facts c)
+  from_facts (suc n) c values floor least bytes = refl
+
+  -- behind the instructions
+  from_end : (stating : Bool) (c : Certificate V) (values : List V) (floor : ℕ) (bytes : List ℕ) → then_facts c (all_facts_at format stating bytes) ≡ rest_of (at_turn c values floor (behind_instructions stating)) bytes
+  unfolding rest_of all_facts_at
+  from_end false c values floor bytes = ap (λ d. at_end format d bytes) (no_facts c)
+  from_end true c values floor bytes = refl
+
+  from_instructions : (n : ℕ) (c : Certificate V) (values : List V) (floor : ℕ) (bytes : List ℕ) → then_instructions c (instructions_at format c.marking c.routines n floor bytes) ≡ rest_of (at_turn c values floor (before_instructions c.stating n)) bytes
   unfolding rest_of instructions_at
-  from_instructions zero c values floor bytes = ap (λ d. at_end format d bytes) (no_instructions c)
+  from_instructions zero c values floor bytes = ap (λ (d : Certificate V). then_facts d (all_facts_at format d.stating bytes)) (no_instructions c) ∙ from_end c.stating c values floor bytes
   from_instructions (suc n) c values floor bytes = refl
 
   from_routines : (n : ℕ) (c : Certificate V) (values : List V) (floor : ℕ) (bytes : List ℕ) → then_routines c (routines_at format n floor bytes) ≡ rest_of (at_turn c values floor (before_routines n)) bytes
@@ -298,7 +333,7 @@ module _ {V : Type 0} (format : Format V) where
   from_values zero t more h c values floor bytes =
       let i : Instruction V = instruction_of h values in
       ap (λ vs. then_instructions c (and_more_instructions c.marking c.routines more (Ok (instruction_of h vs, bytes)))) (append-nil values)
-      ∙ joined c.instructions i (instructions_at format c.marking c.routines more (h.address + 1) bytes) (λ is rest. at_end format (record c { instructions = is }) rest)
+      ∙ joined c.instructions i (instructions_at format c.marking c.routines more (h.address + 1) bytes) (λ is rest. then_facts (record c { instructions = is }) (all_facts_at format c.stating rest))
       ∙ from_instructions more (with_instruction c i) values (h.address + 1) bytes
   from_values (suc left) t more h c values floor bytes = refl
 
@@ -322,6 +357,31 @@ module _ {V : Type 0} (format : Format V) where
       ∙ from_values left (turns.Value more h left) more h c (values ++ v.0 ∷ []) floor v.1
       )
   on_value more h left c values floor bytes (Err d) e = rw e refl
+
+  on_fact_count : (c : Certificate V) (values : List V) (floor : ℕ) (bytes : List ℕ) (r : Result (ℕ × List ℕ) CertError) → number_at numbers.FactCount bytes ≡ r → IsReadingOn c values floor turns.FactCount bytes
+  unfolding rest_of all_facts_at
+  on_fact_count c values floor bytes (Ok n) e = rw e (on_condition (need (nat_le n.0 MAX_FACTS) errors.Limit) (facts_from format n.0 0 0 n.1) _ _ _ (from_facts n.0 c values 0 0 n.1))
+  on_fact_count c values floor bytes (Err d) e = rw e refl
+
+  on_fact_address : (more least : ℕ) (c : Certificate V) (values : List V) (floor : ℕ) (bytes : List ℕ) (r : Result (ℕ × List ℕ) CertError) → number_at numbers.FactAddress bytes ≡ r → IsReadingOn c values floor (turns.FactAddress more least) bytes
+  unfolding rest_of facts_from fact_at
+  on_fact_address more least c values floor bytes (Ok n) e = rw e (on_condition_within (address_fits floor n.0) (fact_from_global n.0 (least_global floor least n.0) n.1) _ _ _ _ refl)
+  on_fact_address more least c values floor bytes (Err d) e = rw e refl
+
+  on_fact_global : (more address least : ℕ) (c : Certificate V) (values : List V) (floor : ℕ) (bytes : List ℕ) (r : Result (ℕ × List ℕ) CertError) → number_at numbers.FactGlobal bytes ≡ r → IsReadingOn c values floor (turns.FactGlobal more address least) bytes
+  unfolding rest_of
+  on_fact_global more address least c values floor bytes (Ok n) e = rw e (on_condition_within (global_fits least n.0) (fact_from_values address n.0 n.1) _ _ _ _ refl)
+  on_fact_global more address least c values floor bytes (Err d) e = rw e refl
+
+  on_fact_values : (more address global : ℕ) (c : Certificate V) (values : List V) (floor : ℕ) (bytes : List ℕ) (r : Result (V × List ℕ) CertError) → format.value_at bytes ≡ r → IsReadingOn c values floor (turns.FactValues more address global) bytes
+  unfolding rest_of
+  on_fact_values more address global c values floor bytes (Ok v) e =
+      let f : Fact V = record { address = address; global = global; values = v.0 } in
+      rw e (
+      joined c.facts f (facts_from format more address (global + 1) v.1) (λ fs rest. at_end format (record c { facts = fs }) rest)
+      ∙ from_facts more (with_fact c f) values address (global + 1) v.1
+      )
+  on_fact_values more address global c values floor bytes (Err d) e = rw e refl
 
   -- a field is in turn, or bytes are left where none is
   abbrev pub HasMore : Turn → List ℕ → Type 0
@@ -348,6 +408,10 @@ module _ {V : Type 0} (format : Format V) where
   on_turn (turns.RoutineNumber more address) c values floor bytes m = on_routine_number more address c values floor bytes (number_at numbers.RoutineNumber bytes) refl
   on_turn (turns.Height more address routine) c values floor bytes m = on_height more address routine c values floor bytes (number_at numbers.Height bytes) refl
   on_turn (turns.Value more h left) c values floor bytes m = on_value more h left c values floor bytes (format.value_at bytes) refl
+  on_turn turns.FactCount c values floor bytes m = on_fact_count c values floor bytes (number_at numbers.FactCount bytes) refl
+  on_turn (turns.FactAddress more least) c values floor bytes m = on_fact_address more least c values floor bytes (number_at numbers.FactAddress bytes) refl
+  on_turn (turns.FactGlobal more address least) c values floor bytes m = on_fact_global more address least c values floor bytes (number_at numbers.FactGlobal bytes) refl
+  on_turn (turns.FactValues more address global) c values floor bytes m = on_fact_values more address global c values floor bytes (format.value_at bytes) refl
   on_turn turns.Complete c values floor [] m = absurd m
   on_turn turns.Complete c values floor (b ∷ bytes) m = refl
 
@@ -368,6 +432,7 @@ module _ {V : Type 0} (format : Format V) where
   fields_open editions.Plain bytes = refl
   fields_open editions.Limited bytes = refl
   fields_open editions.Marking bytes = refl
+  fields_open editions.Stating bytes = refl
 
   all_open : (r : Result (Edition × List ℕ) CertError) → (r >>= λ x. fields_at format x.0 x.1) ≡ (r >>= λ x. rest_of (opening x.0) x.1)
   all_open (Ok x) = fields_open x.0 x.1

@@ -11,7 +11,7 @@ use Rattle.zcert.specs.declared.field.Field.{Field}
 use Rattle.zcert.specs.declared.field.Field.TheVariants as fields
 use Rattle.zcert.specs.declared.field.Turn.{Turn}
 use Rattle.zcert.specs.declared.field.Turn.TheVariants as turns
-use Rattle.zcert.specs.declared.limits.TheConstants.{MAGIC, LIMIT_VERSION, MARK_VERSION}
+use Rattle.zcert.specs.declared.limits.TheConstants.{MAGIC, LIMIT_VERSION, MARK_VERSION, FACT_VERSION}
 use Rattle.zcert.specs.Numbers as numbers
 use Rattle.zcert.specs.Steps.{◌>>=◌, need, number_at}
 use Rattle.zcert.specs.Format.{Format, version_of}
@@ -34,15 +34,16 @@ pub plain_magic : (bytes : List ℕ) → IsPlain (magic_at bytes)
 unfolding magic_at
 plain_magic bytes = plain_then (number_at numbers.Magic bytes) _ (plain_sized 4 bytes) (λ x. plain_then (need (x.0 == MAGIC) errors.Magic) _ (plain_need (x.0 == MAGIC) errors.Magic (λ e. absurd cc)) (λ u. plain_ok x.1))
 
-plain_edition : (plain limit mark : Bool) → IsPlain (edition_where plain limit mark)
-plain_edition true limit mark = plain_ok editions.Plain
-plain_edition false true mark = plain_ok editions.Limited
-plain_edition false false true = plain_ok editions.Marking
-plain_edition false false false = λ e. absurd cc
+plain_edition : (plain limit mark fact : Bool) → IsPlain (edition_where plain limit mark fact)
+plain_edition true limit mark fact = plain_ok editions.Plain
+plain_edition false true mark fact = plain_ok editions.Limited
+plain_edition false false true fact = plain_ok editions.Marking
+plain_edition false false false true = plain_ok editions.Stating
+plain_edition false false false false = λ e. absurd cc
 
 pub plain_version : {V : Type 0} (format : Format V) (bytes : List ℕ) → IsPlain (version_at format bytes)
 unfolding version_at
-plain_version format bytes = plain_then (number_at numbers.Version bytes) _ (plain_sized 1 bytes) (λ x. plain_then (edition_where (x.0 == format.version) (format.limited && (x.0 == LIMIT_VERSION)) (format.limited && (x.0 == MARK_VERSION))) _ (plain_edition _ _ _) (λ edition. plain_ok (edition, x.1)))
+plain_version format bytes = plain_then (number_at numbers.Version bytes) _ (plain_sized 1 bytes) (λ x. plain_then (edition_where (x.0 == format.version) (format.limited && (x.0 == LIMIT_VERSION)) (format.limited && (x.0 == MARK_VERSION)) (format.limited && (x.0 == FACT_VERSION))) _ (plain_edition _ _ _ _) (λ edition. plain_ok (edition, x.1)))
 
 module _ {V : Type 0} (format : Format V) (law : IsFormat format) where
   plain_field : {X : Type 0} (make : X → Field V) (read : Result (X × List ℕ) CertError) → IsPlain read → IsPlain (as_field format make read)
@@ -67,6 +68,10 @@ module _ {V : Type 0} (format : Format V) (law : IsFormat format) where
   plain_field_at (turns.RoutineNumber more address) bytes = plain_field fields.RoutineNumber _ (plain_sized 2 bytes)
   plain_field_at (turns.Height more address routine) bytes = plain_field fields.Height _ (plain_sized 1 bytes)
   plain_field_at (turns.Value more h left) bytes = plain_field fields.Value _ (law.plain bytes)
+  plain_field_at turns.FactCount bytes = plain_field fields.FactCount _ (plain_sized 4 bytes)
+  plain_field_at (turns.FactAddress more least) bytes = plain_field fields.FactAddress _ (plain_sized 4 bytes)
+  plain_field_at (turns.FactGlobal more address least) bytes = plain_field fields.FactGlobal _ (plain_sized 1 bytes)
+  plain_field_at (turns.FactValues more address global) bytes = plain_field fields.FactValues _ (law.plain bytes)
   plain_field_at turns.Complete bytes = λ e. absurd cc
 
   -- a field that is refused wants no memory

@@ -6,7 +6,7 @@ use Rattle.zcert.specs.declared.error.CertError.{CertError}
 use Rattle.zcert.specs.declared.error.CertError.TheVariants as errors
 use Rattle.zcert.specs.Certificate.{Certificate}
 use Rattle.zcert.specs.Format.{interval_format}
-use Rattle.zcert.specs.Reading.{reading, fields_at, heading_at, magic_at, version_at, identity_at, limit_at, range_at, ranges_at, all_ranges_at, values_at, routine_at, routines_at, all_routines_at, instruction_at, instructions_at, all_instructions_at, at_end}
+use Rattle.zcert.specs.Reading.{reading, fields_at, heading_at, magic_at, version_at, identity_at, limit_at, range_at, ranges_at, all_ranges_at, values_at, routine_at, routines_at, all_routines_at, instruction_at, instructions_at, all_instructions_at, all_facts_at, at_end}
 use Rattle.zcert.specs.Spelling.{spelling, IsIdentity, HasSpelling}
 use Rattle.zcert.proofs.Bare.{has_spelling}
 
@@ -24,10 +24,12 @@ certificate = record {
   identity = record { release = 1; serial = 0x32 ∷ 0x36 ∷ 0x30 ∷ 0x31 ∷ 0x30 ∷ 0x31 ∷ []; checksum = 0x3A7A; length = 0x32A };
   limit = None;
   marking = false;
+  stating = false;
   ranges = [];
   globals = replicate 240 (point 0);
   routines = [];
   instructions = record { address = 0x324; routine = 0; is_marked = false; locals = []; slots = [] } ∷ record { address = 0x329; routine = 0; is_marked = false; locals = []; slots = [] } ∷ [];
+  facts = [];
 }
 
 spelled : spelling interval_format certificate ≡ sample
@@ -39,7 +41,7 @@ unfolding sample front back
 long = refl
 
 read : reading interval_format sample ≡ Ok certificate
-unfolding certificate sample front back reading heading_at magic_at version_at fields_at identity_at limit_at range_at ranges_at all_ranges_at values_at routine_at routines_at all_routines_at instruction_at instructions_at all_instructions_at at_end
+unfolding certificate sample front back reading heading_at magic_at version_at fields_at identity_at limit_at range_at ranges_at all_ranges_at values_at routine_at routines_at all_routines_at instruction_at instructions_at all_instructions_at all_facts_at at_end
 read = refl
 
 -- what it says has a spelling
@@ -70,7 +72,7 @@ none_has = (
 )
 
 one_more : reading interval_format (sample ++ 0 ∷ []) ≡ Err errors.Trailing
-unfolding sample front back reading heading_at magic_at version_at fields_at identity_at limit_at range_at ranges_at all_ranges_at values_at routine_at routines_at all_routines_at instruction_at instructions_at all_instructions_at at_end
+unfolding sample front back reading heading_at magic_at version_at fields_at identity_at limit_at range_at ranges_at all_ranges_at values_at routine_at routines_at all_routines_at instruction_at instructions_at all_instructions_at all_facts_at at_end
 one_more = refl
 
 -- what alterations make of it
@@ -88,7 +90,7 @@ empty_global = refl
 
 -- one instruction, three, 131,073, and one address twice
 counts : (altered (front ++ 0 ∷ 0 ∷ 0 ∷ 0 ∷ []) (0 ∷ 0 ∷ 0 ∷ 0 ∷ 0 ∷ 1 ∷ drop 6 back) ≡ Err errors.Trailing) × (altered (front ++ 0 ∷ 0 ∷ 0 ∷ 0 ∷ []) (0 ∷ 0 ∷ 0 ∷ 0 ∷ 0 ∷ 3 ∷ drop 6 back) ≡ Err errors.Truncated) × (altered (front ++ 0 ∷ 0 ∷ 0 ∷ 0 ∷ []) (0 ∷ 0 ∷ 0 ∷ 2 ∷ 0 ∷ 1 ∷ drop 6 back) ≡ Err errors.Limit) × (altered (front ++ 0 ∷ 0 ∷ 0 ∷ 0 ∷ []) (0 ∷ 0 ∷ 0 ∷ 0 ∷ 0 ∷ 2 ∷ 0 ∷ 0 ∷ 3 ∷ 0x29 ∷ drop 10 back) ≡ Err errors.Order)
-unfolding altered front back reading heading_at magic_at version_at fields_at identity_at limit_at range_at ranges_at all_ranges_at values_at routine_at routines_at all_routines_at instruction_at instructions_at all_instructions_at at_end
+unfolding altered front back reading heading_at magic_at version_at fields_at identity_at limit_at range_at ranges_at all_ranges_at values_at routine_at routines_at all_routines_at instruction_at instructions_at all_instructions_at all_facts_at at_end
 counts = (refl, refl, refl, refl)
 
 -- ---- one with stacks of none, one and two slots, the bottom one first
@@ -113,12 +115,12 @@ unfolding stacked certificate front stacks
 stacks_spelled = refl
 
 stacks_read : reading interval_format (front ++ replicate 960 0 ++ stacks) ≡ Ok stacked
-unfolding stacked certificate front stacks reading heading_at magic_at version_at fields_at identity_at limit_at range_at ranges_at all_ranges_at values_at routine_at routines_at all_routines_at instruction_at instructions_at all_instructions_at at_end
+unfolding stacked certificate front stacks reading heading_at magic_at version_at fields_at identity_at limit_at range_at ranges_at all_ranges_at values_at routine_at routines_at all_routines_at instruction_at instructions_at all_instructions_at all_facts_at at_end
 stacks_read = refl
 
 -- a slot less is there, and a slot more
 slots_counted : (reading interval_format (front ++ replicate 960 0 ++ take 38 stacks) ≡ Err errors.Truncated) × (reading interval_format (front ++ replicate 960 0 ++ stacks ++ 0 ∷ 1 ∷ 0 ∷ 1 ∷ []) ≡ Err errors.Trailing)
-unfolding front stacks reading heading_at magic_at version_at fields_at identity_at limit_at range_at ranges_at all_ranges_at values_at routine_at routines_at all_routines_at instruction_at instructions_at all_instructions_at at_end
+unfolding front stacks reading heading_at magic_at version_at fields_at identity_at limit_at range_at ranges_at all_ranges_at values_at routine_at routines_at all_routines_at instruction_at instructions_at all_instructions_at all_facts_at at_end
 slots_counted = (refl, refl)
 
 -- ---- one with a frozen range, a routine of two locals, and an instruction of it with a slot
@@ -147,5 +149,5 @@ unfolding whole certificate before_globals after_globals front
 whole_spelled = refl
 
 whole_read : reading interval_format (before_globals ++ replicate 960 0 ++ after_globals) ≡ Ok whole
-unfolding whole certificate before_globals after_globals front reading heading_at magic_at version_at fields_at identity_at limit_at range_at ranges_at all_ranges_at values_at routine_at routines_at all_routines_at instruction_at instructions_at all_instructions_at at_end
+unfolding whole certificate before_globals after_globals front reading heading_at magic_at version_at fields_at identity_at limit_at range_at ranges_at all_ranges_at values_at routine_at routines_at all_routines_at instruction_at instructions_at all_instructions_at all_facts_at at_end
 whole_read = refl

@@ -7,11 +7,11 @@ use Rattle.zcert.specs.declared.field.Field.{Field}
 use Rattle.zcert.specs.declared.field.Field.TheVariants as fields
 use Rattle.zcert.specs.declared.field.Turn.{Turn}
 use Rattle.zcert.specs.declared.field.Turn.TheVariants as turns
-use Rattle.zcert.specs.declared.limits.TheConstants.{ADDRESS_LIMIT, MAX_LOCALS, MAX_INSTRUCTIONS, MAX_RANGES, MAX_ROUTINES, MAX_HEIGHT, MAX_FRAMES}
+use Rattle.zcert.specs.declared.limits.TheConstants.{ADDRESS_LIMIT, GLOBALS, MAX_LOCALS, MAX_INSTRUCTIONS, MAX_RANGES, MAX_ROUTINES, MAX_HEIGHT, MAX_FRAMES, MAX_FACTS}
 use Rattle.zcert.specs.Marks.{height_in}
 use Rattle.zcert.specs.Steps.{◌>>=◌, need}
-use Rattle.zcert.specs.Reading.{address_fits}
-use Rattle.zcert.specs.Building.{Progress, taken, after_release, after_serial, after_checksum, after_loaded_length, after_frame_limit, after_range_count, after_range_first, after_range_last, after_global, after_routine_count, after_routine_address, after_local_count, after_routine_result, after_instruction_count, after_instruction_address, after_routine_number, after_height, after_value}
+use Rattle.zcert.specs.Reading.{address_fits, global_fits}
+use Rattle.zcert.specs.Building.{Progress, taken, after_release, after_serial, after_checksum, after_loaded_length, after_frame_limit, after_range_count, after_range_first, after_range_last, after_global, after_routine_count, after_routine_address, after_local_count, after_routine_result, after_instruction_count, after_instruction_address, after_routine_number, after_height, after_value, after_fact_count, after_fact_address, after_fact_global, after_fact_values}
 
 abbrev pub IsUncut : {A : Type 0} → Result A CertError → Type 0
 IsUncut r = r ≢ Err errors.Truncated
@@ -37,6 +37,9 @@ uncut_then (Err d) v uncut next e = uncut e
 
 uncut_address : (floor address : ℕ) → IsUncut (address_fits floor address)
 uncut_address floor address = uncut_then (need (nat_le floor address) errors.Order) (need (nat_lt address ADDRESS_LIMIT) errors.Limit) (uncut_need _ _ order) (uncut_need _ _ limit)
+
+uncut_global : (least global : ℕ) → IsUncut (global_fits least global)
+uncut_global least global = uncut_then (need (nat_le least global) errors.Order) (need (nat_lt global GLOBALS) errors.Limit) (uncut_need _ _ order) (uncut_need _ _ limit)
 
 module _ {V : Type 0} where
   of_release : (n : ℕ) (t : Turn) (p : Progress V) → IsUncut (after_release n t p)
@@ -111,6 +114,22 @@ module _ {V : Type 0} where
   of_value v (turns.Value more h left) p e = absurd cc
   of_value v _ p e = absurd cc
 
+  of_fact_count : (n : ℕ) (t : Turn) (p : Progress V) → IsUncut (after_fact_count n t p)
+  of_fact_count n turns.FactCount p = uncut_when (need (nat_le n MAX_FACTS) errors.Limit) _ (uncut_need _ _ limit)
+  of_fact_count n _ p = λ e. absurd cc
+
+  of_fact_address : (n : ℕ) (t : Turn) (p : Progress V) → IsUncut (after_fact_address n t p)
+  of_fact_address n (turns.FactAddress more least) p = uncut_when (address_fits p.floor n) _ (uncut_address p.floor n)
+  of_fact_address n _ p = λ e. absurd cc
+
+  of_fact_global : (n : ℕ) (t : Turn) (p : Progress V) → IsUncut (after_fact_global n t p)
+  of_fact_global n (turns.FactGlobal more address least) p = uncut_when (global_fits least n) _ (uncut_global least n)
+  of_fact_global n _ p = λ e. absurd cc
+
+  of_fact_values : (v : V) (t : Turn) (p : Progress V) → IsUncut (after_fact_values v t p)
+  of_fact_values v (turns.FactValues more address global) p e = absurd cc
+  of_fact_values v _ p e = absurd cc
+
   pub taken_uncut : (p : Progress V) (f : Field V) → IsUncut (taken p f)
   taken_uncut p (fields.Release n) = of_release n p.turn p
   taken_uncut p (fields.Serial s) = of_serial s p.turn p
@@ -130,3 +149,7 @@ module _ {V : Type 0} where
   taken_uncut p (fields.RoutineNumber n) = of_routine_number n p.turn p
   taken_uncut p (fields.Height n) = of_height n p.turn p
   taken_uncut p (fields.Value v) = of_value v p.turn p
+  taken_uncut p (fields.FactCount n) = of_fact_count n p.turn p
+  taken_uncut p (fields.FactAddress n) = of_fact_address n p.turn p
+  taken_uncut p (fields.FactGlobal n) = of_fact_global n p.turn p
+  taken_uncut p (fields.FactValues v) = of_fact_values v p.turn p

@@ -327,7 +327,7 @@ local_and_slot = refl
 -- ---- field by field
 
 -- what is to come, where so many parts are
-turns_before : (before_ranges 0 ≡ turns.Global 239) × (before_ranges 1 ≡ turns.RangeFirst 0) × (before_globals 0 ≡ turns.RoutineCount) × (before_globals 1 ≡ turns.Global 0) × (before_routines 0 ≡ turns.InstructionCount) × (before_routines 2 ≡ turns.RoutineAddress 1) × (before_instructions 0 ≡ turns.Complete) × (before_instructions 2 ≡ turns.InstructionAddress 1)
+turns_before : (before_ranges 0 ≡ turns.Global 239) × (before_ranges 1 ≡ turns.RangeFirst 0) × (before_globals 0 ≡ turns.RoutineCount) × (before_globals 1 ≡ turns.Global 0) × (before_routines 0 ≡ turns.InstructionCount) × (before_routines 2 ≡ turns.RoutineAddress 1) × (before_instructions false 0 ≡ turns.Complete) × (before_instructions false 2 ≡ turns.InstructionAddress 1)
 turns_before = (refl, refl, refl, refl, refl, refl, refl, refl)
 
 header : Header
@@ -349,7 +349,7 @@ at_turn : Turn → ℕ → Progress Interval
 at_turn turn floor = record (opening editions.Plain) { turn = turn; floor = floor }
 
 -- fields in their turn, and one out of it
-first_fields : (all_taken start (fields.Release 1 ∷ fields.Serial identity.serial ∷ fields.Checksum 0x3A7A ∷ fields.LoadedLength 0x32A ∷ fields.RangeCount 0 ∷ []) ≡ Ok (record { content = record { identity = identity; limit = None; marking = false; ranges = []; globals = []; routines = []; instructions = [] }; values = []; floor = 0; turn = turns.Global 239 })) × (taken start (fields.Checksum 1) ≡ Err errors.Order) × (all_taken start (fields.Release 1 ∷ fields.Release 1 ∷ []) ≡ Err errors.Order)
+first_fields : (all_taken start (fields.Release 1 ∷ fields.Serial identity.serial ∷ fields.Checksum 0x3A7A ∷ fields.LoadedLength 0x32A ∷ fields.RangeCount 0 ∷ []) ≡ Ok (record { content = record { identity = identity; limit = None; marking = false; stating = false; ranges = []; globals = []; routines = []; instructions = []; facts = [] }; values = []; floor = 0; turn = turns.Global 239 })) × (taken start (fields.Checksum 1) ≡ Err errors.Order) × (all_taken start (fields.Release 1 ∷ fields.Release 1 ∷ []) ≡ Err errors.Order)
 unfolding start identity
 first_fields = (refl, refl, refl)
 
@@ -472,7 +472,7 @@ first_part = record {
     omega arith,
     ((refl, (omega arith, (omega arith, (omega arith, (omega arith, (omega arith, (omega arith, tt))))))), (omega arith, (omega arith, (omega arith, ((omega arith, omega arith), tt))))),
   );
-  before = record { content = record { identity = identity; limit = None; marking = false; ranges = []; globals = []; routines = []; instructions = [] }; values = []; floor = 0; turn = turns.Global 239 };
+  before = record { content = record { identity = identity; limit = None; marking = false; stating = false; ranges = []; globals = []; routines = []; instructions = []; facts = [] }; values = []; floor = 0; turn = turns.Global 239 };
   reached = refl;
   led = refl;
   adds = tt;
@@ -486,6 +486,7 @@ no_part l = by l.edition l.allowed l.spelled
     by editions.Plain may e = absurd cc
     by editions.Limited may e = absurd (let none = may in cc)
     by editions.Marking may e = absurd (let none = may in cc)
+    by editions.Stating may e = absurd (let none = may in cc)
 
 -- ---- how it is kept
 
@@ -539,7 +540,7 @@ next_widths = (refl, refl, refl)
 came_so_far : (end_bytes Nothing ≡ []) × (end_bytes (Lower 0x1234) ≡ 0x12 ∷ 0x34 ∷ []) × (ends_turns.came (Lower 0x1234) ≡ 0x12 ∷ 0x34 ∷ []) × (ends_turns.awaited (Lower 3) ≡ 2)
 came_so_far = (refl, refl, refl, refl)
 
--- sets come in three places, and nothing of one has come elsewhere
+-- sets come in four places, and nothing of one has come elsewhere
 part_places : IsOfSet (turns.Global 3) × IsOfSet (turns.RoutineResult 1 2 3) × IsOfSet (turns.Value 3 header 1) × (IsOfSet turns.Checksum → ⊥) × (IsOfSet turns.Complete → ⊥) × IsSetNext stages.Field (turns.Global 3) × (IsSetNext stages.Version (turns.Global 3) → ⊥) × (IsSetNext stages.Magic (turns.Global 3) → ⊥) × IsPartOf ends_turns stages.Field (turns.Global 3) (Lower 5) × IsPartOf ends_turns stages.Field turns.Checksum Nothing × (IsPartOf ends_turns stages.Field turns.Checksum (Lower 5) → ⊥)
 part_places = (tt, tt, tt, λ i. i, λ i. i, tt, λ i. i, λ i. i, λ out. absurd (out tt), λ out. refl, λ part. absurd (let e = part (λ i. i) in cc))
 

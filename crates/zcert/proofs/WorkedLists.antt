@@ -25,10 +25,10 @@ use Rattle.zcert.specs.Reading.{version_at, values_at}
 numbers_of_sets : (LIST_VERSION ≡ 2) × (width numbers.Kind ≡ 1) × (width numbers.WordCount ≡ 1) × (width numbers.Word ≡ 2) × (number numbers.Word 411 ≡ 1 ∷ 0x9B ∷ [])
 numbers_of_sets = (refl, refl, refl, refl, refl)
 
--- version 2 names no limit of frames, versions 3 and 4 one; no other is read
-versions : (heading values_format editions.Plain ≡ 0x5A ∷ 0x50 ∷ 0x43 ∷ 0x43 ∷ 2 ∷ []) × (version_at values_format (2 ∷ 7 ∷ []) ≡ Ok (editions.Plain, 7 ∷ [])) × (version_at values_format (1 ∷ 7 ∷ []) ≡ Err errors.Version) × (version_at values_format (3 ∷ []) ≡ Ok (editions.Limited, [])) × (version_at values_format (4 ∷ []) ≡ Ok (editions.Marking, [])) × (version_at values_format (5 ∷ []) ≡ Err errors.Version)
+-- version 2 names no limit of frames, versions 3 to 5 one; no other is read
+versions : (heading values_format editions.Plain ≡ 0x5A ∷ 0x50 ∷ 0x43 ∷ 0x43 ∷ 2 ∷ []) × (version_at values_format (2 ∷ 7 ∷ []) ≡ Ok (editions.Plain, 7 ∷ [])) × (version_at values_format (1 ∷ 7 ∷ []) ≡ Err errors.Version) × (version_at values_format (3 ∷ []) ≡ Ok (editions.Limited, [])) × (version_at values_format (4 ∷ []) ≡ Ok (editions.Marking, [])) × (version_at values_format (5 ∷ []) ≡ Ok (editions.Stating, [])) × (version_at values_format (6 ∷ []) ≡ Err errors.Version)
 unfolding version_at
-versions = (refl, refl, refl, refl, refl, refl)
+versions = (refl, refl, refl, refl, refl, refl, refl)
 
 -- ---- sets
 

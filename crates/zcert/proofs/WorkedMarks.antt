@@ -10,12 +10,12 @@ use Rattle.zcert.specs.declared.field.Field.TheVariants as fields
 use Rattle.zcert.specs.declared.field.Turn.TheVariants as turns
 use Rattle.zcert.specs.declared.limits.TheConstants.{MARK, MARK_VERSION}
 use Rattle.zcert.specs.Certificate.{Certificate, Instruction, edition_of}
-use Rattle.zcert.specs.Editions.{is_limited, is_marking, edition_by}
+use Rattle.zcert.specs.Editions.{is_limited, is_marking, is_stating, edition_by}
 use Rattle.zcert.specs.Format.{version_of}
 use Rattle.zcert.specs.Lists.{values_format}
 use Rattle.zcert.specs.Marks.{height_byte, is_mark, without, height_in, IsMarkable, marks}
-use Rattle.zcert.specs.Spelling.{instruction_bytes, spelling, MayMark, HasSpelling}
-use Rattle.zcert.specs.Reading.{edition_where, reading, fields_at, heading_at, magic_at, version_at, identity_at, limit_at, range_at, ranges_at, all_ranges_at, values_at, routine_at, routines_at, all_routines_at, instruction_at, instructions_at, all_instructions_at, at_end}
+use Rattle.zcert.specs.Spelling.{instruction_bytes, spelling, MayMark, MayState, HasSpelling}
+use Rattle.zcert.specs.Reading.{edition_where, reading, fields_at, heading_at, magic_at, version_at, identity_at, limit_at, range_at, ranges_at, all_ranges_at, values_at, routine_at, routines_at, all_routines_at, instruction_at, instructions_at, all_instructions_at, all_facts_at, at_end}
 use Rattle.zcert.specs.Building.{Progress, opening, header_of, taken, Adds}
 
 -- ---- the mark
@@ -35,15 +35,15 @@ heights = (refl, refl, refl, refl, refl, refl)
 
 -- ---- editions
 
-editions_told : (is_limited editions.Plain ≡ false) × (is_limited editions.Limited ≡ true) × (is_limited editions.Marking ≡ true) × (is_marking editions.Plain ≡ false) × (is_marking editions.Limited ≡ false) × (is_marking editions.Marking ≡ true)
-editions_told = (refl, refl, refl, refl, refl, refl)
+editions_told : (is_limited editions.Plain ≡ false) × (is_limited editions.Limited ≡ true) × (is_limited editions.Marking ≡ true) × (is_limited editions.Stating ≡ true) × (is_marking editions.Plain ≡ false) × (is_marking editions.Limited ≡ false) × (is_marking editions.Marking ≡ true) × (is_marking editions.Stating ≡ true) × (is_stating editions.Plain ≡ false) × (is_stating editions.Limited ≡ false) × (is_stating editions.Marking ≡ false) × (is_stating editions.Stating ≡ true)
+editions_told = (refl, refl, refl, refl, refl, refl, refl, refl, refl, refl, refl, refl)
 
-editions_had : (edition_by None false ≡ editions.Plain) × (edition_by (Some 0) false ≡ editions.Limited) × (edition_by (Some 0) true ≡ editions.Marking) × (MayMark None true → ⊥) × MayMark (Some 0) true × MayMark (Some 0) false × MayMark None false
-editions_had = (refl, refl, refl, (λ e. absurd cc), tt, tt, refl)
+editions_had : (edition_by None false false ≡ editions.Plain) × (edition_by (Some 0) false false ≡ editions.Limited) × (edition_by (Some 0) true false ≡ editions.Marking) × (edition_by (Some 0) true true ≡ editions.Stating) × (MayMark None true → ⊥) × MayMark (Some 0) true × MayMark (Some 0) false × MayMark None false × MayState true true × MayState true false × MayState false false × (MayState false true → ⊥)
+editions_had = (refl, refl, refl, refl, (λ e. absurd cc), tt, tt, refl, tt, tt, refl, (λ e. absurd cc))
 
 -- the plain version is looked for before the others
-editions_found : (edition_where true true true ≡ Ok editions.Plain) × (edition_where false true true ≡ Ok editions.Limited) × (edition_where false false true ≡ Ok editions.Marking) × (edition_where false false false ≡ Err errors.Version)
-editions_found = (refl, refl, refl, refl)
+editions_found : (edition_where true true true true ≡ Ok editions.Plain) × (edition_where false true true true ≡ Ok editions.Limited) × (edition_where false false true true ≡ Ok editions.Marking) × (edition_where false false false true ≡ Ok editions.Stating) × (edition_where false false false false ≡ Err errors.Version)
+editions_found = (refl, refl, refl, refl, refl)
 
 -- ---- an instruction
 
@@ -96,10 +96,12 @@ certificate = record {
   identity = record { release = 1; serial = 0x32 ∷ 0x36 ∷ 0x30 ∷ 0x31 ∷ 0x30 ∷ 0x31 ∷ []; checksum = 0x3A7A; length = 0x32A };
   limit = Some 16;
   marking = true;
+  stating = false;
   ranges = [];
   globals = replicate 240 (Run (point 0));
   routines = [];
   instructions = record { address = 0x324; routine = 0; is_marked = false; locals = []; slots = [] } ∷ one ∷ record { address = 0x329; routine = 0; is_marked = true; locals = []; slots = [] } ∷ [];
+  facts = [];
 }
 
 certificate_spelled : spelling values_format certificate ≡ front ++ replicate 1200 0 ++ back
@@ -107,7 +109,7 @@ unfolding certificate one front back
 certificate_spelled = refl
 
 certificate_read : reading values_format (front ++ replicate 1200 0 ++ back) ≡ Ok certificate
-unfolding certificate one front back reading heading_at magic_at version_at fields_at identity_at limit_at range_at ranges_at all_ranges_at values_at routine_at routines_at all_routines_at instruction_at instructions_at all_instructions_at at_end
+unfolding certificate one front back reading heading_at magic_at version_at fields_at identity_at limit_at range_at ranges_at all_ranges_at values_at routine_at routines_at all_routines_at instruction_at instructions_at all_instructions_at all_facts_at at_end
 certificate_read = refl
 
 counted : (marks certificate.instructions ≡ 2) × (marks {V = Values} [] ≡ 0) × (marks (record one { is_marked = false } ∷ []) ≡ 0) × (edition_of certificate ≡ editions.Marking) × (version_of values_format (edition_of certificate) ≡ 4)
@@ -119,13 +121,14 @@ markable : IsMarkable true one × (IsMarkable false one → ⊥) × IsMarkable f
 unfolding one certificate
 markable = (tt, (λ e. absurd cc), refl, (λ has. absurd (let e = has.instructions_markable.1.0 in cc)), λ has. absurd (let e = has.marking in cc))
 
--- in version 3 its second instruction has a height above the limit, and in version 5 nothing is read
+-- in version 3 its second instruction has a height above the limit, in version 5 the count of facts is missing, and in version 6
+-- nothing is read
 as_version : ℕ → List ℕ
 as_version n = take 4 front ++ (n ∷ (drop 5 front ++ (replicate 1200 0 ++ back)))
 
-in_others : (reading values_format (as_version 3) ≡ Err errors.Limit) × (reading values_format (as_version 5) ≡ Err errors.Version) × (reading values_format (as_version 4) ≡ Ok certificate)
-unfolding as_version certificate one front back reading heading_at magic_at version_at fields_at identity_at limit_at range_at ranges_at all_ranges_at values_at routine_at routines_at all_routines_at instruction_at instructions_at all_instructions_at at_end
-in_others = (refl, refl, refl)
+in_others : (reading values_format (as_version 3) ≡ Err errors.Limit) × (reading values_format (as_version 5) ≡ Err errors.Truncated) × (reading values_format (as_version 6) ≡ Err errors.Version) × (reading values_format (as_version 4) ≡ Ok certificate)
+unfolding as_version certificate one front back reading heading_at magic_at version_at fields_at identity_at limit_at range_at ranges_at all_ranges_at values_at routine_at routines_at all_routines_at instruction_at instructions_at all_instructions_at all_facts_at at_end
+in_others = (refl, refl, refl, refl)
 
 each_alike : (n : ℕ) (v : Values) → values_format.Has v → AllByRecursion values_format.Has (replicate n v)
 each_alike zero v has = tt
@@ -143,6 +146,7 @@ has = record {
   };
   limit = (refl, omega arith);
   marking = tt;
+  stating = tt;
   few_ranges = omega arith;
   ranges = tt;
   ranges_apart = tt;
@@ -161,4 +165,8 @@ has = record {
   );
   instructions_rise = (omega arith, (omega arith, (omega arith, tt)));
   instructions_markable = (tt, (tt, (tt, tt)));
+  few_facts = omega arith;
+  facts = tt;
+  facts_rise = tt;
+  facts_stated = refl;
 }

@@ -9,14 +9,16 @@ use Rattle.zcert.specs.declared.field.Field.TheVariants as fields
 use Rattle.zcert.specs.declared.field.Header.{Header}
 use Rattle.zcert.specs.declared.field.Turn.{Turn}
 use Rattle.zcert.specs.declared.field.Turn.TheVariants as turns
+use Rattle.zcert.specs.declared.parts.Fact.{Fact}
 use Rattle.zcert.specs.declared.parts.Range.{Range}
 use Rattle.zcert.specs.declared.parts.Routine.{Routine}
-use Rattle.zcert.specs.declared.limits.TheConstants.{GLOBALS, ADDRESS_LIMIT, MAX_LOCALS, MAX_INSTRUCTIONS, MAX_RANGES, MAX_ROUTINES, MAX_HEIGHT, MAX_FRAMES}
-use Rattle.zcert.specs.Editions.{is_limited, is_marking}
+use Rattle.zcert.specs.declared.limits.TheConstants.{GLOBALS, ADDRESS_LIMIT, MAX_LOCALS, MAX_INSTRUCTIONS, MAX_RANGES, MAX_ROUTINES, MAX_HEIGHT, MAX_FRAMES, MAX_FACTS}
+use Rattle.zcert.specs.Editions.{is_limited, is_marking, is_stating}
 use Rattle.zcert.specs.Certificate.{Instruction, Certificate, locals_of}
 use Rattle.zcert.specs.Marks.{is_mark, height_in}
+use Rattle.zcert.specs.Facts.{least_global}
 use Rattle.zcert.specs.Steps.{◌>>=◌, need}
-use Rattle.zcert.specs.Reading.{address_fits}
+use Rattle.zcert.specs.Reading.{address_fits, global_fits}
 
 pub record Progress (V : Type 0) : Type 0 where
   -- what is whole so far, with an identity of zeros where it has not come
@@ -41,9 +43,19 @@ abbrev pub before_routines : ℕ → Turn
 before_routines zero = turns.InstructionCount
 before_routines (suc more) = turns.RoutineAddress more
 
-abbrev pub before_instructions : ℕ → Turn
-before_instructions zero = turns.Complete
-before_instructions (suc more) = turns.InstructionAddress more
+-- behind the instructions, where facts may be stated and where not
+abbrev pub behind_instructions : Bool → Turn
+behind_instructions false = turns.Complete
+behind_instructions true = turns.FactCount
+
+abbrev pub before_instructions : Bool → ℕ → Turn
+before_instructions stating zero = behind_instructions stating
+before_instructions stating (suc more) = turns.InstructionAddress more
+
+-- before so many facts, where the least global that may be stated at the floor is this one
+abbrev pub before_facts : ℕ → ℕ → Turn
+before_facts least zero = turns.Complete
+before_facts least (suc more) = turns.FactAddress more least
 
 -- an instruction by its header and its values
 abbrev pub instruction_of : {V : Type 0} → Header → List V → Instruction V
@@ -65,13 +77,13 @@ limit_before true = Some 0
 
 abbrev pub opening : {V : Type 0} → Edition → Progress V
 opening edition = record {
-  content = record { identity = no_identity; limit = limit_before (is_limited edition); marking = is_marking edition; ranges = []; globals = []; routines = []; instructions = [] };
+  content = record { identity = no_identity; limit = limit_before (is_limited edition); marking = is_marking edition; stating = is_stating edition; ranges = []; globals = []; routines = []; instructions = []; facts = [] };
   values = [];
   floor = 0;
   turn = turns.Release;
 }
 
--- with a new identity, a limit, one more range, global, routine or instruction
+-- with a new identity, a limit, one more range, global, routine, instruction or fact
 module _ {V : Type 0} (c : Certificate V) where
   abbrev pub with_identity : Identity → Certificate V
   with_identity i = record c { identity = i }
@@ -90,6 +102,9 @@ module _ {V : Type 0} (c : Certificate V) where
 
   abbrev pub with_instruction : Instruction V → Certificate V
   with_instruction i = record c { instructions = c.instructions ++ i ∷ [] }
+
+  abbrev pub with_fact : Fact V → Certificate V
+  with_fact f = record c { facts = c.facts ++ f ∷ [] }
 
 -- Where a field leads, by whose turn it is.
 module _ {V : Type 0} where
@@ -163,7 +178,7 @@ module _ {V : Type 0} where
   abbrev pub after_instruction_count : ℕ → Turn → Progress V → Result (Progress V) CertError
   after_instruction_count n turns.InstructionCount p = do
     _ ← need (nat_le n MAX_INSTRUCTIONS) errors.Limit
-    Ok (record p { floor = 0; turn = before_instructions n })
+    Ok (record p { floor = 0; turn = before_instructions p.content.stating n })
   after_instruction_count n _ p = Err errors.Order
 
   abbrev pub after_instruction_address : ℕ → Turn → Progress V → Result (Progress V) CertError
@@ -180,7 +195,7 @@ module _ {V : Type 0} where
 
   -- with so many values of an instruction to come, and so many instructions after it
   abbrev pub before_values : ℕ → ℕ → Header → Progress V → Progress V
-  before_values zero more h p = record p { content = with_instruction p.content (instruction_of h p.values); floor = h.address + 1; turn = before_instructions more }
+  before_values zero more h p = record p { content = with_instruction p.content (instruction_of h p.values); floor = h.address + 1; turn = before_instructions p.content.stating more }
   before_values (suc left) more h p = record p { turn = turns.Value more h left }
 
   abbrev pub header_of : Progress V → ℕ → ℕ → ℕ → Header
@@ -196,6 +211,29 @@ module _ {V : Type 0} where
   abbrev pub after_value : V → Turn → Progress V → Result (Progress V) CertError
   after_value v (turns.Value more h left) p = Ok (before_values left more h (record p { values = p.values ++ v ∷ [] }))
   after_value v _ p = Err errors.Order
+
+  abbrev pub after_fact_count : ℕ → Turn → Progress V → Result (Progress V) CertError
+  after_fact_count n turns.FactCount p = do
+    _ ← need (nat_le n MAX_FACTS) errors.Limit
+    Ok (record p { floor = 0; turn = before_facts 0 n })
+  after_fact_count n _ p = Err errors.Order
+
+  abbrev pub after_fact_address : ℕ → Turn → Progress V → Result (Progress V) CertError
+  after_fact_address address (turns.FactAddress more least) p = do
+    _ ← address_fits p.floor address
+    Ok (record p { turn = turns.FactGlobal more address (least_global p.floor least address) })
+  after_fact_address address _ p = Err errors.Order
+
+  abbrev pub after_fact_global : ℕ → Turn → Progress V → Result (Progress V) CertError
+  after_fact_global global (turns.FactGlobal more address least) p = do
+    _ ← global_fits least global
+    Ok (record p { turn = turns.FactValues more address global })
+  after_fact_global global _ p = Err errors.Order
+
+  abbrev pub after_fact_values : V → Turn → Progress V → Result (Progress V) CertError
+  after_fact_values v (turns.FactValues more address global) p =
+      Ok (record p { content = with_fact p.content (record { address = address; global = global; values = v }); floor = address; turn = before_facts (global + 1) more })
+  after_fact_values v _ p = Err errors.Order
 
   -- where a field leads, or why it is refused
   abbrev pub taken : Progress V → Field V → Result (Progress V) CertError
@@ -217,6 +255,10 @@ module _ {V : Type 0} where
   taken p (fields.RoutineNumber n) = after_routine_number n p.turn p
   taken p (fields.Height n) = after_height n p.turn p
   taken p (fields.Value v) = after_value v p.turn p
+  taken p (fields.FactCount n) = after_fact_count n p.turn p
+  taken p (fields.FactAddress n) = after_fact_address n p.turn p
+  taken p (fields.FactGlobal n) = after_fact_global n p.turn p
+  taken p (fields.FactValues v) = after_fact_values v p.turn p
 
   -- where these fields lead, one after another
   abbrev pub all_taken : Progress V → List (Field V) → Result (Progress V) CertError
@@ -245,6 +287,10 @@ InTurn (turns.InstructionAddress more) (fields.InstructionAddress n) = ⊤
 InTurn (turns.RoutineNumber more address) (fields.RoutineNumber n) = ⊤
 InTurn (turns.Height more address routine) (fields.Height n) = ⊤
 InTurn (turns.Value more h left) (fields.Value v) = ⊤
+InTurn turns.FactCount (fields.FactCount n) = ⊤
+InTurn (turns.FactAddress more least) (fields.FactAddress n) = ⊤
+InTurn (turns.FactGlobal more address least) (fields.FactGlobal n) = ⊤
+InTurn (turns.FactValues more address global) (fields.FactValues v) = ⊤
 InTurn _ _ = ⊥
 
 -- no values come behind a height: its routine has no locals, and there are no slots
@@ -259,13 +305,16 @@ Adds p (fields.Global v) = Unit {0}
 Adds p (fields.RoutineResult v) = Unit {0}
 Adds p (fields.Height n) = HasNoValues p.content.routines p.turn (height_in p.content.marking n)
 Adds p (fields.Value v) = Unit {0}
+Adds p (fields.FactValues v) = Unit {0}
 Adds p _ = ⊥
 
--- what is known of an unfinished part: its address is below the limit, and an instruction lacks as many values as are left
+-- what is known of an unfinished part: its address is below the limit, an instruction lacks as many values as are left, and the global
+-- of a fact is one
 abbrev pub IsDue : {V : Type 0} → Turn → List V → Type 0
 IsDue (turns.LocalCount more address) values = address < ADDRESS_LIMIT
 IsDue (turns.RoutineResult more address locals) values = address < ADDRESS_LIMIT
 IsDue (turns.RoutineNumber more address) values = (address < ADDRESS_LIMIT) × (length values ≡ 0)
 IsDue (turns.Height more address routine) values = (address < ADDRESS_LIMIT) × (length values ≡ 0)
 IsDue (turns.Value more h left) values = (h.address < ADDRESS_LIMIT) × (length values + suc left ≡ h.locals + h.height)
+IsDue (turns.FactValues more address global) values = global < GLOBALS
 IsDue _ values = ⊤

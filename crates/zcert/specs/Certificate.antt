@@ -2,6 +2,7 @@
 use Rattle.std.specs.Prelude.{ℕ, zero, suc, Bool, List, Option, Some, None, slice_get}
 use Rattle.zstory.specs.declared.identity.Identity.{Identity}
 use Rattle.zcert.specs.declared.edition.Edition.{Edition}
+use Rattle.zcert.specs.declared.parts.Fact.{Fact}
 use Rattle.zcert.specs.declared.parts.Range.{Range}
 use Rattle.zcert.specs.declared.parts.Routine.{Routine}
 use Rattle.zcert.specs.declared.limits.TheConstants.{USUAL_FRAMES}
@@ -24,12 +25,16 @@ pub record Certificate (V : Type 0) : Type 0 where
   pub limit : Option ℕ
   -- whether it may mark instructions
   pub marking : Bool
+  -- whether it may state facts on globals
+  pub stating : Bool
   -- the bytes that stay as they are
   pub ranges : List Range
   -- the values of each global, from variable 16 on
   pub globals : List V
   pub routines : List (Routine V)
   pub instructions : List (Instruction V)
+  -- what it states of globals at places, besides
+  pub facts : List (Fact V)
 
 abbrev pub locals_there : {V : Type 0} → Option (Routine V) → ℕ
 locals_there None = 0
@@ -42,7 +47,7 @@ locals_of routines (suc r) = locals_there (slice_get routines r)
 
 -- what it has beside what all certificates have
 abbrev pub edition_of : {V : Type 0} → Certificate V → Edition
-edition_of c = edition_by c.limit c.marking
+edition_of c = edition_by c.limit c.marking c.stating
 
 -- a limit that is named, or the usual one
 abbrev pub limit_or_usual : Option ℕ → ℕ

@@ -36,6 +36,10 @@ module _ {V : Type 0} (format : Format V) where
   field_bytes (fields.RoutineNumber n) = number numbers.RoutineNumber n
   field_bytes (fields.Height n) = number numbers.Height n
   field_bytes (fields.Value v) = format.spelled v
+  field_bytes (fields.FactCount n) = number numbers.FactCount n
+  field_bytes (fields.FactAddress n) = number numbers.FactAddress n
+  field_bytes (fields.FactGlobal n) = number numbers.FactGlobal n
+  field_bytes (fields.FactValues v) = format.spelled v
 
   -- its number has room, or its set has a spelling
   abbrev pub IsField : Field V → Type 0
@@ -57,6 +61,10 @@ module _ {V : Type 0} (format : Format V) where
   IsField (fields.RoutineNumber n) = HasRoom numbers.RoutineNumber n
   IsField (fields.Height n) = HasRoom numbers.Height n
   IsField (fields.Value v) = format.Has v
+  IsField (fields.FactCount n) = HasRoom numbers.FactCount n
+  IsField (fields.FactAddress n) = HasRoom numbers.FactAddress n
+  IsField (fields.FactGlobal n) = HasRoom numbers.FactGlobal n
+  IsField (fields.FactValues v) = format.Has v
 
   -- what a step read, as a field
   abbrev pub as_field : {X : Type 0} → (X → Field V) → Result (X × List ℕ) CertError → Result (Field V × List ℕ) CertError
@@ -82,6 +90,10 @@ module _ {V : Type 0} (format : Format V) where
   field_at (turns.RoutineNumber more address) bytes = as_field fields.RoutineNumber (number_at numbers.RoutineNumber bytes)
   field_at (turns.Height more address routine) bytes = as_field fields.Height (number_at numbers.Height bytes)
   field_at (turns.Value more h left) bytes = as_field fields.Value (format.value_at bytes)
+  field_at turns.FactCount bytes = as_field fields.FactCount (number_at numbers.FactCount bytes)
+  field_at (turns.FactAddress more least) bytes = as_field fields.FactAddress (number_at numbers.FactAddress bytes)
+  field_at (turns.FactGlobal more address least) bytes = as_field fields.FactGlobal (number_at numbers.FactGlobal bytes)
+  field_at (turns.FactValues more address global) bytes = as_field fields.FactValues (format.value_at bytes)
   field_at turns.Complete bytes = Err errors.Trailing
 
   -- the next field is read and taken

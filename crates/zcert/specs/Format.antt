@@ -7,14 +7,15 @@ use Rattle.zcert.specs.declared.edition.Edition.{Edition}
 use Rattle.zcert.specs.declared.edition.Edition.TheVariants as editions
 use Rattle.zcert.specs.declared.error.CertError.{CertError}
 use Rattle.zcert.specs.declared.error.CertError.TheVariants.{EmptyInterval}
-use Rattle.zcert.specs.declared.limits.TheConstants.{VERSION, LIMIT_VERSION, MARK_VERSION}
+use Rattle.zcert.specs.declared.limits.TheConstants.{VERSION, LIMIT_VERSION, MARK_VERSION, FACT_VERSION}
 use Rattle.zcert.specs.Numbers.{End, number}
 use Rattle.zcert.specs.Steps.{◌>>=◌, number_at}
 
 pub record Format (V : Type 0) : Type 1 where
   -- the version byte
   pub version : ℕ
-  -- whether certificates of such sets may name a limit of frames, and mark instructions then; both are of versions of their own
+  -- whether certificates of such sets may name a limit of frames, and then mark instructions, and then state facts; each is of a
+  -- version of its own
   pub limited : Bool
   -- the bytes of a set
   pub spelled : V → List ℕ
@@ -28,12 +29,14 @@ abbrev pub version_of : {V : Type 0} → Format V → Edition → ℕ
 version_of format editions.Plain = format.version
 version_of format editions.Limited = LIMIT_VERSION
 version_of format editions.Marking = MARK_VERSION
+version_of format editions.Stating = FACT_VERSION
 
 -- there is one for such sets
 abbrev pub IsAllowed : {V : Type 0} → Format V → Edition → Type 0
 IsAllowed format editions.Plain = ⊤
 IsAllowed format editions.Limited = format.limited ≡ true
 IsAllowed format editions.Marking = format.limited ≡ true
+IsAllowed format editions.Stating = format.limited ≡ true
 
 -- the interval between two ends
 abbrev pub nonempty : Option Interval → Result Interval CertError

@@ -14,7 +14,7 @@ use Rattle.zcert.specs.declared.error.CertError.TheVariants.{Truncated, OutOfMem
 use Rattle.zcert.specs.Numbers.{Version, HasRoom}
 use Rattle.zcert.specs.Steps.{◌>>=◌}
 use Rattle.zcert.specs.Format.{Format}
-use Rattle.zcert.specs.declared.limits.TheConstants.{LIMIT_VERSION, MARK_VERSION}
+use Rattle.zcert.specs.declared.limits.TheConstants.{LIMIT_VERSION, MARK_VERSION, FACT_VERSION}
 
 abbrev pub IsBytes : List ℕ → Type 0
 IsBytes bytes = (i : ℕ) → get_or bytes i 0 < 256
@@ -29,10 +29,11 @@ abbrev pub IsPlain : {A : Type 0} → Result A CertError → Type 0
 IsPlain r = r ≢ Err OutOfMemory
 
 pub record IsFormat {V : Type 0} (format : Format V) : Type 0 where
-  -- its version has room, and isn't one in which limits are named
+  -- its version has room, and is none of those in which limits are named
   pub version : HasRoom Version format.version
   pub apart : format.version ≢ LIMIT_VERSION
   pub unmarked : format.version ≢ MARK_VERSION
+  pub unstated : format.version ≢ FACT_VERSION
   -- a set that is read is spelled by the bytes that it took
   pub takes : (bytes : List ℕ) (v : V) (rest : List ℕ) → IsBytes bytes → format.value_at bytes ≡ Ok (v, rest) → Takes bytes (format.spelled v) rest × format.Has v
   -- a spelling has bytes, at least one

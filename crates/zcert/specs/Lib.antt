@@ -2,6 +2,7 @@ pub mod Numbers
 pub mod Editions
 pub mod Certificate
 pub mod Marks
+pub mod Facts
 pub mod Steps
 pub mod Format
 pub mod Lists

@@ -1,4 +1,4 @@
--- Versions 2 to 4 of the format: a set is an interval or a list of words, and says first which of both (own).
+-- Versions 2 to 5 of the format: a set is an interval or a list of words, and says first which of both (own).
 use Rattle.std.specs.Prelude.{◌≡◌, ℕ, zero, suc, ◌+◌, Bool, true, false, ◌&&◌, List, [], ◌∷◌, ◌++◌, length, Result, Ok, Err, T, nat_le, refl}
 use Rattle.std.specs.List.{flat_map, AllByRecursion}
 use Rattle.std.proofs.Common.{sym, subst}

@@ -19,6 +19,9 @@ pub data Number : Type 0 where
   InstructionAddress : Number
   RoutineNumber : Number
   Height : Number
+  FactCount : Number
+  FactAddress : Number
+  FactGlobal : Number
   -- an end of an interval, by its unsigned reading
   End : Number
   -- whether a set is an interval or a list
@@ -46,6 +49,9 @@ width InstructionCount = 4
 width InstructionAddress = 4
 width RoutineNumber = 2
 width Height = 1
+width FactCount = 4
+width FactAddress = 4
+width FactGlobal = 1
 width End = 2
 width Kind = 1
 width WordCount = 1

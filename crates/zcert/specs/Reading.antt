@@ -5,13 +5,15 @@ use Rattle.zcert.specs.declared.edition.Edition.{Edition}
 use Rattle.zcert.specs.declared.edition.Edition.TheVariants as editions
 use Rattle.zcert.specs.declared.error.CertError.{CertError}
 use Rattle.zcert.specs.declared.error.CertError.TheVariants as errors
+use Rattle.zcert.specs.declared.parts.Fact.{Fact}
 use Rattle.zcert.specs.declared.parts.Range.{Range}
 use Rattle.zcert.specs.declared.parts.Routine.{Routine}
-use Rattle.zcert.specs.declared.limits.TheConstants.{MAGIC, GLOBALS, ADDRESS_LIMIT, MAX_LOCALS, MAX_INSTRUCTIONS, MAX_RANGES, MAX_ROUTINES, MAX_HEIGHT, MAX_FRAMES, LIMIT_VERSION, MARK_VERSION}
+use Rattle.zcert.specs.declared.limits.TheConstants.{MAGIC, GLOBALS, ADDRESS_LIMIT, MAX_LOCALS, MAX_INSTRUCTIONS, MAX_RANGES, MAX_ROUTINES, MAX_HEIGHT, MAX_FRAMES, MAX_FACTS, LIMIT_VERSION, MARK_VERSION, FACT_VERSION}
 use Rattle.zcert.specs.Numbers as numbers
-use Rattle.zcert.specs.Editions.{is_limited, is_marking}
+use Rattle.zcert.specs.Editions.{is_limited, is_marking, is_stating}
 use Rattle.zcert.specs.Certificate.{Instruction, Certificate, locals_of}
 use Rattle.zcert.specs.Marks.{is_mark, height_in}
+use Rattle.zcert.specs.Facts.{least_global}
 use Rattle.zcert.specs.Steps.{◌>>=◌, need, number_at, serial_at}
 use Rattle.zcert.specs.Format.{Format}
 
@@ -21,18 +23,19 @@ magic_at bytes = do
   _ ← need (magic.0 == MAGIC) errors.Magic
   Ok magic.1
 
--- the edition of which the version is, by whether that is the plain one, the one for limits, and the one for marks
-abbrev pub edition_where : Bool → Bool → Bool → Result Edition CertError
-edition_where true limit mark = Ok editions.Plain
-edition_where false true mark = Ok editions.Limited
-edition_where false false true = Ok editions.Marking
-edition_where false false false = Err errors.Version
+-- the edition of which the version is, by whether that is the plain one, the one for limits, the one for marks, and the one for facts
+abbrev pub edition_where : Bool → Bool → Bool → Bool → Result Edition CertError
+edition_where true limit mark fact = Ok editions.Plain
+edition_where false true mark fact = Ok editions.Limited
+edition_where false false true fact = Ok editions.Marking
+edition_where false false false true = Ok editions.Stating
+edition_where false false false false = Err errors.Version
 
 -- the version of a certificate of such sets
 unfoldable pub version_at : {V : Type 0} → Format V → List ℕ → Result (Edition × List ℕ) CertError
 version_at format bytes = do
   found ← number_at numbers.Version bytes
-  edition ← edition_where (found.0 == format.version) (format.limited && (found.0 == LIMIT_VERSION)) (format.limited && (found.0 == MARK_VERSION))
+  edition ← edition_where (found.0 == format.version) (format.limited && (found.0 == LIMIT_VERSION)) (format.limited && (found.0 == MARK_VERSION)) (format.limited && (found.0 == FACT_VERSION))
   Ok (edition, found.1)
 
 unfoldable pub identity_at : List ℕ → Result (Identity × List ℕ) CertError
@@ -86,6 +89,12 @@ abbrev pub address_fits : ℕ → ℕ → Result (Unit {0}) CertError
 address_fits floor address = do
   _ ← need (nat_le floor address) errors.Order
   need (nat_lt address ADDRESS_LIMIT) errors.Limit
+
+-- a global of a fact, which is to be `least` or above
+abbrev pub global_fits : ℕ → ℕ → Result (Unit {0}) CertError
+global_fits least global = do
+  _ ← need (nat_le least global) errors.Order
+  need (nat_lt global GLOBALS) errors.Limit
 
 module _ {V : Type 0} (format : Format V) where
   unfoldable pub values_at : ℕ → List ℕ → Result (List V × List ℕ) CertError
@@ -142,6 +151,31 @@ module _ {V : Type 0} (format : Format V) where
     _ ← need (nat_le count.0 MAX_INSTRUCTIONS) errors.Limit
     instructions_at marking routines count.0 0 count.1
 
+  -- a fact, which is to stand at the address `floor` of the global `least`, or behind that
+  unfoldable pub fact_at : ℕ → ℕ → List ℕ → Result (Fact V × List ℕ) CertError
+  fact_at floor least bytes = do
+    address ← number_at numbers.FactAddress bytes
+    _ ← address_fits floor address.0
+    global ← number_at numbers.FactGlobal address.1
+    _ ← global_fits (least_global floor least address.0) global.0
+    value ← format.value_at global.1
+    Ok (record { address = address.0; global = global.0; values = value.0 }, value.1)
+
+  unfoldable pub facts_from : ℕ → ℕ → ℕ → List ℕ → Result (List (Fact V) × List ℕ) CertError
+  facts_from zero floor least bytes = Ok ([], bytes)
+  facts_from (suc n) floor least bytes = do
+    f ← fact_at floor least bytes
+    fs ← facts_from n f.0.address (f.0.global + 1) f.1
+    Ok (f.0 ∷ fs.0, fs.1)
+
+  -- the facts, where they may be stated
+  unfoldable pub all_facts_at : Bool → List ℕ → Result (List (Fact V) × List ℕ) CertError
+  all_facts_at false bytes = Ok ([], bytes)
+  all_facts_at true bytes = do
+    count ← number_at numbers.FactCount bytes
+    _ ← need (nat_le count.0 MAX_FACTS) errors.Limit
+    facts_from count.0 0 0 count.1
+
   -- nothing follows
   unfoldable pub at_end : Certificate V → List ℕ → Result (Certificate V) CertError
   at_end c [] = Ok c
@@ -156,7 +190,8 @@ module _ {V : Type 0} (format : Format V) where
     globals ← values_at GLOBALS ranges.1
     routines ← all_routines_at globals.1
     instructions ← all_instructions_at (is_marking edition) routines.0 routines.1
-    at_end (record { identity = identity.0; limit = limit.0; marking = is_marking edition; ranges = ranges.0; globals = globals.0; routines = routines.0; instructions = instructions.0 }) instructions.1
+    facts ← all_facts_at (is_stating edition) instructions.1
+    at_end (record { identity = identity.0; limit = limit.0; marking = is_marking edition; stating = is_stating edition; ranges = ranges.0; globals = globals.0; routines = routines.0; instructions = instructions.0; facts = facts.0 }) facts.1
 
   -- the certificate that all of the bytes spell, or the first wrong field
   unfoldable pub reading : List ℕ → Result (Certificate V) CertError

@@ -3,13 +3,15 @@ use Rattle.std.specs.Prelude.{◌≡◌, ℕ, ◌+◌, ◌<◌, ◌≤◌, Bool,
 use Rattle.std.specs.List.{flat_map, AllByRecursion}
 use Rattle.zstory.specs.declared.identity.Identity.{Identity}
 use Rattle.zcert.specs.declared.edition.Edition.{Edition}
+use Rattle.zcert.specs.declared.parts.Fact.{Fact}
 use Rattle.zcert.specs.declared.parts.Range.{Range}
 use Rattle.zcert.specs.declared.parts.Routine.{Routine}
-use Rattle.zcert.specs.declared.limits.TheConstants.{MAGIC, GLOBALS, ADDRESS_LIMIT, MAX_LOCALS, MAX_INSTRUCTIONS, MAX_RANGES, MAX_ROUTINES, MAX_HEIGHT, MAX_FRAMES}
+use Rattle.zcert.specs.declared.limits.TheConstants.{MAGIC, GLOBALS, ADDRESS_LIMIT, MAX_LOCALS, MAX_INSTRUCTIONS, MAX_RANGES, MAX_ROUTINES, MAX_HEIGHT, MAX_FRAMES, MAX_FACTS}
 use Rattle.zcert.specs.Numbers.{Number, number, HasRoom}
 use Rattle.zcert.specs.Numbers as numbers
 use Rattle.zcert.specs.Certificate.{Instruction, Certificate, locals_of, edition_of}
 use Rattle.zcert.specs.Marks.{height_byte, IsMarkable}
+use Rattle.zcert.specs.Facts.{FactsRise, AreStated}
 use Rattle.zcert.specs.Format.{Format, version_of}
 
 abbrev pub identity_bytes : Identity → List ℕ
@@ -39,6 +41,14 @@ module _ {V : Type 0} (format : Format V) where
   instruction_bytes i =
       number numbers.InstructionAddress i.address ++ number numbers.RoutineNumber i.routine ++ number numbers.Height (height_byte i.is_marked (length i.slots)) ++ values_bytes (i.locals ++ i.slots)
 
+  abbrev pub fact_bytes : Fact V → List ℕ
+  fact_bytes f = number numbers.FactAddress f.address ++ number numbers.FactGlobal f.global ++ format.spelled f.values
+
+  -- the facts, where they may be stated
+  abbrev pub facts_bytes : Bool → List (Fact V) → List ℕ
+  facts_bytes false facts = []
+  facts_bytes true facts = counted numbers.FactCount fact_bytes facts
+
   -- what stands before the fields
   abbrev pub heading : Edition → List ℕ
   heading edition = number numbers.Magic MAGIC ++ number numbers.Version (version_of format edition)
@@ -53,6 +63,7 @@ module _ {V : Type 0} (format : Format V) where
       ++ values_bytes c.globals
       ++ counted numbers.RoutineCount routine_bytes c.routines
       ++ counted numbers.InstructionCount instruction_bytes c.instructions
+      ++ facts_bytes c.stating c.facts
 
 -- the numbers of an identity have room
 pub record IsIdentity (i : Identity) : Type 0 where
@@ -84,6 +95,11 @@ abbrev pub MayMark : Option ℕ → Bool → Type 0
 MayMark None marking = marking ≡ false
 MayMark (Some n) marking = ⊤
 
+-- what may state facts may mark instructions
+abbrev pub MayState : Bool → Bool → Type 0
+MayState true stating = ⊤
+MayState false stating = stating ≡ false
+
 module _ {V : Type 0} (format : Format V) where
   pub record IsRoutine (r : Routine V) : Type 0 where
     pub address : r.address < ADDRESS_LIMIT
@@ -99,6 +115,12 @@ module _ {V : Type 0} (format : Format V) where
     pub local_values : AllByRecursion format.Has i.locals
     pub slot_values : AllByRecursion format.Has i.slots
 
+  -- the global is one, and its set has a spelling
+  pub record IsFact (f : Fact V) : Type 0 where
+    pub address : f.address < ADDRESS_LIMIT
+    pub global : f.global < GLOBALS
+    pub values : format.Has f.values
+
   -- a limit is named where it may be, and isn't above its own limit
   abbrev pub IsLimit : Option ℕ → Type 0
   IsLimit None = ⊤
@@ -109,6 +131,7 @@ module _ {V : Type 0} (format : Format V) where
     pub identity : IsIdentity c.identity
     pub limit : IsLimit c.limit
     pub marking : MayMark c.limit c.marking
+    pub stating : MayState c.marking c.stating
     pub few_ranges : length c.ranges ≤ MAX_RANGES
     pub ranges : AllByRecursion IsRange c.ranges
     pub ranges_apart : AreApart 0 c.ranges
@@ -121,3 +144,7 @@ module _ {V : Type 0} (format : Format V) where
     pub instructions : AllByRecursion (IsInstruction c.routines) c.instructions
     pub instructions_rise : InstructionsRise c.instructions
     pub instructions_markable : AllByRecursion (IsMarkable c.marking) c.instructions
+    pub few_facts : length c.facts ≤ MAX_FACTS
+    pub facts : AllByRecursion IsFact c.facts
+    pub facts_rise : FactsRise 0 0 c.facts
+    pub facts_stated : AreStated c.stating c.facts

@@ -27,6 +27,7 @@ abbrev pub IsOfSet : Turn → Type 0
 IsOfSet (turns.Global more) = Unit {0}
 IsOfSet (turns.RoutineResult more address locals) = Unit {0}
 IsOfSet (turns.Value more h left) = Unit {0}
+IsOfSet (turns.FactValues more address global) = Unit {0}
 IsOfSet _ = ⊥
 
 -- what comes next of the file is a set, or part of one
@@ -55,6 +56,10 @@ module _ {P : Type 0} (sets : Turns P) where
   field_width (turns.RoutineNumber more address) p = width numbers.RoutineNumber
   field_width (turns.Height more address routine) p = width numbers.Height
   field_width (turns.Value more h left) p = sets.awaited p
+  field_width turns.FactCount p = width numbers.FactCount
+  field_width (turns.FactAddress more least) p = width numbers.FactAddress
+  field_width (turns.FactGlobal more address least) p = width numbers.FactGlobal
+  field_width (turns.FactValues more address global) p = sets.awaited p
   field_width turns.Complete p = 1
 
   -- how many bytes the number takes that comes next

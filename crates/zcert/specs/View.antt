@@ -12,10 +12,12 @@ content_of c = record {
   identity = c.identity;
   limit = c.limit;
   marking = c.marking;
+  stating = c.stating;
   ranges = c.ranges.items;
   globals = c.globals.items;
   routines = c.routines.items;
   instructions = c.instructions.instructions;
+  facts = c.facts.items;
 }
 
 abbrev pub progress_of : {V P C R : Type 0} → Building V P C R → Progress V

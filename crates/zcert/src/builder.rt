@@ -65,6 +65,16 @@ impl<V: Spelled> CertBuilder<V> {
         }
     }
 
+    /// A builder before the first field of one that does both, and states facts on globals behind the instructions.
+    pub fn stating(alloc: Global) -> CertBuilder<V>
+        requires { V.format.limited ≡ true }
+        ensures { result ≡ opening editions.Stating }
+    {
+        CertBuilder {
+            building: Building::new(alloc, Edition::Stating),
+        }
+    }
+
     /// The one of these that a version has.
     pub(crate) fn of_version(alloc: Global, edition: Edition) -> CertBuilder<V>
         requires { IsAllowed V.format edition }

@@ -1,16 +1,22 @@
 //! A certificate in the making: where each field leads.
 
+ghost use Rattle.std.specs.Prelude.{◌≡◌, ◌≢◌, Err};
+ghost use Rattle.zcert.specs.Reading.{global_fits};
+
 use crate::contents::Contents;
 use crate::edition::Edition;
 use crate::error::CertError;
 use crate::field::{Field, Header, Turn};
 use crate::instructions::Instructions;
-use crate::limits::{ADDRESS_LIMIT, MAX_FRAMES, MAX_HEIGHT, MAX_INSTRUCTIONS, MAX_LOCALS};
+use crate::limits::{
+    ADDRESS_LIMIT, GLOBALS, MAX_FACTS, MAX_FRAMES, MAX_HEIGHT, MAX_INSTRUCTIONS, MAX_LOCALS,
+};
 use crate::marks::{height_in, is_mark};
-use crate::parts::{Range, Routine};
+use crate::parts::{Fact, Range, Routine};
 use crate::spelled::Spelled;
 use crate::turns::{
-    before_globals, before_instructions, before_ranges, before_routines, behind_identity,
+    before_facts, before_globals, before_instructions, before_ranges, before_routines,
+    behind_identity,
 };
 use std::alloc::Global;
 use zstory::Identity;
@@ -24,15 +30,30 @@ pub struct Building<V: Spelled> {
     pub turn: Turn,
 }
 
+// Whether a global of a fact is one, and rises.
+fn fits_global(least: u8, global: u8) -> Result<(), CertError>
+    ensures value { result ≡ global_fits least global }
+    ensures plain { result ≢ Err CertError.OutOfMemory }
+{
+    if global < least {
+        return Err(CertError::Order);
+    }
+    if global >= GLOBALS {
+        return Err(CertError::Limit);
+    }
+    Ok(())
+}
+
 // Each takes one kind of field. Out of turn it is out of order; a field that is refused changes nothing.
 impl<V: Spelled> Building<V> {
     ghost use Rattle.std.specs.Prelude.{◌≡◌, ◌≢◌, ◌+◌, ◌<◌, Err, length};
     ghost use Rattle.zcert.specs.View.{progress_of, Takes};
+    ghost use Rattle.zcert.specs.Facts as facts;
     ghost use Rattle.zcert.specs.Reading.{address_fits};
     ghost use Rattle.zcert.specs.Certificate.{locals_of};
     ghost use Rattle.zcert.specs.Fields.{IsField};
     ghost use Rattle.zcert.specs.Marks as spec;
-    ghost use Rattle.zcert.specs.Building.{opening, before_values, taken, Adds, HasNoValues, IsDue, after_release, after_serial, after_checksum, after_loaded_length, after_frame_limit, after_range_count, after_range_first, after_range_last, after_global, after_routine_count, after_routine_address, after_local_count, after_routine_result, after_instruction_count, after_instruction_address, after_routine_number, after_height, after_value};
+    ghost use Rattle.zcert.specs.Building.{opening, before_values, taken, Adds, HasNoValues, IsDue, after_release, after_serial, after_checksum, after_loaded_length, after_frame_limit, after_range_count, after_range_first, after_range_last, after_global, after_routine_count, after_routine_address, after_local_count, after_routine_result, after_instruction_count, after_instruction_address, after_routine_number, after_height, after_value, after_fact_count, after_fact_address, after_fact_global, after_fact_values};
 
     /// Nothing yet.
     pub fn new(alloc: Global, edition: Edition) -> Building<V>
@@ -48,10 +69,12 @@ impl<V: Spelled> Building<V> {
                 },
                 limit: edition.limit(),
                 marking: edition.is_marking(),
+                stating: edition.is_stating(),
                 ranges: Vec::new(alloc),
                 globals: Vec::new(alloc),
                 routines: Vec::new(alloc),
                 instructions: Instructions::new(alloc),
+                facts: Vec::new(alloc),
             },
             floor: 0,
             turn: Turn::Release,
@@ -262,7 +285,7 @@ impl<V: Spelled> Building<V> {
             return Err(CertError::Limit);
         }
         self.floor = 0;
-        self.turn = before_instructions(count);
+        self.turn = before_instructions(self.contents.stating, count);
         Ok(())
     }
 
@@ -327,7 +350,7 @@ impl<V: Spelled> Building<V> {
         }
         self.contents.instructions.store(header);
         self.floor = header.address + 1;
-        self.turn = before_instructions(more);
+        self.turn = before_instructions(self.contents.stating, more);
     }
 
     fn height(&mut self, byte: u8) -> Result<(), CertError>
@@ -378,6 +401,87 @@ impl<V: Spelled> Building<V> {
         Ok(())
     }
 
+    fn fact_count(&mut self, count: u32) -> Result<(), CertError>
+        ensures takes { Takes (progress_of self.old) (progress_of self.new) result (after_fact_count count self.old.turn (progress_of self.old)) }
+        ensures plain { result ≢ Err CertError.OutOfMemory }
+    {
+        let Turn::FactCount = self.turn else {
+            return Err(CertError::Order);
+        };
+        if count > MAX_FACTS {
+            return Err(CertError::Limit);
+        }
+        self.floor = 0;
+        self.turn = before_facts(0, count);
+        Ok(())
+    }
+
+    // The least global that may be stated at an address, where this one may be at the floor.
+    fn least_global(&self, least: u8, address: u32) -> u8
+        ensures { result ≡ facts.least_global self.now.floor least address }
+    {
+        if address == self.floor { least } else { 0 }
+    }
+
+    fn fact_address(&mut self, address: u32) -> Result<(), CertError>
+        ensures takes { Takes (progress_of self.old) (progress_of self.new) result (after_fact_address address self.old.turn (progress_of self.old)) }
+        ensures plain { result ≢ Err CertError.OutOfMemory }
+    {
+        let Turn::FactAddress { more, least } = self.turn else {
+            return Err(CertError::Order);
+        };
+        self.address(address)?;
+        self.turn = Turn::FactGlobal {
+            more,
+            address,
+            least: self.least_global(least, address),
+        };
+        Ok(())
+    }
+
+    fn fact_global(&mut self, global: u8) -> Result<(), CertError>
+        ensures takes { Takes (progress_of self.old) (progress_of self.new) result (after_fact_global global self.old.turn (progress_of self.old)) }
+        ensures plain { result ≢ Err CertError.OutOfMemory }
+    {
+        let Turn::FactGlobal {
+            more,
+            address,
+            least,
+        } = self.turn
+        else {
+            return Err(CertError::Order);
+        };
+        fits_global(least, global)?;
+        self.turn = Turn::FactValues {
+            more,
+            address,
+            global,
+        };
+        Ok(())
+    }
+
+    fn fact_values(&mut self, values: V) -> Result<(), CertError>
+        requires { IsDue self.old.turn (progress_of self.old).values }
+        ensures { Takes (progress_of self.old) (progress_of self.new) result (after_fact_values values self.old.turn (progress_of self.old)) }
+    {
+        let Turn::FactValues {
+            more,
+            address,
+            global,
+        } = self.turn
+        else {
+            return Err(CertError::Order);
+        };
+        self.contents.facts.push(Fact {
+            address,
+            global,
+            values,
+        })?;
+        self.floor = address;
+        self.turn = before_facts(global + 1, more);
+        Ok(())
+    }
+
     /// Takes the field whose turn it is.
     pub fn take(&mut self, field: Field<V>) -> Result<(), CertError>
         requires { IsDue self.old.turn (progress_of self.old).values }
@@ -412,6 +516,13 @@ impl<V: Spelled> Building<V> {
             Field::Value(values) => {
                 values.has_spelling();
                 self.value(values)
+            }
+            Field::FactCount(count) => self.fact_count(count),
+            Field::FactAddress(address) => self.fact_address(address),
+            Field::FactGlobal(global) => self.fact_global(global),
+            Field::FactValues(values) => {
+                values.has_spelling();
+                self.fact_values(values)
             }
         }
     }

@@ -3,14 +3,16 @@
 ghost use Rattle.std.specs.Prelude.{◌≡◌, ◌<◌, ◌≤◌, length, slice_get, true, IfSome, Some};
 ghost use Rattle.std.specs.Option.{option_map};
 ghost use Rattle.zcert.specs.Certificate.{edition_of, frame_limit};
+ghost use Rattle.zcert.specs.Facts.{facts_at};
 ghost use Rattle.zcert.specs.Format.{version_of};
 ghost use Rattle.zcert.specs.Spelling.{HasSpelling};
 ghost use Rattle.zcert.specs.Listed.{Finds, listed_at, routine_at, seen};
 ghost use Rattle.zcert.specs.Marks.{marks};
 
 use crate::contents::Contents;
+use crate::facts::stated_at;
 use crate::limits::USUAL_FRAMES;
-use crate::parts::{Instruction, Range, Routine};
+use crate::parts::{Fact, Instruction, Range, Routine};
 use crate::spelled::{Spelled, version_of};
 use std::marker::Model;
 use zdomain::Interval;
@@ -150,6 +152,22 @@ impl<V: Spelled> Certificate<V> {
         ensures keeps { HasSpelling V.format self.now }
     {
         self.contents.instructions.marks()
+    }
+
+    /// All facts on globals, by their addresses, and at one address by their globals.
+    pub fn facts(&self) -> &[Fact<V>]
+        ensures value { result.now ≡ self.now.facts }
+        ensures keeps { HasSpelling V.format self.now }
+    {
+        self.contents.facts.as_slice()
+    }
+
+    /// The facts on globals at an address, by their globals. The search takes as many steps as the count of all facts has binary digits.
+    pub fn facts_at(&self, address: u32) -> &[Fact<V>]
+        ensures value { result.now ≡ facts_at self.now.facts address }
+        ensures keeps { HasSpelling V.format self.now }
+    {
+        stated_at(self.facts(), address)
     }
 
     /// The listed instruction of an index, in the order of their addresses. Its sets are lent, or made in the room.

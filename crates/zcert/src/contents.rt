@@ -6,7 +6,7 @@ ghost use Rattle.zcert.specs.View.{content_of};
 
 use crate::edition::Edition;
 use crate::instructions::Instructions;
-use crate::parts::{Range, Routine};
+use crate::parts::{Fact, Range, Routine};
 use crate::spelled::Spelled;
 use zstory::Identity;
 
@@ -18,10 +18,13 @@ pub struct Contents<V: Spelled> {
     pub limit: Option<u16>,
     /// Whether instructions may be marked.
     pub marking: bool,
+    /// Whether facts on globals may be stated.
+    pub stating: bool,
     pub ranges: Vec<Range>,
     pub globals: Vec<V>,
     pub routines: Vec<Routine<V>>,
     pub instructions: Instructions<V>,
+    pub facts: Vec<Fact<V>>,
 }
 
 impl<V: Spelled> Contents<V> {
@@ -29,6 +32,6 @@ impl<V: Spelled> Contents<V> {
     pub fn edition(&self) -> Edition
         ensures { result ≡ edition_of (content_of self.now) }
     {
-        Edition::by(self.limit, self.marking)
+        Edition::by(self.limit, self.marking, self.stating)
     }
 }

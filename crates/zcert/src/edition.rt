@@ -13,15 +13,18 @@ pub enum Edition {
     Limited,
     /// A limit of frames, and instructions that may be marked: version 4.
     Marking,
+    /// These, and facts on globals: version 5.
+    Stating,
 }
 
 impl Edition {
-    /// That of certificates that name such a limit, or none, and may mark instructions, or not.
-    pub(crate) fn by(limit: Option<u16>, marking: bool) -> Edition
-        ensures { result ≡ spec.edition_by limit marking }
+    /// That of certificates that name such a limit, or none, may mark instructions, or not, and may state facts, or not.
+    pub(crate) fn by(limit: Option<u16>, marking: bool, stating: bool) -> Edition
+        ensures { result ≡ spec.edition_by limit marking stating }
     {
         match limit {
             None => Edition::Plain,
+            Some(_) if marking && stating => Edition::Stating,
             Some(_) if marking => Edition::Marking,
             Some(_) => Edition::Limited,
         }
@@ -33,7 +36,7 @@ impl Edition {
     {
         match self {
             Edition::Plain => None,
-            Edition::Limited | Edition::Marking => Some(0),
+            Edition::Limited | Edition::Marking | Edition::Stating => Some(0),
         }
     }
 
@@ -41,6 +44,13 @@ impl Edition {
     pub(crate) fn is_marking(self) -> bool
         ensures { result ≡ spec.is_marking self }
     {
-        matches!(self, Edition::Marking)
+        matches!(self, Edition::Marking | Edition::Stating)
+    }
+
+    /// Whether facts on globals may be stated.
+    pub(crate) fn is_stating(self) -> bool
+        ensures { result ≡ spec.is_stating self }
+    {
+        matches!(self, Edition::Stating)
     }
 }

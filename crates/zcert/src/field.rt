@@ -43,6 +43,14 @@ pub enum Field<V> {
     Height(u8),
     /// The values of a local, or, after the locals, of a slot, the bottom first.
     Value(V),
+    /// How many facts follow, where facts may be stated.
+    FactCount(u32),
+    /// Where a fact holds.
+    FactAddress(u32),
+    /// Of which global it is, counted from variable 16 on.
+    FactGlobal(u8),
+    /// The values that the global may have there.
+    FactValues(V),
 }
 
 // By hand, since a derived one goes through all kinds of fields.
@@ -121,6 +129,23 @@ pub enum Turn {
         more: u32,
         header: Header,
         left: u16,
+    },
+    FactCount,
+    /// `least` is the least global that may be stated at the address of the fact before.
+    FactAddress {
+        more: u32,
+        least: u8,
+    },
+    /// `least` is the least global that may be stated at this address.
+    FactGlobal {
+        more: u32,
+        address: u32,
+        least: u8,
+    },
+    FactValues {
+        more: u32,
+        address: u32,
+        global: u8,
     },
     /// No field: the certificate is whole.
     Complete,

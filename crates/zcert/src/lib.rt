@@ -8,6 +8,7 @@ mod coming;
 mod contents;
 mod edition;
 mod error;
+mod facts;
 mod field;
 mod instructions;
 mod interval_spelled;
@@ -33,8 +34,10 @@ pub use edition::Edition;
 pub use error::CertError;
 pub use field::{Field, Header, Turn};
 pub use laws::{builders_refuse_as_readers, fields_make_certificates, spellings_are_read};
-pub use limits::{LIMIT_VERSION, LIST_VERSION, MARK, MARK_VERSION, MAX_FRAMES, USUAL_FRAMES};
-pub use parts::{Instruction, Range, Routine};
+pub use limits::{
+    FACT_VERSION, LIMIT_VERSION, LIST_VERSION, MARK, MARK_VERSION, MAX_FRAMES, USUAL_FRAMES,
+};
+pub use parts::{Fact, Instruction, Range, Routine};
 pub use reading::read;
 pub use spelled::Spelled;
 pub use stage::Stage;

@@ -15,6 +15,9 @@ pub const LIMIT_VERSION: u8 = 3;
 /// The version in which instructions may be marked besides.
 pub const MARK_VERSION: u8 = 4;
 
+/// The version in which facts on globals may be stated too.
+pub const FACT_VERSION: u8 = 5;
+
 /// The mark of an instruction: bit 7 of the byte of its height.
 pub const MARK: u8 = 0x80;
 
@@ -77,3 +80,12 @@ pub const ROUTINE_BYTES: usize = 5;
 
 /// The bytes of an instruction before its values.
 pub const HEADER_BYTES: usize = 7;
+
+/// The greatest number of facts that are stated.
+pub const MAX_FACTS: u32 = 1_048_576;
+
+/// The bytes of the count of facts.
+pub const FACT_COUNT_BYTES: usize = 4;
+
+/// The bytes of a fact before its set.
+pub const FACT_BYTES: usize = 5;

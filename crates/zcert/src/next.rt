@@ -12,7 +12,7 @@ use crate::builder::CertBuilder;
 use crate::edition::Edition;
 use crate::error::CertError;
 use crate::field::{Field, Turn};
-use crate::limits::{LIMIT_VERSION, MAGIC, MARK_VERSION};
+use crate::limits::{FACT_VERSION, LIMIT_VERSION, MAGIC, MARK_VERSION};
 use crate::spelled::Spelled;
 use crate::steps::{byte_of, long_of, serial_of, word_of};
 
@@ -45,6 +45,9 @@ pub(crate) fn version_of<V: Spelled>(number: &[u8]) -> Result<Edition, CertError
     if V::limited() && version == MARK_VERSION {
         return Ok(Edition::Marking);
     }
+    if V::limited() && version == FACT_VERSION {
+        return Ok(Edition::Stating);
+    }
     Err(CertError::Version)
 }
 
@@ -74,8 +77,14 @@ fn number_of<V: Spelled>(
         Turn::InstructionAddress { .. } => Ok(Field::InstructionAddress(long_of(number))),
         Turn::RoutineNumber { .. } => Ok(Field::RoutineNumber(word_of(number))),
         Turn::Height { .. } => Ok(Field::Height(byte_of(number))),
+        Turn::FactCount => Ok(Field::FactCount(long_of(number))),
+        Turn::FactAddress { .. } => Ok(Field::FactAddress(long_of(number))),
+        Turn::FactGlobal { .. } => Ok(Field::FactGlobal(byte_of(number))),
         Turn::Complete => Err(CertError::Trailing),
-        Turn::Global { .. } | Turn::RoutineResult { .. } | Turn::Value { .. } => unreachable!(),
+        Turn::Global { .. }
+        | Turn::RoutineResult { .. }
+        | Turn::Value { .. }
+        | Turn::FactValues { .. } => unreachable!(),
     }
 }
 
@@ -105,6 +114,7 @@ fn field_of<V: Spelled>(
         Turn::Global { .. } => set!(Global, V::read_next(partial, number)),
         Turn::RoutineResult { .. } => set!(RoutineResult, V::read_next(partial, number)),
         Turn::Value { .. } => set!(Value, V::read_next(partial, number)),
+        Turn::FactValues { .. } => set!(FactValues, V::read_next(partial, number)),
         _ => Ok(Some(number_of(turn, number, partial)?)),
     }
 }

@@ -26,3 +26,13 @@ pub struct Instruction<'a, V> {
     pub locals: &'a [V],
     pub slots: &'a [V],
 }
+
+/// What is stated of a global at a place: before the instruction at this address its value lies in this set, which may be narrower than
+/// the global's own.
+#[derive(Clone, Copy, Debug, PartialEq, Eq)]
+pub struct Fact<V> {
+    pub address: u32,
+    /// Which global, counted from variable 16 on: 0 to 239.
+    pub global: u8,
+    pub values: V,
+}

@@ -203,10 +203,14 @@ fn width_of<V: Spelled>(turn: Turn, partial: &V::Partial) -> usize
         Turn::LoadedLength
         | Turn::RoutineAddress { .. }
         | Turn::InstructionCount
-        | Turn::InstructionAddress { .. } => 4,
-        Turn::LocalCount { .. } | Turn::Height { .. } | Turn::Complete => 1,
-        Turn::Global { .. } | Turn::RoutineResult { .. } | Turn::Value { .. } => V::awaited(
-            partial,
-        ),
+        | Turn::InstructionAddress { .. }
+        | Turn::FactCount
+        | Turn::FactAddress { .. } => 4,
+        Turn::LocalCount { .. } | Turn::Height { .. } | Turn::FactGlobal { .. } | Turn::Complete =>
+            1,
+        Turn::Global { .. }
+        | Turn::RoutineResult { .. }
+        | Turn::Value { .. }
+        | Turn::FactValues { .. } => V::awaited(partial),
     }
 }

@@ -8,12 +8,12 @@ ghost use Rattle.zcert.specs.Turns.{Turns, AreTurns};
 
 use crate::edition::Edition;
 use crate::error::CertError;
-use crate::limits::{LIMIT_VERSION, MARK_VERSION};
+use crate::limits::{FACT_VERSION, LIMIT_VERSION, MARK_VERSION};
 use std::alloc::AllocError;
 use zdomain::Domain;
 
-/// Sets of words that a version of the format can write, or three: one in which certificates name no limit of frames, one in which they
-/// do, and one in which they may mark instructions besides.
+/// Sets of words that a version of the format can write, or four: one in which certificates name no limit of frames, one in which they
+/// do, one in which they may mark instructions besides, and one in which they may state facts on globals too.
 ///
 /// Contracts see the format alone, so that what is proved of certificates holds for each kind of sets. A set is read number by number:
 /// what has come of it is kept as a value of the kind's own, so that a reader keeps few bytes wherever a file is cut.
@@ -40,7 +40,7 @@ pub trait Spelled: Domain {
     fn version() -> u8
         ensures { result ≡ format.version };
 
-    /// Whether there are two for those that do.
+    /// Whether there are three for those that do.
     fn limited() -> bool
         ensures { result ≡ format.limited };
 
@@ -116,5 +116,6 @@ pub(crate) fn version_of<V: Spelled>(edition: Edition) -> u8
         Edition::Plain => V::version(),
         Edition::Limited => LIMIT_VERSION,
         Edition::Marking => MARK_VERSION,
+        Edition::Stating => FACT_VERSION,
     }
 }

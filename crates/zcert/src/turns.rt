@@ -45,12 +45,35 @@ pub fn before_routines(count: u16) -> Turn
     }
 }
 
-pub fn before_instructions(count: u32) -> Turn
-    ensures { result ≡ spec.before_instructions count }
+pub fn before_instructions(stating: bool, count: u32) -> Turn
+    ensures { result ≡ spec.before_instructions stating count }
+{
+    if count == 0 {
+        behind_instructions(stating)
+    } else {
+        Turn::InstructionAddress { more: count - 1 }
+    }
+}
+
+fn behind_instructions(stating: bool) -> Turn
+    ensures { result ≡ spec.behind_instructions stating }
+{
+    if stating {
+        Turn::FactCount
+    } else {
+        Turn::Complete
+    }
+}
+
+pub fn before_facts(least: u8, count: u32) -> Turn
+    ensures { result ≡ spec.before_facts least count }
 {
     if count == 0 {
         Turn::Complete
     } else {
-        Turn::InstructionAddress { more: count - 1 }
+        Turn::FactAddress {
+            more: count - 1,
+            least,
+        }
     }
 }

@@ -1,4 +1,4 @@
-//! Intervals and lists in the format's versions 2 to 4.
+//! Intervals and lists in the format's versions 2 to 5.
 
 ghost use Rattle.std.specs.Prelude.{◌≡◌, ◌≢◌, ◌++◌, ◌+◌, ◌*◌, ◌≤◌, [], length, Err, IfOk, IfErr, OnOk};
 ghost use Rattle.std.specs.List.{flat_map, AllByRecursion};

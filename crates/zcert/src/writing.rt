@@ -5,14 +5,17 @@ ghost use Rattle.zcert.specs.Certificate.{edition_of};
 ghost use Rattle.zcert.specs.Numbers as numbers;
 ghost use Rattle.zcert.specs.Listed.{seen};
 ghost use Rattle.zcert.specs.View.{content_of};
-ghost use Rattle.zcert.specs.Spelling.{identity_bytes, limit_bytes, range_bytes, values_bytes, routine_bytes, instruction_bytes, counted, heading, spelling, HasSpelling};
+ghost use Rattle.zcert.specs.Spelling.{identity_bytes, limit_bytes, range_bytes, values_bytes, routine_bytes, instruction_bytes, fact_bytes, facts_bytes, counted, heading, spelling, HasSpelling};
 
 use crate::certificate::Certificate;
 use crate::contents::Contents;
 use crate::edition::Edition;
-use crate::limits::{FIXED_BYTES, HEADER_BYTES, LIMIT_BYTES, MAGIC, RANGE_BYTES, ROUTINE_BYTES};
+use crate::limits::{
+    FACT_BYTES, FACT_COUNT_BYTES, FIXED_BYTES, HEADER_BYTES, LIMIT_BYTES, MAGIC, RANGE_BYTES,
+    ROUTINE_BYTES,
+};
 use crate::marks::height_byte;
-use crate::parts::{Instruction, Range, Routine};
+use crate::parts::{Fact, Instruction, Range, Routine};
 use crate::spelled::{Spelled, version_of};
 use std::alloc::{AllocError, Global};
 use zstory::Identity;
@@ -115,6 +118,41 @@ fn put_instructions<V: Spelled>(out: &mut Vec<u8>, contents: &Contents<V>) -> Re
     Ok(())
 }
 
+fn put_fact<V: Spelled>(out: &mut Vec<u8>, fact: Fact<V>) -> Result<(), AllocError>
+    ensures { OnOk result (out.new.items ≡ out.old.items ++ fact_bytes V.format fact) }
+{
+    out.extend_from_slice(&fact.address.to_be_bytes())?;
+    out.push(fact.global)?;
+    fact.values.write_to(out)
+}
+
+fn put_facts<V: Spelled>(out: &mut Vec<u8>, facts: &[Fact<V>]) -> Result<(), AllocError>
+    requires { length facts.now ≤ 1048576 }
+    ensures { OnOk result (out.new.items ≡ out.old.items ++ counted numbers.FactCount (fact_bytes V.format) facts.now) }
+{
+    out.extend_from_slice(&(facts.len() as u32).to_be_bytes())?;
+    for fact in facts {
+        put_fact(out, *fact)?;
+    }
+    Ok(())
+}
+
+// The facts, where they may be stated.
+fn put_stated<V: Spelled>(
+    out: &mut Vec<u8>,
+    stating: bool,
+    facts: &[Fact<V>],
+) -> Result<(), AllocError>
+    requires { length facts.now ≤ 1048576 }
+    ensures { OnOk result (out.new.items ≡ out.old.items ++ facts_bytes V.format stating facts.now) }
+{
+    if stating {
+        put_facts(out, facts)
+    } else {
+        Ok(())
+    }
+}
+
 // How many bytes sets take.
 fn room_of<V: Spelled>(values: &[V]) -> usize {
     let mut room = 0_usize;
@@ -133,6 +171,15 @@ fn room_of_routines<V: Spelled>(routines: &[Routine<V>]) -> usize {
     room
 }
 
+// And facts.
+fn room_of_facts<V: Spelled>(facts: &[Fact<V>]) -> usize {
+    let mut room = facts.len().saturating_mul(FACT_BYTES);
+    for fact in facts {
+        room = room.saturating_add(fact.values.length());
+    }
+    room
+}
+
 // How many bytes a certificate takes, so that they are taken at once.
 fn room_for<V: Spelled>(contents: &Contents<V>) -> usize {
     FIXED_BYTES
@@ -142,6 +189,8 @@ fn room_for<V: Spelled>(contents: &Contents<V>) -> usize {
         .saturating_add(room_of_routines(&contents.routines))
         .saturating_add(contents.instructions.count().saturating_mul(HEADER_BYTES))
         .saturating_add(contents.instructions.bytes_of_sets())
+        .saturating_add(FACT_COUNT_BYTES)
+        .saturating_add(room_of_facts(&contents.facts))
 }
 
 // What stands before the ranges.
@@ -153,6 +202,15 @@ fn put_front<V: Spelled>(out: &mut Vec<u8>, contents: &Contents<V>) -> Result<()
     put_limit(out, contents.limit)
 }
 
+// The routines and the instructions.
+fn put_code<V: Spelled>(out: &mut Vec<u8>, contents: &Contents<V>) -> Result<(), AllocError>
+    requires { HasSpelling V.format (content_of contents.now) }
+    ensures { OnOk result (out.new.items ≡ out.old.items ++ (counted numbers.RoutineCount (routine_bytes V.format) (content_of contents.now).routines ++ counted numbers.InstructionCount (instruction_bytes V.format) (content_of contents.now).instructions)) }
+{
+    put_routines(out, &contents.routines)?;
+    put_instructions(out, contents)
+}
+
 // All that a certificate says, apart from the vector, which would be dropped where any of these is refused.
 fn put_all<V: Spelled>(out: &mut Vec<u8>, contents: &Contents<V>) -> Result<(), AllocError>
     requires { HasSpelling V.format (content_of contents.now) }
@@ -161,8 +219,8 @@ fn put_all<V: Spelled>(out: &mut Vec<u8>, contents: &Contents<V>) -> Result<(), 
     put_front(out, contents)?;
     put_ranges(out, &contents.ranges)?;
     put_values(out, &contents.globals)?;
-    put_routines(out, &contents.routines)?;
-    put_instructions(out, contents)
+    put_code(out, contents)?;
+    put_stated(out, contents.stating, &contents.facts)
 }
 
 /// The one spelling of a certificate. It always has bytes, so whichever certificate it is, the growth for them may be refused.

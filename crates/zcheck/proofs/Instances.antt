@@ -123,7 +123,7 @@ none_below p e less listed = each_listed (λ q f. q < 798 → (rule : Rule) → 
 keeps_alone : (rule : StoryRule) → KeepsStory interval_operations story (certificate_at (798 ∷ [])) rule
 unfolding claims claims_at certificate_at at_bare story memory
 keeps_alone rules.Identity = refl
-keeps_alone rules.FirstPlace = record { entry = record { routine = 0; shape = record { locals = []; slots = [] } }; listed = refl; main = refl; no_locals = refl; no_slots = refl }
+keeps_alone rules.FirstPlace = record { entry = record { routine = 0; shape = record { locals = []; slots = [] } }; listed = refl; main = refl; no_locals = refl; no_slots = refl; implied = tt }
 keeps_alone rules.RoutineHeads = tt
 keeps_alone rules.FirstGlobals = supports.values
 keeps_alone rules.PropertyTables = property_tables

@@ -5,3 +5,4 @@ pub mod Acceptance
 pub mod Streaming
 pub mod Marks
 pub mod Judged
+pub mod Bare

@@ -1,11 +1,13 @@
 //! The rules on a story and its tables.
 
-ghost use Rattle.std.specs.Prelude.{◌≡◌, ◌↔◌, [], IsTrue, MatchOption};
+ghost use Rattle.std.specs.Prelude.{◌≡◌, ◌↔◌, IsTrue, MatchOption};
 ghost use Rattle.std.specs.List.{All, AllByRecursion};
 ghost use Rattle.zstory.specs.LoadedStory.{first_instruction};
 ghost use Rattle.zrule.specs.Claims.{claims_of};
 ghost use Rattle.zrule.specs.Rules.{HasFirstPlace};
 ghost use Rattle.zcheck.specs.declared.refusal.StoryRule.{StoryRule as ARule};
+ghost use Rattle.zcert.specs.Listed.{listed_at, seen};
+ghost use Rattle.zcheck.specs.Bare.{IsBare};
 ghost use Rattle.zcheck.specs.Passes.{HasHead, KeepsStory, IsLowestStoryRule};
 
 use crate::objects::has_tree;
@@ -13,6 +15,7 @@ use crate::refusal::StoryRule;
 use crate::tables::{has_abbreviations, has_disjoint_tables, has_globals};
 use zcert::{Certificate, Instruction, Routine, Spelled};
 use zplace::has_property_tables;
+use zrule::hold_anyway;
 use zstory::Story;
 
 /// The rules by their numbers.
@@ -58,12 +61,20 @@ fn keeps<V: Spelled>(story: &Story, certificate: &Certificate<V>, rule: StoryRul
     }
 }
 
-/// Whether the first place is listed as the main code begins.
+/// Whether the first place is listed as the main code begins, and the facts there hold of all that the globals may have.
 fn has_first_place<V: Spelled>(story: &Story, certificate: &Certificate<V>) -> bool
     ensures { IsTrue result ↔ HasFirstPlace V.operations (claims_of V.operations certificate.now) story.now }
 {
+    let place = first_place(story);
+    is_listed_bare(certificate, place) && hold_anyway(certificate, place)
+}
+
+/// Whether an instruction is listed at an address, in the main code, with no local and an empty stack.
+fn is_listed_bare<V: Spelled>(certificate: &Certificate<V>, address: u32) -> bool
+    ensures { IsTrue result ↔ MatchOption (listed_at certificate.now.instructions address) ⊥ IsBare }
+{
     let mut room = V::room();
-    match certificate.instruction_at(first_place(story), &mut room) {
+    match certificate.instruction_at(address, &mut room) {
         Some(first) => is_bare(&first),
         None => false,
     }
@@ -79,7 +90,7 @@ fn first_place(story: &Story) -> u32
 
 /// Whether an instruction is in the main code, with no local and an empty stack.
 fn is_bare<V: Spelled>(listed: &Instruction<'_, V>) -> bool
-    ensures { IsTrue result ↔ ((listed.now.routine ≡ 0) × (listed.now.locals.now ≡ []) × (listed.now.slots.now ≡ [])) }
+    ensures { IsTrue result ↔ IsBare (seen listed.now) }
 {
     listed.routine == 0 && listed.locals.is_empty() && listed.slots.is_empty()
 }

@@ -62,6 +62,15 @@ Examples:
   zpc check story.z3 story.cert
   zpc check --json *.z3";
 
+/// What is behind the help of `play`.
+const PLAY_ENDING: &str =
+    "Where no CERT is named, the story is played by the certificate beside it, whose name is the story's with .cert for .z3, if the story
+is accepted with that. One that isn't used is told of first.
+
+Examples:
+  zpc play story.z3
+  zpc play --save my.qzl story.z3 story.cert";
+
 /// What the words ask for.
 #[derive(Clone, Copy, Debug, PartialEq, Eq)]
 pub enum Command<'s, 'a> {
@@ -137,7 +146,7 @@ pub enum Command<'s, 'a> {
     Play {
         /// The name of the story's file.
         story: &'a str,
-        /// The name of the certificate's file, if the story is played by one and not by testing everything.
+        /// The name of the certificate's file, if one is named. Else the story is played by the one beside it, or by testing everything.
         certificate: Option<&'a str>,
         /// What decides the random words.
         seed: u64,
@@ -514,11 +523,7 @@ fn saveless<'a>(alloc: Global) -> Result<clap::Command<'a>, AllocError>
         "Plays a story, with a certificate or without",
         false,
     )?;
-    let play = play.after_help(
-        "Examples:
-  zpc play story.z3
-  zpc play --save my.qzl story.z3 story.cert",
-    );
+    let play = play.after_help(PLAY_ENDING);
     let play = play.arg(seed(alloc))?.arg(budget(alloc))?;
     play.arg(status(alloc))
 }

@@ -12,7 +12,7 @@ Do: name the certificate behind the story, or find one anew with zpc find.
     (
         "K2",
         "K2: the certificate is of another version.
-Rule: its fifth byte is 1, 2, 3 or 4 (own).
+Rule: its fifth byte is 1, 2, 3, 4 or 5 (own).
 Do: find a certificate anew with this program's zpc find.
 ",
     ),
@@ -134,9 +134,9 @@ pub const FINDING: [(&str, &str); 3] = [
         "G1",
         "G1: no certificate was found.
 Rule: what zpc find answers has passed its own check (own). The address is where that stopped, if it was at one.
-Do: read the second line. \"no certificate: I5 at 00b99\" says that none exists that marks nothing: leave out --strict, or see
-zpc explain I5 and docs/AUTHORS.md. \"no certificate: S5\" says that none exists at all: see zpc explain S5. \"not found\" says that it
-isn't known whether one exists; zpc list story.z3 says what is wrong with the story's listing, if that is what is at fault, as an
+Do: read the second line. \"no certificate: I5 at 00b99\" says that none exists that marks nothing and states nothing of globals at
+single places: leave out --strict, or see zpc explain I5 and docs/AUTHORS.md. \"no certificate: S5\" says that none exists at all: see
+zpc explain S5. \"not found\" says that it isn't known whether one exists; zpc list story.z3 says what is wrong with the story's listing, if that is what is at fault, as an
 opcode that isn't played (zpc explain U1).
 ",
     ),

@@ -5,7 +5,9 @@ ghost use Rattle.zfind.specs.declared.error.FindError.TheVariants.{OutOfMemory};
 
 use crate::code::Code;
 use crate::error::FindError;
+use crate::frame::Frame;
 use crate::kind::Kind;
+use crate::looking::stated_of;
 use crate::walk::Walk;
 use std::alloc::Global;
 use zcert::{CertBuilder, CertError, Certificate, Field, MARK};
@@ -24,7 +26,8 @@ pub(crate) fn certificate_of<V: Kind>(
     Ok(builder.finish()?)
 }
 
-/// The same, which names a limit of frames, and marks those of the listed instructions that have a mark.
+/// The same, which names a limit of frames, and marks those of the listed instructions that have a mark. It states what is known of globals
+/// where that may be stated.
 pub(crate) fn marked_certificate_of<V: Kind>(
     alloc: Global,
     code: &Code<'_>,
@@ -35,10 +38,17 @@ pub(crate) fn marked_certificate_of<V: Kind>(
     requires limited { V.format.limited ≡ true }
     ensures { IfErr result (λ error. error ≡ OutOfMemory) }
 {
-    let mut builder = CertBuilder::marking(alloc);
+    let mut builder = if code.tells() {
+        CertBuilder::stating(alloc)
+    } else {
+        CertBuilder::marking(alloc)
+    };
     take_identity(&mut builder, code)?;
     builder.take(Field::FrameLimit(limit))?;
     take_rest(alloc, &mut builder, code, walk, marks)?;
+    if code.tells() {
+        take_facts(alloc, &mut builder, code, walk)?;
+    }
     Ok(builder.finish()?)
 }
 
@@ -207,6 +217,67 @@ fn take_instruction<V: Kind>(
 fn take_values<V: Kind>(builder: &mut CertBuilder<V>, sets: &[V]) -> Result<(), CertError> {
     for set in sets {
         builder.take(Field::Value(*set))?;
+    }
+    Ok(())
+}
+
+/// What is known of globals beside their own sets.
+fn take_facts<V: Kind>(
+    alloc: Global,
+    builder: &mut CertBuilder<V>,
+    code: &Code<'_>,
+    walk: &Walk<'_, V>,
+) -> Result<(), CertError> {
+    builder.take(Field::FactCount(fact_count(alloc, code, walk)?))?;
+    for (index, record) in code.records().iter().enumerate() {
+        take_facts_at(alloc, builder, walk, index, record.address)?;
+    }
+    Ok(())
+}
+
+/// How much that is.
+fn fact_count<V: Kind>(
+    alloc: Global,
+    code: &Code<'_>,
+    walk: &Walk<'_, V>,
+) -> Result<u32, CertError> {
+    let mut count = 0u32;
+    for index in 0..code.records().len() {
+        if let Some(frame) = walk.state.frame_at(alloc, index)? {
+            count = count.saturating_add(stated_count(walk, &frame));
+        }
+    }
+    Ok(count)
+}
+
+/// How much of it is known of a frame.
+fn stated_count<V: Kind>(walk: &Walk<'_, V>, frame: &Frame<V>) -> u32 {
+    let mut count = 0u32;
+    for (global, set) in frame.told() {
+        if stated_of(walk.state.globals(), *global, *set).is_some() {
+            count = count.saturating_add(1);
+        }
+    }
+    count
+}
+
+/// What is known of globals before an instruction.
+fn take_facts_at<V: Kind>(
+    alloc: Global,
+    builder: &mut CertBuilder<V>,
+    walk: &Walk<'_, V>,
+    index: usize,
+    address: u32,
+) -> Result<(), CertError> {
+    let Some(frame) = walk.state.frame_at(alloc, index)? else {
+        return Ok(());
+    };
+    for (global, set) in frame.told() {
+        if let Some(values) = stated_of(walk.state.globals(), *global, *set) {
+            builder.take(Field::FactAddress(address))?;
+            builder.take(Field::FactGlobal(*global))?;
+            builder.take(Field::FactValues(values))?;
+        }
     }
     Ok(())
 }

@@ -43,6 +43,8 @@ pub(crate) struct Code<'a> {
     waits: bool,
     /// Whether what breaks a rule may be marked, so that a walk goes on behind it as far as play may.
     marks: bool,
+    /// Whether facts on globals may be stated.
+    tells: bool,
 }
 
 impl<'a> Code<'a> {
@@ -66,6 +68,7 @@ impl<'a> Code<'a> {
             headless: Gaps::new(alloc, &possible_heads(alloc, story, listing)?)?,
             waits: false,
             marks: false,
+            tells: false,
         };
         for (index, record) in listing.records().iter().enumerate() {
             code.note(index, &record.instruction)?;
@@ -99,6 +102,19 @@ impl<'a> Code<'a> {
     /// Whether it may.
     pub(crate) fn marks(&self) -> bool {
         self.marks
+    }
+
+    /// The same, where facts on globals may be stated.
+    pub(crate) fn telling(self) -> Code<'a> {
+        Code {
+            tells: true,
+            ..self
+        }
+    }
+
+    /// Whether they may.
+    pub(crate) fn tells(&self) -> bool {
+        self.tells
     }
 
     /// Notes what an instruction depends on.

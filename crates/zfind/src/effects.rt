@@ -7,7 +7,7 @@ use crate::span::span;
 use crate::state::State;
 use std::alloc::{AllocError, Global};
 use zdomain::Domain;
-use zflow::{Edge, Flow, Lead, Outcome, argument_set, flow_of};
+use zflow::{Edge, Flow, Globals, Lead, Outcome, argument_set, flow_of};
 use zlist::Record;
 use zruns::Tables;
 
@@ -150,9 +150,11 @@ pub(crate) struct Visit<'a, V: Kind> {
     pub(crate) state: &'a State<V>,
     pub(crate) record: &'a Record,
     /// What is known of the globals, the locals and the slots.
-    pub(crate) globals: &'a [V],
+    pub(crate) globals: Globals<'a, V>,
     pub(crate) locals: &'a [V],
     pub(crate) slots: &'a [V],
+    /// What is told of globals beside their own sets.
+    pub(crate) told: &'a [(u8, V)],
     /// What it called when it was visited last, if it was visited and calls.
     pub(crate) before: Option<&'a Calls<V>>,
 }
@@ -195,9 +197,13 @@ impl<'a, V: Kind> Visit<'a, V> {
         };
         let target = self.record.instruction.target();
         let outcome = with_more(edge.outcome, more);
-        let Some(frame) = Frame::behind(self.alloc, self.locals, left, &outcome, target)? else {
+        let behind = Frame::behind(self.alloc, self.locals, left, &outcome, target)?;
+        let Some(mut frame) = behind else {
             return Ok(None);
         };
+        if self.code.tells() {
+            frame.tell_behind(self.told, &outcome, target)?;
+        }
         if frame.height() > MOST_HEIGHT {
             return Ok(None);
         }
@@ -224,7 +230,10 @@ impl<'a, V: Kind> Visit<'a, V> {
                 effect.returned = Some(set);
                 Ok(())
             }
-            Lead::Entering(callees) => self.call(effect, callees),
+            Lead::Entering(callees) => {
+                effect.frame.forget();
+                self.call(effect, callees)
+            }
         }
     }
 

@@ -3,15 +3,17 @@
 use crate::bytes::Span;
 use crate::code::Code;
 use crate::effects::{Calls, Effect, Effects, Naming, Visit, WORDS, naming_of, next_callee};
+use crate::frame::narrower;
 use crate::kind::Kind;
 use crate::narrowing::let_through;
 use crate::opened::Opened;
 use crate::openings::reach_of;
 use crate::state::State;
 use std::alloc::{AllocError, Global};
+use zcert::Fact;
 use zcode::{Operand, Operation};
 use zdomain::Domain;
-use zflow::{Demands, Flow, first_known};
+use zflow::{Demands, Flow, Globals, first_known};
 use zlist::Record;
 use zruns::Tables;
 
@@ -51,27 +53,62 @@ pub(crate) fn look<V: Kind>(
     let Some(frame) = state.frame_at(alloc, index)? else {
         return Ok(None);
     };
+    let facts = facts_of(alloc, record.address, state.globals(), frame.told())?;
     let visit = Visit {
         alloc,
         code,
         state,
         record,
-        globals: state.globals(),
+        globals: Globals {
+            own: state.globals(),
+            facts: &facts,
+        },
         locals: frame.locals(),
         slots: frame.slots(),
+        told: frame.told(),
         before,
     };
     let flow = visit.flow(known.tables);
     if let Some(narrowed) = let_through(visit, &flow.demands)? {
+        let facts = facts_of(alloc, record.address, state.globals(), narrowed.told())?;
         let visit = Visit {
-            globals: narrowed.globals_or(visit.globals),
-            locals: narrowed.frame.locals(),
-            slots: narrowed.frame.slots(),
+            globals: Globals {
+                own: state.globals(),
+                facts: &facts,
+            },
+            locals: narrowed.locals(),
+            slots: narrowed.slots(),
+            told: narrowed.told(),
             ..visit
         };
         return Ok(Some(seen_of(visit, &visit.flow(known.tables), known)?));
     }
     Ok(Some(seen_of(visit, &flow, known)?))
+}
+
+/// What is known of globals at an address beside their own sets, as facts.
+fn facts_of<V: Kind>(
+    alloc: Global,
+    address: u32,
+    globals: &[V],
+    told: &[(u8, V)],
+) -> Result<Vec<Fact<V>>, AllocError> {
+    let mut facts = Vec::new(alloc);
+    for (global, set) in told {
+        if let Some(values) = stated_of(globals, *global, *set) {
+            facts.push(Fact {
+                address,
+                global: *global,
+                values,
+            })?;
+        }
+    }
+    Ok(facts)
+}
+
+/// What a set says of a global that its own doesn't.
+pub(crate) fn stated_of<V: Kind>(globals: &[V], global: u8, set: V) -> Option<V> {
+    narrower(*globals.get(usize::from(global))?, set)
 }
 
 /// What is seen by what may come of an instruction.
@@ -177,12 +214,12 @@ fn first_told<V: Kind>(visit: Visit<'_, V>, operand: Operand) -> usize {
         Operand::Variable(variable) => usize::from(variable),
     };
     let set = match place {
-        0 => visit.slots.last(),
-        1..16 => visit.locals.get(place.saturating_sub(1)),
+        0 => visit.slots.last().copied(),
+        1..16 => visit.locals.get(place.saturating_sub(1)).copied(),
         _ => visit.globals.get(place.saturating_sub(16)),
     };
     match set {
-        Some(set) => (*set).told(),
+        Some(set) => set.told(),
         None => 0,
     }
 }

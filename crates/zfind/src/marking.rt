@@ -8,7 +8,7 @@ ghost use Rattle.zfind.specs.Marking.{AreMarksOf, FailsUnmarked, IsFoundMarked, 
 ghost use Rattle.zfind.specs.declared.error.FindError.TheVariants.{NotFound, OutOfMemory};
 ghost use Rattle.zfind.specs.declared.error.Obstacle.{Obstacle as AnObstacle};
 
-use crate::certificate::{certificate_of, marked_certificate_of};
+use crate::certificate::marked_certificate_of;
 use crate::code::Code;
 use crate::error::FindError;
 use crate::extending::lenient_listing;
@@ -132,7 +132,10 @@ fn marked_round(
     ensures passes { IfOk result (IsMarkedRound story.now limit) }
     ensures failed { IfErr result (IsUnmarkable story.now limit) }
 {
-    let code = Code::new(alloc, story, listing)?.waiting().marking();
+    let code = Code::new(alloc, story, listing)?
+        .waiting()
+        .marking()
+        .telling();
     let mut walk = Walk::new(alloc, &code, first_plan(alloc, &code)?)?;
     if !went(walk.grow(left))? {
         return Ok(MarkedRound::Stopped);
@@ -175,7 +178,7 @@ fn last_marked(
     ensures passes { IfOk result (IsMarkedWithin story.now limit) }
     ensures failed { IfErr result (IsUnmarkable story.now limit) }
 {
-    let code = Code::new(alloc, story, listing)?.marking();
+    let code = Code::new(alloc, story, listing)?.marking().telling();
     let first = make_marked(alloc, story, &code, first_plan(alloc, &code)?, limit, left)?;
     fewest_marks(alloc, story, listing, first, limit, left)
 }
@@ -220,7 +223,7 @@ fn fewest_marks(
     ensures passes { IfOk result (IsMarkedWithin story.now limit) }
     ensures failed { IfErr result (IsUnmarkable story.now limit) }
 {
-    let code = Code::new(alloc, story, listing)?.marking();
+    let code = Code::new(alloc, story, listing)?.marking().telling();
     let mut best = first.certificate;
     let mut next = first.next;
     for delay in LATER_DELAYS {
@@ -331,7 +334,7 @@ fn marked_of(
     ensures named { IfOk result (λ certificate. certificate.limit ≡ Some limit) }
     ensures memory { IfErr result (λ error. error ≡ OutOfMemory) }
 {
-    let plain = certificate_of(alloc, code, walk)?;
+    let plain = marked_certificate_of(alloc, code, walk, limit, &[])?;
     let marks = marks_of(alloc, story, &plain)?;
     let marked = marked_certificate_of(alloc, code, walk, limit, &marks)?;
     Ok(marked.with_limit(limit))

@@ -16,14 +16,6 @@ use zword::Question;
 /// The last number of an attribute, and of a property (Z 12.3.1, 12.4.1).
 const LAST_NUMBER: u16 = 31;
 
-/// What is known before an instruction, once its test was passed.
-#[derive(Drop)]
-pub(crate) struct Narrowed<V> {
-    /// The sets of the globals, where one of these is narrower.
-    globals: Option<Vec<V>>,
-    pub(crate) frame: Frame<V>,
-}
-
 /// Where the set of an operand is kept.
 #[derive(Clone, Copy)]
 enum Place {
@@ -38,7 +30,7 @@ enum Place {
 pub(crate) fn let_through<V: Kind>(
     visit: Visit<'_, V>,
     demands: &Demands<V>,
-) -> Result<Option<Narrowed<V>>, AllocError> {
+) -> Result<Option<Frame<V>>, AllocError> {
     if !visit.code.marks() {
         return Ok(None);
     }
@@ -47,62 +39,30 @@ pub(crate) fn let_through<V: Kind>(
     if first.is_none() && second.is_none() {
         return Ok(None);
     }
-    let mut narrowed = Narrowed {
-        globals: globals_of(visit, first, second)?,
-        frame: frame_of(visit)?,
-    };
-    narrowed.put(first);
-    narrowed.put(second);
+    let mut narrowed = frame_of(visit)?;
+    put(&mut narrowed, first)?;
+    put(&mut narrowed, second)?;
     Ok(Some(narrowed))
 }
 
-/// What is known of the globals, where a set of one is to be put in its place.
-fn globals_of<V: Kind>(
-    visit: Visit<'_, V>,
-    first: Option<(Place, V)>,
-    second: Option<(Place, V)>,
-) -> Result<Option<Vec<V>>, AllocError> {
-    if is_global(first) || is_global(second) {
-        Ok(Some(Vec::from_slice(visit.alloc, visit.globals)?))
-    } else {
-        Ok(None)
-    }
-}
-
-/// Whether a set is one of a global.
-fn is_global<V: Kind>(narrower: Option<(Place, V)>) -> bool {
-    matches!(narrower, Some((Place::Global(_), _)))
-}
-
-/// What is known of the frame.
+/// What is known of the frame, and of globals beside their own sets.
 fn frame_of<V: Kind>(visit: Visit<'_, V>) -> Result<Frame<V>, AllocError> {
     let mut sets = Vec::from_slice(visit.alloc, visit.locals)?;
     sets.extend_from_slice(visit.slots)?;
-    Ok(Frame::of(visit.locals.len(), sets))
+    let mut frame = Frame::of(visit.alloc, visit.locals.len(), sets);
+    frame.tell_all(visit.told)?;
+    Ok(frame)
 }
 
-impl<V: Kind> Narrowed<V> {
-    /// The sets of the globals, which are these where none is narrower.
-    pub(crate) fn globals_or<'a>(&'a self, before: &'a [V]) -> &'a [V] {
-        match &self.globals {
-            Some(globals) => globals,
-            None => before,
+/// Puts a narrower set in its place, if there is one.
+fn put<V: Kind>(frame: &mut Frame<V>, narrower: Option<(Place, V)>) -> Result<(), AllocError> {
+    match narrower {
+        Some((Place::Frame(index), set)) => {
+            frame.put(index, set);
+            Ok(())
         }
-    }
-
-    /// Puts a narrower set in its place, if there is one.
-    fn put(&mut self, narrower: Option<(Place, V)>) {
-        match narrower {
-            Some((Place::Frame(index), set)) => self.frame.put(index, set),
-            Some((Place::Global(index), set)) => {
-                if let Some(globals) = &mut self.globals {
-                    if let Some(there) = globals.get_mut(index) {
-                        *there = set;
-                    }
-                }
-            }
-            None => {}
-        }
+        Some((Place::Global(index), set)) => frame.tell(index.min(239) as u8, set),
+        None => Ok(()),
     }
 }
 
@@ -156,7 +116,7 @@ fn set_at<V: Kind>(visit: Visit<'_, V>, place: Place) -> Option<V> {
     match place {
         Place::Frame(index) if index < local_count => visit.locals.get(index).copied(),
         Place::Frame(index) => visit.slots.get(index.saturating_sub(local_count)).copied(),
-        Place::Global(index) => visit.globals.get(index).copied(),
+        Place::Global(index) => visit.globals.get(index),
     }
 }
 

@@ -25,6 +25,16 @@ struct Spot {
     height: u8,
     is_reached: bool,
     growths: Growths,
+    /// Where what is known of globals begins in the list of all of that, and of how many.
+    told_start: usize,
+    told_count: u8,
+}
+
+/// What is known of a global at a place, by its index, as long as that is more than its own set says.
+#[derive(Clone, Copy)]
+struct Told<K> {
+    global: u8,
+    set: Option<K>,
 }
 
 /// How often a thing has grown: all in all, and where it may be widened.
@@ -52,6 +62,7 @@ struct Cell<K> {
 pub(crate) struct State<V: Kind> {
     spots: Vec<Spot>,
     sets: Vec<V::Kept>,
+    told: Vec<Told<V::Kept>>,
     globals: Vec<V>,
     global_growths: Vec<Growths>,
     results: Vec<Cell<V::Kept>>,
@@ -189,6 +200,8 @@ impl<V: Kind> State<V> {
             height: 0,
             is_reached: false,
             growths: NO_GROWTHS,
+            told_start: 0,
+            told_count: 0,
         };
         let cell = Cell {
             set: None,
@@ -197,6 +210,7 @@ impl<V: Kind> State<V> {
         Ok(State {
             spots: vec![in alloc; spot; code.records().len()]?,
             sets: Vec::new(alloc),
+            told: Vec::new(alloc),
             globals: loaded_globals(alloc, code)?,
             global_growths: vec![in alloc; NO_GROWTHS; GLOBALS]?,
             results: vec![in alloc; cell; code.routines().len()]?,
@@ -224,7 +238,8 @@ impl<V: Kind> State<V> {
     /// How many sets are known of places, with a few for each place.
     pub(crate) fn size(&self) -> u32 {
         let places = self.spots.len().saturating_mul(SETS_OF_PLACE);
-        short(self.sets.len().saturating_add(places))
+        let sets = self.sets.len().saturating_add(self.told.len());
+        short(sets.saturating_add(places))
     }
 
     /// Whether a place was reached.
@@ -270,7 +285,13 @@ impl<V: Kind> State<V> {
             sets.push(self.set(*set))?;
         }
         let locals = usize::from(spot.locals).min(sets.len());
-        Ok(Some(Frame::of(locals, sets)))
+        let mut frame = Frame::of(alloc, locals, sets);
+        for told in self.told_of(spot) {
+            if let Some(set) = told.set {
+                frame.tell(told.global, self.set(set))?;
+            }
+        }
+        Ok(Some(frame))
     }
 
     /// A place, if it was reached.
@@ -284,6 +305,30 @@ impl<V: Kind> State<V> {
         let count = usize::from(spot.locals) + usize::from(spot.height);
         let end = spot.start.saturating_add(count);
         self.sets.as_slice().get(spot.start..end).unwrap_or(&[])
+    }
+
+    /// What is known of globals at a place.
+    fn told_of(&self, spot: Spot) -> &[Told<V::Kept>] {
+        let end = spot.told_start.saturating_add(usize::from(spot.told_count));
+        self.told
+            .as_slice()
+            .get(spot.told_start..end)
+            .unwrap_or(&[])
+    }
+
+    /// What is known of a global at a place, if that is more than its own set says.
+    fn told_at(&self, index: usize, global: u8) -> Option<V> {
+        self.told_there(self.reached_spot(index)?, global)
+    }
+
+    /// The same, of a place that was reached.
+    fn told_there(&self, spot: Spot, global: u8) -> Option<V> {
+        for told in self.told_of(spot) {
+            if told.global == global {
+                return Some(self.set(told.set?));
+            }
+        }
+        None
     }
 
     /// A set of a place, by its index there.
@@ -321,6 +366,10 @@ impl<V: Kind> State<V> {
         for (offset, more) in frame.sets().iter().enumerate() {
             is_new |= self.raise(plan, index, offset, spot, *more, may_widen)?;
         }
+        for nth in 0..usize::from(spot.told_count) {
+            let at = spot.told_start.saturating_add(nth);
+            is_new |= self.raise_told(plan, index, at, spot, frame, may_widen)?;
+        }
         if is_new {
             self.count_growth(index, may_widen);
         }
@@ -333,6 +382,14 @@ impl<V: Kind> State<V> {
         for set in frame.sets() {
             self.sets.push((*set).shelve(&mut self.shelf)?)?;
         }
+        let told_start = self.told.len();
+        for (global, set) in frame.told() {
+            let set = Some((*set).shelve(&mut self.shelf)?);
+            self.told.push(Told {
+                global: *global,
+                set,
+            })?;
+        }
         if let Some(spot) = self.spots.get_mut(index) {
             *spot = Spot {
                 start,
@@ -341,6 +398,8 @@ impl<V: Kind> State<V> {
                 height: frame.height().min(64) as u8,
                 is_reached: true,
                 growths: NO_GROWTHS,
+                told_start,
+                told_count: frame.told().len().min(255) as u8,
             };
         }
         Ok(())
@@ -373,6 +432,37 @@ impl<V: Kind> State<V> {
         let cap = plan.cap_at(index, offset);
         let grown = plan.raised(set, more, spot.growths, may_widen, cap);
         *kept = grown.shelve(&mut self.shelf)?;
+        Ok(true)
+    }
+
+    /// Gives what is known of a global at a place, by its index among all that, what a frame has of it, and says whether that was news.
+    /// Where the frame has no more than its own set, nothing more is known of it there from then on.
+    fn raise_told(
+        &mut self,
+        plan: &Plan<V>,
+        index: usize,
+        at: usize,
+        spot: Spot,
+        frame: &Frame<V>,
+        may_widen: bool,
+    ) -> Result<bool, AllocError> {
+        let Some(told) = self.told.get_mut(at) else {
+            return Ok(false);
+        };
+        let Some(kept) = told.set else {
+            return Ok(false);
+        };
+        let Some(more) = frame.told_of(told.global) else {
+            told.set = None;
+            return Ok(true);
+        };
+        let set = V::kept(kept, &self.shelf);
+        if more.is_within(set) {
+            return Ok(false);
+        }
+        let cap = plan.told_cap(index, told.global);
+        let grown = plan.raised(set, more, spot.growths, may_widen, cap);
+        told.set = Some(grown.shelve(&mut self.shelf)?);
         Ok(true)
     }
 
@@ -455,7 +545,9 @@ impl<V: Kind> State<V> {
     fn has_place_within(&self, other: &State<V>, index: usize) -> bool {
         match (self.reached_spot(index), other.reached_spot(index)) {
             (None, _) => true,
-            (Some(inner), Some(outer)) => self.has_sets_within(inner, other, outer),
+            (Some(inner), Some(outer)) => {
+                self.has_sets_within(inner, other, outer) && self.tells_within(inner, other, outer)
+            }
             (Some(_), None) => false,
         }
     }
@@ -468,7 +560,31 @@ impl<V: Kind> State<V> {
     }
 }
 
+impl<V: Kind> State<V> {
+    /// Whether as much is known of each global at a place as at a place there.
+    fn tells_within(&self, inner: Spot, other: &State<V>, outer: Spot) -> bool {
+        for told in other.told_of(outer) {
+            let Some(set) = told.set else {
+                continue;
+            };
+            match self.told_there(inner, told.global) {
+                Some(here) if here.is_within(other.set(set)) => {}
+                _ => return false,
+            }
+        }
+        true
+    }
+}
+
 impl<V: Kind> Plan<V> {
+    /// What is known of a global at a place isn't widened beyond this.
+    fn told_cap(&self, index: usize, global: u8) -> Option<V> {
+        match &self.caps {
+            Some(caps) => caps.told_at(index, global),
+            None => None,
+        }
+    }
+
     /// What a set of a place isn't widened beyond.
     fn cap_at(&self, index: usize, offset: usize) -> Option<V> {
         match &self.caps {

@@ -1,6 +1,7 @@
 mod Counted
 mod Slots
 mod Changes
+mod GlobalSets
 mod Operands
 mod Answering
 mod Worked

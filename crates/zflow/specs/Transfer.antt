@@ -19,6 +19,7 @@ use Rattle.zcode.specs.declared.operation.Operation.TheVariants.{Unary, Binary, 
 use Rattle.zcode.specs.Instruction.{Instruction}
 use Rattle.zcode.specs.Operation.{operation_of, inputs, target}
 use Rattle.zdomain.specs.Domain.{SetOperations}
+use Rattle.zcert.specs.declared.parts.Fact.{Fact}
 use Rattle.zstate.specs.Step.{way, arguments}
 use Rattle.zpairs.specs.Frozen.{FrozenStory}
 use Rattle.zpairs.specs.Pairs.{answers}
@@ -133,7 +134,7 @@ module _ {V : Type 0} (o : SetOperations V) where
 -- ---- what may come of it
 
 abbrev pub untold : {V : Type 0} → Kept V
-untold = record { first = None; second = None }
+untold = record { first = None; second = None; first_global = None; second_global = None }
 
 abbrev pub goes_on : {V : Type 0} → Outcome V
 goes_on = record { gives = None; assigns = None; tests = None; kept = untold; leads = Ahead (pos 0) }
@@ -174,8 +175,17 @@ operand_kept None a = None
 operand_kept (Some (Constant n)) a = None
 operand_kept (Some (Variable v)) a = local_kept v a
 
+-- and so does one that is a global
+abbrev pub global_kept : {V : Type 0} → ℕ → V → Option (ℕ × V)
+global_kept v a = if nat_lt v 16 then None else Some (v, a)
+
+abbrev pub operand_global : {V : Type 0} → Option Operand → V → Option (ℕ × V)
+operand_global None a = None
+operand_global (Some (Constant n)) a = None
+operand_global (Some (Variable v)) a = global_kept v a
+
 abbrev pub both_kept : {V : Type 0} → List Operand → V × V → Kept V
-both_kept operands p = record { first = operand_kept (slice_get operands 0) p.0; second = operand_kept (slice_get operands 1) p.1 }
+both_kept operands p = record { first = operand_kept (slice_get operands 0) p.0; second = operand_kept (slice_get operands 1) p.1; first_global = operand_global (slice_get operands 0) p.0; second_global = operand_global (slice_get operands 1) p.1 }
 
 -- what asks nothing has one outcome, which stands where a condition would hold
 abbrev pub once : {V : Type 0} → Bool → Outcome V → Option (Outcome V)
@@ -290,6 +300,25 @@ named_with v x locals = if nat_lt v 16 then slice_set locals (v - 1) x else loca
 abbrev pub with_assigned : {V : Type 0} → Option (ℕ × V) → Shape V → Shape V
 with_assigned None e = e
 with_assigned (Some p) e = record { locals = if p.0 == 0 then e.locals else named_with p.0 p.1 e.locals; slots = if p.0 == 0 then slice_set e.slots 0 p.1 else e.slots }
+
+-- sets of globals, with that of each fact in the place of its global's
+abbrev pub with_facts : {V : Type 0} → List V → List (Fact V) → List V
+with_facts globals [] = globals
+with_facts globals (f ∷ fs) = with_facts (slice_set globals f.global f.values) fs
+
+-- the globals, where one has these values, if the variable is one
+abbrev pub globals_with : {V : Type 0} → Option V → ℕ → List V → List V
+globals_with None v globals = globals
+globals_with (Some x) v globals = if nat_lt v 16 then globals else slice_set globals (v - 16) x
+
+abbrev pub globals_named : {V : Type 0} → Option (ℕ × V) → List V → List V
+globals_named None globals = globals
+globals_named (Some p) globals = globals_with (Some p.1) p.0 globals
+
+-- What is known of the globals behind an instruction, where they have these sets before it: one that is given a value in place has its
+-- set, then one that takes the result, and then those that a branch says something of.
+abbrev pub globals_after : {V : Type 0} → List V → ℕ → Outcome V → List V
+globals_after globals target w = globals_named w.kept.second_global (globals_named w.kept.first_global (globals_with w.gives target (globals_named w.assigns globals)))
 
 module _ {V : Type 0} (o : SetOperations V) where
   -- with a local that has these values, if there are some

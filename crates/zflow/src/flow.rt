@@ -5,8 +5,10 @@ ghost use Rattle.zflow.specs.Transfer.{leading, narrowed, read_set, with_assigne
 ghost use Rattle.zcode.specs.Operation.{target};
 ghost use Rattle.zflow.specs.Kept.{shape_of};
 ghost use Rattle.zflow.specs.Flow.{IsFlow};
+ghost use Rattle.zflow.specs.Lent.{globals_seen};
 
 use crate::asking::demands_of;
+use crate::global_sets::Globals;
 use crate::known::Known;
 use crate::outcomes::outcomes_of;
 use crate::parts::{Demands, Lead, Outcome};
@@ -43,12 +45,12 @@ pub struct Flow<'a, V> {
 /// the top slot last. Each set is computed once. What properties answer and what arrays have is taken from `tables`.
 pub fn flow_of<'a, V: Domain>(
     tables: &Tables<'_>,
-    globals: &[V],
+    globals: Globals<'_, V>,
     locals: &'a [V],
     slots: &'a [V],
     instruction: &Instr,
 ) -> Flow<'a, V>
-    ensures { IsFlow V.operations globals.now tables.now instruction.now (shape_of locals.now slots.now) result }
+    ensures { IsFlow V.operations (globals_seen globals.entry) tables.now instruction.now (shape_of locals.now slots.now) result }
 {
     let before = View {
         globals,
@@ -80,12 +82,12 @@ pub fn flow_of<'a, V: Domain>(
 /// The word that an instruction reads first, where what is known leaves it but one: sets of the globals, of the frame's locals
 /// and of its slots, the top slot last.
 pub fn first_known<V: Domain>(
-    globals: &[V],
+    globals: Globals<'_, V>,
     locals: &[V],
     slots: &[V],
     instruction: &Instr,
 ) -> Option<u16>
-    ensures { result ≡ V.operations.known (read_set V.operations globals.now instruction.now (shape_of locals.now slots.now) 0) }
+    ensures { result ≡ V.operations.known (read_set V.operations (globals_seen globals.entry) instruction.now (shape_of locals.now slots.now) 0) }
 {
     let before = View {
         globals,

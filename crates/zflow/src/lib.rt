@@ -4,6 +4,7 @@
 mod arguments;
 mod asking;
 mod flow;
+mod global_sets;
 mod known;
 mod local_sets;
 mod outcomes;
@@ -13,5 +14,6 @@ mod view;
 
 pub use arguments::argument_set;
 pub use flow::{Edge, Flow, first_known, flow_of};
+pub use global_sets::{Globals, global_behind};
 pub use known::Known;
 pub use parts::{Access, Asked, Buffers, Demands, Elements, Kept, Lead, Outcome, Pairs, Texts};

@@ -135,7 +135,7 @@ pub(crate) fn change_of<V: Domain>(variable: u8, set: V) -> Option<(u8, V)>
 }
 
 /// The set at an index where a change was made, and `set` where that was at another.
-fn at_or<'s, V: Domain>(change: &'s Option<(u8, V)>, index: usize, set: &'s V) -> &'s V
+pub(crate) fn at_or<'s, V: Domain>(change: &'s Option<(u8, V)>, index: usize, set: &'s V) -> &'s V
     ensures { (sets : List V) → slice_get sets index ≡ Some set.now → slice_get (put change.now sets) index ≡ Some result.now }
 {
     match change {

@@ -3,8 +3,9 @@
 ghost use Rattle.std.specs.Prelude.{◌≡◌, List, [], Some, None, true, false, option_map};
 ghost use Rattle.zcode.specs.declared.instr.Operand.{Operand as AnOperand};
 ghost use Rattle.zcode.specs.declared.operation.Operation.TheVariants.{Count};
-ghost use Rattle.zflow.specs.Transfer.{asks, assigns_in, called_outcome, compared_kept, counted_kept, counts_in, drawn_set, followed_outcome, follows_in, gives_in, goes_on, is_local, jumps, local_kept, once_known, operand_kept, outcome_of, returns_in, small, unrestored, untold, variable_set};
+ghost use Rattle.zflow.specs.Transfer.{asks, assigns_in, called_outcome, compared_kept, counted_kept, counts_in, drawn_set, followed_outcome, follows_in, gives_in, goes_on, is_local, jumps, local_kept, once_known, operand_global, operand_kept, outcome_of, returns_in, small, unrestored, untold, variable_set};
 ghost use Rattle.zflow.specs.Kept.{both};
+ghost use Rattle.zflow.specs.Lent.{globals_seen};
 ghost use Rattle.zflow.specs.View.{seen};
 ghost use Rattle.zpairs.specs.Frozen.{FrozenStory};
 
@@ -38,8 +39,8 @@ pub(crate) fn outcomes_of<V: Domain>(
     second: V,
     view: View<'_, V>,
 ) -> Outcomes<V>
-    ensures held { result.held ≡ outcome_of V.operations view.entry.globals.now tables.now operation operands.now (both first second) (seen view.entry) true }
-    ensures failed { result.failed ≡ outcome_of V.operations view.entry.globals.now tables.now operation operands.now (both first second) (seen view.entry) false }
+    ensures held { result.held ≡ outcome_of V.operations (globals_seen view.entry.globals) tables.now operation operands.now (both first second) (seen view.entry) true }
+    ensures failed { result.failed ≡ outcome_of V.operations (globals_seen view.entry.globals) tables.now operation operands.now (both first second) (seen view.entry) false }
 {
     match operation {
         Operation::Unary(op) => once(gives_in(V::unary(op, first))),
@@ -106,13 +107,15 @@ fn never<V: Domain>() -> Outcomes<V>
     }
 }
 
-/// A branch says nothing of locals.
+/// A branch says nothing of locals and globals.
 fn untold<V: Domain>() -> Kept<V>
     ensures { result ≡ untold }
 {
     Kept {
         first: None,
         second: None,
+        first_global: None,
+        second_global: None,
     }
 }
 
@@ -198,6 +201,8 @@ fn compared_edge<V: Domain>(
             let kept = Kept {
                 first: operand_kept(*a, of_first),
                 second: operand_kept(*b, of_second),
+                first_global: operand_global(*a, of_first),
+                second_global: operand_global(*b, of_second),
             };
             Some(asks(answer, kept))
         }
@@ -212,6 +217,16 @@ fn operand_kept<V: Domain>(operand: Operand, set: V) -> Option<(u8, V)>
     match operand {
         Operand::Constant(_) => None,
         Operand::Variable(variable) => local_kept(variable, set),
+    }
+}
+
+/// An operand that is a global does too.
+fn operand_global<V: Domain>(operand: Operand, set: V) -> Option<(u8, V)>
+    ensures { result ≡ operand_global (Some operand) set }
+{
+    match operand {
+        Operand::Variable(variable) if variable >= 16 => Some((variable, set)),
+        _ => None,
     }
 }
 
@@ -241,8 +256,8 @@ fn counted<V: Domain>(
     second: V,
     view: View<'_, V>,
 ) -> Outcomes<V>
-    ensures held { (told : FrozenStory) (operands : List AnOperand) → result.held ≡ outcome_of V.operations view.entry.globals.now told (Count op question) operands (both first second) (seen view.entry) true }
-    ensures failed { (told : FrozenStory) (operands : List AnOperand) → result.failed ≡ outcome_of V.operations view.entry.globals.now told (Count op question) operands (both first second) (seen view.entry) false }
+    ensures held { (told : FrozenStory) (operands : List AnOperand) → result.held ≡ outcome_of V.operations (globals_seen view.entry.globals) told (Count op question) operands (both first second) (seen view.entry) true }
+    ensures failed { (told : FrozenStory) (operands : List AnOperand) → result.failed ≡ outcome_of V.operations (globals_seen view.entry.globals) told (Count op question) operands (both first second) (seen view.entry) false }
 {
     let Some(variable) = named(first) else {
         return never();
@@ -291,7 +306,7 @@ fn counted_kept<V: Domain>(
     let (of_new, _) = V::narrow(question, answer, new, second)?;
     Some(Kept {
         first: Some((variable, of_new)),
-        second: None,
+        ..untold()
     })
 }
 
@@ -309,7 +324,7 @@ fn stored<V: Domain>(first: V, second: V) -> Outcomes<V>
 
 /// The variable that the first operand names gives its value.
 fn loaded<V: Domain>(first: V, view: View<'_, V>) -> Outcomes<V>
-    ensures held { result.held ≡ once_known true (small (V.operations.known first)) (λ v. gives_in (variable_set V.operations view.entry.globals.now v (seen view.entry))) }
+    ensures held { result.held ≡ once_known true (small (V.operations.known first)) (λ v. gives_in (variable_set V.operations (globals_seen view.entry.globals) v (seen view.entry))) }
     ensures failed { result.failed ≡ None }
 {
     match named(first) {

@@ -124,11 +124,17 @@ pub enum Lead<V> {
     Entering(V),
 }
 
-/// What a branch says of locals, by the numbers of their variables: of at most two.
+/// What a branch says of locals and of globals, by the numbers of their variables: of at most two.
 #[derive(Clone, Copy)]
 pub struct Kept<V> {
+    /// Of a local that the first operand is, or that was counted.
     pub first: Option<(u8, V)>,
+    /// Of one that the second operand is.
     pub second: Option<(u8, V)>,
+    /// Of a global that the first operand is.
+    pub first_global: Option<(u8, V)>,
+    /// And of one that the second is.
+    pub second_global: Option<(u8, V)>,
 }
 
 /// One of the things that may come of an operation: the parts of its effect, with a set for each value.
@@ -140,7 +146,7 @@ pub struct Outcome<V> {
     pub assigns: Option<(u8, V)>,
     /// The answer of the condition.
     pub tests: Option<bool>,
-    /// What locals are, where that is the answer.
+    /// What locals and globals are, where that is the answer.
     pub kept: Kept<V>,
     /// Where it leads, unless a branch is taken.
     pub leads: Lead<V>,

@@ -1,9 +1,11 @@
 //! What is known before an instruction, and what of it is read.
 
-ghost use Rattle.std.specs.Prelude.{◌≡◌, ◌≤◌, drop, length, reverse};
+ghost use Rattle.std.specs.Prelude.{◌≡◌, ◌≤◌, drop, length, reverse, slice_index_or};
 ghost use Rattle.zflow.specs.Transfer.{below, operand_set, pops, values_of, variable_set};
+ghost use Rattle.zflow.specs.Lent.{globals_seen};
 ghost use Rattle.zflow.specs.View.{seen};
 
+use crate::global_sets::Globals;
 use zcode::Operand;
 use zdomain::Domain;
 
@@ -11,7 +13,7 @@ use zdomain::Domain;
 #[derive(Clone, Copy)]
 pub(crate) struct View<'a, V> {
     /// The sets of the globals.
-    pub(crate) globals: &'a [V],
+    pub(crate) globals: Globals<'a, V>,
     /// The sets of the locals.
     pub(crate) locals: &'a [V],
     /// The sets of the slots, the top last.
@@ -39,7 +41,7 @@ pub(crate) fn below<V>(count: usize, slots: &[V]) -> &[V]
 impl<'a, V: Domain> View<'a, V> {
     /// What is known once so many slots were taken.
     pub(crate) fn below(self, count: usize) -> View<'a, V>
-        ensures globals { result.globals.now ≡ self.entry.globals.now }
+        ensures globals { globals_seen result.globals ≡ globals_seen self.entry.globals }
         ensures shape { seen result ≡ below count (seen self.entry) }
     {
         View {
@@ -51,12 +53,14 @@ impl<'a, V: Domain> View<'a, V> {
 
     /// The values of a variable; one that isn't there may have any.
     pub(crate) fn variable_set(self, variable: u8) -> V
-        ensures { result ≡ variable_set V.operations self.entry.globals.now variable (seen self.entry) }
+        ensures { result ≡ variable_set V.operations (globals_seen self.entry.globals) variable (seen self.entry) }
     {
+        if variable >= 16 {
+            return self.global_set(usize::from(variable) - 16);
+        }
         let found = match variable {
             0 => self.slots.last(),
-            1..16 => self.locals.get(usize::from(variable) - 1),
-            _ => self.globals.get(usize::from(variable) - 16),
+            _ => self.locals.get(usize::from(variable) - 1),
         };
         match found {
             Some(set) => *set,
@@ -64,9 +68,19 @@ impl<'a, V: Domain> View<'a, V> {
         }
     }
 
+    /// The values of a global, by its index; one that isn't there may have any.
+    fn global_set(self, index: usize) -> V
+        ensures { result ≡ slice_index_or (globals_seen self.entry.globals) index V.operations.any }
+    {
+        match self.globals.get(index) {
+            Some(set) => set,
+            None => V::any(),
+        }
+    }
+
     /// The values of an operand.
     fn values_of(self, operand: Operand) -> V
-        ensures { result ≡ values_of V.operations self.entry.globals.now operand (seen self.entry) }
+        ensures { result ≡ values_of V.operations (globals_seen self.entry.globals) operand (seen self.entry) }
     {
         match operand {
             Operand::Constant(word) => V::single(word),
@@ -76,7 +90,7 @@ impl<'a, V: Domain> View<'a, V> {
 
     /// The values of an operand, by its place among them: 0, where it isn't there.
     pub(crate) fn set_at(self, operands: &[Operand], index: usize) -> V
-        ensures { result ≡ operand_set V.operations self.entry.globals.now operands.now (seen self.entry) index }
+        ensures { result ≡ operand_set V.operations (globals_seen self.entry.globals) operands.now (seen self.entry) index }
     {
         match operands.get(index) {
             Some(operand) => self.below(pops(&operands[..index])).values_of(*operand),
@@ -86,8 +100,8 @@ impl<'a, V: Domain> View<'a, V> {
 
     /// The sets of the first two operands: 0, where there is none.
     pub(crate) fn read(self, operands: &[Operand]) -> (V, V)
-        ensures first { result.0 ≡ operand_set V.operations self.entry.globals.now operands.now (seen self.entry) 0 }
-        ensures second { result.1 ≡ operand_set V.operations self.entry.globals.now operands.now (seen self.entry) 1 }
+        ensures first { result.0 ≡ operand_set V.operations (globals_seen self.entry.globals) operands.now (seen self.entry) 0 }
+        ensures second { result.1 ≡ operand_set V.operations (globals_seen self.entry.globals) operands.now (seen self.entry) 1 }
     {
         let nothing = V::single(0);
         match operands {

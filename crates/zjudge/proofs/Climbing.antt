@@ -9,6 +9,7 @@ use Rattle.zstate.specs.State.{Frame, State}
 use Rattle.zstate.specs.Saves.{taken_frame, with_frames}
 use Rattle.zrule.specs.Claims.{Entry, Claims}
 use Rattle.zrule.specs.Described.{Callers, Fits, FitsWith}
+use Rattle.zrule.specs.Rules.{AreImplied}
 use Rattle.zjudge.specs.Frames.{AreDescribed, AreDescribedFrom, IsCalled, Waiting}
 
 -- the newest frame and its callers, of a frame that stands above some, with others above it
@@ -40,29 +41,29 @@ module _ {V : Type 0} (o : SetOperations V) (claims : Claims V) where
   IsAbove None f [] = Unit {0}
   IsAbove None f (g ∷ gs) = ⊥
   IsAbove (Some w) f [] = ⊥
-  IsAbove (Some w) f (g ∷ gs) = (w.frame ≡ g) × (claims.entry f.return_place ≡ Some w.entry) × Callers o claims w.entry.routine g.return_place g.result gs
+  IsAbove (Some w) f (g ∷ gs) = (w.frame ≡ g) × (claims.entry f.return_place ≡ Some w.entry) × AreImplied o claims.globals (claims.facts f.return_place) × Callers o claims w.entry.routine g.return_place g.result gs
 
   called : (below : Option (Waiting V)) (f : Frame) (gs : List Frame) (routine : ℕ) → IsAbove below f gs → IsCalled o claims below f.result routine → Callers o claims routine f.return_place f.result gs
   called None f [] routine above is = is
   called None f (g ∷ gs) routine above is = absurd above
   called (Some w) f [] routine above is = absurd above
-  called (Some w) f (g ∷ gs) routine above is = (is.0, w.entry, above.1, λ x member. subst (FitsWith o claims f.result x w.entry.shape) above.0 (is.1 x member), above.2)
+  called (Some w) f (g ∷ gs) routine above is = (is.0, w.entry, above.1, λ x member. subst (FitsWith o claims f.result x w.entry.shape) above.0 (is.1 x member), above.2, above.3)
 
   calls : (below : Option (Waiting V)) (f : Frame) (gs : List Frame) (routine : ℕ) → IsAbove below f gs → Callers o claims routine f.return_place f.result gs → IsCalled o claims below f.result routine
   calls None f [] routine above is = is
   calls None f (g ∷ gs) routine above is = absurd above
   calls (Some w) f [] routine above is = absurd above
-  calls (Some w) f (g ∷ gs) routine above (some, entry, listed, fits, rest) =
+  calls (Some w) f (g ∷ gs) routine above (some, entry, listed, fits, implied, rest) =
       let same : entry ≡ w.entry = same_Some entry w.entry (sym listed ∙ above.1) in
       (some, λ x member. subst (λ (e : Entry V). FitsWith o claims f.result x e.shape w.frame) same (subst (FitsWith o claims f.result x entry.shape) (sym above.0) (fits x member)))
 
   -- what is said of callers below
   below_is : (f : Frame) (gs : List Frame) (a : Frame) (above : List Frame) (place : ℕ) → IsNewest place (stacked a (f ∷ gs) above).0 (stacked a (f ∷ gs) above).1
-      → (e : Entry V) × (claims.entry a.return_place ≡ Some e) × Callers o claims e.routine f.return_place f.result gs
-  below_is f gs a [] place newest = let c = newest.callers in (c.1, c.2, c.4)
+      → (e : Entry V) × (claims.entry a.return_place ≡ Some e) × AreImplied o claims.globals (claims.facts a.return_place) × Callers o claims e.routine f.return_place f.result gs
+  below_is f gs a [] place newest = let c = newest.callers in (c.1, c.2, c.4, c.5)
   below_is f gs a (b ∷ above) place newest =
-      let c = (below_is a (f ∷ gs) b above place newest).2 in
-      (c.1, c.2, c.4)
+      let c = (below_is a (f ∷ gs) b above place newest).3 in
+      (c.1, c.2, c.4, c.5)
 
   climb : (below : Option (Waiting V)) (f : Frame) (gs above : List Frame) (place : ℕ) → IsAbove below f gs → AreDescribedFrom o claims below f above place ↔ IsNewest place (stacked f gs above).0 (stacked f gs above).1
   climb below f gs [] place stands = (
@@ -70,12 +71,13 @@ module _ {V : Type 0} (o : SetOperations V) (claims : Claims V) where
     λ newest. (newest.entry, record { listed = newest.listed; called = calls below f gs newest.entry.routine stands newest.callers }, newest.fits),
   )
   climb below f gs (g ∷ above) place stands = (
-    λ (entry, goes, rest). (climb (Some (record { entry = entry; frame = f })) g (f ∷ gs) above place (refl, goes.listed, called below f gs entry.routine stands goes.called)).0 rest,
+    λ (entry, goes, implied, rest). (climb (Some (record { entry = entry; frame = f })) g (f ∷ gs) above place (refl, goes.listed, implied, called below f gs entry.routine stands goes.called)).0 rest,
     λ newest.
         let under = below_is f gs g above place newest in (
           under.0,
-          record { listed = under.1; called = calls below f gs under.0.routine stands under.2 },
-          (climb (Some (record { entry = under.0; frame = f })) g (f ∷ gs) above place (refl, under.1, under.2)).1 newest,
+          record { listed = under.1; called = calls below f gs under.0.routine stands under.3 },
+          under.2,
+          (climb (Some (record { entry = under.0; frame = f })) g (f ∷ gs) above place (refl, under.1, under.2, under.3)).1 newest,
         ),
   )
 

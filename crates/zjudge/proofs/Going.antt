@@ -19,12 +19,12 @@ use Rattle.zstate.specs.Saves.{going_on, resumed, save_place, saves, taken_frame
 use Rattle.zstate.proofs.Saves.{kept_other, kept_size, resumed_is_state, taken_dynamic, taken_header, taken_size, taken_static}
 use Rattle.zdomain.specs.Domain.{SetOperations}
 use Rattle.zrule.specs.Claims.{Claims}
-use Rattle.zrule.specs.Described.{Described}
+use Rattle.zrule.specs.Described.{Described, HaveFacts}
 use Rattle.zjudge.specs.Frames.{AreDescribed}
 use Rattle.zjudge.specs.Judging.{listed_setting}
-use Rattle.zjudge.specs.Memory.{IsDescribedMemory}
+use Rattle.zjudge.specs.Memory.{AreGlobals, IsDescribedMemory}
 use Rattle.zjudge.proofs.Climbing.{climbed, stacked, turned_round}
-use Rattle.zjudge.proofs.Taken.{IsTaken, memory_where}
+use Rattle.zjudge.proofs.Taken.{IsTaken, facts_where, memory_where}
 
 -- ---- the place
 
@@ -90,20 +90,26 @@ taken_there story saved now sound long = record {
   static = λ p from. let base : 64 ≤ static_base story = sound.static_base_above in kept_other now (taken_memory story saved) p (omega (arith, from, base)) ∙ taken_static story saved sound long p from;
 }
 
-module _ {V : Type 0} (o : SetOperations V) (claims : Claims V) (story : LoadedStory) (sound : IsSound story.memory) (counted : IsObjectCount story.memory story.objects) (few : length claims.globals ≤ 240) where
+module _ {V : Type 0} (o : SetOperations V) (claims : Claims V) (story : LoadedStory) (sound : IsSound story.memory) (counted : IsObjectCount story.memory story.objects) (few : length claims.globals ≤ 240) (small : (p : ℕ) → AreGlobals (claims.facts p)) where
   -- with the frames of a save in the place of those of a state
   described_frames : (limit : ℕ) (fs : List SavedFrame) (u : State) (saved : List ℕ) (place : ℕ) → AreFrames fs → IsTaken story saved u.memory → u.place ≡ pos place → IsState limit story (with_frames (map taken_frame (reverse fs)) u)
-      → (IsDescribedMemory o claims story saved × AreDescribed o claims (map taken_frame fs) place) ↔ Described o claims limit story (with_frames (map taken_frame (reverse fs)) u)
+      → (IsDescribedMemory o claims story saved × AreDescribed o claims (map taken_frame fs) place × HaveFacts o claims story saved place) ↔ Described o claims limit story (with_frames (map taken_frame (reverse fs)) u)
   described_frames limit [] u saved place are taken at state = absurd are
   described_frames limit (f ∷ above) u saved place are taken at state =
-      subst (λ (t : State). IsState limit story t → (IsDescribedMemory o claims story saved × AreDescribed o claims (taken_frame f ∷ map taken_frame above) place) ↔ Described o claims limit story t) (sym (turned_round f above u)) by state
+      subst (λ (t : State). IsState limit story t → (IsDescribedMemory o claims story saved × AreDescribed o claims (taken_frame f ∷ map taken_frame above) place × HaveFacts o claims story saved place) ↔ Described o claims limit story t) (sym (turned_round f above u)) by state
     where
-      by : IsState limit story (record u { frame = (stacked (taken_frame f) [] (map taken_frame above)).0; callers = (stacked (taken_frame f) [] (map taken_frame above)).1 }) → (IsDescribedMemory o claims story saved × AreDescribed o claims (taken_frame f ∷ map taken_frame above) place) ↔ Described o claims limit story (record u { frame = (stacked (taken_frame f) [] (map taken_frame above)).0; callers = (stacked (taken_frame f) [] (map taken_frame above)).1 })
+      by : IsState limit story (record u { frame = (stacked (taken_frame f) [] (map taken_frame above)).0; callers = (stacked (taken_frame f) [] (map taken_frame above)).1 }) → (IsDescribedMemory o claims story saved × AreDescribed o claims (taken_frame f ∷ map taken_frame above) place × HaveFacts o claims story saved place) ↔ Described o claims limit story (record u { frame = (stacked (taken_frame f) [] (map taken_frame above)).0; callers = (stacked (taken_frame f) [] (map taken_frame above)).1 })
       by held =
           let round = climbed o claims (taken_frame f) (map taken_frame above) place in
-          let memory = memory_where o claims story saved u.memory sound counted few taken in (
-            λ both. let n = round.0 both.1 in record { is_state = held; at = place; place = at; entry = n.entry; listed = n.listed; fits = n.fits; callers = n.callers; memory = memory.0 both.0 },
-            λ d. (memory.1 d.memory, round.1 (record { entry = d.entry; listed = subst (λ (p : ℕ). claims.entry p ≡ Some d.entry) (pos_same d.at place (sym d.place ∙ at)) d.listed; fits = d.fits; callers = d.callers })),
+          let memory = memory_where o claims story saved u.memory sound counted few taken in
+          let facts = facts_where o claims story saved u.memory sound counted few taken place (small place) in (
+            λ all. let n = round.0 all.1 in record { is_state = held; at = place; place = at; entry = n.entry; listed = n.listed; fits = n.fits; callers = n.callers; memory = memory.0 all.0; facts = facts.0 all.2 },
+            λ d.
+                let same = pos_same d.at place (sym d.place ∙ at) in (
+                  memory.1 d.memory,
+                  round.1 (record { entry = d.entry; listed = subst (λ (p : ℕ). claims.entry p ≡ Some d.entry) same d.listed; fits = d.fits; callers = d.callers }),
+                  facts.1 (subst (λ (p : ℕ). HaveFacts o claims story u.memory p) same d.facts),
+                ),
           )
 
   module _ (listing : ListedCode) (limit : ℕ) (saved : Saved) (is : IsSaved story saved) (bytes : AreBytes saved.memory) (fixed : (p : ℕ) → is_listed listing p ≡ true → static_base story ≤ p) (s : State) (held : IsState limit story s) where
@@ -123,7 +129,7 @@ module _ {V : Type 0} (o : SetOperations V) (claims : Claims V) (story : LoadedS
     state : length saved.frames ≤ limit + 1 → IsState limit story (resumed story saved s)
     state low = resumed_is_state (listed_setting story listing limit) saved s sound is bytes held low
 
-    described_where : 1 ≤ saved.place → length saved.frames ≤ limit + 1 → (IsDescribedMemory o claims story saved.memory × AreDescribed o claims (map taken_frame saved.frames) (saved.place - 1)) ↔ Described o claims limit story (resumed story saved s)
+    described_where : 1 ≤ saved.place → length saved.frames ≤ limit + 1 → (IsDescribedMemory o claims story saved.memory × AreDescribed o claims (map taken_frame saved.frames) (saved.place - 1) × HaveFacts o claims story saved.memory (saved.place - 1)) ↔ Described o claims limit story (resumed story saved s)
     described_where some low =
         described_frames limit saved.frames (record s { memory = keeping_flags s.memory (taken_memory story saved.memory); place = save_place saved; prompted = false; waiting = Some (events.Saved true) }) saved.memory (saved.place - 1) is.frames taken (one_before saved.place some) (state low)
 
@@ -137,5 +143,5 @@ module _ {V : Type 0} (o : SetOperations V) (claims : Claims V) (story : LoadedS
     pub judged_too_deep : saves (fetch (scope_only listing) (save_place saved) story.memory) ≡ true → limit + 1 < length saved.frames → going_on (listed_setting story listing limit) saved s ≡ Err errors.NotDescribed
     judged_too_deep there many = too_deep (listed_setting story listing limit) saved s (saves_there ∙ there) many
 
-    pub judged_described : 1 ≤ saved.place → length saved.frames ≤ limit + 1 → (IsDescribedMemory o claims story saved.memory × AreDescribed o claims (map taken_frame saved.frames) (saved.place - 1)) ↔ Described o claims limit story (resumed story saved s)
+    pub judged_described : 1 ≤ saved.place → length saved.frames ≤ limit + 1 → (IsDescribedMemory o claims story saved.memory × AreDescribed o claims (map taken_frame saved.frames) (saved.place - 1) × HaveFacts o claims story saved.memory (saved.place - 1)) ↔ Described o claims limit story (resumed story saved s)
     judged_described some low = described_where some low

@@ -1,6 +1,7 @@
 mod Closed
 mod Zips
 mod Climbing
+mod Facts
 mod Taken
 mod Values
 mod Going

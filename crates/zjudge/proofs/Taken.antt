@@ -1,6 +1,7 @@
 -- The memory that a save leads to is described where the dynamic memory of the save is.
-use Rattle.std.proofs.Common.{◌≡◌, ◌↔◌, ◌⊎◌, inl, inr, ℕ, ◌+◌, ◌*◌, ◌<◌, ◌≤◌, Bool, false, if◌then◌else◌, List, length, Some, refl, sym, ap, subst, ◌∙◌, arith}
+use Rattle.std.proofs.Common.{◌≡◌, ◌↔◌, ◌⊎◌, inl, inr, ℕ, ◌+◌, ◌*◌, ◌<◌, ◌≤◌, Bool, false, if◌then◌else◌, List, [], ◌∷◌, length, Some, refl, sym, ap, subst, ◌∙◌, arith}
 use Rattle.std.specs.Prelude.{◌≢◌, ◌==◌, slice_get}
+use Rattle.std.specs.List.{AllByRecursion}
 use Rattle.std.proofs.lemmas.Bool.{cases_lt}
 use Rattle.std.proofs.lemmas.Option.{slice_get_within}
 use Rattle.zstory.specs.Bytes.{byte_at, word_at}
@@ -13,9 +14,11 @@ use Rattle.zobj.specs.Tree.{link_byte, linked}
 use Rattle.zobj.proofs.Bytes.{no_zero}
 use Rattle.zplace.specs.Bytes.{IsFixed}
 use Rattle.zdomain.specs.Domain.{SetOperations, In}
+use Rattle.zcert.specs.declared.parts.Fact.{Fact}
 use Rattle.zrule.specs.Claims.{Claims, frozen_in}
-use Rattle.zrule.specs.Described.{DescribedMemory}
-use Rattle.zjudge.specs.Memory.{IsDescribedMemory, IsKept}
+use Rattle.zrule.specs.Described.{DescribedMemory, HaveFacts}
+use Rattle.zrule.specs.Rules.{global_in}
+use Rattle.zjudge.specs.Memory.{AreGlobals, IsDescribedMemory, IsKept}
 
 -- a memory that has the dynamic memory of a save behind the header, and is else as loaded, but for Flags 2
 pub record IsTaken (story : LoadedStory) (saved memory : List ℕ) : Type 0 where
@@ -31,12 +34,25 @@ module _ {V : Type 0} (o : SetOperations V) (claims : Claims V) (story : LoadedS
       let low = taken.dynamic (p + 1) (omega (arith, above)) below in
       rw (high, low) refl
 
-  global_same : (k : ℕ) (values : V) → slice_get claims.globals k ≡ Some values → word_at memory (globals story + 2 * k) ≡ word_at saved (globals story + 2 * k)
-  global_same k values found =
-      let inside = slice_get_within claims.globals k values found in
+  variable_same : (k : ℕ) → k < 240 → word_at memory (globals story + 2 * k) ≡ word_at saved (globals story + 2 * k)
+  variable_same k inside =
       let above : 64 ≤ globals story = sound.globals_above in
       let below : globals story + 480 ≤ static_base story = sound.globals_within in
-      word_same (globals story + 2 * k) (omega (arith, above)) (omega (arith, below, inside, few))
+      word_same (globals story + 2 * k) (omega (arith, above)) (omega (arith, below, inside))
+
+  global_same : (k : ℕ) (values : V) → slice_get claims.globals k ≡ Some values → word_at memory (globals story + 2 * k) ≡ word_at saved (globals story + 2 * k)
+  global_same k values found = let inside = slice_get_within claims.globals k values found in variable_same k (omega (arith, inside, few))
+
+  each_fact : (facts : List (Fact V)) → AreGlobals facts → AllByRecursion (λ (f : Fact V). In o f.values (global_in story saved f.global)) facts ↔ AllByRecursion (λ (f : Fact V). In o f.values (global_in story memory f.global)) facts
+  each_fact [] small = (λ t. tt, λ t. tt)
+  each_fact (f ∷ fs) small =
+      let same = variable_same f.global small.0 in
+      let rest = each_fact fs small.1 in
+      (λ h. (subst (In o f.values) (sym same) h.0, rest.0 h.1), λ h. (subst (In o f.values) same h.0, rest.1 h.1))
+
+  -- what is stated of globals holds in both or in neither
+  pub facts_where : (p : ℕ) → AreGlobals (claims.facts p) → HaveFacts o claims story saved p ↔ HaveFacts o claims story memory p
+  facts_where p small = each_fact (claims.facts p) small
 
   table_same : header.object_table memory ≡ object_table story
   table_same =

@@ -40,7 +40,7 @@ listed_at_place p = if p == 100 then Some in_main else (if p == 200 then Some in
 
 -- where the routine gives from 1 up to this
 abbrev giving : (hi : ℤ) → int_le (pos 1) hi ≡ true → Claims Interval
-giving hi e = record { ranges = []; globals = []; entry = listed_at_place; result = λ r. from (pos 1) hi e; routine_at = λ p. None }
+giving hi e = record { ranges = []; globals = []; facts = λ p. []; entry = listed_at_place; result = λ r. from (pos 1) hi e; routine_at = λ p. None }
 
 abbrev five : Claims Interval
 five = giving (pos 5) refl
@@ -68,6 +68,7 @@ described : AreDescribed interval_operations five (main_frame ∷ routine_frame 
 described = (
   in_main,
   record { listed = refl; called = refl },
+  tt,
   (
     in_routine,
     record { listed = refl; called = (omega arith, λ x inside. record { in_locals = tt; in_slots = (widened x inside, (nine, tt)) }) },
@@ -88,15 +89,15 @@ not_called d =
 -- the newest frame's local may not be 4
 local_outside : AreDescribed interval_operations five (main_frame ∷ routine_frame 4 ∷ []) 200 → ⊥
 local_outside d =
-    let is : d.2.0 ≡ in_routine = same_Some d.2.0 in_routine (sym d.2.1.listed) in
-    let fits : Fits interval_operations five in_routine.shape (4 ∷ []) [] = subst (λ (e : Entry Interval). Fits interval_operations five e.shape (4 ∷ []) []) is d.2.2 in
+    let is : d.3.0 ≡ in_routine = same_Some d.3.0 in_routine (sym d.3.1.listed) in
+    let fits : Fits interval_operations five in_routine.shape (4 ∷ []) [] = subst (λ (e : Entry Interval). Fits interval_operations five e.shape (4 ∷ []) []) is d.3.2 in
     fits.in_locals.0.member.1.le
 
 -- nor may the routine give 6, which the frame below doesn't take, though the newest frame is as before
 caller_outside : AreDescribed interval_operations six (main_frame ∷ routine_frame 2 ∷ []) 200 → ⊥
 caller_outside d =
     let is : d.0 ≡ in_main = same_Some d.0 in_main (sym d.1.listed) in
-    let below : FitsWith interval_operations six 0 6 in_main.shape main_frame = subst (λ (e : Entry Interval). FitsWith interval_operations six 0 6 e.shape main_frame) is (d.2.1.called.1 6 (six_given d.2.0)) in
+    let below : FitsWith interval_operations six 0 6 in_main.shape main_frame = subst (λ (e : Entry Interval). FitsWith interval_operations six 0 6 e.shape main_frame) is (d.3.1.called.1 6 (six_given d.3.0)) in
     below.in_slots.0.member.1.le
   where
     six_given : (e : Entry Interval) → In interval_operations (six.result e.routine) 6

@@ -5,6 +5,7 @@ use Rattle.zdomain.specs.Domain.{SetOperations, In}
 use Rattle.zstate.specs.State.{Frame}
 use Rattle.zrule.specs.Claims.{Entry, Claims}
 use Rattle.zrule.specs.Described.{Fits, FitsWith}
+use Rattle.zrule.specs.Rules.{AreImplied}
 
 -- a frame that waits for what the routine above it gives, with what is said of the place to which that returns
 pub record Waiting (V : Type 0) : Type 0 where
@@ -22,10 +23,11 @@ module _ {V : Type 0} (o : SetOperations V) (claims : Claims V) where
     pub listed : claims.entry place ≡ Some e
     pub called : IsCalled below f.result e.routine
 
-  -- a frame with those above it: each goes on where the one above it returns to, and the newest at a place, where it fits
+  -- A frame with those above it: each goes on where the one above it returns to, and the newest at a place, where it fits. What is
+  -- stated of globals where one goes on that waits holds of all that they may have.
   abbrev pub AreDescribedFrom : Option (Waiting V) → Frame → List Frame → ℕ → Type 0
   AreDescribedFrom below f [] place = (e : Entry V) × GoesOnAt below f place e × Fits o claims e.shape f.locals f.stack
-  AreDescribedFrom below f (g ∷ above) place = (e : Entry V) × GoesOnAt below f g.return_place e × AreDescribedFrom (Some (record { entry = e; frame = f })) g above place
+  AreDescribedFrom below f (g ∷ above) place = (e : Entry V) × GoesOnAt below f g.return_place e × AreImplied o claims.globals (claims.facts g.return_place) × AreDescribedFrom (Some (record { entry = e; frame = f })) g above place
 
   -- all frames, the oldest first
   abbrev pub AreDescribed : List Frame → ℕ → Type 0

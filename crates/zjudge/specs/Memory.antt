@@ -1,8 +1,10 @@
 -- When the dynamic memory of a save is described (own).
 use Rattle.std.specs.Prelude.{◌≡◌, ℕ, ◌+◌, ◌<◌, ◌≤◌, List}
+use Rattle.std.specs.List.{AllByRecursion}
 use Rattle.zstory.specs.Bytes.{byte_at}
 use Rattle.zstory.specs.LoadedStory.{LoadedStory, static_base}
 use Rattle.zstory.specs.Objects.{object_place}
+use Rattle.zcert.specs.declared.parts.Fact.{Fact}
 use Rattle.zobj.specs.declared.tree.Link.{Link}
 use Rattle.zobj.specs.Tree.{link_byte}
 use Rattle.zplace.specs.Bytes.{IsChanging, IsClosed}
@@ -21,6 +23,10 @@ AreKept story saved Among = (p : ℕ) → Among p → IsKept story saved p
 -- each link of an object leads to one of the story's objects, or to none
 abbrev pub HasLinks : LoadedStory → List ℕ → ℕ → Type 0
 HasLinks story saved object = (link : Link) → byte_at saved (object_place story.memory object + link_byte link) ≤ story.objects
+
+-- each fact is of a global that there is
+abbrev pub AreGlobals : {V : Type 0} → List (Fact V) → Type 0
+AreGlobals {V} facts = AllByRecursion (λ (f : Fact V). f.global < 240) facts
 
 -- globals lie in their sets, links lead to objects, and what is closed is as loaded
 pub record IsDescribedMemory {V : Type 0} (o : SetOperations V) (claims : Claims V) (story : LoadedStory) (saved : List ℕ) : Type 0 where

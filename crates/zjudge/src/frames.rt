@@ -17,6 +17,7 @@ use crate::words::{are_in, are_in_with, has_word};
 use zcert::{Certificate, Instruction, Spelled};
 use zdomain::Domain;
 use zquetzal::{Frames, SavedFrame, word_count};
+use zrule::hold_anyway;
 
 /// The least variable that is a global (Z 4.2.2).
 const FIRST_GLOBAL: u8 = 16;
@@ -29,7 +30,8 @@ pub(crate) struct Caller<'a> {
 }
 
 /// Whether all frames of a save are described, the newest at a place. They are gone over once, from the oldest up: when the place is
-/// known where a frame goes on, so is its routine, and the frame below can be judged under every value that this may give.
+/// known where a frame goes on, so is its routine, and the frame below can be judged under every value that this may give. The facts on
+/// globals where a frame waits have to hold of all that the globals may have.
 pub(crate) fn are_frames_described<V: Spelled>(
     certificate: &Certificate<V>,
     frames: Frames<'_>,
@@ -46,6 +48,9 @@ pub(crate) fn are_frames_described<V: Spelled>(
     let mut room = V::room();
     while let Some(next) = above.next() {
         let place = next.return_place;
+        if !hold_anyway(certificate, place) {
+            return false;
+        }
         let Some(index) = going_on_at(certificate, below, frame, place, &mut room) else {
             return false;
         };

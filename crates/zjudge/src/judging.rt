@@ -11,12 +11,13 @@ ghost use Rattle.zstate.specs.State.{IsState, State};
 ghost use Rattle.zstate.specs.Saves.{taken_frame};
 ghost use Rattle.zcert.specs.Certificate.{frame_limit};
 ghost use Rattle.zrule.specs.Claims.{claims_of};
+ghost use Rattle.zrule.specs.Described.{HaveFacts};
 ghost use Rattle.zjudge.specs.Frames.{AreDescribed};
 ghost use Rattle.zjudge.specs.Judging.{IsJudged, listed_setting};
-ghost use Rattle.zjudge.specs.Memory.{IsDescribedMemory};
+ghost use Rattle.zjudge.specs.Memory.{AreGlobals, IsDescribedMemory};
 
 use crate::frames::are_frames_described;
-use crate::memory::is_memory_described;
+use crate::memory::{have_facts, is_memory_described};
 use crate::place::is_save_before;
 use zcert::{Certificate, Spelled};
 use zlist::Listing;
@@ -69,7 +70,7 @@ fn are_few<V: Spelled>(certificate: &Certificate<V>, view: &SaveView<'_>) -> boo
     view.frame_count() <= usize::from(certificate.frame_limit()) + 1
 }
 
-/// Whether the frames of a save and its memory are described.
+/// Whether the frames of a save and its memory are described, and what is stated of globals at its place holds.
 fn is_described<V: Spelled>(
     story: &Story,
     certificate: &Certificate<V>,
@@ -78,11 +79,12 @@ fn is_described<V: Spelled>(
     requires some { 1 ≤ view.now.place }
     requires whole { length view.now.memory ≡ static_base story.now }
     ensures low { IsTrue result → AllByRecursion (λ f. length f.stack ≤ 64) view.now.frames }
-    ensures value { IsTrue result ↔ (IsDescribedMemory V.operations (claims_of V.operations certificate.now) story.now view.now.memory × AreDescribed V.operations (claims_of V.operations certificate.now) (map taken_frame view.now.frames) (view.now.place - 1)) }
+    ensures value { IsTrue result ↔ (IsDescribedMemory V.operations (claims_of V.operations certificate.now) story.now view.now.memory × AreDescribed V.operations (claims_of V.operations certificate.now) (map taken_frame view.now.frames) (view.now.place - 1) × HaveFacts V.operations (claims_of V.operations certificate.now) story.now view.now.memory (view.now.place - 1)) }
 {
     let at = view.place() - 1;
     is_memory_described(story, certificate, view.memory())
         && are_frames_described(certificate, view.frames(), at)
+        && have_facts(story, certificate, view.memory(), at)
 }
 
 /// What is known of every story, certificate and save.
@@ -90,10 +92,12 @@ fn are_known<V: Spelled>(story: &Story, certificate: &Certificate<V>, view: &Sav
     ensures sound { IsSound story.now.memory }
     ensures counted { IsObjectCount story.now.memory story.now.objects }
     ensures globals { length certificate.now.globals ≤ 240 }
+    ensures facts { (p : ℕ) → AreGlobals ((claims_of V.operations certificate.now).facts p) }
     ensures bytes { AreBytes view.now.memory }
 {
     let _loaded = story.memory();
     let _globals = certificate.globals();
+    let _facts = certificate.facts();
     are_bytes(view.memory());
 }
 

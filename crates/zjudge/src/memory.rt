@@ -2,12 +2,15 @@
 
 ghost use Rattle.std.specs.Prelude.{◌≡◌, ◌↔◌, ◌≤◌, ◌<◌, ℕ, IsTrue, length};
 ghost use Rattle.zstory.specs.LoadedStory.{static_base};
+ghost use Rattle.std.specs.List.{AllByRecursion};
+ghost use Rattle.zdomain.specs.Domain.{In};
 ghost use Rattle.zrule.specs.Claims.{claims_of};
+ghost use Rattle.zrule.specs.Described.{HaveFacts};
 ghost use Rattle.zrule.specs.Rules.{HasGlobals, global_in};
-ghost use Rattle.zjudge.specs.Memory.{HasLinks, IsDescribedMemory};
+ghost use Rattle.zjudge.specs.Memory.{AreGlobals, HasLinks, IsDescribedMemory};
 
 use crate::kept::are_closed_kept;
-use zcert::{Certificate, Spelled};
+use zcert::{Certificate, Fact, Spelled};
 use zstory::{DEFAULTS_LENGTH, OBJECT_ENTRY_LENGTH, Story};
 
 /// Where the number of an object's parent stands in its entry, with those of its sibling and its first child behind it (Z 12.3.1).
@@ -39,6 +42,35 @@ fn has_globals<V: Spelled>(story: &Story, certificate: &Certificate<V>, saved: &
         }
     }
     true
+}
+
+/// Whether what is stated of globals at an address holds.
+pub(crate) fn have_facts<V: Spelled>(
+    story: &Story,
+    certificate: &Certificate<V>,
+    saved: &[u8],
+    address: u32,
+) -> bool
+    requires whole { length saved.now ≡ static_base story.now }
+    ensures { IsTrue result ↔ HaveFacts V.operations (claims_of V.operations certificate.now) story.now saved.now address }
+{
+    hold_in(story, certificate.facts_at(address), saved)
+}
+
+/// Whether each of some facts does.
+fn hold_in<V: Spelled>(story: &Story, facts: &[Fact<V>], saved: &[u8]) -> bool
+    requires whole { length saved.now ≡ static_base story.now }
+    requires few { AreGlobals facts.now }
+    ensures { IsTrue result ↔ AllByRecursion (λ f. In V.operations f.values (global_in story.now saved.now f.global)) facts.now }
+{
+    match facts {
+        [] => true,
+        [fact, rest @ ..] => {
+            fact.values
+                .contains(global_at(story, saved, usize::from(fact.global)))
+                && hold_in(story, rest, saved)
+        }
+    }
 }
 
 /// The value of a global, counted from variable 16.

@@ -13,6 +13,7 @@ mod InfoLemmas
 mod EachLemmas
 mod VerdictLemmas
 mod SeekLemmas
+mod BesideLemmas
 mod Joined
 mod LineLemmas
 mod Worked

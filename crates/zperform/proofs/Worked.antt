@@ -221,18 +221,18 @@ unread :
     × (IsNoCertificate interval_format None (Failed Read) → ⊥)
 unread = (tt, ([], refl, (refl, empty_certificate)), (λ bytes. omega (arith, bytes)), omega arith, λ never. never)
 
--- the fifth byte tells the kind of sets: that of version 2 where it is 2, 3 or 4, and of all else that of version 1, also where it isn't there
+-- the fifth byte tells the kind of sets: that of version 2 where it is 2, 3, 4 or 5, and of all else that of version 1, also where it isn't there
 versions :
-    (version_of [] ≡ 1) × (version_of (codes "ZPCC") ≡ 1) × (version_of (codes "ZPCC" ++ 0 ∷ []) ≡ 1) × (version_of (codes "ZPCC" ++ 1 ∷ []) ≡ 1) × (version_of (codes "ZPCC" ++ 2 ∷ []) ≡ 2) × (version_of (codes "ZPCC" ++ 3 ∷ []) ≡ 2) × (version_of (codes "ZPCC" ++ 4 ∷ []) ≡ 2) × (version_of (codes "ZPCC" ++ 5 ∷ []) ≡ 1)
+    (version_of [] ≡ 1) × (version_of (codes "ZPCC") ≡ 1) × (version_of (codes "ZPCC" ++ 0 ∷ []) ≡ 1) × (version_of (codes "ZPCC" ++ 1 ∷ []) ≡ 1) × (version_of (codes "ZPCC" ++ 2 ∷ []) ≡ 2) × (version_of (codes "ZPCC" ++ 3 ∷ []) ≡ 2) × (version_of (codes "ZPCC" ++ 4 ∷ []) ≡ 2) × (version_of (codes "ZPCC" ++ 5 ∷ []) ≡ 2) × (version_of (codes "ZPCC" ++ 6 ∷ []) ≡ 1)
     × (version_of (2 ∷ 2 ∷ 2 ∷ 2 ∷ 1 ∷ 2 ∷ []) ≡ 1) × (version_of (1 ∷ 1 ∷ 1 ∷ 1 ∷ 2 ∷ 1 ∷ []) ≡ 2) × (interval_format.version ≡ 1) × (values_format.version ≡ 2)
-versions = (refl, refl, refl, refl, refl, refl, refl, refl, refl, refl, refl, refl)
+versions = (refl, refl, refl, refl, refl, refl, refl, refl, refl, refl, refl, refl, refl)
 
--- so version 5 is refused in version 1, and a file of version 2, 3 or 4 that is cut off in its own
+-- so version 6 is refused in version 1, and a file of version 2, 3, 4 or 5 that is cut off in its own
 refused_versions :
-    IsUnread interval_format (codes "ZPCC" ++ 5 ∷ []) readings.Version × IsUnread values_format (codes "ZPCC" ++ 4 ∷ []) readings.Truncated × IsUnread values_format (codes "ZPCC" ++ 3 ∷ []) readings.Truncated × IsUnread values_format (codes "ZPCC" ++ 2 ∷ []) readings.Truncated × ((error : CertError) → IsUnread interval_format (codes "ZPCC" ++ 2 ∷ []) error → ⊥)
+    IsUnread interval_format (codes "ZPCC" ++ 6 ∷ []) readings.Version × IsUnread values_format (codes "ZPCC" ++ 5 ∷ []) readings.Truncated × IsUnread values_format (codes "ZPCC" ++ 4 ∷ []) readings.Truncated × IsUnread values_format (codes "ZPCC" ++ 3 ∷ []) readings.Truncated × IsUnread values_format (codes "ZPCC" ++ 2 ∷ []) readings.Truncated × ((error : CertError) → IsUnread interval_format (codes "ZPCC" ++ 2 ∷ []) error → ⊥)
     × ((error : CertError) → IsUnread values_format (codes "ZPCC" ++ 1 ∷ []) error → ⊥)
 unfolding reading fields_at heading_at magic_at version_at identity_at
-refused_versions = ((refl, refl), (refl, refl), (refl, refl), (refl, refl), (λ error unread. omega (arith, unread.0)), λ error unread. omega (arith, unread.0))
+refused_versions = ((refl, refl), (refl, refl), (refl, refl), (refl, refl), (refl, refl), (λ error unread. omega (arith, unread.0)), λ error unread. omega (arith, unread.0))
 
 -- of a file of three bytes a buffer with room for three gets the last two from place 1 on, and none from its end on
 part_given : GivesPart (10 ∷ 20 ∷ 30 ∷ []) 1 2 (20 ∷ 30 ∷ 99 ∷ []) × GivesPart (10 ∷ 20 ∷ 30 ∷ []) 3 0 (99 ∷ [])

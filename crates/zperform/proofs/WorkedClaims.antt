@@ -49,13 +49,19 @@ use Rattle.zperform.specs.Finding.{ExplainComesTo, FailsFor, FindComesTo, FindEn
 use Rattle.zperform.specs.Marking.{AreMarksOf, ArePlacesOf, IsListedBy, ListByComesTo}
 use Rattle.zperform.specs.declared.finding.Search.{Search}
 use Rattle.zperform.specs.Listing.{HoldsListed, IsNoListing, ListComesTo, listing_text}
-use Rattle.zperform.specs.Performing.{Begins, Comes, Does, Explains, IsBlamed, Lacks, Performs, Reports, Shows, Tells, given, is_each, is_quiet, said_by, spared_in, store_of, written_by}
+use Rattle.zperform.specs.Performing.{Begins, Comes, Does, Explains, IsBlamed, IsToldOf, Lacks, Performs, Reports, SaysFor, Shows, Tells, given, is_each, is_quiet, said_by, spared_in, store_of, written_by}
 use Rattle.zperform.specs.Report.{found_line, line_of}
 use Rattle.zperform.specs.Checking.{CheckEachComesTo}
 use Rattle.zperform.specs.Seeking.{FindEachComesTo}
 use Rattle.zperform.specs.declared.wording.Speech.{Speech}
 use Rattle.zperform.specs.declared.wording.Speech.TheVariants.{Codes}
 use Rattle.zperform.specs.Telling.{SaysEach, refusal_text, said_of}
+use Rattle.zperform.specs.Beside.{Aside, Absent, IsUnused, PlaysBeside, Unused, Used}
+use Rattle.zperform.specs.Blaming.{IsOf}
+use Rattle.zperform.specs.declared.blame.Action.TheVariants as actions
+use Rattle.zperform.specs.declared.blame.Blame.{Blame}
+use Rattle.zperform.specs.declared.outcome.Problem.{Problem}
+use Rattle.zperform.specs.Informing.{name_of_certificate}
 use Rattle.zperform.specs.Playing.{ComesTo, IsPlayed, IsRefused}
 use Rattle.zperform.proofs.AcceptLemmas.{story_bytes}
 
@@ -199,29 +205,44 @@ lacking = (
 -- ---- what comes of requests
 
 -- each is of the file that its request names, as it was, and of what was written before and is now
-module _ (search : Search) (story certificate : List ℕ) (held later : Held) (input before now : Option (List ℕ)) (outcome : Outcome) where
+module _ (search : Search) (story certificate : List ℕ) (held later : Held) (input before now : Option (List ℕ)) (aside : Aside) (outcome : Outcome) where
   comes_of_files :
-      (force json : Bool) → (Comes (ListStory story None json) held later input [] before now outcome → ListComesTo json (held.known story) before now outcome)
-      × (Comes (ListStory story (Some certificate) json) held later input [] before now outcome → ListByComesTo json (held.known story) (held.known certificate) before now outcome)
-      × (Comes (Find story certificate search.frames search.strict search.places force false) held later input [] before now outcome → FindComesTo (record search { json = false }) story certificate held.known later.known before now outcome)
-      × (Comes (Check story certificate false) held later input [] before now outcome → CheckComesTo (held.known story) (held.known certificate) before now outcome)
-      × (Comes (Explain (Some story) json) held later input [] before now outcome → ExplainComesTo (Some story) json before now outcome)
+      (force json : Bool) → (Comes (ListStory story None json) held later input aside [] before now outcome → ListComesTo json (held.known story) before now outcome)
+      × (Comes (ListStory story (Some certificate) json) held later input aside [] before now outcome → ListByComesTo json (held.known story) (held.known certificate) before now outcome)
+      × (Comes (Find story certificate search.frames search.strict search.places force false) held later input aside [] before now outcome → FindComesTo (record search { json = false }) story certificate held.known later.known before now outcome)
+      × (Comes (Check story certificate false) held later input aside [] before now outcome → CheckComesTo (held.known story) (held.known certificate) before now outcome)
+      × (Comes (Explain (Some story) json) held later input aside [] before now outcome → ExplainComesTo (Some story) json before now outcome)
   comes_of_files force json = (λ comes. comes, λ comes. comes, λ comes. comes, λ comes. comes, λ comes. comes)
 
   -- what is told of each of many stories is of it and of its certificate: the one that is named, or the one beside it
   comes_of_each :
       (stories : List (List ℕ)) (force json : Bool)
-      → (Comes (Find story certificate search.frames search.strict search.places force true) held later input [] before now outcome → FindEachComesTo (record search { json = true }) force (Some certificate) (story ∷ []) held later before now outcome)
-      × (Comes (FindEach stories search.frames search.strict search.places force json) held later input [] before now outcome → FindEachComesTo (record search { json = json }) force None stories held later before now outcome)
-      × (Comes (Check story certificate true) held later input [] before now outcome → CheckEachComesTo true (Some certificate) (story ∷ []) held later before now outcome)
-      × (Comes (CheckEach stories json) held later input [] before now outcome → CheckEachComesTo json None stories held later before now outcome)
+      → (Comes (Find story certificate search.frames search.strict search.places force true) held later input aside [] before now outcome → FindEachComesTo (record search { json = true }) force (Some certificate) (story ∷ []) held later before now outcome)
+      × (Comes (FindEach stories search.frames search.strict search.places force json) held later input aside [] before now outcome → FindEachComesTo (record search { json = json }) force None stories held later before now outcome)
+      × (Comes (Check story certificate true) held later input aside [] before now outcome → CheckEachComesTo true (Some certificate) (story ∷ []) held later before now outcome)
+      × (Comes (CheckEach stories json) held later input aside [] before now outcome → CheckEachComesTo json None stories held later before now outcome)
   comes_of_each stories force json = (λ comes. comes, λ comes. comes, λ comes. comes, λ comes. comes)
 
   comes_of_plays :
       (seed budget : ℕ) (status : Bool) (save : Option (List ℕ)) (tell force : Bool)
-      → (Comes (Play story None seed budget status save tell force) held later input [] before now outcome → ComesTo (held.known story) (record { budget = budget; status = status }) (given input seed (store_of save)) [] before now outcome)
-      × (Comes (Play story (Some certificate) seed budget status save tell force) held later input [] before now outcome → PlayComesTo (held.known story) (held.known certificate) (record { budget = budget; status = status }) (given input seed (store_of save)) [] before now outcome)
+      → (Comes (Play story None seed budget status save tell force) held later input aside [] before now outcome → PlaysBeside held later story save aside (record { budget = budget; status = status }) (given input seed (store_of save)) [] before now outcome)
+      × (Comes (Play story (Some certificate) seed budget status save tell force) held later input aside [] before now outcome → PlayComesTo (held.known story) (held.known certificate) (record { budget = budget; status = status }) (given input seed (store_of save)) [] before now outcome)
   comes_of_plays seed budget status save tell force = (λ comes. comes, λ comes. comes)
+
+  -- with no certificate named a story is played by the one beside it only where it is accepted with that, and else with everything tested
+  comes_beside :
+      (save : Option (List ℕ)) (options : Options) (world : World) (blame : Option Blame) (problem : Problem)
+      → (PlaysBeside held later story save Absent options world [] before now outcome → (held.known (name_of_certificate story) ≡ None) × ComesTo (held.known story) options world [] before now outcome)
+      × (PlaysBeside held later story save Used options world [] before now outcome → ((a : AcceptedStory) × IsAcceptedStory (held.known story) (held.known (name_of_certificate story)) a) × PlayComesTo (held.known story) (held.known (name_of_certificate story)) options world [] before now outcome)
+      × (PlaysBeside held later story save (Unused blame problem) options world [] before now outcome → IsUnused held story blame problem × ComesTo (held.known story) options world [] before now outcome)
+  comes_beside save options world blame problem = (λ plays. plays.comes, λ plays. plays.comes, λ plays. plays.comes)
+
+  -- the file that is told of where one failed is one that the request names
+  told_of :
+      (blamed : Option Blame) (json : Bool) → (IsToldOf (ListStory story None json) blamed → IsOf story actions.Read blamed)
+      × (IsToldOf (Find story certificate search.frames search.strict search.places json json) blamed → IsOf story actions.Read blamed ⊎ IsOf certificate actions.Write blamed)
+      × (IsToldOf (Check story certificate json) blamed → IsOf story actions.Read blamed ⊎ IsOf certificate actions.Read blamed) × (IsToldOf (Explain None json) blamed → ⊥)
+  told_of blamed json = (λ told. told, λ told. told, λ told. told, λ told. told)
 
 -- what holds with a certificate of neither version
 neither : {A B : Type 0} → (A → ⊥) → (B → ⊥) → A ⊎ B → ⊥
@@ -497,8 +518,8 @@ module _ (words : List (List ℕ)) (speech : Speech) (status : ℕ) (old new : D
 
   -- what is done is of the devices as they were and as they are
   done :
-      (did : Does words speech status old new) → Begins did.request old.files new.files old.reader.remaining did.refusals old.writer.contents new.writer.contents did.outcome
-      × (did.outcome ≡ Stopped (Failed File) → IsBlamed did.request old.files) × Blames (did.outcome ≡ Stopped (Failed Read)) old.reader.failures new.reader.failures × (is_quiet did.request ≡ true → new.reader ≡ old.reader)
-      × SaysEach (said_by did.request did.refusals) old.errors did.between × Reports speech new.files.blamed did.outcome status did.between new.errors × FlushesUnless (λ (s : Seen). s.failures) (λ (s : Seen). s.waits) old.writer new.writer (did.outcome ≡ Stopped (Failed Write))
+      (did : Does words speech status old new) → Begins did.request old.files new.files old.reader.remaining did.aside did.refusals old.writer.contents new.writer.contents did.outcome
+      × (did.outcome ≡ Stopped (Failed File) → IsBlamed did.request old.files) × (did.outcome ≡ Stopped (Failed File) → IsToldOf did.request new.files.blamed) × Blames (did.outcome ≡ Stopped (Failed Read)) old.reader.failures new.reader.failures × (is_quiet did.request ≡ true → new.reader ≡ old.reader)
+      × SaysFor did.request did.aside did.refusals old.errors did.between × Reports speech new.files.blamed did.outcome status did.between new.errors × FlushesUnless (λ (s : Seen). s.failures) (λ (s : Seen). s.waits) old.writer new.writer (did.outcome ≡ Stopped (Failed Write))
       × (is_each did.request ≡ false → UsesUnless (λ (f : Held). f.known) (λ (f : Held). f.failures) old.files new.files (spared_in did.request) (written_by did.request) (did.outcome ≡ Stopped (Failed File)))
-  done did = (did.comes, did.could, did.reader, did.unasked, did.told, did.reported, did.writer, did.files)
+  done did = (did.comes, did.could, did.blamed, did.reader, did.unasked, did.told, did.reported, did.writer, did.files)

@@ -53,7 +53,7 @@ unwritten = (refl, refl, refl)
 -- a certificate with one of each
 claims :
     claims_text interval_text 3 interval_kind
-    (record { identity = record { release = 1; serial = []; checksum = 0; length = 64 }; limit = Some 3; marking = false; ranges = record { first = 544; last = 545 } ∷ []; globals = five ∷ one ∷ []; routines = record { address = 806; locals = 2; result = any } ∷ []; instructions = [] })
+    (record { identity = record { release = 1; serial = []; checksum = 0; length = 64 }; limit = Some 3; marking = false; stating = false; ranges = record { first = 544; last = 545 } ∷ []; globals = five ∷ one ∷ []; routines = record { address = 806; locals = 2; result = any } ∷ []; instructions = []; facts = [] })
     ≡ codes "version 3, intervals" ++ 10 ∷ codes "frame limit 3" ++ 10 ∷ codes "frozen 00220 to 00221" ++ 10 ∷ codes "global 16: 0 to 5" ++ 10 ∷ codes "global 17: -7" ++ 10 ∷ codes "routine 1 at 00326, locals 2, result any word" ++ 10 ∷ []
 unfolding digits five any one
 claims = refl

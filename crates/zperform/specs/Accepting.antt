@@ -28,7 +28,7 @@ use Rattle.zcert.specs.Lists.{values_format}
 use Rattle.zcert.specs.Reading.{reading}
 use Rattle.zcert.specs.Streaming.{Stream, IsFed}
 use Rattle.zcert.specs.declared.error.CertError.{CertError}
-use Rattle.zcert.specs.declared.limits.TheConstants.{VERSION, LIST_VERSION, LIMIT_VERSION, MARK_VERSION}
+use Rattle.zcert.specs.declared.limits.TheConstants.{VERSION, LIST_VERSION, LIMIT_VERSION, MARK_VERSION, FACT_VERSION}
 use Rattle.zcheck.specs.Acceptance.{AcceptanceOver, IsListingOf}
 use Rattle.zcheck.specs.Judged.{JudgedOver, IsUnjudged, certificate_of, marks_in}
 use Rattle.zcheck.specs.Marks.{FaultsAtMarksAlone, MarkedOver, PassesWhereUnmarked}
@@ -67,11 +67,11 @@ IsNoStory known problem = ⊥
 abbrev pub IsWhyNone : (LoadedStory → Problem → Type 0) → Option (List ℕ) → Problem → Type 0
 IsWhyNone IsWhy known problem = IsNoStory known problem ⊎ HoldsSuch known (λ story. IsWhy story problem)
 
--- By which sets a certificate's file is read, as its fifth byte says, told by the version that has them, names no limit of frames and marks
--- nothing: by those of version 2 where that is 2, 3 or 4, and else by those of version 1, by which every other number than 1 is refused,
--- and a file that is cut off before it.
+-- By which sets a certificate's file is read, as its fifth byte says, told by the version that has them, names no limit of frames, marks
+-- nothing and states no facts: by those of version 2 where that is 2, 3, 4 or 5, and else by those of version 1, by which every other
+-- number than 1 is refused, and a file that is cut off before it.
 abbrev pub version_by : ℕ → ℕ
-version_by byte = if (byte == LIST_VERSION) || (byte == LIMIT_VERSION) || (byte == MARK_VERSION) then LIST_VERSION else VERSION
+version_by byte = if (byte == LIST_VERSION) || (byte == LIMIT_VERSION) || (byte == MARK_VERSION) || (byte == FACT_VERSION) then LIST_VERSION else VERSION
 
 abbrev pub version_of : List ℕ → ℕ
 version_of file = version_by (byte_at file 4)

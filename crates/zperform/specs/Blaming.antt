@@ -1,5 +1,5 @@
 -- Which file failed last, and why, in words (own).
-use Rattle.std.specs.Prelude.{◌≡◌, ℕ, List, ◌++◌, take, Option, None, Some, codes}
+use Rattle.std.specs.Prelude.{◌≡◌, ◌⊎◌, ℕ, List, ◌++◌, take, Option, None, Some, codes}
 use Rattle.zperform.specs.declared.blame.Action.{Action}
 use Rattle.zperform.specs.declared.blame.Action.TheVariants.{Read, Write}
 use Rattle.zperform.specs.declared.blame.Cause.{Cause}
@@ -15,6 +15,18 @@ pub record IsBlameOf (name : List ℕ) (action : Action) (blame : Blame) : Type 
 abbrev pub IsOf : List ℕ → Action → Option Blame → Type 0
 IsOf name action None = ⊥
 IsOf name action (Some blame) = IsBlameOf name action blame
+
+-- a failure is that of the file of a name, which was to be read
+abbrev pub IsUnread : List ℕ → Option Blame → Type 0
+IsUnread name blamed = IsOf name Read blamed
+
+-- or of one of two, a story's and a certificate's
+abbrev pub IsUnreadOf : List ℕ → List ℕ → Option Blame → Type 0
+IsUnreadOf story certificate blamed = IsOf story Read blamed ⊎ IsOf certificate Read blamed
+
+-- or of one that was to be read, or another that was to be written
+abbrev pub IsUnreadOrUnwritten : List ℕ → List ℕ → Option Blame → Type 0
+IsUnreadOrUnwritten story certificate blamed = IsOf story Read blamed ⊎ IsOf certificate Write blamed
 
 abbrev pub asked_text : Action → List ℕ
 asked_text Read = codes "cannot read"

@@ -1,8 +1,9 @@
 -- The certificates of many stories checked: what is told of each (own).
-use Rattle.std.specs.Prelude.{◌≡◌, ◌⊎◌, ℕ, Bool, true, false, List, [], ◌∷◌, ◌++◌, Option, None, Some, Result, Ok, Err, codes}
+use Rattle.std.specs.Prelude.{◌≡◌, ◌⊎◌, ℕ, Bool, true, false, List, [], ◌∷◌, ◌++◌, Option, None, Some, Result, Ok, Err, IsErrOf, codes}
 use Rattle.zbatch.specs.declared.summary.Wording.TheVariants.{Accepted as AsAccepted}
 use Rattle.zbatch.specs.declared.work.Ended.{Ended}
-use Rattle.zperform.specs.Accepting.{IsAcceptedStory, IsUnacceptedStory, marks_of}
+use Rattle.zperform.specs.Accepting.{IsAcceptedStory, IsOfEither, IsUnacceptedStory, marks_of}
+use Rattle.zperform.specs.Blaming.{IsUnreadOf}
 use Rattle.zperform.specs.Devices.{Held}
 use Rattle.zperform.specs.Each.{EachComesTo, certificate_for, ended_of, heading_text, last_text}
 use Rattle.zperform.specs.Report.{accepted_line}
@@ -10,7 +11,7 @@ use Rattle.zperform.specs.Verdicts.{AreFactsOf, IsVerdictText}
 use Rattle.zperform.specs.Wording.{first_words}
 use Rattle.zperform.specs.declared.accepting.AcceptedStory.{AcceptedStory}
 use Rattle.zperform.specs.declared.blame.Blame.{Blame}
-use Rattle.zperform.specs.declared.outcome.Failure.TheVariants.{Memory}
+use Rattle.zperform.specs.declared.outcome.Failure.TheVariants.{File, Memory}
 use Rattle.zperform.specs.declared.outcome.Problem.{Problem}
 use Rattle.zperform.specs.declared.outcome.Problem.TheVariants.{Failed}
 use Rattle.zperform.specs.declared.outcome.Outcome.{Outcome}
@@ -32,20 +33,23 @@ abbrev pub check_line : List ℕ → Option Blame → Result ℕ Problem → Lis
 check_line name blame answer = heading_text name ++ answer_text blame answer
 
 -- what is told of a story: a line, or an object
-abbrev pub IsCheckText : Bool → List ℕ → Option (List ℕ) → Option Blame → Result ℕ Problem → List ℕ → Type 0
-IsCheckText false name known blame answer text = text ≡ check_line name blame answer
-IsCheckText true name known blame answer text = (facts : Facts) × AreFactsOf known facts × IsVerdictText name facts (codes "accepted") answer blame text
+abbrev pub IsCheckText : Bool → List ℕ → Option (List ℕ) → Bool → Option Blame → Result ℕ Problem → List ℕ → Type 0
+IsCheckText false name known can_fail blame answer text = text ≡ check_line name blame answer
+IsCheckText true name known can_fail blame answer text = (facts : Facts) × AreFactsOf known can_fail facts × IsVerdictText name facts (codes "accepted") answer blame text
 
--- the files stay as they are, and this is told
+-- the files stay as they are, and this is told: that a file failed is told only of one of the two that can fail, by its name
 pub record Checks (json : Bool) (certificate : Option (List ℕ)) (files later : Held) (name : List ℕ) (ended : Ended) (text : List ℕ) : Type 0 where
   pub kept : later.known ≡ files.known
+  pub alike : later.can_fail ≡ files.can_fail
   pub answer : Result ℕ Problem
   pub judges : Judges (files.known name) (files.known (certificate_for certificate name)) answer
+  pub could : IsErrOf answer (Failed File) → IsOfEither files name (certificate_for certificate name)
+  pub blamed : IsErrOf answer (Failed File) → IsUnreadOf name (certificate_for certificate name) later.blamed
   pub ended_is : ended ≡ ended_of answer
-  pub told : IsCheckText json name (files.known name) later.blamed answer text
+  pub told : IsCheckText json name (files.known name) (files.can_fail name) later.blamed answer text
 
 abbrev pub TellsCheck : Bool → Option (List ℕ) → Held → Held → List ℕ → Option (Ended × List ℕ) → Type 0
-TellsCheck json certificate files later name None = later.known ≡ files.known
+TellsCheck json certificate files later name None = (later.known ≡ files.known) × (later.can_fail ≡ files.can_fail)
 TellsCheck json certificate files later name (Some told) = Checks json certificate files later name told.0 told.1
 
 -- what checking many stories comes to

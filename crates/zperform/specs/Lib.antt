@@ -17,5 +17,6 @@ pub mod Verdicts
 pub mod Each
 pub mod Checking
 pub mod Seeking
+pub mod Beside
 pub mod Performing
 pub mod Played

@@ -8,8 +8,9 @@ use Rattle.zcommand.specs.CommandLine.{Asks, Request, ListStory, Find, FindEach,
 use Rattle.zquetzal.specs.declared.error.SaveError.{SaveError}
 use Rattle.zplayer.specs.Outside.{Blames, words_of}
 use Rattle.zplayer.specs.World.{Store, World, world}
+use Rattle.zperform.specs.Beside.{Aside, Unsought, PlaysBeside, SaysAll, spared_beside}
+use Rattle.zperform.specs.Blaming.{IsUnread, IsUnreadOf, IsUnreadOrUnwritten}
 use Rattle.zperform.specs.Devices.{Breaks, Devices, FlushesUnless, Held, Says, Seen, Takes, UsesUnless}
-use Rattle.zperform.specs.Playing.{ComesTo}
 use Rattle.zperform.specs.Checking.{CheckEachComesTo}
 use Rattle.zperform.specs.Accepting.{CheckComesTo, IsOfEither, PlayComesTo}
 use Rattle.zperform.specs.Finding.{ExplainComesTo}
@@ -93,32 +94,33 @@ pub record RefusesMany (held holds : List ℕ → Option (List ℕ)) (before now
   pub files_stay : holds ≡ held
   pub nothing_said : now ≡ before
 
--- what comes of a request, with the files before and now, with the input, with why saves were refused, the newest first, and with
+-- what comes of a request, with the files before and now, with the input, with what became of the certificate beside a story that is played
+-- with none named, with why saves were refused, the newest first, and with
 -- what the writer took before and has taken now
-abbrev pub Comes : Request → Held → Held → Option (List ℕ) → List SaveError → Option (List ℕ) → Option (List ℕ) → Outcome → Type 0
-Comes (ListStory story None json) files later input refusals before now outcome = ListComesTo json (files.known story) before now outcome
-Comes (ListStory story (Some certificate) json) files later input refusals before now outcome = ListByComesTo json (files.known story) (files.known certificate) before now outcome
-Comes (Find story certificate frames strict places force json) files later input refusals before now outcome =
+abbrev pub Comes : Request → Held → Held → Option (List ℕ) → Aside → List SaveError → Option (List ℕ) → Option (List ℕ) → Outcome → Type 0
+Comes (ListStory story None json) files later input aside refusals before now outcome = ListComesTo json (files.known story) before now outcome
+Comes (ListStory story (Some certificate) json) files later input aside refusals before now outcome = ListByComesTo json (files.known story) (files.known certificate) before now outcome
+Comes (Find story certificate frames strict places force json) files later input aside refusals before now outcome =
     FindOneComesTo (sought frames strict places json) force story certificate files later before now outcome
-Comes (FindEach stories frames strict places force json) files later input refusals before now outcome =
+Comes (FindEach stories frames strict places force json) files later input aside refusals before now outcome =
     FindEachComesTo (sought frames strict places json) force None stories files later before now outcome
-Comes NotOne files later input refusals before now outcome = RefusesMany files.known later.known before now outcome
-Comes (Check story certificate false) files later input refusals before now outcome = CheckComesTo (files.known story) (files.known certificate) before now outcome
-Comes (Check story certificate true) files later input refusals before now outcome = CheckEachComesTo true (Some certificate) (story ∷ []) files later before now outcome
-Comes (CheckEach stories json) files later input refusals before now outcome = CheckEachComesTo json None stories files later before now outcome
-Comes (Show story certificate address) files later input refusals before now outcome = ShowComesTo (files.known story) (files.known certificate) address before now outcome
-Comes (Play story None seed budget status save tell force) files later input refusals before now outcome =
-    ComesTo (files.known story) (record { budget = budget; status = status }) (given input seed (store_of save)) refusals before now outcome
-Comes (Play story (Some certificate) seed budget status save tell force) files later input refusals before now outcome =
+Comes NotOne files later input aside refusals before now outcome = RefusesMany files.known later.known before now outcome
+Comes (Check story certificate false) files later input aside refusals before now outcome = CheckComesTo (files.known story) (files.known certificate) before now outcome
+Comes (Check story certificate true) files later input aside refusals before now outcome = CheckEachComesTo true (Some certificate) (story ∷ []) files later before now outcome
+Comes (CheckEach stories json) files later input aside refusals before now outcome = CheckEachComesTo json None stories files later before now outcome
+Comes (Show story certificate address) files later input aside refusals before now outcome = ShowComesTo (files.known story) (files.known certificate) address before now outcome
+Comes (Play story None seed budget status save tell force) files later input aside refusals before now outcome =
+    PlaysBeside files later story save aside (record { budget = budget; status = status }) (given input seed (store_of save)) refusals before now outcome
+Comes (Play story (Some certificate) seed budget status save tell force) files later input aside refusals before now outcome =
     PlayComesTo (files.known story) (files.known certificate) (record { budget = budget; status = status }) (given input seed (store_of save)) refusals before now outcome
-Comes (Info story json) files later input refusals before now outcome = InfoComesTo json story files.known before now outcome
-Comes (Explain code json) files later input refusals before now outcome = ExplainComesTo code json before now outcome
+Comes (Info story json) files later input aside refusals before now outcome = InfoComesTo json story files.known before now outcome
+Comes (Explain code json) files later input aside refusals before now outcome = ExplainComesTo code json before now outcome
 
 -- A request is done where its file may be written over. Else that is told, and nothing is done.
-abbrev pub Begins : Request → Held → Held → Option (List ℕ) → List SaveError → Option (List ℕ) → Option (List ℕ) → Outcome → Type 0
-Begins request files later input refusals before now outcome =
-    (MayWrite request files.known × Comes request files later input refusals before now outcome)
-    ⊎ ((problem : Problem) × (outcome ≡ Stopped problem) × IsOccupied request files.known problem × (later.known ≡ files.known) × (now ≡ before))
+abbrev pub Begins : Request → Held → Held → Option (List ℕ) → Aside → List SaveError → Option (List ℕ) → Option (List ℕ) → Outcome → Type 0
+Begins request files later input aside refusals before now outcome =
+    (MayWrite request files.known × Comes request files later input aside refusals before now outcome)
+    ⊎ ((problem : Problem) × (outcome ≡ Stopped problem) × IsOccupied request files.known problem × (aside ≡ Unsought) × (later.known ≡ files.known) × (now ≡ before))
 
 -- a request whose answer needs no input
 abbrev pub is_quiet : Request → Bool
@@ -135,7 +137,8 @@ is_each request = false
 
 -- the name of a file of which a failure needn't end a request, if there is one: that for saves, or a certificate beside a story
 abbrev pub spared_in : Request → Option Text
-spared_in (Play story certificate seed budget status save tell force) = save
+spared_in (Play story None seed budget status save tell force) = spared_beside save story
+spared_in (Play story (Some certificate) seed budget status save tell force) = save
 spared_in (Info story json) = Some (name_of_certificate story)
 spared_in request = None
 
@@ -154,6 +157,11 @@ abbrev pub said_by : Request → List SaveError → List SaveError
 said_by (Play story certificate seed budget status save tell force) refusals = said_of tell save refusals
 said_by _ refusals = []
 
+-- what became of the certificate beside a story that is played with none named is told, and then each save that is refused
+abbrev pub SaysFor : Request → Aside → List SaveError → Seen → Seen → Type 0
+SaysFor (Play story None seed budget status save tell force) aside refusals old new = SaysAll story aside (said_of tell save refusals) old new
+SaysFor request aside refusals old new = SaysEach (said_by request refusals) old new
+
 -- which file a failure of files is of, by what is asked for
 abbrev pub IsBlamed : Request → Held → Type 0
 IsBlamed (ListStory story None json) files = files.can_fail story ≡ true
@@ -170,10 +178,25 @@ IsBlamed (Play story (Some certificate) seed budget status save tell force) file
 IsBlamed (Info story json) files = files.can_fail story ≡ true
 IsBlamed (Explain code json) files = ⊥
 
--- A request, with the values among clap's matches: what it comes to is reported, if its file may be written over, behind a line of each save that was refused, where
--- those are asked for. The writer is blamed just where it failed, and
--- so are the reader, which isn't asked but for a play, and the files, unless saves are kept in one: then they may fail, and the play goes
--- on. A failure of files is one of a file that the request names. No file is written but the one for saves or for a certificate that is
+-- which file is told of where one failed, by what is asked for: one that was to be read, or to be written
+abbrev pub IsToldOf : Request → Option Blame → Type 0
+IsToldOf (ListStory story None json) blamed = IsUnread story blamed
+IsToldOf (ListStory story (Some certificate) json) blamed = IsUnreadOf story certificate blamed
+IsToldOf (Find story certificate frames strict places force json) blamed = IsUnreadOrUnwritten story certificate blamed
+IsToldOf (FindEach stories frames strict places force json) blamed = ⊥
+IsToldOf NotOne blamed = ⊥
+IsToldOf (Check story certificate json) blamed = IsUnreadOf story certificate blamed
+IsToldOf (CheckEach stories json) blamed = ⊥
+IsToldOf (Show story certificate address) blamed = IsUnreadOf story certificate blamed
+IsToldOf (Play story None seed budget status save tell force) blamed = IsUnread story blamed
+IsToldOf (Play story (Some certificate) seed budget status save tell force) blamed = IsUnreadOf story certificate blamed
+IsToldOf (Info story json) blamed = IsUnread story blamed
+IsToldOf (Explain code json) blamed = ⊥
+
+-- A request, with the values among clap's matches: what it comes to is reported, if its file may be written over, behind what is said of a certificate that stands beside a story
+-- and isn't used, and a line of each save that was refused, where those are asked for. The writer is blamed just where it failed, and
+-- so are the reader, which isn't asked but for a play, and the files, unless saves are kept in one, or a certificate beside a story: then they may fail, and the
+-- play goes on. A failure of files is one of a file that the request names, and it is the one that is told of. No file is written but the one for saves or for a certificate that is
 -- found. What was written is flushed unless the writer failed.
 pub record Does (words : List Text) (speech : Speech) (status : ℕ) (old new : Devices) : Type 0 where
   pub matches : Text × List Row
@@ -181,15 +204,17 @@ pub record Does (words : List Text) (speech : Speech) (status : ℕ) (old new : 
   pub request : Request
   pub asks : Asks matches request
   pub outcome : Outcome
+  pub aside : Aside
   pub refusals : List SaveError
-  pub comes : Begins request old.files new.files old.reader.remaining refusals old.writer.contents new.writer.contents outcome
+  pub comes : Begins request old.files new.files old.reader.remaining aside refusals old.writer.contents new.writer.contents outcome
   pub writer : FlushesUnless (λ (s : Seen). s.failures) (λ (s : Seen). s.waits) old.writer new.writer (outcome ≡ Stopped (Failed Write))
   pub files : is_each request ≡ false → UsesUnless (λ (f : Held). f.known) (λ (f : Held). f.failures) old.files new.files (spared_in request) (written_by request) (outcome ≡ Stopped (Failed File))
   pub could : outcome ≡ Stopped (Failed File) → IsBlamed request old.files
+  pub blamed : outcome ≡ Stopped (Failed File) → IsToldOf request new.files.blamed
   pub reader : Blames (outcome ≡ Stopped (Failed Read)) old.reader.failures new.reader.failures
   pub unasked : is_quiet request ≡ true → new.reader ≡ old.reader
   pub between : Seen
-  pub told : SaysEach (said_by request refusals) old.errors between
+  pub told : SaysFor request aside refusals old.errors between
   pub reported : Reports speech new.files.blamed outcome status between new.errors
 
 -- the request of the words was done, as far as there was memory to read them

@@ -4,6 +4,7 @@ use Rattle.zbatch.specs.declared.summary.Wording.TheVariants.{Found as AsFound}
 use Rattle.zbatch.specs.declared.work.Ended.{Ended}
 use Rattle.zbatch.specs.declared.work.Ended.TheVariants as ways
 use Rattle.zcommand.specs.CommandLine.{low_limit}
+use Rattle.zperform.specs.Blaming.{IsUnreadOrUnwritten}
 use Rattle.zperform.specs.Contents.{SparesOthers}
 use Rattle.zperform.specs.Devices.{Held}
 use Rattle.zperform.specs.Each.{EachComesTo, certificate_for, ended_by, heading_text, last_text}
@@ -35,14 +36,14 @@ IsUnkept search force story certificate problem =
     ((problem ≡ Occupied Certificate) × IsKeptFrom force certificate) ⊎ IsNotFound search story problem ⊎ (problem ≡ Failed Memory)
 
 -- what is told of a certificate that is found: the lines as `find` tells them behind the story's name, or an object, with those of what it marks behind it
-abbrev pub IsFoundSo : Bool → List ℕ → Option (List ℕ) → Option Blame → List ℕ → ℕ → List ℕ → Type 0
-IsFoundSo false name known blame said marks text = text ≡ heading_text name ++ said
-IsFoundSo true name known blame said marks text = (facts : Facts) × (object : List ℕ) × AreFactsOf known facts × IsVerdictText name facts (codes "found") (Ok marks) blame object × (text ≡ object ++ said)
+abbrev pub IsFoundSo : Bool → List ℕ → Option (List ℕ) → Bool → Option Blame → List ℕ → ℕ → List ℕ → Type 0
+IsFoundSo false name known can_fail blame said marks text = text ≡ heading_text name ++ said
+IsFoundSo true name known can_fail blame said marks text = (facts : Facts) × (object : List ℕ) × AreFactsOf known can_fail facts × IsVerdictText name facts (codes "found") (Ok marks) blame object × (text ≡ object ++ said)
 
 -- what is told of why there is none
-abbrev pub IsUnfoundSo : Bool → List ℕ → Option (List ℕ) → Option Blame → Problem → List ℕ → Type 0
-IsUnfoundSo false name known blame problem text = text ≡ heading_text name ++ (first_words blame problem ++ 10 ∷ [])
-IsUnfoundSo true name known blame problem text = (facts : Facts) × AreFactsOf known facts × IsVerdictText name facts (codes "found") (Err problem) blame text
+abbrev pub IsUnfoundSo : Bool → List ℕ → Option (List ℕ) → Bool → Option Blame → Problem → List ℕ → Type 0
+IsUnfoundSo false name known can_fail blame problem text = text ≡ heading_text name ++ (first_words blame problem ++ 10 ∷ [])
+IsUnfoundSo true name known can_fail blame problem text = (facts : Facts) × AreFactsOf known can_fail facts × IsVerdictText name facts (codes "found") (Err problem) blame text
 
 -- a certificate is found, and stands in its file
 pub record IsKeptSo (search : Search) (force : Bool) (certificate name : List ℕ) (held holds : List ℕ → Option (List ℕ)) (bytes said : List ℕ) (marks : ℕ) : Type 0 where
@@ -57,21 +58,24 @@ pub record Keeps (search : Search) (force : Bool) (certificate : List ℕ) (file
   pub marks : ℕ
   pub kept_so : IsKeptSo search force certificate name files.known later.known bytes said marks
   pub ended_is : ended ≡ ways.Well
-  pub told : IsFoundSo search.json name (files.known name) later.blamed said marks text
+  pub told : IsFoundSo search.json name (files.known name) (files.can_fail name) later.blamed said marks text
 
--- none is kept, no file changes unless its writing failed, and that is told
+-- none is kept, no file changes unless its writing failed, and that is told: that a file failed only of one of the two that can fail, by its name
 pub record Leaves (search : Search) (force : Bool) (certificate : List ℕ) (files later : Held) (name : List ℕ) (ended : Ended) (text : List ℕ) : Type 0 where
   pub problem : Problem
   pub why : IsUnkept search force (files.known name) (files.known certificate) problem
   pub kept : problem ≢ Failed File → later.known ≡ files.known
+  pub could : problem ≡ Failed File → IsOfStoryOrFound search files name certificate
+  pub blamed : problem ≡ Failed File → IsUnreadOrUnwritten name certificate later.blamed
   pub ended_is : ended ≡ ended_by problem
-  pub told : IsUnfoundSo search.json name (files.known name) later.blamed problem text
+  pub told : IsUnfoundSo search.json name (files.known name) (files.can_fail name) later.blamed problem text
 
 -- no file changes but the certificate's, and one of the two is told
 abbrev pub TellsFind : Search → Bool → Option (List ℕ) → Held → Held → List ℕ → Option (Ended × List ℕ) → Type 0
-TellsFind search force certificate files later name None = SparesOthers (certificate_for certificate name) files.known later.known
+TellsFind search force certificate files later name None = SparesOthers (certificate_for certificate name) files.known later.known × (later.can_fail ≡ files.can_fail)
 TellsFind search force certificate files later name (Some told) =
     SparesOthers (certificate_for certificate name) files.known later.known
+    × (later.can_fail ≡ files.can_fail)
     × (Keeps search force (certificate_for certificate name) files later name told.0 told.1 ⊎ Leaves search force (certificate_for certificate name) files later name told.0 told.1)
 
 -- for a private clause: a search whose limit of frames, if it has one, isn't above the greatest

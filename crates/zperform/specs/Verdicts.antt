@@ -1,5 +1,5 @@
 -- What came of a story's file, as an object of JSON (own).
-use Rattle.std.specs.Prelude.{◌≡◌, ℕ, pos, List, ◌++◌, Option, None, Some, IfSome, Result, Ok, Err, codes, decimal, drop, option_map, string_bytes}
+use Rattle.std.specs.Prelude.{◌≡◌, ◌⊎◌, ◌<◌, ℕ, pos, Bool, true, List, length, ◌++◌, Option, None, Some, IfSome, Result, Ok, Err, codes, decimal, drop, option_map, string_bytes}
 use Rattle.zstory.specs.Refusal.{number_of as refusal_number}
 use Rattle.zcert.specs.Refusal.{number_of as reading_number}
 use Rattle.zrule.specs.Numbers.{number_of as rule_number}
@@ -15,7 +15,8 @@ use Rattle.zinfo.specs.Text.{place_text}
 use Rattle.zjson.specs.Answers.{verdict_line}
 use Rattle.zjson.specs.Digest.{digest_text}
 use Rattle.zjson.specs.declared.answers.Verdict.{Verdict}
-use Rattle.zperform.specs.Accepting.{HoldsSuch}
+use Rattle.zstory.specs.declared.load_error.LoadError.{LoadError}
+use Rattle.zperform.specs.Accepting.{HoldsSuch, IsNoStory}
 use Rattle.zperform.specs.Keeping.{purpose_number}
 use Rattle.zperform.specs.Playing.{Reads}
 use Rattle.zperform.specs.Wording.{words_text}
@@ -26,10 +27,13 @@ use Rattle.zperform.specs.declared.outcome.Problem.{Problem}
 use Rattle.zperform.specs.declared.outcome.Problem.TheVariants.{Refused, Unreadable, BreaksStory, BreaksInstruction, Unlisted, Unfound, Occupied, Failed}
 use Rattle.zperform.specs.declared.verdict.Facts.{Facts}
 
--- what is known of a file: the digest of its bytes, and what the header of its story says
-pub record AreFactsOf (known : Option (List ℕ)) (facts : Facts) : Type 0 where
+-- What is known of a file, which may fail or not: the digest of its bytes, unless it failed or is longer than a story may be; and what the
+-- header of its story says, unless it failed or holds none.
+pub record AreFactsOf (known : Option (List ℕ)) (can_fail : Bool) (facts : Facts) : Type 0 where
   pub digest_is : IfSome facts.digest (λ digest. Reads known (λ file. string_bytes digest ≡ digest_text file))
   pub heading_is : IfSome facts.heading (λ heading. HoldsSuch known (λ story. heading ≡ heading_of story))
+  pub undigested : facts.digest ≡ None → (can_fail ≡ true) ⊎ Reads known (λ file. 131072 < length file)
+  pub unheaded : facts.heading ≡ None → (can_fail ≡ true) ⊎ ((error : LoadError) × IsNoStory known (Refused error))
 
 abbrev pub failure_word : Failure → List ℕ
 failure_word File = codes "file"

@@ -1,9 +1,10 @@
 //! Stories and certificates from files.
 
 ghost use Rattle.std.specs.Prelude.{◌≡◌, ◌==◌, ◌||◌, ◌≤◌, ℕ, true, List, Option, IfErr, IfOk, IfSome, IsErrOf, length, take};
-ghost use Rattle.zcert.specs.declared.limits.TheConstants.{LIST_VERSION as version_with_lists, LIMIT_VERSION as version_with_limit, MARK_VERSION as version_with_marks};
+ghost use Rattle.zcert.specs.declared.limits.TheConstants.{LIST_VERSION as version_with_lists, LIMIT_VERSION as version_with_limit, MARK_VERSION as version_with_marks, FACT_VERSION as version_with_facts};
 ghost use Rattle.zcheck.specs.Judged.{certificate_of, marks_in};
 ghost use Rattle.zstory.specs.Bytes.{byte_at};
+ghost use Rattle.zperform.specs.Blaming.{IsUnread, IsUnreadOf};
 ghost use Rattle.zperform.specs.Devices.{ReadsUnless, held};
 ghost use Rattle.zperform.specs.Playing.{Holds, IsUnloaded};
 ghost use Rattle.zperform.specs.Accepting.{HoldsStory, IsAcceptedStory, IsNoStory, IsJudgedOf, IsOfEither, IsUnaccepted, IsUnacceptedStory, marks_of, version_of};
@@ -12,7 +13,7 @@ use crate::feeding::{HEADING, feed_certificate};
 use crate::files::{Files, read_file};
 use crate::outcome::{Failure, Problem};
 use std::alloc::Global;
-use zcert::{LIMIT_VERSION, LIST_VERSION, MARK_VERSION, Spelled};
+use zcert::{FACT_VERSION, LIMIT_VERSION, LIST_VERSION, MARK_VERSION, Spelled};
 use zcheck::{Accepted, Judged, Marked};
 use zdomain::{Interval, Values};
 use zstory::Story;
@@ -28,7 +29,7 @@ const VERSION_AT: usize = 4;
 pub enum AcceptedStory {
     /// Of version 1.
     Intervals(Judged<Accepted<Interval>, Marked<Interval>>),
-    /// Of version 2, 3 or 4.
+    /// Of version 2, 3, 4 or 5.
     Lists(Judged<Accepted<Values>, Marked<Values>>),
 }
 
@@ -66,8 +67,25 @@ pub fn accept<F: Files>(
     ensures refused { IfErr result (IsUnacceptedStory (F.known files.old story.now) (F.known files.old certificate.now)) }
     ensures files { ReadsUnless F.known F.failures F.can_fail files.old files.new (IsErrOf result (Problem.Failed Failure.File)) }
     ensures could { IsErrOf result (Problem.Failed Failure.File) → IsOfEither (held F.known F.failures F.can_fail F.blamed files.old) story.now certificate.now }
+    ensures blamed { IsErrOf result (Problem.Failed Failure.File) → IsUnreadOf story.now certificate.now (F.blamed files.new) }
 {
     let story = open_story(alloc, story, files)?;
+    accept_loaded(alloc, story, certificate, files)
+}
+
+/// Accepts a story with the certificate of a file, and else says why not.
+pub fn accept_loaded<F: Files>(
+    alloc: Global,
+    story: Story,
+    certificate: &str,
+    files: &mut F,
+) -> Result<AcceptedStory, Problem>
+    ensures accepted { IfOk result (λ a. (known : Option (List ℕ)) → HoldsStory known story → IsAcceptedStory known (F.known files.old certificate.now) a) }
+    ensures refused { IfErr result (λ problem. (known : Option (List ℕ)) → HoldsStory known story → IsUnacceptedStory known (F.known files.old certificate.now) problem) }
+    ensures files { ReadsUnless F.known F.failures F.can_fail files.old files.new (IsErrOf result (Problem.Failed Failure.File)) }
+    ensures could { IsErrOf result (Problem.Failed Failure.File) → F.can_fail files.old certificate.now ≡ true }
+    ensures blamed { IsErrOf result (Problem.Failed Failure.File) → IsUnread certificate.now (F.blamed files.new) }
+{
     let first = read_file(alloc, files, certificate, HEADING)?;
     if has_lists(&first) {
         let accepted = accept_story(alloc, story, certificate, &first, files)?;
@@ -80,12 +98,13 @@ pub fn accept<F: Files>(
 
 /// Whether a certificate's file that begins so is of a version that has lists.
 pub fn has_lists(first: &[u8]) -> bool
-    ensures { result ≡ ((byte_at first.now 4 == version_with_lists) || (byte_at first.now 4 == version_with_limit) || (byte_at first.now 4 == version_with_marks)) }
+    ensures { result ≡ ((byte_at first.now 4 == version_with_lists) || (byte_at first.now 4 == version_with_limit) || (byte_at first.now 4 == version_with_marks) || (byte_at first.now 4 == version_with_facts)) }
 {
     let version = first.get(VERSION_AT);
     version == Some(&LIST_VERSION)
         || version == Some(&LIMIT_VERSION)
         || version == Some(&MARK_VERSION)
+        || version == Some(&FACT_VERSION)
 }
 
 /// Accepts a story with the certificate of a file, of which the first bytes were read and tell the version.
@@ -103,6 +122,7 @@ fn accept_story<V: Spelled, F: Files>(
     ensures refused { IfErr result (λ problem. (known : Option (List ℕ)) → HoldsStory known story → IsUnaccepted V.operations V.format known (F.known files.old certificate.now) problem) }
     ensures files { ReadsUnless F.known F.failures F.can_fail files.old files.new (IsErrOf result (Problem.Failed Failure.File)) }
     ensures could { IsErrOf result (Problem.Failed Failure.File) → F.can_fail files.old certificate.now ≡ true }
+    ensures blamed { IsErrOf result (Problem.Failed Failure.File) → IsUnread certificate.now (F.blamed files.new) }
 {
     let stream = feed_certificate(alloc, story, certificate, first, files)?;
     Ok(stream.judge(alloc)?)
@@ -114,6 +134,7 @@ pub fn open_story<F: Files>(alloc: Global, name: &str, files: &mut F) -> Result<
     ensures refused { IfErr result (IsNoStory (F.known files.old name.now)) }
     ensures files { ReadsUnless F.known F.failures F.can_fail files.old files.new (IsErrOf result (Problem.Failed Failure.File)) }
     ensures could { IsErrOf result (Problem.Failed Failure.File) → F.can_fail files.old name.now ≡ true }
+    ensures blamed { IsErrOf result (Problem.Failed Failure.File) → IsUnread name.now (F.blamed files.new) }
 {
     let file = read_file(alloc, files, name, STORY_LIMIT)?;
     load(alloc, file)

@@ -1,6 +1,8 @@
 //! The certificates of many stories checked, and what is told of each.
 
-ghost use Rattle.std.specs.Prelude.{◌≡◌, ◌≢◌, ◌++◌, ◌∷◌, [], false, true, IfOk, IfSome, map, option_map};
+ghost use Rattle.std.specs.Prelude.{◌≡◌, ◌≢◌, ◌++◌, ◌∷◌, [], false, true, IfOk, IfSome, IsErrOf, map, option_map};
+ghost use Rattle.zperform.specs.Accepting.{IsOfEither};
+ghost use Rattle.zperform.specs.Blaming.{IsUnreadOf};
 ghost use Rattle.zperform.specs.Checking.{CheckEachComesTo, Judges, TellsCheck, answer_text, check_line};
 ghost use Rattle.zperform.specs.Devices.{FlushesUnless, held};
 ghost use Rattle.zperform.specs.Each.{certificate_for, ended_of, heading_text};
@@ -97,7 +99,9 @@ fn tell_object<F: Files>(
     ensures tells { TellsCheck true (option_map (λ c. c.now) certificate.entry) (held F.known F.failures F.can_fail F.blamed files.old) (held F.known F.failures F.can_fail F.blamed files.new) name.now (option_map (λ told. (told.0, told.1.items)) result) }
     ensures written { IfSome result (λ told. told.0 ≢ Ended.Unwritten) }
 {
-    let facts = facts_of(alloc, name, files);
+    let Ok(facts) = facts_of(alloc, name, files) else {
+        return None;
+    };
     let answer = judge_story(alloc, name, certificate, files);
     match verdict_text(alloc, name, &facts, "accepted", &answer, files.blame()) {
         Ok(text) => Some((ended_of(&answer), text)),
@@ -114,6 +118,9 @@ fn judge_story<F: Files>(
 ) -> Result<usize, Problem>
     ensures judges { Judges (F.known files.old name.now) (F.known files.old (certificate_for (option_map (λ c. c.now) certificate.entry) name.now)) result }
     ensures kept { F.known files.new ≡ F.known files.old }
+    ensures alike { F.can_fail files.new ≡ F.can_fail files.old }
+    ensures could { IsErrOf result (Problem.Failed Failure.File) → IsOfEither (held F.known F.failures F.can_fail F.blamed files.old) name.now (certificate_for (option_map (λ c. c.now) certificate.entry) name.now) }
+    ensures blamed { IsErrOf result (Problem.Failed Failure.File) → IsUnreadOf name.now (certificate_for (option_map (λ c. c.now) certificate.entry) name.now) (F.blamed files.new) }
 {
     match certificate {
         Some(certificate) => judge_pair(alloc, name, certificate, files),
@@ -133,6 +140,9 @@ fn judge_pair<F: Files>(
 ) -> Result<usize, Problem>
     ensures judges { Judges (F.known files.old name.now) (F.known files.old certificate.now) result }
     ensures kept { F.known files.new ≡ F.known files.old }
+    ensures alike { F.can_fail files.new ≡ F.can_fail files.old }
+    ensures could { IsErrOf result (Problem.Failed Failure.File) → IsOfEither (held F.known F.failures F.can_fail F.blamed files.old) name.now certificate.now }
+    ensures blamed { IsErrOf result (Problem.Failed Failure.File) → IsUnreadOf name.now certificate.now (F.blamed files.new) }
 {
     let accepted = accept(alloc, name, certificate, files)?;
     Ok(accepted.marks())
@@ -150,6 +160,21 @@ fn check_line(
     let mut text = Vec::new(alloc);
     add_heading(name, &mut text)?;
     add_answer(alloc, answer, blame, &mut text)?;
+    Ok(text)
+}
+
+/// The line of what went wrong with a file.
+pub fn problem_line(
+    alloc: Global,
+    name: &str,
+    problem: &Problem,
+    blame: Option<&Blame>,
+) -> Result<Vec<u8>, AllocError>
+    ensures { IfOk result (λ text. text.items ≡ heading_text name.now ++ (first_words (option_map (λ b. b.now) blame.entry) problem.now ++ 10 ∷ [])) }
+{
+    let mut text = Vec::new(alloc);
+    add_heading(name, &mut text)?;
+    add_problem_line(alloc, problem, blame, &mut text)?;
     Ok(text)
 }
 
@@ -177,7 +202,7 @@ fn add_answer(
 }
 
 /// Adds the first line of a problem in words.
-pub fn add_problem_line(
+fn add_problem_line(
     alloc: Global,
     problem: &Problem,
     blame: Option<&Blame>,

@@ -1,6 +1,7 @@
 //! Certificates fed to the checker from their files, piece by piece.
 
 ghost use Rattle.std.specs.Prelude.{◌≡◌, ◌+◌, ◌≤◌, true, None, Ok, IfErr, IfOk, IfSome, IsErrOf, length, take};
+ghost use Rattle.zperform.specs.Blaming.{IsUnread};
 ghost use Rattle.zperform.specs.Accepting.{IsFedTo, IsFedWhole, IsNoCertificate, version_of};
 ghost use Rattle.zperform.specs.Devices.{ReadsUnless};
 
@@ -35,6 +36,7 @@ pub fn feed_certificate<V: Spelled, F: Files>(
     ensures refused { IfErr result (IsNoCertificate V.format (F.known files.old name.now)) }
     ensures files { ReadsUnless F.known F.failures F.can_fail files.old files.new (IsErrOf result (Problem.Failed Failure.File)) }
     ensures could { IsErrOf result (Problem.Failed Failure.File) → F.can_fail files.old name.now ≡ true }
+    ensures blamed { IsErrOf result (Problem.Failed Failure.File) → IsUnread name.now (F.blamed files.new) }
 {
     let mut stream = CheckStream::new(alloc, story);
     stream.feed(first)?;
@@ -70,6 +72,7 @@ fn feed_piece<V: Spelled, F: Files>(
     ensures refused { IfErr result (IsNoCertificate V.format (F.known files.old name.now)) }
     ensures files { ReadsUnless F.known F.failures F.can_fail files.old files.new (IsErrOf result (Problem.Failed Failure.File)) }
     ensures could { IsErrOf result (Problem.Failed Failure.File) → F.can_fail files.old name.now ≡ true }
+    ensures blamed { IsErrOf result (Problem.Failed Failure.File) → IsUnread name.now (F.blamed files.new) }
 {
     let mut piece = [0; PIECE];
     let Some(count) = files.read_at(name, at, &mut piece) else {

@@ -3,7 +3,7 @@
 ghost use Rattle.std.specs.Prelude.{◌≡◌, ◌<◌, ◌≤◌, ◌+◌, ℕ, Bool, true, false, List, None, Option, ◌⊎◌, Ok, Err, IfErr, IfOk, IfSome, IsErrOf, IsTrue, MatchBool, MatchOption, OnOk, ◌↔◌, Some, length, option_map, take, vec_len};
 ghost use Rattle.zfault.specs.Devices.{RisesByOne};
 ghost use Rattle.zplayer.specs.Outside.{CountsRefusal};
-ghost use Rattle.zperform.specs.Blaming.{IsOf};
+ghost use Rattle.zperform.specs.Blaming.{IsOf, IsUnread};
 ghost use Rattle.zperform.specs.declared.blame.Blame.{Blame as Blamed};
 ghost use Rattle.zperform.specs.Contents.{CountsNone, HasBytes, IsBeginning, ReadsPart, SparesOthers};
 ghost use Rattle.zperform.specs.Devices.{ReadsUnless};
@@ -330,6 +330,7 @@ pub fn read_file<F: Files>(
     ensures wanted { result ≡ Err (Problem.Failed Failure.Memory) → HasBytes (F.known files.old name.now) }
     ensures files { ReadsUnless F.known F.failures F.can_fail files.old files.new (IsErrOf result (Problem.Failed Failure.File)) }
     ensures could { IsErrOf result (Problem.Failed Failure.File) → F.can_fail files.old name.now ≡ true }
+    ensures blamed { IsErrOf result (Problem.Failed Failure.File) → IsUnread name.now (F.blamed files.new) }
 {
     let mut file = Vec::new(alloc);
     'pieces: while read_more(files, name, &mut file, most)? {}
@@ -353,6 +354,7 @@ fn read_more<F: Files>(
     ensures wanted { result ≡ Err (Problem.Failed Failure.Memory) → HasBytes (F.known files.old name.now) }
     ensures files { ReadsUnless F.known F.failures F.can_fail files.old files.new (IsErrOf result (Problem.Failed Failure.File)) }
     ensures could { IsErrOf result (Problem.Failed Failure.File) → F.can_fail files.old name.now ≡ true }
+    ensures blamed { IsErrOf result (Problem.Failed Failure.File) → IsUnread name.now (F.blamed files.new) }
 {
     let at = file.len();
     if at == most {

@@ -2,6 +2,7 @@
 
 ghost use Rattle.std.specs.Prelude.{◌≡◌, ◌≢◌, ◌≤◌, ◌++◌, ℕ, List, true, IfErr, IfOk, IfSome, IsErrOf};
 ghost use Rattle.zplayer.specs.Outside.{Blames};
+ghost use Rattle.zperform.specs.Blaming.{IsUnread, IsUnreadOrUnwritten};
 ghost use Rattle.zperform.specs.Devices.{FlushesUnless, ReadsUnless, held};
 ghost use Rattle.zperform.specs.Finding.{FailsFor, FindComesTo, IsCertificateFor, IsFound, IsFoundFor, IsFoundText, IsNotFound, IsOfStoryOrFound, IsUnfound, lead_text};
 ghost use Rattle.zperform.specs.Marking.{ArePlacesOf};
@@ -55,6 +56,7 @@ pub fn find_file<F: Files, W: Sink>(
     ensures writer { FlushesUnless W.failures W.waits writer.old writer.new (result ≡ Outcome.Stopped (Problem.Failed Failure.Write)) }
     ensures files { Blames (result ≡ Outcome.Stopped (Problem.Failed Failure.File)) (F.failures files.old) (F.failures files.new) }
     ensures could { result ≡ Outcome.Stopped (Problem.Failed Failure.File) → IsOfStoryOrFound search (held F.known F.failures F.can_fail F.blamed files.old) story.now certificate.now }
+    ensures blamed { result ≡ Outcome.Stopped (Problem.Failed Failure.File) → IsUnreadOrUnwritten story.now certificate.now (F.blamed files.new) }
 {
     let Answer { bytes, text, .. } = match answer_of(alloc, story, search, files) {
         Ok(answer) => answer,
@@ -78,6 +80,7 @@ pub fn answer_of<F: Files>(
     ensures refused { IfErr result (IsNotFound search (F.known files.old name.now)) }
     ensures files { ReadsUnless F.known F.failures F.can_fail files.old files.new (IsErrOf result (Problem.Failed Failure.File)) }
     ensures could { IsErrOf result (Problem.Failed Failure.File) → F.can_fail files.old name.now ≡ true }
+    ensures blamed { IsErrOf result (Problem.Failed Failure.File) → IsUnread name.now (F.blamed files.new) }
     ensures unwritten { ¬ IsErrOf result (Problem.Failed Failure.Write) }
 {
     let story = open_story(alloc, name, files)?;

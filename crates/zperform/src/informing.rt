@@ -2,6 +2,7 @@
 
 ghost use Rattle.std.specs.Prelude.{◌≡◌, ◌≤◌, true, IfErr, IfOk, IfSome, IsErrOf, length, string_bytes, take};
 ghost use Rattle.zfault.specs.Devices.{RisesByOne};
+ghost use Rattle.zperform.specs.Blaming.{IsUnread};
 ghost use Rattle.zperform.specs.Accepting.{version_of};
 ghost use Rattle.zperform.specs.Devices.{FlushesUnless, ReadsUnless};
 ghost use Rattle.zperform.specs.Informing.{HoldsDigested, HoldsInfo, InfoComesTo, IsBeside, IsKeptOf, IsNoInfo, IsNotKept, IsUntold, beside_by, info_text, kept_of, lines_of, name_of_certificate};
@@ -39,6 +40,7 @@ pub fn inform<F: Files, W: Sink>(
     ensures kept { F.known files.new ≡ F.known files.old }
     ensures unread { result ≡ Outcome.Stopped (Problem.Failed Failure.File) → RisesByOne (F.failures files.old) (F.failures files.new) }
     ensures could { result ≡ Outcome.Stopped (Problem.Failed Failure.File) → F.can_fail files.old story.now ≡ true }
+    ensures blamed { result ≡ Outcome.Stopped (Problem.Failed Failure.File) → IsUnread story.now (F.blamed files.new) }
 {
     match informed(alloc, story, json, files) {
         Ok(text) => write_done(&text, Outcome::Informed, writer),
@@ -58,6 +60,7 @@ fn informed<F: Files>(
     ensures kept { F.known files.new ≡ F.known files.old }
     ensures unread { IsErrOf result (Problem.Failed Failure.File) → RisesByOne (F.failures files.old) (F.failures files.new) }
     ensures could { IsErrOf result (Problem.Failed Failure.File) → F.can_fail files.old name.now ≡ true }
+    ensures blamed { IsErrOf result (Problem.Failed Failure.File) → IsUnread name.now (F.blamed files.new) }
     ensures unwritten { ¬ IsErrOf result (Problem.Failed Failure.Write) }
 {
     let (story, digest) = open_digested(alloc, name, files)?;
@@ -115,6 +118,7 @@ fn open_digested<F: Files>(
     ensures refused { IfErr result (IsNoInfo (F.known files.old name.now)) }
     ensures files { ReadsUnless F.known F.failures F.can_fail files.old files.new (IsErrOf result (Problem.Failed Failure.File)) }
     ensures could { IsErrOf result (Problem.Failed Failure.File) → F.can_fail files.old name.now ≡ true }
+    ensures blamed { IsErrOf result (Problem.Failed Failure.File) → IsUnread name.now (F.blamed files.new) }
     ensures unwritten { ¬ IsErrOf result (Problem.Failed Failure.Write) }
 {
     let file = read_file(alloc, files, name, STORY_LIMIT)?;
@@ -177,6 +181,7 @@ fn kept_by<V: Spelled, F: Files>(
     ensures refused { IfErr result (IsNotKept V.format (F.known files.old name.now) story) }
     ensures files { ReadsUnless F.known F.failures F.can_fail files.old files.new (IsErrOf result (Problem.Failed Failure.File)) }
     ensures could { IsErrOf result (Problem.Failed Failure.File) → F.can_fail files.old name.now ≡ true }
+    ensures blamed { IsErrOf result (Problem.Failed Failure.File) → IsUnread name.now (F.blamed files.new) }
 {
     let stream = feed_certificate::<V, F>(alloc, story, name, first, files)?;
     let (story, certificate) = stream.read()?;

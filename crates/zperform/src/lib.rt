@@ -2,6 +2,7 @@
 #![tactic(auto)]
 
 mod accepting;
+mod beside;
 mod blame;
 mod checking;
 mod claims;

@@ -1,6 +1,7 @@
 //! The listing of a story's file, or of a certificate's, as lines.
 
 ghost use Rattle.std.specs.Prelude.{◌≡◌, ◌++◌, false, true, IfErr, IfOk, IsErrOf, flat_map, pos};
+ghost use Rattle.zperform.specs.Blaming.{IsUnread, IsUnreadOf};
 ghost use Rattle.zperform.specs.Accepting.{IsOfEither, IsUnacceptedStory};
 ghost use Rattle.zperform.specs.Devices.{FlushesUnless, ReadsUnless, held};
 ghost use Rattle.zperform.specs.Listing.{HoldsListed, IsListedAs, IsNoListing, IsUnlisted, ListComesTo, listed_text, listing_text, record_line, record_object};
@@ -36,6 +37,7 @@ pub fn list_file<F: Files, W: Sink>(
     ensures writer { FlushesUnless W.failures W.waits writer.old writer.new (result ≡ Outcome.Stopped (Problem.Failed Failure.Write)) }
     ensures files { ReadsUnless F.known F.failures F.can_fail files.old files.new (result ≡ Outcome.Stopped (Problem.Failed Failure.File)) }
     ensures could { result ≡ Outcome.Stopped (Problem.Failed Failure.File) → F.can_fail files.old story.now ≡ true }
+    ensures blamed { result ≡ Outcome.Stopped (Problem.Failed Failure.File) → IsUnread story.now (F.blamed files.new) }
 {
     match listing_of(alloc, story, json, files) {
         Ok(text) => write_done(&text, Outcome::Listed, writer),
@@ -54,6 +56,7 @@ fn listing_of<F: Files>(
     ensures refused { IfErr result (IsNoListing (F.known files.old name.now)) }
     ensures files { ReadsUnless F.known F.failures F.can_fail files.old files.new (IsErrOf result (Problem.Failed Failure.File)) }
     ensures could { IsErrOf result (Problem.Failed Failure.File) → F.can_fail files.old name.now ≡ true }
+    ensures blamed { IsErrOf result (Problem.Failed Failure.File) → IsUnread name.now (F.blamed files.new) }
     ensures unwritten { ¬ IsErrOf result (Problem.Failed Failure.Write) }
 {
     let story = open_story(alloc, name, files)?;
@@ -83,6 +86,7 @@ pub fn list_certificate<F: Files, W: Sink>(
     ensures writer { FlushesUnless W.failures W.waits writer.old writer.new (result ≡ Outcome.Stopped (Problem.Failed Failure.Write)) }
     ensures files { ReadsUnless F.known F.failures F.can_fail files.old files.new (result ≡ Outcome.Stopped (Problem.Failed Failure.File)) }
     ensures could { result ≡ Outcome.Stopped (Problem.Failed Failure.File) → IsOfEither (held F.known F.failures F.can_fail F.blamed files.old) story.now certificate.now }
+    ensures blamed { result ≡ Outcome.Stopped (Problem.Failed Failure.File) → IsUnreadOf story.now certificate.now (F.blamed files.new) }
 {
     match listing_by(alloc, story, certificate, json, files) {
         Ok(text) => write_done(&text, Outcome::Listed, writer),
@@ -102,6 +106,7 @@ fn listing_by<F: Files>(
     ensures refused { IfErr result (IsUnacceptedStory (F.known files.old story.now) (F.known files.old certificate.now)) }
     ensures files { ReadsUnless F.known F.failures F.can_fail files.old files.new (IsErrOf result (Problem.Failed Failure.File)) }
     ensures could { IsErrOf result (Problem.Failed Failure.File) → IsOfEither (held F.known F.failures F.can_fail F.blamed files.old) story.now certificate.now }
+    ensures blamed { IsErrOf result (Problem.Failed Failure.File) → IsUnreadOf story.now certificate.now (F.blamed files.new) }
 {
     match accept(alloc, story, certificate, files)? {
         AcceptedStory::Intervals(judged) => list_judged(alloc, &judged, json),

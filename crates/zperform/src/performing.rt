@@ -6,12 +6,13 @@ ghost use Rattle.clap.specs.Walk.{texts};
 ghost use Rattle.clap.specs.Words.{fault_of};
 ghost use Rattle.zcommand.specs.CommandLine.{IsLow, request_of, zpc_app};
 ghost use Rattle.zplayer.specs.Outside.{Blames};
+ghost use Rattle.zperform.specs.Blaming.{IsUnreadOf};
 ghost use Rattle.zperform.specs.Accepting.{CheckComesTo, IsOfEither};
+ghost use Rattle.zperform.specs.Beside.{Aside};
 ghost use Rattle.zperform.specs.Devices.{Ends, FlushesUnless, Held, ReadsUnless, Says, Told, UsesUnless, Writes, devices, held, seen, told};
 ghost use Rattle.zperform.specs.Keeping.{IsOccupied, MayWrite, kept_in};
-ghost use Rattle.zperform.specs.Performing.{Begins, Comes, Explains, IsBlamed, Performs, Reports, SaysOutcome, is_each, is_quiet, said_by, spared_in, written_by};
+ghost use Rattle.zperform.specs.Performing.{Begins, Comes, Explains, IsBlamed, IsToldOf, Performs, Reports, SaysFor, SaysOutcome, is_each, is_quiet, spared_in, written_by};
 ghost use Rattle.zperform.specs.Report.{line_of, no_text, outcome_of, text_of};
-ghost use Rattle.zperform.specs.Telling.{SaysEach};
 ghost use Rattle.zquetzal.specs.declared.error.SaveError.{SaveError as ARefusal};
 
 use crate::accepting::accept;
@@ -84,10 +85,11 @@ fn carry_out<F: Files, R: Source, W: Sink, E: Sink>(
     errors: &mut E,
 ) -> Outcome
     requires low { IsLow command }
-    ensures comes { (refusals : List ARefusal) × Begins (request_of command.entry) (held F.known F.failures F.can_fail F.blamed files.old) (held F.known F.failures F.can_fail F.blamed files.new) (R.remaining reader.old) refusals (W.contents writer.old) (W.contents writer.new) result × SaysEach (said_by (request_of command.entry) refusals) (seen E.contents E.failures E.waits errors.old) (seen E.contents E.failures E.waits errors.new) }
+    ensures comes { (aside : Aside) × (refusals : List ARefusal) × Begins (request_of command.entry) (held F.known F.failures F.can_fail F.blamed files.old) (held F.known F.failures F.can_fail F.blamed files.new) (R.remaining reader.old) aside refusals (W.contents writer.old) (W.contents writer.new) result × SaysFor (request_of command.entry) aside refusals (seen E.contents E.failures E.waits errors.old) (seen E.contents E.failures E.waits errors.new) }
     ensures writer { FlushesUnless W.failures W.waits writer.old writer.new (result ≡ Outcome.Stopped (Problem.Failed Failure.Write)) }
     ensures files { is_each (request_of command.entry) ≡ false → UsesUnless F.known F.failures files.old files.new (spared_in (request_of command.entry)) (written_by (request_of command.entry)) (result ≡ Outcome.Stopped (Problem.Failed Failure.File)) }
     ensures could { result ≡ Outcome.Stopped (Problem.Failed Failure.File) → IsBlamed (request_of command.entry) (held F.known F.failures F.can_fail F.blamed files.old) }
+    ensures blamed { result ≡ Outcome.Stopped (Problem.Failed Failure.File) → IsToldOf (request_of command.entry) (F.blamed files.new) }
     ensures reader { Blames (result ≡ Outcome.Stopped (Problem.Failed Failure.Read)) (R.failures reader.old) (R.failures reader.new) }
     ensures unasked { is_quiet (request_of command.entry) ≡ true → reader.new ≡ reader.old }
 {
@@ -140,10 +142,11 @@ fn fulfil<F: Files, R: Source, W: Sink, E: Sink>(
     errors: &mut E,
 ) -> Outcome
     requires low { IsLow command }
-    ensures comes { (refusals : List ARefusal) × Comes (request_of command.entry) (held F.known F.failures F.can_fail F.blamed files.old) (held F.known F.failures F.can_fail F.blamed files.new) (R.remaining reader.old) refusals (W.contents writer.old) (W.contents writer.new) result × SaysEach (said_by (request_of command.entry) refusals) (seen E.contents E.failures E.waits errors.old) (seen E.contents E.failures E.waits errors.new) }
+    ensures comes { (aside : Aside) × (refusals : List ARefusal) × Comes (request_of command.entry) (held F.known F.failures F.can_fail F.blamed files.old) (held F.known F.failures F.can_fail F.blamed files.new) (R.remaining reader.old) aside refusals (W.contents writer.old) (W.contents writer.new) result × SaysFor (request_of command.entry) aside refusals (seen E.contents E.failures E.waits errors.old) (seen E.contents E.failures E.waits errors.new) }
     ensures writer { FlushesUnless W.failures W.waits writer.old writer.new (result ≡ Outcome.Stopped (Problem.Failed Failure.Write)) }
     ensures files { is_each (request_of command.entry) ≡ false → UsesUnless F.known F.failures files.old files.new (spared_in (request_of command.entry)) (written_by (request_of command.entry)) (result ≡ Outcome.Stopped (Problem.Failed Failure.File)) }
     ensures could { result ≡ Outcome.Stopped (Problem.Failed Failure.File) → IsBlamed (request_of command.entry) (held F.known F.failures F.can_fail F.blamed files.old) }
+    ensures blamed { result ≡ Outcome.Stopped (Problem.Failed Failure.File) → IsToldOf (request_of command.entry) (F.blamed files.new) }
     ensures reader { Blames (result ≡ Outcome.Stopped (Problem.Failed Failure.Read)) (R.failures reader.old) (R.failures reader.new) }
     ensures unasked { is_quiet (request_of command.entry) ≡ true → reader.new ≡ reader.old }
 {
@@ -256,6 +259,7 @@ fn check_files<F: Files, W: Sink>(
     ensures writer { FlushesUnless W.failures W.waits writer.old writer.new (result ≡ Outcome.Stopped (Problem.Failed Failure.Write)) }
     ensures files { ReadsUnless F.known F.failures F.can_fail files.old files.new (result ≡ Outcome.Stopped (Problem.Failed Failure.File)) }
     ensures could { result ≡ Outcome.Stopped (Problem.Failed Failure.File) → IsOfEither (held F.known F.failures F.can_fail F.blamed files.old) story.now certificate.now }
+    ensures blamed { result ≡ Outcome.Stopped (Problem.Failed Failure.File) → IsUnreadOf story.now certificate.now (F.blamed files.new) }
 {
     let accepted = match accept(alloc, story, certificate, files) {
         Ok(accepted) => accepted,

@@ -1,17 +1,22 @@
 //! Playing a story from its opening.
 
-ghost use Rattle.std.specs.Prelude.{◌≡◌, ◌≢◌, ℕ, true, IsErrOf, List, None, Option, Some};
+ghost use Rattle.std.specs.Prelude.{◌≡◌, ◌≢◌, ℕ, true, IsErrOf, List, None, Option, Some, take};
 ghost use Rattle.zplayer.specs.Devices.{SameDevices as SameWorld};
 ghost use Rattle.zplayer.specs.Outside.{Blames};
 ghost use Rattle.zplayer.specs.declared.end.Options.{Options as HowToPlay};
-ghost use Rattle.zperform.specs.Accepting.{IsAccepted, IsMarkedOf, IsOfEither, PlayComesTo, PlayEnds};
+ghost use Rattle.zperform.specs.Blaming.{IsUnread, IsUnreadOf};
+ghost use Rattle.zperform.specs.Accepting.{IsAccepted, IsAcceptedStory, IsMarkedOf, IsOfEither, PlayComesTo, PlayEnds};
+ghost use Rattle.zperform.specs.Beside.{Aside, PlaysBeside, SaysAll, spared_beside};
 ghost use Rattle.zperform.specs.Devices.{FlushesUnless, UsesUnless, held, seen};
-ghost use Rattle.zperform.specs.Performing.{given};
+ghost use Rattle.zperform.specs.Performing.{given, store_of};
 ghost use Rattle.zperform.specs.Played.{Account, ComesOfEither, ComesOut, ComesOutIn, ComesOutOf, SameDevices, file_of};
 ghost use Rattle.zperform.specs.Playing.{ComesTo, Holds};
 ghost use Rattle.zperform.specs.Report.{outcome_of};
+ghost use Rattle.zperform.specs.Telling.{said_of};
+ghost use Rattle.zquetzal.specs.declared.error.SaveError.{SaveError as ARefusal};
 
-use crate::accepting::{AcceptedStory, STORY_LIMIT, accept, load};
+use crate::accepting::{AcceptedStory, STORY_LIMIT, accept, load_bytes};
+use crate::beside::{CertificateBeside, look_beside, say_unused};
 use crate::files::{Files, read_file};
 use crate::outcome::{Failure, Problem};
 use crate::saves::{FileSaves, NoSaves};
@@ -157,7 +162,8 @@ impl<A: Playable, M: Playable> Playable for Judged<A, M> {
     }
 }
 
-/// Plays a story from its file.
+/// Plays a story from its file: by the certificate beside it, where one is there and the story is accepted with it, and else with everything
+/// tested. Of a certificate that isn't used that is said first.
 pub fn play<F: Files, R: Source, W: Sink, E: Sink>(
     alloc: Global,
     name: &str,
@@ -165,14 +171,44 @@ pub fn play<F: Files, R: Source, W: Sink, E: Sink>(
     devices: &mut Devices<'_, F, R, W, E>,
 ) -> Result<End, Problem>
     ensures devices { SameDevices devices.old devices.new }
-    ensures comes { ComesOut R.remaining W.contents (seen E.contents E.failures E.waits) (ComesTo (F.known devices.old.files.now name.now) asked.entry.options) asked.entry devices.old devices.new result }
+    ensures comes { (aside : Aside) × (refusals : List ARefusal) × PlaysBeside (held F.known F.failures F.can_fail F.blamed devices.old.files.now) (held F.known F.failures F.can_fail F.blamed devices.new.files.now) name.now (file_of asked.entry) aside asked.entry.options (given (R.remaining devices.old.reader.now) asked.entry.seed (store_of (file_of asked.entry))) refusals (W.contents devices.old.writer.now) (W.contents devices.new.writer.now) (outcome_of result) × SaysAll name.now aside (said_of asked.entry.tell (file_of asked.entry) refusals) (seen E.contents E.failures E.waits devices.old.errors.now) (seen E.contents E.failures E.waits devices.new.errors.now) }
     ensures writer { FlushesUnless W.failures W.waits devices.old.writer.now devices.new.writer.now (IsErrOf result (Problem.Failed Failure.Write)) }
-    ensures files { UsesUnless F.known F.failures devices.old.files.now devices.new.files.now (file_of asked.entry) (file_of asked.entry) (IsErrOf result (Problem.Failed Failure.File)) }
+    ensures files { UsesUnless F.known F.failures devices.old.files.now devices.new.files.now (spared_beside (file_of asked.entry) name.now) (file_of asked.entry) (IsErrOf result (Problem.Failed Failure.File)) }
     ensures could { IsErrOf result (Problem.Failed Failure.File) → F.can_fail devices.old.files.now name.now ≡ true }
+    ensures blamed { IsErrOf result (Problem.Failed Failure.File) → IsUnread name.now (F.blamed devices.new.files.now) }
     ensures reader { Blames (IsErrOf result (Problem.Failed Failure.Read)) (R.failures devices.old.reader.now) (R.failures devices.new.reader.now) }
 {
     let file = read_file(alloc, devices.files, name, STORY_LIMIT)?;
-    let story = load(alloc, file)?;
+    match look_beside(alloc, &file, name, devices.files)? {
+        CertificateBeside::Accepted(accepted) => play_accepted(alloc, &accepted, asked, devices),
+        CertificateBeside::Absent => play_file(alloc, &file, asked, devices),
+        CertificateBeside::Unaccepted {
+            certificate,
+            problem,
+        } => {
+            let blame = devices.files.blame();
+            say_unused(alloc, certificate.as_str(), problem, blame, devices.errors);
+            play_file(alloc, &file, asked, devices)
+        }
+    }
+}
+
+/// Plays a story of which this is the file, or what was read of it, with everything tested.
+fn play_file<F: Files, R: Source, W: Sink, E: Sink>(
+    alloc: Global,
+    file: &[u8],
+    asked: Asked<'_>,
+    devices: &mut Devices<'_, F, R, W, E>,
+) -> Result<End, Problem>
+    ensures devices { SameDevices devices.old devices.new }
+    ensures comes { (known : Option (List ℕ)) → ((bytes : List ℕ) → known ≡ Some bytes → file.now ≡ take 131073 bytes) → ComesOut R.remaining W.contents (seen E.contents E.failures E.waits) (ComesTo known asked.entry.options) asked.entry devices.old devices.new result }
+    ensures writer { FlushesUnless W.failures W.waits devices.old.writer.now devices.new.writer.now (IsErrOf result (Problem.Failed Failure.Write)) }
+    ensures no_file { ¬ IsErrOf result (Problem.Failed Failure.File) }
+    ensures reader { Blames (IsErrOf result (Problem.Failed Failure.Read)) (R.failures devices.old.reader.now) (R.failures devices.new.reader.now) }
+    ensures unsaved { file_of asked.entry ≡ None → devices.new.files.now ≡ devices.old.files.now }
+    ensures spared { (other : List ℕ) → file_of asked.entry ≢ Some other → F.known devices.new.files.now other ≡ F.known devices.old.files.now other }
+{
+    let story = load_bytes(alloc, file)?;
     play_saving(alloc, &story, asked, devices)
 }
 
@@ -189,11 +225,31 @@ pub fn play_by_certificate<F: Files, R: Source, W: Sink, E: Sink>(
     ensures writer { FlushesUnless W.failures W.waits devices.old.writer.now devices.new.writer.now (IsErrOf result (Problem.Failed Failure.Write)) }
     ensures files { UsesUnless F.known F.failures devices.old.files.now devices.new.files.now (file_of asked.entry) (file_of asked.entry) (IsErrOf result (Problem.Failed Failure.File)) }
     ensures could { IsErrOf result (Problem.Failed Failure.File) → IsOfEither (held F.known F.failures F.can_fail F.blamed devices.old.files.now) story.now certificate.now }
+    ensures blamed { IsErrOf result (Problem.Failed Failure.File) → IsUnreadOf story.now certificate.now (F.blamed devices.new.files.now) }
     ensures reader { Blames (IsErrOf result (Problem.Failed Failure.Read)) (R.failures devices.old.reader.now) (R.failures devices.new.reader.now) }
 {
-    match accept(alloc, story, certificate, devices.files)? {
-        AcceptedStory::Intervals(judged) => play_saving(alloc, &judged, asked, devices),
-        AcceptedStory::Lists(judged) => play_saving(alloc, &judged, asked, devices),
+    let accepted = accept(alloc, story, certificate, devices.files)?;
+    play_accepted(alloc, &accepted, asked, devices)
+}
+
+/// Plays a story that is accepted.
+fn play_accepted<F: Files, R: Source, W: Sink, E: Sink>(
+    alloc: Global,
+    accepted: &AcceptedStory,
+    asked: Asked<'_>,
+    devices: &mut Devices<'_, F, R, W, E>,
+) -> Result<End, Problem>
+    ensures devices { SameDevices devices.old devices.new }
+    ensures comes { (story certificate : Option (List ℕ)) → IsAcceptedStory story certificate accepted.now → ComesOut R.remaining W.contents (seen E.contents E.failures E.waits) (PlayComesTo story certificate asked.entry.options) asked.entry devices.old devices.new result }
+    ensures writer { FlushesUnless W.failures W.waits devices.old.writer.now devices.new.writer.now (IsErrOf result (Problem.Failed Failure.Write)) }
+    ensures no_file { ¬ IsErrOf result (Problem.Failed Failure.File) }
+    ensures reader { Blames (IsErrOf result (Problem.Failed Failure.Read)) (R.failures devices.old.reader.now) (R.failures devices.new.reader.now) }
+    ensures unsaved { file_of asked.entry ≡ None → devices.new.files.now ≡ devices.old.files.now }
+    ensures spared { (other : List ℕ) → file_of asked.entry ≢ Some other → F.known devices.new.files.now other ≡ F.known devices.old.files.now other }
+{
+    match accepted {
+        AcceptedStory::Intervals(judged) => play_saving(alloc, judged, asked, devices),
+        AcceptedStory::Lists(judged) => play_saving(alloc, judged, asked, devices),
     }
 }
 

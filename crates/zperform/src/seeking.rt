@@ -1,15 +1,16 @@
 //! Certificates found for many stories, and what is told of each.
 
-ghost use Rattle.std.specs.Prelude.{◌≡◌, ◌≢◌, ◌≤◌, ◌++◌, ◌∷◌, [], false, true, IfErr, IfOk, IfSome, None, Ok, Some, List, ℕ, codes, map, option_map};
+ghost use Rattle.std.specs.Prelude.{◌≡◌, ◌≢◌, ◌≤◌, ◌++◌, ◌∷◌, [], false, true, IfErr, IfOk, IfSome, IsErrOf, None, Ok, Some, List, ℕ, codes, map, option_map};
+ghost use Rattle.zperform.specs.Blaming.{IsUnreadOrUnwritten};
 ghost use Rattle.zperform.specs.Contents.{SparesOthers};
 ghost use Rattle.zperform.specs.Devices.{FlushesUnless, UsesUnless, held};
 ghost use Rattle.zperform.specs.Each.{certificate_for, heading_text};
+ghost use Rattle.zperform.specs.Finding.{IsOfStoryOrFound};
 ghost use Rattle.zperform.specs.Seeking.{FindEachComesTo, FindOneComesTo, IsKeptSo, IsOfOne, IsUnkept, TellsFind, lowered};
 ghost use Rattle.zperform.specs.Verdicts.{IsVerdictText};
-ghost use Rattle.zperform.specs.Wording.{first_words};
 
 use crate::blame::Blame;
-use crate::checking::{add_heading, add_problem_line};
+use crate::checking::{add_heading, problem_line};
 use crate::each::{Telling, ended_by, tell_each};
 use crate::files::Files;
 use crate::finding::{Answer, Search, answer_of, find_file};
@@ -97,6 +98,7 @@ pub fn find_one<F: Files, W: Sink>(
     ensures writer { FlushesUnless W.failures W.waits writer.old writer.new (result ≡ Outcome.Stopped (Problem.Failed Failure.Write)) }
     ensures files { search.json ≡ false → UsesUnless F.known F.failures files.old files.new None (Some certificate.now) (result ≡ Outcome.Stopped (Problem.Failed Failure.File)) }
     ensures could { result ≡ Outcome.Stopped (Problem.Failed Failure.File) → IsOfOne search (held F.known F.failures F.can_fail F.blamed files.old) story.now certificate.now }
+    ensures blamed { result ≡ Outcome.Stopped (Problem.Failed Failure.File) → IsUnreadOrUnwritten story.now certificate.now (F.blamed files.new) }
     ensures no_input { result ≢ Outcome.Stopped (Problem.Failed Failure.Read) }
 {
     if search.json {
@@ -130,7 +132,7 @@ fn tell_lines<F: Files>(
             Ok(text) => Some((Ended::Well, text)),
             Err(_) => None,
         },
-        Err(problem) => match unfound_line(alloc, name, &problem, files.blame()) {
+        Err(problem) => match problem_line(alloc, name, &problem, files.blame()) {
             Ok(text) => Some((ended_by(&problem), text)),
             Err(_) => None,
         },
@@ -148,7 +150,9 @@ fn tell_object<F: Files>(
     ensures tells { TellsFind (lowered seeking.entry.search) seeking.entry.force (option_map (λ c. c.now) seeking.entry.certificate) (held F.known F.failures F.can_fail F.blamed files.old) (held F.known F.failures F.can_fail F.blamed files.new) name.now (option_map (λ told. (told.0, told.1.items)) result) }
     ensures written { IfSome result (λ told. told.0 ≢ Ended.Unwritten) }
 {
-    let facts = facts_of(alloc, name, files);
+    let Ok(facts) = facts_of(alloc, name, files) else {
+        return None;
+    };
     match seek_story(alloc, name, seeking, files) {
         Ok(answer) => {
             match found_object(alloc, name, &facts, &answer, files.blame()) {
@@ -176,6 +180,9 @@ fn seek_story<F: Files>(
     ensures unkept { IfErr result (IsUnkept (lowered seeking.entry.search) seeking.entry.force (F.known files.old name.now) (F.known files.old (certificate_for (option_map (λ c. c.now) seeking.entry.certificate) name.now))) }
     ensures left { IfErr result (λ problem. problem ≢ Problem.Failed Failure.File → F.known files.new ≡ F.known files.old) }
     ensures spared { SparesOthers (certificate_for (option_map (λ c. c.now) seeking.entry.certificate) name.now) (F.known files.old) (F.known files.new) }
+    ensures alike { F.can_fail files.new ≡ F.can_fail files.old }
+    ensures could { IsErrOf result (Problem.Failed Failure.File) → IsOfStoryOrFound (lowered seeking.entry.search) (held F.known F.failures F.can_fail F.blamed files.old) name.now (certificate_for (option_map (λ c. c.now) seeking.entry.certificate) name.now) }
+    ensures blamed { IsErrOf result (Problem.Failed Failure.File) → IsUnreadOrUnwritten name.now (certificate_for (option_map (λ c. c.now) seeking.entry.certificate) name.now) (F.blamed files.new) }
 {
     let search = lowered(seeking.search);
     match seeking.certificate {
@@ -201,6 +208,9 @@ fn keep_found<F: Files>(
     ensures unkept { IfErr result (IsUnkept search force (F.known files.old name.now) (F.known files.old certificate.now)) }
     ensures left { IfErr result (λ problem. problem ≢ Problem.Failed Failure.File → F.known files.new ≡ F.known files.old) }
     ensures spared { SparesOthers certificate.now (F.known files.old) (F.known files.new) }
+    ensures alike { F.can_fail files.new ≡ F.can_fail files.old }
+    ensures could { IsErrOf result (Problem.Failed Failure.File) → IsOfStoryOrFound search (held F.known F.failures F.can_fail F.blamed files.old) name.now certificate.now }
+    ensures blamed { IsErrOf result (Problem.Failed Failure.File) → IsUnreadOrUnwritten name.now certificate.now (F.blamed files.new) }
 {
     if !force && !files.may_replace(certificate, Purpose::Certificate.magic()) {
         return Err(Problem::Occupied(Purpose::Certificate));
@@ -246,20 +256,5 @@ fn found_object(
 {
     let mut text = verdict_text(alloc, name, facts, "found", &Ok(answer.marks), blame)?;
     text.extend_from_slice(&answer.text)?;
-    Ok(text)
-}
-
-/// The line of one for which none is kept.
-fn unfound_line(
-    alloc: Global,
-    name: &str,
-    problem: &Problem,
-    blame: Option<&Blame>,
-) -> Result<Vec<u8>, AllocError>
-    ensures { IfOk result (λ text. text.items ≡ heading_text name.now ++ (first_words (option_map (λ b. b.now) blame.entry) problem.now ++ 10 ∷ [])) }
-{
-    let mut text = Vec::new(alloc);
-    add_heading(name, &mut text)?;
-    add_problem_line(alloc, problem, blame, &mut text)?;
     Ok(text)
 }

@@ -3,6 +3,7 @@
 ghost use Rattle.std.specs.Prelude.{◌≡◌, ◌==◌, ◌↔◌, ◌≤◌, true, ℕ, List, Option, IfErr, IfOk, IfSome, IsErrOf, IsTrue, length, option_map, take};
 ghost use Rattle.zstory.specs.Bytes.{byte_at};
 ghost use Rattle.zstory.specs.LoadedStory.{identity_of};
+ghost use Rattle.zperform.specs.Blaming.{IsUnread, IsUnreadOf};
 ghost use Rattle.zperform.specs.Accepting.{HoldsStory, IsOfEither, version_of};
 ghost use Rattle.zperform.specs.Devices.{FlushesUnless, ReadsUnless, held};
 ghost use Rattle.zperform.specs.Showing.{HoldsShown, HoldsShownBy, IsUnshown, IsUnshownStory, ShowComesTo, ShowEnds, address_in};
@@ -38,6 +39,7 @@ pub fn show_files<F: Files, W: Sink>(
     ensures writer { FlushesUnless W.failures W.waits writer.old writer.new (result ≡ Outcome.Stopped (Problem.Failed Failure.Write)) }
     ensures files { ReadsUnless F.known F.failures F.can_fail files.old files.new (result ≡ Outcome.Stopped (Problem.Failed Failure.File)) }
     ensures could { result ≡ Outcome.Stopped (Problem.Failed Failure.File) → IsOfEither (held F.known F.failures F.can_fail F.blamed files.old) story.now certificate.now }
+    ensures blamed { result ≡ Outcome.Stopped (Problem.Failed Failure.File) → IsUnreadOf story.now certificate.now (F.blamed files.new) }
 {
     let Some(word) = address else {
         return show_at(alloc, story, certificate, None, files, writer);
@@ -78,6 +80,7 @@ fn show_at<F: Files, W: Sink>(
     ensures writer { FlushesUnless W.failures W.waits writer.old writer.new (result ≡ Outcome.Stopped (Problem.Failed Failure.Write)) }
     ensures files { ReadsUnless F.known F.failures F.can_fail files.old files.new (result ≡ Outcome.Stopped (Problem.Failed Failure.File)) }
     ensures could { result ≡ Outcome.Stopped (Problem.Failed Failure.File) → IsOfEither (held F.known F.failures F.can_fail F.blamed files.old) story.now certificate.now }
+    ensures blamed { result ≡ Outcome.Stopped (Problem.Failed Failure.File) → IsUnreadOf story.now certificate.now (F.blamed files.new) }
 {
     match shown(alloc, story, certificate, address, files) {
         Ok(text) => write_done(&text, Outcome::Shown, writer),
@@ -98,6 +101,7 @@ fn shown<F: Files>(
     ensures refused { IfErr result (IsUnshownStory (F.known files.old story.now) (F.known files.old certificate.now)) }
     ensures files { ReadsUnless F.known F.failures F.can_fail files.old files.new (IsErrOf result (Problem.Failed Failure.File)) }
     ensures could { IsErrOf result (Problem.Failed Failure.File) → IsOfEither (held F.known F.failures F.can_fail F.blamed files.old) story.now certificate.now }
+    ensures blamed { IsErrOf result (Problem.Failed Failure.File) → IsUnreadOf story.now certificate.now (F.blamed files.new) }
 {
     let story = open_story(alloc, story, files)?;
     let first = read_file(alloc, files, certificate, HEADING)?;
@@ -125,6 +129,7 @@ fn shown_by<V: Told, F: Files>(
     ensures refused { IfErr result (λ problem. (known : Option (List ℕ)) → HoldsStory known story → IsUnshown V.operations V.format known (F.known files.old certificate.now) problem) }
     ensures files { ReadsUnless F.known F.failures F.can_fail files.old files.new (IsErrOf result (Problem.Failed Failure.File)) }
     ensures could { IsErrOf result (Problem.Failed Failure.File) → F.can_fail files.old certificate.now ≡ true }
+    ensures blamed { IsErrOf result (Problem.Failed Failure.File) → IsUnread certificate.now (F.blamed files.new) }
 {
     let stream = feed_certificate::<V, F>(alloc, story, certificate, first, files)?;
     let (story, certificate) = stream.read()?;

@@ -1,13 +1,14 @@
 //! What came of a story's file, as an object of JSON.
 
-ghost use Rattle.std.specs.Prelude.{◌≡◌, ◌<◌, IfOk, IfSome, Some, length, codes, decimal, drop, option_map, pos, string_bytes, ◌++◌};
+ghost use Rattle.std.specs.Prelude.{◌≡◌, ◌<◌, ◌≤◌, IfOk, IfSome, None, Some, length, codes, decimal, drop, option_map, pos, string_bytes, ◌++◌};
 ghost use Rattle.zinfo.specs.Info.{heading_of};
 ghost use Rattle.zinfo.specs.Shown.{shown};
 ghost use Rattle.zinfo.specs.Text.{place_text};
 ghost use Rattle.zjson.specs.Digest.{digest_text};
 ghost use Rattle.zlist.specs.Listed.{place_of};
 ghost use Rattle.zstory.specs.LoadedStory.{LoadedStory};
-ghost use Rattle.zperform.specs.Playing.{Holds};
+ghost use Rattle.zstory.specs.declared.load_error.LoadError.{LoadError};
+ghost use Rattle.zperform.specs.Playing.{Holds, IsUnloaded};
 ghost use Rattle.zperform.specs.Verdicts.{AreFactsOf, IsVerdictText, address_text, code_text, failure_word, marks_in, of_problem, outcome_word, stopped_place};
 ghost use Rattle.zperform.specs.Wording.{words_text};
 
@@ -33,36 +34,44 @@ pub struct Facts {
     pub heading: Option<Heading>,
 }
 
-/// What is known of the file of a name: what can't be read or made isn't.
-pub fn facts_of<F: Files>(alloc: Global, name: &str, files: &mut F) -> Facts
-    ensures are { AreFactsOf (F.known files.old name.now) result }
+/// What is known of the file of a name: of one that can't be read nothing is.
+///
+/// # Errors
+///
+/// Where memory is wanting.
+pub fn facts_of<F: Files>(alloc: Global, name: &str, files: &mut F) -> Result<Facts, Problem>
+    ensures are { IfOk result (AreFactsOf (F.known files.old name.now) (F.can_fail files.old name.now)) }
     ensures kept { F.known files.new ≡ F.known files.old }
     ensures alike { F.can_fail files.new ≡ F.can_fail files.old }
 {
     match read_file(alloc, files, name, STORY_LIMIT) {
         Ok(file) => facts_in(alloc, &file),
-        Err(_) => Facts {
+        Err(Problem::Failed(Failure::File)) => Ok(Facts {
             digest: None,
             heading: None,
-        },
+        }),
+        Err(problem) => Err(problem),
     }
 }
 
 /// What is known of a file of these bytes, of which no more are read than tell that it is too long.
-fn facts_in(alloc: Global, file: &[u8]) -> Facts
-    ensures digest { IfSome result.digest (λ digest. (length file.now < 131073) × (string_bytes digest ≡ digest_text file.now)) }
-    ensures heading { IfSome result.heading (λ heading. (story : LoadedStory) × Holds file.now story × (heading ≡ heading_of story)) }
+fn facts_in(alloc: Global, file: &[u8]) -> Result<Facts, Problem>
+    ensures digest { IfOk result (λ facts. IfSome facts.digest (λ digest. (length file.now < 131073) × (string_bytes digest ≡ digest_text file.now))) }
+    ensures undigested { IfOk result (λ facts. facts.digest ≡ None → 131073 ≤ length file.now) }
+    ensures heading { IfOk result (λ facts. IfSome facts.heading (λ heading. (story : LoadedStory) × Holds file.now story × (heading ≡ heading_of story))) }
+    ensures unheaded { IfOk result (λ facts. facts.heading ≡ None → (error : LoadError) × IsUnloaded file.now (Problem.Refused error)) }
 {
     let digest = if file.len() < STORY_LIMIT {
-        digest_text(alloc, file).ok()
+        Some(digest_text(alloc, file)?)
     } else {
         None
     };
     let heading = match load_bytes(alloc, file) {
         Ok(story) => Some(heading(&story)),
-        Err(_) => None,
+        Err(Problem::Refused(_)) => None,
+        Err(problem) => return Err(problem),
     };
-    Facts { digest, heading }
+    Ok(Facts { digest, heading })
 }
 
 /// What came of a story's file as one object on a line. `well` is the word where it went well.

@@ -36,7 +36,7 @@ module _ {V : Type 0} (o : SetOperations V) (claims : Claims V) where
   -- each caller takes what the routine above it gives, which is some word
   pub callers_short : ((p : ℕ) (e : Entry V) → claims.entry p ≡ Some e → length e.shape.slots ≤ 64) → ((routine : ℕ) → (x : ℕ) × In o (claims.result routine) x) → (f : Frame) (gs : List Frame) (routine place result : ℕ) → AreFrames f gs → Callers o claims routine place result gs → AllByRecursion IsShort gs
   callers_short low gives f [] routine place result are callers = tt
-  callers_short low gives f (g ∷ gs) routine place result are (some, e, listed, fits, rest) =
+  callers_short low gives f (g ∷ gs) routine place result are (some, e, listed, fits, implied, rest) =
       let x = gives routine in (
         record { locals = (a_frame g gs are.1).locals; stack = fits_short result x.0 e g (low place e listed) (fits x.0 x.1) },
         callers_short low gives g gs e.routine g.return_place g.result are.1 rest,

@@ -30,10 +30,12 @@ certificate = record {
   identity = record { release = 0; serial = replicate 6 0; checksum = 0; length = 65 };
   limit = None;
   marking = false;
+  stating = false;
   ranges = [];
   globals = replicate 240 (point 3);
   routines = record { address = 60; locals = 0; result = either } ∷ [];
   instructions = record { address = 64; routine = 0; is_marked = false; locals = []; slots = [] } ∷ [];
+  facts = [];
 }
 
 a : Acceptance

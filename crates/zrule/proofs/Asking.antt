@@ -15,7 +15,7 @@ use Rattle.zflow.specs.Transfer.{demands_of, read_set, argument_sets}
 use Rattle.zflow.specs.Flow.{IsFlow}
 use Rattle.zrule.specs.declared.rule.Rule.{Rule}
 use Rattle.zrule.specs.declared.rule.Rule.TheVariants.{Decodes, Height, Local, Successor, Object, Attribute, Property, Divisor, Write, Read, Text, Called, Returned, Buffers, Known, Stored, High, Status}
-use Rattle.zrule.specs.Claims.{Entry, Claims, frozen_in, told_of}
+use Rattle.zrule.specs.Claims.{Entry, Claims, frozen_in, told_of, globals_at}
 use Rattle.zrule.specs.Rules.{IsThere, demands_at, IsKnown, Divides, KnowsAnswers, NamesFixed, PrintsFixed, Reads, CallsBegin, Asks, Keeps}
 use Rattle.zpairs.specs.Frozen.{FrozenStory, frozen_by}
 use Rattle.zruns.specs.Names.{AreFixedNames}
@@ -45,45 +45,45 @@ module _ {V : Type 0} (o : SetOperations V) (claims : Claims V) (story : LoadedS
   same_asked rule other b is asked = subst (λ (r : Rule). IsTrue b ↔ Asks o claims story p e i r) (sym is) asked
 
   -- where a variable isn't known, nothing is asked of heights and locals
-  pub height_unknown : (rule : Rule) (b : Bool) → rule ≡ Height → (IsKnown o claims i e.shape → IsTrue b) → b ≡ false → IsTrue (not b) ↔ Asks o claims story p e i rule
+  pub height_unknown : (rule : Rule) (b : Bool) → rule ≡ Height → (IsKnown o claims p i e.shape → IsTrue b) → b ≡ false → IsTrue (not b) ↔ Asks o claims story p e i rule
   height_unknown rule b is known unknown = rw (is, unknown) (λ t k. absurd (let f = known k in cc), λ a. refl)
 
-  pub local_unknown : (rule : Rule) (b : Bool) → rule ≡ Local → (IsKnown o claims i e.shape → IsTrue b) → b ≡ false → IsTrue (not b) ↔ Asks o claims story p e i rule
+  pub local_unknown : (rule : Rule) (b : Bool) → rule ≡ Local → (IsKnown o claims p i e.shape → IsTrue b) → b ≡ false → IsTrue (not b) ↔ Asks o claims story p e i rule
   local_unknown rule b is known unknown = rw (is, unknown) (λ t k. absurd (let f = known k in cc), λ a. refl)
 
   -- and what a text is asked is so of every opcode that prints the one behind it
-  pub text_fixed : (rule : Rule) (b : Bool) → rule ≡ Text → OnTrue (prints_text i.opcode) (HasFixedText story (frozen_in claims) (p + 1)) → IsTrue b ↔ PrintsFixed o claims story i e.shape × NamesFixed o claims story i e.shape → IsTrue b ↔ Asks o claims story p e i rule
-  text_fixed rule b is fixed printed = rw is (λ t. let both = printed.0 t in (on_true _ _ _ (text_asked o (read_set o claims.globals i e.shape) i.opcode) fixed, both.0, both.1), λ a. printed.1 (a.1, a.2))
+  pub text_fixed : (rule : Rule) (b : Bool) → rule ≡ Text → OnTrue (prints_text i.opcode) (HasFixedText story (frozen_in claims) (p + 1)) → IsTrue b ↔ PrintsFixed o claims p story i e.shape × NamesFixed o claims p story i e.shape → IsTrue b ↔ Asks o claims story p e i rule
+  text_fixed rule b is fixed printed = rw is (λ t. let both = printed.0 t in (on_true _ _ _ (text_asked o (read_set o (globals_at claims p) i e.shape) i.opcode) fixed, both.0, both.1), λ a. printed.1 (a.1, a.2))
 
   -- by the tables and by what is known of the instruction
-  pub prints_told : (told : FrozenStory) → told ≡ told_of claims story → (flow : Flow V) → IsFlow o claims.globals (told_of claims story) i e.shape flow → (b : Bool) → IsTrue b ↔ IfSome flow.demands.texts (λ x. AreFixedTexts o told.story (frozen_by told.ranges) x.addressing x.places) × IfSome flow.demands.named (AreFixedNames o told.story (frozen_by told.ranges)) → IsTrue b ↔ PrintsFixed o claims story i e.shape × NamesFixed o claims story i e.shape
+  pub prints_told : (told : FrozenStory) → told ≡ told_of claims story → (flow : Flow V) → IsFlow o (globals_at claims p) (told_of claims story) i e.shape flow → (b : Bool) → IsTrue b ↔ IfSome flow.demands.texts (λ x. AreFixedTexts o told.story (frozen_by told.ranges) x.addressing x.places) × IfSome flow.demands.named (AreFixedNames o told.story (frozen_by told.ranges)) → IsTrue b ↔ PrintsFixed o claims p story i e.shape × NamesFixed o claims p story i e.shape
   prints_told told is flow are b asked =
       let here = subst (λ (t : FrozenStory). IsTrue b ↔ IfSome flow.demands.texts (λ x. AreFixedTexts o t.story (frozen_by t.ranges) x.addressing x.places) × IfSome flow.demands.named (AreFixedNames o t.story (frozen_by t.ranges))) is asked in
       subst (λ (d : Demands V). IsTrue b ↔ IfSome d.texts (λ x. AreFixedTexts o story (frozen_in claims) x.addressing x.places) × IfSome d.named (AreFixedNames o story (frozen_in claims))) are.demands here
 
   -- what is asked of edges
-  module _ (flow : Flow V) (are : IsFlow o claims.globals (told_of claims story) i e.shape flow) (rule : Rule) (b : Bool) (keep : IsTrue b ↔ EdgesKeep o claims story (argument_sets o claims.globals i e.shape) e.routine (p + i.size) (target i) rule flow) where
-    as_is : (r : Rule) → rule ≡ r → IsTrue b ↔ EdgesKeep o claims story (argument_sets o claims.globals i e.shape) e.routine (p + i.size) (target i) r flow
-    as_is r is = subst (λ (r : Rule). IsTrue b ↔ EdgesKeep o claims story (argument_sets o claims.globals i e.shape) e.routine (p + i.size) (target i) r flow) is keep
+  module _ (flow : Flow V) (are : IsFlow o (globals_at claims p) (told_of claims story) i e.shape flow) (rule : Rule) (b : Bool) (keep : IsTrue b ↔ EdgesKeep o claims story (globals_at claims p) (argument_sets o (globals_at claims p) i e.shape) e.routine (p + i.size) (target i) rule flow) where
+    as_is : (r : Rule) → rule ≡ r → IsTrue b ↔ EdgesKeep o claims story (globals_at claims p) (argument_sets o (globals_at claims p) i e.shape) e.routine (p + i.size) (target i) r flow
+    as_is r is = subst (λ (r : Rule). IsTrue b ↔ EdgesKeep o claims story (globals_at claims p) (argument_sets o (globals_at claims p) i e.shape) e.routine (p + i.size) (target i) r flow) is keep
 
-    pub successor_asked : rule ≡ Successor → (d g : Bool) → (IsTrue d → Divides o claims i e.shape) → (IsTrue d → Reads o claims story i e.shape) → (IsTrue d → KnowsAnswers o claims story i e.shape) → d ≡ true → (IsTrue g → CallsBegin o claims story i e.shape) → g ≡ true → flow.demands.certain ≡ true → IsTrue b ↔ Asks o claims story p e i rule
+    pub successor_asked : rule ≡ Successor → (d g : Bool) → (IsTrue d → Divides o claims p i e.shape) → (IsTrue d → Reads o claims p story i e.shape) → (IsTrue d → KnowsAnswers o claims p story i e.shape) → d ≡ true → (IsTrue g → CallsBegin o claims p story i e.shape) → g ≡ true → flow.demands.certain ≡ true → IsTrue b ↔ Asks o claims story p e i rule
     successor_asked is d g divides reads knows there begin begun certain =
         let kept = as_is Successor is in
-        let edges = leads_on o claims story i e.shape flow are (argument_sets o claims.globals i e.shape) e.routine (p + i.size) in
-        let known : demands_at o claims i e.shape ≡ flow.demands = sym are.demands in
-        let sure : (demands_at o claims i e.shape).certain ≡ true = ap (λ (x : Demands V). x.certain) known ∙ certain in
+        let edges = leads_on o claims story p i e.shape flow are (argument_sets o (globals_at claims p) i e.shape) e.routine (p + i.size) in
+        let known : demands_at o claims p i e.shape ≡ flow.demands = sym are.demands in
+        let sure : (demands_at o claims p i e.shape).certain ≡ true = ap (λ (x : Demands V). x.certain) known ∙ certain in
         subst (λ (r : Rule). IsTrue b ↔ Asks o claims story p e i r) (sym is) (λ t _ _ _ _. (sure, edges.0 (kept.0 t)), λ h. kept.1 (edges.1 (h (divides there) (reads there) (knows there) (begin begun)).1))
 
     -- where it isn't known how far a jump goes
-    pub uncertain_asked : (d g : Bool) → (IsTrue d → Divides o claims i e.shape) → (IsTrue d → Reads o claims story i e.shape) → (IsTrue d → KnowsAnswers o claims story i e.shape) → d ≡ true → (IsTrue g → CallsBegin o claims story i e.shape) → g ≡ true → flow.demands.certain ≡ false → IsTrue flow.demands.certain ↔ Asks o claims story p e i Successor
+    pub uncertain_asked : (d g : Bool) → (IsTrue d → Divides o claims p i e.shape) → (IsTrue d → Reads o claims p story i e.shape) → (IsTrue d → KnowsAnswers o claims p story i e.shape) → d ≡ true → (IsTrue g → CallsBegin o claims p story i e.shape) → g ≡ true → flow.demands.certain ≡ false → IsTrue flow.demands.certain ↔ Asks o claims story p e i Successor
     uncertain_asked d g divides reads knows there begin begun uncertain =
         (λ t. absurd (let u = uncertain in cc), λ h. subst (λ (x : Demands V). IsTrue x.certain) (sym are.demands) (h (divides there) (reads there) (knows there) (begin begun)).0)
 
     -- what is called
-    pub calls_asked : rule ≡ Called → IsTrue b ↔ CallsBegin o claims story i e.shape
+    pub calls_asked : rule ≡ Called → IsTrue b ↔ CallsBegin o claims p story i e.shape
     calls_asked is =
         let kept = as_is Called is in
-        let edges = called o claims story i e.shape flow are (argument_sets o claims.globals i e.shape) e.routine (p + i.size) in
+        let edges = called o claims story p i e.shape flow are (argument_sets o (globals_at claims p) i e.shape) e.routine (p + i.size) in
         (λ t. edges.0 (kept.0 t), λ h. kept.1 (edges.1 h))
 
     pub called_asked : rule ≡ Called → IsTrue b ↔ Asks o claims story p e i rule
@@ -92,19 +92,19 @@ module _ {V : Type 0} (o : SetOperations V) (claims : Claims V) (story : LoadedS
     pub returned_asked : rule ≡ Returned → IsTrue b ↔ Asks o claims story p e i rule
     returned_asked is =
         let kept = as_is Returned is in
-        let edges = returned o claims story i e.shape flow are (argument_sets o claims.globals i e.shape) e.routine (p + i.size) in
+        let edges = returned o claims story p i e.shape flow are (argument_sets o (globals_at claims p) i e.shape) e.routine (p + i.size) in
         subst (λ (r : Rule). IsTrue b ↔ Asks o claims story p e i r) (sym is) (λ t. edges.0 (kept.0 t), λ h. kept.1 (edges.1 h))
 
     pub stored_asked : rule ≡ Stored → IsTrue b ↔ Asks o claims story p e i rule
     stored_asked is =
         let kept = as_is Stored is in
-        let edges = stored o claims story i e.shape flow are (argument_sets o claims.globals i e.shape) e.routine (p + i.size) in
+        let edges = stored o claims story p i e.shape flow are (argument_sets o (globals_at claims p) i e.shape) e.routine (p + i.size) in
         subst (λ (r : Rule). IsTrue b ↔ Asks o claims story p e i r) (sym is) (λ t. edges.0 (kept.0 t), λ h. kept.1 (edges.1 h))
 
     pub high_asked : rule ≡ High → IsTrue b ↔ Asks o claims story p e i rule
     high_asked is =
         let kept = as_is High is in
-        let edges = high o claims story i e.shape flow are (argument_sets o claims.globals i e.shape) e.routine (p + i.size) in
+        let edges = high o claims story p i e.shape flow are (argument_sets o (globals_at claims p) i e.shape) e.routine (p + i.size) in
         subst (λ (r : Rule). IsTrue b ↔ Asks o claims story p e i r) (sym is) (λ t. edges.0 (kept.0 t), λ h. kept.1 (edges.1 h))
 
   -- what is asked of every instruction that is there is asked of this one

@@ -61,19 +61,19 @@ module _ {V : Type 0} (o : SetOperations V) where
 
 module _ {V : Type 0} (o : SetOperations V) (claims : Claims V) (routine v to : ℕ) (f : Shape V) where
   abbrev LeadsWith : V → Type 0
-  LeadsWith s = Leads o claims routine (with_result (Some s) v f) to
+  LeadsWith s = Leads o claims routine claims.globals (with_result (Some s) v f) to
 
   leads_stated : (s stated : V) → stated_for v (claims.entry to) ≡ Some stated → LeadsWith s → LeadsWith stated × Within o s stated
   leads_stated s stated is leads =
       let there : stated_for v (Some leads.entry) ≡ Some stated = subst (λ (e : Option (Entry V)). stated_for v e ≡ Some stated) leads.listed is in
       let covered = covered_stated o f.locals f.slots leads.entry.shape (v - 1) (v == 0) (nat_lt v 16) s stated there (leads.covered.locals, leads.covered.slots) in
-      (record { entry = leads.entry; listed = leads.listed; same = leads.same; covered = record { locals = covered.0.0; slots = covered.0.1 } }, covered.1)
+      (record { entry = leads.entry; listed = leads.listed; same = leads.same; covered = record { locals = covered.0.0; slots = covered.0.1 }; implied = leads.implied }, covered.1)
 
   leads_any : (s t : V) → stated_for v (claims.entry to) ≡ None → LeadsWith s → LeadsWith t
   leads_any s t is leads =
       let there : stated_for v (Some leads.entry) ≡ None = subst (λ (e : Option (Entry V)). stated_for v e ≡ None) leads.listed is in
       let covered = covered_past o f.locals f.slots leads.entry.shape (v - 1) (v == 0) (nat_lt v 16) s t there (leads.covered.locals, leads.covered.slots) in
-      record { entry = leads.entry; listed = leads.listed; same = leads.same; covered = record { locals = covered.0; slots = covered.1 } }
+      record { entry = leads.entry; listed = leads.listed; same = leads.same; covered = record { locals = covered.0; slots = covered.1 }; implied = leads.implied }
 
   abbrev IsCalled : V → Type 0
   IsCalled set = (w : ℕ) × In o set w × (0 < w)
@@ -90,7 +90,7 @@ module _ {V : Type 0} (o : SetOperations V) (claims : Claims V) (routine v to : 
 
   -- where a set is stated for it, it lies in that, and that leads on
   pub back_stated : (set stated : V) → stated_for v (claims.entry to) ≡ Some stated → IsCalled set → EachLeads set ↔ (LeadsWith stated × EachGiven set stated)
-  back_stated set stated is called = (there, λ h x inside some. leads_narrower o claims routine f v to _ stated (h.1 x inside some) h.0)
+  back_stated set stated is called = (there, λ h x inside some. leads_narrower o claims routine claims.globals f v to _ stated (h.1 x inside some) h.0)
     where
       there : EachLeads set → LeadsWith stated × EachGiven set stated
       there h = ((leads_stated _ stated is (h called.0 called.1 (above_none called.0 called.2))).0, λ x inside some. (leads_stated _ stated is (h x inside some)).1)

@@ -9,7 +9,7 @@ use Rattle.zdomain.specs.Domain.{SetOperations, In, Within}
 use Rattle.zstate.specs.Step.{words_from, initial, behind_head}
 use Rattle.zrule.specs.Claims.{Entry, Claims}
 use Rattle.zrule.specs.Edges.{IsNextAbove}
-use Rattle.zrule.specs.Rules.{Begins, Starts}
+use Rattle.zrule.specs.Rules.{AreImplied, Begins, Starts}
 
 module _ {V : Type 0} (o : SetOperations V) (claims : Claims V) where
   -- where no local is left, no word may be
@@ -56,23 +56,25 @@ module _ {V : Type 0} (o : SetOperations V) (claims : Claims V) where
 
   -- a routine at a place, of which the first instruction is this
   pub begins_where : (story : LoadedStory) (args : List V) (p index : ℕ) (first : Entry V) → claims.routine_at p ≡ Some index → claims.entry (behind_head story.memory p) ≡ Some first
-      → Begins o claims story args p ↔ ((first.routine ≡ suc index) × (first.shape.slots ≡ []) × Starts o claims args (initial story.memory p) first.shape.locals)
-  begins_where story args p index first routine listed = (there, λ h. record { index = index; routine = routine; entry = first; listed = listed; same = h.0; empty = h.1; starts = h.2 })
+      → Begins o claims story args p ↔ ((first.routine ≡ suc index) × (first.shape.slots ≡ []) × Starts o claims args (initial story.memory p) first.shape.locals × AreImplied o claims.globals (claims.facts (behind_head story.memory p)))
+  begins_where story args p index first routine listed = (there, λ h. record { index = index; routine = routine; entry = first; listed = listed; same = h.0; empty = h.1; starts = h.2; implied = h.3 })
     where
-      there : Begins o claims story args p → (first.routine ≡ suc index) × (first.shape.slots ≡ []) × Starts o claims args (initial story.memory p) first.shape.locals
+      there : Begins o claims story args p → (first.routine ≡ suc index) × (first.shape.slots ≡ []) × Starts o claims args (initial story.memory p) first.shape.locals × AreImplied o claims.globals (claims.facts (behind_head story.memory p))
       there begins =
           let same : begins.entry ≡ first = same_Some begins.entry first (sym begins.listed ∙ listed) in
           let number : begins.index ≡ index = same_Some begins.index index (sym begins.routine ∙ routine) in
-          (subst (λ (e : Entry V). e.routine ≡ suc index) same (begins.same ∙ ap (λ (k : ℕ). suc k) number), subst (λ (e : Entry V). e.shape.slots ≡ []) same begins.empty, subst (λ (e : Entry V). Starts o claims args (initial story.memory p) e.shape.locals) same begins.starts)
+          (subst (λ (e : Entry V). e.routine ≡ suc index) same (begins.same ∙ ap (λ (k : ℕ). suc k) number), subst (λ (e : Entry V). e.shape.slots ≡ []) same begins.empty, subst (λ (e : Entry V). Starts o claims args (initial story.memory p) e.shape.locals) same begins.starts, begins.implied)
 
   -- as the code reads its head, from a list that is the memory
   pub begins_by : (story : LoadedStory) (args : List V) (p index : ℕ) (first : Entry V) (memory : List ℕ) (count code : ℕ) → memory ≡ story.memory → count ≡ byte_at memory p → code ≡ p + 1 + 2 * count → claims.routine_at p ≡ Some index → claims.entry code ≡ Some first
-      → Begins o claims story args p ↔ (((first.routine ≡ suc index) × (first.shape.slots ≡ [])) × Starts o claims args (words_from memory (p + 1) count) first.shape.locals)
+      → Begins o claims story args p ↔ (((first.routine ≡ suc index) × (first.shape.slots ≡ [])) × Starts o claims args (words_from memory (p + 1) count) first.shape.locals × AreImplied o claims.globals (claims.facts code))
   begins_by story args p index first memory count code memory_is count_is code_is routine listed =
       let code_there : code ≡ behind_head story.memory p = rw (code_is, count_is, memory_is) refl in
       let told = begins_where story args p index first routine (subst (λ (n : ℕ). claims.entry n ≡ Some first) code_there listed) in
-      let words : words_from memory (p + 1) count ≡ initial story.memory p = rw (count_is, memory_is) refl in
-      (λ b. let parts = told.0 b in ((parts.0, parts.1), subst (λ (ws : List ℕ). Starts o claims args ws first.shape.locals) (sym words) parts.2), λ h. told.1 (h.0.0, h.0.1, subst (λ (ws : List ℕ). Starts o claims args ws first.shape.locals) words h.1))
+      let words : words_from memory (p + 1) count ≡ initial story.memory p = rw (count_is, memory_is) refl in (
+        λ b. let parts = told.0 b in ((parts.0, parts.1), subst (λ (ws : List ℕ). Starts o claims args ws first.shape.locals) (sym words) parts.2, subst (λ (n : ℕ). AreImplied o claims.globals (claims.facts n)) (sym code_there) parts.3),
+        λ h. told.1 (h.0.0, h.0.1, subst (λ (ws : List ℕ). Starts o claims args ws first.shape.locals) words h.1, subst (λ (n : ℕ). AreImplied o claims.globals (claims.facts n)) code_there h.2),
+      )
 
   pub begins_nowhere : (story : LoadedStory) (args : List V) (p : ℕ) → claims.routine_at p ≡ None → Begins o claims story args p → ⊥
   begins_nowhere story args p none begins = let routine = begins.routine in absurd cc

@@ -26,6 +26,7 @@ module _ {V : Type 0} (o : SetOperations V) (claims : Claims V) (story : LoadedS
     fits = record { in_locals = d.fits.in_locals; in_slots = d.fits.in_slots };
     callers = d.callers;
     memory = d.memory;
+    facts = d.facts;
   }
 
   -- an event that is given

@@ -20,13 +20,13 @@ use Rattle.zstate.proofs.Effects.{has_buffers, line_rewritten}
 use Rattle.zplace.specs.Bytes.{IsWithin, IsOpen}
 use Rattle.zruns.specs.Buffers.{IsParseBuffer, IsTextBuffer}
 use Rattle.zrule.specs.Claims.{Claims, frozen_in}
-use Rattle.zrule.specs.Rules.{SupportsWhere}
+use Rattle.zrule.specs.Rules.{HasDisjointTables}
 use Rattle.zrule.specs.Described.{DescribedMemory, IsLoadedStory}
 use Rattle.zrule.proofs.Standing.{prompting}
 use Rattle.zrule.proofs.Rewriting.{stored_described}
 use Rattle.zrule.proofs.Storing.{all_writable}
 
-module _ {V : Type 0} (o : SetOperations V) (lawful : AreSound o) (claims : Claims V) (story : LoadedStory) (loaded : IsLoadedStory story) {marked : ℕ → Bool} (supports : SupportsWhere o claims marked story) (memory : List ℕ) (d : DescribedMemory o claims story memory) (t p : ℕ) (text : IsTextBuffer story (frozen_in claims) t) (parse : IsParseBuffer story (frozen_in claims) p) where
+module _ {V : Type 0} (o : SetOperations V) (lawful : AreSound o) (claims : Claims V) (story : LoadedStory) (loaded : IsLoadedStory story) (tables : HasDisjointTables story (frozen_in claims)) (few : length claims.globals ≤ 240) (memory : List ℕ) (d : DescribedMemory o claims story memory) (t p : ℕ) (text : IsTextBuffer story (frozen_in claims) t) (parse : IsParseBuffer story (frozen_in claims) p) where
   -- the sizes are those that were judged
   text_same : byte_at memory t ≡ byte_at story.memory t
   text_same = d.fixed t text.fixed
@@ -75,17 +75,17 @@ module _ {V : Type 0} (o : SetOperations V) (lawful : AreSound o) (claims : Clai
 
   -- and with one, what is said of memory stays so
   pub line_described : (line : List ℕ) → AreBytes memory → HasTable memory story.objects → header.object_table memory ≡ object_table story → DescribedMemory o claims story (with_line story.memory t p line memory)
-  line_described line bytes has tables =
+  line_described line bytes has same =
       let stays = lines_stay story.memory memory line t p (has_buffers story t p memory whole large writable) in
       let rests : (q : ℕ) → (byte_at (with_line story.memory t p line memory) q ≡ byte_at memory q) ⊎ (InText q ⊎ InParse q) = λ q. (
       elim (beside (t + 1) (byte_at memory t) q) [
         | inr inside ↦ inr (inl inside)
         | inl outside ↦ elim (beside (p + 1) (1 + 4 * byte_at memory p) q) [ inr inside ↦ inr (inr inside) | inl clear ↦ inl (stays.same q outside clear) ]
       ]) in
-      stored_described o claims story supports.tables supports.few memory d has tables
+      stored_described o claims story tables few memory d has same
       (λ q. InText q ⊎ InParse q) (λ q is. elim is [ inl inside ↦ text_free q inside | inr inside ↦ parse_free q inside ])
       (with_line story.memory t p line memory) (record { size = stays.size; rest = rests })
-      ((line_rewritten story t p line memory loaded.sound whole bytes large writable).tables ∙ tables)
+      ((line_rewritten story t p line memory loaded.sound whole bytes large writable).tables ∙ same)
 
 -- a set of buffers has the one that is read
 pub buffer_read : {V : Type 0} (o : SetOperations V) → AreSound o → (set : V) (x : ℕ) (IsThere : ℕ → Type 0) → In o set x → MatchOption (o.known set) ⊥ IsThere → IsThere x

@@ -30,7 +30,7 @@ use Rattle.zrule.specs.Numbers.{number_of}
 use Rattle.zflow.specs.declared.parts.Lead.TheVariants.{Ahead}
 use Rattle.zflow.specs.declared.parts.Outcome.{Outcome}
 use Rattle.zflow.specs.Transfer.{Shape, below, demands_of, outcome_of, outcome_at, goes_on}
-use Rattle.zrule.specs.Claims.{Entry, Claims, claims_of, entry_of, frozen_in, told_of}
+use Rattle.zrule.specs.Claims.{Entry, Claims, claims_of, entry_of, frozen_in, told_of, globals_at}
 use Rattle.zplace.specs.Bytes.{IsWithin, IsChanging, IsAbbreviation, IsFixed, static}
 use Rattle.zruns.specs.Texts.{HasFixedText}
 use Rattle.zrule.specs.Rules.{Covers, HasFirstPlace, HasGlobals, HasDisjointTables, IsThere, Whatever, Leads, GoesOn, Asks, Keeps, IsLowestBroken, Supports}
@@ -136,7 +136,7 @@ at_bare place = record { address = place; routine = 0; is_marked = false; locals
 
 -- a certificate that lists so many places, and says that each global is 0
 unfoldable pub certificate_at : List ℕ → Certificate Interval
-certificate_at qs = record { identity = identity_of story; limit = None; marking = false; ranges = []; globals = replicate 240 (point 0); routines = []; instructions = map at_bare qs }
+certificate_at qs = record { identity = identity_of story; limit = None; marking = false; stating = false; ranges = []; globals = replicate 240 (point 0); routines = []; instructions = map at_bare qs; facts = [] }
 
 unfoldable pub claims_at : List ℕ → Claims Interval
 claims_at qs = claims_of interval_operations (certificate_at qs)
@@ -162,7 +162,7 @@ each_listed = each_among
 
 pub first_place : HasFirstPlace interval_operations claims story
 unfolding claims claims_at certificate_at at_bare bare_entry bare story memory
-first_place = record { entry = record { routine = 0; shape = record { locals = []; slots = [] } }; listed = refl; main = refl; no_locals = refl; no_slots = refl }
+first_place = record { entry = record { routine = 0; shape = record { locals = []; slots = [] } }; listed = refl; main = refl; no_locals = refl; no_slots = refl; implied = tt }
 
 -- not where nothing is listed there
 pub no_first_place : HasFirstPlace interval_operations (claims_at (803 ∷ [])) story → ⊥
@@ -214,17 +214,17 @@ same_ok : {A E : Type 0} (x y : A) → ◌≡◌ {A = Result A E} (Ok x) (Ok y) 
 same_ok x y e = cc
 
 -- whatever may come of an instruction, by the answer of its condition
-pub by_answers : (c : Claims Interval) (i : Instruction) (e : Shape Interval) (P : Outcome Interval → Type 0) → IfSome (outcome_at interval_operations c.globals i e (told_of c story) true) P → IfSome (outcome_at interval_operations c.globals i e (told_of c story) false) P → Whatever interval_operations c story i e P
-by_answers c i e P held failed w (true, comes) = subst (λ (x : Option (Outcome Interval)). IfSome x P) comes held
-by_answers c i e P held failed w (false, comes) = subst (λ (x : Option (Outcome Interval)). IfSome x P) comes failed
+pub by_answers : (c : Claims Interval) (p : ℕ) (i : Instruction) (e : Shape Interval) (P : Outcome Interval → Type 0) → IfSome (outcome_at interval_operations (globals_at c p) i e (told_of c story) true) P → IfSome (outcome_at interval_operations (globals_at c p) i e (told_of c story) false) P → Whatever interval_operations c p story i e P
+by_answers c p i e P held failed w (true, comes) = subst (λ (x : Option (Outcome Interval)). IfSome x P) comes held
+by_answers c p i e P held failed w (false, comes) = subst (λ (x : Option (Outcome Interval)). IfSome x P) comes failed
 
 -- what each rule asks of `print`
-asks_hello : (c : Claims Interval) → Leads interval_operations c 0 bare 803 → HasFixedText story (frozen_in c) 799 → (rule : Rule) → Asks interval_operations c story 798 bare_entry hello rule
+asks_hello : (c : Claims Interval) → Leads interval_operations c 0 (globals_at c 798) bare 803 → HasFixedText story (frozen_in c) 799 → (rule : Rule) → Asks interval_operations c story 798 bare_entry hello rule
 unfolding hello bare bare_entry operation_of demands_of outcome_of
 asks_hello c leads text rules.Decodes = tt
 asks_hello c leads text rules.Height = λ known. (omega arith, tt)
 asks_hello c leads text rules.Local = λ known. (tt, tt, tt)
-asks_hello c leads text rules.Successor = λ divides reads knows begins. (refl, by_answers c hello bare _ (λ low. (803, refl, leads)) tt)
+asks_hello c leads text rules.Successor = λ divides reads knows begins. (refl, by_answers c 798 hello bare _ (λ low. (803, refl, leads)) tt)
 asks_hello c leads text rules.Object = (tt, tt)
 asks_hello c leads text rules.Attribute = tt
 asks_hello c leads text rules.Property = tt
@@ -232,21 +232,21 @@ asks_hello c leads text rules.Divisor = tt
 asks_hello c leads text rules.Write = (tt, tt)
 asks_hello c leads text rules.Read = (tt, tt)
 asks_hello c leads text rules.Text = (text, tt, tt)
-asks_hello c leads text rules.Called = by_answers c hello bare _ tt tt
-asks_hello c leads text rules.Returned = by_answers c hello bare _ tt tt
+asks_hello c leads text rules.Called = by_answers c 798 hello bare _ tt tt
+asks_hello c leads text rules.Returned = by_answers c 798 hello bare _ tt tt
 asks_hello c leads text rules.Buffers = tt
 asks_hello c leads text rules.Known = tt
-asks_hello c leads text rules.Stored = by_answers c hello bare _ (tt, tt, tt) tt
-asks_hello c leads text rules.High = by_answers c hello bare _ (omega arith) tt
+asks_hello c leads text rules.Stored = by_answers c 798 hello bare _ (tt, tt, tt) tt
+asks_hello c leads text rules.High = by_answers c 798 hello bare _ (omega arith) tt
 asks_hello c leads text rules.Status = tt
 
 -- of `new_line`, which prints no text
-asks_line : (c : Claims Interval) → Leads interval_operations c 0 bare 804 → (rule : Rule) → Asks interval_operations c story 803 bare_entry line rule
+asks_line : (c : Claims Interval) → Leads interval_operations c 0 (globals_at c 803) bare 804 → (rule : Rule) → Asks interval_operations c story 803 bare_entry line rule
 unfolding line bare bare_entry operation_of demands_of outcome_of
 asks_line c leads rules.Decodes = tt
 asks_line c leads rules.Height = λ known. (omega arith, tt)
 asks_line c leads rules.Local = λ known. (tt, tt, tt)
-asks_line c leads rules.Successor = λ divides reads knows begins. (refl, by_answers c line bare _ (λ low. (804, refl, leads)) tt)
+asks_line c leads rules.Successor = λ divides reads knows begins. (refl, by_answers c 803 line bare _ (λ low. (804, refl, leads)) tt)
 asks_line c leads rules.Object = (tt, tt)
 asks_line c leads rules.Attribute = tt
 asks_line c leads rules.Property = tt
@@ -254,12 +254,12 @@ asks_line c leads rules.Divisor = tt
 asks_line c leads rules.Write = (tt, tt)
 asks_line c leads rules.Read = (tt, tt)
 asks_line c leads rules.Text = (tt, tt, tt)
-asks_line c leads rules.Called = by_answers c line bare _ tt tt
-asks_line c leads rules.Returned = by_answers c line bare _ tt tt
+asks_line c leads rules.Called = by_answers c 803 line bare _ tt tt
+asks_line c leads rules.Returned = by_answers c 803 line bare _ tt tt
 asks_line c leads rules.Buffers = tt
 asks_line c leads rules.Known = tt
-asks_line c leads rules.Stored = by_answers c line bare _ (tt, tt, tt) tt
-asks_line c leads rules.High = by_answers c line bare _ (omega arith) tt
+asks_line c leads rules.Stored = by_answers c 803 line bare _ (tt, tt, tt) tt
+asks_line c leads rules.High = by_answers c 803 line bare _ (omega arith) tt
 asks_line c leads rules.Status = tt
 
 -- and of `quit`, of which nothing comes
@@ -268,7 +268,7 @@ unfolding stop bare bare_entry operation_of demands_of outcome_of
 asks_stop c rules.Decodes = tt
 asks_stop c rules.Height = λ known. (omega arith, tt)
 asks_stop c rules.Local = λ known. (tt, tt, tt)
-asks_stop c rules.Successor = λ divides reads knows begins. (refl, by_answers c stop bare _ tt tt)
+asks_stop c rules.Successor = λ divides reads knows begins. (refl, by_answers c 804 stop bare _ tt tt)
 asks_stop c rules.Object = (tt, tt)
 asks_stop c rules.Attribute = tt
 asks_stop c rules.Property = tt
@@ -276,12 +276,12 @@ asks_stop c rules.Divisor = tt
 asks_stop c rules.Write = (tt, tt)
 asks_stop c rules.Read = (tt, tt)
 asks_stop c rules.Text = (tt, tt, tt)
-asks_stop c rules.Called = by_answers c stop bare _ tt tt
-asks_stop c rules.Returned = by_answers c stop bare _ tt tt
+asks_stop c rules.Called = by_answers c 804 stop bare _ tt tt
+asks_stop c rules.Returned = by_answers c 804 stop bare _ tt tt
 asks_stop c rules.Buffers = tt
 asks_stop c rules.Known = tt
-asks_stop c rules.Stored = by_answers c stop bare _ tt tt
-asks_stop c rules.High = by_answers c stop bare _ tt tt
+asks_stop c rules.Stored = by_answers c 804 stop bare _ tt tt
+asks_stop c rules.High = by_answers c 804 stop bare _ tt tt
 asks_stop c rules.Status = tt
 
 -- an instruction stands at a place of static memory
@@ -294,11 +294,11 @@ hello_stays : HasFixedText story (λ p. false) 799
 unfolding story memory
 hello_stays = record { text = 0x35 ∷ 0x51 ∷ 0xC6 ∷ 0x85 ∷ []; found = refl; fixed = λ p within. fixed p (omega (arith, within.0)) }
 
-leads_on : Leads interval_operations claims 0 bare 803 × Leads interval_operations claims 0 bare 804
+leads_on : Leads interval_operations claims 0 claims.globals bare 803 × Leads interval_operations claims 0 claims.globals bare 804
 unfolding claims claims_at certificate_at at_bare bare_entry bare
 leads_on =
     let bare_here : Entry Interval = record { routine = 0; shape = record { locals = []; slots = [] } } in
-    (record { entry = bare_here; listed = refl; same = refl; covered = record { locals = tt; slots = tt } }, record { entry = bare_here; listed = refl; same = refl; covered = record { locals = tt; slots = tt } })
+    (record { entry = bare_here; listed = refl; same = refl; covered = record { locals = tt; slots = tt }; implied = tt }, record { entry = bare_here; listed = refl; same = refl; covered = record { locals = tt; slots = tt }; implied = tt })
 
 pub first_keeps : (rule : Rule) → Keeps interval_operations claims story 798 bare_entry rule
 unfolding claims claims_at certificate_at
@@ -310,12 +310,12 @@ unfolding claims_at certificate_at at_bare bare_entry bare hello operation_of de
 alone = record {
   broken = λ keeps.
       let asks : Asks interval_operations (claims_at (798 ∷ [])) story 798 bare_entry hello rules.Successor = keeps hello (there_at 798 hello (omega arith) reads.0) in
-      let edge : GoesOn interval_operations (claims_at (798 ∷ [])) 0 0 bare 803 (Ahead (pos 0)) = (asks tt (tt, tt) tt (by_answers (claims_at (798 ∷ [])) hello bare _ tt tt)).1 goes_on (true, refl) (omega arith) in
+      let edge : GoesOn interval_operations (claims_at (798 ∷ [])) 0 0 (claims_at (798 ∷ [])).globals bare 803 (Ahead (pos 0)) = (asks tt (tt, tt) tt (by_answers (claims_at (798 ∷ [])) 798 hello bare _ tt tt)).1 goes_on (true, refl) (omega arith) in
       unlisted edge;
   before = before;
 }
   where
-    unlisted : GoesOn interval_operations (claims_at (798 ∷ [])) 0 0 bare 803 (Ahead (pos 0)) → ⊥
+    unlisted : GoesOn interval_operations (claims_at (798 ∷ [])) 0 0 (claims_at (798 ∷ [])).globals bare 803 (Ahead (pos 0)) → ⊥
     unlisted (to, same, leads) = let at : to ≡ 803 = cc in let listed = subst (λ (q : ℕ). (claims_at (798 ∷ [])).entry q ≡ Some leads.entry) at leads.listed in cc
 
     before : (other : Rule) → number_of other < 4 → Keeps interval_operations (claims_at (798 ∷ [])) story 798 bare_entry other
@@ -339,6 +339,7 @@ alone = record {
     before rules.Status less = absurd (omega (arith, less))
 
 pub rest_keep : ((rule : Rule) → Keeps interval_operations claims story 803 bare_entry rule) × ((rule : Rule) → Keeps interval_operations claims story 804 bare_entry rule)
+unfolding claims claims_at certificate_at
 rest_keep = (
   λ rule. (asks_keeps interval_operations claims story 803 bare_entry line (there_at 803 line (omega arith) reads.1) rule).0 (asks_line claims leads_on.1 rule),
   λ rule. (asks_keeps interval_operations claims story 804 bare_entry stop (there_at 804 stop (omega arith) reads.2) rule).0 (asks_stop claims rule),
@@ -428,14 +429,14 @@ not_covered = (λ covers. (covers.locals.0 5 (interval_sound.any 5 (omega arith)
 
 -- routine 1 gives 5, which its caller takes at 900 as its only slot
 calling : Claims Interval
-calling = record { ranges = []; globals = []; entry = λ p. if p == 900 then Some (record { routine = 0; shape = record { locals = []; slots = point 5 ∷ [] } }) else None; result = λ r. point 5; routine_at = λ p. None }
+calling = record { ranges = []; globals = []; entry = λ p. if p == 900 then Some (record { routine = 0; shape = record { locals = []; slots = point 5 ∷ [] } }) else None; facts = λ p. []; result = λ r. point 5; routine_at = λ p. None }
 
 caller : Frame
 caller = record { return_place = 0; result = 0; supplied = 0; locals = []; stack = [] }
 
 called : Callers interval_operations calling 1 900 0 (caller ∷ [])
 unfolding calling caller
-called = (omega arith, record { routine = 0; shape = record { locals = []; slots = point 5 ∷ [] } }, refl, λ x inside. record { in_locals = tt; in_slots = (inside, tt) }, refl)
+called = (omega arith, record { routine = 0; shape = record { locals = []; slots = point 5 ∷ [] } }, refl, λ x inside. record { in_locals = tt; in_slots = (inside, tt) }, tt, refl)
 
 -- not by the main code, nor where nothing is listed, nor where what is given goes elsewhere; and only the main code has no caller
 not_called : (Callers interval_operations calling 0 900 0 (caller ∷ []) → ⊥) × (Callers interval_operations calling 1 901 0 (caller ∷ []) → ⊥) × (Callers interval_operations calling 1 900 1 (caller ∷ []) → ⊥) × (Callers interval_operations calling 1 0 0 [] → ⊥)

@@ -14,8 +14,11 @@ mod Hearing
 mod Asking
 pub mod Sets
 mod Memory
+mod Told
+mod Implied
 mod Fitting
 mod Framed
+mod Assigned
 mod Settling
 mod Parts
 pub mod Stepping

@@ -24,7 +24,7 @@ use Rattle.zrule.proofs.Unchanged.{header_fixed}
 byte_other : (memory : List ℕ) (p x q : ℕ) → (q ≡ p → ⊥) → (q ≡ p + 1 → ⊥) → byte_at (write_word memory p x) q ≡ byte_at memory q
 byte_other memory p x q a b = get_or-set_other (slice_set memory p (x / 256)) (p + 1) q (x % 256) 0 b ∙ get_or-set_other memory p q (x / 256) 0 a
 
-word_other : (memory : List ℕ) (p x q : ℕ) → (q + 1 < p) ⊎ (p + 1 < q) → word_at (write_word memory p x) q ≡ word_at memory q
+pub word_other : (memory : List ℕ) (p x q : ℕ) → (q + 1 < p) ⊎ (p + 1 < q) → word_at (write_word memory p x) q ≡ word_at memory q
 word_other memory p x q (inl a) =
     let h = byte_other memory p x q (λ e. omega (arith, e, a)) (λ e. omega (arith, e, a)) in
     let l = byte_other memory p x (q + 1) (λ e. omega (arith, e, a)) (λ e. omega (arith, e, a)) in
@@ -34,7 +34,7 @@ word_other memory p x q (inr a) =
     let l = byte_other memory p x (q + 1) (λ e. omega (arith, e, a)) (λ e. omega (arith, e, a)) in
     rw (h, l) refl
 
-word_written : (memory : List ℕ) (p x : ℕ) → p + 1 < length memory → word_at (write_word memory p x) p ≡ x
+pub word_written : (memory : List ℕ) (p x : ℕ) → p + 1 < length memory → word_at (write_word memory p x) p ≡ x
 word_written memory p x within =
     let h : byte_at (write_word memory p x) p ≡ x / 256 = get_or-set_other (slice_set memory p (x / 256)) (p + 1) p (x % 256) 0 (λ e. omega (arith, e)) ∙ get_or-set_same memory p (x / 256) 0 (omega (arith, within)) in
     let l : byte_at (write_word memory p x) (p + 1) ≡ x % 256 = get_or-set_same (slice_set memory p (x / 256)) (p + 1) (x % 256) 0 (rw (length-set memory p (x / 256)) within) in

@@ -8,6 +8,7 @@ use Rattle.zstate.proofs.Opens.{opening_is_state}
 use Rattle.zrule.specs.Claims.{Claims}
 use Rattle.zrule.specs.Rules.{SupportsWhere}
 use Rattle.zrule.specs.Described.{Described, IsLoadedStory}
+use Rattle.zrule.proofs.Told.{implied_hold}
 
 pub opening_described : {V : Type 0} (o : SetOperations V) (claims : Claims V) (story : LoadedStory) (limit : ℕ) → IsLoadedStory story → {marked : ℕ → Bool} → SupportsWhere o claims marked story → Described o claims limit story (opening story)
 opening_described o claims story limit loaded {marked} supports =
@@ -24,4 +25,5 @@ opening_described o claims story limit loaded {marked} supports =
       };
       callers = first.main;
       memory = record { long = refl; values = supports.values; tree = supports.tree; fixed = λ p h. refl };
+      facts = implied_hold o story claims.globals (claims.facts (first_instruction story)) story.memory supports.values first.implied;
     }

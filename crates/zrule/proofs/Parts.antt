@@ -12,7 +12,7 @@ use Rattle.zstate.specs.State.{State, global, read_named, read_in_place}
 use Rattle.zflow.specs.declared.parts.Kept.{Kept}
 use Rattle.zflow.specs.Transfer.{Shape, variable_set, small, narrowed, narrowed_by, with_local}
 use Rattle.zrule.specs.Claims.{Claims}
-use Rattle.zrule.specs.Rules.{HasGlobals, IsVariable, HasTop}
+use Rattle.zrule.specs.Rules.{LieIn, IsVariable, HasTop}
 use Rattle.zrule.specs.Described.{Fits}
 use Rattle.zrule.proofs.Sets.{zip_get, there, some_at}
 
@@ -70,12 +70,12 @@ module _ {V : Type 0} (o : SetOperations V) (lawful : AreSound o) where
     one_or_more (suc v) e = omega arith
 
     -- what a variable has that is there
-    pub variable_there : (story : LoadedStory) (v : ℕ) (e : Shape V) (s : State) → nat_lt v 256 ≡ true → Fits o claims e s.frame.locals s.frame.stack → HasGlobals o claims story s.memory → HasTop o claims e v → IsVariable o claims e v → (x : ℕ) × (read_in_place story v s ≡ Ok x) × In o (variable_set o claims.globals v e) x
+    pub variable_there : (sets : List V) → length sets ≡ length claims.globals → (story : LoadedStory) (v : ℕ) (e : Shape V) (s : State) → nat_lt v 256 ≡ true → Fits o claims e s.frame.locals s.frame.stack → LieIn o sets story s.memory → HasTop o claims e v → IsVariable o claims e v → (x : ℕ) × (read_in_place story v s ≡ Ok x) × In o (variable_set o sets v e) x
     unfolding read_in_place read_named
-    variable_there story v e s small_one fits globals top exists = by_kind (v == 0) (nat_lt v 16) refl refl top exists
+    variable_there sets same_count story v e s small_one fits globals top exists = by_kind (v == 0) (nat_lt v 16) refl refl top exists
       where
         by_kind : (b c : Bool) → (v == 0) ≡ b → nat_lt v 16 ≡ c → MatchBool b (0 < length e.slots) (Unit {0}) → MatchBool b (Unit {0}) (MatchBool c (v ≤ length e.locals) ((v < 256) × (v - 16 < length claims.globals)))
-            → (x : ℕ) × (read_in_place story v s ≡ Ok x) × In o (variable_set o claims.globals v e) x
+            → (x : ℕ) × (read_in_place story v s ≡ Ok x) × In o (variable_set o sets v e) x
         by_kind true c is kind top exists =
             let t = top_of e.slots s.frame.stack fits.in_slots top in
             (t.0, rw (small_one, is, t.1) refl, rw is t.2)
@@ -84,8 +84,8 @@ module _ {V : Type 0} (o : SetOperations V) (lawful : AreSound o) where
             let z = zip_get (In o) e.locals s.frame.locals fits.in_locals (v - 1) (omega (arith, exists, least)) in
             (z.1, rw (small_one, is, kind, z.3) refl, rw (is, kind) (there o lawful claims story e.locals (v - 1) o.any z.0 z.1 z.2 z.4))
         by_kind false false is kind top exists =
-            let g = some_at claims.globals (v - 16) exists.1 in
-            (word_at s.memory (global story v), rw (small_one, is, kind) refl, rw (is, kind) (there o lawful claims story claims.globals (v - 16) o.any g.0 (word_at s.memory (global story v)) g.1 (globals (v - 16) g.0 g.1)))
+            let g = some_at sets (v - 16) (rw same_count exists.1) in
+            (word_at s.memory (global story v), rw (small_one, is, kind) refl, rw (is, kind) (there o lawful claims story sets (v - 16) o.any g.0 (word_at s.memory (global story v)) g.1 (globals (v - 16) g.0 g.1)))
 
     -- the number is one of a variable
     pub small_is : (k : Option ℕ) → IsTrue (is_some (small k)) → (v : ℕ) × (k ≡ Some v) × (small k ≡ Some v) × (nat_lt v 256 ≡ true)

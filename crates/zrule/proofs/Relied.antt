@@ -14,7 +14,7 @@ use Rattle.zstate.proofs.Steps.{bind_ok, ok_is}
 use Rattle.zflow.specs.declared.parts.Outcome.{Outcome}
 use Rattle.zflow.specs.Transfer.{Shape, pops, slots_with, leading, demands_of, read_set, argument_sets, enters_in}
 use Rattle.zrule.specs.declared.rule.Rule.TheVariants as rules
-use Rattle.zrule.specs.Claims.{Claims}
+use Rattle.zrule.specs.Claims.{Claims, globals_at}
 use Rattle.zrule.specs.Rules.{Begins, IsThere, SupportsWhere, comes_back}
 use Rattle.zrule.specs.Described.{Described, IsListedWhere, IsLoadedStory}
 use Rattle.zrule.proofs.Sets.{ReadsAll, zip_length}
@@ -29,12 +29,12 @@ module _ {V : Type 0} (o : SetOperations V) (lawful : AreSound o) (claims : Clai
   operands = inputs i
 
   abbrev args : ℕ → V
-  args = read_set o claims.globals i d.entry.shape
+  args = read_set o (globals_at claims d.at) i d.entry.shape
 
   abbrev given_args : List V
-  given_args = argument_sets o claims.globals i d.entry.shape
+  given_args = argument_sets o (globals_at claims d.at) i d.entry.shape
 
-  abbrev all_there : ReadsAll o claims m.story operands d.entry.shape s
+  abbrev all_there : ReadsAll o (globals_at claims d.at) m.story operands d.entry.shape s
   all_there = all o lawful claims m loaded supports listed s d plain i there
 
   -- where a first operand can have but one value, it has that
@@ -114,7 +114,7 @@ module _ {V : Type 0} (o : SetOperations V) (lawful : AreSound o) (claims : Clai
   reads_it = fetches o lawful claims m loaded supports listed s d plain i there
 
   -- a jump goes as far as is known
-  pub jumps_known : operation_of i.opcode ≡ Jump → (values : List ℕ) (u : State) → read_operands m.story (inputs i) s ≡ Ok (values, u) → o.known (read_set o claims.globals i d.entry.shape 0) ≡ Some (arg values 0)
+  pub jumps_known : operation_of i.opcode ≡ Jump → (values : List ℕ) (u : State) → read_operands m.story (inputs i) s ≡ Ok (values, u) → o.known (read_set o (globals_at claims d.at) i d.entry.shape 0) ≡ Some (arg values 0)
   jumps_known = jumps_as_known o lawful claims m loaded supports listed s d plain i there
 
   -- its stack is low
@@ -122,7 +122,7 @@ module _ {V : Type 0} (o : SetOperations V) (lawful : AreSound o) (claims : Clai
   stack_low = low o lawful claims m loaded supports listed s d plain i there
 
   -- what it calls is a routine that begins as is said
-  pub calls_begin : operation_of i.opcode ≡ Call → (values : List ℕ) (u : State) → read_operands m.story (inputs i) s ≡ Ok (values, u) → (arg values 0 == 0) ≡ false → Begins o claims m.story (argument_sets o claims.globals i d.entry.shape) (unpacked (arg values 0))
+  pub calls_begin : operation_of i.opcode ≡ Call → (values : List ℕ) (u : State) → read_operands m.story (inputs i) s ≡ Ok (values, u) → (arg values 0 == 0) ≡ false → Begins o claims m.story (argument_sets o (globals_at claims d.at) i d.entry.shape) (unpacked (arg values 0))
   calls_begin = called_as_said o lawful claims m loaded supports listed s d plain i there
 
   -- with what it gives, its stack is low

@@ -1,5 +1,5 @@
 -- A story that begins anew, and a memory in which the two bits stay that no restart and no save changes.
-use Rattle.std.proofs.Common.{◌≡◌, ◌≢◌, ◌⊎◌, inl, inr, ℕ, ◌+◌, ◌*◌, ◌/◌, ◌%◌, ◌≤◌, Bool, false, List, length, Option, None, ap, ◌∙◌, arith}
+use Rattle.std.proofs.Common.{◌≡◌, ◌≢◌, ◌⊎◌, inl, inr, ℕ, ◌+◌, ◌*◌, ◌/◌, ◌%◌, ◌≤◌, Bool, false, List, [], ◌∷◌, length, Option, None, refl, ap, ◌∙◌, arith}
 use Rattle.std.proofs.lemmas.Bool.Decides.{eqb_tells}
 use Rattle.std.proofs.lemmas.List.{length-set, get_or-set_other, get_or-set_same}
 use Rattle.zfault.specs.declared.event.Event.{Event}
@@ -8,12 +8,14 @@ use Rattle.zstory.specs.Header as header
 use Rattle.zstory.specs.LoadedStory.{LoadedStory, globals, object_table}
 use Rattle.zobj.specs.Entries.{HasTable}
 use Rattle.zobj.specs.Kept.{DiffersOnly}
-use Rattle.zdomain.specs.Domain.{SetOperations}
+use Rattle.std.specs.List.{AllByRecursion}
+use Rattle.zdomain.specs.Domain.{SetOperations, In}
 use Rattle.zplace.specs.Bytes.{IsFixed, IsObjectState, IsWithin}
 use Rattle.zstate.specs.declared.mode.RandomMode.{RandomMode}
 use Rattle.zstate.specs.State.{IsCount, IsState, State, keeping_flags, opening, restarted}
 use Rattle.zrule.specs.Claims.{Claims, frozen_in}
-use Rattle.zrule.specs.Rules.{SupportsWhere}
+use Rattle.zcert.specs.declared.parts.Fact.{Fact}
+use Rattle.zrule.specs.Rules.{SupportsWhere, global_in}
 use Rattle.zrule.specs.Described.{Described, DescribedMemory, IsLoadedStory}
 use Rattle.zrule.proofs.Given.{described_aside}
 use Rattle.zrule.proofs.Opening.{opening_described}
@@ -76,8 +78,20 @@ module _ {V : Type 0} (o : SetOperations V) (claims : Claims V) (story : LoadedS
     listed = d.listed;
     fits = record { in_locals = d.fits.in_locals; in_slots = d.fits.in_slots };
     callers = d.callers;
+    facts = facts_same (claims.facts d.at) d.facts;
     memory = flags_stay now s.memory d.is_state.objects d.is_state.tables d.memory;
   }
+    where
+      word_same : (k : ℕ) → global_in story (keeping_flags now s.memory) k ≡ global_in story s.memory k
+      word_same k =
+          let above = loaded.sound.globals_above in
+          let high = other now s.memory (globals story + 2 * k) (λ e. omega (arith, e, above)) in
+          let low = other now s.memory (globals story + 2 * k + 1) (λ e. omega (arith, e, above)) in
+          rw (high, low) refl
+
+      facts_same : (fs : List (Fact V)) → AllByRecursion (λ (f : Fact V). In o f.values (global_in story s.memory f.global)) fs → AllByRecursion (λ (f : Fact V). In o f.values (global_in story (keeping_flags now s.memory) f.global)) fs
+      facts_same [] hold = tt
+      facts_same (f ∷ fs) hold = (rw (word_same f.global) hold.0, facts_same fs hold.1)
 
   -- and with all that isn't described as it is elsewhere: so play goes on from a save
   pub elsewhere_described : (limit : ℕ) (now : List ℕ) (s : State) (mode : RandomMode) (prompted : Bool) (waiting : Option Event) → IsCount mode → Described o claims limit story s → Described o claims limit story (record s { memory = keeping_flags now s.memory; random = mode; prompted = prompted; waiting = waiting })

@@ -50,10 +50,10 @@ use Rattle.zflow.specs.declared.parts.Outcome.{Outcome}
 use Rattle.zflow.specs.declared.parts.Demands.{Demands}
 use Rattle.zpairs.specs.Pairs.{HaveOpenData}
 use Rattle.zplace.specs.Bytes.{IsOpen}
-use Rattle.zflow.specs.Transfer.{Shape, drawn_set, pops, variable_set, small, is_local, local_kept, operand_kept, both_kept, untold, counted_set, demands_of, goes_on, gives_in, assigns_in, asks, counts_in, follows_in, returns_in, enters_in, argument_sets, jumps, outcome_of, leading, named_with, with_result, with_assigned, narrowed, read_set, mid_shape, changed_by, after}
+use Rattle.zflow.specs.Transfer.{Shape, drawn_set, pops, variable_set, small, is_local, local_kept, operand_kept, operand_global, both_kept, globals_with, globals_named, globals_after, untold, counted_set, demands_of, goes_on, gives_in, assigns_in, asks, counts_in, follows_in, returns_in, enters_in, argument_sets, jumps, outcome_of, leading, named_with, with_result, with_assigned, narrowed, read_set, mid_shape, changed_by, after}
 use Rattle.zrule.specs.declared.rule.Rule.TheVariants as rules
-use Rattle.zrule.specs.Claims.{Claims, frozen_in, told_of}
-use Rattle.zrule.specs.Rules.{Begins, Enters, TakesBack, HasLineObject, IsThere, IsKnown, IsNamed, IsVariable, HasTop, SupportsWhere, Takes, TakesInPlace, GoesOn, Returns, OnEdge, Whatever, IsLow, demands_at, AreObjects, NamesObject, Finds, FindsProperty, FillsOpen, AreRead, AreWritten, KnowsAnswers}
+use Rattle.zrule.specs.Claims.{Claims, frozen_in, told_of, globals_at}
+use Rattle.zrule.specs.Rules.{LieIn, Begins, Enters, TakesBack, HasLineObject, IsThere, IsKnown, IsNamed, IsVariable, HasTop, SupportsWhere, Takes, TakesInPlace, GoesOn, Returns, OnEdge, Whatever, IsLow, demands_at, AreObjects, NamesObject, Finds, FindsProperty, FillsOpen, AreRead, AreWritten, KnowsAnswers}
 use Rattle.zrule.specs.Described.{Described, DescribedMemory, Fits, IsSafe, IsListedWhere, IsLoadedStory}
 use Rattle.zrule.proofs.Sets.{ReadsAll, reads_all, fits_popped, zip_set, zip_length}
 use Rattle.zrule.proofs.Printing.{line_shown, name_known, text_printed}
@@ -71,9 +71,11 @@ use Rattle.zfault.specs.declared.event.Event.{Event}
 use Rattle.zfault.specs.declared.event.Event.TheVariants as events
 use Rattle.zfault.specs.declared.pause.Need.{Need}
 use Rattle.zfault.specs.declared.pause.Need.TheVariants as needs
-use Rattle.zrule.proofs.Framed.{FitsFrame, in_place_fits, result_fits}
+use Rattle.zrule.proofs.Framed.{FitsFrame}
+use Rattle.zrule.proofs.Assigned.{AssignedIn, lie_rewritten, lie_assigned, lie_given, fits_assigned, fits_given}
 use Rattle.zrule.proofs.Fitting.{IsIn, exists_in, named_in, length_with, Mid, GivenIn, stored_mid}
 use Rattle.zrule.proofs.Memory.{global_put}
+use Rattle.zrule.proofs.Told.{HoldsGlobal, HoldGlobals, global_holds, length_with_facts, lie_facts, lie_after, lie_spent}
 use Rattle.zrule.proofs.Parts.{Hold, HoldsOne, narrowed_fits, variable_there, small_is}
 use Rattle.zrule.proofs.Stepping.{fetch_is, done_at, made_by, step_is}
 use Rattle.zrule.proofs.Pieces.{between_small, known_wherever, not_below_one, not_none, not_zero, object_known, on_true, two_asked, first_there, assigned_local, length_assigned, edge_of, defined_where, kept_holds}
@@ -85,34 +87,54 @@ module _ {V : Type 0} (o : SetOperations V) (lawful : AreSound o) (claims : Clai
   abbrev operands : List Operand
   operands = inputs i
 
+  -- the sets that the globals have there
+  abbrev pub known_globals : List V
+  known_globals = globals_at claims d.at
+
+  same_globals : length known_globals ≡ length claims.globals
+  same_globals = length_with_facts claims.globals (claims.facts d.at)
+
+  lie_before : LieIn o known_globals m.story s.memory
+  lie_before = lie_facts o m.story claims.globals (claims.facts d.at) s.memory d.memory.values d.facts
+
+  -- what is said of memory holds with those sets too
+  abbrev here : Claims V
+  here = record claims { globals = known_globals }
+
+  here_described : DescribedMemory o here m.story s.memory
+  here_described = record { long = d.memory.long; values = lie_before; tree = d.memory.tree; fixed = d.memory.fixed }
+
+  few_here : length here.globals ≤ 240
+  few_here = let few = supports.few in omega (arith, few, same_globals)
+
   abbrev mid : Shape V
-  mid = mid_shape o claims.globals i d.entry.shape
+  mid = mid_shape o known_globals i d.entry.shape
 
   abbrev args : ℕ → V
-  args = read_set o claims.globals i d.entry.shape
+  args = read_set o known_globals i d.entry.shape
 
   abbrev t : State
   t = popped (pops operands) s
 
   -- what may come of an operation there, where its condition is answered so
   abbrev pub ComesOf : Operation → Outcome V → Type 0
-  ComesOf k w = (c : Bool) × (outcome_of o claims.globals (told_of claims m.story) k operands args mid c ≡ Some w)
+  ComesOf k w = (c : Bool) × (outcome_of o known_globals (told_of claims m.story) k operands args mid c ≡ Some w)
 
   -- a state in mid-instruction, of which this is known
   abbrev Known_in : Shape V → State → Type 0
   Known_in e u = Mid o claims m.story loaded supports.tables d.entry.routine e u
 
-  rule_known : IsKnown o claims i d.entry.shape
+  rule_known : IsKnown o claims d.at i d.entry.shape
   rule_known = supports.each d.at d.entry d.listed plain rules.Known i there
 
-  height : (pops operands ≤ length d.entry.shape.slots) × IfSome (demands_at o claims i d.entry.shape).variable (HasTop o claims mid)
+  height : (pops operands ≤ length d.entry.shape.slots) × IfSome (demands_at o claims d.at i d.entry.shape).variable (HasTop o claims mid)
   height = supports.each d.at d.entry d.listed plain rules.Height i there rule_known
 
-  local : AllByRecursion (IsNamed o claims d.entry.shape) operands × IsVariable o claims d.entry.shape (target i) × IfSome (demands_at o claims i d.entry.shape).variable (IsVariable o claims d.entry.shape)
+  local : AllByRecursion (IsNamed o claims d.entry.shape) operands × IsVariable o claims d.entry.shape (target i) × IfSome (demands_at o claims d.at i d.entry.shape).variable (IsVariable o claims d.entry.shape)
   local = supports.each d.at d.entry d.listed plain rules.Local i there rule_known
 
-  pub all : ReadsAll o claims m.story operands d.entry.shape s
-  all = reads_all o lawful claims m.story operands d.entry.shape s d.fits d.memory.values height.0 local.0
+  pub all : ReadsAll o known_globals m.story operands d.entry.shape s
+  all = reads_all o lawful claims m.story known_globals same_globals operands d.entry.shape s d.fits lie_before height.0 local.0
 
   mid_fits : Fits o claims mid t.frame.locals t.frame.stack
   mid_fits = fits_popped o lawful claims m.story (pops operands) d.entry.shape s d.fits
@@ -144,17 +166,17 @@ module _ {V : Type 0} (o : SetOperations V) (lawful : AreSound o) (claims : Clai
     buffers : IfSome out.buffers (λ b. AreBuffers o m.story (frozen_in claims) b.texts b.parses)
 
   -- what get_prop and get_prop_addr give is known, since what they ask for is found
-  answers_known : KnowsAnswers o claims m.story i d.entry.shape
-  answers_known = known_wherever (demands_at o claims i d.entry.shape).property (NamesObject o claims m.story i d.entry.shape × FindsProperty o claims m.story i d.entry.shape) (supports.each d.at d.entry d.listed plain rules.Object i there, supports.each d.at d.entry d.listed plain rules.Property i there)
+  answers_known : KnowsAnswers o claims d.at m.story i d.entry.shape
+  answers_known = known_wherever (demands_at o claims d.at i d.entry.shape).property (NamesObject o claims d.at m.story i d.entry.shape × FindsProperty o claims d.at m.story i d.entry.shape) (supports.each d.at d.entry d.listed plain rules.Object i there, supports.each d.at d.entry d.listed plain rules.Property i there)
 
-  abbrev successor : IsTrue (demands_at o claims i d.entry.shape).certain × Whatever o claims m.story i d.entry.shape (λ w. IsLow o claims i d.entry.shape w → OnEdge o claims w i d.entry.shape (λ f. GoesOn o claims d.entry.routine (target i) f (d.at + i.size) (leading o w i.branch)))
+  abbrev successor : IsTrue (demands_at o claims d.at i d.entry.shape).certain × Whatever o claims d.at m.story i d.entry.shape (λ w. IsLow o claims d.at i d.entry.shape w → OnEdge o claims d.at w i d.entry.shape (λ f. GoesOn o claims d.entry.routine (target i) (globals_after known_globals (target i) w) f (d.at + i.size) (leading o w i.branch)))
   successor = supports.each d.at d.entry d.listed plain rules.Successor i there (supports.each d.at d.entry d.listed plain rules.Divisor i there) (supports.each d.at d.entry d.listed plain rules.Read i there) answers_known (supports.each d.at d.entry d.listed plain rules.Called i there)
 
   pub asked : Asked (demands_of o (operation_of i.opcode) args)
   asked = record {
     top = height.1;
     exists = local.2;
-    known = on_true (demands_at o claims i d.entry.shape).indirect _ _ rule_known (first_there o claims operands d.entry.shape height.0 local.0);
+    known = on_true (demands_at o claims d.at i d.entry.shape).indirect _ _ rule_known (first_there o claims operands d.entry.shape height.0 local.0);
     divides = supports.each d.at d.entry d.listed plain rules.Divisor i there;
     object = supports.each d.at d.entry d.listed plain rules.Object i there;
     attribute = supports.each d.at d.entry d.listed plain rules.Attribute i there;
@@ -171,24 +193,19 @@ module _ {V : Type 0} (o : SetOperations V) (lawful : AreSound o) (claims : Clai
   }
 
   abbrev given_args : List V
-  given_args = argument_sets o claims.globals i d.entry.shape
+  given_args = argument_sets o known_globals i d.entry.shape
 
   -- ---- what an effect has to be for an outcome, part by part
-
-  AssignedIn : Option (ℕ × V) → Option (ℕ × ℕ) → Type 0
-  AssignedIn None None = Unit {0}
-  AssignedIn None (Some p) = ⊥
-  AssignedIn (Some a) None = ⊥
-  AssignedIn (Some a) (Some p) = (p.0 ≡ a.0) × In o a.1 p.1 × IsVariable o claims d.entry.shape a.0
 
   -- an effect has the parts of an outcome
   pub record Matches (w : Outcome V) (effect : Effect) : Type 0 where
     gives : GivenIn o claims m.story loaded supports.tables w.gives effect.gives
-    assigns : AssignedIn w.assigns effect.assigns
-    memory : IfSome effect.memory (DescribedMemory o claims m.story)
+    assigns : AssignedIn o claims d.entry.shape w.assigns effect.assigns
+    memory : IfSome effect.memory (λ after. DescribedMemory o claims m.story after × LieIn o known_globals m.story after)
     tests : effect.tests ≡ w.tests
     leads : LeadsIn o lawful claims m loaded supports s d i w.leads effect.moves
     kept : Hold o lawful w.kept (changed m.story i effect t).frame.locals
+    told : HoldGlobals o m.story w.kept (changed m.story i effect t).memory
     -- it needs no event, the machine goes on, all is done at once, and nothing begins anew
     pub needs : effect.needs ≡ None
     pub goes : effect.quits ≡ false
@@ -208,17 +225,17 @@ module _ {V : Type 0} (o : SetOperations V) (lawful : AreSound o) (claims : Clai
     variable : small (o.known (args 0)) ≡ Some v
     old : ℕ
     reads : read_in_place m.story (arg all.values 0) t ≡ Ok old
-    member : In o (variable_set o claims.globals v mid) old
+    member : In o (variable_set o known_globals v mid) old
     exists : IsVariable o claims d.entry.shape v
 
   in_place : IsTrue (is_some (small (o.known (args 0)))) → IfSome (small (o.known (args 0))) (HasTop o claims mid) → IfSome (small (o.known (args 0))) (IsVariable o claims d.entry.shape) → InPlace
   in_place known top exists =
       let k = small_is o lawful claims (o.known (args 0)) known in
       let named : arg all.values 0 ≡ k.0 = lawful.known (args 0) k.0 (arg all.values 0) k.1 (all.members 0) in
-      let here : IsVariable o claims d.entry.shape k.0 = subst (λ (x : Option ℕ). IfSome x (IsVariable o claims d.entry.shape)) k.2 exists in
+      let exists_here : IsVariable o claims d.entry.shape k.0 = subst (λ (x : Option ℕ). IfSome x (IsVariable o claims d.entry.shape)) k.2 exists in
       let above : HasTop o claims mid k.0 = subst (λ (x : Option ℕ). IfSome x (HasTop o claims mid)) k.2 top in
-      let r = variable_there o lawful claims m.story k.0 mid t k.3 mid_fits d.memory.values above here in
-      record { v = k.0; named = named; variable = k.2; old = r.0; reads = subst (λ (n : ℕ). read_in_place m.story n t ≡ Ok r.0) (sym named) r.1; member = r.2; exists = here }
+      let r = variable_there o lawful claims known_globals same_globals m.story k.0 mid t k.3 mid_fits lie_before above exists_here in
+      record { v = k.0; named = named; variable = k.2; old = r.0; reads = subst (λ (n : ℕ). read_in_place m.story n t ≡ Ok r.0) (sym named) r.1; member = r.2; exists = exists_here }
 
   -- ---- what a branch says
 
@@ -230,12 +247,20 @@ module _ {V : Type 0} (o : SetOperations V) (lawful : AreSound o) (claims : Clai
       by_operand (Some (Constant n)) e = tt
       by_operand (Some (Variable v)) e = kept_holds o lawful v a s.frame.locals (λ least few. subst (λ (n : ℕ). In o a n) (all.locals k v e least few) member)
 
-  compared_holds : (q : Question) (c : Bool) → holds q (arg all.values 0) (arg all.values 1) ≡ c → MatchOption (o.narrow q c (args 0) (args 1)) ⊥ (λ p. Hold o lawful (both_kept operands p) s.frame.locals)
+  operand_told : (k : ℕ) (a : V) → In o a (arg all.values k) → HoldsGlobal o m.story (operand_global (slice_get operands k) a) s.memory
+  operand_told k a member = by_operand (slice_get operands k) refl
+    where
+      by_operand : (x : Option Operand) → slice_get operands k ≡ x → HoldsGlobal o m.story (operand_global x a) s.memory
+      by_operand None e = tt
+      by_operand (Some (Constant n)) e = tt
+      by_operand (Some (Variable v)) e = global_holds o m.story v a s.memory (λ high. subst (λ (n : ℕ). In o a n) (all.words k v e high) member)
+
+  compared_holds : (q : Question) (c : Bool) → holds q (arg all.values 0) (arg all.values 1) ≡ c → MatchOption (o.narrow q c (args 0) (args 1)) ⊥ (λ p. Hold o lawful (both_kept operands p) s.frame.locals × HoldGlobals o m.story (both_kept operands p) s.memory)
   compared_holds q c is = by_narrowed (o.narrow q c (args 0) (args 1)) (lawful.narrow q c (args 0) (args 1) (arg all.values 0) (arg all.values 1) (all.members 0) (all.members 1) is)
     where
-      by_narrowed : (p : Option (V × V)) → MatchOption p ⊥ (λ p. In o p.0 (arg all.values 0) × In o p.1 (arg all.values 1)) → MatchOption p ⊥ (λ p. Hold o lawful (both_kept operands p) s.frame.locals)
+      by_narrowed : (p : Option (V × V)) → MatchOption p ⊥ (λ p. In o p.0 (arg all.values 0) × In o p.1 (arg all.values 1)) → MatchOption p ⊥ (λ p. Hold o lawful (both_kept operands p) s.frame.locals × HoldGlobals o m.story (both_kept operands p) s.memory)
       by_narrowed None h = absurd h
-      by_narrowed (Some p) h = (operand_holds 0 p.0 h.0, operand_holds 1 p.1 h.1)
+      by_narrowed (Some p) h = ((operand_holds 0 p.0 h.0, operand_holds 1 p.1 h.1), (operand_told 0 p.0 h.0, operand_told 1 p.1 h.1))
 
   -- the local that was counted
   counted_local : (v new : ℕ) (a : V) (u : State) → length u.frame.locals ≡ length d.entry.shape.locals → IsVariable o claims d.entry.shape v → In o a new → HoldsOne o lawful (local_kept v a) (put_in_place m.story v new u).frame.locals
@@ -251,19 +276,19 @@ module _ {V : Type 0} (o : SetOperations V) (lawful : AreSound o) (claims : Clai
   -- what prints, or does nothing, and goes on
   goes_expected : (k : Operation) (bytes : List ℕ) → ComesOf k goes_on → Expected k (Ok (printing bytes))
   unfolding Expected LeadsIn AssignedIn changed
-  goes_expected k bytes comes = inr (goes_on, comes, record { gives = tt; assigns = tt; tests = refl; leads = refl; kept = (tt, tt); memory = tt; needs = refl; goes = refl; acts = refl; stays = refl })
+  goes_expected k bytes comes = inr (goes_on, comes, record { gives = tt; assigns = tt; tests = refl; leads = refl; kept = (tt, tt); told = (tt, tt); memory = tt; needs = refl; goes = refl; acts = refl; stays = refl })
 
   gives_expected : (k : Operation) (a : V) (x : ℕ) → ComesOf k (gives_in a) → In o a x → Expected k (Ok (giving x))
   unfolding Expected LeadsIn AssignedIn changed
-  gives_expected k a x comes member = inr (gives_in a, comes, record { gives = member; assigns = tt; tests = refl; leads = refl; kept = (tt, tt); memory = tt; needs = refl; goes = refl; acts = refl; stays = refl })
+  gives_expected k a x comes member = inr (gives_in a, comes, record { gives = member; assigns = tt; tests = refl; leads = refl; kept = (tt, tt); told = (tt, tt); memory = tt; needs = refl; goes = refl; acts = refl; stays = refl })
 
   assigns_expected : (k : Operation) (v : ℕ) (a : V) (w x : ℕ) → ComesOf k (assigns_in v a) → w ≡ v → In o a x → IsVariable o claims d.entry.shape v → Expected k (Ok (assigning w x))
   unfolding Expected LeadsIn AssignedIn changed
-  assigns_expected k v a w x comes same member exists = inr (assigns_in v a, comes, record { gives = tt; assigns = (same, member, exists); tests = refl; leads = refl; kept = (tt, tt); memory = tt; needs = refl; goes = refl; acts = refl; stays = refl })
+  assigns_expected k v a w x comes same member exists = inr (assigns_in v a, comes, record { gives = tt; assigns = (same, member, exists); tests = refl; leads = refl; kept = (tt, tt); told = (tt, tt); memory = tt; needs = refl; goes = refl; acts = refl; stays = refl })
 
-  asks_expected : (k : Operation) (c : Bool) (kept : Kept V) → ComesOf k (asks c kept) → Hold o lawful kept s.frame.locals → Expected k (Ok (testing c))
+  asks_expected : (k : Operation) (c : Bool) (kept : Kept V) → ComesOf k (asks c kept) → Hold o lawful kept s.frame.locals → HoldGlobals o m.story kept s.memory → Expected k (Ok (testing c))
   unfolding Expected LeadsIn AssignedIn changed
-  asks_expected k c kept comes hold = inr (asks c kept, comes, record { gives = tt; assigns = tt; tests = refl; leads = refl; kept = hold; memory = tt; needs = refl; goes = refl; acts = refl; stays = refl })
+  asks_expected k c kept comes hold told = inr (asks c kept, comes, record { gives = tt; assigns = tt; tests = refl; leads = refl; kept = hold; told = told; memory = tt; needs = refl; goes = refl; acts = refl; stays = refl })
 
   printed_expected : (k : Operation) (r : Result (List ℕ) TextError) → IsOk r → ComesOf k goes_on → Expected k (printed r)
   printed_expected k (Ok bytes) ok comes = goes_expected k bytes comes
@@ -274,17 +299,17 @@ module _ {V : Type 0} (o : SetOperations V) (lawful : AreSound o) (claims : Clai
 
   shows_expected : (line : StatusLine) → ComesOf ShowStatus goes_on → Expected ShowStatus (Ok (showing line))
   unfolding Expected LeadsIn AssignedIn changed
-  shows_expected line comes = inr (goes_on, comes, record { gives = tt; assigns = tt; tests = refl; leads = refl; kept = (tt, tt); memory = tt; needs = refl; goes = refl; acts = refl; stays = refl })
+  shows_expected line comes = inr (goes_on, comes, record { gives = tt; assigns = tt; tests = refl; leads = refl; kept = (tt, tt); told = (tt, tt); memory = tt; needs = refl; goes = refl; acts = refl; stays = refl })
 
   compared_two : (q : Question) (c : Bool) (p : V × V) → (length operands == 2) ≡ true → o.narrow q c (args 0) (args 1) ≡ Some p → ComesOf (Compare q) (asks c (both_kept operands p))
   unfolding outcome_of
   compared_two q c p two narrows = (c, rw (two, narrows) refl)
 
-  counted_asked : (op : CountOp) (q : Question) (c : Bool) (v : ℕ) (p : V × V) → is_local v ≡ true → small (o.known (args 0)) ≡ Some v → o.narrow q c (counted_set o claims.globals op v mid) (args 1) ≡ Some p → ComesOf (Count op (Some q)) (counts_in v (counted_set o claims.globals op v mid) c (record untold { first = Some (v, p.0) }))
+  counted_asked : (op : CountOp) (q : Question) (c : Bool) (v : ℕ) (p : V × V) → is_local v ≡ true → small (o.known (args 0)) ≡ Some v → o.narrow q c (counted_set o known_globals op v mid) (args 1) ≡ Some p → ComesOf (Count op (Some q)) (counts_in v (counted_set o known_globals op v mid) c (record untold { first = Some (v, p.0) }))
   unfolding outcome_of
   counted_asked op q c v p is known narrows = (c, rw (known, is, narrows) refl)
 
-  counted_unasked : (op : CountOp) (q : Question) (c : Bool) (v : ℕ) → is_local v ≡ false → small (o.known (args 0)) ≡ Some v → ComesOf (Count op (Some q)) (counts_in v (counted_set o claims.globals op v mid) c untold)
+  counted_unasked : (op : CountOp) (q : Question) (c : Bool) (v : ℕ) → is_local v ≡ false → small (o.known (args 0)) ≡ Some v → ComesOf (Count op (Some q)) (counts_in v (counted_set o known_globals op v mid) c untold)
   unfolding outcome_of
   counted_unasked op q c v is known = (c, rw (known, is) refl)
 
@@ -293,14 +318,14 @@ module _ {V : Type 0} (o : SetOperations V) (lawful : AreSound o) (claims : Clai
   compares q = by_count (length operands == 2) refl
     where
       by_count : (b : Bool) → (length operands == 2) ≡ b → Expected (Compare q) (Ok (testing (asked_of q all.values)))
-      by_count false many = asks_expected (Compare q) (asked_of q all.values) untold (asked_of q all.values, rw many refl) (tt, tt)
+      by_count false many = asks_expected (Compare q) (asked_of q all.values) untold (asked_of q all.values, rw many refl) (tt, tt) (tt, tt)
       by_count true two =
           let c = asked_of q all.values in
           let is : holds q (arg all.values 0) (arg all.values 1) ≡ c = sym (two_asked q all.values (all.count ∙ eqb-true (length operands) 2 two)) in
           let p = edge_of (o.narrow q c (args 0) (args 1)) _ (compared_holds q c is) in
-          asks_expected (Compare q) c (both_kept operands p.0) (compared_two q c p.0 two p.1) p.2
+          asks_expected (Compare q) c (both_kept operands p.0) (compared_two q c p.0 two p.1) p.2.0 p.2.1
 
-  counted_in : (op : CountOp) (p : InPlace) → In o (counted_set o claims.globals op p.v mid) (counted op p.old)
+  counted_in : (op : CountOp) (p : InPlace) → In o (counted_set o known_globals op p.v mid) (counted op p.old)
   counted_in Up p = lawful.binary Add _ _ _ _ p.member (lawful.single 1 (omega arith)) refl
   counted_in Down p = lawful.binary Sub _ _ _ _ p.member (lawful.single 1 (omega arith)) refl
 
@@ -319,20 +344,20 @@ module _ {V : Type 0} (o : SetOperations V) (lawful : AreSound o) (claims : Clai
       c = holds q new (arg all.values 1)
 
       a : V
-      a = counted_set o claims.globals op p.v mid
+      a = counted_set o known_globals op p.v mid
 
-      comes_so : (kept : Kept V) → ComesOf (Count op (Some q)) (counts_in p.v a c kept) → Hold o lawful kept (put_in_place m.story p.v new t).frame.locals → Expected (Count op (Some q)) (Ok (counting (arg all.values 0) new (Some q) (arg all.values 1)))
-      comes_so kept comes held =
+      comes_so : (kept : Kept V) → ComesOf (Count op (Some q)) (counts_in p.v a c kept) → Hold o lawful kept (put_in_place m.story p.v new t).frame.locals → HoldGlobals o m.story kept (put_in_place m.story p.v new t).memory → Expected (Count op (Some q)) (Ok (counting (arg all.values 0) new (Some q) (arg all.values 1)))
+      comes_so kept comes held told =
           let named = p.named in
-          inr (counts_in p.v a c kept, comes, record { gives = tt; assigns = (named, counted_in op p, p.exists); tests = refl; leads = refl; kept = rw named held; memory = tt; needs = refl; goes = refl; acts = refl; stays = refl })
+          inr (counts_in p.v a c kept, comes, record { gives = tt; assigns = (named, counted_in op p, p.exists); tests = refl; leads = refl; kept = rw named held; told = rw named told; memory = tt; needs = refl; goes = refl; acts = refl; stays = refl })
 
       by_local : (b : Bool) → is_local p.v ≡ b → Expected (Count op (Some q)) (Ok (counting (arg all.values 0) new (Some q) (arg all.values 1)))
-      by_local false is = comes_so untold (counted_unasked op q c p.v is p.variable) (tt, tt)
+      by_local false is = comes_so untold (counted_unasked op q c p.v is p.variable) (tt, tt) (tt, tt)
       by_local true is =
           let n = edge_of (o.narrow q c a (args 1)) _ (lawful.narrow q c a (args 1) new (arg all.values 1) (counted_in op p) (all.members 1) refl) in
           let kept_local : local_kept p.v n.0.0 ≡ Some (p.v, n.0.0) = rw is refl in
           let held = counted_local p.v new n.0.0 t (sym same_count) p.exists n.2.0 in
-          comes_so (record untold { first = Some (p.v, n.0.0) }) (counted_asked op q c p.v n.0 is p.variable n.1) (subst (λ (k : Option (ℕ × V)). HoldsOne o lawful k (put_in_place m.story p.v new t).frame.locals) kept_local held, tt)
+          comes_so (record untold { first = Some (p.v, n.0.0) }) (counted_asked op q c p.v n.0 is p.variable n.1) (subst (λ (k : Option (ℕ × V)). HoldsOne o lawful k (put_in_place m.story p.v new t).frame.locals) kept_local held, tt) (tt, tt)
 
   pub known_jump : IsTrue (is_some (o.known (args 0))) → (x : ℕ) × (o.known (args 0) ≡ Some x) × (arg all.values 0 ≡ x)
   known_jump h = by_known (o.known (args 0)) refl h
@@ -343,11 +368,11 @@ module _ {V : Type 0} (o : SetOperations V) (lawful : AreSound o) (claims : Clai
 
   jumps_expected : (x : ℕ) → o.known (args 0) ≡ Some x → arg all.values 0 ≡ x → Expected Jump (Ok (jumping (arg all.values 0)))
   unfolding Expected LeadsIn AssignedIn outcome_of changed
-  jumps_expected x known is = inr (jumps x, (true, rw known refl), record { gives = tt; assigns = tt; tests = refl; leads = rw is refl; kept = (tt, tt); memory = tt; needs = refl; goes = refl; acts = refl; stays = refl })
+  jumps_expected x known is = inr (jumps x, (true, rw known refl), record { gives = tt; assigns = tt; tests = refl; leads = rw is refl; kept = (tt, tt); told = (tt, tt); memory = tt; needs = refl; goes = refl; acts = refl; stays = refl })
 
   returns_expected : (k : Operation) (bytes : List ℕ) (a : V) (x : ℕ) → ComesOf k (returns_in a) → In o a x → Expected k (Ok (record (printing bytes) { moves = back x }))
   unfolding Expected LeadsIn AssignedIn changed
-  returns_expected k bytes a x comes member = inr (returns_in a, comes, record { gives = tt; assigns = tt; tests = refl; leads = member; kept = (tt, tt); memory = tt; needs = refl; goes = refl; acts = refl; stays = refl })
+  returns_expected k bytes a x comes member = inr (returns_in a, comes, record { gives = tt; assigns = tt; tests = refl; leads = member; kept = (tt, tt); told = (tt, tt); memory = tt; needs = refl; goes = refl; acts = refl; stays = refl })
 
   closes_expected : (r : Result (List ℕ) TextError) → IsOk r → ComesOf PrintReturn (returns_in (o.single 1)) → Expected PrintReturn (printed r >>= λ effect. Ok (closing effect))
   closes_expected (Ok bytes) ok comes = returns_expected PrintReturn (bytes ++ 10 ∷ []) (o.single 1) 1 comes (lawful.single 1 (omega arith))
@@ -355,7 +380,7 @@ module _ {V : Type 0} (o : SetOperations V) (lawful : AreSound o) (claims : Clai
 
   -- whatever is called begins as is said
   unfoldable pub CallsOf : Operation → Type 0
-  CallsOf k = (w : Outcome V) → ComesOf k w → OnEdge o claims w i d.entry.shape (λ f. Enters o claims m.story given_args (leading o w i.branch))
+  CallsOf k = (w : Outcome V) → ComesOf k w → OnEdge o claims d.at w i d.entry.shape (λ f. Enters o claims m.story given_args (leading o w i.branch))
 
   -- a routine that begins so can be called
   can_be_called : (p : ℕ) → Begins o claims m.story given_args p → (m.scope.routines p ≡ true) × (has_head s.memory p ≡ true) × (called_at s.memory p (arguments all.values) ≡ called_at m.story.memory p (arguments all.values))
@@ -396,12 +421,12 @@ module _ {V : Type 0} (o : SetOperations V) (lawful : AreSound o) (claims : Clai
           let can = can_be_called (unpacked x) begins in
           let routine = can.0 in
           let head = can.1 in
-          rw (routine, head) (inr (enters_in on_edge.a, on_edge.comes, record { gives = tt; assigns = tt; tests = refl; leads = (x, on_edge.member, some, (arguments all.values, arguments_in o args (length operands) all.values all.count all.members, can.2)); kept = (tt, tt); memory = tt; needs = refl; goes = refl; acts = refl; stays = refl }))
+          rw (routine, head) (inr (enters_in on_edge.a, on_edge.comes, record { gives = tt; assigns = tt; tests = refl; leads = (x, on_edge.member, some, (arguments all.values, arguments_in o args (length operands) all.values all.count all.members, can.2)); kept = (tt, tt); told = (tt, tt); memory = tt; needs = refl; goes = refl; acts = refl; stays = refl }))
 
   -- what a link leads to is an object, or none
   follows_expected : (k : Operation) (c : Bool) (a : V) (x : ℕ) → ComesOf k (follows_in c a) → In o a x → not (x == 0) ≡ c → Expected k (Ok (following x))
   unfolding Expected LeadsIn AssignedIn changed
-  follows_expected k c a x comes member is = inr (follows_in c a, comes, record { gives = member; assigns = tt; tests = ap (λ (b : Bool). Some b) is; leads = refl; kept = (tt, tt); memory = tt; needs = refl; goes = refl; acts = refl; stays = refl })
+  follows_expected k c a x comes member is = inr (follows_in c a, comes, record { gives = member; assigns = tt; tests = ap (λ (b : Bool). Some b) is; leads = refl; kept = (tt, tt); told = (tt, tt); memory = tt; needs = refl; goes = refl; acts = refl; stays = refl })
 
   to_object : (link : Link) → (m.story.objects == 0) ≡ false → ComesOf (Follow link) (follows_in true (o.between 1 m.story.objects))
   unfolding outcome_of
@@ -416,18 +441,18 @@ module _ {V : Type 0} (o : SetOperations V) (lawful : AreSound o) (claims : Clai
       by false e = let first = not_below_one x e in follows_expected (Follow link) true (o.between 1 m.story.objects) x (to_object link (not_none m.story.objects x first most)) (between_small o lawful 1 m.story.objects x first most (omega (arith, few))) (ap not e)
 
   -- what rewrites memory so that it stays as is said
-  rewrites : (k : Operation) (after : List ℕ) → ComesOf k goes_on → DescribedMemory o claims m.story after → Expected k (Ok (rewriting after))
+  rewrites : (k : Operation) (after : List ℕ) → ComesOf k goes_on → DescribedMemory o claims m.story after → DescribedMemory o here m.story after → Expected k (Ok (rewriting after))
   unfolding Expected LeadsIn AssignedIn changed
-  rewrites k after comes is = inr (goes_on, comes, record { gives = tt; assigns = tt; memory = is; tests = refl; leads = refl; kept = (tt, tt); needs = refl; goes = refl; acts = refl; stays = refl })
+  rewrites k after comes is too = inr (goes_on, comes, record { gives = tt; assigns = tt; memory = (is, too.values); tests = refl; leads = refl; kept = (tt, tt); told = (tt, tt); needs = refl; goes = refl; acts = refl; stays = refl })
 
-  rearranges : (k : Operation) (r : Result (List ℕ) ObjectError) → ComesOf k goes_on → IsOkAnd r (DescribedMemory o claims m.story) → Expected k (rearranging r)
-  rearranges k (Ok after) comes is = rewrites k after comes is
-  rearranges k (Err e) comes is = absurd is
+  rearranges : (k : Operation) (r : Result (List ℕ) ObjectError) → ComesOf k goes_on → IsOkAnd r (DescribedMemory o claims m.story) → IsOkAnd r (DescribedMemory o here m.story) → Expected k (rearranging r)
+  rearranges k (Ok after) comes is too = rewrites k after comes is too
+  rearranges k (Err e) comes is too = absurd is
 
   marks : (k : Operation) (sets : Bool) → ComesOf k goes_on → (1 ≤ arg all.values 0) × (arg all.values 0 ≤ m.story.objects) → arg all.values 1 < 32 → Expected k (marking m.story sets all.values s.memory)
   marks k sets comes object low =
       let known = object_known m.story.objects (arg all.values 0) object in let few = lt-ltb (arg all.values 1) 32 low in
-      rw (known, few) (rewrites k _ comes (marked_described o claims m.story supports.tables supports.few s.memory d.memory d.is_state.objects d.is_state.tables sets (arg all.values 0) (arg all.values 1) object.0 object.1 low))
+      rw (known, few) (rewrites k _ comes (marked_described o claims m.story supports.tables supports.few s.memory d.memory d.is_state.objects d.is_state.tables sets (arg all.values 0) (arg all.values 1) object.0 object.1 low) (marked_described o here m.story supports.tables few_here s.memory here_described d.is_state.objects d.is_state.tables sets (arg all.values 0) (arg all.values 1) object.0 object.1 low))
 
   -- an answer about a property lies in the set of the answers
   answers_expected : (question : PropertyQuestion) (x : ℕ) → answer_of question s.memory (arg all.values 0) (arg all.values 1) ≡ Ok x → (1 ≤ arg all.values 0) × (arg all.values 0 ≤ m.story.objects) → Expected (Property question) (answering (answer_of question s.memory (arg all.values 0) (arg all.values 1)))
@@ -451,7 +476,7 @@ module _ {V : Type 0} (o : SetOperations V) (lawful : AreSound o) (claims : Clai
       let was : property_of m.story.memory (arg all.values 0) (arg all.values 1) ≡ Some f.property = sym (found_same o lawful claims m.story loaded supports s.memory d.memory (arg all.values 0) object.0 object.1 (arg all.values 1)) ∙ f.found in
       let open_there : (p : ℕ) → IsDataByte f.property p → IsOpen m.story (frozen_in claims) p = subst (λ (r : Option AProperty). IfSome r (λ property. (p : ℕ) → IsDataByte property p → IsOpen m.story (frozen_in claims) p)) was loaded_data in
       let place = table_place m.story s.memory f.after f.property (sym (ap (is_data_writable m.story) f.found) ∙ f.writable) f.differs ∙ d.is_state.tables in
-      rw (is, writable) (rewrites SetProperty f.after (true, refl) (stored_described o claims m.story supports.tables supports.few s.memory d.memory d.is_state.objects d.is_state.tables (IsDataByte f.property) open_there f.after f.differs place))
+      rw (is, writable) (rewrites SetProperty f.after (true, refl) (stored_described o claims m.story supports.tables supports.few s.memory d.memory d.is_state.objects d.is_state.tables (IsDataByte f.property) open_there f.after f.differs place) (stored_described o here m.story supports.tables few_here s.memory here_described d.is_state.objects d.is_state.tables (IsDataByte f.property) open_there f.after f.differs place))
 
   -- an element is read, or given a word
   loads_expected : (width : Width) → AreReadable o m.story width (args 0) (args 1) → Expected (LoadArray width) (reading (element_at width s.memory (element_place width (arg all.values 0) (arg all.values 1))))
@@ -467,12 +492,12 @@ module _ {V : Type 0} (o : SetOperations V) (lawful : AreSound o) (claims : Clai
       let p = element_place width (arg all.values 0) (arg all.values 1) in
       let writable = element_writable o lawful claims m.story s.memory d.memory width (args 0) (args 1) (arg all.values 0) (arg all.values 1) (all.members 0) (all.members 1) free in
       let differs = element_differs s.memory width p (arg all.values 2) in
-      let place = table_place m.story s.memory (with_element width p (arg all.values 2) s.memory) (bytes_of width p) writable differs ∙ d.is_state.tables in rw writable (rewrites (StoreArray width) _ (true, refl) (stored_described o claims m.story supports.tables supports.few s.memory d.memory d.is_state.objects d.is_state.tables (IsDataByte (bytes_of width p)) (data_open o lawful claims m.story s.memory d.memory width (args 0) (args 1) (arg all.values 0) (arg all.values 1) (all.members 0) (all.members 1) free) _ differs place))
+      let place = table_place m.story s.memory (with_element width p (arg all.values 2) s.memory) (bytes_of width p) writable differs ∙ d.is_state.tables in rw writable (rewrites (StoreArray width) _ (true, refl) (stored_described o claims m.story supports.tables supports.few s.memory d.memory d.is_state.objects d.is_state.tables (IsDataByte (bytes_of width p)) (data_open o lawful claims m.story s.memory d.memory width (args 0) (args 1) (arg all.values 0) (arg all.values 1) (all.members 0) (all.members 1) free) _ differs place) (stored_described o here m.story supports.tables few_here s.memory here_described d.is_state.objects d.is_state.tables (IsDataByte (bytes_of width p)) (data_open o lawful claims m.story s.memory d.memory width (args 0) (args 1) (arg all.values 0) (arg all.values 1) (all.members 0) (all.members 1) free) _ differs place))
 
   -- a number is drawn, or a word is needed
   draws : (effect : Effect) → Draws o lawful (args 0) (arg all.values 0) (all.members 0) effect → Expected Random (Ok effect)
   unfolding Expected LeadsIn AssignedIn outcome_of changed
-  draws effect (number_drawn x mode uses is member) = subst (λ (e : Effect). Expected Random (Ok e)) (sym is) (inr (gives_in (drawn_set o (args 0)), (true, refl), record { gives = member; assigns = tt; tests = refl; leads = refl; kept = (tt, tt); memory = tt; needs = refl; goes = refl; acts = refl; stays = refl }))
+  draws effect (number_drawn x mode uses is member) = subst (λ (e : Effect). Expected Random (Ok e)) (sym is) (inr (gives_in (drawn_set o (args 0)), (true, refl), record { gives = member; assigns = tt; tests = refl; leads = refl; kept = (tt, tt); told = (tt, tt); memory = tt; needs = refl; goes = refl; acts = refl; stays = refl }))
   draws effect (word_needed is) = subst (λ (e : Effect). Expected Random (Ok e)) (sym is) (inl (record { tests = refl; moves = refl; why = a_need needs.Random refl }))
 
   -- a line is asked for, stored, or needed
@@ -480,14 +505,15 @@ module _ {V : Type 0} (o : SetOperations V) (lawful : AreSound o) (claims : Clai
   unfolding Expected LeadsIn AssignedIn outcome_of changed
   hears shown text parse effect (first_asked is) = inl (record { tests = ap (λ (e : Effect). e.tests) is; moves = ap (λ (e : Effect). e.moves) is; why = a_prompt shown is })
   hears shown text parse effect (line_stored line is) =
-      let memory = line_described o lawful claims m.story loaded supports s.memory d.memory (arg all.values 0) (arg all.values 1) text parse line d.is_state.bytes d.is_state.objects d.is_state.tables in
-      subst (λ (e : Effect). Expected ReadLine (Ok e)) (sym is) (inr (goes_on, (true, refl), record { gives = tt; assigns = tt; tests = refl; leads = refl; kept = (tt, tt); memory = memory; needs = refl; goes = refl; acts = refl; stays = refl }))
+      let too = line_described o lawful here m.story loaded supports.tables few_here s.memory here_described (arg all.values 0) (arg all.values 1) text parse line d.is_state.bytes d.is_state.objects d.is_state.tables in
+      let memory = line_described o lawful claims m.story loaded supports.tables supports.few s.memory d.memory (arg all.values 0) (arg all.values 1) text parse line d.is_state.bytes d.is_state.objects d.is_state.tables in
+      subst (λ (e : Effect). Expected ReadLine (Ok e)) (sym is) (inr (goes_on, (true, refl), record { gives = tt; assigns = tt; tests = refl; leads = refl; kept = (tt, tt); told = (tt, tt); memory = (memory, too.values); needs = refl; goes = refl; acts = refl; stays = refl }))
   hears shown text parse effect (line_needed is) = inl (record { tests = ap (λ (e : Effect). e.tests) is; moves = ap (λ (e : Effect). e.moves) is; why = a_need needs.Line (ap (λ (e : Effect). e.needs) is) })
 
   -- an event that is used answers a branch, or is needed
   answers_by : (k : Operation) (c : Bool) (need : Need) → ComesOf k (asks c untold) → Expected k (Ok (record (testing c) { uses = Some need }))
   unfolding Expected LeadsIn AssignedIn changed
-  answers_by k c need comes = inr (asks c untold, comes, record { gives = tt; assigns = tt; tests = refl; leads = refl; kept = (tt, tt); memory = tt; needs = refl; goes = refl; acts = refl; stays = refl })
+  answers_by k c need comes = inr (asks c untold, comes, record { gives = tt; assigns = tt; tests = refl; leads = refl; kept = (tt, tt); told = (tt, tt); memory = tt; needs = refl; goes = refl; acts = refl; stays = refl })
 
   waits_for : (k : Operation) (need : Need) → Expected k (Ok (record proceeds { needs = Some need }))
   unfolding Expected
@@ -522,7 +548,7 @@ module _ {V : Type 0} (o : SetOperations V) (lawful : AreSound o) (claims : Clai
   by_operation Load rule begins =
       let p = in_place rule.known rule.top rule.exists in let r = p.reads in let known = p.variable in rw r (gives_expected Load _ p.old (true, rw known refl) p.member)
   by_operation Jump rule begins = let k = known_jump rule.certain in jumps_expected k.0 k.1 k.2
-  by_operation Verify rule begins = asks_expected Verify _ untold (_, refl) (tt, tt)
+  by_operation Verify rule begins = asks_expected Verify _ untold (_, refl) (tt, tt) (tt, tt)
   by_operation PrintChar rule begins = goes_expected PrintChar _ (true, refl)
   by_operation PrintNumber rule begins = goes_expected PrintNumber _ (true, refl)
   by_operation Print rule begins =
@@ -536,10 +562,10 @@ module _ {V : Type 0} (o : SetOperations V) (lawful : AreSound o) (claims : Clai
   by_operation Call rule begins = calls begins
   by_operation Inside rule begins =
       let known = object_known m.story.objects (arg all.values 0) (rule.object.0 (arg all.values 0) (all.members 0)) in
-      rw known (asks_expected Inside _ untold (_, refl) (tt, tt))
+      rw known (asks_expected Inside _ untold (_, refl) (tt, tt) (tt, tt))
   by_operation TestAttribute rule begins =
       let known = object_known m.story.objects (arg all.values 0) (rule.object.0 (arg all.values 0) (all.members 0)) in let few = lt-ltb (arg all.values 1) 32 (rule.attribute (arg all.values 1) (all.members 1)) in
-      rw (known, few) (asks_expected TestAttribute _ untold (_, refl) (tt, tt))
+      rw (known, few) (asks_expected TestAttribute _ untold (_, refl) (tt, tt) (tt, tt))
   by_operation (Follow link) rule begins =
       let object = rule.object.0 (arg all.values 0) (all.members 0) in let known = object_known m.story.objects (arg all.values 0) object in
       rw known (follows link _ (d.memory.tree.small link (arg all.values 0) object.0 object.1) d.is_state.objects.few)
@@ -550,10 +576,10 @@ module _ {V : Type 0} (o : SetOperations V) (lawful : AreSound o) (claims : Clai
       let under = rule.object.1 (arg all.values 1) (all.members 1) in
       let known = object_known m.story.objects (arg all.values 0) object in
       let known_under = object_known m.story.objects (arg all.values 1) under in
-      rw (known, known_under) (rearranges Insert _ (true, refl) (inserted_described o claims m.story supports.tables supports.few s.memory d.memory d.is_state.objects d.is_state.tables (arg all.values 0) (arg all.values 1) object.0 object.1 under.0 under.1))
+      rw (known, known_under) (rearranges Insert _ (true, refl) (inserted_described o claims m.story supports.tables supports.few s.memory d.memory d.is_state.objects d.is_state.tables (arg all.values 0) (arg all.values 1) object.0 object.1 under.0 under.1) (inserted_described o here m.story supports.tables few_here s.memory here_described d.is_state.objects d.is_state.tables (arg all.values 0) (arg all.values 1) object.0 object.1 under.0 under.1))
   by_operation Remove rule begins =
       let object = rule.object.0 (arg all.values 0) (all.members 0) in let known = object_known m.story.objects (arg all.values 0) object in
-      rw known (rearranges Remove _ (true, refl) (unlinked_described o claims m.story supports.tables supports.few s.memory d.memory d.is_state.objects d.is_state.tables (arg all.values 0) object.0 object.1))
+      rw known (rearranges Remove _ (true, refl) (unlinked_described o claims m.story supports.tables supports.few s.memory d.memory d.is_state.objects d.is_state.tables (arg all.values 0) object.0 object.1) (unlinked_described o here m.story supports.tables few_here s.memory here_described d.is_state.objects d.is_state.tables (arg all.values 0) object.0 object.1))
   by_operation (Property question) rule begins =
       let object = rule.object.0 (arg all.values 0) (all.members 0) in let known = object_known m.story.objects (arg all.values 0) object in
       let there = answered o lawful claims m.story loaded supports s.memory d.memory (arg all.values 0) object.0 object.1 question (arg all.values 1) (rule.property (arg all.values 0) (arg all.values 1) object.0 object.1 (all.members 0) (all.members 1)) in
@@ -577,7 +603,7 @@ module _ {V : Type 0} (o : SetOperations V) (lawful : AreSound o) (claims : Clai
       let text = buffer_read o lawful (args 0) (arg all.values 0) (IsTextBuffer m.story (frozen_in claims)) (all.members 0) rule.buffers.0 in
       let parse = buffer_read o lawful (args 1) (arg all.values 1) (IsParseBuffer m.story (frozen_in claims)) (all.members 1) rule.buffers.1 in
       let line = line_shown o lawful claims m.story loaded supports s.memory d.memory rule.line in let shown = line.1 in
-      let taken = line_taken o lawful claims m.story loaded supports s.memory d.memory (arg all.values 0) (arg all.values 1) text parse in
+      let taken = line_taken o lawful claims m.story loaded supports.tables supports.few s.memory d.memory (arg all.values 0) (arg all.values 1) text parse in
       rw (shown, taken) (hears line.0 text parse _ (hearing_comes m.story (arg all.values 0) (arg all.values 1) s.memory line.0 s.prompted s.waiting))
   by_operation Save rule begins = saves_expected t.waiting
   by_operation Restore rule begins = restores_expected t.waiting
@@ -613,7 +639,7 @@ module _ {V : Type 0} (o : SetOperations V) (lawful : AreSound o) (claims : Clai
       by_stack true exists = record { memory = known.memory; fits = record { in_locals = known.fits.in_locals; in_slots = zip_set (In o) e.slots u.frame.stack known.fits.in_slots 0 a x member }; callers = known.callers }
       by_stack false exists = mid_named v x a e u exists takes member known
 
-  mid_assigned : (given : Option (ℕ × V)) (assigns : Option (ℕ × ℕ)) (e : Shape V) (u : State) → AssignedIn given assigns → TakesInPlace o claims given → Known_in e u → Known_in (with_assigned given e) (assigned m.story assigns u)
+  mid_assigned : (given : Option (ℕ × V)) (assigns : Option (ℕ × ℕ)) (e : Shape V) (u : State) → AssignedIn o claims d.entry.shape given assigns → TakesInPlace o claims given → Known_in e u → Known_in (with_assigned given e) (assigned m.story assigns u)
   unfolding AssignedIn
   mid_assigned None None e u is takes known = known
   mid_assigned None (Some p) e u is takes known = absurd is
@@ -625,40 +651,40 @@ module _ {V : Type 0} (o : SetOperations V) (lawful : AreSound o) (claims : Clai
   still_there : (e : Shape V) (u : State) → length e.locals ≡ length d.entry.shape.locals → Known_in e u → IsIn (target i) u.frame.locals
   still_there e u same known = named_in o claims (target i) d.entry.shape u.frame.locals local.1 (sym same ∙ zip_length (In o) e.locals u.frame.locals known.fits.in_locals)
 
-  rewritten_known : (memory : Option (List ℕ)) (u : State) → IfSome memory (DescribedMemory o claims m.story) → Known_in mid u → Known_in mid (rewritten memory u)
+  rewritten_known : (memory : Option (List ℕ)) (u : State) → IfSome memory (λ after. DescribedMemory o claims m.story after × LieIn o known_globals m.story after) → Known_in mid u → Known_in mid (rewritten memory u)
   rewritten_known None u is known = known
-  rewritten_known (Some memory) u is known = record { memory = is; fits = known.fits; callers = known.callers }
+  rewritten_known (Some memory) u is known = record { memory = is.0; fits = known.fits; callers = known.callers }
 
   -- before anything is assigned
   begun : (w : Outcome V) (effect : Effect) → Matches w effect → Known_in mid (rewritten effect.memory (used effect.uses (drawn effect.random t)))
   begun w effect matches = rewritten_known effect.memory (used effect.uses (drawn effect.random t)) matches.memory (spent_mid o claims m.story loaded supports.tables d.entry.routine mid effect.random effect.uses t read_known)
 
   -- all parts, one after another
-  mid_changed : (w : Outcome V) (effect : Effect) → Matches w effect → Takes o claims w.gives (target i) → TakesInPlace o claims w.assigns → Known_in (changed_by o claims.globals i d.entry.shape w) (changed m.story i effect t)
+  mid_changed : (w : Outcome V) (effect : Effect) → Matches w effect → Takes o claims w.gives (target i) → TakesInPlace o claims w.assigns → Known_in (changed_by o known_globals i d.entry.shape w) (changed m.story i effect t)
   unfolding changed
   mid_changed w effect matches given in_place =
       let r = rewritten effect.memory (used effect.uses (drawn effect.random t)) in let u = assigned m.story effect.assigns r in
       let known = mid_assigned w.assigns effect.assigns mid r matches.assigns in_place (begun w effect matches) in
       stored_mid o claims m.story loaded supports.tables d.entry.routine (target i) w.gives effect.gives (with_assigned w.assigns mid) u matches.gives (still_there (with_assigned w.assigns mid) u (length_assigned w.assigns mid) known) given known
 
-  -- and the frame with all parts, whatever globals take
-  fits_assigned : (given : Option (ℕ × V)) (assigns : Option (ℕ × ℕ)) (e : Shape V) (u : State) → AssignedIn given assigns → FitsFrame o claims m.story e u → FitsFrame o claims m.story (with_assigned given e) (assigned m.story assigns u)
-  unfolding AssignedIn
-  fits_assigned None None e u is fits = fits
-  fits_assigned None (Some p) e u is fits = absurd is
-  fits_assigned (Some a) None e u is fits = absurd is
-  fits_assigned (Some a) (Some p) e u is fits =
-      subst (λ (n : ℕ). FitsFrame o claims m.story (with_assigned (Some a) e) (put_in_place m.story n p.1 u)) (sym is.0) (in_place_fits o claims m.story a.0 p.1 a.1 e u is.1 fits)
+  -- ---- what is known of globals, part by part
 
-  fits_given : (given : Option V) (gives : Option ℕ) (e : Shape V) (u : State) → GivenIn o claims m.story loaded supports.tables given gives → FitsFrame o claims m.story e u → FitsFrame o claims m.story (with_result given (target i) e) (stored m.story gives (target i) u)
-  fits_given None None e u is fits = fits
-  fits_given None (Some x) e u is fits = absurd is
-  fits_given (Some a) None e u is fits = absurd is
-  fits_given (Some a) (Some x) e u is fits = result_fits o claims m.story (target i) x a e u is fits
-
-  fits_changed : (w : Outcome V) (effect : Effect) → Matches w effect → FitsFrame o claims m.story (changed_by o claims.globals i d.entry.shape w) (changed m.story i effect t)
+  lie_changed : (w : Outcome V) (effect : Effect) → Matches w effect → TakesInPlace o claims w.assigns → LieIn o (globals_after known_globals (target i) w) m.story (changed m.story i effect t).memory
   unfolding changed
-  fits_changed w effect matches = fits_given w.gives effect.gives (with_assigned w.assigns mid) (assigned m.story effect.assigns (rewritten effect.memory (used effect.uses (drawn effect.random t)))) matches.gives (fits_assigned w.assigns effect.assigns mid (rewritten effect.memory (used effect.uses (drawn effect.random t))) matches.assigns (begun w effect matches).fits)
+  lie_changed w effect matches in_place =
+      let r = rewritten effect.memory (used effect.uses (drawn effect.random t)) in
+      let u = assigned m.story effect.assigns r in
+      let at_first = begun w effect matches in
+      let known = mid_assigned w.assigns effect.assigns mid r matches.assigns in_place at_first in
+      let lie = lie_rewritten o claims m.story known_globals effect.memory (used effect.uses (drawn effect.random t)) matches.memory (lie_spent o m.story known_globals effect.random effect.uses t lie_before) in
+      let lie_named = lie_assigned o claims m.story loaded d.entry.shape w.assigns effect.assigns known_globals r matches.assigns at_first.memory.long lie in
+      let lie_with = lie_given o claims m.story loaded supports.tables d.entry.shape (target i) local.1 w.gives effect.gives (globals_named w.assigns known_globals) u matches.gives known.memory.long lie_named in
+      lie_after o m.story known_globals (target i) w (stored m.story effect.gives (target i) u).memory matches.told lie_with
+
+  -- and the frame with all parts, whatever globals take
+  fits_changed : (w : Outcome V) (effect : Effect) → Matches w effect → FitsFrame o claims m.story (changed_by o known_globals i d.entry.shape w) (changed m.story i effect t)
+  unfolding changed
+  fits_changed w effect matches = fits_given o claims m.story loaded supports.tables (target i) w.gives effect.gives (with_assigned w.assigns mid) (assigned m.story effect.assigns (rewritten effect.memory (used effect.uses (drawn effect.random t)))) matches.gives (fits_assigned o claims m.story d.entry.shape w.assigns effect.assigns mid (rewritten effect.memory (used effect.uses (drawn effect.random t))) matches.assigns (begun w effect matches).fits)
 
   -- ---- the step
 
@@ -671,16 +697,16 @@ module _ {V : Type 0} (o : SetOperations V) (lawful : AreSound o) (claims : Clai
     leads_in = subst (λ (t : Option Bool). LeadsIn o lawful claims m loaded supports s d i (leading o w i.branch) (turned (way t i.branch) effect.moves)) (sym matches.tests) (turned_in o lawful claims m loaded supports s d i (way w.tests i.branch) w.leads effect.moves matches.leads)
 
     abbrev shape : Shape V
-    shape = changed_by o claims.globals i d.entry.shape w
+    shape = changed_by o known_globals i d.entry.shape w
 
     abbrev u : State
     u = changed m.story i effect t
 
     -- the edge can be taken
-    pub edge : (f : Shape V) × (after o claims.globals i d.entry.shape w ≡ Some f) × Fits o claims f u.frame.locals u.frame.stack
+    pub edge : (f : Shape V) × (after o known_globals i d.entry.shape w ≡ Some f) × Fits o claims f u.frame.locals u.frame.stack
     edge = edge_of (narrowed o w.kept shape) _ (narrowed_fits o lawful claims w.kept shape u.frame.locals u.frame.stack (fits_changed w effect matches) matches.kept)
 
-    by_edge : (Rule : Shape V → Type 0) → OnEdge o claims w i d.entry.shape Rule → Rule edge.0
+    by_edge : (Rule : Shape V → Type 0) → OnEdge o claims d.at w i d.entry.shape Rule → Rule edge.0
     by_edge Rule rule = subst (λ (r : Option (Shape V)). IfSome r Rule) edge.1 rule
 
     takes : Takes o claims w.gives (target i) × TakesInPlace o claims w.assigns × TakesBack o claims (target i) (leading o w i.branch)
@@ -705,9 +731,9 @@ module _ {V : Type 0} (o : SetOperations V) (lawful : AreSound o) (claims : Clai
     acted state =
         let follows = successor.1 w comes (supports.each d.at d.entry d.listed plain rules.High i there w comes) in
         let exists = still_there shape u (length_with o claims w.gives (target i) (with_assigned w.assigns mid).locals ∙ length_assigned w.assigns mid) known_there in
-        let goes = by_edge (λ f. GoesOn o claims d.entry.routine (target i) f (d.at + i.size) (leading o w i.branch)) follows in
+        let goes = by_edge (λ f. GoesOn o claims d.entry.routine (target i) (globals_after known_globals (target i) w) f (d.at + i.size) (leading o w i.branch)) follows in
         let place : u.place +ℤ pos i.size ≡ pos (d.at + i.size) = ap (λ (p : ℤ). p +ℤ pos i.size) ((changed_aside m.story i effect t).place ∙ d.place) in
-        lands o lawful claims m loaded supports s d i (leading o w i.branch) (course effect i.branch) edge.0 (advance i u) leads_in place (record { memory = known_there.memory; fits = edge.2; callers = known_there.callers }) exists goes begins_there returns takes.2 state
+        lands o lawful claims m loaded supports s d i (leading o w i.branch) (course effect i.branch) (globals_after known_globals (target i) w) edge.0 (advance i u) leads_in place (record { memory = known_there.memory; fits = edge.2; callers = known_there.callers }) (lie_changed w effect matches takes.1) exists goes begins_there returns takes.2 state
 
   pub still_admitted : (effect : Effect) → Still effect → admits (target i) effect (course effect i.branch) t ≡ Ok tt
   still_admitted effect still =

@@ -25,7 +25,7 @@ module _ {V : Type 0} (o : SetOperations V) (claims : Claims V) where
   starts_narrower (a ∷ narrow) (b ∷ wide) (w ∷ words) (x ∷ locals) z s = ((λ y inside. s.0 y (z.0 y inside)), starts_narrower narrow wide words locals z.1 s.1)
 
   pub begins_narrower : (story : LoadedStory) (narrow wide : List V) (p : ℕ) → AllZip (Within o) narrow wide → Begins o claims story wide p → Begins o claims story narrow p
-  begins_narrower story narrow wide p z b = record { index = b.index; routine = b.routine; entry = b.entry; listed = b.listed; same = b.same; empty = b.empty; starts = starts_narrower narrow wide _ _ z b.starts }
+  begins_narrower story narrow wide p z b = record { index = b.index; routine = b.routine; entry = b.entry; listed = b.listed; same = b.same; empty = b.empty; starts = starts_narrower narrow wide _ _ z b.starts; implied = b.implied }
 
   set_narrower : (xs ys : List V) (k : ℕ) (narrow wide : V) → Within o narrow wide → AllZip (Within o) (slice_set xs k wide) ys → AllZip (Within o) (slice_set xs k narrow) ys
   set_narrower [] ys k narrow wide within z = z
@@ -44,11 +44,12 @@ module _ {V : Type 0} (o : SetOperations V) (claims : Claims V) where
   local_narrower false true xs ys k narrow wide within z = set_narrower xs ys k narrow wide within z
   local_narrower false false xs ys k narrow wide within z = z
 
-  pub leads_narrower : (routine : ℕ) (shape : Shape V) (v to : ℕ) (narrow wide : V) → Within o narrow wide → Leads o claims routine (with_result (Some wide) v shape) to → Leads o claims routine (with_result (Some narrow) v shape) to
-  leads_narrower routine shape v to narrow wide within leads = record {
+  pub leads_narrower : (routine : ℕ) (globals : List V) (shape : Shape V) (v to : ℕ) (narrow wide : V) → Within o narrow wide → Leads o claims routine globals (with_result (Some wide) v shape) to → Leads o claims routine globals (with_result (Some narrow) v shape) to
+  leads_narrower routine globals shape v to narrow wide within leads = record {
     entry = leads.entry;
     listed = leads.listed;
     same = leads.same;
+    implied = leads.implied;
     covered = record {
       locals = local_narrower (v == 0) (nat_lt v 16) shape.locals leads.entry.shape.locals (v - 1) narrow wide within leads.covered.locals;
       slots = pushed_narrower (v == 0) shape.slots leads.entry.shape.slots narrow wide within leads.covered.slots;

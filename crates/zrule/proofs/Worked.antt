@@ -37,7 +37,7 @@ use Rattle.zrule.specs.Edges.{StaysLow}
 use Rattle.zpairs.specs.Frozen.{is_inside}
 use Rattle.zrule.specs.Claims.{Entry, Claims, claims_of, frozen_in}
 use Rattle.zrule.specs.Described.{Callers, Described, Fits, FitsWith, IsListedIn}
-use Rattle.zrule.specs.Rules.{AreObjects, Finds, FillsOpen, AreWritten, AreRead, HasFirstPlace, HasHeads, HasLineObject, gives_by_property, global_in, IsNamed, KnowsAnswers, Covers, Leads, Enters, GoesOn, Asks, Begins, Starts, Takes, TakesBack, comes_back, result_at}
+use Rattle.zrule.specs.Rules.{AreImplied, AreObjects, Finds, FillsOpen, AreWritten, AreRead, HasFirstPlace, HasHeads, HasLineObject, gives_by_property, global_in, IsNamed, KnowsAnswers, Covers, Leads, Enters, GoesOn, Asks, Begins, Starts, Takes, TakesBack, comes_back, result_at}
 use Rattle.zstate.specs.Step.{words_from}
 use Rattle.zrule.proofs.Instances.{by_answers}
 
@@ -81,10 +81,12 @@ certificate = record {
   identity = record { release = 1; serial = 0 ∷ 0 ∷ 0 ∷ 0 ∷ 0 ∷ 0 ∷ []; checksum = 0; length = 1024 };
   limit = None;
   marking = false;
+  stating = false;
   ranges = range ∷ record { first = 70; last = 70 } ∷ [];
   globals = replicate 240 (point 3);
   routines = record { address = 0x300; locals = 1; result = point 5 } ∷ [];
   instructions = record { address = 0x302; routine = 1; is_marked = false; locals = point 4 ∷ []; slots = [] } ∷ record { address = 0x305; routine = 1; is_marked = false; locals = point 4 ∷ []; slots = point 6 ∷ point 7 ∷ [] } ∷ [];
+  facts = [];
 }
 
 shape : Shape Interval
@@ -162,7 +164,7 @@ abbrev listed_at_place : ℕ → Option (Entry Interval)
 listed_at_place p = if p == 13 then Some (of_one (from (pos 1) (pos 5) refl)) else (if p == 8 || p == 21 then Some (of_one all_words) else None)
 
 small : Claims Interval
-small = record { ranges = []; globals = from (pos 0) (pos 5) refl ∷ []; entry = listed_at_place; result = λ r. point 0; routine_at = λ p. None }
+small = record { ranges = []; globals = from (pos 0) (pos 5) refl ∷ []; entry = listed_at_place; facts = λ p. []; result = λ r. point 0; routine_at = λ p. None }
 
 -- the instructions stand at 10, and are of three bytes
 abbrev plain : Opcode → List Operand → Instruction
@@ -283,7 +285,7 @@ low_local = from (pos 1) (pos 5) refl ∷ []
 
 returns_zero : asks Returned any_local [] (jz (pos 0))
 unfolding jz any_local operation_of outcome_of small
-returns_zero = by_answers small (jz (pos 0)) (before any_local []) _ (omega arith, λ x inside. inside) tt
+returns_zero = by_answers small 10 (jz (pos 0)) (before any_local []) _ (omega arith, λ x inside. inside) tt
 
 other_returns : (asks Returned any_local [] (jz (pos 1)) → ⊥) × (of_routine 0 Returned any_local [] (jz (pos 0)) → ⊥)
 unfolding jz any_local operation_of outcome_of small
@@ -292,12 +294,12 @@ other_returns = (λ r. ((r _ (true, refl)).1 1 (interval_sound.single 1 (omega a
 -- a branch that is never taken returns nothing
 never_returns : of_routine 0 Returned low_local [] (jz (pos 0))
 unfolding jz low_local operation_of outcome_of small
-never_returns = by_answers small (jz (pos 0)) (before low_local []) _ tt tt
+never_returns = by_answers small 10 (jz (pos 0)) (before low_local []) _ tt tt
 
 -- nor does one that leaves a local no value
 narrowed_out : of_routine 0 Returned (from (pos 0) (pos 1) refl ∷ []) [] (branching opcodes.Jl (Variable 1 ∷ Variable 1 ∷ []) (pos 0))
 unfolding operation_of outcome_of small
-narrowed_out = by_answers small (branching opcodes.Jl (Variable 1 ∷ Variable 1 ∷ []) (pos 0)) (before (from (pos 0) (pos 1) refl ∷ []) []) _ tt tt
+narrowed_out = by_answers small 10 (branching opcodes.Jl (Variable 1 ∷ Variable 1 ∷ []) (pos 0)) (before (from (pos 0) (pos 1) refl ∷ []) []) _ tt tt
 
 -- a text has an end
 no_text : asks Text [] [] (plain opcodes.Print []) → ⊥
@@ -349,7 +351,7 @@ upper x inside = let above = inside.member.0 in record { word = inside.word; mem
 
 stores_five : asks Stored [] [] (gives_global 5) × asks Stored [] [] (stores_global 5)
 unfolding operation_of outcome_of small
-stores_five = (by_answers small (gives_global 5) (before [] []) _ (upper, tt, tt) tt, by_answers small (stores_global 5) (before [] []) _ (tt, upper, tt) tt)
+stores_five = (by_answers small 10 (gives_global 5) (before [] []) _ (upper, tt, tt) tt, by_answers small 10 (stores_global 5) (before [] []) _ (tt, upper, tt) tt)
 
 not_six : (asks Stored [] [] (gives_global 6) → ⊥) × (asks Stored [] [] (stores_global 6) → ⊥)
 unfolding operation_of outcome_of small
@@ -366,7 +368,7 @@ push = plain opcodes.Push (Constant 7 ∷ [])
 
 high : asks High [] (replicate 63 (point 7)) push × (asks High [] (replicate 64 (point 7)) push → ⊥)
 unfolding push operation_of outcome_of small
-high = (by_answers small push (before [] (replicate 63 (point 7))) _ (omega arith) tt, λ h. omega (arith, h _ (true, refl)))
+high = (by_answers small 10 push (before [] (replicate 63 (point 7))) _ (omega arith) tt, λ h. omega (arith, h _ (true, refl)))
 
 -- a line goes where buffers are, each at one known address, and the status line is shown first
 abbrev sread : Operand → Operand → Instruction
@@ -423,7 +425,7 @@ no_object : asks Successor (point 0 ∷ point 5 ∷ []) [] asks_property
 unfolding asks_property operation_of demands_of small
 no_object = λ divides reads known begins. absurd (omega (arith, (known.0.0 0 (interval_sound.single 0 (omega arith))).0))
 
-known_answers : KnowsAnswers interval_operations small nowhere asks_property (before (first_set ∷ second_set ∷ []) []) → Finds interval_operations nowhere (Answered Value) first_set second_set
+known_answers : KnowsAnswers interval_operations small 10 nowhere asks_property (before (first_set ∷ second_set ∷ []) []) → Finds interval_operations nowhere (Answered Value) first_set second_set
 unfolding asks_property operation_of demands_of small
 known_answers known = known.1
 
@@ -447,40 +449,41 @@ texts_asked = (λ f. (tt, f, tt), λ t. t.1, λ f. (tt, tt, f), λ t. t.2)
 -- ---- edges
 
 -- an edge leads to the one place that is so far behind another
-leads_there : (r : ℕ) (f : Shape Interval) (q : ℕ) (d : ℤ) (p : ℕ) → (pos q +ℤ d) ≡ pos p → GoesOn interval_operations small r 0 f q (Ahead d) → Leads interval_operations small r f p
-leads_there r f q d p same (to, at, leads) = subst (Leads interval_operations small r f) (same_place to p (sym at ∙ same)) leads
+leads_there : (r : ℕ) (f : Shape Interval) (q : ℕ) (d : ℤ) (p : ℕ) → (pos q +ℤ d) ≡ pos p → GoesOn interval_operations small r 0 small.globals f q (Ahead d) → Leads interval_operations small r small.globals f p
+leads_there r f q d p same (to, at, leads) = subst (Leads interval_operations small r small.globals f) (same_place to p (sym at ∙ same)) leads
   where
     same_place : (m n : ℕ) → pos m ≡ pos n → m ≡ n
     same_place m n e = cc
 
 -- not where none is listed
-unlisted : (f : Shape Interval) (q : ℕ) (d : ℤ) (p : ℕ) → (pos q +ℤ d) ≡ pos p → small.entry p ≡ None → GoesOn interval_operations small 1 0 f q (Ahead d) → ⊥
+unlisted : (f : Shape Interval) (q : ℕ) (d : ℤ) (p : ℕ) → (pos q +ℤ d) ≡ pos p → small.entry p ≡ None → GoesOn interval_operations small 1 0 small.globals f q (Ahead d) → ⊥
 unlisted f q d p same none goes = let leads = leads_there 1 f q d p same goes in let listed = leads.listed in cc
 
 -- nor where fewer values are
-uncovered : (a b : Interval) (q : ℕ) (d : ℤ) (p x : ℕ) → (pos q +ℤ d) ≡ pos p → small.entry p ≡ Some (of_one b) → In interval_operations a x → (In interval_operations b x → ⊥) → GoesOn interval_operations small 1 0 (before (a ∷ []) []) q (Ahead d) → ⊥
+uncovered : (a b : Interval) (q : ℕ) (d : ℤ) (p x : ℕ) → (pos q +ℤ d) ≡ pos p → small.entry p ≡ Some (of_one b) → In interval_operations a x → (In interval_operations b x → ⊥) → GoesOn interval_operations small 1 0 small.globals (before (a ∷ []) []) q (Ahead d) → ⊥
 uncovered a b q d p x same listed inside outside goes =
     let leads = leads_there 1 (before (a ∷ []) []) q d p same goes in
     let is : leads.entry ≡ of_one b = same_Some leads.entry (of_one b) (sym leads.listed ∙ listed) in
     outside ((subst (λ (e : Entry Interval). Covers interval_operations (before (a ∷ []) []) e.shape) is leads.covered).locals.0 x inside)
 
-covered : (a b : Interval) (p : ℕ) → small.entry p ≡ Some (of_one b) → Within interval_operations a b → Leads interval_operations small 1 (before (a ∷ []) []) p
-covered a b p listed within = record { entry = of_one b; listed = listed; same = refl; covered = record { locals = (within, tt); slots = tt } }
+covered : (a b : Interval) (p : ℕ) → small.entry p ≡ Some (of_one b) → Within interval_operations a b → Leads interval_operations small 1 small.globals (before (a ∷ []) []) p
+unfolding small
+covered a b p listed within = record { entry = of_one b; listed = listed; same = refl; covered = record { locals = (within, tt); slots = tt }; implied = tt }
 
 -- of a branch that is never taken only what follows has to be listed, and else where it leads too
 one_edge : asks Successor low_local [] (jz (pos 500))
 unfolding jz low_local operation_of demands_of outcome_of small
-one_edge = λ divides reads knows begins. (refl, by_answers small (jz (pos 500)) (before low_local []) _ tt (λ low. (13, refl, covered (from (pos 1) (pos 5) refl) (from (pos 1) (pos 5) refl) 13 refl (λ x inside. inside))))
+one_edge = λ divides reads knows begins. (refl, by_answers small 10 (jz (pos 500)) (before low_local []) _ tt (λ low. (13, refl, covered (from (pos 1) (pos 5) refl) (from (pos 1) (pos 5) refl) 13 refl (λ x inside. inside))))
 
 both_edges : asks Successor any_local [] (jz (pos 500)) → ⊥
 unfolding jz any_local operation_of demands_of outcome_of small
-both_edges s = unlisted _ 13 (pos 498) 511 refl refl ((s tt (tt, tt) tt (by_answers small (jz (pos 500)) (before any_local []) _ tt tt)).1 _ (true, refl) (omega arith))
+both_edges s = unlisted _ 13 (pos 498) 511 refl refl ((s tt (tt, tt) tt (by_answers small 10 (jz (pos 500)) (before any_local []) _ tt tt)).1 _ (true, refl) (omega arith))
 
 -- what is listed for one routine isn't for another
 elsewhere : of_routine 2 Successor low_local [] (jz (pos 500)) → ⊥
 unfolding jz low_local operation_of demands_of outcome_of small
 elsewhere s =
-    let leads = leads_there 2 _ 13 (pos 0) 13 refl ((s tt (tt, tt) tt (by_answers small (jz (pos 500)) (before low_local []) _ tt tt)).1 _ (false, refl) (omega arith)) in
+    let leads = leads_there 2 _ 13 (pos 0) 13 refl ((s tt (tt, tt) tt (by_answers small 10 (jz (pos 500)) (before low_local []) _ tt tt)).1 _ (false, refl) (omega arith)) in
     let is : leads.entry ≡ of_one (from (pos 1) (pos 5) refl) = same_Some leads.entry (of_one (from (pos 1) (pos 5) refl)) (sym leads.listed) in
     omega (arith, ap (λ (e : Entry Interval). e.routine) is, leads.same)
 
@@ -490,18 +493,18 @@ longer i = record i { size = 5 }
 
 not_taken : asks Successor any_local [] (longer (jz (pos 8))) → ⊥
 unfolding jz any_local operation_of demands_of outcome_of small
-not_taken s = unlisted _ 15 (pos 0) 15 refl refl ((s tt (tt, tt) tt (by_answers small (longer (jz (pos 8))) (before any_local []) _ tt tt)).1 _ (false, refl) (omega arith))
+not_taken s = unlisted _ 15 (pos 0) 15 refl refl ((s tt (tt, tt) tt (by_answers small 10 (longer (jz (pos 8))) (before any_local []) _ tt tt)).1 _ (false, refl) (omega arith))
 
 -- with all that the branch leaves of a local: [0, 5] without 0, and not [0, 6]
 narrowed : asks Successor (from (pos 0) (pos 5) refl ∷ []) [] (jz (pos 10))
 unfolding jz operation_of demands_of outcome_of small
-narrowed = λ divides reads knows begins. (refl, by_answers small (jz (pos 10)) (before (from (pos 0) (pos 5) refl ∷ []) []) _ (λ low. (21, refl, covered (point 0) all_words 21 refl (λ x inside. interval_sound.any x inside.word))) (λ low. (13, refl, covered (from (pos 1) (pos 5) refl) (from (pos 1) (pos 5) refl) 13 refl (λ x inside. inside))))
+narrowed = λ divides reads knows begins. (refl, by_answers small 10 (jz (pos 10)) (before (from (pos 0) (pos 5) refl ∷ []) []) _ (λ low. (21, refl, covered (point 0) all_words 21 refl (λ x inside. interval_sound.any x inside.word))) (λ low. (13, refl, covered (from (pos 1) (pos 5) refl) (from (pos 1) (pos 5) refl) 13 refl (λ x inside. inside))))
 
 not_narrowed : asks Successor (from (pos 0) (pos 6) refl ∷ []) [] (jz (pos 10)) → ⊥
 unfolding jz operation_of demands_of outcome_of small
 not_narrowed s =
     uncovered (from (pos 1) (pos 6) refl) (from (pos 1) (pos 5) refl) 13 (pos 0) 13 6 refl refl (record { word = omega arith; member = (record { le = tt }, record { le = tt }) }) (λ inside. inside.member.1.le)
-    ((s tt (tt, tt) tt (by_answers small (jz (pos 10)) (before (from (pos 0) (pos 6) refl ∷ []) []) _ tt tt)).1 _ (false, refl) (omega arith))
+    ((s tt (tt, tt) tt (by_answers small 10 (jz (pos 10)) (before (from (pos 0) (pos 6) refl ∷ []) []) _ tt tt)).1 _ (false, refl) (omega arith))
 
 -- a jump goes one known way: back to 8, but not before the first byte, and of two values nowhere
 jump : Operand → Instruction
@@ -509,19 +512,19 @@ jump operand = plain opcodes.Jump (operand ∷ [])
 
 goes_back : asks Successor any_local [] (jump (Constant 0xFFFD))
 unfolding jump any_local operation_of demands_of outcome_of small
-goes_back = λ divides reads knows begins. (refl, by_answers small (jump (Constant 0xFFFD)) (before any_local []) _ (λ low. (8, refl, covered all_words all_words 8 refl (λ x inside. inside))) tt)
+goes_back = λ divides reads knows begins. (refl, by_answers small 10 (jump (Constant 0xFFFD)) (before any_local []) _ (λ low. (8, refl, covered all_words all_words 8 refl (λ x inside. inside))) tt)
 
 goes_nowhere : (asks Successor any_local [] (jump (Constant 0xFFF3)) → ⊥) × (asks Successor (from (pos 1) (pos 2) refl ∷ []) [] (jump (Variable 1)) → ⊥)
 unfolding jump any_local operation_of demands_of outcome_of small
-goes_nowhere = (λ s. let place = ((s tt (tt, tt) tt (by_answers small (jump (Constant 0xFFF3)) (before any_local []) _ tt tt)).1 _ (true, refl) (omega arith)).1 in cc, λ s. let certain = (s tt (tt, tt) tt (by_answers small (jump (Variable 1)) (before (from (pos 1) (pos 2) refl ∷ []) []) _ tt tt)).0 in cc)
+goes_nowhere = (λ s. let place = ((s tt (tt, tt) tt (by_answers small 10 (jump (Constant 0xFFF3)) (before any_local []) _ tt tt)).1 _ (true, refl) (omega arith)).1 in cc, λ s. let certain = (s tt (tt, tt) tt (by_answers small 10 (jump (Variable 1)) (before (from (pos 1) (pos 2) refl ∷ []) []) _ tt tt)).0 in cc)
 
 -- nothing has to follow `quit`, what may divide by 0, or what makes the stack too high: other rules refuse the last two
 nothing_follows : asks Successor [] [] (longer (plain opcodes.Quit [])) × asks Successor (from (pos 0) (pos 5) refl ∷ []) [] (longer divide) × asks Successor [] (replicate 64 (point 7)) (longer push)
 unfolding divide push operation_of demands_of outcome_of small
 nothing_follows = (
-  λ divides reads knows begins. (refl, by_answers small (longer (plain opcodes.Quit [])) (before [] []) _ tt tt),
+  λ divides reads knows begins. (refl, by_answers small 10 (longer (plain opcodes.Quit [])) (before [] []) _ tt tt),
   λ divides reads knows begins. absurd (divides (record { word = omega arith; member = (record { le = tt }, record { le = tt }) })),
-  λ divides reads knows begins. (refl, by_answers small (longer push) (before [] (replicate 64 (point 7))) _ (λ low. absurd (omega (arith, low))) tt),
+  λ divides reads knows begins. (refl, by_answers small 10 (longer push) (before [] (replicate 64 (point 7))) _ (λ low. absurd (omega (arith, low))) tt),
 )
 
 -- ---- values that are stored
@@ -552,8 +555,8 @@ stored_in_local = ((omega arith, record { in_locals = (interval_sound.single 9 (
 called_by :
     (routine place result : ℕ) (g : Frame) (gs : List Frame) (c : Callers interval_operations small routine place result (g ∷ gs))
     → (1 ≤ routine) × (small.entry place ≡ Some c.1) × ((x : ℕ) → In interval_operations (small.result routine) x → FitsWith interval_operations small result x c.1.shape g)
-    × Callers interval_operations small c.1.routine g.return_place g.result gs
-called_by routine place result g gs c = (c.0, c.2, c.3, c.4)
+    × AreImplied interval_operations small.globals (small.facts place) × Callers interval_operations small c.1.routine g.return_place g.result gs
+called_by routine place result g gs c = (c.0, c.2, c.3, c.4, c.5)
 
 -- a global that takes a value leaves the frame as it is
 stored_in_global : FitsWith interval_operations small 16 3 (before (point 4 ∷ []) []) of_local
@@ -577,8 +580,8 @@ begins_with : ℕ → Shape Interval → Claims Interval
 begins_with number said = record small { entry = λ p. Some (record { routine = number; shape = said }) }
 
 first_place : HasFirstPlace interval_operations (begins_with 0 (before [] [])) nowhere × (HasFirstPlace interval_operations (begins_with 1 (before [] [])) nowhere → ⊥)
-unfolding begins_with
-first_place = (record { entry = record { routine = 0; shape = before [] [] }; listed = refl; main = refl; no_locals = refl; no_slots = refl }, λ f. let is = same_Some _ _ f.listed in omega (arith, ap (λ (e : Entry Interval). e.routine) is, f.main))
+unfolding begins_with small
+first_place = (record { entry = record { routine = 0; shape = before [] [] }; listed = refl; main = refl; no_locals = refl; no_slots = refl; implied = tt }, λ f. let is = same_Some _ _ f.listed in omega (arith, ap (λ (e : Entry Interval). e.routine) is, f.main))
 
 first_place_empty : (HasFirstPlace interval_operations (begins_with 0 (before (point 1 ∷ []) [])) nowhere → ⊥) × (HasFirstPlace interval_operations (begins_with 0 (before [] (point 1 ∷ []))) nowhere → ⊥)
 unfolding begins_with
@@ -604,7 +607,7 @@ abbrev begun : Entry Interval
 begun = record { routine = 1; shape = before (from (pos 0) (pos 7) refl ∷ point 9 ∷ []) [] }
 
 routines : Claims Interval
-routines = record { ranges = []; globals = from (pos 0) (pos 4) refl ∷ []; entry = λ p. if p == 9 then Some begun else None; result = λ r. point 5; routine_at = λ p. if p == 4 then Some 0 else None }
+routines = record { ranges = []; globals = from (pos 0) (pos 4) refl ∷ []; entry = λ p. if p == 9 then Some begun else None; facts = λ p. []; result = λ r. point 5; routine_at = λ p. if p == 4 then Some 0 else None }
 
 seven : In interval_operations (from (pos 0) (pos 7) refl) 7
 seven = record { word = omega arith; member = (record { le = tt }, record { le = tt }) }
@@ -614,9 +617,9 @@ begins_there : Begins interval_operations routines two_locals [] 4 × Begins int
 unfolding words_from routines two_locals
 begins_there =
     let first = interval_sound.single 9 (omega arith) in (
-      record { index = 0; routine = refl; entry = begun; listed = refl; same = refl; empty = refl; starts = (seven, (first, tt)) },
-      record { index = 0; routine = refl; entry = begun; listed = refl; same = refl; empty = refl; starts = (λ x inside. inside, (first, tt)) },
-      record { index = 0; routine = refl; entry = begun; listed = refl; same = refl; empty = refl; starts = (λ x inside. inside, (λ x inside. inside, tt)) },
+      record { index = 0; routine = refl; entry = begun; listed = refl; same = refl; empty = refl; starts = (seven, (first, tt)); implied = tt },
+      record { index = 0; routine = refl; entry = begun; listed = refl; same = refl; empty = refl; starts = (λ x inside. inside, (first, tt)); implied = tt },
+      record { index = 0; routine = refl; entry = begun; listed = refl; same = refl; empty = refl; starts = (λ x inside. inside, (λ x inside. inside, tt)); implied = tt },
     )
 
 -- not where an argument may be 8, and not at another place
@@ -636,8 +639,8 @@ unfolding routines
 gives_back = (refl, refl)
 
 -- behind a call play goes on in the routine of the call, whichever variable takes the result
-leads_behind : (r v : ℕ) (f : Shape Interval) (q : ℕ) → GoesOn interval_operations routines r v f q (Entering (point 2)) → Leads interval_operations routines r (with_result (Some (result_at interval_operations routines 4)) v f) q
-leads_behind r v f q goes_on = goes_on 2 (interval_sound.single 2 (omega arith)) (λ e. omega (arith, e))
+leads_behind : (r v : ℕ) (known : List Interval) (f : Shape Interval) (q : ℕ) → GoesOn interval_operations routines r v known f q (Entering (point 2)) → Leads interval_operations routines r routines.globals (with_result (Some (result_at interval_operations routines 4)) v f) q
+leads_behind r v known f q goes_on = goes_on 2 (interval_sound.single 2 (omega arith)) (λ e. omega (arith, e))
 
 -- a global doesn't take it
 untaken : TakesBack interval_operations routines 16 (Entering (point 2)) → ⊥
@@ -649,7 +652,7 @@ untaken takes = (takes 2 (interval_sound.single 2 (omega arith)) (λ e. omega (a
 nothing_asked :
     Finds interval_operations two_objects (Answered Address) (point 1) (point 9) × FillsOpen interval_operations two_objects (λ p. true) (Answered Value) (point 1) (point 1)
     × AreWritten interval_operations two_objects (λ p. true) Reading Byte (point 0) (point 0) × AreRead interval_operations two_objects Writing Byte (point 0) (point 0)
-    × Enters interval_operations routines two_objects [] (Returning (point 2)) × GoesOn interval_operations routines 0 16 shape 0 (Returning (point 2)) × TakesBack interval_operations routines 16 (Returning (point 2))
+    × Enters interval_operations routines two_objects [] (Returning (point 2)) × GoesOn interval_operations routines 0 16 [] shape 0 (Returning (point 2)) × TakesBack interval_operations routines 16 (Returning (point 2))
 nothing_asked = ((λ x n least most object number. refl), tt, tt, tt, tt, tt, tt)
 
 -- a stack of 64 slots is low, and one of 65 isn't

@@ -24,7 +24,7 @@ use Rattle.zflow.specs.Transfer.{demands_of, outcome_of, outcome_at}
 use Rattle.zrule.specs.declared.rule.Rule.{Rule}
 use Rattle.zrule.specs.declared.rule.Rule.TheVariants as rules
 use Rattle.zrule.specs.Numbers.{number_of}
-use Rattle.zrule.specs.Claims.{Claims, told_of}
+use Rattle.zrule.specs.Claims.{Claims, told_of, globals_at}
 use Rattle.zrule.specs.Rules.{Asks, IsLowestBroken, IsThere, Keeps, Leads, Whatever}
 use Rattle.zrule.proofs.Asking.{asks_keeps}
 use Rattle.zrule.proofs.Instances.{at_bare, bare, bare_entry, certificate_at, claims_at}
@@ -51,11 +51,11 @@ there : IsThere (story 0x70) 0x370 put × IsThere (story 0x9A) 0x370 put
 unfolding story memory put instruction_at head_at variable_head checked_head operand_at operands_at store_if branch_if text_if operation_of
 there = (record { static = omega arith; decodes = refl }, record { static = omega arith; decodes = refl })
 
-next_listed : Leads interval_operations claims 0 bare 0x375
+next_listed : Leads interval_operations claims 0 claims.globals bare 0x375
 unfolding claims claims_at certificate_at at_bare bare_entry bare
-next_listed = record { entry = record { routine = 0; shape = record { locals = []; slots = [] } }; listed = refl; same = refl; covered = record { locals = tt; slots = tt } }
+next_listed = record { entry = record { routine = 0; shape = record { locals = []; slots = [] } }; listed = refl; same = refl; covered = record { locals = tt; slots = tt }; implied = tt }
 
-by_answers : (s : LoadedStory) (P : Outcome Interval → Type 0) → IfSome (outcome_at interval_operations claims.globals put bare (told_of claims s) true) P → IfSome (outcome_at interval_operations claims.globals put bare (told_of claims s) false) P → Whatever interval_operations claims s put bare P
+by_answers : (s : LoadedStory) (P : Outcome Interval → Type 0) → IfSome (outcome_at interval_operations (globals_at claims 0x370) put bare (told_of claims s) true) P → IfSome (outcome_at interval_operations (globals_at claims 0x370) put bare (told_of claims s) false) P → Whatever interval_operations claims 0x370 s put bare P
 by_answers s P held failed w (true, comes) = subst (λ (x : Option (Outcome Interval)). IfSome x P) comes held
 by_answers s P held failed w (false, comes) = subst (λ (x : Option (Outcome Interval)). IfSome x P) comes failed
 

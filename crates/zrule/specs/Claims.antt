@@ -1,10 +1,12 @@
 -- What a certificate says of a story, as the rules see it: over a type V of sets of words (own).
 use Rattle.std.specs.Prelude.{ℕ, zero, suc, Bool, List, reverse, Option, Some, None, option_map, slice_get}
 use Rattle.zdomain.specs.Domain.{SetOperations}
+use Rattle.zcert.specs.declared.parts.Fact.{Fact}
 use Rattle.zcert.specs.declared.parts.Routine.{Routine}
+use Rattle.zcert.specs.Facts.{facts_at}
 use Rattle.zcert.specs.Certificate.{Instruction as Listed, Certificate}
 use Rattle.zcert.specs.Listed.{listed_at, routine_at}
-use Rattle.zflow.specs.Transfer.{Shape}
+use Rattle.zflow.specs.Transfer.{Shape, with_facts}
 use Rattle.zcert.specs.declared.parts.Range.{Range}
 use Rattle.zstory.specs.LoadedStory.{LoadedStory}
 use Rattle.zpairs.specs.Frozen.{FrozenStory, frozen_by}
@@ -21,6 +23,8 @@ pub record Claims (V : Type 0) : Type 0 where
   pub globals : List V
   -- what is said of a place, where it is listed
   pub entry : ℕ → Option (Entry V)
+  -- what is stated of globals at a place besides
+  pub facts : ℕ → List (Fact V)
   -- the values that a routine may give, by its number
   pub result : ℕ → V
   -- the index of the routine that begins at a place, if one does; its number is one more
@@ -33,6 +37,10 @@ frozen_in claims = frozen_by claims.ranges
 -- a story, with those places
 abbrev pub told_of : {V : Type 0} → Claims V → LoadedStory → FrozenStory
 told_of claims story = record { story = story; ranges = claims.ranges }
+
+-- the values that each global may have at a place
+abbrev pub globals_at : {V : Type 0} → Claims V → ℕ → List V
+globals_at claims p = with_facts claims.globals (claims.facts p)
 
 -- ---- the claims of a certificate
 
@@ -54,6 +62,7 @@ claims_of o c = record {
   ranges = c.ranges;
   globals = c.globals;
   entry = λ p. option_map entry_of (listed_at c.instructions p);
+  facts = facts_at c.facts;
   result = result_of o.any c.routines;
   routine_at = routine_at c.routines;
 }

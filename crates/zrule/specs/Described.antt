@@ -18,10 +18,11 @@ use Rattle.zstate.specs.declared.halt.Stop.TheVariants as stops
 use Rattle.zstory.specs.LoadedStory.{IsSound}
 use Rattle.zstory.specs.Objects.{IsObjectCount}
 use Rattle.zobj.specs.Tree.{IsTree}
+use Rattle.zcert.specs.declared.parts.Fact.{Fact}
 use Rattle.zflow.specs.Transfer.{Shape}
 use Rattle.zrule.specs.Claims.{Entry, Claims, frozen_in}
 use Rattle.zplace.specs.Bytes.{IsFixed}
-use Rattle.zrule.specs.Rules.{HasGlobals, Supports, SupportsWhere}
+use Rattle.zrule.specs.Rules.{AreImplied, HasGlobals, global_in, Supports, SupportsWhere}
 
 module _ {V : Type 0} (o : SetOperations V) (claims : Claims V) where
   -- the locals and the stack lie in the sets stated, and are as many
@@ -36,12 +37,17 @@ module _ {V : Type 0} (o : SetOperations V) (claims : Claims V) where
       (MatchBool (nat_lt v 16) ((v ≤ length g.locals) × Fits e (slice_set g.locals (v - 1) x) g.stack)
       ((v < 256) × MatchOption (slice_get claims.globals (v - 16)) ⊥ (λ values. In o values x) × Fits e g.locals g.stack))
 
-  -- each caller, whatever the routine above it may give; the main code alone was called by nothing
+  -- Each caller, whatever the routine above it may give; the main code alone was called by nothing. What is stated of globals where it
+  -- goes on holds of all that they may have.
   abbrev pub Callers : ℕ → ℕ → ℕ → List Frame → Type 0
   Callers routine return_place result [] = routine ≡ 0
   Callers routine return_place result (g ∷ gs) =
       (1 ≤ routine) × (e : Entry V) × (claims.entry return_place ≡ Some e)
-      × ((x : ℕ) → In o (claims.result routine) x → FitsWith result x e.shape g) × Callers e.routine g.return_place g.result gs
+      × ((x : ℕ) → In o (claims.result routine) x → FitsWith result x e.shape g) × AreImplied o claims.globals (claims.facts return_place) × Callers e.routine g.return_place g.result gs
+
+  -- what is stated of globals at a place
+  abbrev pub HaveFacts : LoadedStory → List ℕ → ℕ → Type 0
+  HaveFacts story memory p = AllByRecursion (λ (f : Fact V). In o f.values (global_in story memory f.global)) (claims.facts p)
 
   -- what is said of every memory of a play
   pub record DescribedMemory (story : LoadedStory) (memory : List ℕ) : Type 0 where
@@ -60,6 +66,7 @@ module _ {V : Type 0} (o : SetOperations V) (claims : Claims V) where
     pub fits : Fits entry.shape s.frame.locals s.frame.stack
     pub callers : Callers entry.routine s.frame.return_place s.frame.result s.callers
     pub memory : DescribedMemory story s.memory
+    pub facts : HaveFacts story s.memory at
 
   -- no fault, and what comes next is described
   abbrev pub IsSafe : ℕ → LoadedStory → Result Done Halt → Type 0

@@ -5,7 +5,7 @@ use Rattle.zdomain.specs.Domain.{SetOperations, In}
 use Rattle.zflow.specs.declared.parts.Lead.{Lead}
 use Rattle.zflow.specs.declared.flow.Edge.{Edge}
 use Rattle.zflow.specs.declared.flow.Flow.{Flow}
-use Rattle.zflow.specs.Transfer.{Shape, slots_with}
+use Rattle.zflow.specs.Transfer.{Shape, slots_with, globals_after}
 use Rattle.zrule.specs.declared.rule.Rule.{Rule}
 use Rattle.zrule.specs.declared.rule.Rule.TheVariants as rules
 use Rattle.zrule.specs.Claims.{Claims, Entry}
@@ -24,10 +24,11 @@ abbrev pub stated_for : {V : Type 0} → ℕ → Option (Entry V) → Option V
 stated_for v None = None
 stated_for v (Some e) = if v == 0 then slice_get e.shape.slots 0 else (if nat_lt v 16 then slice_get e.shape.locals (v - 1) else None)
 
-module _ {V : Type 0} (o : SetOperations V) (claims : Claims V) (story : LoadedStory) (args : List V) (routine next target : ℕ) where
-  -- an edge of an instruction of the routine, in front of the place `next`, whose result goes to the target
+module _ {V : Type 0} (o : SetOperations V) (claims : Claims V) (story : LoadedStory) (globals args : List V) (routine next target : ℕ) where
+  -- an edge of an instruction of the routine, in front of the place `next`, whose result goes to the target; the globals have these sets
+  -- before it
   abbrev pub EdgeKeeps : Rule → Edge V → Type 0
-  EdgeKeeps rules.Successor edge = IfSome edge.after (StaysLow o claims target edge.lead) → IfSome edge.after (λ f. GoesOn o claims routine target f next edge.lead)
+  EdgeKeeps rules.Successor edge = IfSome edge.after (StaysLow o claims target edge.lead) → IfSome edge.after (λ f. GoesOn o claims routine target (globals_after globals target edge.outcome) f next edge.lead)
   EdgeKeeps rules.Called edge = IfSome edge.after (λ f. Enters o claims story args edge.lead)
   EdgeKeeps rules.Returned edge = IfSome edge.after (λ f. Returns o claims routine edge.lead)
   EdgeKeeps rules.Stored edge = IfSome edge.after (λ f. Takes o claims edge.outcome.gives target × TakesInPlace o claims edge.outcome.assigns × TakesBack o claims target edge.lead)

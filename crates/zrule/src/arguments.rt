@@ -6,7 +6,7 @@ ghost use Rattle.zdomain.specs.Domain.{Within};
 ghost use Rattle.zcert.specs.Listed.{seen};
 ghost use Rattle.zflow.specs.Transfer.{argument_sets};
 ghost use Rattle.zrule.specs.Blocks.{sets_of};
-ghost use Rattle.zrule.specs.Claims.{entry_of};
+ghost use Rattle.zrule.specs.Claims.{claims_of, entry_of, globals_at};
 
 use crate::site::Site;
 use zcert::Spelled;
@@ -66,7 +66,7 @@ impl<V: Domain> Arguments<V> {
 
 /// The arguments that an instruction calls a routine with.
 pub(crate) fn arguments_of<V: Spelled>(site: Site<'_, V>) -> Arguments<V>
-    ensures { sets_of result ≡ argument_sets V.operations site.entry.certificate.now.globals site.entry.instruction.now (entry_of (seen site.entry.listed.now)).shape }
+    ensures { sets_of result ≡ argument_sets V.operations (globals_at (claims_of V.operations site.entry.certificate.now) site.entry.listed.now.address) site.entry.instruction.now (entry_of (seen site.entry.listed.now)).shape }
 {
     let Some(first) = site.argument(0) else {
         return Arguments::Zero;

@@ -10,6 +10,7 @@ ghost use Rattle.zrule.specs.Edges.{IsNextAbove};
 ghost use Rattle.zrule.specs.Rules.{Begins, EachCallee, Starts, result_at};
 
 use crate::arguments::Arguments;
+use crate::facts::hold_anyway;
 use crate::site::Site;
 use crate::wanted::Wanted;
 use zcert::{Certificate, Instruction, Spelled};
@@ -146,7 +147,10 @@ fn begins_at<V: Spelled>(
     let Some(first) = certificate.instruction_at(code, room) else {
         return false;
     };
-    opens(&first, index) && starts(memory, arguments, at + 1, count, first.locals)
+    if !opens(&first, index) {
+        return false;
+    }
+    starts(memory, arguments, at + 1, count, first.locals) && hold_anyway(certificate, code)
 }
 
 /// Whether an instruction is listed in the routine of an index, with an empty stack.

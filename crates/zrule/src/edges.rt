@@ -4,20 +4,22 @@ ghost use Rattle.std.specs.Prelude.{◌≡◌, ◌↔◌, ◌*◌, ◌+◌, ◌<
 ghost use Rattle.zdomain.specs.Domain.{In, Within};
 ghost use Rattle.zcode.specs.Operation.{target};
 ghost use Rattle.zflow.specs.declared.parts.Lead.TheVariants.{Ahead, Entering, Returning};
-ghost use Rattle.zflow.specs.Transfer.{Shape, argument_sets, with_result};
+ghost use Rattle.zflow.specs.Transfer.{Shape, argument_sets, globals_after, with_result};
+ghost use Rattle.zcert.specs.Facts.{facts_at};
 ghost use Rattle.zcert.specs.Listed.{Finds, seen};
 ghost use Rattle.zrule.specs.Blocks.{AreBlocks};
-ghost use Rattle.zrule.specs.Claims.{Claims, claims_of, entry_of};
+ghost use Rattle.zrule.specs.Claims.{Claims, claims_of, entry_of, globals_at};
 ghost use Rattle.zrule.specs.Edges.{StaysLow, stated_for};
-ghost use Rattle.zrule.specs.Rules.{Begins, Covers, EachCallee, Enters, GoesOn, Leads, Returns, Takes, TakesBack, TakesInPlace, result_at};
+ghost use Rattle.zrule.specs.Rules.{AreImplied, Begins, Covers, EachCallee, Enters, GoesOn, Leads, Returns, Takes, TakesBack, TakesInPlace, result_at};
 
 use crate::arguments::arguments_of;
 use crate::callees::{callees_are, next_above, result_of};
+use crate::facts::{hold_anyway, is_implied};
 use crate::site::Site;
 use crate::wanted::Wanted;
-use zcert::{Certificate, Instruction, Spelled};
+use zcert::{Certificate, Fact, Instruction, Spelled};
 use zdomain::Domain;
-use zflow::{Edge, Known, Lead};
+use zflow::{Edge, Known, Lead, Outcome, global_behind};
 
 /// The greatest height of a stack behind an edge.
 const MAX_HEIGHT: usize = 64;
@@ -46,10 +48,12 @@ fn most_before<V: Spelled>(lead: Lead<V>, target: u8) -> usize
 pub(crate) fn goes_on<V: Spelled>(site: Site<'_, V>, edge: &Edge<'_, V>) -> bool
     requires near { site.listed.now.address + site.instruction.now.size ≤ 131072 }
     requires told { IfSome site.blocks (λ b. AreBlocks V.operations (claims_of V.operations site.certificate.now) site.story.now b.now) }
-    ensures { IsTrue result ↔ IfSome edge.now.after (λ f. GoesOn V.operations (claims_of V.operations site.entry.certificate.now) site.entry.listed.now.routine (target site.entry.instruction.now) f (site.entry.listed.now.address + site.entry.instruction.now.size) edge.now.lead) }
+    ensures { IsTrue result ↔ IfSome edge.now.after (λ f. GoesOn V.operations (claims_of V.operations site.entry.certificate.now) site.entry.listed.now.routine (target site.entry.instruction.now) (globals_after (globals_at (claims_of V.operations site.entry.certificate.now) site.entry.listed.now.address) (target site.entry.instruction.now) edge.now.outcome) f (site.entry.listed.now.address + site.entry.instruction.now.size) edge.now.lead) }
 {
     match (&edge.after, edge.lead) {
-        (Some(after), Lead::Ahead(distance)) => leads_ahead(site, after, distance),
+        (Some(after), Lead::Ahead(distance)) => {
+            leads_ahead(site, after, &edge.outcome, distance)
+        }
         (Some(after), Lead::Entering(set)) => callees_lead(site, set, after),
         _ => true,
     }
@@ -59,7 +63,7 @@ pub(crate) fn goes_on<V: Spelled>(site: Site<'_, V>, edge: &Edge<'_, V>) -> bool
 pub(crate) fn enters<V: Spelled>(site: Site<'_, V>, edge: &Edge<'_, V>) -> bool
     requires near { site.listed.now.address + site.instruction.now.size ≤ 131072 }
     requires told { IfSome site.blocks (λ b. AreBlocks V.operations (claims_of V.operations site.certificate.now) site.story.now b.now) }
-    ensures { IsTrue result ↔ IfSome edge.now.after (λ f. Enters V.operations (claims_of V.operations site.entry.certificate.now) site.entry.story.now (argument_sets V.operations site.entry.certificate.now.globals site.entry.instruction.now (entry_of (seen site.entry.listed.now)).shape) edge.now.lead) }
+    ensures { IsTrue result ↔ IfSome edge.now.after (λ f. Enters V.operations (claims_of V.operations site.entry.certificate.now) site.entry.story.now (argument_sets V.operations (globals_at (claims_of V.operations site.entry.certificate.now) site.entry.listed.now.address) site.entry.instruction.now (entry_of (seen site.entry.listed.now)).shape) edge.now.lead) }
 {
     match (&edge.after, edge.lead) {
         (Some(_), Lead::Entering(set)) => callees_begin(site, set),
@@ -70,7 +74,7 @@ pub(crate) fn enters<V: Spelled>(site: Site<'_, V>, edge: &Edge<'_, V>) -> bool
 /// Whether each routine of a set begins with the arguments of the instruction.
 fn callees_begin<V: Spelled>(site: Site<'_, V>, set: V) -> bool
     requires { IfSome site.blocks (λ b. AreBlocks V.operations (claims_of V.operations site.certificate.now) site.story.now b.now) }
-    ensures { IsTrue result ↔ EachCallee V.operations (claims_of V.operations site.entry.certificate.now) set (Begins V.operations (claims_of V.operations site.entry.certificate.now) site.entry.story.now (argument_sets V.operations site.entry.certificate.now.globals site.entry.instruction.now (entry_of (seen site.entry.listed.now)).shape)) }
+    ensures { IsTrue result ↔ EachCallee V.operations (claims_of V.operations site.entry.certificate.now) set (Begins V.operations (claims_of V.operations site.entry.certificate.now) site.entry.story.now (argument_sets V.operations (globals_at (claims_of V.operations site.entry.certificate.now) site.entry.listed.now.address) site.entry.instruction.now (entry_of (seen site.entry.listed.now)).shape)) }
 {
     callees_are(site, set, Wanted::Begin(arguments_of(site)))
 }
@@ -80,7 +84,7 @@ fn callees_begin<V: Spelled>(site: Site<'_, V>, set: V) -> bool
 fn callees_lead<V: Spelled>(site: Site<'_, V>, set: V, after: &Known<'_, V>) -> bool
     requires near { site.listed.now.address + site.instruction.now.size ≤ 131072 }
     requires told { IfSome site.blocks (λ b. AreBlocks V.operations (claims_of V.operations site.certificate.now) site.story.now b.now) }
-    ensures { IsTrue result ↔ EachCallee V.operations (claims_of V.operations site.entry.certificate.now) set (λ p. Leads V.operations (claims_of V.operations site.entry.certificate.now) site.entry.listed.now.routine (with_result (Some (result_at V.operations (claims_of V.operations site.entry.certificate.now) p)) (target site.entry.instruction.now) after.now) (site.entry.listed.now.address + site.entry.instruction.now.size)) }
+    ensures { IsTrue result ↔ EachCallee V.operations (claims_of V.operations site.entry.certificate.now) set (λ p. Leads V.operations (claims_of V.operations site.entry.certificate.now) site.entry.listed.now.routine site.entry.certificate.now.globals (with_result (Some (result_at V.operations (claims_of V.operations site.entry.certificate.now) p)) (target site.entry.instruction.now) after.now) (site.entry.listed.now.address + site.entry.instruction.now.size)) }
 {
     if next_above(set, 0).is_none() {
         return true;
@@ -97,7 +101,7 @@ fn leads_stated<V: Spelled>(site: Site<'_, V>, set: V, after: &Known<'_, V>, sta
     requires told { IfSome site.blocks (λ b. AreBlocks V.operations (claims_of V.operations site.certificate.now) site.story.now b.now) }
     requires stated { stated_for (target site.instruction.now) ((claims_of V.operations site.certificate.now).entry (site.listed.now.address + site.instruction.now.size)) ≡ Some stated }
     requires called { (w : ℕ) × In V.operations set w × (0 < w) }
-    ensures { IsTrue result ↔ EachCallee V.operations (claims_of V.operations site.entry.certificate.now) set (λ p. Leads V.operations (claims_of V.operations site.entry.certificate.now) site.entry.listed.now.routine (with_result (Some (result_at V.operations (claims_of V.operations site.entry.certificate.now) p)) (target site.entry.instruction.now) after.now) (site.entry.listed.now.address + site.entry.instruction.now.size)) }
+    ensures { IsTrue result ↔ EachCallee V.operations (claims_of V.operations site.entry.certificate.now) set (λ p. Leads V.operations (claims_of V.operations site.entry.certificate.now) site.entry.listed.now.routine site.entry.certificate.now.globals (with_result (Some (result_at V.operations (claims_of V.operations site.entry.certificate.now) p)) (target site.entry.instruction.now) after.now) (site.entry.listed.now.address + site.entry.instruction.now.size)) }
 {
     if !leads_given(site, after, stated) {
         return false;
@@ -121,23 +125,48 @@ fn stated_behind<V: Spelled>(site: Site<'_, V>) -> Option<V>
 }
 
 /// Whether what is known leads on to the place so many bytes behind the instruction.
-fn leads_ahead<V: Spelled>(site: Site<'_, V>, after: &Known<'_, V>, distance: i32) -> bool
+fn leads_ahead<V: Spelled>(
+    site: Site<'_, V>,
+    after: &Known<'_, V>,
+    outcome: &Outcome<V>,
+    distance: i32,
+) -> bool
     requires { site.listed.now.address + site.instruction.now.size ≤ 131072 }
-    ensures { IsTrue result ↔ GoesOn V.operations (claims_of V.operations site.entry.certificate.now) site.entry.listed.now.routine (target site.entry.instruction.now) after.now (site.entry.listed.now.address + site.entry.instruction.now.size) (Ahead distance) }
+    ensures { IsTrue result ↔ GoesOn V.operations (claims_of V.operations site.entry.certificate.now) site.entry.listed.now.routine (target site.entry.instruction.now) (globals_after (globals_at (claims_of V.operations site.entry.certificate.now) site.entry.listed.now.address) (target site.entry.instruction.now) outcome.now) after.now (site.entry.listed.now.address + site.entry.instruction.now.size) (Ahead distance) }
 {
     match u32::try_from(i64::from(site.next()) + i64::from(distance)) {
-        Ok(to) => leads(site, after, to),
+        Ok(to) => leads(site, after, outcome, to),
         Err(_) => false,
     }
 }
 
-/// Whether a place is listed in the routine, at equal height, with sets that contain what is known.
-fn leads<V: Spelled>(site: Site<'_, V>, after: &Known<'_, V>, to: u32) -> bool
-    ensures { IsTrue result ↔ Leads V.operations (claims_of V.operations site.entry.certificate.now) site.entry.listed.now.routine after.now to }
+/// Whether a place is listed in the routine, at equal height, with sets that contain what is known, and facts that do.
+fn leads<V: Spelled>(site: Site<'_, V>, after: &Known<'_, V>, outcome: &Outcome<V>, to: u32) -> bool
+    ensures { IsTrue result ↔ Leads V.operations (claims_of V.operations site.entry.certificate.now) site.entry.listed.now.routine (globals_after (globals_at (claims_of V.operations site.entry.certificate.now) site.entry.listed.now.address) (target site.entry.instruction.now) outcome.now) after.now to }
 {
     match index_near(site.certificate, site.near, to) {
-        Some(index) => leads_to(site, after, index),
+        Some(index) => { leads_to(site, after, index) && keeps_facts(site, outcome, to) }
         None => false,
+    }
+}
+
+/// Whether the facts at a place hold of all that is known of the globals behind an outcome.
+fn keeps_facts<V: Spelled>(site: Site<'_, V>, outcome: &Outcome<V>, to: u32) -> bool
+    ensures { IsTrue result ↔ AreImplied V.operations (globals_after (globals_at (claims_of V.operations site.entry.certificate.now) site.entry.listed.now.address) (target site.entry.instruction.now) outcome.now) (facts_at site.entry.certificate.now.facts to) }
+{
+    are_kept(site, outcome, site.certificate.facts_at(to))
+}
+
+/// Whether facts hold of all that is known of the globals behind an outcome.
+fn are_kept<V: Spelled>(site: Site<'_, V>, outcome: &Outcome<V>, facts: &[Fact<V>]) -> bool
+    ensures { IsTrue result ↔ AreImplied V.operations (globals_after (globals_at (claims_of V.operations site.entry.certificate.now) site.entry.listed.now.address) (target site.entry.instruction.now) outcome.now) facts.now }
+{
+    match facts {
+        [] => true,
+        [fact, rest @ ..] => {
+            let known = global_behind(site.globals(), outcome, site.target(), fact.global);
+            is_implied(known, *fact) && are_kept(site, outcome, rest)
+        }
     }
 }
 
@@ -154,10 +183,12 @@ fn leads_to<V: Spelled>(site: Site<'_, V>, after: &Known<'_, V>, index: usize) -
 /// Whether the place behind the instruction is, once its result variable is given a value of the set.
 fn leads_given<V: Spelled>(site: Site<'_, V>, after: &Known<'_, V>, set: V) -> bool
     requires { site.listed.now.address + site.instruction.now.size ≤ 131072 }
-    ensures { IsTrue result ↔ Leads V.operations (claims_of V.operations site.entry.certificate.now) site.entry.listed.now.routine (with_result (Some set) (target site.entry.instruction.now) after.now) (site.entry.listed.now.address + site.entry.instruction.now.size) }
+    ensures { IsTrue result ↔ Leads V.operations (claims_of V.operations site.entry.certificate.now) site.entry.listed.now.routine site.entry.certificate.now.globals (with_result (Some set) (target site.entry.instruction.now) after.now) (site.entry.listed.now.address + site.entry.instruction.now.size) }
 {
     match index_near(site.certificate, site.near, site.next()) {
-        Some(index) => leads_to_given(site, after, set, index),
+        Some(index) => {
+            leads_to_given(site, after, set, index) && hold_anyway(site.certificate, site.next())
+        }
         None => false,
     }
 }

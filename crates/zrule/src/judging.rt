@@ -13,7 +13,7 @@ ghost use Rattle.zflow.specs.Transfer.{argument_sets};
 ghost use Rattle.zrule.specs.declared.rule.Rule.{Rule as ARule};
 ghost use Rattle.zrule.specs.declared.rule.Rule.TheVariants.{Successor};
 ghost use Rattle.zrule.specs.Blocks.{AreBlocks};
-ghost use Rattle.zrule.specs.Claims.{claims_of, entry_of, Entry, told_of};
+ghost use Rattle.zrule.specs.Claims.{claims_of, entry_of, Entry, told_of, globals_at};
 ghost use Rattle.zobj.specs.Values.{length_before};
 ghost use Rattle.zpairs.specs.Frozen.{frozen_by};
 ghost use Rattle.zruns.specs.Texts.{HasFixedText};
@@ -26,7 +26,7 @@ use crate::objects::{names_attribute, names_object};
 use crate::operands::{has_height, has_locals, is_known};
 use crate::properties::{finds_property, gives_property, knows_answers, puts_open, reads_length};
 use crate::rule::Rule;
-use crate::site::Site;
+use crate::site::{Site, globals_there};
 use crate::texts::{has_line_object, prints_fixed};
 use zcert::{Certificate, Instruction, Spelled};
 use zcode::{Instr, decode_by, text_ends_instruction};
@@ -111,7 +111,7 @@ fn reads<V: Spelled>(story: &Story, demands: &Demands<V>) -> bool
 fn edge_keeps<V: Spelled>(site: Site<'_, V>, edge: &Edge<'_, V>, rule: Rule) -> bool
     requires near { site.listed.now.address + site.instruction.now.size ≤ 131072 }
     requires told { IfSome site.blocks (λ b. AreBlocks V.operations (claims_of V.operations site.certificate.now) site.story.now b.now) }
-    ensures { IsTrue result ↔ EdgeKeeps V.operations (claims_of V.operations site.entry.certificate.now) site.entry.story.now (argument_sets V.operations site.entry.certificate.now.globals site.entry.instruction.now (entry_of (seen site.entry.listed.now)).shape) site.entry.listed.now.routine (site.entry.listed.now.address + site.entry.instruction.now.size) (target site.entry.instruction.now) rule edge.now }
+    ensures { IsTrue result ↔ EdgeKeeps V.operations (claims_of V.operations site.entry.certificate.now) site.entry.story.now (globals_at (claims_of V.operations site.entry.certificate.now) site.entry.listed.now.address) (argument_sets V.operations (globals_at (claims_of V.operations site.entry.certificate.now) site.entry.listed.now.address) site.entry.instruction.now (entry_of (seen site.entry.listed.now)).shape) site.entry.listed.now.routine (site.entry.listed.now.address + site.entry.instruction.now.size) (target site.entry.instruction.now) rule edge.now }
 {
     match rule {
         Rule::Successor => !is_low(edge, site.target()) || goes_on(site, edge),
@@ -127,7 +127,7 @@ fn edge_keeps<V: Spelled>(site: Site<'_, V>, edge: &Edge<'_, V>, rule: Rule) -> 
 fn edges_keep<V: Spelled>(site: Site<'_, V>, flow: &Flow<'_, V>, rule: Rule) -> bool
     requires near { site.listed.now.address + site.instruction.now.size ≤ 131072 }
     requires told { IfSome site.blocks (λ b. AreBlocks V.operations (claims_of V.operations site.certificate.now) site.story.now b.now) }
-    ensures { IsTrue result ↔ EdgesKeep V.operations (claims_of V.operations site.entry.certificate.now) site.entry.story.now (argument_sets V.operations site.entry.certificate.now.globals site.entry.instruction.now (entry_of (seen site.entry.listed.now)).shape) site.entry.listed.now.routine (site.entry.listed.now.address + site.entry.instruction.now.size) (target site.entry.instruction.now) rule flow.now }
+    ensures { IsTrue result ↔ EdgesKeep V.operations (claims_of V.operations site.entry.certificate.now) site.entry.story.now (globals_at (claims_of V.operations site.entry.certificate.now) site.entry.listed.now.address) (argument_sets V.operations (globals_at (claims_of V.operations site.entry.certificate.now) site.entry.listed.now.address) site.entry.instruction.now (entry_of (seen site.entry.listed.now)).shape) site.entry.listed.now.routine (site.entry.listed.now.address + site.entry.instruction.now.size) (target site.entry.instruction.now) rule flow.now }
 {
     let held = match &flow.held {
         Some(edge) => edge_keeps(site, edge, rule),
@@ -151,8 +151,8 @@ fn texts_are_fixed(story: &Story)
 /// Whether what an instruction gives is known: nothing is divided by 0, all that is read can be, and properties answer.
 fn gives_known<V: Spelled>(site: Site<'_, V>, flow: &Flow<'_, V>) -> bool
     requires tables { site.tables.now ≡ record { story = site.story.now; ranges = site.certificate.now.ranges } }
-    requires flow { IsFlow V.operations site.certificate.now.globals (told_of (claims_of V.operations site.certificate.now) site.story.now) site.instruction.now (entry_of (seen site.listed.now)).shape flow.now }
-    ensures { IsTrue result ↔ GivesKnown V.operations (claims_of V.operations site.entry.certificate.now) site.entry.story.now site.entry.instruction.now (entry_of (seen site.entry.listed.now)).shape }
+    requires flow { IsFlow V.operations (globals_at (claims_of V.operations site.certificate.now) site.listed.now.address) (told_of (claims_of V.operations site.certificate.now) site.story.now) site.instruction.now (entry_of (seen site.listed.now)).shape flow.now }
+    ensures { IsTrue result ↔ GivesKnown V.operations (claims_of V.operations site.entry.certificate.now) site.entry.listed.now.address site.entry.story.now site.entry.instruction.now (entry_of (seen site.entry.listed.now)).shape }
 {
     let demands = &flow.demands;
     if !divides(demands) {
@@ -170,9 +170,9 @@ fn has_successors<V: Spelled>(site: Site<'_, V>, flow: &Flow<'_, V>, known: bool
     requires there { IsThere site.story.now site.listed.now.address site.instruction.now }
     requires near { site.listed.now.address + site.instruction.now.size ≤ 131072 }
     requires tables { site.tables.now ≡ record { story = site.story.now; ranges = site.certificate.now.ranges } }
-    requires flow { IsFlow V.operations site.certificate.now.globals (told_of (claims_of V.operations site.certificate.now) site.story.now) site.instruction.now (entry_of (seen site.listed.now)).shape flow.now }
+    requires flow { IsFlow V.operations (globals_at (claims_of V.operations site.certificate.now) site.listed.now.address) (told_of (claims_of V.operations site.certificate.now) site.story.now) site.instruction.now (entry_of (seen site.listed.now)).shape flow.now }
     requires told { IfSome site.blocks (λ b. AreBlocks V.operations (claims_of V.operations site.certificate.now) site.story.now b.now) }
-    requires known { IsTrue known ↔ GivesKnown V.operations (claims_of V.operations site.certificate.now) site.story.now site.instruction.now (entry_of (seen site.listed.now)).shape }
+    requires known { IsTrue known ↔ GivesKnown V.operations (claims_of V.operations site.certificate.now) site.listed.now.address site.story.now site.instruction.now (entry_of (seen site.listed.now)).shape }
     ensures { IsTrue result ↔ Asks V.operations (claims_of V.operations site.entry.certificate.now) site.entry.story.now site.entry.listed.now.address (entry_of (seen site.entry.listed.now)) site.entry.instruction.now Successor }
 {
     if !known {
@@ -190,9 +190,9 @@ fn asks<V: Spelled>(site: Site<'_, V>, flow: &Flow<'_, V>, known: bool, rule: Ru
     requires there { IsThere site.story.now site.listed.now.address site.instruction.now }
     requires near { site.listed.now.address + site.instruction.now.size ≤ 131072 }
     requires tables { site.tables.now ≡ record { story = site.story.now; ranges = site.certificate.now.ranges } }
-    requires flow { IsFlow V.operations site.certificate.now.globals (told_of (claims_of V.operations site.certificate.now) site.story.now) site.instruction.now (entry_of (seen site.listed.now)).shape flow.now }
+    requires flow { IsFlow V.operations (globals_at (claims_of V.operations site.certificate.now) site.listed.now.address) (told_of (claims_of V.operations site.certificate.now) site.story.now) site.instruction.now (entry_of (seen site.listed.now)).shape flow.now }
     requires told { IfSome site.blocks (λ b. AreBlocks V.operations (claims_of V.operations site.certificate.now) site.story.now b.now) }
-    requires known { IsTrue known ↔ GivesKnown V.operations (claims_of V.operations site.certificate.now) site.story.now site.instruction.now (entry_of (seen site.listed.now)).shape }
+    requires known { IsTrue known ↔ GivesKnown V.operations (claims_of V.operations site.certificate.now) site.listed.now.address site.story.now site.instruction.now (entry_of (seen site.listed.now)).shape }
     ensures { IsTrue result ↔ Asks V.operations (claims_of V.operations site.entry.certificate.now) site.entry.story.now site.entry.listed.now.address (entry_of (seen site.entry.listed.now)) site.entry.instruction.now rule }
 {
     let Site {
@@ -243,9 +243,9 @@ fn keeps<V: Spelled>(site: Site<'_, V>, flow: &Flow<'_, V>, known: bool, rule: R
     requires there { IsThere site.story.now site.listed.now.address site.instruction.now }
     requires near { site.listed.now.address + site.instruction.now.size ≤ 131072 }
     requires tables { site.tables.now ≡ record { story = site.story.now; ranges = site.certificate.now.ranges } }
-    requires flow { IsFlow V.operations site.certificate.now.globals (told_of (claims_of V.operations site.certificate.now) site.story.now) site.instruction.now (entry_of (seen site.listed.now)).shape flow.now }
+    requires flow { IsFlow V.operations (globals_at (claims_of V.operations site.certificate.now) site.listed.now.address) (told_of (claims_of V.operations site.certificate.now) site.story.now) site.instruction.now (entry_of (seen site.listed.now)).shape flow.now }
     requires told { IfSome site.blocks (λ b. AreBlocks V.operations (claims_of V.operations site.certificate.now) site.story.now b.now) }
-    requires known { IsTrue known ↔ GivesKnown V.operations (claims_of V.operations site.certificate.now) site.story.now site.instruction.now (entry_of (seen site.listed.now)).shape }
+    requires known { IsTrue known ↔ GivesKnown V.operations (claims_of V.operations site.certificate.now) site.listed.now.address site.story.now site.instruction.now (entry_of (seen site.listed.now)).shape }
     ensures { IsTrue result ↔ Keeps V.operations (claims_of V.operations site.entry.certificate.now) site.entry.story.now site.entry.listed.now.address (entry_of (seen site.entry.listed.now)) rule }
 {
     asks(site, flow, known, rule)
@@ -256,7 +256,7 @@ fn first_broken<V: Spelled>(site: Site<'_, V>, flow: &Flow<'_, V>) -> Option<Rul
     requires there { IsThere site.story.now site.listed.now.address site.instruction.now }
     requires near { site.listed.now.address + site.instruction.now.size ≤ 131072 }
     requires tables { site.tables.now ≡ record { story = site.story.now; ranges = site.certificate.now.ranges } }
-    requires flow { IsFlow V.operations site.certificate.now.globals (told_of (claims_of V.operations site.certificate.now) site.story.now) site.instruction.now (entry_of (seen site.listed.now)).shape flow.now }
+    requires flow { IsFlow V.operations (globals_at (claims_of V.operations site.certificate.now) site.listed.now.address) (told_of (claims_of V.operations site.certificate.now) site.story.now) site.instruction.now (entry_of (seen site.listed.now)).shape flow.now }
     requires told { IfSome site.blocks (λ b. AreBlocks V.operations (claims_of V.operations site.certificate.now) site.story.now b.now) }
     ensures kept { IfNone result ((rule : ARule) → Keeps V.operations (claims_of V.operations site.entry.certificate.now) site.entry.story.now site.entry.listed.now.address (entry_of (seen site.entry.listed.now)) rule) }
     ensures broken { IfSome result (IsLowestBroken V.operations (claims_of V.operations site.entry.certificate.now) site.entry.story.now site.entry.listed.now.address (entry_of (seen site.entry.listed.now))) }
@@ -323,7 +323,7 @@ pub fn judge<'c, V: Spelled>(
     };
     let flow = flow_of(
         tables,
-        certificate.globals(),
+        globals_there(certificate, listed.address),
         listed.locals,
         listed.slots,
         &instruction,

@@ -7,6 +7,7 @@ mod blocks;
 mod callees;
 mod choosing;
 mod edges;
+mod facts;
 mod judging;
 mod laws;
 mod objects;
@@ -18,6 +19,8 @@ mod texts;
 mod wanted;
 
 pub use blocks::Blocks;
+pub use facts::hold_anyway;
 pub use judging::{instruction_there, judge, rule_at};
 pub use laws::{each_step_is_safe, saves_are_accepted};
 pub use rule::Rule;
+pub use site::globals_there;

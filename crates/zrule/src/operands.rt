@@ -122,8 +122,8 @@ pub(crate) fn is_known<V: Spelled>(
     instruction: &Instr,
     demands: &Demands<V>,
 ) -> bool
-    requires { demands.now ≡ demands_at V.operations (claims_of V.operations certificate.now) instruction.now (entry_of (seen listed.now)).shape }
-    ensures { IsTrue result ↔ IsKnown V.operations (claims_of V.operations certificate.now) instruction.now (entry_of (seen listed.now)).shape }
+    requires { demands.now ≡ demands_at V.operations (claims_of V.operations certificate.now) listed.now.address instruction.now (entry_of (seen listed.now)).shape }
+    ensures { IsTrue result ↔ IsKnown V.operations (claims_of V.operations certificate.now) listed.now.address instruction.now (entry_of (seen listed.now)).shape }
 {
     !demands.indirect
         || demands.variable.is_some()

@@ -1,12 +1,14 @@
 //! Where the rules are asked.
 
 ghost use Rattle.std.specs.Prelude.{◌≡◌, ⊤};
+ghost use Rattle.zflow.specs.Lent.{globals_seen};
+ghost use Rattle.zrule.specs.Claims.{claims_of, globals_at};
 
 use crate::blocks::{Block, Blocks};
 use std::alloc::AllocError;
 use zcert::{Certificate, Instruction, Spelled};
 use zcode::Instr;
-use zflow::argument_set;
+use zflow::{Globals, argument_set};
 use zruns::Tables;
 use zstory::Story;
 
@@ -36,19 +38,37 @@ impl<'s, V: Spelled> Clone for Site<'s, V> {
     }
 }
 
+/// The sets that the globals have at an address, as a certificate states.
+pub fn globals_there<V: Spelled>(certificate: &Certificate<V>, address: u32) -> Globals<'_, V>
+    ensures { globals_seen result ≡ globals_at (claims_of V.operations certificate.now) address }
+{
+    Globals {
+        own: certificate.globals(),
+        facts: certificate.facts_at(address),
+    }
+}
+
 impl<'s, V: Spelled> Site<'s, V> {
     ghost use Rattle.std.specs.Prelude.{◌≡◌, ◌+◌, ◌≤◌, IfSome, slice_get};
     ghost use Rattle.zcode.specs.Operation.{target};
     ghost use Rattle.zflow.specs.Transfer.{argument_sets};
     ghost use Rattle.zcert.specs.Listed.{seen};
     ghost use Rattle.zrule.specs.Blocks.{AreBlocks, IsBlock};
-    ghost use Rattle.zrule.specs.Claims.{claims_of, entry_of};
+    ghost use Rattle.zflow.specs.Lent.{globals_seen};
+    ghost use Rattle.zrule.specs.Claims.{claims_of, entry_of, globals_at};
 
     /// The variable that takes its result.
     pub(crate) fn target(self) -> u8
         ensures { result ≡ target self.entry.instruction.now }
     {
         self.instruction.target()
+    }
+
+    /// The sets that the globals have before it.
+    pub(crate) fn globals(self) -> Globals<'s, V>
+        ensures { globals_seen result ≡ globals_at (claims_of V.operations self.entry.certificate.now) self.entry.listed.now.address }
+    {
+        globals_there(self.certificate, self.listed.address)
     }
 
     /// The place behind it.
@@ -61,10 +81,10 @@ impl<'s, V: Spelled> Site<'s, V> {
 
     /// The set of an argument that it calls a routine with, by its place among them, if there is one.
     pub(crate) fn argument(self, index: usize) -> Option<V>
-        ensures { result ≡ slice_get (argument_sets V.operations self.entry.certificate.now.globals self.entry.instruction.now (entry_of (seen self.entry.listed.now)).shape) index }
+        ensures { result ≡ slice_get (argument_sets V.operations (globals_at (claims_of V.operations self.entry.certificate.now) self.entry.listed.now.address) self.entry.instruction.now (entry_of (seen self.entry.listed.now)).shape) index }
     {
         argument_set(
-            self.certificate.globals(),
+            self.globals(),
             self.listed.locals,
             self.listed.slots,
             self.instruction,

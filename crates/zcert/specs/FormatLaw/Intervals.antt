@@ -94,7 +94,7 @@ interval_width = sized_then 2 2 (λ lo bytes. number_at End bytes >>= λ hi. non
     of_none (nonempty (interval_of (cast_signed w16 lo) (cast_signed w16 hi)))))
 
 pub interval_is_format : IsFormat interval_format
-interval_is_format = record { version = omega arith; apart = λ e. absurd cc; unmarked = λ e. absurd cc; takes = interval_takes; bytes = λ i has. IsBytes-append (number End (cast_unsigned w16 i.lo)) (number End (cast_unsigned w16 i.hi)) (IsBytes-number End (cast_unsigned w16 i.lo)) (IsBytes-number End (cast_unsigned w16 i.hi)); long = λ i. omega arith; again = interval_again; none = refl; stays = same_whatever 4 interval_format.value_at interval_width; plain = interval_is_plain }
+interval_is_format = record { version = omega arith; apart = λ e. absurd cc; unmarked = λ e. absurd cc; unstated = λ e. absurd cc; takes = interval_takes; bytes = λ i has. IsBytes-append (number End (cast_unsigned w16 i.lo)) (number End (cast_unsigned w16 i.hi)) (IsBytes-number End (cast_unsigned w16 i.lo)) (IsBytes-number End (cast_unsigned w16 i.hi)); long = λ i. omega arith; again = interval_again; none = refl; stays = same_whatever 4 interval_format.value_at interval_width; plain = interval_is_plain }
 
 -- without one of both ends an interval is cut off
 one_end_short : (b : Begun) (bytes : List ℕ) → length bytes < 2 → interval_format.value_at (end_bytes b ++ bytes) ≡ Err Truncated

@@ -193,6 +193,7 @@ values_is_format = record {
   version = omega arith;
   apart = λ e. absurd cc;
   unmarked = λ e. absurd cc;
+  unstated = λ e. absurd cc;
   takes = value_takes;
   bytes = IsBytes-set;
   long = set_is_long;

@@ -8,7 +8,7 @@ use Rattle.byteorder.specs.Endian.{big_bytes, big_number}
 use Rattle.byteorder.specs.Numbers.{big_from-take, big_from-lt, big_number-reads_back, length-bytes_high_first}
 use Rattle.zcert.specs.declared.error.CertError.{CertError}
 use Rattle.zcert.specs.declared.error.CertError.TheVariants.{Truncated, OutOfMemory}
-use Rattle.zcert.specs.Numbers.{Number, Magic, Version, Release, Checksum, LoadedLength, FrameLimit, RangeCount, RangeFirst, RangeLast, RoutineCount, RoutineAddress, LocalCount, InstructionCount, InstructionAddress, RoutineNumber, Height, End, Kind, WordCount, Word, width, number, HasRoom}
+use Rattle.zcert.specs.Numbers.{Number, Magic, Version, Release, Checksum, LoadedLength, FrameLimit, RangeCount, RangeFirst, RangeLast, RoutineCount, RoutineAddress, LocalCount, InstructionCount, InstructionAddress, RoutineNumber, Height, FactCount, FactAddress, FactGlobal, End, Kind, WordCount, Word, width, number, HasRoom}
 use Rattle.zcert.specs.Steps.{◌>>=◌, need, sized_at, number_at, serial_at}
 use Rattle.zcert.specs.FormatLaw.{IsBytes, Takes, IsPlain}
 
@@ -98,6 +98,9 @@ wide InstructionCount = wide_long
 wide InstructionAddress = wide_long
 wide RoutineNumber = wide_word
 wide Height = wide_byte
+wide FactCount = wide_long
+wide FactAddress = wide_long
+wide FactGlobal = wide_byte
 wide End = wide_word
 wide Kind = wide_byte
 wide WordCount = wide_byte

@@ -1,12 +1,13 @@
 use Rattle.std.proofs.Common.{◌∙◌, true, false}
 use Rattle.zflow.specs.Kept.{shape_of}
+use Rattle.zflow.specs.Lent.{globals_seen}
 use Rattle.zflow.proofs.Answering.{demands_are, outcome_is, mid_is, behind_is}
 use Rattle.zflow.proofs.flow.flow_of.Goals as goal
 
 pub returns : goal.returns
 returns g c =
     let o = g.V.Domain.operations in
-    let globals = c.args.globals.now in
+    let globals = (globals_seen c.args.globals) in
     let told = c.args.tables.now in
     let i = c.args.instruction.now in
     let e = shape_of c.args.locals.now c.args.slots.now in

@@ -10,13 +10,13 @@ use Rattle.zjudge.proofs.judging.judge_save.Goals as goal
 pub returns-then-not-is_save_before-clause-value : goal.returns-then-not-is_save_before-clause-value
 returns-then-not-is_save_before-clause-value g c = λ s held.
     let no : saves (fetch (scope_only c.args.listing.now) (save_place c.args.view.now) c.args.story.now.memory) ≡ false = search rules in
-    judged_place g.V.Domain.operations (claims_of g.V.Domain.operations c.args.certificate.now) c.args.story.now c.are_known.ensures.sound c.are_known.ensures.counted c.are_known.ensures.globals c.args.listing.now (frame_limit c.args.certificate.now) c.args.view.now c.requires.saved c.are_known.ensures.bytes c.requires.fixed s held no
+    judged_place g.V.Domain.operations (claims_of g.V.Domain.operations c.args.certificate.now) c.args.story.now c.are_known.ensures.sound c.are_known.ensures.counted c.are_known.ensures.globals c.are_known.ensures.facts c.args.listing.now (frame_limit c.args.certificate.now) c.args.view.now c.requires.saved c.are_known.ensures.bytes c.requires.fixed s held no
 
 pub returns-then-not-are_few-clause-value : goal.returns-then-not-are_few-clause-value
 returns-then-not-are_few-clause-value g c = λ s held.
     let yes : saves (fetch (scope_only c.args.listing.now) (save_place c.args.view.now) c.args.story.now.memory) ≡ true = search rules in
     let no : nat_le (length c.args.view.now.frames) (frame_limit c.args.certificate.now + 1) ≡ false = search rules in
-    inl (judged_too_deep g.V.Domain.operations (claims_of g.V.Domain.operations c.args.certificate.now) c.args.story.now c.are_known.ensures.sound c.are_known.ensures.counted c.are_known.ensures.globals c.args.listing.now (frame_limit c.args.certificate.now) c.args.view.now c.requires.saved c.are_known.ensures.bytes c.requires.fixed s held yes (leb-false _ _ no))
+    inl (judged_too_deep g.V.Domain.operations (claims_of g.V.Domain.operations c.args.certificate.now) c.args.story.now c.are_known.ensures.sound c.are_known.ensures.counted c.are_known.ensures.globals c.are_known.ensures.facts c.args.listing.now (frame_limit c.args.certificate.now) c.args.view.now c.requires.saved c.are_known.ensures.bytes c.requires.fixed s held yes (leb-false _ _ no))
 
 pub returns-then-not-is_described-clause-value : goal.returns-then-not-is_described-clause-value
 returns-then-not-is_described-clause-value g c = λ s held.
@@ -24,8 +24,8 @@ returns-then-not-is_described-clause-value g c = λ s held.
     let some : 1 ≤ c.args.view.now.place = search (rules, arith) in
     let within : nat_le (length c.args.view.now.frames) (frame_limit c.args.certificate.now + 1) ≡ true = search rules in
     let low : length c.args.view.now.frames ≤ frame_limit c.args.certificate.now + 1 = leb-true _ _ within in
-    let where_described = judged_described g.V.Domain.operations (claims_of g.V.Domain.operations c.args.certificate.now) c.args.story.now c.are_known.ensures.sound c.are_known.ensures.counted c.are_known.ensures.globals c.args.listing.now (frame_limit c.args.certificate.now) c.args.view.now c.requires.saved c.are_known.ensures.bytes c.requires.fixed s held some low in inr (
-      judged_there g.V.Domain.operations (claims_of g.V.Domain.operations c.args.certificate.now) c.args.story.now c.are_known.ensures.sound c.are_known.ensures.counted c.are_known.ensures.globals c.args.listing.now (frame_limit c.args.certificate.now) c.args.view.now c.requires.saved c.are_known.ensures.bytes c.requires.fixed s held yes low,
+    let where_described = judged_described g.V.Domain.operations (claims_of g.V.Domain.operations c.args.certificate.now) c.args.story.now c.are_known.ensures.sound c.are_known.ensures.counted c.are_known.ensures.globals c.are_known.ensures.facts c.args.listing.now (frame_limit c.args.certificate.now) c.args.view.now c.requires.saved c.are_known.ensures.bytes c.requires.fixed s held some low in inr (
+      judged_there g.V.Domain.operations (claims_of g.V.Domain.operations c.args.certificate.now) c.args.story.now c.are_known.ensures.sound c.are_known.ensures.counted c.are_known.ensures.globals c.are_known.ensures.facts c.args.listing.now (frame_limit c.args.certificate.now) c.args.view.now c.requires.saved c.are_known.ensures.bytes c.requires.fixed s held yes low,
       λ d. let both = where_described.1 d in search (rules, both),
     )
 
@@ -35,8 +35,8 @@ returns-clause-value g c = λ s held.
     let some : 1 ≤ c.args.view.now.place = search (rules, arith) in
     let within : nat_le (length c.args.view.now.frames) (frame_limit c.args.certificate.now + 1) ≡ true = search rules in
     let low : length c.args.view.now.frames ≤ frame_limit c.args.certificate.now + 1 = leb-true _ _ within in
-    let where_described = judged_described g.V.Domain.operations (claims_of g.V.Domain.operations c.args.certificate.now) c.args.story.now c.are_known.ensures.sound c.are_known.ensures.counted c.are_known.ensures.globals c.args.listing.now (frame_limit c.args.certificate.now) c.args.view.now c.requires.saved c.are_known.ensures.bytes c.requires.fixed s held some low in (
-      judged_there g.V.Domain.operations (claims_of g.V.Domain.operations c.args.certificate.now) c.args.story.now c.are_known.ensures.sound c.are_known.ensures.counted c.are_known.ensures.globals c.args.listing.now (frame_limit c.args.certificate.now) c.args.view.now c.requires.saved c.are_known.ensures.bytes c.requires.fixed s held yes low,
+    let where_described = judged_described g.V.Domain.operations (claims_of g.V.Domain.operations c.args.certificate.now) c.args.story.now c.are_known.ensures.sound c.are_known.ensures.counted c.are_known.ensures.globals c.are_known.ensures.facts c.args.listing.now (frame_limit c.args.certificate.now) c.args.view.now c.requires.saved c.are_known.ensures.bytes c.requires.fixed s held some low in (
+      judged_there g.V.Domain.operations (claims_of g.V.Domain.operations c.args.certificate.now) c.args.story.now c.are_known.ensures.sound c.are_known.ensures.counted c.are_known.ensures.globals c.are_known.ensures.facts c.args.listing.now (frame_limit c.args.certificate.now) c.args.view.now c.requires.saved c.are_known.ensures.bytes c.requires.fixed s held yes low,
       where_described.0 (search rules),
     )
 

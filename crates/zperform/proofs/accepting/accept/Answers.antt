@@ -1,10 +1,11 @@
-use Rattle.std.proofs.Common.{◌≡◌, ◌∙◌, inl, inr, List, Option, ℕ, rules, subst}
+use Rattle.std.proofs.Common.{inl, List, Option, ℕ, subst}
 use Rattle.zdomain.specs.Interval.{interval_operations}
-use Rattle.zdomain.specs.Values.{values_operations}
 use Rattle.zcert.specs.Format.{interval_format}
-use Rattle.zcert.specs.Lists.{values_format}
-use Rattle.zperform.specs.Accepting.{IsJudgedOf, IsUnaccepted, IsUnacceptedStory}
-use Rattle.zperform.proofs.AcceptLemmas.{first_read, first_unread, handed_on, no_story_refuses, read_well}
+use Rattle.zstory.specs.LoadedStory.{LoadedStory}
+use Rattle.zperform.specs.Accepting.{HoldsStory, IsAcceptedStory, IsUnacceptedStory}
+use Rattle.zperform.specs.declared.accepting.AcceptedStory.{AcceptedStory}
+use Rattle.zperform.specs.declared.outcome.Problem.{Problem}
+use Rattle.zperform.proofs.AcceptLemmas.{for_reason, for_value, handed_on, no_story_refuses, read_behind}
 use Rattle.zperform.proofs.accepting.accept.Goals as goal
 
 pub returns-in_err-story-clause-refused : goal.returns-in_err-story-clause-refused
@@ -14,55 +15,23 @@ returns-in_err-story-clause-refused g c =
     handed_on (IsUnacceptedStory story_known certificate_known) c.from_residual.result _ c.from_residual.ensures
     (inl (no_story_refuses interval_operations interval_format story_known certificate_known c.in_err-story.field-0.0 c.in_err-story.ensures.refused))
 
-pub returns-in_err-first-clause-refused : goal.returns-in_err-first-clause-refused
-returns-in_err-first-clause-refused g c =
-    let story_known = g.F.Files.known c.args.files.now c.args.story.now in
-    let certificate_known = g.F.Files.known c.args.files.now c.args.certificate.now in
-    handed_on (IsUnacceptedStory story_known certificate_known) c.from_residual-in_err-first.result _ c.from_residual-in_err-first.ensures
-    (inl (first_unread interval_operations interval_format story_known certificate_known _ c.in_ok-story.ensures.held c.in_err-first.field-0.0 c.in_err-first.ensures.failed))
-
-pub accept_story-requires-clause-first : goal.accept_story-requires-clause-first
-accept_story-requires-clause-first g c =
-    let same : c.in_ok-first.first.items ≡ c.deref-then-has_lists.result.now = search rules in
-    first_read _ _ c.args.certificate.now _ _ c.read_file.ensures.files.kept same c.in_ok-first.ensures.read
-
-pub accept_story-requires-else-has_lists-clause-first : goal.accept_story-requires-else-has_lists-clause-first
-accept_story-requires-else-has_lists-clause-first g c =
-    let same : c.in_ok-first.first.items ≡ c.deref-else-has_lists.result.now = search rules in
-    first_read _ _ c.args.certificate.now _ _ c.read_file.ensures.files.kept same c.in_ok-first.ensures.read
-
-pub returns-in_err-accepted-clause-refused : goal.returns-in_err-accepted-clause-refused
-returns-in_err-accepted-clause-refused g c =
-    let story_known = g.F.Files.known c.args.files.now c.args.story.now in
-    let problem = c.in_err-accepted.field-0.0 in
-    handed_on (IsUnacceptedStory story_known (g.F.Files.known c.args.files.now c.args.certificate.now)) c.from_residual-in_err-accepted.result _ c.from_residual-in_err-accepted.ensures
-    (inr (subst (λ (known : List ℕ → Option (List ℕ)). IsUnaccepted values_operations values_format story_known (known c.args.certificate.now) problem) (c.read_file.ensures.files.kept ∙ c.open_story.ensures.files.kept) (c.in_err-accepted.ensures.refused story_known c.in_ok-story.ensures.held)))
-
-pub returns-in_err-accepted-2-clause-refused : goal.returns-in_err-accepted-2-clause-refused
-returns-in_err-accepted-2-clause-refused g c =
-    let story_known = g.F.Files.known c.args.files.now c.args.story.now in
-    let problem = c.in_err-accepted-2.field-0.0 in
-    handed_on (IsUnacceptedStory story_known (g.F.Files.known c.args.files.now c.args.certificate.now)) c.from_residual-in_err-accepted-2.result _ c.from_residual-in_err-accepted-2.ensures
-    (inl (subst (λ (known : List ℕ → Option (List ℕ)). IsUnaccepted interval_operations interval_format story_known (known c.args.certificate.now) problem) (c.read_file.ensures.files.kept ∙ c.open_story.ensures.files.kept) (c.in_err-accepted-2.ensures.refused story_known c.in_ok-story.ensures.held)))
-
-pub returns-then-has_lists-clause-accepted : goal.returns-then-has_lists-clause-accepted
-returns-then-has_lists-clause-accepted g c =
-    let story_known = g.F.Files.known c.args.files.now c.args.story.now in
-    subst (λ (known : List ℕ → Option (List ℕ)). IsJudgedOf values_operations values_format story_known (known c.args.certificate.now) c.in_ok-accepted.accepted) (c.read_file.ensures.files.kept ∙ c.open_story.ensures.files.kept) (c.in_ok-accepted.ensures.accepted story_known c.in_ok-story.ensures.held)
-
 pub returns-clause-accepted : goal.returns-clause-accepted
 returns-clause-accepted g c =
     let story_known = g.F.Files.known c.args.files.now c.args.story.now in
-    subst (λ (known : List ℕ → Option (List ℕ)). IsJudgedOf interval_operations interval_format story_known (known c.args.certificate.now) c.in_ok-accepted-2.accepted) (c.read_file.ensures.files.kept ∙ c.open_story.ensures.files.kept) (c.in_ok-accepted-2.ensures.accepted story_known c.in_ok-story.ensures.held)
+    let opened = c.in_ok-story.ensures in
+    let name = c.args.certificate.now in
+    for_value (λ (a : AcceptedStory). (known : Option (List ℕ)) → HoldsStory known c.in_ok-story.story → IsAcceptedStory known (g.F.Files.known c.open_story.new.files name) a) (IsAcceptedStory story_known (g.F.Files.known c.args.files.now name)) c.accept_loaded.result
+    (λ a p. subst (λ (known : List ℕ → Option (List ℕ)). IsAcceptedStory story_known (known name) a) opened.files.kept (p story_known opened.held)) c.accept_loaded.ensures.accepted
 
-pub returns-then-has_lists-clause-files : goal.returns-then-has_lists-clause-files
-returns-then-has_lists-clause-files g c =
-    let opened = c.in_ok-story.ensures.files in
-    let begun = c.in_ok-first.ensures.files in
-    read_well _ _ _ _ _ _ (begun.kept ∙ opened.kept) (begun.blamed.1 (λ e. cc) ∙ opened.blamed.1 (λ e. cc)) (begun.alike ∙ opened.alike) _ _ c.in_ok-accepted.ensures.files (λ e. cc) (λ e. cc)
+pub returns-clause-refused : goal.returns-clause-refused
+returns-clause-refused g c =
+    let story_known = g.F.Files.known c.args.files.now c.args.story.now in
+    let opened = c.in_ok-story.ensures in
+    let name = c.args.certificate.now in
+    for_reason (λ (problem : Problem). (known : Option (List ℕ)) → HoldsStory known c.in_ok-story.story → IsUnacceptedStory known (g.F.Files.known c.open_story.new.files name) problem) (IsUnacceptedStory story_known (g.F.Files.known c.args.files.now name)) c.accept_loaded.result
+    (λ problem p. subst (λ (known : List ℕ → Option (List ℕ)). IsUnacceptedStory story_known (known name) problem) opened.files.kept (p story_known opened.held)) c.accept_loaded.ensures.refused
 
 pub returns-clause-files : goal.returns-clause-files
 returns-clause-files g c =
     let opened = c.in_ok-story.ensures.files in
-    let begun = c.in_ok-first.ensures.files in
-    read_well _ _ _ _ _ _ (begun.kept ∙ opened.kept) (begun.blamed.1 (λ e. cc) ∙ opened.blamed.1 (λ e. cc)) (begun.alike ∙ opened.alike) _ _ c.in_ok-accepted-2.ensures.files (λ e. cc) (λ e. cc)
+    read_behind _ _ _ _ _ _ opened.kept (opened.blamed.1 (λ e. cc)) opened.alike _ _ c.accept_loaded.ensures.files (λ e. e) (λ e. e)
